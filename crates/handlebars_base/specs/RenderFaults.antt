@@ -1,0 +1,64 @@
+-- What the errors of rendering stand for.
+use Rattle.std.specs.Prelude.{◌≡◌, ℕ, List, Option, Some, None, option_map, string_bytes}
+use Rattle.handlebars_base.specs.Reasons.{Reason, Fault, TemplateFault, template_not_found, template_error, of_template, missing_variable, partial_not_found, partial_block_not_found, helper_not_found, param_not_found_for_index, param_not_found_for_name, param_type_mismatch_for_name, hash_type_mismatch_for_name, decorator_not_found, cannot_include_self, invalid_logging_level, invalid_param_type, block_content_required, invalid_json_path, invalid_json_index, serde_error, io_error, utf8_error, nested_error, unimplemented, other, inclusion_limit, invalid_number, failed, out_of_memory}
+use Rattle.handlebars_base.specs.TemplateFaults.{template_fault_of}
+use Rattle.handlebars_base.specs.declared.error.render_error.RenderError.{RenderError}
+use Rattle.handlebars_base.specs.declared.error.render_error.RenderErrorReason.{RenderErrorReason}
+use Rattle.handlebars_base.specs.declared.error.render_error.RenderErrorReason.TheVariants.{TemplateNotFound, TemplateError, MissingVariable, PartialNotFound, PartialBlockNotFound, HelperNotFound, ParamNotFoundForIndex, ParamNotFoundForName, ParamTypeMismatchForName, HashTypeMismatchForName, DecoratorNotFound, CannotIncludeSelf, InvalidLoggingLevel, InvalidParamType, BlockContentRequired, InvalidJsonPath, InvalidJsonIndex, SerdeError, IOError, Utf8Error, NestedError, Unimplemented, Other, InclusionLimit, InvalidNumber, Failed, OutOfMemory}
+
+abbrev pub reason_of : RenderErrorReason → Reason
+reason_of (TemplateNotFound a) = template_not_found (string_bytes a)
+reason_of (TemplateError e) = of_template (template_fault_of e)
+reason_of (MissingVariable a) = missing_variable (option_map string_bytes a)
+reason_of (PartialNotFound a) = partial_not_found (string_bytes a)
+reason_of PartialBlockNotFound = partial_block_not_found
+reason_of (HelperNotFound a) = helper_not_found (string_bytes a)
+reason_of (ParamNotFoundForIndex h n) = param_not_found_for_index h.now n
+reason_of (ParamNotFoundForName h a) = param_not_found_for_name h.now (string_bytes a)
+reason_of (ParamTypeMismatchForName h a b) = param_type_mismatch_for_name h.now (string_bytes a) (string_bytes b)
+reason_of (HashTypeMismatchForName h a b) = hash_type_mismatch_for_name h.now (string_bytes a) (string_bytes b)
+reason_of (DecoratorNotFound a) = decorator_not_found (string_bytes a)
+reason_of CannotIncludeSelf = cannot_include_self
+reason_of (InvalidLoggingLevel a) = invalid_logging_level (string_bytes a)
+reason_of (InvalidParamType a) = invalid_param_type a.now
+reason_of BlockContentRequired = block_content_required
+reason_of (InvalidJsonPath a) = invalid_json_path (string_bytes a)
+reason_of (InvalidJsonIndex a) = invalid_json_index (string_bytes a)
+reason_of (SerdeError e) = serde_error
+reason_of (IOError e) = io_error
+reason_of (Utf8Error e) = utf8_error
+reason_of (NestedError a) = nested_error (string_bytes a)
+reason_of Unimplemented = unimplemented
+reason_of (Other a) = other (string_bytes a)
+reason_of (InclusionLimit n) = inclusion_limit n
+reason_of InvalidNumber = invalid_number
+reason_of Failed = failed
+reason_of OutOfMemory = out_of_memory
+
+abbrev pub reason_in : RenderError → Reason
+reason_in e = reason_of e.reason
+
+abbrev pub fault_of : RenderError → Fault
+fault_of e = record { reason = reason_in e; name = option_map string_bytes e.template_name; line = e.line_no; column = e.column_no }
+
+-- a refusal with no template and no position yet
+abbrev pub plain_fault : Reason → Fault
+plain_fault r = record { reason = r; name = None; line = None; column = None }
+
+abbrev pub or_else : {A : Type 0} → Option A → A → Option A
+or_else None x = Some x
+or_else (Some y) x = Some y
+
+-- the name of the innermost template that has one
+abbrev pub name_if_none : List ℕ → Fault → Fault
+name_if_none n f = record f { name = or_else f.name n }
+
+abbrev pub placed : Fault → Option ℕ → Option ℕ → ℕ → ℕ → Fault
+placed f None None line column = record f { line = Some line; column = Some column }
+placed f None (Some c) line column = f
+placed f (Some l) None line column = f
+placed f (Some l) (Some c) line column = f
+
+-- the position of the innermost element that has one
+abbrev pub place_if_none : ℕ → ℕ → Fault → Fault
+place_if_none line column f = placed f f.line f.column line column

@@ -1,0 +1,29 @@
+-- What the errors of templates stand for.
+use Rattle.std.specs.Prelude.{ℕ, List, Option, Some, None, option_map, string_bytes}
+use Rattle.handlebars_base.specs.Reasons.{TemplateReason, TemplateFault, mismatching_closed_helper, mismatching_closed_decorator, invalid_syntax, invalid_param, nested_subexpression, template_io_error, walkdir_error, template_out_of_memory}
+use Rattle.handlebars_base.specs.declared.error.template_error.TemplateError.{TemplateError}
+use Rattle.handlebars_base.specs.declared.error.template_error.TemplateErrorReason.{TemplateErrorReason}
+use Rattle.handlebars_base.specs.declared.error.template_error.TemplateErrorReason.TheVariants.{MismatchingClosedHelper, MismatchingClosedDecorator, InvalidSyntax, InvalidParam, NestedSubexpression, IoError, WalkdirError, OutOfMemory}
+
+abbrev pub template_reason_of : TemplateErrorReason → TemplateReason
+template_reason_of (MismatchingClosedHelper a b) = mismatching_closed_helper (string_bytes a) (string_bytes b)
+template_reason_of (MismatchingClosedDecorator a b) = mismatching_closed_decorator (string_bytes a) (string_bytes b)
+template_reason_of (InvalidSyntax a) = invalid_syntax (string_bytes a)
+template_reason_of (InvalidParam a) = invalid_param (string_bytes a)
+template_reason_of NestedSubexpression = nested_subexpression
+template_reason_of (IoError e name) = template_io_error (string_bytes name)
+template_reason_of (WalkdirError a) = walkdir_error (string_bytes a)
+template_reason_of OutOfMemory = template_out_of_memory
+
+-- a line and a column, where both are there
+abbrev pub both : Option ℕ → Option ℕ → Option (ℕ × ℕ)
+both None y = None
+both (Some x) None = None
+both (Some x) (Some y) = Some (x, y)
+
+abbrev pub template_fault_of : TemplateError → TemplateFault
+template_fault_of e = record {
+  reason = template_reason_of e.reason;
+  name = option_map string_bytes e.template_name;
+  position = both e.line_no e.column_no;
+}

@@ -1,0 +1,315 @@
+ghost use Rattle.std.specs.Prelude.{◌≡◌, ◌≢◌, Some, None, option_map, string_bytes, ℕ, List};
+ghost use Rattle.handlebars_base.specs.Reasons.{Reason, out_of_memory, io_error, utf8_error, serde_error, of_template, other, missing_variable, nested_error};
+
+use crate::error::{TemplateError, TemplateErrorReason};
+use std::alloc::{AllocError, AllocFailed, Global};
+use std::fmt;
+use std::io;
+use std::string::FromUtf8Error;
+use thiserror::Error;
+
+/// Why a rendering, a registration or a reading is refused.
+#[derive(Debug, Drop, Error)]
+pub enum RenderErrorReason {
+    #[error("Template not found {0}")]
+    TemplateNotFound(String),
+    #[error("Failed to parse template {0}")]
+    TemplateError(TemplateError),
+    #[error("Failed to access variable in strict mode {0:?}")]
+    MissingVariable(Option<String>),
+    #[error("Partial not found {0}")]
+    PartialNotFound(String),
+    #[error("Partial block cound not be found")]
+    PartialBlockNotFound,
+    #[error("Helper not found {0}")]
+    HelperNotFound(String),
+    #[error("Helper/Decorator {0} param at index {1} required but not found")]
+    ParamNotFoundForIndex(&'static str, usize),
+    #[error("Helper/Decorator {0} param with name {1} required but not found")]
+    ParamNotFoundForName(&'static str, String),
+    /// Kept for callers: the engine never makes it.
+    #[error("Helper/Decorator {0} param with name {1} type mismatch for {2}")]
+    ParamTypeMismatchForName(&'static str, String, String),
+    /// Kept for callers: the engine never makes it.
+    #[error("Helper/Decorator {0} hash with name {1} type mismatch for {2}")]
+    HashTypeMismatchForName(&'static str, String, String),
+    #[error("Decorator not found {0}")]
+    DecoratorNotFound(String),
+    #[error("Can not include current template in partial")]
+    CannotIncludeSelf,
+    #[error("Invalid logging level: {0}")]
+    InvalidLoggingLevel(String),
+    #[error("Invalid param type, {0} expected")]
+    InvalidParamType(&'static str),
+    #[error("Block content required")]
+    BlockContentRequired,
+    #[error("Invalid json path {0}")]
+    InvalidJsonPath(String),
+    #[error("Cannot access array/vector with string index, {0}")]
+    InvalidJsonIndex(String),
+    #[error("Failed to access JSON data: {0}")]
+    SerdeError(serde_json::Error),
+    #[error("IO Error: {0}")]
+    IOError(io::Error),
+    /// Kept for callers: the engine never makes it.
+    #[error("FromUtf8Error: {0}")]
+    Utf8Error(FromUtf8Error),
+    /// Kept for callers: the engine never makes it.
+    #[error("Nested error: {0}")]
+    NestedError(String),
+    /// Kept for callers: the engine never makes it.
+    #[error("Unimplemented")]
+    Unimplemented,
+    #[error("{0}")]
+    Other(String),
+    #[error("Inclusions nest deeper than {0}")]
+    InclusionLimit(u16),
+    #[error("Number outside the kept range")]
+    InvalidNumber,
+    #[error("Render context has failed")]
+    Failed,
+    #[error("Out of memory")]
+    OutOfMemory,
+}
+
+/// A refusal: why, in which template, and at which line and column, counted from 1, columns in
+/// characters.
+#[derive(Debug, Drop)]
+pub struct RenderError {
+    pub template_name: Option<String>,
+    pub line_no: Option<usize>,
+    pub column_no: Option<usize>,
+    reason: RenderErrorReason,
+}
+
+impl RenderError {
+    ghost use Rattle.handlebars_base.specs.RenderFaults.{reason_of, reason_in, plain_fault, fault_of, name_if_none, place_if_none};
+
+    /// A refusal of a caller's own, `Other` of the text. Where the text finds no memory, the reason
+    /// says so.
+    pub fn new(alloc: Global, text: &str) -> RenderError
+        ensures plain { fault_of result ≡ plain_fault (reason_in result) }
+        ensures reason { reason_in result ≢ out_of_memory → reason_in result ≡ other text.now }
+    {
+        match String::from_str(alloc, text) {
+            Ok(text) => RenderErrorReason::Other(text).into(),
+            Err(AllocError) => RenderErrorReason::OutOfMemory.into(),
+        }
+    }
+
+    /// `MissingVariable` of the text. Where a copy of it finds no memory, the reason says so.
+    pub fn strict_error(path: Option<&String>) -> RenderError
+        ensures plain { fault_of result ≡ plain_fault (reason_in result) }
+        ensures reason { reason_in result ≢ out_of_memory
+            → reason_in result ≡ missing_variable (option_map (λ s. string_bytes s.now) path.entry) }
+    {
+        match path {
+            None => RenderErrorReason::MissingVariable(None).into(),
+            Some(text) => match text.clone() {
+                Ok(text) => RenderErrorReason::MissingVariable(Some(text)).into(),
+                Err(AllocError) => RenderErrorReason::OutOfMemory.into(),
+            },
+        }
+    }
+
+    /// `NestedError` of the cause's text; `info` is not kept. Where the text finds no memory, the
+    /// reason says so.
+    pub fn from_error<E: fmt::Display>(alloc: Global, _info: &str, cause: &E) -> RenderError
+        ensures plain { fault_of result ≡ plain_fault (reason_in result) }
+        ensures reason { reason_in result ≢ out_of_memory → (text : List ℕ) × (reason_in result ≡ nested_error text) }
+    {
+        match cause.to_string(alloc) {
+            Ok(text) => RenderErrorReason::NestedError(text).into(),
+            Err(AllocError) => RenderErrorReason::OutOfMemory.into(),
+        }
+    }
+
+    /// Why.
+    pub fn reason(&self) -> &RenderErrorReason
+        ensures { reason_of result.now ≡ reason_in self.now }
+    {
+        &self.reason
+    }
+
+    /// With the position of an element, where none is known yet.
+    pub fn at(self, line: usize, column: usize) -> RenderError
+        ensures { fault_of result ≡ place_if_none line column (fault_of self) }
+    {
+        match (self.line_no, self.column_no) {
+            (None, None) => RenderError {
+                template_name: self.template_name,
+                line_no: Some(line),
+                column_no: Some(column),
+                reason: self.reason,
+            },
+            (line_no, column_no) => RenderError {
+                template_name: self.template_name,
+                line_no,
+                column_no,
+                reason: self.reason,
+            },
+        }
+    }
+
+    /// With the name of a template, where none is known yet. Where a copy of it finds no memory,
+    /// the reason says so.
+    pub fn in_template(self, name: &String) -> RenderError
+        ensures named { reason_in result ≢ out_of_memory
+            → fault_of result ≡ name_if_none (string_bytes name.now) (fault_of self) }
+        ensures memory { reason_in self ≡ out_of_memory → reason_in result ≡ out_of_memory }
+    {
+        if self.template_name.is_some() {
+            return self;
+        }
+        match name.clone() {
+            Ok(name) => RenderError {
+                template_name: Some(name),
+                line_no: self.line_no,
+                column_no: self.column_no,
+                reason: self.reason,
+            },
+            Err(AllocError) => RenderErrorReason::OutOfMemory.into(),
+        }
+    }
+}
+
+/// With line and column, the name (`Unnamed template` where there is none), the position and the
+/// reason; else the reason alone.
+impl fmt::Display for RenderError {
+    fn fmt<W: fmt::Write>(&self, f: &mut fmt::Formatter<W>) -> fmt::Result {
+        let reason = &self.reason;
+        match (self.line_no, self.column_no) {
+            (Some(line), Some(column)) => {
+                let name = match &self.template_name {
+                    Some(name) => name.as_str(),
+                    None => "Unnamed template",
+                };
+                write!(f, "Error rendering \"{name}\" line {line}, col {column}: {reason}")
+            }
+            _ => write!(f, "{reason}"),
+        }
+    }
+}
+
+impl std::error::Error for RenderError {}
+
+impl From<RenderErrorReason> for RenderError {
+    ghost use Rattle.handlebars_base.specs.RenderFaults.{reason_of, plain_fault, fault_of};
+
+    ghost from_gives = { λ r e. fault_of e ≡ plain_fault (reason_of r) };
+
+    fn from(reason: RenderErrorReason) -> RenderError {
+        RenderError {
+            template_name: None,
+            line_no: None,
+            column_no: None,
+            reason,
+        }
+    }
+}
+
+impl From<TemplateError> for RenderError {
+    ghost use Rattle.handlebars_base.specs.RenderFaults.{plain_fault, fault_of};
+    ghost use Rattle.handlebars_base.specs.TemplateFaults.{template_fault_of};
+
+    ghost from_gives = { λ t e. fault_of e ≡ plain_fault (of_template (template_fault_of t)) };
+
+    fn from(cause: TemplateError) -> RenderError {
+        let reason: RenderErrorReason = cause.into();
+        reason.into()
+    }
+}
+
+impl From<io::Error> for RenderError {
+    ghost use Rattle.handlebars_base.specs.RenderFaults.{plain_fault, fault_of};
+
+    ghost from_gives = { λ _ e. fault_of e ≡ plain_fault io_error };
+
+    fn from(cause: io::Error) -> RenderError {
+        RenderErrorReason::IOError(cause).into()
+    }
+}
+
+impl From<FromUtf8Error> for RenderError {
+    ghost use Rattle.handlebars_base.specs.RenderFaults.{plain_fault, fault_of};
+
+    ghost from_gives = { λ _ e. fault_of e ≡ plain_fault utf8_error };
+
+    fn from(cause: FromUtf8Error) -> RenderError {
+        RenderErrorReason::Utf8Error(cause).into()
+    }
+}
+
+impl From<AllocError> for RenderError {
+    ghost use Rattle.handlebars_base.specs.RenderFaults.{plain_fault, fault_of};
+
+    ghost from_gives = { λ _ e. fault_of e ≡ plain_fault out_of_memory };
+
+    fn from(_e: AllocError) -> RenderError {
+        RenderErrorReason::OutOfMemory.into()
+    }
+}
+
+impl<T: Drop> From<AllocFailed<T>> for RenderError {
+    ghost use Rattle.handlebars_base.specs.RenderFaults.{plain_fault, fault_of};
+
+    ghost from_gives = { λ _ e. fault_of e ≡ plain_fault out_of_memory };
+
+    fn from(_e: AllocFailed<T>) -> RenderError {
+        RenderErrorReason::OutOfMemory.into()
+    }
+}
+
+impl From<RenderError> for RenderErrorReason {
+    ghost use Rattle.handlebars_base.specs.RenderFaults.{reason_of, reason_in};
+
+    ghost from_gives = { λ e r. reason_of r ≡ reason_in e };
+
+    fn from(error: RenderError) -> RenderErrorReason {
+        error.reason
+    }
+}
+
+impl From<TemplateError> for RenderErrorReason {
+    ghost use Rattle.handlebars_base.specs.RenderFaults.{reason_of};
+    ghost use Rattle.handlebars_base.specs.TemplateFaults.{template_fault_of};
+
+    ghost from_gives = { λ e r. reason_of r ≡ of_template (template_fault_of e) };
+
+    fn from(cause: TemplateError) -> RenderErrorReason {
+        match cause.reason() {
+            TemplateErrorReason::OutOfMemory => RenderErrorReason::OutOfMemory,
+            _ => RenderErrorReason::TemplateError(cause),
+        }
+    }
+}
+
+impl From<io::Error> for RenderErrorReason {
+    ghost use Rattle.handlebars_base.specs.RenderFaults.{reason_of};
+
+    ghost from_gives = { λ _ r. reason_of r ≡ io_error };
+
+    fn from(cause: io::Error) -> RenderErrorReason {
+        RenderErrorReason::IOError(cause)
+    }
+}
+
+impl From<FromUtf8Error> for RenderErrorReason {
+    ghost use Rattle.handlebars_base.specs.RenderFaults.{reason_of};
+
+    ghost from_gives = { λ _ r. reason_of r ≡ utf8_error };
+
+    fn from(cause: FromUtf8Error) -> RenderErrorReason {
+        RenderErrorReason::Utf8Error(cause)
+    }
+}
+
+impl From<serde_json::Error> for RenderErrorReason {
+    ghost use Rattle.handlebars_base.specs.RenderFaults.{reason_of};
+
+    ghost from_gives = { λ _ r. reason_of r ≡ serde_error };
+
+    fn from(cause: serde_json::Error) -> RenderErrorReason {
+        RenderErrorReason::SerdeError(cause)
+    }
+}

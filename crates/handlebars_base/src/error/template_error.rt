@@ -1,0 +1,186 @@
+ghost use Rattle.std.specs.Prelude.{◌≡◌, ◌≢◌, Some, None, option_map, string_bytes};
+ghost use Rattle.handlebars_base.specs.Reasons.{TemplateReason, TemplateFault, template_out_of_memory, template_io_error};
+
+use std::alloc::{AllocError, Global};
+use std::fmt;
+use std::fmt::Write;
+use std::io;
+use thiserror::Error;
+
+/// Why a template has no tree.
+#[derive(Debug, Drop, Error)]
+pub enum TemplateErrorReason {
+    /// The names of the block that was opened, and of the tag that closes it.
+    #[error("helper {0:?} was opened, but {1:?} is closing")]
+    MismatchingClosedHelper(String, String),
+    /// The names of the decorator block that was opened, and of the tag that closes it.
+    #[error("decorator {0:?} was opened, but {1:?} is closing")]
+    MismatchingClosedDecorator(String, String),
+    /// What is wrong with the source.
+    #[error("invalid handlebars syntax: {0}")]
+    InvalidSyntax(String),
+    /// The text that is no parameter.
+    #[error("invalid parameter {0:?}")]
+    InvalidParam(String),
+    /// Kept for callers: the engine never makes it.
+    #[error("nested subexpression is not supported")]
+    NestedSubexpression,
+    /// A file could not be read; the text is the template's name.
+    #[error("Template \"{1}\": {0}")]
+    IoError(io::Error, String),
+    /// Kept for callers: the engine never makes it.
+    #[error("Walk dir error: {0}")]
+    WalkdirError(String),
+    #[error("Out of memory")]
+    OutOfMemory,
+}
+
+/// Why a template has no tree, in which template, and where: line and column count from 1, columns
+/// in characters.
+#[derive(Debug, Drop)]
+pub struct TemplateError {
+    reason: TemplateErrorReason,
+    template_name: Option<String>,
+    line_no: Option<usize>,
+    column_no: Option<usize>,
+    segment: Option<String>,
+}
+
+impl TemplateError {
+    ghost use Rattle.handlebars_base.specs.TemplateFaults.{template_reason_of, template_fault_of};
+
+    /// An error with no name and no position.
+    pub fn of(reason: TemplateErrorReason) -> TemplateError
+        ensures { template_fault_of result ≡ record { reason = template_reason_of reason; name = None; position = None } }
+    {
+        TemplateError {
+            reason,
+            template_name: None,
+            line_no: None,
+            column_no: None,
+            segment: None,
+        }
+    }
+
+    /// With a position, and the lines of the source around it. Where these find no memory, the
+    /// reason says so, and the error has no position and no name.
+    pub fn at(self, alloc: Global, source: &str, line_no: usize, column_no: usize) -> TemplateError
+        ensures at { (template_fault_of result).reason ≢ template_out_of_memory
+            → template_fault_of result ≡ record (template_fault_of self) { position = Some (line_no, column_no) } }
+        ensures memory { (template_fault_of self).reason ≡ template_out_of_memory → (template_fault_of result).reason ≡ template_out_of_memory }
+    {
+        match template_segment(alloc, source, line_no, column_no) {
+            Ok(segment) => TemplateError {
+                reason: self.reason,
+                template_name: self.template_name,
+                line_no: Some(line_no),
+                column_no: Some(column_no),
+                segment: Some(segment),
+            },
+            Err(AllocError) => TemplateError::of(TemplateErrorReason::OutOfMemory),
+        }
+    }
+
+    /// With the name of its template.
+    pub fn in_template(self, name: String) -> TemplateError
+        ensures { template_fault_of result ≡ record (template_fault_of self) { name = Some (string_bytes name) } }
+    {
+        TemplateError {
+            template_name: Some(name),
+            reason: self.reason,
+            line_no: self.line_no,
+            column_no: self.column_no,
+            segment: self.segment,
+        }
+    }
+
+    pub fn reason(&self) -> &TemplateErrorReason
+        ensures { template_reason_of result.now ≡ (template_fault_of self.now).reason }
+    {
+        &self.reason
+    }
+
+    /// Line and column, where there are both.
+    pub fn pos(&self) -> Option<(usize, usize)>
+        ensures { result ≡ (template_fault_of self.now).position }
+    {
+        match (self.line_no, self.column_no) {
+            (Some(line), Some(column)) => Some((line, column)),
+            _ => None,
+        }
+    }
+
+    /// The name of the template, where it has one.
+    pub fn name(&self) -> Option<&String>
+        ensures { option_map (λ s. string_bytes s.now) result ≡ (template_fault_of self.now).name }
+    {
+        self.template_name.as_ref()
+    }
+}
+
+impl From<(io::Error, String)> for TemplateError {
+    ghost use Rattle.handlebars_base.specs.TemplateFaults.{template_fault_of};
+
+    ghost from_gives = { λ p e. template_fault_of e ≡ record { reason = template_io_error (string_bytes p.1); name = None; position = None } };
+
+    fn from(info: (io::Error, String)) -> TemplateError {
+        let (cause, name) = info;
+        TemplateError::of(TemplateErrorReason::IoError(cause, name))
+    }
+}
+
+// The lines from three before to three after the position, numbered from 0, with a marker below
+// the line of the fault: it has a sign for each byte of the line.
+fn template_segment(
+    alloc: Global,
+    source: &str,
+    line: usize,
+    column: usize,
+) -> Result<String, AllocError> {
+    let first = line.saturating_sub(3);
+    let last = line.saturating_add(3);
+    let mut out = String::new(alloc);
+    for (number, content) in source.lines().enumerate() {
+        if number > last {
+            break;
+        }
+        if number >= first {
+            writeln!(out, "{number:4} | {content}")?;
+            if line > 0 && number == line - 1 {
+                mark(&mut out, content, column)?;
+            }
+        }
+    }
+    Ok(out)
+}
+
+fn mark(out: &mut String, content: &str, column: usize) -> Result<(), AllocError> {
+    out.push_str("     |")?;
+    for byte in 0..content.len() {
+        out.push(if byte == column { '^' } else { '-' })?;
+    }
+    out.push('\n')
+}
+
+/// With a position, the reason, the name (`Unnamed template` where there is none), and the lines
+/// around the position; else the reason alone.
+impl fmt::Display for TemplateError {
+    fn fmt<W: fmt::Write>(&self, f: &mut fmt::Formatter<W>) -> fmt::Result {
+        let reason = &self.reason;
+        match (self.line_no, self.column_no, &self.segment) {
+            (Some(line), Some(column), Some(segment)) => {
+                let name = match &self.template_name {
+                    Some(name) => name.as_str(),
+                    None => "Unnamed template",
+                };
+                writeln!(f, "Template error: {reason}")?;
+                writeln!(f, "    --> Template error in \"{name}\":{line}:{column}")?;
+                writeln!(f, "     |")?;
+                write!(f, "{segment}     |\n     = reason: {reason}\n")
+            }
+            _ => write!(f, "{reason}"),
+        }
+    }
+}
+
+impl std::error::Error for TemplateError {}

@@ -1,0 +1,3 @@
+//! Values of JSON as templates render them, and the paths that lead to them.
+
+pub mod value;

@@ -1,0 +1,149 @@
+//! Values of JSON: how they are rendered, and where they come from.
+
+ghost use Rattle.std.specs.Prelude.{◌≡◌, ◌++◌, IfOk, OnOk, IsTrue, ◌↔◌, string_bytes, List, ℕ, true, false, option_map, map};
+ghost use Rattle.serde_json.specs.View.{view, number_view, items_view};
+ghost use Rattle.handlebars_base.specs.Values.{rendered, rendered_items, rendered_number};
+ghost use Rattle.handlebars_base.specs.Scoped.{found_of, data_in, present_in, path_in, missing, value};
+
+use serde_json::{Number, Value};
+use std::alloc::{AllocError, Global};
+use std::fmt::Write;
+
+/// A value of JSON.
+pub type Json = Value;
+
+/// A value with where it came from: of the template, made on the way, of the data with its full
+/// path, or none.
+#[derive(Drop)]
+pub enum ScopedJson<'rc> {
+    Constant(&'rc Value),
+    Derived(Value),
+    Context(&'rc Value, Vec<String>),
+    Missing,
+}
+
+impl<'rc> ScopedJson<'rc> {
+    /// The value, where there is one: `Missing` counts as null, to which nothing can refer.
+    pub fn as_json(&self) -> Option<&Value>
+        ensures { option_map (λ v. view v.now) result ≡ present_in (found_of self.now) }
+    {
+        match self {
+            ScopedJson::Constant(value) => Some(value),
+            ScopedJson::Derived(value) => Some(value),
+            ScopedJson::Context(value, _) => Some(value),
+            ScopedJson::Missing => None,
+        }
+    }
+
+    /// The value as a text; `Missing` is empty.
+    pub fn render(&self, alloc: Global) -> Result<String, AllocError>
+        ensures { IfOk result (λ s. string_bytes s ≡ rendered (data_in (found_of self.now))) }
+    {
+        match self.as_json() {
+            Some(value) => value.render(alloc),
+            None => Ok(String::new(alloc)),
+        }
+    }
+
+    pub fn is_missing(&self) -> bool
+        ensures { IsTrue result ↔ (found_of self.now ≡ missing) }
+    {
+        matches!(self, ScopedJson::Missing)
+    }
+
+    /// The value as one that has no place in the data; `Missing` becomes null.
+    pub fn into_derived(self) -> Result<ScopedJson<'rc>, AllocError>
+        ensures { IfOk result (λ s. found_of s ≡ value (data_in (found_of self.entry))) }
+    {
+        match self {
+            ScopedJson::Constant(value) => Ok(ScopedJson::Derived(value.clone()?)),
+            ScopedJson::Derived(value) => Ok(ScopedJson::Derived(value)),
+            ScopedJson::Context(value, _) => Ok(ScopedJson::Derived(value.clone()?)),
+            ScopedJson::Missing => Ok(ScopedJson::Derived(Value::Null)),
+        }
+    }
+
+    /// The full path of a value of the data.
+    pub fn context_path(&self) -> Option<&Vec<String>>
+        ensures { option_map (λ p. map string_bytes p.now.items) result ≡ path_in (found_of self.now) }
+    {
+        match self {
+            ScopedJson::Context(_, path) => Some(path),
+            _ => None,
+        }
+    }
+}
+
+impl<'rc> From<Value> for ScopedJson<'rc> {
+    ghost from_gives = { λ v s. found_of s ≡ value (view v) };
+
+    fn from(given: Value) -> ScopedJson<'rc> {
+        ScopedJson::Derived(given)
+    }
+}
+
+/// What a template writes for a value.
+pub trait JsonRender {
+    ghost renders_as: { Self → List ℕ };
+
+    fn render(&self, alloc: Global) -> Result<String, AllocError>
+        ensures { IfOk result (λ s. string_bytes s ≡ renders_as self.now) };
+}
+
+impl JsonRender for Value {
+    ghost renders_as = { λ v. rendered (view v) };
+
+    fn render(&self, alloc: Global) -> Result<String, AllocError> {
+        let mut out = String::new(alloc);
+        push_value(self, &mut out)?;
+        Ok(out)
+    }
+}
+
+#[cycle(push)]
+fn push_value(value: &Value, out: &mut String) -> Result<(), AllocError>
+    ensures { OnOk result (string_bytes out.new ≡ string_bytes out.old ++ rendered (view value.now)) }
+{
+    match value {
+        Value::Null => Ok(()),
+        Value::Bool(true) => out.push_str("true"),
+        Value::Bool(false) => out.push_str("false"),
+        Value::Number(n) => push_number(n, out),
+        Value::String(s) => out.push_str(s.as_str()),
+        Value::Array(items) => {
+            out.push_str("[")?;
+            push_items(items, out)?;
+            out.push_str("]")
+        }
+        Value::Object(_) => out.push_str("[object]"),
+    }
+}
+
+#[cycle(push)]
+fn push_items(items: &Vec<Value>, out: &mut String) -> Result<(), AllocError>
+    ensures { OnOk result (string_bytes out.new
+        ≡ string_bytes out.old ++ rendered_items true (items_view items.now.items)) }
+{
+    let mut first = true;
+    for item in items {
+        if !first {
+            out.push_str(", ")?;
+        }
+        push_value(item, out)?;
+        first = false;
+    }
+    Ok(())
+}
+
+// A number outside the range counts as null.
+fn push_number(number: &Number, out: &mut String) -> Result<(), AllocError>
+    ensures { OnOk result (string_bytes out.new ≡ string_bytes out.old ++ rendered_number (number_view number.now)) }
+{
+    if let Some(x) = number.as_u64() {
+        write!(out, "{x}")
+    } else if let Some(x) = number.as_i64() {
+        write!(out, "{x}")
+    } else {
+        Ok(())
+    }
+}
