@@ -4,3 +4,6 @@ pub mod RenderFaults
 pub mod Answers
 pub mod Values
 pub mod Scoped
+pub mod Path
+pub mod PathView
+pub mod PathReading

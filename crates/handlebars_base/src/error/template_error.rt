@@ -129,6 +129,16 @@ impl From<(io::Error, String)> for TemplateError {
     }
 }
 
+impl From<AllocError> for TemplateError {
+    ghost use Rattle.handlebars_base.specs.TemplateFaults.{template_fault_of};
+
+    ghost from_gives = { λ _ e. template_fault_of e ≡ record { reason = template_out_of_memory; name = None; position = None } };
+
+    fn from(_e: AllocError) -> TemplateError {
+        TemplateError::of(TemplateErrorReason::OutOfMemory)
+    }
+}
+
 // The lines from three before to three after the position, numbered from 0, with a marker below
 // the line of the fault: it has a sign for each byte of the line.
 fn template_segment(

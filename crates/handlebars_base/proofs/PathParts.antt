@@ -1,0 +1,141 @@
+-- A part, and a step: what is read is spelled so.
+use Rattle.std.proofs.Common.{◌≡◌, ◌≢◌, ℕ, suc, ◌+◌, ◌<◌, Bool, true, false, cond, not, ◌||◌, ltb, List, [], ◌∷◌, ◌++◌, length, get_or, take, Some, None, refl, sym, ap, subst, ◌∙◌, append_assoc, arith, ◌⊎◌, inl, inr}
+use Rattle.std.specs.Prelude.{◌==◌}
+use Rattle.std.specs.List.{prefix_len, position_or_len, before_first, after_first, AllByRecursion}
+use Rattle.std.proofs.lemmas.Bool.{eqb-true, ltb-true, or_parts, or_cases, and_parts, not-true, not-false, eqb-false, cases_Bool}
+use Rattle.std.proofs.lemmas.Option.{cond_some}
+use Rattle.std.proofs.lemmas.List.{take-append-drop, length-take}
+use Rattle.std.proofs.lemmas.List.Sums.{prefix_len-le-length, prefix_len_stops, split_at_first}
+use Rattle.handlebars_base.specs.Path.{is_symbol, Part, dots, plain, bracketed, spelled_part, IsPart, is_dots, Step, joins}
+use Rattle.handlebars_base.specs.PathReading.{◌>>=◌, with_or, after, symbols_of, behind_symbols, bracketed_at, plain_at, part_at, step_by, slash_step, dot_step, step_at}
+use Rattle.handlebars_base.proofs.OptionSteps.{bind_some, with_or_is, guard_some}
+
+-- ---- marks and runs
+
+pub after_takes : (c : ℕ) (t r : List ℕ) → after c t ≡ Some r → t ≡ c ∷ r
+unfolding after
+after_takes c [] r e = absurd cc
+after_takes c (x ∷ xs) r e =
+    let g = cond_some (x == c) xs r e in
+    let same : x ≡ c = eqb-true x c g.0 in
+    let rest = g.1 in
+    cc
+
+-- all of a run passes
+pub prefix_pass : (p : ℕ → Bool) (t : List ℕ) → AllByRecursion (λ b. p b ≡ true) (take (prefix_len p t) t)
+prefix_pass p [] = tt
+prefix_pass p (x ∷ xs) =
+    let more : 1 + prefix_len p xs ≡ suc (prefix_len p xs) = omega arith in
+    elim (cases_Bool (p x)) [
+      | inl passes ↦ rw (passes, more) (passes, prefix_pass p xs)
+      | inr fails ↦ rw fails tt
+    ]
+
+-- ---- parts
+
+-- what a reader took from the front
+pub record TakesPart (t : List ℕ) (x : Part × List ℕ) : Type 0 where
+  pub parts : t ≡ spelled_part x.0 ++ x.1
+  pub fits : IsPart x.0
+
+plain_some : (t : List ℕ) → (prefix_len is_symbol t == 0) ≡ false → symbols_of t ≢ []
+plain_some t some none =
+    eqb-false (prefix_len is_symbol t) 0 some
+    (omega (arith, ap length none, length-take (prefix_len is_symbol t) t, prefix_len-le-length is_symbol t))
+
+plain_takes : (t : List ℕ) (x : Part × List ℕ) → plain_at t ≡ Some x → TakesPart t x
+unfolding plain_at
+plain_takes t x e =
+    let g = guard_some (prefix_len is_symbol t == 0) (plain (symbols_of t), behind_symbols t) x e in
+    subst (λ (y : Part × List ℕ). TakesPart t y) g.1 (record {
+      parts = sym (take-append-drop (prefix_len is_symbol t) t);
+      fits = (plain_some t g.0, prefix_pass is_symbol t);
+    })
+
+-- a text around its first closing bracket
+at_bracket : (t : List ℕ) → position_or_len (λ b. b == 93) t < length t →
+    t ≡ (before_first (λ b. b == 93) t ++ 93 ∷ []) ++ after_first (λ b. b == 93) t
+at_bracket t lt =
+    let name = before_first (λ b. b == 93) t in
+    let rest = after_first (λ b. b == 93) t in
+    let closes : get_or t (position_or_len (λ b. b == 93) t) 0 ≡ 93 =
+    eqb-true _ 93 (not-false _ (prefix_len_stops (λ b. not (b == 93)) t 0 lt)) in
+    split_at_first (λ b. b == 93) t 0 lt ∙ ap (λ (c : ℕ). name ++ (c ∷ rest)) closes ∙ sym (append_assoc name (93 ∷ []) rest)
+
+bracketed_takes : (t : List ℕ) (x : Part × List ℕ) → bracketed_at t ≡ Some x → TakesPart (91 ∷ t) x
+unfolding bracketed_at
+bracketed_takes t x e =
+    let found : Part × List ℕ = (bracketed (before_first (λ b. b == 93) t), after_first (λ b. b == 93) t) in
+    let g = cond_some (ltb (position_or_len (λ b. b == 93) t) (length t)) found x e in
+    subst (λ (y : Part × List ℕ). TakesPart (91 ∷ t) y) g.1 (record {
+      parts = ap (λ (r : List ℕ). 91 ∷ r) (at_bracket t (ltb-true (position_or_len (λ b. b == 93) t) (length t) g.0));
+      fits = prefix_pass (λ b. not (b == 93)) t;
+    })
+
+pub part_takes : (t : List ℕ) (x : Part × List ℕ) → part_at t ≡ Some x → TakesPart t x
+unfolding part_at
+part_takes t x e =
+    let others = with_or (after 91 t) bracketed_at (plain_at t) in
+    elim (with_or_is (after 46 t) (λ r. after 46 r >>= λ s. Some (dots, s)) others (Some x) e) [
+      | inl two ↦
+          let b = bind_some (after 46 two.0) (λ s. Some (dots, s)) x two.2 in
+          let first = after_takes 46 t two.0 two.1 in
+          let second = after_takes 46 two.0 b.0 b.1 in
+          let made : (dots, b.0) ≡ x = cc in
+          subst (λ (y : Part × List ℕ). TakesPart t y) made (record {
+            parts = first ∙ ap (λ (r : List ℕ). 46 ∷ r) second;
+            fits = tt;
+          })
+      | inr other ↦ elim (with_or_is (after 91 t) bracketed_at (plain_at t) (Some x) other.1) [
+        | inl raw ↦ rw (after_takes 91 t raw.0 raw.1) (bracketed_takes raw.0 x raw.2)
+        | inr name ↦ plain_takes t x name.1
+      ]
+    ]
+
+-- ---- steps
+
+pub record TakesStep (before : Bool) (t : List ℕ) (q : Step × List ℕ) : Type 0 where
+  pub parts : t ≡ q.0.sep ∷ (spelled_part q.0.part ++ q.1)
+  pub joined : joins before q.0.sep (is_dots q.0.part) ≡ true
+  pub fits : IsPart q.0.part
+
+dot_joins : (before behind : Bool) → before ≡ false → behind ≡ false → joins before 46 behind ≡ true
+dot_joins before behind x y = rw (x, y) refl
+
+pub step_takes : (before : Bool) (t : List ℕ) (q : Step × List ℕ) → step_at before t ≡ Some q → TakesStep before t q
+unfolding step_at
+step_takes before t q e =
+    elim (with_or_is (after 47 t) slash_step (after 46 t >>= dot_step before) (Some q) e) [
+      | inl slash ↦
+          let b = bind_some (part_at slash.0) (λ p. Some (step_by 47 p)) q slash.2 in
+          let taken = part_takes slash.0 b.0 b.1 in
+          let made : step_by 47 b.0 ≡ q = cc in
+          subst (λ (y : Step × List ℕ). TakesStep before t y) made (record {
+            parts = after_takes 47 t slash.0 slash.1 ∙ ap (λ (r : List ℕ). 47 ∷ r) taken.parts;
+            joined = refl;
+            fits = taken.fits;
+          })
+      | inr other ↦
+          let a = bind_some (after 46 t) (dot_step before) q other.1 in
+          let b = bind_some (part_at a.0) (λ p. cond (before || is_dots p.0) None (Some (step_by 46 p))) q a.2 in
+          let g = guard_some (before || is_dots b.0.0) (step_by 46 b.0) q b.2 in
+          let neither = or_parts before (is_dots b.0.0) g.0 in
+          let taken = part_takes a.0 b.0 b.1 in
+          subst (λ (y : Step × List ℕ). TakesStep before t y) g.1 (record {
+            parts = after_takes 46 t a.0 a.1 ∙ ap (λ (r : List ℕ). 46 ∷ r) taken.parts;
+            joined = dot_joins before (is_dots b.0.0) neither.0 neither.1;
+            fits = taken.fits;
+          })
+    ]
+
+-- what joins two parts
+pub joins_cases : (before : Bool) (sep : ℕ) (behind : Bool) → joins before sep behind ≡ true →
+    (sep ≡ 47) ⊎ ((sep ≡ 46) × (before ≡ false) × (behind ≡ false))
+joins_cases before sep behind h =
+    elim (or_cases (sep == 47) _ h) [
+      | inl slash ↦ inl (eqb-true sep 47 slash)
+      | inr point ↦
+          let a = and_parts (sep == 46) _ point in
+          let b = and_parts (not before) (not behind) a.1 in
+          inr (eqb-true sep 46 a.0, not-true before b.0, not-true behind b.1)
+    ]

@@ -1,0 +1,181 @@
+-- Paths within longer texts: what a path's text is like, and that a front that goes as far as it can ends with it.
+use Rattle.std.proofs.Common.{◌≡◌, ◌≢◌, ℕ, zero, suc, ◌+◌, ◌≤◌, Bool, true, false, not, ◌||◌, List, [], ◌∷◌, ◌++◌, length, take, drop, refl, sym, ap, subst, ◌∙◌, append_assoc, arith, inl, inr, length-append}
+use Rattle.std.specs.Prelude.{◌==◌, codes}
+use Rattle.std.specs.List.{prefix_len, AllByRecursion}
+use Rattle.std.proofs.lemmas.Bool.{ne_eqb, not-true, not-false, or_parts}
+use Rattle.handlebars_base.specs.Path.{Reference, IsPath, is_symbol, IsIdentifier, Part, dots, plain, bracketed, spelled_part, IsPart, is_dots, Step, spelled_steps, AreSteps, ups, Shape, dot, at_root, at_name, in_parts, spelled, IsShape}
+use Rattle.handlebars_base.specs.PathReading.{is_reference_byte, starts_reference, stops, reference_from, reference_len}
+use Rattle.std.proofs.lemmas.List.{take_at, drop_at}
+use Rattle.handlebars_base.proofs.PathParts.{joins_cases}
+use Rattle.handlebars_base.proofs.PathSpelled.{not_symbol}
+use Rattle.handlebars_base.proofs.PathShapes as shapes
+use Rattle.handlebars_base.proofs.PathFront as front
+
+-- a text has at most one meaning
+pub one_meaning : (text : List ℕ) (a b : Reference) → IsPath text a → IsPath text b → a ≡ b
+one_meaning = shapes.one_meaning
+
+pub reference_len-le : (t : List ℕ) → reference_len t ≤ length t
+reference_len-le = front.reference_len-le
+
+-- ---- a reference goes over the whole of a path
+
+-- A reference goes over all of this text, and on from its end.
+pub record IsPassed (text : List ℕ) : Type 0 where
+  pub passes : (follow : List ℕ) → reference_len (text ++ follow) ≡ length text + reference_len follow
+
+passed_none : IsPassed []
+passed_none = record { passes = λ follow. omega arith }
+
+passed_both : (a b : List ℕ) → IsPassed a → IsPassed b → IsPassed (a ++ b)
+passed_both a b p q =
+    record {
+      passes = λ follow.
+          ap reference_len (append_assoc a b follow) ∙ p.passes (b ++ follow) ∙
+          omega (arith, q.passes follow, length-append a b);
+    }
+
+passed_byte : (x : ℕ) (t : List ℕ) → is_reference_byte x ≡ true → (x == 91) ≡ false → IsPassed t → IsPassed (x ∷ t)
+unfolding reference_from
+passed_byte x t on other p = record { passes = λ follow. rw (other, on) (omega (arith, p.passes follow)) }
+
+symbol_passes : (x : ℕ) → is_symbol x ≡ true → is_reference_byte x ≡ true
+symbol_passes x h = rw h refl
+
+passed_symbols : (n : List ℕ) → AllByRecursion (λ b. is_symbol b ≡ true) n → IsPassed n
+passed_symbols [] all = passed_none
+passed_symbols (x ∷ xs) all =
+    passed_byte x xs (symbol_passes x all.0) (not_symbol x 91 all.0 refl) (passed_symbols xs all.1)
+
+inside : (n follow : List ℕ) → AllByRecursion (λ b. not (b == 93) ≡ true) n →
+    reference_from true (n ++ 93 ∷ follow) ≡ suc (length n + reference_len follow)
+unfolding reference_from
+inside [] follow all = omega arith
+inside (x ∷ xs) follow all = rw (not-true (x == 93) all.0, inside xs follow all.1) (omega arith)
+
+passed_bracketed : (n : List ℕ) → AllByRecursion (λ b. not (b == 93) ≡ true) n → IsPassed (91 ∷ (n ++ 93 ∷ []))
+unfolding reference_from
+passed_bracketed n all =
+    record {
+      passes = λ follow.
+          rw (append_assoc n (93 ∷ []) follow, inside n follow all) (omega (arith, length-append n (93 ∷ [])));
+    }
+
+passed_part : (p : Part) → IsPart p → IsPassed (spelled_part p)
+passed_part dots fits = passed_byte 46 (46 ∷ []) refl refl (passed_byte 46 [] refl refl passed_none)
+passed_part (plain n) fits = passed_symbols n fits.1
+passed_part (bracketed n) fits = passed_bracketed n fits
+
+passed_steps : (before : Bool) (ss : List Step) → AreSteps before ss → IsPassed (spelled_steps ss)
+passed_steps before [] fits = passed_none
+passed_steps before (s ∷ ss) fits =
+    let more = passed_steps (is_dots s.part) ss fits.2 in
+    let behind = passed_both (spelled_part s.part) (spelled_steps ss) (passed_part s.part fits.1) more in
+    elim (joins_cases before s.sep (is_dots s.part) fits.0) [
+      | inl slash ↦ rw slash (passed_byte 47 _ refl refl behind)
+      | inr point ↦ rw point.0 (passed_byte 46 _ refl refl behind)
+    ]
+
+passed_ups : (n : ℕ) (t : List ℕ) → IsPassed t → IsPassed (ups n ++ t)
+passed_ups zero t p = p
+passed_ups (suc n) t p =
+    passed_byte 46 _ refl refl (passed_byte 46 _ refl refl (passed_byte 47 _ refl refl (passed_ups n t p)))
+
+passed_name : (n : ℕ) (name : List ℕ) (ss : List Step) → IsIdentifier name → AreSteps false ss →
+    IsPassed (64 ∷ (ups n ++ (name ++ spelled_steps ss)))
+passed_name n name ss id fits =
+    let behind = passed_both name (spelled_steps ss) (passed_symbols name id.1) (passed_steps false ss fits) in
+    passed_byte 64 _ refl refl (passed_ups n (name ++ spelled_steps ss) behind)
+
+passed_parts : (p : Part) (ss : List Step) → IsPart p → AreSteps (is_dots p) ss →
+    IsPassed (spelled_part p ++ spelled_steps ss)
+passed_parts p ss fits steps =
+    passed_both (spelled_part p) (spelled_steps ss) (passed_part p fits) (passed_steps (is_dots p) ss steps)
+
+passed_shape : (s : Shape) → IsShape s → IsPassed (spelled s)
+passed_shape dot fits = passed_byte 46 [] refl refl passed_none
+passed_shape (at_root ss) fits =
+    passed_name 0 (codes "root") ss (λ e. absurd cc, (refl, (refl, (refl, (refl, tt))))) fits
+passed_shape (at_name zero name ss) fits = passed_name 0 name ss fits.0 fits.3
+passed_shape (at_name (suc n) name ss) fits = passed_name (suc n) name ss fits.0 fits.2
+passed_shape (in_parts true p ss) fits =
+    passed_byte 46 _ refl refl (passed_byte 47 _ refl refl (passed_parts p ss fits.0 fits.1))
+passed_shape (in_parts false p ss) fits = passed_parts p ss fits.0 fits.1
+
+-- a reference goes over a path, and on behind it
+pub reference_len-append : (text follow : List ℕ) (means : Reference) → IsPath text means →
+    reference_len (text ++ follow) ≡ length text + reference_len follow
+reference_len-append text follow means h =
+    let passed : IsPassed text = subst IsPassed (sym h.spells) (passed_shape h.shape h.fits) in
+    passed.passes follow
+
+-- where the text stops, no reference goes on
+pub reference_len-stops : (t : List ℕ) → stops t ≡ true → reference_len t ≡ 0
+unfolding reference_from
+reference_len-stops [] h = refl
+reference_len-stops (x ∷ xs) h =
+    let no = or_parts (is_reference_byte x) (x == 91) (not-true (starts_reference x) h) in
+    rw (no.1, no.0) refl
+
+-- in front of what stops, a path is all of the front
+pub reference_len-path : (text follow : List ℕ) (means : Reference) → IsPath text means → stops follow ≡ true →
+    reference_len (text ++ follow) ≡ length text
+reference_len-path text follow means h stop =
+    omega (arith, reference_len-append text follow means h, reference_len-stops follow stop)
+
+-- so it is the front that is split off, and the rest is what follows
+pub take-path : (text follow : List ℕ) (means : Reference) → IsPath text means → stops follow ≡ true →
+    take (reference_len (text ++ follow)) (text ++ follow) ≡ text
+take-path text follow means h stop = take_at text follow _ (sym (reference_len-path text follow means h stop))
+
+pub drop-path : (text follow : List ℕ) (means : Reference) → IsPath text means → stops follow ≡ true →
+    drop (reference_len (text ++ follow)) (text ++ follow) ≡ follow
+drop-path text follow means h stop = drop_at text follow _ (sym (reference_len-path text follow means h stop))
+
+-- ---- how a path begins
+
+starts_part : (p : Part) (t : List ℕ) → IsPart p → stops (spelled_part p ++ t) ≡ false
+starts_part dots t fits = refl
+starts_part (plain []) t fits = absurd (fits.0 refl)
+starts_part (plain (x ∷ xs)) t fits = rw (fits.1.0) refl
+starts_part (bracketed n) t fits = refl
+
+starts_shape : (s : Shape) → IsShape s → stops (spelled s) ≡ false
+starts_shape dot fits = refl
+starts_shape (at_root ss) fits = refl
+starts_shape (at_name n name ss) fits = refl
+starts_shape (in_parts true p ss) fits = refl
+starts_shape (in_parts false p ss) fits = starts_part p (spelled_steps ss) fits.0
+
+-- a path begins with a byte that a reference begins with
+pub stops-path : (text : List ℕ) (means : Reference) → IsPath text means → stops text ≡ false
+stops-path text means h = ap stops h.spells ∙ starts_shape h.shape h.fits
+
+pub path_not_empty : (text : List ℕ) (means : Reference) → IsPath text means → text ≢ []
+path_not_empty text means h none =
+    let starts : stops [] ≡ false = ap stops (sym none) ∙ stops-path text means h in absurd cc
+
+first_other : (p : ℕ → Bool) (t : List ℕ) → ((b : ℕ) → starts_reference b ≡ true → p b ≡ false) → stops t ≡ false →
+    prefix_len p t ≡ 0
+first_other p [] other starts = refl
+first_other p (x ∷ xs) other starts = rw (other x (not-false (starts_reference x) starts)) refl
+
+-- a path begins with none of the bytes that no reference begins with
+pub prefix_len-path : (p : ℕ → Bool) (text : List ℕ) (means : Reference) →
+    ((b : ℕ) → starts_reference b ≡ true → p b ≡ false) → IsPath text means → prefix_len p text ≡ 0
+prefix_len-path p text means other h = first_other p text other (stops-path text means h)
+
+-- one byte that no reference begins with is no other's
+pub starts_other : (c b : ℕ) → starts_reference c ≡ false → starts_reference b ≡ true → (b == c) ≡ false
+starts_other c b never begins =
+    ne_eqb b c (λ e. let same : starts_reference b ≡ starts_reference c = ap starts_reference e in absurd cc)
+
+not_white : (b : ℕ) → starts_reference b ≡ true → (b == 32 || (b == 9 || (b == 10 || b == 13))) ≡ false
+not_white b h =
+    rw (starts_other 32 b refl h, starts_other 9 b refl h, starts_other 10 b refl h, starts_other 13 b refl h) refl
+
+-- a space, a tab, a line feed or a carriage return begins no path
+pub white-path : (text : List ℕ) (means : Reference) → IsPath text means →
+    prefix_len (λ b. b == 32 || (b == 9 || (b == 10 || b == 13))) text ≡ 0
+white-path text means h =
+    prefix_len-path (λ b. b == 32 || (b == 9 || (b == 10 || b == 13))) text means not_white h

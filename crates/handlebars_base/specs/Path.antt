@@ -1,0 +1,140 @@
+-- The grammar of paths, over the bytes of a text, and what a path means. Each mark is one ASCII byte, and each byte
+-- of another character is a symbol, so bytes tell the same as characters.
+use Rattle.std.specs.Prelude.{◌≡◌, ◌≢◌, ℕ, zero, suc, Bool, true, false, not, ◌&&◌, ◌||◌, ◌==◌, nat_le, if◌then◌else◌, List, [], ◌∷◌, ◌++◌, codes, ⊤}
+use Rattle.std.specs.Char.{is_ascii_alphanumeric}
+use Rattle.std.specs.List.{AllByRecursion}
+use Rattle.std.specs.Str.{bytes_eq}
+
+-- ---- what a path means
+
+-- a name to look up, the root of the data, this block, or the block around
+pub data Segment : Type 0 where
+  named : List ℕ → Segment
+  root : Segment
+  local : Segment
+  up : Segment
+
+-- A path through the data by its segments, or a variable of the block so many blocks up, by its name. Both keep
+-- the text as written.
+pub data Reference : Type 0 where
+  relative : List Segment → List ℕ → Reference
+  variable : ℕ → List ℕ → List ℕ → Reference
+
+-- the text as written
+abbrev pub written : Reference → List ℕ
+written (relative segments text) = text
+written (variable level name text) = text
+
+-- ---- symbols and parts
+
+-- a letter, a digit, `_`, `-`, `$`, `:`, or a byte of a character from U+0080 on
+abbrev pub is_symbol : ℕ → Bool
+is_symbol b =
+    nat_le 128 b || (is_ascii_alphanumeric b || (b == 95 || (b == 45 || (b == 36 || b == 58))))
+
+-- a run of symbols, at least one
+abbrev pub IsIdentifier : List ℕ → Type 0
+IsIdentifier n = (n ≢ []) × AllByRecursion (λ b. is_symbol b ≡ true) n
+
+-- `..`, an identifier, or a name in brackets
+pub data Part : Type 0 where
+  dots : Part
+  plain : List ℕ → Part
+  bracketed : List ℕ → Part
+
+abbrev pub spelled_part : Part → List ℕ
+spelled_part dots = codes ".."
+spelled_part (plain n) = n
+spelled_part (bracketed n) = 91 ∷ (n ++ 93 ∷ [])
+
+-- brackets hold anything but a closing one
+abbrev pub IsPart : Part → Type 0
+IsPart dots = ⊤
+IsPart (plain n) = IsIdentifier n
+IsPart (bracketed n) = AllByRecursion (λ b. not (b == 93) ≡ true) n
+
+abbrev pub is_dots : Part → Bool
+is_dots dots = true
+is_dots (plain n) = false
+is_dots (bracketed n) = false
+
+-- ---- steps
+
+-- a separator, and the part behind it
+pub record Step : Type 0 where
+  pub sep : ℕ
+  pub part : Part
+
+abbrev pub spelled_steps : List Step → List ℕ
+spelled_steps [] = []
+spelled_steps (s ∷ ss) = s.sep ∷ (spelled_part s.part ++ spelled_steps ss)
+
+-- `/` joins any two parts, and `.` two of which neither is `..`
+abbrev pub joins : Bool → ℕ → Bool → Bool
+joins before sep behind = (sep == 47) || ((sep == 46) && (not before && not behind))
+
+-- steps behind a part, which is `..` or not
+abbrev pub AreSteps : Bool → List Step → Type 0
+AreSteps before [] = ⊤
+AreSteps before (s ∷ ss) =
+    (joins before s.sep (is_dots s.part) ≡ true) × IsPart s.part × AreSteps (is_dots s.part) ss
+
+-- ---- whole paths
+
+-- `.` alone; `@root` and steps; `@`, a number of `../`, a name and steps; or a part and steps, with `./` in front
+-- or not
+pub data Shape : Type 0 where
+  dot : Shape
+  at_root : List Step → Shape
+  at_name : ℕ → List ℕ → List Step → Shape
+  in_parts : Bool → Part → List Step → Shape
+
+-- so many `../`
+abbrev pub ups : ℕ → List ℕ
+ups zero = []
+ups (suc n) = 46 ∷ 46 ∷ 47 ∷ ups n
+
+abbrev pub spelled : Shape → List ℕ
+spelled dot = 46 ∷ []
+spelled (at_root ss) = 64 ∷ (codes "root" ++ spelled_steps ss)
+spelled (at_name n name ss) = 64 ∷ (ups n ++ (name ++ spelled_steps ss))
+spelled (in_parts true p ss) = 46 ∷ 47 ∷ (spelled_part p ++ spelled_steps ss)
+spelled (in_parts false p ss) = spelled_part p ++ spelled_steps ss
+
+-- A variable isn't named `this`, and right behind the `@` not `root`, which is the root's own form.
+abbrev pub IsShape : Shape → Type 0
+IsShape dot = ⊤
+IsShape (at_root ss) = AreSteps false ss
+IsShape (at_name zero name ss) =
+    IsIdentifier name × (bytes_eq name (codes "this") ≡ false) × (bytes_eq name (codes "root") ≡ false) × AreSteps false ss
+IsShape (at_name (suc n) name ss) = IsIdentifier name × (bytes_eq name (codes "this") ≡ false) × AreSteps false ss
+IsShape (in_parts b p ss) = IsPart p × AreSteps (is_dots p) ss
+
+-- ---- from the shape to the meaning
+
+-- the name `this` adds no segment, in brackets neither
+abbrev pub name_segments : List ℕ → List Segment
+name_segments n = if bytes_eq n (codes "this") then [] else named n ∷ []
+
+abbrev pub part_segments : Part → List Segment
+part_segments dots = up ∷ []
+part_segments (plain n) = name_segments n
+part_segments (bracketed n) = name_segments n
+
+abbrev pub step_segments : List Step → List Segment
+step_segments [] = []
+step_segments (s ∷ ss) = part_segments s.part ++ step_segments ss
+
+-- The steps behind a variable's name add nothing.
+abbrev pub meaning : List ℕ → Shape → Reference
+meaning text dot = relative [] text
+meaning text (at_root ss) = relative (root ∷ step_segments ss) text
+meaning text (at_name n name ss) = variable n name text
+meaning text (in_parts b p ss) = relative (part_segments p ++ step_segments ss) text
+
+-- the text is a path that means this
+pub record IsPath (text : List ℕ) (means : Reference) : Type 0 where
+  pub shape : Shape
+  pub fits : IsShape shape
+  pub spells : text ≡ spelled shape
+  pub gives : means ≡ meaning text shape

@@ -1,0 +1,84 @@
+//! Paths into the data, as templates write them: `@root` and steps from there, a variable of a block behind `@`, or
+//! names, names in brackets and `..`, joined by `/` or `.`.
+
+ghost use Rattle.std.specs.Prelude.{◌≡◌, ◌≢◌, ◌↔◌, IfOk, IfErr, IfSome, IsNone, List, ℕ};
+ghost use Rattle.handlebars_base.specs.Path.{IsPath, Reference, written};
+ghost use Rattle.handlebars_base.specs.PathView.{reference_of};
+ghost use Rattle.handlebars_base.specs.Reasons.{out_of_memory, invalid_json_path};
+ghost use Rattle.handlebars_base.specs.RenderFaults.{reason_in, fault_of, plain_fault};
+
+use crate::error::{RenderError, RenderErrorReason};
+use std::alloc::{AllocError, Global};
+
+mod front;
+mod reading;
+mod scan;
+
+pub use front::{reference_len, split_reference};
+
+/// A segment that is no name.
+#[derive(Clone, Copy, Debug, PartialEq, Eq)]
+pub enum PathRule {
+    /// `@root`, the whole data.
+    Root,
+    /// The block that the path stands in. No text is read as this one.
+    Local,
+    /// `..`, the block around.
+    Up,
+}
+
+/// One step through the data. The name `this` stays where it is, so it makes no segment.
+#[derive(Debug, Drop, PartialEq, Eq)]
+pub enum PathSeg {
+    Named(String),
+    Ruled(PathRule),
+}
+
+/// A path, with the text as written in the last place.
+#[derive(Debug, Drop, PartialEq, Eq)]
+pub enum Path {
+    /// The way through the data.
+    Relative((Vec<PathSeg>, String)),
+    /// A variable of a block: how many blocks up, and its name.
+    Local((usize, String, String)),
+}
+
+impl Path {
+    /// The path that the whole text is.
+    pub fn parse(alloc: Global, raw: &str) -> Result<Path, RenderError>
+        ensures ok { IfOk result (λ path. IsPath raw.now (reference_of path)) }
+
+        // Only what is no path is refused, unless memory runs out.
+        ensures err { IfErr result (λ e. reason_in e ≢ out_of_memory
+            → (reason_in e ≡ invalid_json_path raw.now) × ((means : Reference) → IsPath raw.now means → ⊥)) }
+        ensures plain { IfErr result (λ e. fault_of e ≡ plain_fault (reason_in e)) }
+    {
+        match read_path(alloc, raw)? {
+            Some(path) => Ok(path),
+            None => Err(RenderErrorReason::InvalidJsonPath(String::from_str(alloc, raw)?).into()),
+        }
+    }
+
+    /// The text as written.
+    pub fn raw(&self) -> &str
+        ensures { result.now ≡ written (reference_of self.now) }
+    {
+        match self {
+            Path::Relative((_, raw)) => raw.as_str(),
+            Path::Local((_, _, raw)) => raw.as_str(),
+        }
+    }
+}
+
+/// The path that the whole text is, if it is one.
+pub fn read_path(alloc: Global, raw: &str) -> Result<Option<Path>, AllocError>
+    ensures found { IfOk result (λ read. IfSome read (λ path. IsPath raw.now (reference_of path))) }
+    ensures none { IfOk result (λ read. IsNone read ↔ ((means : Reference) → IsPath raw.now means → ⊥)) }
+{
+    reading::whole(alloc, raw)
+}
+
+/// No text has two meanings.
+pub fn one_meaning()
+    ensures { (text : List ℕ) (a b : Reference) → IsPath text a → IsPath text b → a ≡ b }
+{}

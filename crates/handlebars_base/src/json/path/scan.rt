@@ -1,0 +1,73 @@
+//! Symbols and single marks at the front of a text.
+
+ghost use Rattle.std.specs.Prelude.{◌≡◌, ◌<◌};
+ghost use Rattle.std.specs.List.{prefix_len};
+ghost use Rattle.std.specs.Option.{option_map};
+ghost use Rattle.handlebars_base.specs.Path.{is_symbol};
+ghost use Rattle.handlebars_base.specs.PathReading.{after, symbols_of, behind_symbols, after_up, ups_at};
+
+/// Whether a byte belongs to a symbol.
+pub fn is_symbol(byte: u8) -> bool
+    ensures { result ≡ is_symbol byte }
+{
+    byte >= 128
+        || byte.is_ascii_alphanumeric()
+        || byte == b'_'
+        || byte == b'-'
+        || byte == b'$'
+        || byte == b':'
+}
+
+fn symbols_len(bytes: &[u8]) -> usize
+    ensures { result ≡ prefix_len is_symbol bytes.now }
+{
+    let mut n = 0;
+    while n < bytes.len() && is_symbol(bytes[n]) {
+        n += 1;
+    }
+    n
+}
+
+/// The symbols at the front, and what follows them.
+pub fn symbols(text: &str) -> (&str, &str)
+    ensures front { result.0.now ≡ symbols_of text.now }
+    ensures rest { result.1.now ≡ behind_symbols text.now }
+{
+    text.split_at(symbols_len(text.as_bytes()))
+}
+
+/// What follows a mark, where it stands at the front.
+#[tactic(auto, unfolding(crate::specs::PathReading::after))]
+pub fn after(mark: u8, text: &str) -> Option<&str>
+    requires { mark < 128 }
+    ensures { option_map (λ rest. rest.now) result ≡ after mark text.now }
+{
+    match text.as_bytes() {
+        [first, ..] if *first == mark => Some(&text[1..]),
+        _ => None,
+    }
+}
+
+/// What follows `../`, where it stands at the front.
+#[tactic(auto, unfolding(crate::specs::PathReading::after_up))]
+fn after_up(text: &str) -> Option<&str>
+    ensures { option_map (λ rest. rest.now) result ≡ after_up text.now }
+{
+    match text.as_bytes() {
+        [b'.', b'.', b'/', ..] => Some(&text[3..]),
+        _ => None,
+    }
+}
+
+/// How many `../` stand at the front, and what follows them.
+pub fn ups(text: &str) -> (usize, &str)
+    ensures { (result.0, result.1.now) ≡ ups_at 0 text.now }
+{
+    let mut level = 0;
+    let mut rest = text;
+    while let Some(behind) = after_up(rest) {
+        level += 1;
+        rest = behind;
+    }
+    (level, rest)
+}
