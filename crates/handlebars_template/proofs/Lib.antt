@@ -1,0 +1,6 @@
+pub mod Runs
+pub mod Texts
+pub mod Tags
+pub mod Scan
+pub mod One
+pub mod Trees

@@ -1,0 +1,205 @@
+-- At most one cut, and at most one outcome.
+use Rattle.std.proofs.Common.{◌≡◌, ◌≢◌, ℕ, zero, suc, ◌+◌, ◌-◌, ◌<◌, ◌≤◌, List, [], ◌∷◌, ◌++◌, length, take, drop, Bool, true, false, cond, refl, sym, ap, ◌∙◌, subst, append_assoc, arith, ◌⊎◌, inl, inr, length-append}
+use Rattle.std.specs.Prelude.{◌==◌, nat_lt, replicate}
+use Rattle.std.proofs.lemmas.List.{append-nil, take_at, drop_at}
+use Rattle.std.proofs.lemmas.Bool.{cases_Bool, eqb-true, eqb-false, ne_eqb}
+use borrow.Author.Tests.{ltb-true, ltb-false}
+use Rattle.handlebars_template.specs.Place.{Place, place}
+use Rattle.handlebars_template.specs.Text.{IsText, at_end, at_tag, a_byte, two_escaped, four_escaped, slashes, braces, before_braces}
+use Rattle.handlebars_template.specs.Tag.{Tag, IsTag, NoTag}
+use Rattle.handlebars_template.specs.Cut.{Piece, text_piece, tag_piece, Begins, starts, goes_on, IsCut}
+use Rattle.handlebars_template.specs.Compile.{Options, Outcome, compiled, refused, Compiles, whole, no_tag, unreadable, tree_of, OneCut, OneOutcome}
+use Rattle.handlebars_template.proofs.Runs.{slashes-run, slashes-braces, before_braces-run}
+use Rattle.handlebars_template.proofs.Tags.{same_tag, tag_braces, right_same}
+
+-- ---- a text, read by a function
+
+abbrev keep : ℕ → List ℕ × List ℕ → List ℕ × List ℕ
+keep b q = (b ∷ q.0, q.1)
+
+-- what is kept of the text in front, and what follows it; so many braces in front are text
+pub text_at : ℕ → List ℕ → List ℕ × List ℕ
+text_at n [] = ([], [])
+text_at zero (b ∷ t) = cond (before_braces (b ∷ t)) (cond (slashes (b ∷ t) == 1) (text_at (cond (braces (drop 2 t)) 4 2) t) (replicate (slashes (b ∷ t) - 1) 92, drop (slashes (b ∷ t)) (b ∷ t))) (keep b (text_at zero t))
+text_at (suc n) (b ∷ t) = keep b (text_at n t)
+
+at_run : (t : List ℕ) → 0 < length t → before_braces t ≡ true → slashes t ≢ 1 → text_at 0 t ≡ (replicate (slashes t - 1) 92, drop (slashes t) t)
+unfolding text_at
+at_run [] lt marks more = absurd (omega arith)
+at_run (b ∷ t) lt marks more = rw (marks, ne_eqb (slashes (b ∷ t)) 1 more) refl
+
+braces_some : (t : List ℕ) → braces t ≡ true → 0 < length t
+braces_some [] h = absurd cc
+braces_some (b ∷ t) h = omega arith
+
+run_again : (run : ℕ) (follows : List ℕ) → braces follows ≡ true → run ≢ 1 → text_at 0 (replicate run 92 ++ follows) ≡ (replicate (run - 1) 92, follows)
+run_again run follows marks more =
+    let stop = slashes-braces follows marks in
+    let len = slashes-run run follows stop in
+    let long : 0 < length (replicate run 92 ++ follows) = omega (arith, length-append (replicate run 92) follows, braces_some follows marks) in
+    at_run (replicate run 92 ++ follows) long (before_braces-run run follows stop ∙ marks) (λ e. more (sym len ∙ e))
+      ∙ ap (λ (n : ℕ). (replicate (n - 1) 92, drop n (replicate run 92 ++ follows))) len ∙ ap (λ (z : List ℕ). (replicate (run - 1) 92, z)) (dropped run)
+  where
+    dropped : (run : ℕ) → drop run (replicate run 92 ++ follows) ≡ follows
+    dropped zero = refl
+    dropped (suc run) = dropped run
+
+pub text_again : {follows slice kept : List ℕ} → IsText follows slice kept → text_at 0 (slice ++ follows) ≡ (kept, follows)
+unfolding text_at
+text_again {follows} (at_end over) = rw over refl
+text_again {follows} (at_tag run marks more) = run_again run follows marks more
+text_again {follows} (a_byte {slice = slice} b clear h) = rw clear (ap (keep b) (text_again h))
+text_again {follows} (two_escaped clear h) = rw clear (ap (λ (q : List ℕ × List ℕ). keep 123 (keep 123 q)) (text_again h))
+text_again {follows} (four_escaped h) = ap (λ (q : List ℕ × List ℕ). keep 123 (keep 123 (keep 123 (keep 123 q)))) (text_again h)
+
+-- where two texts stand in front of the same, they are one
+pub record SameText (x y k l a b : List ℕ) : Type 0 where
+  pub slices : x ≡ y
+  pub kept : k ≡ l
+  pub follows : a ≡ b
+
+pub same_text : (x y k l a b : List ℕ) → IsText a x k → IsText b y l → x ++ a ≡ y ++ b → SameText x y k l a b
+same_text x y k l a b h g e =
+    let both : ◌≡◌ {A = List ℕ × List ℕ} (k, a) (l, b) = sym (text_again h) ∙ ap (text_at 0) e ∙ text_again g in
+    let follows : a ≡ b = ap (λ (q : List ℕ × List ℕ). q.1) both in
+    record { slices = right_same x y a b e follows; kept = ap (λ (q : List ℕ × List ℕ). q.0) both; follows = follows }
+
+-- ---- two beginnings
+
+cancel : (b x y : List ℕ) → b ++ x ≡ b ++ y → x ≡ y
+cancel b x y e = sym (drop_at b x (length b) refl) ∙ ap (drop (length b)) e ∙ drop_at b y (length b) refl
+
+same_source : (s b c x y : List ℕ) → b ≡ c → s ≡ b ++ x → s ≡ c ++ y → x ≡ y
+same_source s b c x y e h k = cancel c x y (ap (λ (z : List ℕ). z ++ x) (sym e) ∙ sym h ∙ k)
+
+-- how many tags were read
+pub count : {s b : List ℕ} {ps : List Piece} → Begins s b ps → ℕ
+count starts = zero
+count (goes_on r x k t rest tag is words fits) = suc (count r)
+
+pub record At (b c : List ℕ) (ps qs : List Piece) : Type 0 where
+  pub here : b ≡ c
+  pub pieces : ps ≡ qs
+
+suc_same : (n m : ℕ) → suc n ≡ suc m → n ≡ m
+suc_same n m e = omega arith
+
+pub same_at : {s b c : List ℕ} {ps qs : List Piece} → (r : Begins s b ps) (q : Begins s c qs) → count r ≡ count q → At b c ps qs
+unfolding count
+same_at starts starts n = record { here = refl; pieces = refl }
+same_at starts (goes_on q y k u rest tag is words fits) n = absurd (omega arith)
+same_at (goes_on r x k t rest tag is words fits) starts n = absurd (omega arith)
+same_at {s} (goes_on {before = b} {ps = ps} r x k t rest tag is words fits) (goes_on {before = c} {ps = qs} q y l u more gat js those kits) n =
+    let a = same_at r q (suc_same (count r) (count q) n) in
+    let left : x ++ (t ++ rest) ≡ y ++ (u ++ more) = same_source s b c (x ++ (t ++ rest)) (y ++ (u ++ more)) a.here is js in
+    let texts = same_text x y k l (t ++ rest) (u ++ more) words those left in
+    let tags = same_tag t u rest more tag gat fits kits texts.follows in
+    let bc = a.here in let pq = a.pieces in let xy = texts.slices in let kl = texts.kept in let tu = tags.slices in let gs = tags.tags in
+    record { here = cc; pieces = cc }
+
+-- a tag stands behind a beginning
+pub record Goes (s b : List ℕ) : Type 0 where
+  pub text : List ℕ
+  pub kept : List ℕ
+  pub slice : List ℕ
+  pub rest : List ℕ
+  pub tag : Tag
+  pub whole : s ≡ b ++ (text ++ (slice ++ rest))
+  pub fits : IsText (slice ++ rest) text kept
+  pub is : IsTag slice tag
+
+-- a shorter beginning, n tags long, on the way to a longer one
+pub record Back (s : List ℕ) (n : ℕ) : Type 0 where
+  pub before : List ℕ
+  pub pieces : List Piece
+  pub begins : Begins s before pieces
+  pub long : count begins ≡ n
+  pub goes : Goes s before
+
+split : (n m : ℕ) → n < suc m → (n ≡ m) ⊎ (n < m)
+split n m lt = elim (cases_Bool (n == m)) [
+  | inl same ↦ inl (eqb-true n m same)
+  | inr other ↦ inr (let apart = eqb-false n m other in omega arith)
+]
+
+pub back : {s b : List ℕ} {ps : List Piece} → (r : Begins s b ps) (n : ℕ) → n < count r → Back s n
+unfolding count
+back starts n lt = absurd (omega arith)
+back {s} (goes_on {before = b} {ps = ps} r x k t rest tag is words fits) n lt = elim (split n (count r) lt) [
+  | inl here ↦ record { before = b; pieces = ps; begins = r; long = sym here; goes = record { text = x; kept = k; slice = t; rest = rest; tag = tag; whole = is; fits = words; is = fits } }
+  | inr less ↦ back r n less
+]
+
+-- nothing reads behind here
+pub record Ends (s b x k left : List ℕ) : Type 0 where
+  pub whole : s ≡ b ++ (x ++ left)
+  pub fits : IsText left x k
+  pub none : NoTag left
+
+no_goes : (s b x k left : List ℕ) → Goes s b → Ends s b x k left → ⊥
+no_goes s b x k left g e =
+    let both = same_text g.text x g.kept k (g.slice ++ g.rest) left g.fits e.fits (cancel b (g.text ++ (g.slice ++ g.rest)) (x ++ left) (sym g.whole ∙ e.whole)) in
+    e.none g.slice g.rest g.tag (sym both.follows) g.is
+
+no_longer : {s b c x k left : List ℕ} {ps qs : List Piece} → (r : Begins s b ps) → Ends s b x k left → (q : Begins s c qs) → count r < count q → ⊥
+no_longer {s} {b} {c} {x} {k} {left} r ends q lt =
+    let m = back q (count r) lt in
+    let a = same_at r m.begins (sym m.long) in
+    no_goes s b x k left (subst (λ (z : List ℕ). Goes s z) (sym a.here) m.goes) ends
+
+by_order : (n m : ℕ) → (n ≡ m) ⊎ ((n < m) ⊎ (m < n))
+by_order n m = elim (cases_Bool (n == m)) [
+  | inl same ↦ inl (eqb-true n m same)
+  | inr other ↦ let apart = eqb-false n m other in elim (cases_Bool (nat_lt n m)) [
+    | inl less ↦ inr (inl (ltb-true n m less))
+    | inr more ↦ inr (inr (let le = ltb-false n m more in omega arith))
+  ]
+]
+
+pub both_end : {s b c x k y l left more : List ℕ} {ps qs : List Piece} → (r : Begins s b ps) → Ends s b x k left → (q : Begins s c qs) → Ends s c y l more → At b c ps qs
+both_end r h q g = elim (by_order (count r) (count q)) [
+  | inl same ↦ same_at r q same
+  | inr other ↦ elim other [
+    | inl less ↦ absurd (no_longer r h q less)
+    | inr more ↦ absurd (no_longer q g r more)
+  ]
+]
+
+same_behind : (s b c x k y l left more : List ℕ) → b ≡ c → Ends s b x k left → Ends s c y l more → SameText x y k l left more
+same_behind s b c x k y l left more e h g = same_text x y k l left more h.fits g.fits (same_source s b c (x ++ left) (y ++ more) e h.whole g.whole)
+
+-- ---- where a source ends
+
+nothing_there : NoTag []
+nothing_there slice rest t e h =
+    let never : false ≡ true = ap braces e ∙ tag_braces slice rest t h in
+    absurd cc
+
+ends_of : {s : List ℕ} {ps : List Piece} → (c : IsCut s ps) → Ends s c.before c.text c.kept []
+ends_of {s} c = record { whole = c.whole ∙ ap (λ (z : List ℕ). c.before ++ z) (sym (append-nil c.text)); fits = c.fits; none = nothing_there }
+
+pub one_cut : OneCut
+one_cut s ps qs a b =
+    let at = both_end a.begins (ends_of a) b.begins (ends_of b) in
+    let texts = same_behind s a.before b.before a.text a.kept b.text b.kept [] [] at.here (ends_of a) (ends_of b) in
+    let here = at.here in let pieces = at.pieces in let text = texts.slices in let kept = texts.kept in
+    let all : a.pieces ++ text_piece (place a.before) a.text a.kept ∷ [] ≡ b.pieces ++ text_piece (place b.before) b.text b.kept ∷ [] = cc in
+    a.gives ∙ all ∙ sym b.gives
+
+cut_stuck : {s before text kept left : List ℕ} {ps qs : List Piece} → IsCut s ps → Begins s before qs → Ends s before text kept left → braces left ≡ true → ⊥
+cut_stuck {s} {before} {text} {kept} {left} a q e marks =
+    let at = both_end a.begins (ends_of a) q e in
+    let texts = same_behind s a.before before a.text a.kept text kept [] left at.here (ends_of a) e in
+    let never : false ≡ true = ap braces texts.follows ∙ marks in
+    absurd cc
+
+pub one_outcome : OneOutcome
+one_outcome s options _ _ (whole {ps = ps} a) (whole {ps = qs} b) = ap (λ (z : List Piece). compiled (tree_of options z)) (one_cut s ps qs a b)
+one_outcome s options _ _ (whole a) (no_tag q text kept left is words marks none) = absurd (cut_stuck a q (record { whole = is; fits = words; none = none }) marks)
+one_outcome s options _ _ (no_tag q text kept left is words marks none) (whole a) = absurd (cut_stuck a q (record { whole = is; fits = words; none = none }) marks)
+one_outcome s options _ _ (no_tag {before = b} r x k left is words marks none) (no_tag {before = c} q y l more js those kits others) =
+    let h : Ends s b x k left = record { whole = is; fits = words; none = none } in
+    let g : Ends s c y l more = record { whole = js; fits = those; none = others } in
+    let at = both_end r h q g in
+    let texts = same_behind s b c x k y l left more at.here h g in
+    ap (λ (z : List ℕ). refused (unreadable options (place z))) (ap (λ (z : List ℕ). z ++ x) at.here ∙ ap (λ (z : List ℕ). c ++ z) texts.slices)

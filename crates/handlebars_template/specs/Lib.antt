@@ -1,0 +1,9 @@
+pub mod Place
+pub mod Text
+pub mod TextSteps
+pub mod Tag
+pub mod TagSteps
+pub mod Cut
+pub mod Tree
+pub mod TreeView
+pub mod Compile

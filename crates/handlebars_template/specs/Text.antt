@@ -1,0 +1,32 @@
+-- What a text of a source is, and what is kept of it. Texts run up to the first `{{` that isn't escaped.
+use Rattle.std.specs.Prelude.{◌≡◌, ◌≢◌, ℕ, ◌-◌, Bool, true, false, ◌&&◌, ◌==◌, List, [], ◌∷◌, ◌++◌, drop, replicate}
+use Rattle.std.specs.List.{prefix_len}
+
+abbrev pub is_slash : ℕ → Bool
+is_slash b = b == 92
+
+-- how many backslashes stand in front
+abbrev pub slashes : List ℕ → ℕ
+slashes t = prefix_len is_slash t
+
+-- two opening braces stand in front
+abbrev pub braces : List ℕ → Bool
+braces [] = false
+braces (a ∷ []) = false
+braces (a ∷ b ∷ t) = (a == 123) && (b == 123)
+
+-- a run of backslashes in front, none or more, stands directly before braces
+abbrev pub before_braces : List ℕ → Bool
+before_braces t = braces (drop (slashes t) t)
+
+-- IsText follows slice kept: the slice is a whole text where these bytes follow, and this is kept of it.
+pub data IsText (follows : List ℕ) : List ℕ → List ℕ → Type 0 where
+  -- the source ends
+  at_end : follows ≡ [] → IsText follows [] []
+  -- A tag begins. Backslashes right before it, if any, are two or more, and the first of them is dropped.
+  at_tag : (run : ℕ) → braces follows ≡ true → run ≢ 1 → IsText follows (replicate run 92) (replicate (run - 1) 92)
+  -- a byte with which no tag and no escape begins
+  a_byte : {slice kept : List ℕ} → (b : ℕ) → before_braces (b ∷ (slice ++ follows)) ≡ false → IsText follows slice kept → IsText follows (b ∷ slice) (b ∷ kept)
+  -- One backslash makes the braces behind it text, four where four stand there, and is dropped.
+  two_escaped : {slice kept : List ℕ} → braces (slice ++ follows) ≡ false → IsText follows slice kept → IsText follows (92 ∷ 123 ∷ 123 ∷ slice) (123 ∷ 123 ∷ kept)
+  four_escaped : {slice kept : List ℕ} → IsText follows slice kept → IsText follows (92 ∷ 123 ∷ 123 ∷ 123 ∷ 123 ∷ slice) (123 ∷ 123 ∷ 123 ∷ 123 ∷ kept)

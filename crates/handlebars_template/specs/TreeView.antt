@@ -1,0 +1,107 @@
+-- The tree that a `Template` stands for.
+use Rattle.std.specs.Prelude.{ℕ, List, [], ◌∷◌, map, Option, None, Some, option_map, String, string_bytes}
+use Rattle.std.specs.declared.alloc.Global.{Global}
+use Rattle.serde_json.specs.Data.{Data}
+use Rattle.serde_json.specs.View as json
+use Rattle.handlebars_base.specs.Path.{Reference}
+use Rattle.handlebars_base.specs.PathView.{reference_of}
+use Rattle.handlebars_template.specs.Place.{Place}
+use Rattle.handlebars_template.specs.Tree.{Tree, tree, Elements, elements_of, Element, raw_string, html_expression, expression, helper_block, decorator_expression, decorator_block, partial_expression, partial_block, comment, Call, call, Decorator, decorator, Param, name, path, literal, subexpression, Params, params_of, Pairs, no_pairs, pair, Binding, no_binding, single, both, Body, no_body, body}
+use Rattle.handlebars_template.specs.declared.template.tree.TemplateMapping.{TemplateMapping}
+use Rattle.handlebars_template.specs.declared.template.tree.Template.{Template, fold-Template}
+use Rattle.handlebars_template.specs.declared.template.tree.TemplateElement.{TemplateElement, fold-TemplateElement}
+use Rattle.handlebars_template.specs.declared.template.tree.HelperTemplate.{HelperTemplate, fold-HelperTemplate}
+use Rattle.handlebars_template.specs.declared.template.tree.DecoratorTemplate.{DecoratorTemplate, fold-DecoratorTemplate}
+use Rattle.handlebars_template.specs.declared.template.tree.BlockParam.{BlockParam, fold-BlockParam}
+use Rattle.handlebars_template.specs.declared.template.tree.Parameter.{Parameter, fold-Parameter}
+use Rattle.handlebars_template.specs.declared.template.tree.Subexpression.{Subexpression, fold-Subexpression}
+use Rattle.handlebars_template.specs.declared.template.tree.BlockParam.TheOpen.{BlockParam-F, Parameter-F, TemplateElement-F, DecoratorTemplate-F, HelperTemplate-F, Subexpression-F, Template-F}
+
+abbrev pub text : String Global → List ℕ
+text s = string_bytes s
+
+abbrev pub place_of : TemplateMapping → Place
+place_of m = record { line = m.0; column = m.1 }
+
+abbrev pub pairs_of : List (String Global × Param) → Pairs
+pairs_of [] = no_pairs
+pairs_of (h ∷ hs) = pair (text h.0) h.1 (pairs_of hs)
+
+abbrev pub binding_of : Option Binding → Binding
+binding_of None = no_binding
+binding_of (Some b) = b
+
+abbrev pub body_of : Option Tree → Body
+body_of None = no_body
+body_of (Some t) = body t
+
+-- one level each, with what is inside already seen
+abbrev pub binding_step : BlockParam-F Binding Param Element Decorator Call Element Tree → Binding
+binding_step (BlockParam-F.Single p) = single p
+binding_step (BlockParam-F.Pair p) = both p.0 p.1
+
+abbrev pub param_step : Parameter-F Binding Param Element Decorator Call Element Tree → Param
+param_step (Parameter-F.Name s) = name (text s)
+param_step (Parameter-F.Path p) = path (reference_of p)
+param_step (Parameter-F.Literal v) = literal (json.view v)
+param_step (Parameter-F.Subexpression s) = subexpression s
+
+abbrev pub element_step : TemplateElement-F Binding Param Element Decorator Call Element Tree → Element
+element_step (TemplateElement-F.RawString s) = raw_string (text s)
+element_step (TemplateElement-F.HtmlExpression b) = html_expression b.value
+element_step (TemplateElement-F.Expression b) = expression b.value
+element_step (TemplateElement-F.HelperBlock b) = helper_block b.value
+element_step (TemplateElement-F.DecoratorExpression b) = decorator_expression b.value
+element_step (TemplateElement-F.DecoratorBlock b) = decorator_block b.value
+element_step (TemplateElement-F.PartialExpression b) = partial_expression b.value
+element_step (TemplateElement-F.PartialBlock b) = partial_block b.value
+element_step (TemplateElement-F.Comment s) = comment (text s)
+
+abbrev pub decorator_step : DecoratorTemplate-F Binding Param Element Decorator Call Element Tree → Decorator
+decorator_step t = decorator t.name (params_of t.params.items) (pairs_of t.hash.entries) (body_of t.template) (option_map text t.indent) t.indent_before_write
+
+abbrev pub call_step : HelperTemplate-F Binding Param Element Decorator Call Element Tree → Call
+call_step h = call h.name (params_of h.params.items) (pairs_of h.hash.entries) (binding_of h.block_param) (body_of h.template) (body_of h.inverse) h.block h.chain h.indent_before_write
+
+abbrev pub subexpression_step : Subexpression-F Binding Param Element Decorator Call Element Tree → Element
+subexpression_step s = s.element.value
+
+abbrev pub tree_step : Template-F Binding Param Element Decorator Call Element Tree → Tree
+tree_step t = tree (option_map text t.name) (elements_of t.elements.items) (map place_of t.mapping.items)
+
+-- what each type stands for
+abbrev pub binding_view : BlockParam → Binding
+binding_view = fold-BlockParam Binding Param Element Decorator Call Element Tree binding_step param_step element_step decorator_step call_step subexpression_step tree_step
+
+abbrev pub param_view : Parameter → Param
+param_view = fold-Parameter Binding Param Element Decorator Call Element Tree binding_step param_step element_step decorator_step call_step subexpression_step tree_step
+
+abbrev pub element_view : TemplateElement → Element
+element_view = fold-TemplateElement Binding Param Element Decorator Call Element Tree binding_step param_step element_step decorator_step call_step subexpression_step tree_step
+
+abbrev pub decorator_view : DecoratorTemplate → Decorator
+decorator_view = fold-DecoratorTemplate Binding Param Element Decorator Call Element Tree binding_step param_step element_step decorator_step call_step subexpression_step tree_step
+
+abbrev pub call_view : HelperTemplate → Call
+call_view = fold-HelperTemplate Binding Param Element Decorator Call Element Tree binding_step param_step element_step decorator_step call_step subexpression_step tree_step
+
+abbrev pub subexpression_view : Subexpression → Element
+subexpression_view = fold-Subexpression Binding Param Element Decorator Call Element Tree binding_step param_step element_step decorator_step call_step subexpression_step tree_step
+
+abbrev pub tree_view : Template → Tree
+tree_view = fold-Template Binding Param Element Decorator Call Element Tree binding_step param_step element_step decorator_step call_step subexpression_step tree_step
+
+abbrev pub elements_view : List TemplateElement → Elements
+elements_view es = elements_of (map element_view es)
+
+abbrev pub params_view : List Parameter → Params
+params_view ps = params_of (map param_view ps)
+
+abbrev pub pairs_view : List (String Global × Parameter) → Pairs
+pairs_view hs = pairs_of (map (λ h. (h.0, param_view h.1)) hs)
+
+abbrev pub body_view : Option Template → Body
+body_view t = body_of (option_map tree_view t)
+
+abbrev pub block_param_view : Option BlockParam → Binding
+block_param_view b = binding_of (option_map binding_view b)

@@ -1,0 +1,4 @@
+//! Templates: from source text to tree.
+#![tactic(auto)]
+
+pub mod template;

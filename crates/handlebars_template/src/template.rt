@@ -1,0 +1,13 @@
+//! A template's tree, and how a source is compiled to it.
+
+mod compile;
+mod place;
+mod tag;
+mod text;
+mod tree;
+
+pub use compile::{one_cut, one_outcome};
+pub use tree::{
+    BlockParam, DecoratorTemplate, HelperTemplate, Parameter, Subexpression, Template,
+    TemplateElement, TemplateMapping,
+};

@@ -1,0 +1,137 @@
+//! From a source to its tree.
+
+ghost use Rattle.std.specs.Prelude.{◌≡◌, ◌≢◌, ◌++◌, ◌∷◌, [], IfOk, IfErr, OnOk, List, ℕ, map, string_bytes, false};
+ghost use Rattle.handlebars_base.specs.Reasons.{template_out_of_memory};
+ghost use Rattle.handlebars_base.specs.TemplateFaults.{template_fault_of};
+ghost use Rattle.handlebars_base.specs.PathView.{reference_of};
+ghost use Rattle.handlebars_template.specs.Tag.{expression_tag};
+ghost use Rattle.handlebars_template.specs.Cut.{text_piece, tag_piece};
+ghost use Rattle.handlebars_template.specs.Compile.{Compiles, compiled, refused, no_options, unreadable, value_call, element_of, piece_elements, piece_places, OneCut, OneOutcome};
+ghost use Rattle.handlebars_template.specs.TreeView.{tree_view, call_view, element_view, place_of, text};
+
+use crate::template::place::advance;
+use crate::template::tag::tag;
+use crate::template::text::text;
+use crate::template::tree::{
+    HelperTemplate, Parameter, Template, TemplateElement, TemplateMapping,
+};
+use handlebars_base::error::{TemplateError, TemplateErrorReason};
+use handlebars_base::json::path::Path;
+use std::alloc::{AllocError, Global};
+use std::collections::BTreeMap;
+
+impl Template {
+    /// The tree of a source, or the first fault in it: `InvalidSyntax` with its position, in the
+    /// template `Unnamed`. In time linear in the source.
+    pub fn compile(alloc: Global, source: &str) -> Result<Template, TemplateError>
+        ensures ok { IfOk result (λ template. Compiles source.now no_options (compiled (tree_view template))) }
+        ensures err { IfErr result (λ e. (template_fault_of e).reason ≢ template_out_of_memory
+            → Compiles source.now no_options (refused (template_fault_of e))) }
+    {
+        let mut tree = Growing {
+            elements: Vec::new(alloc),
+            mapping: Vec::new(alloc),
+        };
+        let mut place = TemplateMapping(1, 1);
+        let (mut kept, mut slice, mut left) = text(alloc, source)?;
+        while !left.is_empty() {
+            let at = advance(place, slice);
+            let Some((path, behind)) = tag(alloc, left)? else {
+                return Err(unreadable(alloc, source, at));
+            };
+            tree.add_text(place, slice, kept)?;
+            tree.add_expression(alloc, at, path)?;
+            place = advance(at, left.split_at(left.len() - behind.len()).0);
+            (kept, slice, left) = text(alloc, behind)?;
+        }
+        tree.add_text(place, slice, kept)?;
+        Ok(Template {
+            name: None,
+            elements: tree.elements,
+            mapping: tree.mapping,
+        })
+    }
+}
+
+/// A source has at most one cut into texts and tags.
+pub fn one_cut()
+    ensures { OneCut }
+{}
+
+/// A source has at most one outcome: a tree or a refusal, and not both.
+pub fn one_outcome()
+    ensures { OneOutcome }
+{}
+
+// The elements so far, and where each begins.
+#[derive(Drop)]
+struct Growing {
+    elements: Vec<TemplateElement>,
+    mapping: Vec<TemplateMapping>,
+}
+
+impl Growing {
+    // An empty slice has no element.
+    fn add_text(&mut self, place: TemplateMapping, slice: &str, kept: String) -> Result<(), AllocError>
+        ensures elements { OnOk result (map element_view self.new.elements.items
+            ≡ map element_view self.old.elements.items ++ piece_elements (text_piece (place_of place) slice.now (string_bytes kept) ∷ [])) }
+        ensures places { OnOk result (map place_of self.new.mapping.items
+            ≡ map place_of self.old.mapping.items ++ piece_places (text_piece (place_of place) slice.now (string_bytes kept) ∷ [])) }
+    {
+        if slice.is_empty() {
+            return Ok(());
+        }
+        self.elements.push(TemplateElement::RawString(kept))?;
+        self.mapping.push(place)?;
+        Ok(())
+    }
+
+    fn add_expression(&mut self, alloc: Global, place: TemplateMapping, path: Path) -> Result<(), AllocError>
+        ensures elements { OnOk result (map element_view self.new.elements.items
+            ≡ map element_view self.old.elements.items ++ element_of (expression_tag (reference_of path)) ∷ []) }
+        ensures places { OnOk result (map place_of self.new.mapping.items
+            ≡ map place_of self.old.mapping.items ++ place_of place ∷ []) }
+    {
+        let value = Box::new(alloc, value_of(alloc, path))?;
+        self.elements.push(TemplateElement::Expression(value))?;
+        self.mapping.push(place)?;
+        Ok(())
+    }
+}
+
+// The value that a path leads to.
+fn value_of(alloc: Global, path: Path) -> HelperTemplate
+    ensures { call_view result ≡ value_call (reference_of path) }
+{
+    HelperTemplate {
+        name: Parameter::Path(path),
+        params: Vec::new(alloc),
+        hash: BTreeMap::new(alloc),
+        block_param: None,
+        template: None,
+        inverse: None,
+        block: false,
+        chain: false,
+        indent_before_write: false,
+    }
+}
+
+// The refusal of a tag that doesn't read.
+fn unreadable(alloc: Global, source: &str, at: TemplateMapping) -> TemplateError
+    ensures { (template_fault_of result).reason ≢ template_out_of_memory
+        → template_fault_of result ≡ unreadable no_options (place_of at) }
+{
+    match unreadable_in(alloc, source, at) {
+        Ok(error) => error,
+        Err(AllocError) => TemplateError::of(TemplateErrorReason::OutOfMemory),
+    }
+}
+
+fn unreadable_in(alloc: Global, source: &str, at: TemplateMapping) -> Result<TemplateError, AllocError>
+    ensures { IfOk result (λ e. (template_fault_of e).reason ≢ template_out_of_memory
+        → template_fault_of e ≡ unreadable no_options (place_of at)) }
+{
+    let reason = TemplateErrorReason::InvalidSyntax(String::from_str(alloc, "unreadable tag")?);
+    let name = String::from_str(alloc, "Unnamed")?;
+    Ok(TemplateError::of(reason).at(alloc, source, at.0, at.1).in_template(name))
+}

@@ -1,0 +1,26 @@
+//! Lines and columns.
+
+ghost use Rattle.std.specs.Prelude.{◌≡◌, ◌+◌, ◌<◌, ◌^◌, length};
+ghost use Rattle.handlebars_template.specs.Place.{behind};
+ghost use Rattle.handlebars_template.specs.TreeView.{place_of};
+
+use crate::template::tree::TemplateMapping;
+
+/// The place behind a text that begins at a place.
+pub fn advance(place: TemplateMapping, text: &str) -> TemplateMapping
+    requires line { place.0 + length text.now < 2 ^ 64 }
+    requires column { place.1 + length text.now < 2 ^ 64 }
+    ensures { place_of result ≡ behind (place_of place) text.now }
+{
+    let mut line = place.0;
+    let mut column = place.1;
+    for c in text.chars() {
+        if c == '\n' {
+            line += 1;
+            column = 1;
+        } else {
+            column += 1;
+        }
+    }
+    TemplateMapping(line, column)
+}

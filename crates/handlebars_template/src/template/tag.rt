@@ -1,0 +1,97 @@
+//! Tags: how the slice in front of a source is read as one.
+
+ghost use Rattle.std.specs.Prelude.{◌≡◌, ◌++◌, IfOk, MatchOption, IsTrue, ◌↔◌, List, ℕ, take, drop};
+ghost use Rattle.std.specs.List.{prefix_len};
+ghost use Rattle.std.specs.Option.{option_map};
+ghost use Rattle.handlebars_base.specs.PathView.{reference_of};
+ghost use Rattle.handlebars_template.specs.Text.{braces};
+ghost use Rattle.handlebars_template.specs.Tag.{IsNames, IsTag, NoTag, Tag, expression_tag, is_white};
+ghost use Rattle.handlebars_template.specs.TagSteps.{Follows, behind_white, behind_open, behind_close};
+
+use handlebars_base::json::path::{Path, PathSeg, read_path, split_reference};
+use std::alloc::{AllocError, Global};
+
+/// The tag in front, and what follows it: none where no tag reads.
+pub fn tag<'a>(alloc: Global, left: &'a str) -> Result<Option<(Path, &'a str)>, AllocError>
+    ensures { IfOk result (λ read. MatchOption read (NoTag left.now)
+        (λ found. Follows left.now (expression_tag (reference_of found.0)) found.1.now)) }
+{
+    let Some(inside) = behind_open(left) else {
+        return Ok(None);
+    };
+    let (raw, more) = split_reference(behind_white(inside));
+    let Some(rest) = behind_close(behind_white(more)) else {
+        return Ok(None);
+    };
+    if raw == "else" {
+        return Ok(None);
+    }
+    match read_path(alloc, raw)? {
+        Some(path) => {
+            if is_names(&path) {
+                Ok(Some((path, rest)))
+            } else {
+                Ok(None)
+            }
+        }
+        None => Ok(None),
+    }
+}
+
+// Whether a path has names alone, with no `..` and no `@`.
+fn is_names(path: &Path) -> bool
+    ensures { IsTrue result ↔ IsNames (reference_of path.now) }
+{
+    match path {
+        Path::Relative((segments, _)) => {
+            for segment in segments {
+                match segment {
+                    PathSeg::Named(_) => {}
+                    PathSeg::Ruled(_) => return false,
+                }
+            }
+            true
+        }
+        Path::Local(_) => false,
+    }
+}
+
+fn is_white(byte: u8) -> bool
+    ensures { result ≡ is_white byte }
+{
+    byte == b' ' || byte == b'\t' || byte == b'\n' || byte == b'\r'
+}
+
+fn behind_white(text: &str) -> &str
+    ensures { result.now ≡ behind_white text.now }
+{
+    let mut rest = text;
+    while let [first, ..] = rest.as_bytes()
+        && is_white(*first)
+    {
+        rest = rest.split_at(1).1;
+    }
+    rest
+}
+
+// What follows the braces that open a tag.
+#[tactic(auto, unfolding(crate::specs::TagSteps::behind_open))]
+fn behind_open(text: &str) -> Option<&str>
+    ensures { option_map (λ rest. rest.now) result ≡ behind_open text.now }
+{
+    match text.as_bytes() {
+        [b'{', b'{', ..] => Some(&text[2..]),
+        _ => None,
+    }
+}
+
+// What follows the braces that close a tag.
+#[tactic(auto, unfolding(crate::specs::TagSteps::behind_close))]
+fn behind_close(text: &str) -> Option<&str>
+    ensures { option_map (λ rest. rest.now) result ≡ behind_close text.now }
+{
+    match text.as_bytes() {
+        [b'}', b'}', ..] => Some(&text[2..]),
+        _ => None,
+    }
+}

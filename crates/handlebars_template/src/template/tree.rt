@@ -1,0 +1,85 @@
+//! The tree of a template.
+
+use handlebars_base::json::path::Path;
+use handlebars_base::json::value::Json;
+use std::collections::BTreeMap;
+
+/// Where an element begins: line and column from 1, the column in characters.
+#[derive(Clone, Copy, Debug, PartialEq, Eq)]
+pub struct TemplateMapping(pub usize, pub usize);
+
+/// A template: its elements in order, and the positions of its first elements, in the same order.
+#[derive(Debug, PartialEq, Drop)]
+#[cycle(tree)]
+pub struct Template {
+    pub name: Option<String>,
+    pub elements: Vec<TemplateElement>,
+    pub mapping: Vec<TemplateMapping>,
+}
+
+/// A part of a template.
+#[derive(Debug, PartialEq, Drop)]
+#[cycle(tree)]
+pub enum TemplateElement {
+    RawString(String),
+    HtmlExpression(Box<HelperTemplate>),
+    Expression(Box<HelperTemplate>),
+    HelperBlock(Box<HelperTemplate>),
+    DecoratorExpression(Box<DecoratorTemplate>),
+    DecoratorBlock(Box<DecoratorTemplate>),
+    PartialExpression(Box<DecoratorTemplate>),
+    PartialBlock(Box<DecoratorTemplate>),
+    Comment(String),
+}
+
+/// A value or a call of a helper, with its bodies where it is a block.
+#[derive(Debug, PartialEq, Drop)]
+#[cycle(tree)]
+pub struct HelperTemplate {
+    pub name: Parameter,
+    pub params: Vec<Parameter>,
+    pub hash: BTreeMap<String, Parameter>,
+    pub block_param: Option<BlockParam>,
+    pub template: Option<Template>,
+    pub inverse: Option<Template>,
+    pub block: bool,
+    pub chain: bool,
+    pub indent_before_write: bool,
+}
+
+/// A decorator or an inclusion, with its body where it is a block.
+#[derive(Debug, PartialEq, Drop)]
+#[cycle(tree)]
+pub struct DecoratorTemplate {
+    pub name: Parameter,
+    pub params: Vec<Parameter>,
+    pub hash: BTreeMap<String, Parameter>,
+    pub template: Option<Template>,
+    pub indent: Option<String>,
+    pub indent_before_write: bool,
+}
+
+/// The names that a block binds: to its value, or to its value and its index or key.
+#[derive(Debug, PartialEq, Drop)]
+#[cycle(tree)]
+pub enum BlockParam {
+    Single(Parameter),
+    Pair((Parameter, Parameter)),
+}
+
+/// A name, a path, a literal or a nested call.
+#[derive(Debug, PartialEq, Drop)]
+#[cycle(tree)]
+pub enum Parameter {
+    Name(String),
+    Path(Path),
+    Literal(Json),
+    Subexpression(Subexpression),
+}
+
+/// A call in parentheses.
+#[derive(Debug, PartialEq, Drop)]
+#[cycle(tree)]
+pub struct Subexpression {
+    pub element: Box<TemplateElement>,
+}
