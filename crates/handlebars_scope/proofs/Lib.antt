@@ -1,0 +1,4 @@
+mod Indexes
+pub mod Bytes
+mod Runs
+pub mod Laws

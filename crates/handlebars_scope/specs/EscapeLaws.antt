@@ -1,0 +1,24 @@
+-- What holds of every escaped text.
+use Rattle.std.specs.Prelude.{◌≡◌, ℕ, List, ◌∷◌, ◌++◌, Contains, codes, Some}
+use Rattle.handlebars_scope.specs.Escape.{entity_of, escaped}
+
+-- a text may be escaped in parts
+abbrev pub Joins : Type 0
+Joins = (xs ys : List ℕ) → escaped (xs ++ ys) ≡ escaped xs ++ escaped ys
+
+-- two texts never become one
+abbrev pub IsInjective : Type 0
+IsInjective = (xs ys : List ℕ) → escaped xs ≡ escaped ys → xs ≡ ys
+
+-- what has a meaning of its own in HTML, but for `&`: < > " ' ` =
+abbrev pub marks : List ℕ
+marks = codes "<>\"'`="
+
+-- none of the marks is left
+abbrev pub IsUnmarked : Type 0
+IsUnmarked = (xs : List ℕ) (mark : ℕ) → Contains marks mark → ¬ Contains (escaped xs) mark
+
+-- where an `&` is, one of the seven entities begins
+abbrev pub BeginsEntities : Type 0
+BeginsEntities = (xs front rest : List ℕ) → escaped xs ≡ front ++ 38 ∷ rest
+    → (b : ℕ) × (entity : List ℕ) × (after : List ℕ) × (entity_of b ≡ Some entity) × (38 ∷ rest ≡ entity ++ after)

@@ -1,0 +1,111 @@
+//! The data of a template, and the ways into it.
+
+ghost use Rattle.std.specs.Prelude.{◌≡◌, false};
+ghost use Rattle.serde_json.specs.Errors.{IsMemory};
+ghost use Rattle.serde_json.specs.View.{view};
+ghost use Rattle.serde_json.specs.Written.{has_float};
+ghost use Rattle.handlebars_base.specs.Reasons.{out_of_memory, serde_error};
+ghost use Rattle.handlebars_base.specs.RenderFaults.{reason_in, fault_of, plain_fault};
+
+mod range;
+pub mod walk;
+
+use crate::context::range::has_float;
+use handlebars_base::error::{RenderError, RenderErrorReason};
+use handlebars_base::json::value::Json;
+use serde::Serialize;
+use std::alloc::Global;
+
+/// Data whose numbers are all integers, none below -2^63 and none of 2^64 or more.
+#[derive(Drop)]
+pub struct Context {
+    value: Json,
+    pub ghost in_range: { has_float (view value) ≡ false },
+}
+
+impl Context {
+    ghost use Rattle.std.specs.Prelude.{◌≡◌, ◌≢◌, false, IfOk, IfErr, OnOk, OnErr};
+    ghost use Rattle.serde_json.specs.Data.{null};
+    ghost use Rattle.serde_json.specs.View.{view};
+    ghost use Rattle.serde_json.specs.Written.{has_float};
+    ghost use Rattle.handlebars_base.specs.Answers.{gives, refuses};
+    ghost use Rattle.handlebars_base.specs.Reasons.{out_of_memory};
+    ghost use Rattle.handlebars_base.specs.RenderFaults.{reason_in, fault_of, plain_fault};
+    ghost use Rattle.handlebars_scope.specs.Contexts.{data_of, TestsRange};
+    ghost use Rattle.handlebars_scope.specs.Wraps.{IsConversion};
+
+    /// The data of a template that is given none.
+    pub fn null() -> Context
+        ensures { data_of result ≡ null }
+    {
+        Context { value: Json::Null }
+    }
+
+    /// The data that JSON reads from what `source` is written as. `SerdeError` where serde_json
+    /// does not write it, of which nothing more is known, or does not read it, as where it nests
+    /// deeper than 127; `InvalidNumber` where a number is outside the range.
+    pub fn wraps<T: Serialize>(alloc: Global, source: &T) -> Result<Context, RenderError>
+        ensures ok { IfOk result (λ c. IsConversion T.writes source.now (gives (data_of c))) }
+        ensures err { IfErr result (λ e. reason_in e ≢ out_of_memory
+            → IsConversion T.writes source.now (refuses (reason_in e))) }
+        ensures plain { IfErr result (λ e. fault_of e ≡ plain_fault (reason_in e)) }
+    {
+        let text = match serde_json::to_string(alloc, source) {
+            Ok(text) => text,
+            Err(cause) => return Err(refused(cause)),
+        };
+        match Json::from_str(alloc, text.as_str()) {
+            Ok(value) => Context::try_from(value),
+            Err(cause) => Err(refused(cause)),
+        }
+    }
+
+    /// The data, which a caller may rely on to be in the range.
+    pub fn data(&self) -> &Json
+        ensures value { view result.now ≡ data_of self.now }
+        ensures in_range { has_float (view result.now) ≡ false }
+    {
+        &self.value
+    }
+
+    /// Takes other data. `InvalidNumber` where a number is outside the range. Visits all of it.
+    pub fn set_data(&mut self, given: Json) -> Result<(), RenderError>
+        ensures range { TestsRange (view given) result }
+        ensures ok { OnOk result (data_of self.new ≡ view given) }
+        ensures err { OnErr result (self.new ≡ self.old) }
+    {
+        *self = Context::try_from(given)?;
+        Ok(())
+    }
+}
+
+// What serde_json refuses, but for want of memory, which has a reason of its own.
+fn refused(cause: serde_json::Error) -> RenderError
+    ensures memory { IsMemory cause → reason_in result ≡ out_of_memory }
+    ensures other { ¬ (IsMemory cause) → reason_in result ≡ serde_error }
+    ensures plain { fault_of result ≡ plain_fault (reason_in result) }
+{
+    if cause.is_memory() {
+        RenderErrorReason::OutOfMemory.into()
+    } else {
+        RenderErrorReason::SerdeError(cause).into()
+    }
+}
+
+/// `InvalidNumber` where a number is outside the range. Visits all of the data.
+impl TryFrom<Json> for Context {
+    type Error = RenderError;
+
+    ghost use Rattle.std.specs.Prelude.{◌≡◌, IfOk};
+    ghost use Rattle.serde_json.specs.View.{view};
+    ghost use Rattle.handlebars_scope.specs.Contexts.{data_of, TestsRange};
+
+    ghost try_from_gives = { λ v r. TestsRange (view v) r × IfOk r (λ c. data_of c ≡ view v) };
+
+    fn try_from(given: Json) -> Result<Context, RenderError> {
+        if has_float(&given) {
+            return Err(RenderErrorReason::InvalidNumber.into());
+        }
+        Ok(Context { value: given })
+    }
+}

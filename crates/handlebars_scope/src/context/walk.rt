@@ -1,0 +1,77 @@
+//! Walking into data along names.
+
+ghost use Rattle.std.specs.Prelude.{◌≡◌, ◌≢◌, IfErr, option_map, string_bytes};
+ghost use Rattle.serde_json.specs.View.{view};
+ghost use Rattle.handlebars_base.specs.Answers.{Answers};
+ghost use Rattle.handlebars_base.specs.Reasons.{out_of_memory, invalid_json_index};
+ghost use Rattle.handlebars_base.specs.RenderFaults.{reason_in, fault_of, plain_fault};
+ghost use Rattle.handlebars_scope.specs.Resolve.{index_of, member_at, names_of, resolved, value_at};
+ghost use Rattle.handlebars_base.specs.PathView.{reference_of, segments_of};
+
+use handlebars_base::error::{RenderError, RenderErrorReason};
+use handlebars_base::json::path::{Path, PathSeg};
+use handlebars_base::json::value::Json;
+use std::alloc::AllocError;
+
+/// The value that a path leads to from the data, in the one empty block of scope that a rendering
+/// begins with; none where a name has no value, and for a variable of a block.
+pub fn resolve<'a>(data: &'a Json, path: &Path) -> Result<Option<&'a Json>, RenderError>
+    ensures answers { Answers (option_map (λ v. view v.now)) result (resolved (reference_of path.now) (view data.now)) }
+    ensures plain { IfErr result (λ e. fault_of e ≡ plain_fault (reason_in e)) }
+{
+    match path {
+        Path::Relative((segments, _)) => along(data, segments),
+        Path::Local(_) => Ok(None),
+    }
+}
+
+// Along the names of a path; the other segments add nothing.
+fn along<'a>(data: &'a Json, segments: &Vec<PathSeg>) -> Result<Option<&'a Json>, RenderError>
+    ensures answers { Answers (option_map (λ v. view v.now)) result
+        (value_at (view data.now) (names_of (segments_of segments.now.items))) }
+    ensures plain { IfErr result (λ e. fault_of e ≡ plain_fault (reason_in e)) }
+{
+    let mut here = data;
+    for segment in segments {
+        match segment {
+            PathSeg::Named(name) => match member(here, name)? {
+                Some(next) => here = next,
+                None => return Ok(None),
+            },
+            PathSeg::Ruled(_) => {}
+        }
+    }
+    Ok(Some(here))
+}
+
+// One name further.
+fn member<'a>(value: &'a Json, name: &String) -> Result<Option<&'a Json>, RenderError>
+    ensures answers { Answers (option_map (λ v. view v.now)) result (member_at (view value.now) (string_bytes name.now)) }
+    ensures plain { IfErr result (λ e. fault_of e ≡ plain_fault (reason_in e)) }
+{
+    match value {
+        Json::Array(_) => match index_of(name.as_str()) {
+            Some(index) => Ok(value.get(index)),
+            None => Err(wrong_index(name)),
+        },
+        Json::Object(_) => Ok(value.get(name.as_str())),
+        _ => Ok(None),
+    }
+}
+
+fn index_of(text: &str) -> Option<usize>
+    ensures { result ≡ index_of text.now }
+{
+    text.parse::<usize>().ok()
+}
+
+// The refusal of a name that is no index.
+fn wrong_index(name: &String) -> RenderError
+    ensures reason { reason_in result ≢ out_of_memory → reason_in result ≡ invalid_json_index (string_bytes name.now) }
+    ensures plain { fault_of result ≡ plain_fault (reason_in result) }
+{
+    match name.clone() {
+        Ok(name) => RenderErrorReason::InvalidJsonIndex(name).into(),
+        Err(AllocError) => RenderErrorReason::OutOfMemory.into(),
+    }
+}

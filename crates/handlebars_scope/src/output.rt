@@ -1,0 +1,89 @@
+//! Where a rendering writes.
+
+ghost use Rattle.std.specs.Prelude.{◌≡◌, ℕ, List, [], IfErr, OnErr, string_bytes};
+ghost use Rattle.std.specs.IoError.{error_kind};
+ghost use Rattle.std.specs.declared.io.Error.{Error};
+ghost use Rattle.std.specs.declared.io.ErrorKind.TheVariants.{OutOfMemory};
+ghost use Rattle.handlebars_base.specs.RenderFaults.{fault_of, plain_fault};
+ghost use Rattle.handlebars_scope.specs.Outputs.{Written, text_of, faults_of, write_reason};
+
+use handlebars_base::error::{RenderError, RenderErrorReason};
+use std::alloc::Global;
+use std::io;
+use std::io::ErrorKind;
+
+/// Takes the text of a rendering, segment by segment.
+pub trait Output {
+    // What has been written.
+    ghost text: { Self → List ℕ };
+
+    // How many writes have failed.
+    ghost faults: { Self → ℕ };
+
+    // The errors that a write may give: any, where the output does not say.
+    ghost may_give: { Error → Type 0 } = { λ _. Unit {0} };
+
+    /// Writes a segment. Where that fails, a beginning of the segment may have been written.
+    fn write(&mut self, seg: &str) -> Result<(), io::Error>
+        ensures written { Written seg.now (text self.old) (faults self.old) result (text self.new) (faults self.new) }
+        ensures given { IfErr result may_give };
+}
+
+/// Keeps the text. A write fails only for want of memory, and then nothing of it is kept.
+#[derive(Drop)]
+pub struct StringOutput {
+    text: String,
+    faults: u64,
+}
+
+impl StringOutput {
+    /// Nothing yet; this takes no memory.
+    pub fn new(alloc: Global) -> StringOutput
+        ensures text { text_of result ≡ [] }
+        ensures faults { faults_of result ≡ 0 }
+    {
+        StringOutput {
+            text: String::new(alloc),
+            faults: 0,
+        }
+    }
+
+    /// All that was written.
+    pub fn into_string(self) -> String
+        ensures { string_bytes result ≡ text_of self }
+    {
+        self.text
+    }
+}
+
+impl Output for StringOutput {
+    ghost text = { text_of };
+
+    ghost faults = { faults_of };
+
+    ghost may_give = { λ e. error_kind e ≡ OutOfMemory };
+
+    fn write(&mut self, seg: &str) -> Result<(), io::Error>
+        ensures written { Written seg.now (text_of self.old) (faults_of self.old) result (text_of self.new) (faults_of self.new) }
+        ensures given { IfErr result (λ e. error_kind e ≡ OutOfMemory) }
+        ensures whole { OnErr result (text_of self.new ≡ text_of self.old) }
+    {
+        match self.text.push_str(seg) {
+            Ok(()) => Ok(()),
+            Err(cause) => {
+                self.faults = self.faults.saturating_add(1);
+                Err(cause.into())
+            }
+        }
+    }
+}
+
+/// The refusal for a write that failed: `OutOfMemory` for want of memory, and else `IOError`.
+pub fn output_fault(cause: io::Error) -> RenderError
+    ensures { fault_of result ≡ plain_fault (write_reason (error_kind cause)) }
+{
+    match cause.kind() {
+        ErrorKind::OutOfMemory => RenderErrorReason::OutOfMemory.into(),
+        _ => RenderErrorReason::IOError(cause).into(),
+    }
+}
