@@ -4,3 +4,4 @@ pub mod Tags
 pub mod Scan
 pub mod One
 pub mod Trees
+pub mod Levels

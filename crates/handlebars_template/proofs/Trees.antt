@@ -5,8 +5,8 @@ use Rattle.handlebars_template.specs.Tree.{Tree, tree, Element, elements_of, Cal
 use Rattle.handlebars_template.specs.TreeView.{text, place_of, element_view, tree_view, elements_view, binding_step, param_step, element_step, decorator_step, call_step, subexpression_step, tree_step}
 use Rattle.handlebars_template.specs.declared.template.tree.BlockParam.{BlockParam}
 use Rattle.handlebars_template.specs.declared.template.tree.BlockParam.TheOpen.{Template-F}
-use Rattle.handlebars_template.specs.declared.template.tree.BlockParam.TheViews.{roll-Template}
-use Rattle.handlebars_template.specs.declared.template.tree.BlockParam.TheFolds.{fold-roll-Template}
+use Rattle.handlebars_template.specs.declared.template.tree.BlockParam.TheViews.{roll-Template, out-Template}
+use Rattle.handlebars_template.specs.declared.template.tree.BlockParam.TheFolds.{fold-roll-Template, fold_out-Template}
 use Rattle.handlebars_template.specs.declared.template.tree.HelperTemplate.{HelperTemplate}
 use Rattle.handlebars_template.specs.declared.template.tree.DecoratorTemplate.{DecoratorTemplate}
 use Rattle.handlebars_template.specs.declared.template.tree.Template.{Template}
@@ -21,6 +21,10 @@ use Rattle.std.proofs.Common.{ℕ, subst}
 pub tree_view-roll : (x : Template-F BlockParam Parameter TemplateElement DecoratorTemplate HelperTemplate Subexpression Template)
     → tree_view (roll-Template x) ≡ tree (option_map text x.name) (elements_view x.elements.items) (map place_of x.mapping.items)
 tree_view-roll x = fold-roll-Template Binding Param Element Decorator Call Element Tree binding_step param_step element_step decorator_step call_step subexpression_step tree_step x
+
+pub tree_view-out : (t : Template)
+    → tree_view t ≡ tree (option_map text (out-Template t).name) (elements_view (out-Template t).elements.items) (map place_of (out-Template t).mapping.items)
+tree_view-out t = fold_out-Template Binding Param Element Decorator Call Element Tree binding_step param_step element_step decorator_step call_step subexpression_step tree_step t
 
 -- at the end of the source
 pub tree_at : {source slice kept left : List ℕ} {at : Place} {es : List Element} {places : List Place} → Scans source slice kept left at es places → length left ≡ 0

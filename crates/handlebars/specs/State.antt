@@ -1,0 +1,16 @@
+-- What a run reads and what it changes.
+use Rattle.std.specs.Prelude.{ℕ, List, Option, None}
+use Rattle.serde_json.specs.Data.{Data}
+use Rattle.handlebars_scope.specs.Put.{LineState, first_line}
+
+-- all that stays as it is in a run
+pub record Setting : Type 0 where
+  pub given : Data
+
+-- what a run changes: the name of the template that is being rendered, if it has one, and the line that is written
+pub record State : Type 0 where
+  pub current : Option (List ℕ)
+  pub line : LineState
+
+abbrev pub first_state : State
+first_state = record { current = None; line = first_line }

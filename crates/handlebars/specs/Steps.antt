@@ -1,0 +1,61 @@
+-- A small language of steps, in which the meaning of a template is written.
+use Rattle.std.specs.Prelude.{ℕ, List, Option}
+use Rattle.handlebars_base.specs.Reasons.{Reason}
+use Rattle.handlebars_base.specs.Answers.{Answer, gives, refuses}
+use Rattle.handlebars_template.specs.Place.{Place}
+use Rattle.handlebars_template.specs.Tree.{Tree, Element}
+use Rattle.handlebars_scope.specs.Put.{Piece, Site}
+use Rattle.handlebars.specs.State.{State}
+
+-- a part of a run: an element at its site and its place, where it has one, or a whole tree
+pub data Task : Type 0 where
+  One : Site → Option Place → Element → Task
+  Whole : Tree → Task
+
+-- steps to be carried out one after the other
+pub data Steps : Type 0 where
+  Done : Steps
+  Refuse : Reason → Steps
+  Write : List Piece → Steps → Steps
+  Get : (State → Steps) → Steps
+  Set : State → Steps → Steps
+  Do : Task → Steps → Steps
+
+-- steps that have a value, which is told to what comes next
+abbrev pub Prog : Type 0 → Type 0
+Prog A = (A → Steps) → Steps
+
+infixl 20 ◌>>=◌
+infixl 20 ◌>>◌
+
+unfoldable pub ◌>>=◌ : {A B : Type 0} → Prog A → (A → Prog B) → Prog B
+◌>>=◌ m f = λ k. m (λ a. f a k)
+
+unfoldable pub ◌>>◌ : {A B : Type 0} → Prog A → Prog B → Prog B
+◌>>◌ m f = λ k. m (λ a. f k)
+
+abbrev pub return : {A : Type 0} → A → Prog A
+return a = λ k. k a
+
+abbrev pub run : Prog (Unit {0}) → Steps
+run m = m (λ u. Done)
+
+abbrev pub refuse : {A : Type 0} → Reason → Prog A
+refuse r = λ k. Refuse r
+
+-- a value, or a refusal, that a definition gives
+abbrev pub answer : {A : Type 0} → Answer A → Prog A
+answer (gives x) = return x
+answer (refuses r) = refuse r
+
+abbrev pub write : List Piece → Prog (Unit {0})
+write ps = λ k. Write ps (k tt)
+
+abbrev pub state : Prog State
+state = λ k. Get k
+
+abbrev pub become : State → Prog (Unit {0})
+become s = λ k. Set s (k tt)
+
+abbrev pub part : Task → Prog (Unit {0})
+part t = λ k. Do t (k tt)

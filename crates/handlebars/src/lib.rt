@@ -1,0 +1,23 @@
+//! Templates over JSON data, with scoping that is predictable and data that never becomes markup unless the template
+//! says so: each render call writes exactly the text that the language's definition gives, or refuses for its reason.
+#![tactic(auto)]
+
+mod registry;
+mod render;
+mod sources;
+
+pub use handlebars_base::error::{
+    RenderError, RenderErrorReason, TemplateError, TemplateErrorReason,
+};
+pub use handlebars_base::json::path::{Path, PathRule, PathSeg};
+pub use handlebars_base::json::value::{JsonRender, ScopedJson};
+pub use handlebars_scope::context::Context;
+pub use handlebars_scope::output::{Output, StringOutput};
+pub use handlebars_scope::support::{escape_html, html_escape, no_escape};
+pub use handlebars_template::template;
+pub use handlebars_template::template::Template;
+pub use registry::Registry;
+pub use registry::Registry as Handlebars;
+pub use render::{RenderContext, Renderable};
+pub use serde_json::Value as JsonValue;
+pub use sources::{EntryKind, TemplateReader};

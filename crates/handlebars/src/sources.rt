@@ -1,0 +1,34 @@
+//! Where the texts of templates come from.
+
+ghost use Rattle.std.specs.Prelude.{ℕ, List, Result, String};
+ghost use Rattle.std.specs.Global.{Vec};
+ghost use Rattle.std.specs.declared.alloc.Global.{Global};
+ghost use Rattle.std.specs.declared.io.Error.{Error};
+ghost use Rattle.handlebars.specs.declared.sources.EntryKind.{EntryKind};
+
+use std::io;
+
+/// What stands under a name in a folder.
+#[derive(Clone, Copy, Debug, PartialEq, Eq)]
+pub enum EntryKind {
+    File,
+    Folder,
+}
+
+/// Gives the texts of templates by path, and what is in a folder. Paths are UTF-8 text, their parts
+/// joined by `/`.
+pub trait TemplateReader {
+    // From this state the reader may answer a read of this path so, and is in that state then.
+    ghost reads: { Self → List ℕ → Result (String Global) Error → Self → Type 0 };
+
+    // The same for a list of a folder.
+    ghost lists: { Self → List ℕ → Result (Vec (String Global × EntryKind)) Error → Self → Type 0 };
+
+    /// The text of a file.
+    fn read(&mut self, path: &str) -> Result<String, io::Error>
+        ensures { reads self.old path.now result self.new };
+
+    /// The entries of a folder, with their names.
+    fn list(&mut self, folder: &str) -> Result<Vec<(String, EntryKind)>, io::Error>
+        ensures { lists self.old folder.now result self.new };
+}
