@@ -10,12 +10,12 @@ use Rattle.handlebars_template.specs.Tree.{Tree}
 use Rattle.handlebars_template.specs.Compile.{Compiles, compiled, refused, no_options}
 use Rattle.handlebars_template.specs.Compile as compile
 use Rattle.handlebars_template.proofs.One.{one_outcome}
-use Rattle.handlebars_scope.specs.Put.{Piece, join}
-use Rattle.handlebars.specs.State.{Setting, State, first_state}
+use Rattle.handlebars_scope.specs.Put.{Piece}
+use Rattle.handlebars.specs.State.{State, first_state}
 use Rattle.handlebars.specs.Means.{tree_steps}
 use Rattle.handlebars.specs.Runs.{Outcome, Ended, Refused, Means}
 use Rattle.handlebars.specs.View.{GivesString, RefusesString}
-use Rattle.handlebars.specs.Answer.{RenderAnswers, not_compiled, rendered, GivesText, RefusesWith, HasOneAnswer, AnswerHasOrigins}
+use Rattle.handlebars.specs.Answer.{not_compiled, rendered, GivesText, RefusesWith, HasOneAnswer, AnswerHasOrigins}
 use Rattle.handlebars.proofs.RunLaws.{same}
 use Rattle.handlebars.proofs.RunOrigins.{all_have_origins}
 

@@ -1,21 +1,18 @@
 -- How the answers of calls compose, for the proofs of the rendering functions.
-use Rattle.std.proofs.Common.{◌≡◌, ◌≢◌, ℕ, ◌+◌, ◌^◌, ◌<◌, List, [], ◌∷◌, ◌++◌, length, Option, None, Some, Result, Ok, Err, refl, sym, ap, ◌∙◌, subst, append_assoc, append-nil, ◌⊎◌, inl, inr, arith}
+use Rattle.std.proofs.Common.{◌≡◌, ◌≢◌, ℕ, ◌<◌, List, [], ◌∷◌, ◌++◌, length, Option, None, Some, Result, Ok, Err, refl, sym, ap, ◌∙◌, subst, append_assoc, append-nil, ◌⊎◌, inl, inr, arith}
 use Rattle.std.specs.declared.io.Error.{Error}
 use Rattle.std.specs.IoError.{error_kind}
 use Rattle.std.specs.Result.{IsErrAnd}
-use Rattle.serde_json.specs.Data.{Data}
-use Rattle.handlebars_base.specs.Answers.{Answer, gives, refuses}
 use Rattle.handlebars_base.specs.Reasons.{Reason, Fault, out_of_memory}
-use Rattle.handlebars_base.specs.RenderFaults.{reason_in, fault_of, plain_fault, place_if_none, name_if_none, placed}
+use Rattle.handlebars_base.specs.RenderFaults.{reason_in, fault_of, plain_fault, placed}
 use Rattle.handlebars_base.specs.declared.error.render_error.RenderError.{RenderError}
-use Rattle.handlebars_template.specs.Place.{Place}
-use Rattle.handlebars_template.specs.Tree.{Tree, tree, Element}
-use Rattle.handlebars_scope.specs.Outputs.{Begins, Written, write_reason}
+use Rattle.handlebars_template.specs.Tree.{tree}
+use Rattle.handlebars_scope.specs.Outputs.{Written, write_reason}
 use Rattle.handlebars_scope.specs.Put.{Origin, Piece, join, line_behind}
 use Rattle.handlebars.specs.State.{Setting, State}
-use Rattle.handlebars.specs.Steps.{Task, One, Whole, Steps, Done, Refuse, Write, Get, Set, Do, run, ◌>>=◌, ◌>>◌}
+use Rattle.handlebars.specs.Steps.{Task, One, Whole, Steps, Done, Refuse, Get, Set, Do, run, ◌>>=◌, ◌>>◌}
 use Rattle.handlebars.specs.Means.{put, todo}
-use Rattle.handlebars.specs.Runs.{Outcome, Ended, Refused, Faulted, NoMemory, IsOver, IsStop, mark, marked, Front, none, cut_off, more, Runs, done, refused, wrote, got, set, did, did_over, stop, cut}
+use Rattle.handlebars.specs.Runs.{Outcome, Ended, Refused, Faulted, NoMemory, mark, cut_off, Runs, done, refused, wrote, got, set, did, did_over, stop, cut}
 use Rattle.handlebars.specs.View.{Held, held, Tells, ended, refusal, write_fault, no_memory, CarriesOut}
 use Rattle.handlebars.proofs.RunLaws.{join-append, stops_short}
 
@@ -56,7 +53,6 @@ pub record IsMarked (t : Task) (e d : RenderError) : Type 0 where
 
 marked-reason : (t : Task) (e d : RenderError) → IsMarked t e d → reason_in d ≢ out_of_memory → reason_in d ≡ reason_in e
 marked-reason t e d m other = ap (λ (f : Fault). f.reason) (m.same other) ∙ mark-reason t (fault_of e)
-
 
 module _ (p : Setting) (may : Error → Type 0) where
   pub c_done : {s : State} {h : Held} {u : Unit {0}} → CarriesOut p Done may s h (Ok u) s h
@@ -146,12 +142,12 @@ module _ (p : Setting) (may : Error → Type 0) where
   over_as _ {t = t} {k = k} {s = s} e d m ps r x (refusal same) = elim (memory_or (reason_in d)) [
     | inl memory ↦ record { pieces = ps; outcome = NoMemory; runs = did_over (stops_short r refl) tt; text = x; tells = no_memory same memory }
     | inr other ↦ record {
-        pieces = ps;
-        outcome = Refused (fault_of d);
-        runs = subst (λ (f : Fault). Runs p (Do t k) s ps (Refused f)) (sym (m.same other)) (did_over r tt);
-        text = x;
-        tells = refusal same;
-      }
+      pieces = ps;
+      outcome = Refused (fault_of d);
+      runs = subst (λ (f : Fault). Runs p (Do t k) s ps (Refused f)) (sym (m.same other)) (did_over r tt);
+      text = x;
+      tells = refusal same;
+    }
   ]
   over_as _ {t = t} e d m ps r x (write_fault cause given counted reason) = record {
     pieces = ps;

@@ -1,18 +1,18 @@
 -- What elements and the loop over them carry out.
-use Rattle.std.proofs.Common.{◌≡◌, ◌≢◌, ℕ, zero, suc, ◌+◌, ◌<◌, ◌≤◌, List, [], ◌∷◌, ◌++◌, length, drop, get_or, map, Option, None, Some, option_map, Result, Ok, Err, refl, sym, ap, ◌∙◌, subst, ◌⊎◌, inl, inr, arith}
+use Rattle.std.proofs.Common.{◌≡◌, ◌≢◌, ℕ, ◌+◌, ◌<◌, ◌≤◌, List, [], ◌∷◌, length, drop, get_or, Option, Result, Ok, Err, refl, sym, ap, subst, inl, inr}
 use Rattle.std.specs.Prelude.{slice_get}
 use Rattle.std.proofs.lemmas.List.{drop_more, drop_all}
 use Rattle.std.specs.declared.io.Error.{Error}
 use Rattle.serde_json.specs.Data.{Data}
 use Rattle.handlebars_base.specs.Answers.{Answer, gives, refuses}
-use Rattle.handlebars_base.specs.Reasons.{Reason, out_of_memory}
+use Rattle.handlebars_base.specs.Reasons.{out_of_memory}
 use Rattle.handlebars_base.specs.RenderFaults.{reason_in, fault_of, plain_fault}
 use Rattle.handlebars_base.specs.declared.error.render_error.RenderError.{RenderError}
 use Rattle.handlebars_template.specs.Place.{Place}
-use Rattle.handlebars_template.specs.Tree.{Tree, tree, Elements, no_elements, element, Element, elements_of, Call}
+use Rattle.handlebars_template.specs.Tree.{tree, Element, elements_of, Call}
 use Rattle.handlebars_scope.specs.Put.{Site}
 use Rattle.handlebars.specs.State.{Setting, State}
-use Rattle.handlebars.specs.Steps.{Task, One, Whole, Steps, Done, Refuse, Do, run, answer, ◌>>=◌, ◌>>◌}
+use Rattle.handlebars.specs.Steps.{One, Steps, Do, run, answer, ◌>>=◌, ◌>>◌}
 use Rattle.handlebars.specs.Means.{show, express, value_of, each, whole, todo}
 use Rattle.handlebars.specs.View.{Held, CarriesOut}
 use Rattle.handlebars.proofs.Carry.{memory_or, c_done, c_no_memory, c_refuse, c_get, c_set, c_then, c_over, IsMarked}
@@ -50,13 +50,13 @@ module _ (p : Setting) (may : Error → Type 0) where
       → CarriesOut p (todo p (One (i ∷ []) (slice_get places i) x)) may mid between (Ok u) next new → Left es places (i + 1) s h next new
   left_goes es places i d x s h {mid = mid} {next = next} {between = between} {new = new} lt is left a = λ r last newest c. left r last newest
       (subst (λ (k : Steps). CarriesOut p k may mid between r last newest) (sym (at_index es places i d lt))
-        (subst (λ (z : Element). CarriesOut p (Do (One (i ∷ []) (slice_get places i) z) (from_index es places (i + 1))) may mid between r last newest) (sym is) (c_then p may a c)))
+      (subst (λ (z : Element). CarriesOut p (Do (One (i ∷ []) (slice_get places i) z) (from_index es places (i + 1))) may mid between r last newest) (sym is) (c_then p may a c)))
 
   pub left_over : (es : List Element) (places : List Place) (i : ℕ) (d x : Element) {s mid next : State} {h between new : Held} (e f : RenderError) → i < length es → get_or es i d ≡ x → Left es places i s h mid between
       → IsMarked (One (i ∷ []) (slice_get places i) x) e f → CarriesOut p (todo p (One (i ∷ []) (slice_get places i) x)) may mid between (Err e) next new → CarriesOut p (from_index es places 0) may s h (Err f) next new
   left_over es places i d x {mid = mid} {next = next} {between = between} {new = new} e f lt is left m a = left (Err f) next new
       (subst (λ (k : Steps). CarriesOut p k may mid between (Err f) next new) (sym (at_index es places i d lt))
-        (subst (λ (z : Element). CarriesOut p (Do (One (i ∷ []) (slice_get places i) z) (from_index es places (i + 1))) may mid between (Err f) next new) (sym is) (c_over p may e f m a)))
+      (subst (λ (z : Element). CarriesOut p (Do (One (i ∷ []) (slice_get places i) z) (from_index es places (i + 1))) may mid between (Err f) next new) (sym is) (c_over p may e f m a)))
 
   pub left_ends : (es : List Element) (places : List Place) (i : ℕ) {s mid : State} {h between : Held} {u : Unit {0}} → length es ≤ i → Left es places i s h mid between → CarriesOut p (from_index es places 0) may s h (Ok u) mid between
   left_ends es places i {mid = mid} {between = between} {u = u} over left = left (Ok u) mid between (subst (λ (z : List Element). CarriesOut p (run (each i (elements_of z) places)) may mid between (Ok u) mid between) (sym (drop_all i es over)) (c_done p may))

@@ -1,12 +1,12 @@
 -- Lists as definitions see them, at an index.
-use Rattle.std.proofs.Common.{◌≡◌, ◌≢◌, ℕ, zero, suc, ◌<◌, ◌≤◌, ◌∙◌, List, [], ◌∷◌, map, length, get_or, Option, None, Some, option_map, refl, sym, ap, subst, arith}
+use Rattle.std.proofs.Common.{◌≡◌, ℕ, ◌<◌, ◌≤◌, ◌∙◌, List, map, length, get_or, Option, None, Some, option_map, refl, sym, ap, arith}
 use Rattle.std.specs.Prelude.{slice_get, IfSome, MatchOption}
 use Rattle.std.proofs.Math.ListN.{get_or-map}
 use Rattle.std.proofs.lemmas.List.{length-map}
 use Rattle.std.proofs.lemmas.Option.{slice_get-map, slice_get_past, slice_get_read}
 use denote.Ref.{Bor}
-use Rattle.handlebars_base.specs.Reasons.{Fault, out_of_memory}
-use Rattle.handlebars_base.specs.RenderFaults.{fault_of, reason_in}
+use Rattle.handlebars_base.specs.Reasons.{Fault}
+use Rattle.handlebars_base.specs.RenderFaults.{fault_of}
 use Rattle.handlebars_base.specs.declared.error.render_error.RenderError.{RenderError}
 use Rattle.handlebars_template.specs.Place.{Place}
 use Rattle.handlebars_template.specs.Tree.{Element}

@@ -1,5 +1,5 @@
 -- What is written is determined: two whole runs are one, and a run that stopped wrote a beginning of the whole one.
-use Rattle.std.proofs.Common.{◌≡◌, ℕ, List, [], ◌∷◌, ◌++◌, refl, sym, ap, ◌∙◌, subst, append_assoc, append-nil}
+use Rattle.std.proofs.Common.{◌≡◌, List, [], ◌∷◌, ◌++◌, refl, sym, ap, ◌∙◌, subst, append_assoc, append-nil}
 use Rattle.handlebars_base.specs.Reasons.{Fault}
 use Rattle.handlebars_scope.specs.Outputs.{Begins}
 use Rattle.handlebars_scope.specs.Put.{Piece, join}

@@ -1,6 +1,5 @@
 -- All that a run writes has an origin.
-use Rattle.std.proofs.Common.{◌≡◌, ℕ, zero, suc, ◌+◌, List, [], ◌∷◌, ◌++◌, refl, sym, ap, ◌∙◌, subst, append_assoc, append-nil, Option, None, Some, arith}
-use Rattle.std.specs.List.{AllByRecursion}
+use Rattle.std.proofs.Common.{◌≡◌, ℕ, suc, ◌+◌, List, [], ◌∷◌, ◌++◌, refl, sym, ap, ◌∙◌, subst, append_assoc, append-nil, Option, None, Some, arith}
 use Rattle.serde_json.specs.Data.{Data}
 use Rattle.handlebars_base.specs.Answers.{Answer, gives, refuses}
 use Rattle.handlebars_base.specs.Values.{rendered}
@@ -10,10 +9,10 @@ use Rattle.handlebars_scope.specs.Escape.{escaped}
 use Rattle.handlebars_scope.specs.Outputs.{Begins}
 use Rattle.handlebars_scope.specs.Put.{Site, Origin, of_text, of_value, Piece}
 use Rattle.handlebars.specs.State.{Setting, State}
-use Rattle.handlebars.specs.Steps.{Task, One, Whole, Steps, Done, Refuse, Write, Get, Set, Do, Prog, run, return, ◌>>=◌, ◌>>◌, answer}
-use Rattle.handlebars.specs.Means.{put, show, express, value_of, one, each, whole, plan, todo, tree_steps}
+use Rattle.handlebars.specs.Steps.{Task, One, Whole, Steps, Done, Refuse, Write, Get, Set, Do, run, ◌>>=◌, ◌>>◌, answer}
+use Rattle.handlebars.specs.Means.{put, show, value_of, one, each, whole, todo}
 use Rattle.handlebars.specs.Runs.{Outcome, Front, none, cut_off, more, Runs, done, refused, wrote, got, set, did, did_over, stop, cut, Means}
-use Rattle.handlebars.specs.Origins.{IsPart, nth, element_at, IsOfText, IsOfValue, ComesFrom, HasOrigin, HaveOrigins}
+use Rattle.handlebars.specs.Origins.{IsPart, nth, element_at, ComesFrom, HaveOrigins}
 
 whole_part : (t : List ℕ) → IsPart t t
 whole_part t = record { left = []; right = []; is = sym (append-nil t) }

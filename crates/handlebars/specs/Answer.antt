@@ -6,7 +6,7 @@ use Rattle.handlebars_base.specs.RenderFaults.{plain_fault}
 use Rattle.handlebars_template.specs.Tree.{Tree}
 use Rattle.handlebars_template.specs.Compile.{Compiles, compiled, refused, no_options}
 use Rattle.handlebars_scope.specs.Put.{Piece, join}
-use Rattle.handlebars.specs.State.{Setting, State, first_state}
+use Rattle.handlebars.specs.State.{State, first_state}
 use Rattle.handlebars.specs.Runs.{Outcome, Ended, Refused, IsStop, Means}
 use Rattle.handlebars.specs.Origins.{HaveOrigins}
 

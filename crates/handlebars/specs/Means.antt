@@ -2,15 +2,15 @@
 use Rattle.std.specs.Prelude.{ℕ, ◌+◌, Bool, true, false, ◌&&◌, if◌then◌else◌, List, [], ◌∷◌, Option, None, Some, slice_get}
 use Rattle.serde_json.specs.Data.{Data}
 use Rattle.handlebars_base.specs.Answers.{Answer, gives, refuses}
-use Rattle.handlebars_base.specs.Path.{Reference, written}
-use Rattle.handlebars_base.specs.Reasons.{Reason, helper_not_found, decorator_not_found, partial_not_found}
+use Rattle.handlebars_base.specs.Path.{written}
+use Rattle.handlebars_base.specs.Reasons.{helper_not_found, decorator_not_found, partial_not_found}
 use Rattle.handlebars_base.specs.Values.{rendered}
 use Rattle.handlebars_template.specs.Place.{Place}
 use Rattle.handlebars_template.specs.Tree.{Tree, tree, Elements, no_elements, element, Element, raw_string, html_expression, expression, helper_block, decorator_expression, decorator_block, partial_expression, partial_block, comment, Call, call, Decorator, decorator, Param, name, path, literal, subexpression, Params, no_params, param, Pairs, no_pairs, pair}
 use Rattle.handlebars_scope.specs.Escape.{escaped}
-use Rattle.handlebars_scope.specs.Put.{Site, Origin, of_text, of_value, Piece, line_behind}
+use Rattle.handlebars_scope.specs.Put.{Site, Origin, of_text, of_value, line_behind}
 use Rattle.handlebars_scope.specs.Resolve.{resolved}
-use Rattle.handlebars.specs.State.{Setting, State}
+use Rattle.handlebars.specs.State.{Setting}
 use Rattle.handlebars.specs.Steps.{Task, One, Whole, Steps, Done, Do, Prog, return, ◌>>=◌, ◌>>◌, run, refuse, answer, write, state, become, part}
 
 -- A text is written as one piece, and the line is then the one behind it. An empty text does nothing.

@@ -1,11 +1,10 @@
 -- How steps are carried out: the pieces that are written, and the outcome.
-use Rattle.std.specs.Prelude.{◌≡◌, ℕ, List, [], ◌∷◌, ◌++◌, Option, None, Some}
+use Rattle.std.specs.Prelude.{ℕ, List, [], ◌∷◌, ◌++◌, None, Some}
 use Rattle.handlebars_base.specs.Reasons.{Reason, Fault}
 use Rattle.handlebars_base.specs.RenderFaults.{plain_fault, name_if_none, place_if_none}
-use Rattle.handlebars_template.specs.Place.{Place}
 use Rattle.handlebars_template.specs.Tree.{Tree, tree}
 use Rattle.handlebars_scope.specs.Outputs.{Begins}
-use Rattle.handlebars_scope.specs.Put.{Piece, join}
+use Rattle.handlebars_scope.specs.Put.{Piece}
 use Rattle.handlebars.specs.State.{Setting, State}
 use Rattle.handlebars.specs.Steps.{Task, One, Whole, Steps, Done, Refuse, Write, Get, Set, Do}
 use Rattle.handlebars.specs.Means.{todo, tree_steps}

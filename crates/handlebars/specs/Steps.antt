@@ -1,5 +1,5 @@
 -- A small language of steps, in which the meaning of a template is written.
-use Rattle.std.specs.Prelude.{ℕ, List, Option}
+use Rattle.std.specs.Prelude.{List, Option}
 use Rattle.handlebars_base.specs.Reasons.{Reason}
 use Rattle.handlebars_base.specs.Answers.{Answer, gives, refuses}
 use Rattle.handlebars_template.specs.Place.{Place}
@@ -27,7 +27,6 @@ Prog A = (A → Steps) → Steps
 
 infixl 20 ◌>>=◌
 infixl 20 ◌>>◌
-
 unfoldable pub ◌>>=◌ : {A B : Type 0} → Prog A → (A → Prog B) → Prog B
 ◌>>=◌ m f = λ k. m (λ a. f a k)
 

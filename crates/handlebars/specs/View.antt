@@ -1,5 +1,5 @@
 -- What the code's values stand for, and what a call of it says of a run.
-use Rattle.std.specs.Prelude.{◌≡◌, ◌≢◌, ℕ, ◌+◌, ◌^◌, ◌<◌, List, ◌++◌, Option, option_map, Result, Ok, Err, string_bytes, Bool, true, false}
+use Rattle.std.specs.Prelude.{◌≡◌, ◌≢◌, ℕ, ◌+◌, ◌^◌, ◌<◌, List, ◌++◌, option_map, Result, Ok, Err, string_bytes, Bool}
 use Rattle.std.specs.declared.io.Error.{Error}
 use Rattle.std.specs.IoError.{error_kind}
 use Rattle.handlebars_base.specs.Reasons.{Fault, out_of_memory}

@@ -17,14 +17,13 @@ mod tree;
 
 use crate::registry::Registry;
 use crate::render::tree::render_tree;
+pub use context::RenderContext;
 use handlebars_base::error::{RenderError, RenderErrorReason};
 use handlebars_scope::context::Context;
 use handlebars_scope::output::{Output, StringOutput};
 use handlebars_template::template::Template;
 use log::Log;
 use std::alloc::Global;
-
-pub use context::RenderContext;
 
 /// What can be rendered.
 pub trait Renderable {

@@ -20,7 +20,9 @@ use handlebars_base::json::value::{Json, JsonRender};
 use handlebars_scope::context::walk::resolve;
 use handlebars_scope::output::{Output, output_fault};
 use handlebars_scope::support::html_escape;
-use handlebars_template::template::{DecoratorTemplate, HelperTemplate, Parameter, TemplateElement};
+use handlebars_template::template::{
+    DecoratorTemplate, HelperTemplate, Parameter, TemplateElement,
+};
 use std::alloc::{AllocError, Global};
 use std::collections::BTreeMap;
 
@@ -142,7 +144,9 @@ fn param_value<'a>(
         Parameter::Path(path) => resolve(data, path),
         Parameter::Literal(value) => Ok(Some(value)),
         Parameter::Name(_) => Ok(None),
-        Parameter::Subexpression(_) => Err(RenderErrorReason::HelperNotFound(String::new(alloc)).into()),
+        Parameter::Subexpression(_) => Err(RenderErrorReason::HelperNotFound(String::new(
+            alloc,
+        )).into()),
     }
 }
 

@@ -1,4 +1,3 @@
-use Rattle.std.proofs.Common.{◌≡◌, ◌≢◌, IfOk, IfErr, string_bytes, List, ℕ}
 use Rattle.handlebars_scope.specs.Contexts.{data_of}
 use Rattle.std.proofs.lemmas.Result.{IfOk-weaker, IfErr-weaker}
 use Rattle.handlebars_base.specs.TemplateFaults.{template_fault_of}

@@ -1,4 +1,3 @@
-use Rattle.std.proofs.Common.{◌≡◌, sym, ap, ◌∙◌, arith}
 use Rattle.serde_json.specs.View.{view}
 use Rattle.handlebars_template.specs.TreeView.{call_view}
 use Rattle.handlebars.proofs.Elements.{express_ok, express_err}

@@ -1,4 +1,4 @@
-use Rattle.std.proofs.Common.{◌≡◌, ap, ◌∙◌}
+use Rattle.std.proofs.Common.{ap, ◌∙◌}
 use Rattle.handlebars_base.proofs.OptionSteps.{empty, nonempty}
 use Rattle.handlebars_scope.specs.Put.{LineState}
 use Rattle.handlebars.specs.View.{state_of}

@@ -1,4 +1,3 @@
-use Rattle.std.proofs.Common.{◌≡◌, sym, ap, ◌∙◌}
 use Rattle.handlebars_template.proofs.Levels.{element_view-Expression, element_view-HtmlExpression, element_view-HelperBlock, element_view-DecoratorExpression, element_view-DecoratorBlock, element_view-PartialExpression, element_view-PartialBlock, element_view-Comment}
 use Rattle.handlebars.proofs.Carry.{c_done, c_refuse}
 use Rattle.handlebars.proofs.render.element.render_element.Goals as goal

@@ -1,4 +1,3 @@
-use Rattle.std.proofs.Common.{◌≡◌, sym, ap, ◌∙◌, arith}
 use Rattle.handlebars.proofs.Carry.{c_done, c_out_of_memory}
 use Rattle.handlebars.proofs.render.element.show.Goals as goal
 

@@ -1,5 +1,5 @@
-use Rattle.std.proofs.Common.{◌≡◌, ◌∙◌, sym, ap, map, option_map}
-use Rattle.handlebars_template.specs.TreeView.{text, tree_view, elements_view, place_of}
+use Rattle.std.proofs.Common.{◌∙◌, sym, ap, map}
+use Rattle.handlebars_template.specs.TreeView.{elements_view, place_of}
 use Rattle.handlebars_template.specs.declared.template.tree.Template.{out-Template}
 use Rattle.handlebars_template.proofs.Trees.{tree_view-out}
 use Rattle.handlebars_base.specs.RenderFaults.{fault_of}
