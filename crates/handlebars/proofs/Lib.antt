@@ -7,3 +7,4 @@ pub mod Empties
 pub mod Lists
 pub mod AnswerLaws
 pub mod Texts
+pub mod WorkedRows

@@ -6,3 +6,4 @@ pub mod Origins
 pub mod Laws
 pub mod Answer
 pub mod View
+pub mod Rows

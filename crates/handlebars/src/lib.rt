@@ -4,6 +4,7 @@
 
 mod registry;
 mod render;
+mod rows;
 mod sources;
 
 pub use handlebars_base::error::{
@@ -18,5 +19,6 @@ pub use handlebars_template::template;
 pub use handlebars_template::template::Template;
 pub use registry::{Registry, Registry as Handlebars};
 pub use render::{RenderContext, Renderable};
+pub use rows::worked_rows;
 pub use serde_json::Value as JsonValue;
 pub use sources::{EntryKind, TemplateReader};

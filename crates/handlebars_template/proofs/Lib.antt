@@ -5,3 +5,4 @@ pub mod Scan
 pub mod One
 pub mod Trees
 pub mod Levels
+pub mod Rows

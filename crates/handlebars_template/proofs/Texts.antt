@@ -1,8 +1,8 @@
 -- Reading a text part by part.
-use Rattle.std.proofs.Common.{◌≡◌, ◌≢◌, ℕ, zero, suc, ◌+◌, ◌-◌, ◌<◌, ◌≤◌, Bool, true, false, cond, eqb, List, [], ◌∷◌, ◌++◌, length, get_or, take, drop, refl, sym, ap, subst, ◌∙◌, append_assoc, arith, inl, inr, length-append}
-use Rattle.std.specs.Prelude.{◌==◌, ◌||◌, not, replicate}
+use Rattle.std.proofs.Common.{◌≡◌, ◌≢◌, ℕ, zero, suc, ◌+◌, ◌-◌, ◌<◌, ◌≤◌, Bool, true, false, cond, List, [], ◌∷◌, ◌++◌, length, get_or, take, drop, refl, sym, ap, subst, ◌∙◌, append_assoc, arith, inl, inr, length-append}
+use Rattle.std.specs.Prelude.{◌==◌, ◌||◌, replicate}
 use Rattle.std.specs.List.{prefix_len, AllByRecursion}
-use Rattle.std.proofs.lemmas.Bool.{eqb-true, eqb-false, cases_Bool, or_parts, or_cases, not-true, not-false}
+use Rattle.std.proofs.lemmas.Bool.{eqb-true, cases_Bool, or_parts, or_cases, not-true, not-false}
 use Rattle.std.proofs.lemmas.List.{take-append-drop, append-nil, take_at, drop_at, length-drop, nil_from_length}
 use Rattle.handlebars_base.proofs.PathParts.{prefix_pass}
 use Rattle.std.specs.Str.{IsCharBoundary, IsUtf8}
@@ -10,7 +10,7 @@ use Rattle.std.proofs.lemmas.Str.{IsCharBoundary-at_seam}
 use Rattle.std.proofs.lemmas.List.Sums.{prefix_len-le-length, prefix_len_stops}
 use Rattle.handlebars_template.specs.Text.{IsText, at_end, at_tag, a_byte, two_escaped, four_escaped, is_slash, slashes, braces, before_braces}
 use Rattle.handlebars_template.specs.TextSteps.{is_plain, GoesOn, Ends}
-use Rattle.handlebars_template.proofs.Runs.{run_is, slashes-drop, slashes-run, drop-run, before_braces-run, two_braces, slashes-braces, escape_at}
+use Rattle.handlebars_template.proofs.Runs.{run_is, slashes-drop, before_braces-run, two_braces, escape_at}
 
 -- ---- one part
 
@@ -18,7 +18,8 @@ plain_clear : (b : ℕ) (y : List ℕ) → is_plain b ≡ true → before_braces
 plain_clear b [] h = let p = or_parts (b == 92) (b == 123) (not-true ((b == 92) || (b == 123)) h) in rw p.0 refl
 plain_clear b (c ∷ y) h = let p = or_parts (b == 92) (b == 123) (not-true ((b == 92) || (b == 123)) h) in rw (p.0, p.1) refl
 
-plain_bytes : (p follows slice more : List ℕ) → AllByRecursion (λ b. is_plain b ≡ true) p → IsText follows slice more → IsText follows (p ++ slice) (p ++ more)
+-- bytes that are neither a backslash nor an opening brace
+pub plain_bytes : (p follows slice more : List ℕ) → AllByRecursion (λ b. is_plain b ≡ true) p → IsText follows slice more → IsText follows (p ++ slice) (p ++ more)
 plain_bytes [] follows slice more all h = h
 plain_bytes (b ∷ p) follows slice more all h = a_byte b (plain_clear b ((p ++ slice) ++ follows) all.0) (plain_bytes p follows slice more all.1 h)
 

@@ -7,3 +7,4 @@ pub mod Cut
 pub mod Tree
 pub mod TreeView
 pub mod Compile
+pub mod Rows

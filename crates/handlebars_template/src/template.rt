@@ -2,11 +2,13 @@
 
 mod compile;
 mod place;
+mod rows;
 mod tag;
 mod text;
 mod tree;
 
 pub use compile::{one_cut, one_outcome};
+pub use rows::worked_rows;
 pub use tree::{
     BlockParam, DecoratorTemplate, HelperTemplate, Parameter, Subexpression, Template,
     TemplateElement, TemplateMapping,

@@ -1,0 +1,96 @@
+-- The worked sources compile as stated.
+use Rattle.std.proofs.Common.{◌≡◌, ◌≢◌, ℕ, List, [], ◌∷◌, ◌++◌, get_or, true, false, refl, sym, ap, append_assoc, codes, arith}
+use Rattle.std.specs.Str.{chars}
+use Rattle.std.specs.List.{AllByRecursion}
+use Rattle.std.proofs.lemmas.List.{append-nil}
+use Rattle.handlebars_base.specs.Path.{IsPath, Reference, named, relative, plain, in_parts}
+use Rattle.handlebars_base.specs.PathReading.{reference_from}
+use Rattle.handlebars_template.specs.Place.{place}
+use Rattle.handlebars_template.specs.Text.{braces, IsText, at_end, at_tag, a_byte, two_escaped}
+use Rattle.handlebars_template.specs.Tag.{Tag, expression_tag, IsTag, an_expression, IsNames, NoTag}
+use Rattle.handlebars_template.specs.TagSteps.{behind_open, behind_close}
+use Rattle.handlebars_template.specs.TextSteps.{is_plain}
+use Rattle.handlebars_template.specs.Cut.{Piece, text_piece, tag_piece, starts, goes_on}
+use Rattle.handlebars_template.specs.Compile.{Compiles, compiled, refused, unreadable, no_options, whole, no_tag, tree_of}
+use Rattle.handlebars_template.specs.Rows.{EmptyRow, ValueRow, EscapedRow, MemberRow, UnclosedRow, PlaceRow}
+use Rattle.handlebars_template.proofs.Tags.{not_closed}
+use Rattle.handlebars_template.proofs.Texts.{plain_bytes}
+
+pub empty_row : EmptyRow
+empty_row = whole {ps = text_piece (place []) [] [] ∷ []} (record { before = []; pieces = []; begins = starts; text = []; kept = []; whole = refl; fits = at_end refl; gives = refl })
+
+-- a text and a tag, and nothing behind it
+abbrev pieces : List ℕ → List ℕ → List ℕ → Tag → List Piece
+pieces text kept slice t = text_piece (place []) text kept ∷ tag_piece (place text) slice t ∷ text_piece (place (text ++ slice)) [] [] ∷ []
+
+one_tag : (text kept slice : List ℕ) (t : Tag) → IsText (slice ++ []) text kept → IsTag slice t → Compiles (text ++ (slice ++ [])) no_options (compiled (tree_of no_options (pieces text kept slice t)))
+one_tag text kept slice t words is = whole {ps = pieces text kept slice t} (record {
+  before = text ++ slice;
+  pieces = text_piece (place []) text kept ∷ tag_piece (place text) slice t ∷ [];
+  begins = goes_on starts text kept slice [] t refl words is;
+  text = [];
+  kept = [];
+  whole = sym (append_assoc text slice []);
+  fits = at_end refl;
+  gives = refl;
+})
+
+-- a path between braces
+spelled : (path : List ℕ) (means : Reference) → IsPath path means → IsNames means → path ≢ codes "else" → IsTag (123 ∷ 123 ∷ (path ++ 125 ∷ 125 ∷ [])) (expression_tag means)
+spelled path means is names other = an_expression [] path [] means tt is names other tt
+
+-- texts that begin otherwise are two
+apart : (x y : List ℕ) → (get_or x 0 0 ≡ get_or y 0 0 → ⊥) → x ≢ y
+apart x y other e = other (ap (λ (z : List ℕ). get_or z 0 0) e)
+
+is_name : IsPath (codes "name") (relative (named (codes "name") ∷ []) (codes "name"))
+is_name = record { shape = in_parts false (plain (codes "name")) []; fits = ((apart _ _ (λ e. absurd (omega (arith, e))), (refl, (refl, (refl, (refl, tt))))), tt); spells = refl; gives = refl }
+
+-- a text with no backslash and no brace, before a tag
+bare : (text follows : List ℕ) → AllByRecursion (λ b. is_plain b ≡ true) text → braces follows ≡ true → IsText follows text text
+bare text follows clear marks = rw (← append-nil text) (plain_bytes text follows [] [] clear (at_tag 0 marks (λ e. absurd (omega (arith, e)))))
+
+pub value_row : ValueRow
+unfolding chars
+value_row = one_tag (codes "Hello ") (codes "Hello ") (codes "{{name}}") (expression_tag (relative (named (codes "name") ∷ []) (codes "name")))
+    (bare (codes "Hello ") (codes "{{name}}") (refl, (refl, (refl, (refl, (refl, (refl, tt)))))) refl)
+    (spelled (codes "name") _ is_name (tt, tt) (apart _ _ (λ e. absurd (omega (arith, e)))))
+
+is_a : IsPath (codes "a") (relative (named (codes "a") ∷ []) (codes "a"))
+is_a = record { shape = in_parts false (plain (codes "a")) []; fits = ((apart _ _ (λ e. absurd (omega (arith, e))), (refl, tt)), tt); spells = refl; gives = refl }
+
+-- one backslash makes two braces text, and of two the first is dropped
+escaped : IsText (codes "{{a}}") (92 ∷ (codes "{{a}} " ++ (92 ∷ 92 ∷ []))) (codes "{{a}} " ++ (92 ∷ []))
+escaped = two_escaped refl (a_byte 97 refl (a_byte 125 refl (a_byte 125 refl (a_byte 32 refl (at_tag 2 refl (λ e. absurd (omega (arith, e))))))))
+
+pub escaped_row : EscapedRow
+unfolding chars
+escaped_row = one_tag (92 ∷ (codes "{{a}} " ++ (92 ∷ 92 ∷ []))) (codes "{{a}} " ++ (92 ∷ [])) (codes "{{a}}") (expression_tag (relative (named (codes "a") ∷ []) (codes "a")))
+    escaped (spelled (codes "a") _ is_a (tt, tt) (apart _ _ (λ e. absurd (omega (arith, e)))))
+
+-- `a`, a dot and `x`
+is_member : IsPath (codes "a.x") (relative (named (codes "a") ∷ named (codes "x") ∷ []) (codes "a.x"))
+is_member = record {
+  shape = in_parts false (plain (codes "a")) (record { sep = 46; part = plain (codes "x") } ∷ []);
+  fits = ((apart _ _ (λ e. absurd (omega (arith, e))), (refl, tt)), (refl, (apart _ _ (λ e. absurd (omega (arith, e))), (refl, tt)), tt));
+  spells = refl;
+  gives = refl;
+}
+
+pub member_row : MemberRow
+unfolding chars
+member_row = one_tag (codes "x") (codes "x") (codes "{{a.x}}") (expression_tag (relative (named (codes "a") ∷ named (codes "x") ∷ []) (codes "a.x")))
+    (bare (codes "x") (codes "{{a.x}}") (refl, tt) refl)
+    (spelled (codes "a.x") _ is_member (tt, (tt, tt)) (apart _ _ (λ e. absurd (omega (arith, e)))))
+
+-- a text and braces that nothing closes
+unclosed : (text name : List ℕ) → IsText (123 ∷ 123 ∷ name) text text → NoTag (123 ∷ 123 ∷ name) → Compiles (text ++ (123 ∷ 123 ∷ name)) no_options (refused (unreadable no_options (place text)))
+unclosed text name words none = no_tag {before = []} {ps = []} starts text text (123 ∷ 123 ∷ name) refl words refl none
+
+pub unclosed_row : UnclosedRow
+unfolding chars behind_open behind_close reference_from
+unclosed_row = unclosed (codes "ab") (codes "name") (bare (codes "ab") (codes "{{name") (refl, (refl, tt)) refl) (not_closed (codes "{{name") (codes "name") refl refl)
+
+pub place_row : PlaceRow
+unfolding chars behind_open behind_close reference_from
+place_row = unclosed (10 ∷ 195 ∷ 169 ∷ []) (codes "a") (bare (10 ∷ 195 ∷ 169 ∷ []) (codes "{{a") (refl, (refl, (refl, tt))) refl) (not_closed (codes "{{a") (codes "a") refl refl)
