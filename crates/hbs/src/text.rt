@@ -1,0 +1,46 @@
+//! The text that a run prints.
+
+use crate::fault::Fault;
+use crate::files::NoFiles;
+use handlebars::{Context, JsonValue, Registry, TemplateReader};
+use log::sink::Discard;
+use std::alloc::Global;
+
+/// What a template gives over data, both read from their paths: the template first.
+pub fn text<'a, R: TemplateReader>(
+    alloc: Global,
+    template: &'a str,
+    data: &'a str,
+    files: &mut R,
+) -> Result<String, Fault<'a>> {
+    let source = read(template, files)?;
+    let value = json(alloc, data, read(data, files)?.as_str())?;
+    let context = Context::try_from(value)?;
+    let registry = Registry::new(alloc)?;
+    let text = registry.render_template_with_context(
+        source.as_str(),
+        &context,
+        &Discard,
+        &mut NoFiles,
+    )?;
+    Ok(text)
+}
+
+fn read<'a, R: TemplateReader>(path: &'a str, files: &mut R) -> Result<String, Fault<'a>> {
+    match files.read(path) {
+        Ok(text) => Ok(text),
+        Err(cause) => Err(Fault::of_reader(path, cause)),
+    }
+}
+
+// The value that the text of a file is.
+fn json<'a>(alloc: Global, path: &'a str, text: &str) -> Result<JsonValue, Fault<'a>> {
+    match JsonValue::from_str(alloc, text) {
+        Ok(value) => Ok(value),
+        Err(cause) => Err(if cause.is_memory() {
+            Fault::OutOfMemory
+        } else {
+            Fault::NotJson(path)
+        }),
+    }
+}
