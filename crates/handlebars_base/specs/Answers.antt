@@ -14,7 +14,6 @@ abbrev pub Answers : {T A : Type 0} → (T → A) → Result T RenderError → A
 Answers seen r answer = MatchResult r (λ x. answer ≡ gives (seen x)) (λ e. reason_in e ≢ out_of_memory → answer ≡ refuses (reason_in e))
 
 infixl 10 ◌>>=◌
-
 -- first the one answer, then what it leads to
 abbrev pub ◌>>=◌ : {A B : Type 0} → Answer A → (A → Answer B) → Answer B
 (gives x) >>= f = f x

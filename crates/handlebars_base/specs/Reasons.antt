@@ -1,5 +1,5 @@
 -- Why something is refused: the reasons as plain data. A cause that comes from outside has no parts here.
-use Rattle.std.specs.Prelude.{ℕ, List, Option, Some}
+use Rattle.std.specs.Prelude.{ℕ, List, Option}
 
 -- why a template has no tree
 pub data TemplateReason : Type 0 where

@@ -1,6 +1,6 @@
 -- What the errors of rendering stand for.
-use Rattle.std.specs.Prelude.{◌≡◌, ℕ, List, Option, Some, None, option_map, string_bytes}
-use Rattle.handlebars_base.specs.Reasons.{Reason, Fault, TemplateFault, template_not_found, template_error, of_template, missing_variable, partial_not_found, partial_block_not_found, helper_not_found, param_not_found_for_index, param_not_found_for_name, param_type_mismatch_for_name, hash_type_mismatch_for_name, decorator_not_found, cannot_include_self, invalid_logging_level, invalid_param_type, block_content_required, invalid_json_path, invalid_json_index, serde_error, io_error, utf8_error, nested_error, unimplemented, other, inclusion_limit, invalid_number, failed, out_of_memory}
+use Rattle.std.specs.Prelude.{ℕ, List, Option, Some, None, option_map, string_bytes}
+use Rattle.handlebars_base.specs.Reasons.{Reason, Fault, TemplateFault, template_not_found, of_template, missing_variable, partial_not_found, partial_block_not_found, helper_not_found, param_not_found_for_index, param_not_found_for_name, param_type_mismatch_for_name, hash_type_mismatch_for_name, decorator_not_found, cannot_include_self, invalid_logging_level, invalid_param_type, block_content_required, invalid_json_path, invalid_json_index, serde_error, io_error, utf8_error, nested_error, unimplemented, other, inclusion_limit, invalid_number, failed, out_of_memory}
 use Rattle.handlebars_base.specs.TemplateFaults.{template_fault_of}
 use Rattle.handlebars_base.specs.declared.error.render_error.RenderError.{RenderError}
 use Rattle.handlebars_base.specs.declared.error.render_error.RenderErrorReason.{RenderErrorReason}
@@ -34,6 +34,15 @@ reason_of (InclusionLimit n) = inclusion_limit n
 reason_of InvalidNumber = invalid_number
 reason_of Failed = failed
 reason_of OutOfMemory = out_of_memory
+
+-- the reason itself, with a cause that comes from outside
+abbrev pub cause_of : RenderError → RenderErrorReason
+cause_of e = e.reason
+
+-- the template's fault that a reason holds
+abbrev pub fault_within : RenderErrorReason → Option TemplateFault
+fault_within (TemplateError e) = Some (template_fault_of e)
+fault_within r = None
 
 abbrev pub reason_in : RenderError → Reason
 reason_in e = reason_of e.reason

@@ -33,3 +33,8 @@ abbrev pub path_in : Found → Option (List (List ℕ))
 path_in (walked d path) = Some path
 path_in (value d) = None
 path_in missing = None
+
+-- the value that it holds itself, and doesn't refer to
+abbrev pub derived_in : ScopedJson → Option Data
+derived_in (Derived v) = Some (view v)
+derived_in s = None

@@ -15,6 +15,14 @@ template_reason_of (IoError e name) = template_io_error (string_bytes name)
 template_reason_of (WalkdirError a) = walkdir_error (string_bytes a)
 template_reason_of OutOfMemory = template_out_of_memory
 
+-- the reason itself, with a cause that comes from outside
+abbrev pub template_cause_of : TemplateError → TemplateErrorReason
+template_cause_of e = e.reason
+
+-- the lines of the source that it shows, where it shows any
+abbrev pub shown_lines : TemplateError → Option (List ℕ)
+shown_lines e = option_map string_bytes e.segment
+
 -- a line and a column, where both are there
 abbrev pub both : Option ℕ → Option ℕ → Option (ℕ × ℕ)
 both None y = None

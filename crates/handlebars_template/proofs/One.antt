@@ -1,14 +1,14 @@
 -- At most one cut, and at most one outcome.
-use Rattle.std.proofs.Common.{◌≡◌, ◌≢◌, ℕ, zero, suc, ◌+◌, ◌-◌, ◌<◌, ◌≤◌, List, [], ◌∷◌, ◌++◌, length, take, drop, Bool, true, false, cond, refl, sym, ap, ◌∙◌, subst, append_assoc, arith, ◌⊎◌, inl, inr, length-append}
+use Rattle.std.proofs.Common.{◌≡◌, ◌≢◌, ℕ, zero, suc, ◌-◌, ◌<◌, List, [], ◌∷◌, ◌++◌, length, drop, true, false, cond, refl, sym, ap, ◌∙◌, subst, arith, ◌⊎◌, inl, inr, length-append}
 use Rattle.std.specs.Prelude.{◌==◌, nat_lt, replicate}
-use Rattle.std.proofs.lemmas.List.{append-nil, take_at, drop_at}
+use Rattle.std.proofs.lemmas.List.{append-nil, drop_at}
 use Rattle.std.proofs.lemmas.Bool.{cases_Bool, eqb-true, eqb-false, ne_eqb}
 use borrow.Author.Tests.{ltb-true, ltb-false}
-use Rattle.handlebars_template.specs.Place.{Place, place}
+use Rattle.handlebars_template.specs.Place.{place}
 use Rattle.handlebars_template.specs.Text.{IsText, at_end, at_tag, a_byte, two_escaped, four_escaped, slashes, braces, before_braces}
 use Rattle.handlebars_template.specs.Tag.{Tag, IsTag, NoTag}
-use Rattle.handlebars_template.specs.Cut.{Piece, text_piece, tag_piece, Begins, starts, goes_on, IsCut}
-use Rattle.handlebars_template.specs.Compile.{Options, Outcome, compiled, refused, Compiles, whole, no_tag, unreadable, tree_of, OneCut, OneOutcome}
+use Rattle.handlebars_template.specs.Cut.{Piece, text_piece, Begins, starts, goes_on, IsCut}
+use Rattle.handlebars_template.specs.Compile.{compiled, refused, whole, no_tag, unreadable, tree_of, OneCut, OneOutcome}
 use Rattle.handlebars_template.proofs.Runs.{slashes-run, slashes-braces, before_braces-run}
 use Rattle.handlebars_template.proofs.Tags.{same_tag, tag_braces, right_same}
 
@@ -38,7 +38,7 @@ run_again run follows marks more =
     let len = slashes-run run follows stop in
     let long : 0 < length (replicate run 92 ++ follows) = omega (arith, length-append (replicate run 92) follows, braces_some follows marks) in
     at_run (replicate run 92 ++ follows) long (before_braces-run run follows stop ∙ marks) (λ e. more (sym len ∙ e))
-      ∙ ap (λ (n : ℕ). (replicate (n - 1) 92, drop n (replicate run 92 ++ follows))) len ∙ ap (λ (z : List ℕ). (replicate (run - 1) 92, z)) (dropped run)
+    ∙ ap (λ (n : ℕ). (replicate (n - 1) 92, drop n (replicate run 92 ++ follows))) len ∙ ap (λ (z : List ℕ). (replicate (run - 1) 92, z)) (dropped run)
   where
     dropped : (run : ℕ) → drop run (replicate run 92 ++ follows) ≡ follows
     dropped zero = refl

@@ -1,5 +1,5 @@
 -- What was read of a source so far, and what the next tag adds.
-use Rattle.std.proofs.Common.{◌≡◌, ◌≢◌, ℕ, zero, suc, ◌+◌, ◌-◌, ◌*◌, ◌<◌, ◌≤◌, List, [], ◌∷◌, ◌++◌, length, take, Bool, true, false, Option, None, Some, refl, sym, ap, ◌∙◌, subst, append_assoc, arith, length-append, inl, inr}
+use Rattle.std.proofs.Common.{◌≡◌, ℕ, ◌+◌, ◌-◌, ◌<◌, ◌≤◌, List, [], ◌∷◌, ◌++◌, length, take, true, refl, sym, ap, ◌∙◌, subst, append_assoc, arith, length-append, inl, inr}
 use Rattle.std.specs.Prelude.{◌==◌, fold}
 use Rattle.std.specs.Str.{IsUtf8, IsCharBoundary, chars}
 use Rattle.std.proofs.lemmas.Bool.{cases_Bool}
@@ -9,10 +9,9 @@ use Rattle.std.proofs.lemmas.Str.{chars-append, chars-nil, IsUtf8-append, IsUtf8
 use Rattle.handlebars_template.specs.Place.{Place, origin, step, behind, place}
 use Rattle.handlebars_template.specs.Text.{IsText, at_end, at_tag, a_byte, two_escaped, four_escaped, braces}
 use Rattle.handlebars_template.specs.Tag.{Tag, IsTag, an_expression, NoTag}
-use Rattle.handlebars_template.specs.TagSteps.{Follows}
 use Rattle.handlebars_template.specs.Tree.{Element, raw_string}
-use Rattle.handlebars_template.specs.Cut.{Piece, text_piece, tag_piece, Begins, starts, goes_on, IsCut}
-use Rattle.handlebars_template.specs.Compile.{Options, Outcome, compiled, refused, Compiles, whole, no_tag, unreadable, tree_of, element_of, piece_elements, piece_places}
+use Rattle.handlebars_template.specs.Cut.{Piece, text_piece, tag_piece, Begins, starts, goes_on}
+use Rattle.handlebars_template.specs.Compile.{Options, compiled, refused, Compiles, whole, no_tag, unreadable, tree_of, element_of, piece_elements, piece_places}
 
 pub behind-append : (p : Place) (x y : List ℕ) → IsUtf8 x → behind p (x ++ y) ≡ behind (behind p x) y
 behind-append p x y h = ap (fold step p) (chars-append x y h) ∙ fold-append step p (chars x) (chars y)

@@ -1,14 +1,11 @@
 -- Reading a tag: what is read is spelled so, and what is spelled so is read.
-use Rattle.std.proofs.Common.{◌≡◌, ◌≢◌, ℕ, ◌<◌, Bool, true, false, cond, not, ◌&&◌, ◌||◌, List, [], ◌∷◌, ◌++◌, length, take, drop, Option, Some, None, refl, sym, ap, subst, ◌∙◌, append_assoc, arith, inl, inr, length-append, codes}
+use Rattle.std.proofs.Common.{◌≡◌, ◌≢◌, ℕ, ◌<◌, Bool, true, false, not, ◌&&◌, List, [], ◌∷◌, ◌++◌, length, take, drop, Option, Some, None, refl, sym, ap, subst, ◌∙◌, append_assoc, arith, inl, inr, length-append, codes}
 use Rattle.std.specs.Prelude.{◌==◌}
-use Rattle.std.specs.List.{AllByRecursion, prefix_len}
-use Rattle.std.specs.Option.{option_map}
-use denote.Ref.{Bor}
 use Rattle.std.proofs.lemmas.Bool.{eqb-true, cases_Bool, and_parts, not-true, or_cases}
 use Rattle.std.proofs.lemmas.Option.{cond_some, same_Some, none-some}
-use Rattle.std.proofs.lemmas.List.{take-append-drop, take_at, drop_at}
-use Rattle.handlebars_base.specs.Path.{IsPath, Reference, is_symbol}
-use Rattle.handlebars_base.specs.PathReading.{stops, starts_reference, is_reference_byte, reference_len}
+use Rattle.std.proofs.lemmas.List.{take-append-drop, take_at}
+use Rattle.handlebars_base.specs.Path.{IsPath, Reference}
+use Rattle.handlebars_base.specs.PathReading.{stops, starts_reference, reference_len}
 use Rattle.handlebars_base.proofs.References.{one_meaning, take-path, drop-path, stops-path, starts_other}
 use Rattle.handlebars_template.specs.Text.{braces}
 use Rattle.handlebars_template.specs.Tag.{Tag, expression_tag, IsTag, an_expression, IsWhite, is_white, IsNames, NoTag}

@@ -1,11 +1,10 @@
-ghost use Rattle.std.specs.Prelude.{◌≡◌, ◌≢◌, Some, None, option_map, string_bytes, ℕ, List};
+ghost use Rattle.std.specs.Prelude.{◌≡◌, ◌≢◌, Some, None, option_map, string_bytes, IfSome, ℕ, List};
 ghost use Rattle.handlebars_base.specs.Reasons.{Reason, out_of_memory, io_error, utf8_error, serde_error, of_template, other, missing_variable, nested_error};
 
 use crate::error::{TemplateError, TemplateErrorReason};
 use std::alloc::{AllocError, AllocFailed, Global};
-use std::fmt;
-use std::io;
 use std::string::FromUtf8Error;
+use std::{fmt, io};
 use thiserror::Error;
 
 /// Why a rendering, a registration or a reading is refused.
@@ -83,7 +82,7 @@ pub struct RenderError {
 }
 
 impl RenderError {
-    ghost use Rattle.handlebars_base.specs.RenderFaults.{reason_of, reason_in, plain_fault, fault_of, name_if_none, place_if_none};
+    ghost use Rattle.handlebars_base.specs.RenderFaults.{reason_of, reason_in, cause_of, plain_fault, fault_of, name_if_none, place_if_none};
 
     /// A refusal of a caller's own, `Other` of the text. Where the text finds no memory, the reason
     /// says so.
@@ -117,6 +116,7 @@ impl RenderError {
     pub fn from_error<E: fmt::Display>(alloc: Global, _info: &str, cause: &E) -> RenderError
         ensures plain { fault_of result ≡ plain_fault (reason_in result) }
         ensures reason { reason_in result ≢ out_of_memory → (text : List ℕ) × (reason_in result ≡ nested_error text) }
+        ensures text { IfSome (E.output cause.now) (λ text. reason_in result ≢ out_of_memory → reason_in result ≡ nested_error text) }
     {
         match cause.to_string(alloc) {
             Ok(text) => RenderErrorReason::NestedError(text).into(),
@@ -126,14 +126,16 @@ impl RenderError {
 
     /// Why.
     pub fn reason(&self) -> &RenderErrorReason
-        ensures { reason_of result.now ≡ reason_in self.now }
+        ensures reason { reason_of result.now ≡ reason_in self.now }
+        ensures cause { result.now ≡ cause_of self.now }
     {
         &self.reason
     }
 
     /// With the position of an element, where none is known yet.
     pub fn at(self, line: usize, column: usize) -> RenderError
-        ensures { fault_of result ≡ place_if_none line column (fault_of self) }
+        ensures placed { fault_of result ≡ place_if_none line column (fault_of self) }
+        ensures cause { cause_of result ≡ cause_of self }
     {
         match (self.line_no, self.column_no) {
             (None, None) => RenderError {
@@ -156,6 +158,7 @@ impl RenderError {
     pub fn in_template(self, name: &String) -> RenderError
         ensures named { reason_in result ≢ out_of_memory
             → fault_of result ≡ name_if_none (string_bytes name.now) (fault_of self) }
+        ensures cause { reason_in result ≢ out_of_memory → cause_of result ≡ cause_of self }
         ensures memory { reason_in self ≡ out_of_memory → reason_in result ≡ out_of_memory }
     {
         if self.template_name.is_some() {
@@ -184,7 +187,10 @@ impl fmt::Display for RenderError {
                     Some(name) => name.as_str(),
                     None => "Unnamed template",
                 };
-                write!(f, "Error rendering \"{name}\" line {line}, col {column}: {reason}")
+                write!(
+                    f,
+                    "Error rendering \"{name}\" line {line}, col {column}: {reason}"
+                )
             }
             _ => write!(f, "{reason}"),
         }
@@ -194,11 +200,14 @@ impl fmt::Display for RenderError {
 impl std::error::Error for RenderError {}
 
 impl From<RenderErrorReason> for RenderError {
-    ghost use Rattle.handlebars_base.specs.RenderFaults.{reason_of, plain_fault, fault_of};
+    ghost use Rattle.handlebars_base.specs.RenderFaults.{reason_of, cause_of, plain_fault, fault_of};
 
     ghost from_gives = { λ r e. fault_of e ≡ plain_fault (reason_of r) };
 
-    fn from(reason: RenderErrorReason) -> RenderError {
+    fn from(reason: RenderErrorReason) -> RenderError
+        ensures fault { fault_of result ≡ plain_fault (reason_of reason) }
+        ensures cause { cause_of result ≡ reason }
+    {
         RenderError {
             template_name: None,
             line_no: None,
@@ -209,74 +218,100 @@ impl From<RenderErrorReason> for RenderError {
 }
 
 impl From<TemplateError> for RenderError {
-    ghost use Rattle.handlebars_base.specs.RenderFaults.{plain_fault, fault_of};
+    ghost use Rattle.handlebars_base.specs.RenderFaults.{reason_in, cause_of, fault_within, plain_fault, fault_of};
     ghost use Rattle.handlebars_base.specs.TemplateFaults.{template_fault_of};
 
     ghost from_gives = { λ t e. fault_of e ≡ plain_fault (of_template (template_fault_of t)) };
 
-    fn from(cause: TemplateError) -> RenderError {
-        let reason: RenderErrorReason = cause.into();
-        reason.into()
+    fn from(cause: TemplateError) -> RenderError
+        ensures fault { fault_of result ≡ plain_fault (of_template (template_fault_of cause)) }
+
+        // Want of memory isn't wrapped.
+        ensures memory { reason_in result ≡ out_of_memory → fault_within (cause_of result) ≡ None }
+        ensures cause { reason_in result ≢ out_of_memory → cause_of result ≡ RenderErrorReason.TemplateError cause }
+    {
+        RenderError::from(RenderErrorReason::from(cause))
     }
 }
 
 impl From<io::Error> for RenderError {
-    ghost use Rattle.handlebars_base.specs.RenderFaults.{plain_fault, fault_of};
+    ghost use Rattle.handlebars_base.specs.RenderFaults.{cause_of, plain_fault, fault_of};
 
     ghost from_gives = { λ _ e. fault_of e ≡ plain_fault io_error };
 
-    fn from(cause: io::Error) -> RenderError {
-        RenderErrorReason::IOError(cause).into()
+    fn from(cause: io::Error) -> RenderError
+        ensures fault { fault_of result ≡ plain_fault io_error }
+        ensures cause { cause_of result ≡ RenderErrorReason.IOError cause }
+    {
+        RenderError::from(RenderErrorReason::IOError(cause))
     }
 }
 
 impl From<FromUtf8Error> for RenderError {
-    ghost use Rattle.handlebars_base.specs.RenderFaults.{plain_fault, fault_of};
+    ghost use Rattle.handlebars_base.specs.RenderFaults.{cause_of, plain_fault, fault_of};
 
     ghost from_gives = { λ _ e. fault_of e ≡ plain_fault utf8_error };
 
-    fn from(cause: FromUtf8Error) -> RenderError {
-        RenderErrorReason::Utf8Error(cause).into()
+    fn from(cause: FromUtf8Error) -> RenderError
+        ensures fault { fault_of result ≡ plain_fault utf8_error }
+        ensures cause { cause_of result ≡ RenderErrorReason.Utf8Error cause }
+    {
+        RenderError::from(RenderErrorReason::Utf8Error(cause))
     }
 }
 
 impl From<AllocError> for RenderError {
-    ghost use Rattle.handlebars_base.specs.RenderFaults.{plain_fault, fault_of};
+    ghost use Rattle.handlebars_base.specs.RenderFaults.{cause_of, plain_fault, fault_of};
 
     ghost from_gives = { λ _ e. fault_of e ≡ plain_fault out_of_memory };
 
-    fn from(_e: AllocError) -> RenderError {
-        RenderErrorReason::OutOfMemory.into()
+    fn from(_e: AllocError) -> RenderError
+        ensures fault { fault_of result ≡ plain_fault out_of_memory }
+        ensures cause { cause_of result ≡ RenderErrorReason.OutOfMemory }
+    {
+        RenderError::from(RenderErrorReason::OutOfMemory)
     }
 }
 
 impl<T: Drop> From<AllocFailed<T>> for RenderError {
-    ghost use Rattle.handlebars_base.specs.RenderFaults.{plain_fault, fault_of};
+    ghost use Rattle.handlebars_base.specs.RenderFaults.{cause_of, plain_fault, fault_of};
 
     ghost from_gives = { λ _ e. fault_of e ≡ plain_fault out_of_memory };
 
-    fn from(_e: AllocFailed<T>) -> RenderError {
-        RenderErrorReason::OutOfMemory.into()
+    fn from(_e: AllocFailed<T>) -> RenderError
+        ensures fault { fault_of result ≡ plain_fault out_of_memory }
+        ensures cause { cause_of result ≡ RenderErrorReason.OutOfMemory }
+    {
+        RenderError::from(AllocError)
     }
 }
 
 impl From<RenderError> for RenderErrorReason {
-    ghost use Rattle.handlebars_base.specs.RenderFaults.{reason_of, reason_in};
+    ghost use Rattle.handlebars_base.specs.RenderFaults.{reason_of, reason_in, cause_of};
 
     ghost from_gives = { λ e r. reason_of r ≡ reason_in e };
 
-    fn from(error: RenderError) -> RenderErrorReason {
+    fn from(error: RenderError) -> RenderErrorReason
+        ensures reason { reason_of result ≡ reason_in error }
+        ensures cause { result ≡ cause_of error }
+    {
         error.reason
     }
 }
 
 impl From<TemplateError> for RenderErrorReason {
-    ghost use Rattle.handlebars_base.specs.RenderFaults.{reason_of};
+    ghost use Rattle.handlebars_base.specs.RenderFaults.{reason_of, fault_within};
     ghost use Rattle.handlebars_base.specs.TemplateFaults.{template_fault_of};
 
     ghost from_gives = { λ e r. reason_of r ≡ of_template (template_fault_of e) };
 
-    fn from(cause: TemplateError) -> RenderErrorReason {
+    fn from(cause: TemplateError) -> RenderErrorReason
+        ensures reason { reason_of result ≡ of_template (template_fault_of cause) }
+
+        // Want of memory isn't wrapped.
+        ensures memory { reason_of result ≡ out_of_memory → fault_within result ≡ None }
+        ensures cause { reason_of result ≢ out_of_memory → result ≡ RenderErrorReason.TemplateError cause }
+    {
         match cause.reason() {
             TemplateErrorReason::OutOfMemory => RenderErrorReason::OutOfMemory,
             _ => RenderErrorReason::TemplateError(cause),
@@ -289,7 +324,10 @@ impl From<io::Error> for RenderErrorReason {
 
     ghost from_gives = { λ _ r. reason_of r ≡ io_error };
 
-    fn from(cause: io::Error) -> RenderErrorReason {
+    fn from(cause: io::Error) -> RenderErrorReason
+        ensures reason { reason_of result ≡ io_error }
+        ensures cause { result ≡ RenderErrorReason.IOError cause }
+    {
         RenderErrorReason::IOError(cause)
     }
 }
@@ -299,7 +337,10 @@ impl From<FromUtf8Error> for RenderErrorReason {
 
     ghost from_gives = { λ _ r. reason_of r ≡ utf8_error };
 
-    fn from(cause: FromUtf8Error) -> RenderErrorReason {
+    fn from(cause: FromUtf8Error) -> RenderErrorReason
+        ensures reason { reason_of result ≡ utf8_error }
+        ensures cause { result ≡ RenderErrorReason.Utf8Error cause }
+    {
         RenderErrorReason::Utf8Error(cause)
     }
 }
@@ -309,7 +350,10 @@ impl From<serde_json::Error> for RenderErrorReason {
 
     ghost from_gives = { λ _ r. reason_of r ≡ serde_error };
 
-    fn from(cause: serde_json::Error) -> RenderErrorReason {
+    fn from(cause: serde_json::Error) -> RenderErrorReason
+        ensures reason { reason_of result ≡ serde_error }
+        ensures cause { result ≡ RenderErrorReason.SerdeError cause }
+    {
         RenderErrorReason::SerdeError(cause)
     }
 }

@@ -1,10 +1,9 @@
-ghost use Rattle.std.specs.Prelude.{◌≡◌, ◌≢◌, Some, None, option_map, string_bytes};
+ghost use Rattle.std.specs.Prelude.{◌≡◌, ◌≢◌, Some, None, IsSome, option_map, string_bytes};
 ghost use Rattle.handlebars_base.specs.Reasons.{TemplateReason, TemplateFault, template_out_of_memory, template_io_error};
 
 use std::alloc::{AllocError, Global};
-use std::fmt;
 use std::fmt::Write;
-use std::io;
+use std::{fmt, io};
 use thiserror::Error;
 
 /// Why a template has no tree.
@@ -47,11 +46,13 @@ pub struct TemplateError {
 }
 
 impl TemplateError {
-    ghost use Rattle.handlebars_base.specs.TemplateFaults.{template_reason_of, template_fault_of};
+    ghost use Rattle.handlebars_base.specs.TemplateFaults.{template_reason_of, template_cause_of, template_fault_of, shown_lines};
 
     /// An error with no name and no position.
     pub fn of(reason: TemplateErrorReason) -> TemplateError
-        ensures { template_fault_of result ≡ record { reason = template_reason_of reason; name = None; position = None } }
+        ensures fault { template_fault_of result ≡ record { reason = template_reason_of reason; name = None; position = None } }
+        ensures cause { template_cause_of result ≡ reason }
+        ensures shown { shown_lines result ≡ None }
     {
         TemplateError {
             reason,
@@ -67,6 +68,10 @@ impl TemplateError {
     pub fn at(self, alloc: Global, source: &str, line_no: usize, column_no: usize) -> TemplateError
         ensures at { (template_fault_of result).reason ≢ template_out_of_memory
             → template_fault_of result ≡ record (template_fault_of self) { position = Some (line_no, column_no) } }
+        ensures cause { (template_fault_of result).reason ≢ template_out_of_memory → template_cause_of result ≡ template_cause_of self }
+        ensures shown { (template_fault_of result).reason ≢ template_out_of_memory → IsSome (shown_lines result) }
+        ensures bare { (template_fault_of self).reason ≢ template_out_of_memory → (template_fault_of result).reason ≡ template_out_of_memory
+            → template_fault_of result ≡ record { reason = template_out_of_memory; name = None; position = None } }
         ensures memory { (template_fault_of self).reason ≡ template_out_of_memory → (template_fault_of result).reason ≡ template_out_of_memory }
     {
         match template_segment(alloc, source, line_no, column_no) {
@@ -83,7 +88,9 @@ impl TemplateError {
 
     /// With the name of its template.
     pub fn in_template(self, name: String) -> TemplateError
-        ensures { template_fault_of result ≡ record (template_fault_of self) { name = Some (string_bytes name) } }
+        ensures named { template_fault_of result ≡ record (template_fault_of self) { name = Some (string_bytes name) } }
+        ensures cause { template_cause_of result ≡ template_cause_of self }
+        ensures shown { shown_lines result ≡ shown_lines self }
     {
         TemplateError {
             template_name: Some(name),
@@ -95,7 +102,8 @@ impl TemplateError {
     }
 
     pub fn reason(&self) -> &TemplateErrorReason
-        ensures { template_reason_of result.now ≡ (template_fault_of self.now).reason }
+        ensures reason { template_reason_of result.now ≡ (template_fault_of self.now).reason }
+        ensures cause { result.now ≡ template_cause_of self.now }
     {
         &self.reason
     }
@@ -119,11 +127,14 @@ impl TemplateError {
 }
 
 impl From<(io::Error, String)> for TemplateError {
-    ghost use Rattle.handlebars_base.specs.TemplateFaults.{template_fault_of};
+    ghost use Rattle.handlebars_base.specs.TemplateFaults.{template_cause_of, template_fault_of};
 
     ghost from_gives = { λ p e. template_fault_of e ≡ record { reason = template_io_error (string_bytes p.1); name = None; position = None } };
 
-    fn from(info: (io::Error, String)) -> TemplateError {
+    fn from(info: (io::Error, String)) -> TemplateError
+        ensures fault { template_fault_of result ≡ record { reason = template_io_error (string_bytes info.1); name = None; position = None } }
+        ensures cause { template_cause_of result ≡ TemplateErrorReason.IoError info.0 info.1 }
+    {
         let (cause, name) = info;
         TemplateError::of(TemplateErrorReason::IoError(cause, name))
     }

@@ -1,9 +1,9 @@
 //! Values of JSON: how they are rendered, and where they come from.
 
-ghost use Rattle.std.specs.Prelude.{◌≡◌, ◌++◌, IfOk, OnOk, IsTrue, ◌↔◌, string_bytes, List, ℕ, true, false, option_map, map};
+ghost use Rattle.std.specs.Prelude.{◌≡◌, ◌++◌, IfOk, OnOk, IsTrue, ◌↔◌, string_bytes, List, ℕ, true, false, option_map, map, Some};
 ghost use Rattle.serde_json.specs.View.{view, number_view, items_view};
 ghost use Rattle.handlebars_base.specs.Values.{rendered, rendered_items, rendered_number};
-ghost use Rattle.handlebars_base.specs.Scoped.{found_of, data_in, present_in, path_in, missing, value};
+ghost use Rattle.handlebars_base.specs.Scoped.{found_of, data_in, present_in, path_in, derived_in, missing, value};
 
 use serde_json::{Number, Value};
 use std::alloc::{AllocError, Global};
@@ -23,7 +23,7 @@ pub enum ScopedJson<'rc> {
 }
 
 impl<'rc> ScopedJson<'rc> {
-    /// The value, where there is one: `Missing` counts as null, to which nothing can refer.
+    /// The value, where there is one: none for `Missing`, which counts as null elsewhere.
     pub fn as_json(&self) -> Option<&Value>
         ensures { option_map (λ v. view v.now) result ≡ present_in (found_of self.now) }
     {
@@ -53,7 +53,8 @@ impl<'rc> ScopedJson<'rc> {
 
     /// The value as one that has no place in the data; `Missing` becomes null.
     pub fn into_derived(self) -> Result<ScopedJson<'rc>, AllocError>
-        ensures { IfOk result (λ s. found_of s ≡ value (data_in (found_of self.entry))) }
+        ensures value { IfOk result (λ s. found_of s ≡ value (data_in (found_of self.entry))) }
+        ensures derived { IfOk result (λ s. derived_in s ≡ Some (data_in (found_of self.entry))) }
     {
         match self {
             ScopedJson::Constant(value) => Ok(ScopedJson::Derived(value.clone()?)),

@@ -1,8 +1,8 @@
 //! From a source to its tree.
 
-ghost use Rattle.std.specs.Prelude.{◌≡◌, ◌≢◌, ◌++◌, ◌∷◌, [], IfOk, IfErr, OnOk, List, ℕ, map, string_bytes, false};
+ghost use Rattle.std.specs.Prelude.{◌≡◌, ◌≢◌, ◌++◌, ◌∷◌, [], IfOk, IfErr, OnOk, IsSome, List, ℕ, map, string_bytes, false};
 ghost use Rattle.handlebars_base.specs.Reasons.{template_out_of_memory};
-ghost use Rattle.handlebars_base.specs.TemplateFaults.{template_fault_of};
+ghost use Rattle.handlebars_base.specs.TemplateFaults.{template_fault_of, shown_lines};
 ghost use Rattle.handlebars_base.specs.PathView.{reference_of};
 ghost use Rattle.handlebars_template.specs.Tag.{expression_tag};
 ghost use Rattle.handlebars_template.specs.Cut.{text_piece, tag_piece};
@@ -27,6 +27,7 @@ impl Template {
         ensures ok { IfOk result (λ template. Compiles source.now no_options (compiled (tree_view template))) }
         ensures err { IfErr result (λ e. (template_fault_of e).reason ≢ template_out_of_memory
             → Compiles source.now no_options (refused (template_fault_of e))) }
+        ensures shown { IfErr result (λ e. (template_fault_of e).reason ≢ template_out_of_memory → IsSome (shown_lines e)) }
     {
         let mut tree = Growing {
             elements: Vec::new(alloc),
@@ -72,7 +73,12 @@ struct Growing {
 
 impl Growing {
     // An empty slice has no element.
-    fn add_text(&mut self, place: TemplateMapping, slice: &str, kept: String) -> Result<(), AllocError>
+    fn add_text(
+        &mut self,
+        place: TemplateMapping,
+        slice: &str,
+        kept: String,
+    ) -> Result<(), AllocError>
         ensures elements { OnOk result (map element_view self.new.elements.items
             ≡ map element_view self.old.elements.items ++ piece_elements (text_piece (place_of place) slice.now (string_bytes kept) ∷ [])) }
         ensures places { OnOk result (map place_of self.new.mapping.items
@@ -86,7 +92,12 @@ impl Growing {
         Ok(())
     }
 
-    fn add_expression(&mut self, alloc: Global, place: TemplateMapping, path: Path) -> Result<(), AllocError>
+    fn add_expression(
+        &mut self,
+        alloc: Global,
+        place: TemplateMapping,
+        path: Path,
+    ) -> Result<(), AllocError>
         ensures elements { OnOk result (map element_view self.new.elements.items
             ≡ map element_view self.old.elements.items ++ element_of (expression_tag (reference_of path)) ∷ []) }
         ensures places { OnOk result (map place_of self.new.mapping.items
@@ -118,8 +129,9 @@ fn value_of(alloc: Global, path: Path) -> HelperTemplate
 
 // The refusal of a tag that doesn't read.
 fn unreadable(alloc: Global, source: &str, at: TemplateMapping) -> TemplateError
-    ensures { (template_fault_of result).reason ≢ template_out_of_memory
+    ensures fault { (template_fault_of result).reason ≢ template_out_of_memory
         → template_fault_of result ≡ unreadable no_options (place_of at) }
+    ensures shown { (template_fault_of result).reason ≢ template_out_of_memory → IsSome (shown_lines result) }
 {
     match unreadable_in(alloc, source, at) {
         Ok(error) => error,
@@ -127,11 +139,20 @@ fn unreadable(alloc: Global, source: &str, at: TemplateMapping) -> TemplateError
     }
 }
 
-fn unreadable_in(alloc: Global, source: &str, at: TemplateMapping) -> Result<TemplateError, AllocError>
-    ensures { IfOk result (λ e. (template_fault_of e).reason ≢ template_out_of_memory
+fn unreadable_in(
+    alloc: Global,
+    source: &str,
+    at: TemplateMapping,
+) -> Result<TemplateError, AllocError>
+    ensures fault { IfOk result (λ e. (template_fault_of e).reason ≢ template_out_of_memory
         → template_fault_of e ≡ unreadable no_options (place_of at)) }
+    ensures shown { IfOk result (λ e. (template_fault_of e).reason ≢ template_out_of_memory → IsSome (shown_lines e)) }
 {
     let reason = TemplateErrorReason::InvalidSyntax(String::from_str(alloc, "unreadable tag")?);
     let name = String::from_str(alloc, "Unnamed")?;
-    Ok(TemplateError::of(reason).at(alloc, source, at.0, at.1).in_template(name))
+    Ok(
+        TemplateError::of(reason)
+            .at(alloc, source, at.0, at.1)
+            .in_template(name),
+    )
 }

@@ -16,10 +16,7 @@ pub enum Part<'a> {
 
 /// The text in front of a source: what is kept of it, its slice, and what follows it. In time
 /// linear in the slice.
-pub fn text<'a>(
-    alloc: Global,
-    source: &'a str,
-) -> Result<(String, &'a str, &'a str), AllocError>
+pub fn text<'a>(alloc: Global, source: &'a str) -> Result<(String, &'a str, &'a str), AllocError>
     ensures whole { IfOk result (λ r. source.now ≡ r.1.now ++ r.2.now) }
     ensures reads { IfOk result (λ r. IsText r.2.now r.1.now (string_bytes r.0)) }
 {

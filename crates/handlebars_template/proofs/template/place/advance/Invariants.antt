@@ -1,6 +1,6 @@
 use Rattle.std.proofs.Common.{length, ◌≡◌, ◌≤◌, ◌+◌}
 use Rattle.std.specs.Prelude.{fold}
-use Rattle.handlebars_template.specs.Place.{Place, step}
+use Rattle.handlebars_template.specs.Place.{step}
 use Rattle.handlebars_template.specs.TreeView.{place_of}
 use Rattle.handlebars_template.proofs.template.place.advance.Given as goal
 

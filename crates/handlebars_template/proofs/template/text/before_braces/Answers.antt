@@ -1,6 +1,6 @@
-use Rattle.std.proofs.Common.{◌≡◌, ◌≢◌, ◌∙◌, ◌<◌, ap, sym, arith, ℕ, length, subst, drop}
+use Rattle.std.proofs.Common.{◌≡◌, ◌∙◌, ap, sym, drop}
 use Rattle.handlebars_template.specs.Text.{slashes}
-use Rattle.handlebars_template.proofs.Texts.{escaped, bare_end, escape_part, run_end, more_ascii, escaped_fits, shorter_more, some_left}
+use Rattle.handlebars_template.proofs.Texts.{escaped, bare_end, escape_part, run_end, more_ascii, shorter_more, some_left}
 use Rattle.handlebars_template.proofs.template.text.before_braces.Goals as goal
 
 pub returns-then-run-eq0 : goal.returns-then-run-eq0

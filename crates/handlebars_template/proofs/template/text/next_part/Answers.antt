@@ -1,8 +1,8 @@
-use Rattle.std.proofs.Common.{◌≡◌, ◌≢◌, ◌∙◌, ◌<◌, ap, sym, arith, ℕ, length, subst}
+use Rattle.std.proofs.Common.{◌≡◌, ◌≢◌, ◌∙◌, ◌<◌, ap, arith}
 use Rattle.std.specs.List.{prefix_len}
 use Rattle.handlebars_template.specs.Text.{slashes}
 use Rattle.handlebars_template.specs.TextSteps.{is_plain}
-use Rattle.handlebars_template.proofs.Texts.{plain_boundary, plain_part, first_ascii, first_part, run_part, run_ascii, slashes_fit, shorter, before_is}
+use Rattle.handlebars_template.proofs.Texts.{plain_boundary, plain_part, first_part, run_part, run_ascii, slashes_fit, shorter, before_is}
 use Rattle.handlebars_template.proofs.template.text.next_part.Goals as goal
 
 pub split_at-requires : goal.split_at-requires

@@ -1,6 +1,5 @@
 use Rattle.std.proofs.Common.{arith, ◌≡◌, ◌+◌, ◌-◌}
 use Rattle.std.proofs.lemmas.Str.{IsCharBoundary-after_ascii}
-use Rattle.std.specs.Str.{IsCharBoundary}
 use Rattle.handlebars_template.proofs.template.text.split_behind.Goals as goal
 
 pub split_at-requires : goal.split_at-requires

@@ -1,6 +1,6 @@
-use Rattle.std.proofs.Common.{◌≡◌, ◌-◌, ap, sym, rules, length, string_bytes, subst, ◌++◌}
+use Rattle.std.proofs.Common.{rules, string_bytes}
 use Rattle.std.specs.Str.{IsUtf8}
-use Rattle.handlebars_template.proofs.Texts.{none_yet, goes_further, ends_there, end_reads, end_boundary, all_reads}
+use Rattle.handlebars_template.proofs.Texts.{goes_further, ends_there, end_boundary, all_reads}
 use Rattle.handlebars_base.proofs.OptionSteps.{empty}
 use Rattle.handlebars_template.proofs.template.text.text.Goals as goal
 

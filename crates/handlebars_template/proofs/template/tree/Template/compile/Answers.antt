@@ -1,13 +1,11 @@
-use Rattle.std.proofs.Common.{arith, rules, refl, sym, ◌∙◌, ap, ◌≡◌, ◌≤◌, ◌<◌, ◌++◌, ◌∷◌, [], length, map, string_bytes, subst, Some, List, length-append}
+use Rattle.std.proofs.Common.{arith, rules, refl, ◌∙◌, ◌≤◌, length, string_bytes}
 use Rattle.std.specs.Str.{IsUtf8}
 use Rattle.handlebars_base.proofs.OptionSteps.{empty, nonempty}
 use Rattle.handlebars_base.specs.PathView.{reference_of}
 use Rattle.handlebars_template.specs.Tag.{expression_tag}
-use Rattle.handlebars_template.specs.Tree.{Element, elements_of}
-use Rattle.handlebars_template.specs.Place.{Place}
-use Rattle.handlebars_template.specs.TreeView.{element_view, place_of}
-use Rattle.handlebars_template.specs.Compile.{no_options, refused, Compiles}
-use Rattle.handlebars_template.proofs.Scan.{scan_starts, scan_goes, scan_unreadable, scan_ends, end_elements, end_places, at_fits, there_fits, seam_boundary, front_is, front_utf8, step_at, shorter}
+use Rattle.handlebars_template.specs.TreeView.{place_of}
+use Rattle.handlebars_template.specs.Compile.{no_options}
+use Rattle.handlebars_template.proofs.Scan.{scan_starts, scan_unreadable, at_fits, there_fits, seam_boundary, front_is, front_utf8, step_at, shorter}
 use Rattle.handlebars_template.proofs.Trees.{tree_at}
 use Rattle.handlebars_template.proofs.template.tree.Template.compile.Goals as goal
 
@@ -26,7 +24,7 @@ advance-at-requires-clause-column c = omega (arith, at_fits c.loop-left.invarian
 
 pub returns-in_default-clause-err : goal.returns-in_default-clause-err
 returns-in_default-clause-err c = λ memory.
-    rw (c.unreadable.ensures memory) (scan_unreadable c.loop-left.invariant.scans (nonempty c.loop-left.left.now c.loop-left-test.ensures) (rw c.in_default.is at c.in_ok-path.ensures) no_options (place_of c.advance-at.result) c.advance-at.ensures)
+    rw (c.unreadable.ensures.fault memory) (scan_unreadable c.loop-left.invariant.scans (nonempty c.loop-left.left.now c.loop-left-test.ensures) (rw c.in_default.is at c.in_ok-path.ensures) no_options (place_of c.advance-at.result) c.advance-at.ensures)
 
 pub split_at-requires : goal.split_at-requires
 split_at-requires c =
@@ -56,9 +54,9 @@ loop-left-preserved c =
       slice_utf8 = search rules;
       left_utf8 = search rules;
       scans = step_at c.loop-left.invariant.scans (expression_tag (reference_of c.in-Some.path)) f.slice c.in-Some.behind.now c.in_ok-kept-2.field-0-1.now (string_bytes c.in_ok-kept-2.field-0-0) c.in_ok-kept-2.field-0-2.now
-        f.whole f.is c.in_ok-kept-2.ensures.whole c.in_ok-kept-2.ensures.reads c.loop-left.invariant.slice_utf8 (front_utf8 c.loop-left.left.now f.slice c.in-Some.behind.now f.whole c.loop-left.invariant.left_utf8 rest_utf8)
-        (place_of c.advance-at.result) c.advance-at.ensures (place_of c.advance-place.result) c.split_at.result.0.now (c.split_at.ensures.front ∙ front_is c.loop-left.left.now f.slice c.in-Some.behind.now f.whole) c.advance-place.ensures
-        _ _ c.in_ok-add_text.ensures.elements c.in_ok-add_expression.ensures.elements _ _ c.in_ok-add_text.ensures.places c.in_ok-add_expression.ensures.places;
+          f.whole f.is c.in_ok-kept-2.ensures.whole c.in_ok-kept-2.ensures.reads c.loop-left.invariant.slice_utf8 (front_utf8 c.loop-left.left.now f.slice c.in-Some.behind.now f.whole c.loop-left.invariant.left_utf8 rest_utf8)
+          (place_of c.advance-at.result) c.advance-at.ensures (place_of c.advance-place.result) c.split_at.result.0.now (c.split_at.ensures.front ∙ front_is c.loop-left.left.now f.slice c.in-Some.behind.now f.whole) c.advance-place.ensures
+          _ _ c.in_ok-add_text.ensures.elements c.in_ok-add_expression.ensures.elements _ _ c.in_ok-add_text.ensures.places c.in_ok-add_expression.ensures.places;
     }
 
 pub returns-clause-ok : goal.returns-clause-ok
