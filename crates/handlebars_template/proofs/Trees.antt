@@ -1,7 +1,7 @@
 -- A template as the code makes it, and the tree that it stands for.
-use Rattle.std.proofs.Common.{◌≡◌, ◌∙◌, ◌++◌, ◌∷◌, [], List, map, refl, sym, ap, Option, None, Some, option_map, ap₂, length, rules}
+use Rattle.std.proofs.Common.{◌≡◌, ◌∙◌, ◌++◌, ◌∷◌, [], List, map, refl, sym, None, option_map, length}
 use Rattle.handlebars_template.specs.Place.{Place}
-use Rattle.handlebars_template.specs.Tree.{Tree, tree, Element, elements_of, Call, Decorator, Param, Binding}
+use Rattle.handlebars_template.specs.Tree.{Tree, tree, Element, Call, Decorator, Param, Binding}
 use Rattle.handlebars_template.specs.TreeView.{text, place_of, element_view, tree_view, elements_view, binding_step, param_step, element_step, decorator_step, call_step, subexpression_step, tree_step}
 use Rattle.handlebars_template.specs.declared.template.tree.BlockParam.{BlockParam}
 use Rattle.handlebars_template.specs.declared.template.tree.BlockParam.TheOpen.{Template-F}
@@ -14,7 +14,7 @@ use Rattle.handlebars_template.specs.declared.template.tree.TemplateElement.{Tem
 use Rattle.handlebars_template.specs.declared.template.tree.Parameter.{Parameter}
 use Rattle.handlebars_template.specs.declared.template.tree.Subexpression.{Subexpression}
 use Rattle.handlebars_template.specs.Cut.{Piece, text_piece}
-use Rattle.handlebars_template.specs.Compile.{Options, no_options, Compiles, compiled, tree_of, piece_elements, piece_places}
+use Rattle.handlebars_template.specs.Compile.{no_options, Compiles, compiled, tree_of, piece_elements, piece_places}
 use Rattle.handlebars_template.proofs.Scan.{Scans, scan_ends, end_elements, end_places}
 use Rattle.std.proofs.Common.{ℕ, subst}
 
@@ -35,5 +35,5 @@ pub tree_at : {source slice kept left : List ℕ} {at : Place} {es : List Elemen
 tree_at {source} {slice} {kept} {left} {at} {es} {places} h over x none elements mapping =
     let ps : List Piece = h.pieces ++ text_piece at slice kept ∷ [] in
     let is : tree_view (roll-Template x) ≡ tree_of no_options ps =
-      tree_view-roll x ∙ rw (none, elements ∙ sym (end_elements h), mapping ∙ sym (end_places h)) refl in
+    tree_view-roll x ∙ rw (none, elements ∙ sym (end_elements h), mapping ∙ sym (end_places h)) refl in
     subst (λ (t : Tree). Compiles source no_options (compiled t)) (sym is) (scan_ends h over no_options)
