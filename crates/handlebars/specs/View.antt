@@ -1,5 +1,5 @@
 -- What the code's values stand for, and what a call of it says of a run.
-use Rattle.std.specs.Prelude.{◌≡◌, ◌≢◌, ℕ, ◌+◌, ◌^◌, ◌<◌, List, ◌++◌, option_map, Result, Ok, Err, string_bytes, Bool}
+use Rattle.std.specs.Prelude.{◌≡◌, ◌≢◌, ℕ, Option, ◌+◌, ◌^◌, ◌<◌, List, ◌++◌, option_map, Result, Ok, Err, string_bytes, Bool}
 use Rattle.std.specs.declared.io.Error.{Error}
 use Rattle.std.specs.IoError.{error_kind}
 use Rattle.handlebars_base.specs.Reasons.{Fault, out_of_memory}
@@ -18,6 +18,10 @@ line_of l = record { before = l.before; trailing = l.trailing; produced = l.prod
 
 abbrev pub state_of : RenderContext → State
 state_of rc = record { current = option_map string_bytes rc.current_template; line = line_of rc.line }
+
+-- the name of the template that the run began with, if it has one
+abbrev pub root_of : RenderContext → Option (List ℕ)
+root_of rc = option_map string_bytes rc.root_template
 
 abbrev pub has_failed : RenderContext → Bool
 has_failed rc = rc.failed

@@ -1,4 +1,4 @@
-//! Inputs of a megabyte, which take time linear in their size.
+//! Big inputs: time is linear in their size.
 
 use crate::helpers::{rendered, repeated};
 use handlebars::Template;
@@ -37,13 +37,18 @@ fn renders_a_hundred_thousand_tags(rt: HostRuntime) -> Result<(), Fail> {
 }
 
 #[test]
-fn renders_a_megabyte_of_value(rt: HostRuntime) -> Result<(), Fail> {
+fn renders_a_value_that_nests_127_deep(rt: HostRuntime) -> Result<(), Fail> {
     let alloc = rt.alloc();
     let mut data = repeated(alloc, "[", 127)?;
     data.push_str(repeated(alloc, "]", 127)?.as_str())?;
     let text = rendered(alloc, "{{.}}", data.as_str())??;
     assert!(rt; text == data);
+    Ok(())
+}
 
+#[test]
+fn escapes_a_megabyte(rt: HostRuntime) -> Result<(), Fail> {
+    let alloc = rt.alloc();
     let mut data = String::from_str(alloc, "\"")?;
     data.push_str(repeated(alloc, "&", 1000000)?.as_str())?;
     data.push_str("\"")?;

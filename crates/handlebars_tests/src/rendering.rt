@@ -1,9 +1,9 @@
 //! Sources, rendered over data.
 
-ghost use Rattle.std.specs.Prelude.{string_bytes};
-
 use crate::helpers::{data_of, refuses, rendered};
-use handlebars::{Output, Registry, RenderContext, Renderable, StringOutput, Template};
+use handlebars::{
+    Output, Registry, RenderContext, RenderErrorReason, Renderable, StringOutput, Template,
+};
 use log::sink::Discard;
 use std::io;
 use std::io::ErrorKind;
@@ -259,7 +259,10 @@ fn tells_of_an_output_that_fails(rt: HostRuntime) -> Result<(), Fail> {
         };
         let place = match template.render(alloc, &registry, &data, &mut rc, &mut out, &Discard) {
             Ok(()) => None,
-            Err(error) => error.column_no,
+            Err(error) => {
+                assert!(rt; matches!(error.reason(), RenderErrorReason::IOError(_)));
+                error.column_no
+            }
         };
         assert_eq!(rt; place, column);
         assert_eq!(rt; rc.has_failed(), column.is_some());

@@ -2,7 +2,7 @@
 
 ghost use Rattle.std.specs.Prelude.{◌≡◌, IfOk, OnOk, OnErr, true, false, option_map, string_bytes};
 ghost use Rattle.handlebars.specs.State.{first_state};
-ghost use Rattle.handlebars.specs.View.{state_of, has_failed};
+ghost use Rattle.handlebars.specs.View.{state_of, root_of, has_failed};
 
 use std::alloc::{AllocError, Global};
 
@@ -28,6 +28,7 @@ impl RenderContext {
     /// The first state of a run, which the template of that name begins, if it has one.
     pub fn new(alloc: Global, root_template: Option<&String>) -> Result<RenderContext, AllocError>
         ensures state { IfOk result (λ rc. state_of rc ≡ first_state) }
+        ensures root { IfOk result (λ rc. root_of rc ≡ option_map (λ name. string_bytes name.now) root_template.entry) }
         ensures ready { IfOk result (λ rc. has_failed rc ≡ false) }
     {
         let root_template = match root_template {
