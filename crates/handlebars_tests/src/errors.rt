@@ -1,13 +1,13 @@
 //! What errors print as, and what they keep.
 
 use crate::helpers::{prints, refuses, shows};
-use handlebars::{RenderError, RenderErrorReason, TemplateError, TemplateErrorReason};
+use handlebars::{JsonValue, RenderError, RenderErrorReason, TemplateError, TemplateErrorReason};
 use std::alloc::AllocError;
 use std::io;
 use std::test::Fail;
 
 #[test]
-fn render_reasons_print(rt: HostRuntime) -> Result<(), Fail> {
+fn render_reasons_about_calls_print(rt: HostRuntime) -> Result<(), Fail> {
     let alloc = rt.alloc();
     let foo = String::from_str(alloc, "foo")?;
     let bar = String::from_str(alloc, "bar")?;
@@ -57,6 +57,18 @@ fn render_reasons_print(rt: HostRuntime) -> Result<(), Fail> {
             RenderErrorReason::HashTypeMismatchForName("x", foo.clone()?, bar.clone()?),
             "Helper/Decorator x hash with name foo type mismatch for bar"
         ),
+    ]?;
+    for (reason, wanted) in &table {
+        prints(&rt, alloc, reason, *wanted)?;
+    }
+    Ok(())
+}
+
+#[test]
+fn render_reasons_about_data_and_use_print(rt: HostRuntime) -> Result<(), Fail> {
+    let alloc = rt.alloc();
+    let foo = String::from_str(alloc, "foo")?;
+    let table = vec![in alloc;
         (
             RenderErrorReason::DecoratorNotFound(foo.clone()?),
             "Decorator not found foo"
@@ -108,6 +120,27 @@ fn render_reasons_print(rt: HostRuntime) -> Result<(), Fail> {
     ]?;
     for (reason, wanted) in &table {
         prints(&rt, alloc, reason, *wanted)?;
+    }
+    Ok(())
+}
+
+// A cause from outside is printed behind what it is.
+#[test]
+fn causes_from_outside_print(rt: HostRuntime) -> Result<(), Fail> {
+    let alloc = rt.alloc();
+    match JsonValue::from_str(alloc, "{") {
+        Ok(_) => assert!(rt; false, "it was read"),
+        Err(cause) => {
+            let wanted = format!(in alloc; "Failed to access JSON data: {cause}")?;
+            prints(&rt, alloc, &RenderErrorReason::from(cause), wanted.as_str())?;
+        }
+    }
+    match String::from_utf8(vec![in alloc; 255]?) {
+        Ok(_) => assert!(rt; false, "it was taken"),
+        Err(cause) => {
+            let wanted = format!(in alloc; "FromUtf8Error: {cause}")?;
+            prints(&rt, alloc, &RenderErrorReason::from(cause), wanted.as_str())?;
+        }
     }
     Ok(())
 }
