@@ -3,8 +3,8 @@ use Rattle.std.proofs.Common.{◌≡◌, ◌≢◌, ℕ, ◌<◌, List, [], ◌�
 use Rattle.std.specs.declared.io.Error.{Error}
 use Rattle.std.specs.IoError.{error_kind}
 use Rattle.std.specs.Result.{IsErrAnd}
-use Rattle.handlebars_base.specs.Reasons.{Reason, Fault, out_of_memory}
-use Rattle.handlebars_base.specs.RenderFaults.{reason_in, fault_of, plain_fault, placed}
+use Rattle.handlebars_base.specs.Reasons.{Reason, Refusal, out_of_memory}
+use Rattle.handlebars_base.specs.RenderRefusals.{reason_in, refusal_of, plain_refusal, placed}
 use Rattle.handlebars_base.specs.declared.error.render_error.RenderError.{RenderError}
 use Rattle.handlebars_template.specs.Tree.{tree}
 use Rattle.handlebars_scope.specs.Outputs.{Written, write_reason}
@@ -34,11 +34,11 @@ pub record Ends (p : Setting) (k : Steps) (s : State) (old : Held) (next : State
   pub text : new.text ≡ old.text ++ join pieces
   pub faults : new.faults ≡ old.faults
 
-pub mark-reason : (t : Task) (f : Fault) → (mark t f).reason ≡ f.reason
+pub mark-reason : (t : Task) (f : Refusal) → (mark t f).reason ≡ f.reason
 mark-reason (One site None e) f = refl
 mark-reason (One site (Some place) e) f = placed-reason f f.line f.column
   where
-    placed-reason : (f : Fault) (l c : Option ℕ) → (placed f l c place.line place.column).reason ≡ f.reason
+    placed-reason : (f : Refusal) (l c : Option ℕ) → (placed f l c place.line place.column).reason ≡ f.reason
     placed-reason f None None = refl
     placed-reason f None (Some c) = refl
     placed-reason f (Some l) None = refl
@@ -48,11 +48,11 @@ mark-reason (Whole (tree (Some n) es places)) f = refl
 
 -- An error becomes another, which has the mark of the task, or says that memory ran out.
 pub record IsMarked (t : Task) (e d : RenderError) : Type 0 where
-  pub same : reason_in d ≢ out_of_memory → fault_of d ≡ mark t (fault_of e)
+  pub same : reason_in d ≢ out_of_memory → refusal_of d ≡ mark t (refusal_of e)
   pub memory : reason_in e ≡ out_of_memory → reason_in d ≡ out_of_memory
 
 marked-reason : (t : Task) (e d : RenderError) → IsMarked t e d → reason_in d ≢ out_of_memory → reason_in d ≡ reason_in e
-marked-reason t e d m other = ap (λ (f : Fault). f.reason) (m.same other) ∙ mark-reason t (fault_of e)
+marked-reason t e d m other = ap (λ (f : Refusal). f.reason) (m.same other) ∙ mark-reason t (refusal_of e)
 
 module _ (p : Setting) (may : Error → Type 0) where
   pub c_done : {s : State} {h : Held} {u : Unit {0}} → CarriesOut p Done may s h (Ok u) s h
@@ -61,19 +61,19 @@ module _ (p : Setting) (may : Error → Type 0) where
   pub c_no_memory : {k : Steps} {s next : State} {h : Held} (e : RenderError) → reason_in e ≡ out_of_memory → CarriesOut p k may s h (Err e) next h
   c_no_memory {h = h} e memory = record { pieces = []; outcome = NoMemory; runs = stop tt; text = sym (append-nil h.text); tells = no_memory refl memory }
 
-  refused_so : {r : Reason} {s next : State} {h : Held} (e : RenderError) → fault_of e ≡ plain_fault r → CarriesOut p (Refuse r) may s h (Err e) next h
+  refused_so : {r : Reason} {s next : State} {h : Held} (e : RenderError) → refusal_of e ≡ plain_refusal r → CarriesOut p (Refuse r) may s h (Err e) next h
   refused_so {r = r} {s = s} {h = h} e is = record {
     pieces = [];
-    outcome = Refused (fault_of e);
-    runs = subst (λ (f : Fault). Runs p (Refuse r) s [] (Refused f)) (sym is) refused;
+    outcome = Refused (refusal_of e);
+    runs = subst (λ (f : Refusal). Runs p (Refuse r) s [] (Refused f)) (sym is) refused;
     text = sym (append-nil h.text);
     tells = refusal refl;
   }
 
-  pub c_refuse : {r : Reason} {s next : State} {h : Held} (e : RenderError) → fault_of e ≡ plain_fault (reason_in e) → (reason_in e ≢ out_of_memory → reason_in e ≡ r) → CarriesOut p (Refuse r) may s h (Err e) next h
+  pub c_refuse : {r : Reason} {s next : State} {h : Held} (e : RenderError) → refusal_of e ≡ plain_refusal (reason_in e) → (reason_in e ≢ out_of_memory → reason_in e ≡ r) → CarriesOut p (Refuse r) may s h (Err e) next h
   c_refuse e plain is = elim (memory_or (reason_in e)) [
     | inl memory ↦ c_no_memory e memory
-    | inr other ↦ refused_so e (plain ∙ ap plain_fault (is other))
+    | inr other ↦ refused_so e (plain ∙ ap plain_refusal (is other))
   ]
 
   pub c_get : {f : State → Steps} {s next : State} {h new : Held} {r : Result (Unit {0}) RenderError} → CarriesOut p (f s) may s h r next new → CarriesOut p (Get f) may s h r next new
@@ -83,9 +83,9 @@ module _ (p : Setting) (may : Error → Type 0) where
   c_set c = record { pieces = c.pieces; outcome = c.outcome; runs = set c.runs; text = c.text; tells = c.tells }
 
   -- an error that says so, as `?` hands it on
-  pub c_out_of_memory : {k : Steps} {s next : State} {h : Held} (r : Result (Unit {0}) RenderError) → IsErrAnd r (λ e. fault_of e ≡ plain_fault out_of_memory) → CarriesOut p k may s h r next h
+  pub c_out_of_memory : {k : Steps} {s next : State} {h : Held} (r : Result (Unit {0}) RenderError) → IsErrAnd r (λ e. refusal_of e ≡ plain_refusal out_of_memory) → CarriesOut p k may s h r next h
   c_out_of_memory (Ok u) is = absurd is
-  c_out_of_memory (Err e) is = c_no_memory e (ap (λ (f : Fault). f.reason) is)
+  c_out_of_memory (Err e) is = c_no_memory e (ap (λ (f : Refusal). f.reason) is)
 
   -- ---- writing
 
@@ -106,7 +106,7 @@ module _ (p : Setting) (may : Error → Type 0) where
   }
 
   pub put_err : (o : Origin) (t : List ℕ) {s next : State} {T T' : List ℕ} {F F' : ℕ} (cause : Error) (e : RenderError) → 0 < length t → Written t T F (Err cause) T' F' → may cause
-      → fault_of e ≡ plain_fault (write_reason (error_kind cause)) → CarriesOut p (run (put o t)) may s (held T F) (Err e) next (held T' F')
+      → refusal_of e ≡ plain_refusal (write_reason (error_kind cause)) → CarriesOut p (run (put o t)) may s (held T F) (Err e) next (held T' F')
   unfolding ◌>>=◌ ◌>>◌
   put_err o [] cause e some w m is = absurd (omega (arith, some))
   put_err o (b ∷ t) {T = T} cause e some w m is = record {
@@ -114,7 +114,7 @@ module _ (p : Setting) (may : Error → Type 0) where
     outcome = Faulted;
     runs = got (cut tt (cut_off w.0.1));
     text = w.0.2 ∙ ap (λ (z : List ℕ). T ++ z) (sym (append-nil w.0.0));
-    tells = write_fault cause m w.1 (λ other. ap (λ (f : Fault). f.reason) is);
+    tells = write_fault cause m w.1 (λ other. ap (λ (f : Refusal). f.reason) is);
   }
 
   -- ---- a part, and what comes next
@@ -143,8 +143,8 @@ module _ (p : Setting) (may : Error → Type 0) where
     | inl memory ↦ record { pieces = ps; outcome = NoMemory; runs = did_over (stops_short r refl) tt; text = x; tells = no_memory same memory }
     | inr other ↦ record {
       pieces = ps;
-      outcome = Refused (fault_of d);
-      runs = subst (λ (f : Fault). Runs p (Do t k) s ps (Refused f)) (sym (m.same other)) (did_over r tt);
+      outcome = Refused (refusal_of d);
+      runs = subst (λ (f : Refusal). Runs p (Do t k) s ps (Refused f)) (sym (m.same other)) (did_over r tt);
       text = x;
       tells = refusal same;
     }

@@ -6,31 +6,31 @@ use Rattle.std.specs.declared.io.Error.{Error}
 use Rattle.serde_json.specs.Data.{Data}
 use Rattle.handlebars_base.specs.Answers.{Answer, gives, refuses}
 use Rattle.handlebars_base.specs.Reasons.{out_of_memory}
-use Rattle.handlebars_base.specs.RenderFaults.{reason_in, fault_of, plain_fault}
+use Rattle.handlebars_base.specs.RenderRefusals.{reason_in, refusal_of, plain_refusal}
 use Rattle.handlebars_base.specs.declared.error.render_error.RenderError.{RenderError}
 use Rattle.handlebars_template.specs.Place.{Place}
 use Rattle.handlebars_template.specs.Tree.{tree, Element, elements_of, Call}
 use Rattle.handlebars_scope.specs.Put.{Site}
 use Rattle.handlebars.specs.State.{Setting, State}
 use Rattle.handlebars.specs.Steps.{One, Steps, Do, run, answer, ◌>>=◌, ◌>>◌}
-use Rattle.handlebars.specs.Means.{show, express, value_of, each, whole, todo}
+use Rattle.handlebars.specs.Means.{show, render_expression, value_of, render_elements, render_whole, todo}
 use Rattle.handlebars.specs.View.{Held, CarriesOut}
 use Rattle.handlebars.proofs.Carry.{memory_or, c_done, c_no_memory, c_refuse, c_get, c_set, c_then, c_over, IsMarked}
 
 -- the steps of the elements from an index on
 abbrev pub from_index : List Element → List Place → ℕ → Steps
-from_index es places i = run (each i (elements_of (drop i es)) places)
+from_index es places i = run (render_elements i (elements_of (drop i es)) places)
 
 at_index : (es : List Element) (places : List Place) (i : ℕ) (d : Element) → i < length es → from_index es places i ≡ Do (One (i ∷ []) (slice_get places i) (get_or es i d)) (from_index es places (i + 1))
 unfolding ◌>>◌
-at_index es places i d lt = ap (λ (z : List Element). run (each i (elements_of z) places)) (drop_more es i d lt)
+at_index es places i d lt = ap (λ (z : List Element). run (render_elements i (elements_of z) places)) (drop_more es i d lt)
 
 module _ (p : Setting) (may : Error → Type 0) where
-  pub express_ok : (d : Data) (site : Site) (c : Call) (v : Option Data) {s next : State} {h new : Held} {r : Result (Unit {0}) RenderError} → value_of d c ≡ gives v → CarriesOut p (run (show site v)) may s h r next new → CarriesOut p (run (express d site c)) may s h r next new
+  pub express_ok : (d : Data) (site : Site) (c : Call) (v : Option Data) {s next : State} {h new : Held} {r : Result (Unit {0}) RenderError} → value_of d c ≡ gives v → CarriesOut p (run (show site v)) may s h r next new → CarriesOut p (run (render_expression d site c)) may s h r next new
   unfolding ◌>>=◌
   express_ok d site c v {s = s} {next = next} {h = h} {new = new} {r = r} is a = subst (λ (z : Answer (Option Data)). CarriesOut p (run (answer z >>= show site)) may s h r next new) (sym is) a
 
-  pub express_err : (d : Data) (site : Site) (c : Call) {s next : State} {h : Held} (e : RenderError) → fault_of e ≡ plain_fault (reason_in e) → (reason_in e ≢ out_of_memory → value_of d c ≡ refuses (reason_in e)) → CarriesOut p (run (express d site c)) may s h (Err e) next h
+  pub express_err : (d : Data) (site : Site) (c : Call) {s next : State} {h : Held} (e : RenderError) → refusal_of e ≡ plain_refusal (reason_in e) → (reason_in e ≢ out_of_memory → value_of d c ≡ refuses (reason_in e)) → CarriesOut p (run (render_expression d site c)) may s h (Err e) next h
   unfolding ◌>>=◌
   express_err d site c {s = s} {next = next} {h = h} e plain is = elim (memory_or (reason_in e)) [
     | inl memory ↦ c_no_memory p may e memory
@@ -59,10 +59,10 @@ module _ (p : Setting) (may : Error → Type 0) where
       (subst (λ (z : Element). CarriesOut p (Do (One (i ∷ []) (slice_get places i) z) (from_index es places (i + 1))) may mid between (Err f) next new) (sym is) (c_over p may e f m a)))
 
   pub left_ends : (es : List Element) (places : List Place) (i : ℕ) {s mid : State} {h between : Held} {u : Unit {0}} → length es ≤ i → Left es places i s h mid between → CarriesOut p (from_index es places 0) may s h (Ok u) mid between
-  left_ends es places i {mid = mid} {between = between} {u = u} over left = left (Ok u) mid between (subst (λ (z : List Element). CarriesOut p (run (each i (elements_of z) places)) may mid between (Ok u) mid between) (sym (drop_all i es over)) (c_done p may))
+  left_ends es places i {mid = mid} {between = between} {u = u} over left = left (Ok u) mid between (subst (λ (z : List Element). CarriesOut p (run (render_elements i (elements_of z) places)) may mid between (Ok u) mid between) (sym (drop_all i es over)) (c_done p may))
 
   -- a tree: its name, then its elements
   pub whole_with : (n : Option (List ℕ)) (es : List Element) (places : List Place) {s mid next : State} {h new : Held} {r : Result (Unit {0}) RenderError} → mid ≡ record s { current = n }
-      → CarriesOut p (from_index es places 0) may mid h r next new → CarriesOut p (run (whole (tree n (elements_of es) places))) may s h r next new
+      → CarriesOut p (from_index es places 0) may mid h r next new → CarriesOut p (run (render_whole (tree n (elements_of es) places))) may s h r next new
   unfolding ◌>>=◌ ◌>>◌
   whole_with n es places {s = s} {next = next} {h = h} {new = new} {r = r} is c = c_get p may (c_set p may (subst (λ (z : State). CarriesOut p (from_index es places 0) may z h r next new) is c))

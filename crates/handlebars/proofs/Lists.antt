@@ -5,8 +5,8 @@ use Rattle.std.proofs.Math.ListN.{get_or-map}
 use Rattle.std.proofs.lemmas.List.{length-map}
 use Rattle.std.proofs.lemmas.Option.{slice_get-map, slice_get_past, slice_get_read}
 use denote.Ref.{Bor}
-use Rattle.handlebars_base.specs.Reasons.{Fault}
-use Rattle.handlebars_base.specs.RenderFaults.{fault_of}
+use Rattle.handlebars_base.specs.Reasons.{Refusal}
+use Rattle.handlebars_base.specs.RenderRefusals.{refusal_of}
 use Rattle.handlebars_base.specs.declared.error.render_error.RenderError.{RenderError}
 use Rattle.handlebars_template.specs.Place.{Place}
 use Rattle.handlebars_template.specs.Tree.{Element}
@@ -34,10 +34,10 @@ through f h (Some a) = refl
 pub place_there : (ms : List TemplateMapping) (i : ℕ) (o : Option (Bor TemplateMapping)) → option_map (λ m. m.now) o ≡ slice_get ms i → option_map (λ m. place_of m.now) o ≡ slice_get (map place_of ms) i
 place_there ms i o is = sym (through (λ m. m.now) place_of o) ∙ ap (option_map place_of) is ∙ sym (slice_get-map place_of ms i)
 
-pub placed_marks : (site : Site) (place : Option Place) (x : Element) (e d : RenderError) → fault_of d ≡ mark (One site place x) (fault_of e) → IsMarked (One site place x) e d
+pub placed_marks : (site : Site) (place : Option Place) (x : Element) (e d : RenderError) → refusal_of d ≡ mark (One site place x) (refusal_of e) → IsMarked (One site place x) e d
 placed_marks site place x e d is = record {
   same = λ _. is;
-  memory = λ memory. ap (λ (f : Fault). f.reason) is ∙ mark-reason (One site place x) (fault_of e) ∙ memory;
+  memory = λ memory. ap (λ (f : Refusal). f.reason) is ∙ mark-reason (One site place x) (refusal_of e) ∙ memory;
 }
 
 -- what a look into a slice found

@@ -1,7 +1,7 @@
 -- What is written is determined: two whole runs are one, and a run that stopped wrote a beginning of the whole one.
 use Rattle.std.proofs.Common.{◌≡◌, List, [], ◌∷◌, ◌++◌, refl, sym, ap, ◌∙◌, subst, append_assoc, append-nil}
-use Rattle.handlebars_base.specs.Reasons.{Fault}
-use Rattle.handlebars_scope.specs.Outputs.{Begins}
+use Rattle.handlebars_base.specs.Reasons.{Refusal}
+use Rattle.handlebars_scope.specs.Outputs.{IsBeginning}
 use Rattle.handlebars_scope.specs.Put.{Piece, join}
 use Rattle.handlebars.specs.State.{Setting, State}
 use Rattle.handlebars.specs.Steps.{Task, Steps}
@@ -65,20 +65,20 @@ same (did_over {t = t} {o = o} a over) (did_over {o = o'} c over') h g =
     let e = same a c (λ i. h (stop_marked t o i)) (λ i. g (stop_marked t o' i)) in (e.0, ap (marked t) e.1)
 same (did_over a over) (stop i) h g = absurd (g i)
 
-begins_join : (xs ys zs : List Piece) → Begins (join ys) (join zs) → Begins (join (xs ++ ys)) (join (xs ++ zs))
+begins_join : (xs ys zs : List Piece) → IsBeginning (join ys) (join zs) → IsBeginning (join (xs ++ ys)) (join (xs ++ zs))
 begins_join [] ys zs b = b
 begins_join (x ∷ xs) ys zs b = let d = begins_join xs ys zs b in (d.0, ap (λ ws. x.text ++ ws) d.1 ∙ sym (append_assoc x.text (join (xs ++ ys)) d.0))
 
-begins_more : (xs ys zs : List Piece) → Begins (join xs) (join ys) → Begins (join xs) (join (ys ++ zs))
+begins_more : (xs ys zs : List Piece) → IsBeginning (join xs) (join ys) → IsBeginning (join xs) (join (ys ++ zs))
 begins_more xs ys zs b = (b.0 ++ join zs, join-append ys zs ∙ ap (λ ws. ws ++ join zs) b.1 ∙ append_assoc (join xs) b.0 (join zs))
 
-begins_front : {xs ys : List Piece} → Front xs ys → Begins (join xs) (join ys)
+begins_front : {xs ys : List Piece} → Front xs ys → IsBeginning (join xs) (join ys)
 begins_front (none {ps = ps}) = (join ps, refl)
 begins_front (cut_off {p = p} {text = t} {ps = ps} b) = (b.0 ++ join ps, ap (λ ws. ws ++ join ps) b.1 ∙ append_assoc t b.0 (join ps) ∙ ap (λ ws. ws ++ (b.0 ++ join ps)) (sym (append-nil t)))
 begins_front (more {p = p} {qs = qs} {ps = ps} f) = let b = begins_front f in (b.0, ap (λ ws. p.text ++ ws) b.1 ∙ sym (append_assoc p.text (join qs) b.0))
 
 -- a run that stopped wrote a beginning of the whole one
-pub beginning : {p : Setting} {k : Steps} {s : State} {ps qs : List Piece} {o q : Outcome} → Runs p k s ps o → Runs p k s qs q → IsStop o → IsWhole q → Begins (join ps) (join qs)
+pub beginning : {p : Setting} {k : Steps} {s : State} {ps qs : List Piece} {o q : Outcome} → Runs p k s ps o → Runs p k s qs q → IsStop o → IsWhole q → IsBeginning (join ps) (join qs)
 beginning done q h g = absurd h
 beginning refused q h g = absurd h
 beginning {qs = qs} (stop i) q h g = (join qs, refl)
@@ -94,7 +94,7 @@ beginning (set r) (set q) h g = beginning r q h g
 beginning (set r) (stop i) h g = absurd (g i)
 beginning (did {ps = xs} {qs = ys} a b) (did {ps = zs} {qs = ws} c d) h g =
     let e = same a c (λ x. x) (λ x. x) in
-    subst (λ (us : List Piece). Begins (join (xs ++ ys)) (join (us ++ ws))) e.0 (begins_join xs ys ws (beginning b (at_state (same_state e.1) d) h g))
+    subst (λ (us : List Piece). IsBeginning (join (xs ++ ys)) (join (us ++ ws))) e.0 (begins_join xs ys ws (beginning b (at_state (same_state e.1) d) h g))
 beginning (did a b) (did_over {t = t} {o = o} c over) h g = absurd (subst IsOver (sym (same a c (λ x. x) (λ i. g (stop_marked t o i))).1) over)
 beginning (did a b) (stop i) h g = absurd (g i)
 beginning (did_over {t = t} {ps = xs} {o = o} a over) (did {ps = zs} {qs = ws} c d) h g = begins_more xs zs ws (beginning a c (marked_stop t o h) (λ x. x))
@@ -102,7 +102,7 @@ beginning (did_over {t = t} {o = o} a over) (did_over {o = o'} c over') h g = be
 beginning (did_over a over) (stop i) h g = absurd (g i)
 
 -- a run that is refused might as well stop there for want of memory
-pub stops_short : {p : Setting} {k : Steps} {s : State} {ps : List Piece} {f : Fault} {o : Outcome} → Runs p k s ps o → o ≡ Refused f → Runs p k s ps NoMemory
+pub stops_short : {p : Setting} {k : Steps} {s : State} {ps : List Piece} {f : Refusal} {o : Outcome} → Runs p k s ps o → o ≡ Refused f → Runs p k s ps NoMemory
 stops_short done e = cc
 stops_short refused e = stop tt
 stops_short (wrote r) e = wrote (stops_short r e)

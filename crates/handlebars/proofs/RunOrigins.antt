@@ -6,18 +6,18 @@ use Rattle.handlebars_base.specs.Values.{rendered}
 use Rattle.handlebars_template.specs.Place.{Place}
 use Rattle.handlebars_template.specs.Tree.{Tree, tree, Elements, no_elements, element, Element, raw_string, html_expression, expression, helper_block, decorator_expression, decorator_block, partial_expression, partial_block, comment, Call}
 use Rattle.handlebars_scope.specs.Escape.{escaped}
-use Rattle.handlebars_scope.specs.Outputs.{Begins}
+use Rattle.handlebars_scope.specs.Outputs.{IsBeginning}
 use Rattle.handlebars_scope.specs.Put.{Site, Origin, of_text, of_value, Piece}
 use Rattle.handlebars.specs.State.{Setting, State}
 use Rattle.handlebars.specs.Steps.{Task, One, Whole, Steps, Done, Refuse, Write, Get, Set, Do, run, ◌>>=◌, ◌>>◌, answer}
-use Rattle.handlebars.specs.Means.{put, show, value_of, one, each, whole, todo}
+use Rattle.handlebars.specs.Means.{put, show, value_of, render_element, render_elements, render_whole, todo}
 use Rattle.handlebars.specs.Runs.{Outcome, Front, none, cut_off, more, Runs, done, refused, wrote, got, set, did, did_over, stop, cut, Means}
-use Rattle.handlebars.specs.Origins.{IsPart, nth, element_at, ComesFrom, HaveOrigins}
+use Rattle.handlebars.specs.Origins.{IsWithin, nth, element_at, ComesFrom, HaveOrigins}
 
-whole_part : (t : List ℕ) → IsPart t t
+whole_part : (t : List ℕ) → IsWithin t t
 whole_part t = record { left = []; right = []; is = sym (append-nil t) }
 
-begins_part : (a b t : List ℕ) → Begins a b → IsPart b t → IsPart a t
+begins_part : (a b t : List ℕ) → IsBeginning a b → IsWithin b t → IsWithin a t
 begins_part a b t c d = record {
   left = d.left;
   right = c.0 ++ d.right;
@@ -25,7 +25,7 @@ begins_part a b t c d = record {
 }
 
 module _ (p : Setting) (u : Tree) where
-  from_front : (o : Origin) (a b : List ℕ) → Begins a b → ComesFrom p u o b → ComesFrom p u o a
+  from_front : (o : Origin) (a b : List ℕ) → IsBeginning a b → ComesFrom p u o b → ComesFrom p u o a
   from_front (of_text site) a b c h = record { all = h.all; stands = h.stands; is = begins_part a b h.all c h.is }
   from_front (of_value site v) a b c h = record { helper = h.helper; stands = h.stands; has = h.has; is = begins_part a b (escaped (rendered v)) c h.is }
 
@@ -78,7 +78,7 @@ module _ (p : Setting) (u : Tree) where
   answer_good site c stands (gives v) has = show_good site c stands v has
   answer_good site c stands (refuses r) has = tt
 
-  one_good : (site : Site) (e : Element) → element_at u site ≡ Some e → Good (run (one p site e))
+  one_good : (site : Site) (e : Element) → element_at u site ≡ Some e → Good (run (render_element p site e))
   one_good site (raw_string t) h = put_good (of_text site) t (record { all = t; stands = h; is = whole_part t })
   one_good site (html_expression c) h = tt
   one_good site (expression c) h = answer_good site c h (value_of p.given c) refl
@@ -93,7 +93,7 @@ module _ (p : Setting) (u : Tree) where
   Stand : ℕ → Elements → Type 0
   Stand i es = (k : ℕ) → nth es k ≡ element_at u ((i + k) ∷ [])
 
-  each_good : (i : ℕ) (es : Elements) (places : List Place) → Stand i es → Good (run (each i es places))
+  each_good : (i : ℕ) (es : Elements) (places : List Place) → Stand i es → Good (run (render_elements i es places))
   unfolding Stand ◌>>◌
   each_good i no_elements places h = tt
   each_good i (element e es) places h =
@@ -103,13 +103,13 @@ module _ (p : Setting) (u : Tree) where
 stands_first : (n : Option (List ℕ)) (es : Elements) (places : List Place) (k : ℕ) → nth es k ≡ element_at (tree n es places) ((0 + k) ∷ [])
 stands_first n es places k = ap (λ (i : ℕ). nth es i) (omega arith)
 
-whole_good : (p : Setting) (t : Tree) → Good p t (run (whole t))
+whole_good : (p : Setting) (t : Tree) → Good p t (run (render_whole t))
 unfolding ◌>>=◌ ◌>>◌ Stand
 whole_good p (tree n es places) = λ s. each_good p (tree n es places) 0 es places (stands_first n es places)
 
 plan_good : (p : Setting) (u : Tree) (t : Task) → Held p u t → Good p u (todo p t)
 plan_good p u (One site place e) h = one_good p u site e h
-plan_good p u (Whole t) h = subst (λ (z : Tree). Good p u (run (whole z))) (sym h) (whole_good p u)
+plan_good p u (Whole t) h = subst (λ (z : Tree). Good p u (run (render_whole z))) (sym h) (whole_good p u)
 
 pub all_have_origins : (p : Setting) (t : Tree) (s : State) (ps : List Piece) (o : Outcome) → Means p t s ps o → HaveOrigins p t ps
 all_have_origins p t s ps o r = origins_of p t (plan_good p t) r (refl, tt)

@@ -4,7 +4,7 @@ use Rattle.std.specs.declared.io.Error.{Error}
 use Rattle.std.specs.declared.io.ErrorKind.TheVariants.{OutOfMemory}
 use Rattle.std.specs.IoError.{error_kind}
 use Rattle.handlebars_base.specs.Reasons.{out_of_memory}
-use Rattle.handlebars_base.specs.RenderFaults.{reason_in, fault_of}
+use Rattle.handlebars_base.specs.RenderRefusals.{reason_in, refusal_of}
 use Rattle.handlebars_base.specs.declared.error.render_error.RenderError.{RenderError}
 use Rattle.handlebars_scope.specs.Outputs.{write_reason}
 use Rattle.handlebars_scope.specs.Put.{join}
@@ -17,7 +17,7 @@ ended_so : {may : Error → Type 0} {before after : ℕ} {o : Outcome} {u : Unit
 ended_so (ended same) = refl
 
 refused_so : {may : Error → Type 0} {before after : ℕ} {o : Outcome} {e : RenderError} {next : State} → ((cause : Error) → may cause → error_kind cause ≡ OutOfMemory) → reason_in e ≢ out_of_memory
-    → Tells may before after o (Err e) next → o ≡ Refused (fault_of e)
+    → Tells may before after o (Err e) next → o ≡ Refused (refusal_of e)
 refused_so only other (refusal same) = refl
 refused_so only other (write_fault cause given count is) = absurd (other (is other ∙ ap write_reason (only cause given)))
 refused_so only other (no_memory same is) = absurd (other is)
@@ -30,7 +30,7 @@ module _ (p : Setting) (k : Steps) (may : Error → Type 0) where
     is = c.text ∙ ap (λ (xs : List ℕ). xs ++ join c.pieces) empty;
   }
 
-  pub refuses_string : {s next : State} {h new : Held} (e : RenderError) → ((cause : Error) → may cause → error_kind cause ≡ OutOfMemory) → reason_in e ≢ out_of_memory → CarriesOut p k may s h (Err e) next new → RefusesString p k s (fault_of e)
+  pub refuses_string : {s next : State} {h new : Held} (e : RenderError) → ((cause : Error) → may cause → error_kind cause ≡ OutOfMemory) → reason_in e ≢ out_of_memory → CarriesOut p k may s h (Err e) next new → RefusesString p k s (refusal_of e)
   refuses_string {s = s} e only other c = record {
     pieces = c.pieces;
     runs = subst (λ (o : Outcome). Runs p k s c.pieces o) (refused_so only other c.tells) c.runs;

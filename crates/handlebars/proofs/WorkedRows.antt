@@ -7,7 +7,7 @@ use Rattle.handlebars.specs.State.{first_state}
 use Rattle.handlebars.specs.Steps.{◌>>=◌, ◌>>◌}
 use Rattle.handlebars.specs.Runs.{done, refused, wrote, got, set, did, did_over}
 use Rattle.handlebars.specs.Answer.{not_compiled, rendered}
-use Rattle.handlebars.specs.Rows.{EmptyRow, ValueRow, MarkupRow, MissingRow, EscapedRow, FaultRow, UnclosedRow}
+use Rattle.handlebars.specs.Rows.{EmptyRow, ValueRow, MarkupRow, MissingRow, EscapedRow, RefusalRow, UnclosedRow}
 
 pub empty_row : EmptyRow
 unfolding ◌>>=◌ ◌>>◌
@@ -49,9 +49,9 @@ escaped_row = record {
   is = refl;
 }
 
-pub fault_row : FaultRow
+pub refusal_row : RefusalRow
 unfolding ◌>>=◌ ◌>>◌
-fault_row = rendered compiling.member_row (did_over (got (set (did (got (wrote (set done))) (did_over refused tt)))) tt)
+refusal_row = rendered compiling.member_row (did_over (got (set (did (got (wrote (set done))) (did_over refused tt)))) tt)
 
 pub unclosed_row : UnclosedRow
 unclosed_row given = not_compiled compiling.unclosed_row

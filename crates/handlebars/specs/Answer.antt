@@ -1,8 +1,8 @@
 -- What rendering a source over data answers.
 use Rattle.std.specs.Prelude.{◌≡◌, ℕ, List, []}
 use Rattle.serde_json.specs.Data.{Data}
-use Rattle.handlebars_base.specs.Reasons.{Fault, TemplateFault, of_template}
-use Rattle.handlebars_base.specs.RenderFaults.{plain_fault}
+use Rattle.handlebars_base.specs.Reasons.{Refusal, TemplateRefusal, of_template}
+use Rattle.handlebars_base.specs.RenderRefusals.{plain_refusal}
 use Rattle.handlebars_template.specs.Tree.{Tree}
 use Rattle.handlebars_template.specs.Compile.{Compiles, compiled, refused, no_options}
 use Rattle.handlebars_scope.specs.Put.{Piece, join}
@@ -13,7 +13,7 @@ use Rattle.handlebars.specs.Origins.{HaveOrigins}
 -- A source that doesn't compile is refused, and nothing is written. The tree of one that does means its answer, from
 -- the first state on.
 pub data RenderAnswers (source : List ℕ) (given : Data) : List Piece → Outcome → Type 0 where
-  not_compiled : {f : TemplateFault} → Compiles source no_options (refused f) → RenderAnswers source given [] (Refused (plain_fault (of_template f)))
+  not_compiled : {f : TemplateRefusal} → Compiles source no_options (refused f) → RenderAnswers source given [] (Refused (plain_refusal (of_template f)))
   rendered : {t : Tree} {ps : List Piece} {o : Outcome} → Compiles source no_options (compiled t) → Means (record { given = given }) t first_state ps o → RenderAnswers source given ps o
 
 -- The text is that of the answer, which ends well.
@@ -24,7 +24,7 @@ pub record GivesText (source : List ℕ) (given : Data) (text : List ℕ) : Type
   pub is : text ≡ join pieces
 
 -- The answer is a refusal for this reason, with this position and name, perhaps behind pieces.
-pub record RefusesWith (source : List ℕ) (given : Data) (f : Fault) : Type 0 where
+pub record RefusesWith (source : List ℕ) (given : Data) (f : Refusal) : Type 0 where
   pub pieces : List Piece
   pub answers : RenderAnswers source given pieces (Refused f)
 

@@ -2,7 +2,7 @@
 use Rattle.std.specs.Prelude.{ℕ, ◌+◌, Bool, true, false, ◌&&◌, if◌then◌else◌, List, [], ◌∷◌, Option, None, Some, slice_get}
 use Rattle.serde_json.specs.Data.{Data}
 use Rattle.handlebars_base.specs.Answers.{Answer, gives, refuses}
-use Rattle.handlebars_base.specs.Path.{written}
+use Rattle.handlebars_base.specs.Path.{raw_of}
 use Rattle.handlebars_base.specs.Reasons.{helper_not_found, decorator_not_found, partial_not_found}
 use Rattle.handlebars_base.specs.Values.{rendered}
 use Rattle.handlebars_template.specs.Place.{Place}
@@ -11,7 +11,7 @@ use Rattle.handlebars_scope.specs.Escape.{escaped}
 use Rattle.handlebars_scope.specs.Put.{Site, Origin, of_text, of_value, line_behind}
 use Rattle.handlebars_scope.specs.Resolve.{resolved}
 use Rattle.handlebars.specs.State.{Setting}
-use Rattle.handlebars.specs.Steps.{Task, One, Whole, Steps, Done, Do, Prog, return, ◌>>=◌, ◌>>◌, run, refuse, answer, write, state, become, part}
+use Rattle.handlebars.specs.Steps.{Task, One, Whole, Steps, Done, Do, Prog, return, ◌>>=◌, ◌>>◌, run, refuse, answer, write, state, become, perform}
 
 -- A text is written as one piece, and the line is then the one behind it. An empty text does nothing.
 abbrev pub put : Origin → List ℕ → Prog (Unit {0})
@@ -24,7 +24,7 @@ put o (b ∷ t) = do
 -- the text as written, of a name or a path; others have none
 abbrev pub written_text : Param → List ℕ
 written_text (name n) = n
-written_text (path r) = written r
+written_text (path r) = raw_of r
 written_text (literal d) = []
 written_text (subexpression e) = []
 
@@ -53,8 +53,8 @@ show site None = return tt
 show site (Some v) = put (of_value site v) (escaped (rendered v))
 
 -- an expression writes its value
-abbrev pub express : Data → Site → Call → Prog (Unit {0})
-express d site c = answer (value_of d c) >>= show site
+abbrev pub render_expression : Data → Site → Call → Prog (Unit {0})
+render_expression d site c = answer (value_of d c) >>= show site
 
 abbrev pub call_name : Call → List ℕ
 call_name (call n ps hs b t i x y z) = written_text n
@@ -63,36 +63,36 @@ abbrev pub decorator_name : Decorator → List ℕ
 decorator_name (decorator n ps hs t i x) = written_text n
 
 -- A text and an expression write, a comment does not. Blocks, decorators and inclusions find nothing registered.
-abbrev pub one : Setting → Site → Element → Prog (Unit {0})
-one p site (raw_string t) = put (of_text site) t
-one p site (html_expression c) = refuse (helper_not_found (call_name c))
-one p site (expression c) = express p.given site c
-one p site (helper_block c) = refuse (helper_not_found (call_name c))
-one p site (decorator_expression t) = refuse (decorator_not_found (decorator_name t))
-one p site (decorator_block t) = refuse (decorator_not_found (decorator_name t))
-one p site (partial_expression t) = refuse (partial_not_found (decorator_name t))
-one p site (partial_block t) = refuse (partial_not_found (decorator_name t))
-one p site (comment t) = return tt
+abbrev pub render_element : Setting → Site → Element → Prog (Unit {0})
+render_element p site (raw_string t) = put (of_text site) t
+render_element p site (html_expression c) = refuse (helper_not_found (call_name c))
+render_element p site (expression c) = render_expression p.given site c
+render_element p site (helper_block c) = refuse (helper_not_found (call_name c))
+render_element p site (decorator_expression t) = refuse (decorator_not_found (decorator_name t))
+render_element p site (decorator_block t) = refuse (decorator_not_found (decorator_name t))
+render_element p site (partial_expression t) = refuse (partial_not_found (decorator_name t))
+render_element p site (partial_block t) = refuse (partial_not_found (decorator_name t))
+render_element p site (comment t) = return tt
 
 -- elements in order, from an index on; some have a place
-abbrev pub each : ℕ → Elements → List Place → Prog (Unit {0})
-each i no_elements places = return tt
-each i (element e es) places = part (One (i ∷ []) (slice_get places i) e) >> each (i + 1) es places
+abbrev pub render_elements : ℕ → Elements → List Place → Prog (Unit {0})
+render_elements i no_elements places = return tt
+render_elements i (element e es) places = perform (One (i ∷ []) (slice_get places i) e) >> render_elements (i + 1) es places
 
 -- A tree makes its own name the current one, and then does its elements.
-abbrev pub whole : Tree → Prog (Unit {0})
-whole (tree n es places) = do
+abbrev pub render_whole : Tree → Prog (Unit {0})
+render_whole (tree n es places) = do
   s ← state
   become (record s { current = n })
-  each 0 es places
+  render_elements 0 es places
 
 abbrev pub plan : Setting → Task → Prog (Unit {0})
-plan p (One site place e) = one p site e
-plan p (Whole t) = whole t
+plan p (One site place e) = render_element p site e
+plan p (Whole t) = render_whole t
 
 abbrev pub todo : Setting → Task → Steps
 todo p t = run (plan p t)
 
 -- a run of a whole tree
-abbrev pub tree_steps : Tree → Steps
-tree_steps t = Do (Whole t) Done
+abbrev pub render_tree : Tree → Steps
+render_tree t = Do (Whole t) Done

@@ -11,7 +11,7 @@ use Rattle.handlebars.specs.State.{Setting}
 use Rattle.handlebars.specs.Means.{value_of}
 
 -- a text is a part of another
-pub record IsPart (text all : List ℕ) : Type 0 where
+pub record IsWithin (text all : List ℕ) : Type 0 where
   pub left : List ℕ
   pub right : List ℕ
   pub is : all ≡ left ++ (text ++ right)
@@ -31,14 +31,14 @@ element_at (tree n es places) (i ∷ j ∷ more) = None
 pub record IsOfText (t : Tree) (site : Site) (text : List ℕ) : Type 0 where
   pub all : List ℕ
   pub stands : element_at t site ≡ Some (raw_string all)
-  pub is : IsPart text all
+  pub is : IsWithin text all
 
 -- a part of the value that the expression at the site has, rendered and escaped
 pub record IsOfValue (p : Setting) (t : Tree) (site : Site) (value : Data) (text : List ℕ) : Type 0 where
   pub helper : Call
   pub stands : element_at t site ≡ Some (expression helper)
   pub has : value_of p.given helper ≡ gives (Some value)
-  pub is : IsPart text (escaped (rendered value))
+  pub is : IsWithin text (escaped (rendered value))
 
 abbrev pub ComesFrom : Setting → Tree → Origin → List ℕ → Type 0
 ComesFrom p t (of_text site) text = IsOfText t site text

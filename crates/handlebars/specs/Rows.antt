@@ -1,8 +1,8 @@
 -- Worked sources, each with its answer over data.
 use Rattle.std.specs.Prelude.{ℕ, List, [], ◌∷◌, ◌++◌, Some, None, codes}
 use Rattle.serde_json.specs.Data.{unsigned, Data, null, number, string, array, object, no_members, member, no_items, item}
-use Rattle.handlebars_base.specs.Reasons.{Fault, invalid_json_index, of_template}
-use Rattle.handlebars_base.specs.RenderFaults.{plain_fault}
+use Rattle.handlebars_base.specs.Reasons.{Refusal, invalid_json_index, of_template}
+use Rattle.handlebars_base.specs.RenderRefusals.{plain_refusal}
 use Rattle.handlebars_template.specs.Compile.{no_options, unreadable}
 use Rattle.handlebars_template.specs.Rows.{at, escaped_source}
 use Rattle.handlebars_scope.specs.Put.{of_text}
@@ -33,13 +33,13 @@ abbrev pub EscapedRow : Type 0
 EscapedRow = GivesText escaped_source (with (codes "a") (number (unsigned 1))) (codes "{{a}} " ++ (92 ∷ codes "1"))
 
 -- a name that is no index, at line 1 and column 2
-abbrev pub wrong_index : Fault
+abbrev pub wrong_index : Refusal
 wrong_index = record { reason = invalid_json_index (codes "x"); name = None; line = Some 1; column = Some 2 }
 
 -- The text before the fault is written.
-abbrev pub FaultRow : Type 0
-FaultRow = RenderAnswers (codes "x{{a.x}}") (with (codes "a") (array (item (number (unsigned 1)) no_items))) (record { origin = of_text (0 ∷ []); text = codes "x" } ∷ []) (Refused wrong_index)
+abbrev pub RefusalRow : Type 0
+RefusalRow = RenderAnswers (codes "x{{a.x}}") (with (codes "a") (array (item (number (unsigned 1)) no_items))) (record { origin = of_text (0 ∷ []); text = codes "x" } ∷ []) (Refused wrong_index)
 
 -- A source that doesn't compile is refused before anything is written, over any data.
 abbrev pub UnclosedRow : Type 0
-UnclosedRow = (given : Data) → RenderAnswers (codes "ab{{name") given [] (Refused (plain_fault (of_template (unreadable no_options (at 1 3)))))
+UnclosedRow = (given : Data) → RenderAnswers (codes "ab{{name") given [] (Refused (plain_refusal (of_template (unreadable no_options (at 1 3)))))

@@ -1,18 +1,18 @@
 -- How steps are carried out: the pieces that are written, and the outcome.
 use Rattle.std.specs.Prelude.{ℕ, List, [], ◌∷◌, ◌++◌, None, Some}
-use Rattle.handlebars_base.specs.Reasons.{Reason, Fault}
-use Rattle.handlebars_base.specs.RenderFaults.{plain_fault, name_if_none, place_if_none}
+use Rattle.handlebars_base.specs.Reasons.{Reason, Refusal}
+use Rattle.handlebars_base.specs.RenderRefusals.{plain_refusal, name_if_none, place_if_none}
 use Rattle.handlebars_template.specs.Tree.{Tree, tree}
-use Rattle.handlebars_scope.specs.Outputs.{Begins}
+use Rattle.handlebars_scope.specs.Outputs.{IsBeginning}
 use Rattle.handlebars_scope.specs.Put.{Piece}
 use Rattle.handlebars.specs.State.{Setting, State}
 use Rattle.handlebars.specs.Steps.{Task, One, Whole, Steps, Done, Refuse, Write, Get, Set, Do}
-use Rattle.handlebars.specs.Means.{todo, tree_steps}
+use Rattle.handlebars.specs.Means.{todo, render_tree}
 
 -- A run ends in a state or is refused. It may also stop on the way, for a fault of the output or for want of memory.
 pub data Outcome : Type 0 where
   Ended : State → Outcome
-  Refused : Fault → Outcome
+  Refused : Refusal → Outcome
   Faulted : Outcome
   NoMemory : Outcome
 
@@ -29,7 +29,7 @@ IsStop Faulted = Unit {0}
 IsStop NoMemory = Unit {0}
 
 -- An element that is refused gives the refusal its place, and a tree its name, where they have one and none is known.
-abbrev pub mark : Task → Fault → Fault
+abbrev pub mark : Task → Refusal → Refusal
 mark (One site None e) f = f
 mark (One site (Some p) e) f = place_if_none p.line p.column f
 mark (Whole (tree None es places)) f = f
@@ -44,13 +44,13 @@ marked t NoMemory = NoMemory
 -- the first of the pieces, the last of them perhaps in part
 pub data Front : List Piece → List Piece → Type 0 where
   none : {ps : List Piece} → Front [] ps
-  cut_off : {p : Piece} {text : List ℕ} {ps : List Piece} → Begins text p.text → Front (record p { text = text } ∷ []) (p ∷ ps)
+  cut_off : {p : Piece} {text : List ℕ} {ps : List Piece} → IsBeginning text p.text → Front (record p { text = text } ∷ []) (p ∷ ps)
   more : {p : Piece} {qs ps : List Piece} → Front qs ps → Front (p ∷ qs) (p ∷ ps)
 
 -- Runs p k s ps o: from the state s the steps k write the pieces ps and come to the outcome o.
 pub data Runs (p : Setting) : Steps → State → List Piece → Outcome → Type 0 where
   done : {s : State} → Runs p Done s [] (Ended s)
-  refused : {s : State} {r : Reason} → Runs p (Refuse r) s [] (Refused (plain_fault r))
+  refused : {s : State} {r : Reason} → Runs p (Refuse r) s [] (Refused (plain_refusal r))
   wrote : {s : State} {xs ps : List Piece} {k : Steps} {o : Outcome} → Runs p k s ps o → Runs p (Write xs k) s (xs ++ ps) o
   got : {s : State} {f : State → Steps} {ps : List Piece} {o : Outcome} → Runs p (f s) s ps o → Runs p (Get f) s ps o
   set : {s next : State} {k : Steps} {ps : List Piece} {o : Outcome} → Runs p k next ps o → Runs p (Set next k) s ps o
@@ -63,4 +63,4 @@ pub data Runs (p : Setting) : Steps → State → List Piece → Outcome → Typ
 
 -- the meaning of a tree
 abbrev pub Means : Setting → Tree → State → List Piece → Outcome → Type 0
-Means p t s ps o = Runs p (tree_steps t) s ps o
+Means p t s ps o = Runs p (render_tree t) s ps o

@@ -56,5 +56,5 @@ state = λ k. Get k
 abbrev pub become : State → Prog (Unit {0})
 become s = λ k. Set s (k tt)
 
-abbrev pub part : Task → Prog (Unit {0})
-part t = λ k. Do t (k tt)
+abbrev pub perform : Task → Prog (Unit {0})
+perform t = λ k. Do t (k tt)

@@ -2,8 +2,8 @@
 use Rattle.std.specs.Prelude.{◌≡◌, ◌≢◌, ℕ, Option, ◌+◌, ◌^◌, ◌<◌, List, ◌++◌, option_map, Result, Ok, Err, string_bytes, Bool}
 use Rattle.std.specs.declared.io.Error.{Error}
 use Rattle.std.specs.IoError.{error_kind}
-use Rattle.handlebars_base.specs.Reasons.{Fault, out_of_memory}
-use Rattle.handlebars_base.specs.RenderFaults.{reason_in, fault_of}
+use Rattle.handlebars_base.specs.Reasons.{Refusal, out_of_memory}
+use Rattle.handlebars_base.specs.RenderRefusals.{reason_in, refusal_of}
 use Rattle.handlebars_base.specs.declared.error.render_error.RenderError.{RenderError}
 use Rattle.handlebars_scope.specs.Outputs.{write_reason}
 use Rattle.handlebars_scope.specs.Put.{LineState, Piece, join}
@@ -38,7 +38,7 @@ held text faults = record { text = text; faults = faults }
 -- refusal has the run's reason, position and name; want of memory may come anywhere.
 pub data Tells (may : Error → Type 0) (before after : ℕ) : Outcome → Result (Unit {0}) RenderError → State → Type 0 where
   ended : {s : State} {u : Unit {0}} → after ≡ before → Tells may before after (Ended s) (Ok u) s
-  refusal : {s : State} {e : RenderError} → after ≡ before → Tells may before after (Refused (fault_of e)) (Err e) s
+  refusal : {s : State} {e : RenderError} → after ≡ before → Tells may before after (Refused (refusal_of e)) (Err e) s
   write_fault : {s : State} {e : RenderError} → (cause : Error) → may cause → (before + 1 < 2 ^ 64 → after ≡ before + 1)
       → (reason_in e ≢ out_of_memory → reason_in e ≡ write_reason (error_kind cause)) → Tells may before after Faulted (Err e) s
   no_memory : {s : State} {e : RenderError} → after ≡ before → reason_in e ≡ out_of_memory → Tells may before after NoMemory (Err e) s
@@ -59,6 +59,6 @@ pub record GivesString (p : Setting) (k : Steps) (s next : State) (text : List �
   pub is : text ≡ join pieces
 
 -- The steps are refused so from this state.
-pub record RefusesString (p : Setting) (k : Steps) (s : State) (f : Fault) : Type 0 where
+pub record RefusesString (p : Setting) (k : Steps) (s : State) (f : Refusal) : Type 0 where
   pub pieces : List Piece
   pub runs : Runs p k s pieces (Refused f)

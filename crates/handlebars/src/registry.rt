@@ -2,7 +2,7 @@
 
 ghost use Rattle.std.specs.Prelude.{◌≢◌, IfOk, IfErr, string_bytes};
 ghost use Rattle.handlebars_base.specs.Reasons.{out_of_memory};
-ghost use Rattle.handlebars_base.specs.RenderFaults.{fault_of, reason_in};
+ghost use Rattle.handlebars_base.specs.RenderRefusals.{refusal_of, reason_in};
 ghost use Rattle.handlebars_scope.specs.Contexts.{data_of};
 ghost use Rattle.handlebars.specs.Answer.{GivesText, RefusesWith, HasOneAnswer, AnswerHasOrigins};
 
@@ -38,7 +38,7 @@ impl Registry {
         ensures ok { IfOk result (λ text. GivesText source.now (data_of ctx.now) (string_bytes text)) }
 
         // A refusal, but for want of memory, is the definition's: its reason, its position and its name.
-        ensures err { IfErr result (λ e. reason_in e ≢ out_of_memory → RefusesWith source.now (data_of ctx.now) (fault_of e)) }
+        ensures err { IfErr result (λ e. reason_in e ≢ out_of_memory → RefusesWith source.now (data_of ctx.now) (refusal_of e)) }
 
         // There is one such answer, and each of its pieces comes from the source's tree and the data.
         ensures one { HasOneAnswer source.now (data_of ctx.now) }

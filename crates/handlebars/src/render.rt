@@ -2,12 +2,12 @@
 
 ghost use Rattle.std.specs.Prelude.{◌≡◌, ◌≢◌, ◌++◌, IfOk, IfErr, IsErrAnd, OnErr, OnOk, string_bytes, List, ℕ, true, false};
 ghost use Rattle.handlebars_base.specs.Reasons.{out_of_memory, failed};
-ghost use Rattle.handlebars_base.specs.RenderFaults.{fault_of, plain_fault, reason_in};
+ghost use Rattle.handlebars_base.specs.RenderRefusals.{refusal_of, plain_refusal, reason_in};
 ghost use Rattle.handlebars_template.specs.TreeView.{tree_view};
 ghost use Rattle.handlebars_scope.specs.Contexts.{data_of};
 ghost use Rattle.handlebars.specs.State.{Setting};
 ghost use Rattle.handlebars.specs.Steps.{Steps};
-ghost use Rattle.handlebars.specs.Means.{tree_steps};
+ghost use Rattle.handlebars.specs.Means.{render_tree};
 ghost use Rattle.handlebars.specs.View.{state_of, has_failed, held, CarriesOut, GivesString, RefusesString};
 ghost use Rattle.handlebars.specs.Laws.{OneRun, StopsInBeginning, AllHaveOrigins};
 
@@ -43,7 +43,7 @@ pub trait Renderable {
     ) -> Result<(), RenderError>
         ensures renders { has_failed rc.old ≡ false → CarriesOut (record { given = data_of data.now }) (steps self.now) O.may_give (state_of rc.old)
             (held (O.text out.old) (O.faults out.old)) result (state_of rc.new) (held (O.text out.new) (O.faults out.new)) }
-        ensures failed { has_failed rc.old ≡ true → IsErrAnd result (λ e. fault_of e ≡ plain_fault failed) × (rc.new ≡ rc.old)
+        ensures failed { has_failed rc.old ≡ true → IsErrAnd result (λ e. refusal_of e ≡ plain_refusal failed) × (rc.new ≡ rc.old)
             × (O.text out.new ≡ O.text out.old) × (O.faults out.new ≡ O.faults out.old) }
         ensures ok { OnOk result (has_failed rc.new ≡ false) }
         ensures err { OnErr result (has_failed rc.new ≡ true) };
@@ -58,14 +58,14 @@ pub trait Renderable {
         log: &L,
     ) -> Result<String, RenderError>
         ensures ok { IfOk result (λ text. (has_failed rc.old ≡ false) × GivesString (record { given = data_of data.now }) (steps self.now) (state_of rc.old) (state_of rc.new) (string_bytes text)) }
-        ensures err { IfErr result (λ e. has_failed rc.old ≡ false → reason_in e ≢ out_of_memory → RefusesString (record { given = data_of data.now }) (steps self.now) (state_of rc.old) (fault_of e)) }
-        ensures failed { has_failed rc.old ≡ true → IsErrAnd result (λ e. fault_of e ≡ plain_fault failed) × (rc.new ≡ rc.old) }
+        ensures err { IfErr result (λ e. has_failed rc.old ≡ false → reason_in e ≢ out_of_memory → RefusesString (record { given = data_of data.now }) (steps self.now) (state_of rc.old) (refusal_of e)) }
+        ensures failed { has_failed rc.old ≡ true → IsErrAnd result (λ e. refusal_of e ≡ plain_refusal failed) × (rc.new ≡ rc.old) }
         ensures kept { OnOk result (has_failed rc.new ≡ false) }
         ensures fails { OnErr result (has_failed rc.new ≡ true) };
 }
 
 impl Renderable for Template {
-    ghost steps = { λ t. tree_steps (tree_view t) };
+    ghost steps = { λ t. render_tree (tree_view t) };
 
     fn render<L: Log, O: Output>(
         &self,

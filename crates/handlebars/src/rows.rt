@@ -1,6 +1,6 @@
 //! Worked sources.
 
-ghost use Rattle.handlebars.specs.Rows.{EmptyRow, ValueRow, MarkupRow, MissingRow, EscapedRow, FaultRow, UnclosedRow};
+ghost use Rattle.handlebars.specs.Rows.{EmptyRow, ValueRow, MarkupRow, MissingRow, EscapedRow, RefusalRow, UnclosedRow};
 
 /// What some sources answer over some data.
 pub fn worked_rows()
@@ -9,6 +9,6 @@ pub fn worked_rows()
     ensures markup { MarkupRow }
     ensures missing { MissingRow }
     ensures escaped { EscapedRow }
-    ensures fault { FaultRow }
+    ensures refusal { RefusalRow }
     ensures unclosed { UnclosedRow }
 {}

@@ -6,7 +6,7 @@ use Rattle.std.specs.Str.{IsCharBoundary}
 use Rattle.std.proofs.lemmas.Bool.{or_parts, eqb-true, ne_eqb, ltb-true, ltb-false, cases_Bool}
 use Rattle.std.proofs.lemmas.Option.{cond_some}
 use Rattle.handlebars_base.specs.PathReading.{is_reference_byte, one_more, reference_from, reference_len}
-use Rattle.handlebars_base.proofs.OptionSteps.{cond_none}
+use Rattle.handlebars_base.proofs.OptionBinds.{cond_none}
 use Rattle.handlebars_base.proofs.PathScan.{no_symbol_ascii}
 
 -- ---- in brackets
@@ -41,7 +41,7 @@ inside_open (x ∷ xs) le =
           rw other (ap one_more (inside_open xs behind))
     ]
 
--- ---- one piece, and the rest
+-- ---- one part, and the rest
 
 pub reference_len-none : (t : List ℕ) → length t ≡ 0 → reference_len t ≡ 0
 unfolding reference_from

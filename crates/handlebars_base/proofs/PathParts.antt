@@ -1,4 +1,4 @@
--- A part, and a step: what is read is spelled so.
+-- A part, and a link: what is read is spelled so.
 use Rattle.std.proofs.Common.{◌≡◌, ◌≢◌, ℕ, suc, ◌+◌, ◌<◌, Bool, true, false, cond, not, ◌||◌, ltb, List, [], ◌∷◌, ◌++◌, length, get_or, take, Some, None, refl, sym, ap, subst, ◌∙◌, append_assoc, arith, ◌⊎◌, inl, inr}
 use Rattle.std.specs.Prelude.{◌==◌}
 use Rattle.std.specs.List.{prefix_len, position_or_len, before_first, after_first, AllByRecursion}
@@ -6,9 +6,9 @@ use Rattle.std.proofs.lemmas.Bool.{eqb-true, ltb-true, or_parts, or_cases, and_p
 use Rattle.std.proofs.lemmas.Option.{cond_some}
 use Rattle.std.proofs.lemmas.List.{take-append-drop, length-take}
 use Rattle.std.proofs.lemmas.List.Sums.{prefix_len-le-length, prefix_len_stops, split_at_first}
-use Rattle.handlebars_base.specs.Path.{is_symbol, Part, dots, plain, bracketed, spelled_part, IsPart, is_dots, Step, joins}
-use Rattle.handlebars_base.specs.PathReading.{◌>>=◌, with_or, after, symbols_of, behind_symbols, bracketed_at, plain_at, part_at, step_by, slash_step, dot_step, step_at}
-use Rattle.handlebars_base.proofs.OptionSteps.{bind_some, with_or_is, guard_some}
+use Rattle.handlebars_base.specs.Path.{is_symbol, Part, dots, plain, bracketed, spelled_part, IsPart, is_dots, Link, joins}
+use Rattle.handlebars_base.specs.PathReading.{◌>>=◌, with_or, after, symbols_of, behind_symbols, bracketed_at, plain_at, part_at, link_by, slash_link, dot_link, link_at}
+use Rattle.handlebars_base.proofs.OptionBinds.{bind_some, with_or_is, guard_some}
 
 -- ---- marks and runs
 
@@ -92,9 +92,9 @@ part_takes t x e =
       ]
     ]
 
--- ---- steps
+-- ---- links
 
-pub record TakesStep (before : Bool) (t : List ℕ) (q : Step × List ℕ) : Type 0 where
+pub record TakesLink (before : Bool) (t : List ℕ) (q : Link × List ℕ) : Type 0 where
   pub parts : t ≡ q.0.sep ∷ (spelled_part q.0.part ++ q.1)
   pub joined : joins before q.0.sep (is_dots q.0.part) ≡ true
   pub fits : IsPart q.0.part
@@ -102,26 +102,26 @@ pub record TakesStep (before : Bool) (t : List ℕ) (q : Step × List ℕ) : Typ
 dot_joins : (before behind : Bool) → before ≡ false → behind ≡ false → joins before 46 behind ≡ true
 dot_joins before behind x y = rw (x, y) refl
 
-pub step_takes : (before : Bool) (t : List ℕ) (q : Step × List ℕ) → step_at before t ≡ Some q → TakesStep before t q
-unfolding step_at
-step_takes before t q e =
-    elim (with_or_is (after 47 t) slash_step (after 46 t >>= dot_step before) (Some q) e) [
+pub link_takes : (before : Bool) (t : List ℕ) (q : Link × List ℕ) → link_at before t ≡ Some q → TakesLink before t q
+unfolding link_at
+link_takes before t q e =
+    elim (with_or_is (after 47 t) slash_link (after 46 t >>= dot_link before) (Some q) e) [
       | inl slash ↦
-          let b = bind_some (part_at slash.0) (λ p. Some (step_by 47 p)) q slash.2 in
+          let b = bind_some (part_at slash.0) (λ p. Some (link_by 47 p)) q slash.2 in
           let taken = part_takes slash.0 b.0 b.1 in
-          let made : step_by 47 b.0 ≡ q = cc in
-          subst (λ (y : Step × List ℕ). TakesStep before t y) made (record {
+          let made : link_by 47 b.0 ≡ q = cc in
+          subst (λ (y : Link × List ℕ). TakesLink before t y) made (record {
             parts = after_takes 47 t slash.0 slash.1 ∙ ap (λ (r : List ℕ). 47 ∷ r) taken.parts;
             joined = refl;
             fits = taken.fits;
           })
       | inr other ↦
-          let a = bind_some (after 46 t) (dot_step before) q other.1 in
-          let b = bind_some (part_at a.0) (λ p. cond (before || is_dots p.0) None (Some (step_by 46 p))) q a.2 in
-          let g = guard_some (before || is_dots b.0.0) (step_by 46 b.0) q b.2 in
+          let a = bind_some (after 46 t) (dot_link before) q other.1 in
+          let b = bind_some (part_at a.0) (λ p. cond (before || is_dots p.0) None (Some (link_by 46 p))) q a.2 in
+          let g = guard_some (before || is_dots b.0.0) (link_by 46 b.0) q b.2 in
           let neither = or_parts before (is_dots b.0.0) g.0 in
           let taken = part_takes a.0 b.0 b.1 in
-          subst (λ (y : Step × List ℕ). TakesStep before t y) g.1 (record {
+          subst (λ (y : Link × List ℕ). TakesLink before t y) g.1 (record {
             parts = after_takes 46 t a.0 a.1 ∙ ap (λ (r : List ℕ). 46 ∷ r) taken.parts;
             joined = dot_joins before (is_dots b.0.0) neither.0 neither.1;
             fits = taken.fits;

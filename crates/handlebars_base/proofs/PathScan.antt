@@ -8,7 +8,7 @@ use Rattle.std.proofs.lemmas.List.Sums.{prefix_len-le-length, prefix_len_stops}
 use Rattle.std.proofs.lemmas.Option.{cond_some}
 use Rattle.handlebars_base.specs.Path.{is_symbol, ups}
 use Rattle.handlebars_base.specs.PathReading.{is_up_mark, after_up, ups_at}
-use Rattle.handlebars_base.proofs.OptionSteps.{cond_none}
+use Rattle.handlebars_base.proofs.OptionBinds.{cond_none}
 
 -- ---- symbols
 

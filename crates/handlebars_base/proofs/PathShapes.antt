@@ -11,38 +11,38 @@ use Rattle.std.specs.Prelude.{IfSome, IsNone, ◌↔◌}
 use Rattle.std.specs.Option.{option_map}
 use Rattle.handlebars_base.specs.declared.json.path.Path.{Path}
 use Rattle.handlebars_base.specs.PathView.{reference_of}
-use Rattle.handlebars_base.specs.Path.{Reference, meaning, IsPath, is_symbol, IsIdentifier, Part, dots, plain, bracketed, spelled_part, IsPart, is_dots, Step, spelled_steps, AreSteps, ups, Shape, dot, at_root, at_name, in_parts, spelled, IsShape}
-use Rattle.handlebars_base.specs.PathReading.{◌>>=◌, with_or, after, is_up_mark, after_up, ups_at, symbols_of, behind_symbols, part_at, step_at, steps_at, steps_of, is_no_name, at_shape, at_of, parts_of, dotted_of, shape_of}
-use Rattle.handlebars_base.proofs.OptionSteps.{bind_some, with_or_is, guard_bind, cond_is, map_some}
-use Rattle.handlebars_base.proofs.PathParts.{after_takes, prefix_pass, part_takes, step_takes}
+use Rattle.handlebars_base.specs.Path.{Reference, meaning, IsPath, is_symbol, IsIdentifier, Part, dots, plain, bracketed, spelled_part, IsPart, is_dots, Link, spelled_links, AreLinks, ups, Shape, dot, at_root, at_name, in_parts, spelled, IsShape}
+use Rattle.handlebars_base.specs.PathReading.{◌>>=◌, with_or, after, is_up_mark, after_up, ups_at, symbols_of, behind_symbols, part_at, link_at, links_at, links_of, is_no_name, at_shape, at_of, parts_of, dotted_of, shape_of}
+use Rattle.handlebars_base.proofs.OptionBinds.{bind_some, with_or_is, guard_bind, cond_is, map_some}
+use Rattle.handlebars_base.proofs.PathParts.{after_takes, prefix_pass, part_takes, link_takes}
 use Rattle.handlebars_base.proofs.PathScan.{ups_again, after_up_other}
-use Rattle.handlebars_base.proofs.PathSpelled.{prefix_again, not_symbol, after_other, part_again, steps_stop, steps_of_again}
+use Rattle.handlebars_base.proofs.PathSpelled.{prefix_again, not_symbol, after_other, part_again, links_stop, links_of_again}
 
 -- ---- what is read is spelled so
 
-steps_take : (n : ℕ) (before : Bool) (t : List ℕ) (ss : List Step) → steps_at n before t ≡ Some ss →
-    (t ≡ spelled_steps ss) × AreSteps before ss
-unfolding steps_at
-steps_take zero before t ss e = absurd cc
-steps_take (suc n) before [] ss e =
+links_take : (n : ℕ) (before : Bool) (t : List ℕ) (ss : List Link) → links_at n before t ≡ Some ss →
+    (t ≡ spelled_links ss) × AreLinks before ss
+unfolding links_at
+links_take zero before t ss e = absurd cc
+links_take (suc n) before [] ss e =
     let made : [] ≡ ss = cc in
-    subst (λ (ys : List Step). ([] ≡ spelled_steps ys) × AreSteps before ys) made (refl, tt)
-steps_take (suc n) before (s ∷ t) ss e =
-    let a = bind_some (step_at before (s ∷ t)) (λ q. steps_at n (is_dots q.0.part) q.1 >>= λ ss. Some (q.0 ∷ ss)) ss e in
-    let b = bind_some (steps_at n (is_dots a.0.0.part) a.0.1) (λ ss. Some (a.0.0 ∷ ss)) ss a.2 in
-    let taken = step_takes before (s ∷ t) a.0 a.1 in
-    let others = steps_take n (is_dots a.0.0.part) a.0.1 b.0 b.1 in
+    subst (λ (ys : List Link). ([] ≡ spelled_links ys) × AreLinks before ys) made (refl, tt)
+links_take (suc n) before (s ∷ t) ss e =
+    let a = bind_some (link_at before (s ∷ t)) (λ q. links_at n (is_dots q.0.part) q.1 >>= λ ss. Some (q.0 ∷ ss)) ss e in
+    let b = bind_some (links_at n (is_dots a.0.0.part) a.0.1) (λ ss. Some (a.0.0 ∷ ss)) ss a.2 in
+    let taken = link_takes before (s ∷ t) a.0 a.1 in
+    let others = links_take n (is_dots a.0.0.part) a.0.1 b.0 b.1 in
     let last = b.2 in
     let made : a.0.0 ∷ b.0 ≡ ss = cc in
-    subst (λ (ys : List Step). (s ∷ t ≡ spelled_steps ys) × AreSteps before ys) made (
+    subst (λ (ys : List Link). (s ∷ t ≡ spelled_links ys) × AreLinks before ys) made (
       taken.parts ∙ ap (λ (r : List ℕ). a.0.0.sep ∷ (spelled_part a.0.0.part ++ r)) others.0,
       (taken.joined, taken.fits, others.1),
     )
 
-steps_of_take : (before : Bool) (t : List ℕ) (ss : List Step) → steps_of before t ≡ Some ss →
-    (t ≡ spelled_steps ss) × AreSteps before ss
-unfolding steps_of
-steps_of_take before t ss e = steps_take (length t + 1) before t ss e
+links_of_take : (before : Bool) (t : List ℕ) (ss : List Link) → links_of before t ≡ Some ss →
+    (t ≡ spelled_links ss) × AreLinks before ss
+unfolding links_of
+links_of_take before t ss e = links_take (length t + 1) before t ss e
 
 ups_take : (n : ℕ) (t : List ℕ) → (k : ℕ) × (t ≡ ups k ++ (ups_at n t).1) × ((ups_at n t).0 ≡ n + k)
 unfolding ups_at
@@ -69,33 +69,33 @@ pub record TakesShape (t : List ℕ) (s : Shape) : Type 0 where
   pub spells : t ≡ spelled s
   pub fits : IsShape s
 
-root_or_name : (b : Bool) (name : List ℕ) (ss : List Step) → bytes_eq name (codes "root") ≡ b → IsIdentifier name →
-    bytes_eq name (codes "this") ≡ false → AreSteps false ss →
-    TakesShape (64 ∷ (name ++ spelled_steps ss)) (cond b (at_root ss) (at_name 0 name ss))
+root_or_name : (b : Bool) (name : List ℕ) (ss : List Link) → bytes_eq name (codes "root") ≡ b → IsIdentifier name →
+    bytes_eq name (codes "this") ≡ false → AreLinks false ss →
+    TakesShape (64 ∷ (name ++ spelled_links ss)) (cond b (at_root ss) (at_name 0 name ss))
 root_or_name true name ss is_root id this fits =
     let root = (bytes_eq-Decides name (codes "root")).0 is_root in
-    record { spells = ap (λ (n : List ℕ). 64 ∷ (n ++ spelled_steps ss)) root; fits = fits }
+    record { spells = ap (λ (n : List ℕ). 64 ∷ (n ++ spelled_links ss)) root; fits = fits }
 root_or_name false name ss is_root id this fits = record { spells = refl; fits = (id, this, is_root, fits) }
 
 not_zero : (n : ℕ) → (suc n == 0) ≡ false
 not_zero n = ne_eqb (suc n) 0 (λ e. absurd (omega arith))
 
-shape_fits : (n : ℕ) (name : List ℕ) (ss : List Step) → IsIdentifier name → bytes_eq name (codes "this") ≡ false →
-    AreSteps false ss →
-    TakesShape (64 ∷ (ups n ++ (name ++ spelled_steps ss))) (at_shape n name ss)
+shape_fits : (n : ℕ) (name : List ℕ) (ss : List Link) → IsIdentifier name → bytes_eq name (codes "this") ≡ false →
+    AreLinks false ss →
+    TakesShape (64 ∷ (ups n ++ (name ++ spelled_links ss))) (at_shape n name ss)
 shape_fits zero name ss id this fits = root_or_name (bytes_eq name (codes "root")) name ss refl id this fits
 shape_fits (suc n) name ss id this fits = rw (not_zero n) (record { spells = refl; fits = (id, this, fits) })
 
 name_takes : (n : ℕ) (r : List ℕ) (s : Shape) → at_of (n, r) ≡ Some s → TakesShape (64 ∷ (ups n ++ r)) s
 unfolding at_of
 name_takes n r s e =
-    let g = guard_bind (is_no_name (symbols_of r)) (steps_of false (behind_symbols r) >>= λ ss. Some (at_shape n (symbols_of r) ss)) s e in
+    let g = guard_bind (is_no_name (symbols_of r)) (links_of false (behind_symbols r) >>= λ ss. Some (at_shape n (symbols_of r) ss)) s e in
     let tests = or_parts (bytes_eq (symbols_of r) []) (bytes_eq (symbols_of r) (codes "this")) g.0 in
-    let b = bind_some (steps_of false (behind_symbols r)) (λ ss. Some (at_shape n (symbols_of r) ss)) s g.1 in
-    let others = steps_of_take false (behind_symbols r) b.0 b.1 in
+    let b = bind_some (links_of false (behind_symbols r)) (λ ss. Some (at_shape n (symbols_of r) ss)) s g.1 in
+    let others = links_of_take false (behind_symbols r) b.0 b.1 in
     let id : IsIdentifier (symbols_of r) =
     (λ none. both_ways (bytes_eq (symbols_of r) []) tests.0 ((bytes_eq-Decides (symbols_of r) []).1 none), prefix_pass is_symbol r) in
-    let whole : r ≡ symbols_of r ++ spelled_steps b.0 =
+    let whole : r ≡ symbols_of r ++ spelled_links b.0 =
     sym (take-append-drop (prefix_len is_symbol r) r) ∙ ap (λ (x : List ℕ). symbols_of r ++ x) others.0 in
     subst (λ (v : Shape). TakesShape (64 ∷ (ups n ++ r)) v) (same_Some _ s b.2)
     (subst (λ (x : List ℕ). TakesShape (64 ∷ (ups n ++ x)) (at_shape n (symbols_of r) b.0)) (sym whole)
@@ -109,14 +109,14 @@ at_takes t s e =
     subst (λ (x : List ℕ). TakesShape (64 ∷ x) s) (sym whole) (name_takes (ups_at 0 t).0 (ups_at 0 t).1 s e)
 
 parts_take : (t : List ℕ) (dotted : Bool) (s : Shape) → parts_of dotted t ≡ Some s →
-    (p : Part) × (ss : List Step) × (s ≡ in_parts dotted p ss) × (t ≡ spelled_part p ++ spelled_steps ss) ×
+    (p : Part) × (ss : List Link) × (s ≡ in_parts dotted p ss) × (t ≡ spelled_part p ++ spelled_links ss) ×
     IsShape (in_parts dotted p ss)
 unfolding parts_of
 parts_take t dotted s e =
-    let a = bind_some (part_at t) (λ p. steps_of (is_dots p.0) p.1 >>= λ ss. Some (in_parts dotted p.0 ss)) s e in
-    let b = bind_some (steps_of (is_dots a.0.0) a.0.1) (λ ss. Some (in_parts dotted a.0.0 ss)) s a.2 in
+    let a = bind_some (part_at t) (λ p. links_of (is_dots p.0) p.1 >>= λ ss. Some (in_parts dotted p.0 ss)) s e in
+    let b = bind_some (links_of (is_dots a.0.0) a.0.1) (λ ss. Some (in_parts dotted a.0.0 ss)) s a.2 in
     let first = part_takes t a.0 a.1 in
-    let others = steps_of_take (is_dots a.0.0) a.0.1 b.0 b.1 in
+    let others = links_of_take (is_dots a.0.0) a.0.1 b.0 b.1 in
     let last = b.2 in
     let made : s ≡ in_parts dotted a.0.0 b.0 = cc in
     let whole = first.parts ∙ ap (λ (r : List ℕ). spelled_part a.0.0 ++ r) others.0 in
@@ -157,20 +157,20 @@ shape_takes t s e =
 
 -- ---- what is spelled so is read
 
-parts_again : (dotted : Bool) (p : Part) (ss : List Step) → IsPart p → AreSteps (is_dots p) ss →
-    parts_of dotted (spelled_part p ++ spelled_steps ss) ≡ Some (in_parts dotted p ss)
+parts_again : (dotted : Bool) (p : Part) (ss : List Link) → IsPart p → AreLinks (is_dots p) ss →
+    parts_of dotted (spelled_part p ++ spelled_links ss) ≡ Some (in_parts dotted p ss)
 unfolding parts_of
-parts_again dotted p ss fits steps =
-    rw (part_again p (spelled_steps ss) fits (steps_stop (is_dots p) ss steps), steps_of_again (is_dots p) ss steps) refl
+parts_again dotted p ss fits links =
+    rw (part_again p (spelled_links ss) fits (links_stop (is_dots p) ss links), links_of_again (is_dots p) ss links) refl
 
-dotted_again : (p : Part) (ss : List Step) → IsPart p → AreSteps (is_dots p) ss →
-    dotted_of (spelled_part p ++ spelled_steps ss) ≡ Some (in_parts false p ss)
+dotted_again : (p : Part) (ss : List Link) → IsPart p → AreLinks (is_dots p) ss →
+    dotted_of (spelled_part p ++ spelled_links ss) ≡ Some (in_parts false p ss)
 unfolding dotted_of after
-dotted_again dots ss fits steps = parts_again false dots ss fits steps
-dotted_again (plain []) ss fits steps = absurd (fits.0 refl)
-dotted_again (plain (x ∷ xs)) ss fits steps =
-    rw (not_symbol x 46 fits.1.0 refl) (parts_again false (plain (x ∷ xs)) ss fits steps)
-dotted_again (bracketed n) ss fits steps = parts_again false (bracketed n) ss fits steps
+dotted_again dots ss fits links = parts_again false dots ss fits links
+dotted_again (plain []) ss fits links = absurd (fits.0 refl)
+dotted_again (plain (x ∷ xs)) ss fits links =
+    rw (not_symbol x 46 fits.1.0 refl) (parts_again false (plain (x ∷ xs)) ss fits links)
+dotted_again (bracketed n) ss fits links = parts_again false (bracketed n) ss fits links
 
 no_at : (p : Part) (rest : List ℕ) → IsPart p → after 64 (spelled_part p ++ rest) ≡ None
 unfolding after
@@ -179,28 +179,28 @@ no_at (plain []) rest fits = absurd (fits.0 refl)
 no_at (plain (x ∷ xs)) rest fits = after_other 64 x (xs ++ rest) (not_symbol x 64 fits.1.0 refl)
 no_at (bracketed n) rest fits = refl
 
-name_again : (n : ℕ) (name : List ℕ) (ss : List Step) → IsIdentifier name → bytes_eq name (codes "this") ≡ false →
-    AreSteps false ss →
-    at_of (n, name ++ spelled_steps ss) ≡ Some (at_shape n name ss)
+name_again : (n : ℕ) (name : List ℕ) (ss : List Link) → IsIdentifier name → bytes_eq name (codes "this") ≡ false →
+    AreLinks false ss →
+    at_of (n, name ++ spelled_links ss) ≡ Some (at_shape n name ss)
 unfolding at_of
 name_again n name ss id this fits =
-    let len = prefix_again is_symbol name (spelled_steps ss) id.1 (steps_stop false ss fits) in
-    let front = take_at name (spelled_steps ss) (length name) refl in
-    let rest = drop_at name (spelled_steps ss) (length name) refl in
+    let len = prefix_again is_symbol name (spelled_links ss) id.1 (links_stop false ss fits) in
+    let front = take_at name (spelled_links ss) (length name) refl in
+    let rest = drop_at name (spelled_links ss) (length name) refl in
     let some : bytes_eq name [] ≡ false =
     false_from_ne_true (bytes_eq name []) (λ e. id.0 ((bytes_eq-Decides name []).0 e)) in
-    rw (len, front, rest, some, this, steps_of_again false ss fits) refl
+    rw (len, front, rest, some, this, links_of_again false ss fits) refl
 
 not_up : (name rest : List ℕ) → IsIdentifier name → after_up (name ++ rest) ≡ None
 not_up [] rest id = absurd (id.0 refl)
 not_up (x ∷ xs) rest id = after_up_other x (xs ++ rest) (not_symbol x 46 id.1.0 refl)
 
-at_again : (n : ℕ) (name : List ℕ) (ss : List Step) → IsIdentifier name → bytes_eq name (codes "this") ≡ false →
-    AreSteps false ss →
-    at_of (ups_at 0 (ups n ++ (name ++ spelled_steps ss))) ≡ Some (at_shape n name ss)
+at_again : (n : ℕ) (name : List ℕ) (ss : List Link) → IsIdentifier name → bytes_eq name (codes "this") ≡ false →
+    AreLinks false ss →
+    at_of (ups_at 0 (ups n ++ (name ++ spelled_links ss))) ≡ Some (at_shape n name ss)
 at_again n name ss id this fits =
-    let rest = name ++ spelled_steps ss in
-    let level = ups_again n 0 rest (not_up name (spelled_steps ss) id) ∙ ap (λ (m : ℕ). (m, rest)) (omega arith) in
+    let rest = name ++ spelled_links ss in
+    let level = ups_again n 0 rest (not_up name (spelled_links ss) id) ∙ ap (λ (m : ℕ). (m, rest)) (omega arith) in
     ap at_of level ∙ name_again n name ss id this fits
 
 pub shape_again : (s : Shape) → IsShape s → shape_of (spelled s) ≡ Some s
@@ -211,7 +211,7 @@ shape_again (at_root ss) fits =
 shape_again (at_name zero name ss) fits = at_again 0 name ss fits.0 fits.1 fits.3 ∙ rw fits.2 refl
 shape_again (at_name (suc n) name ss) fits = at_again (suc n) name ss fits.0 fits.1 fits.2 ∙ rw (not_zero n) refl
 shape_again (in_parts true p ss) fits = parts_again true p ss fits.0 fits.1
-shape_again (in_parts false p ss) fits = rw (no_at p (spelled_steps ss) fits.0) (dotted_again p ss fits.0 fits.1)
+shape_again (in_parts false p ss) fits = rw (no_at p (spelled_links ss) fits.0) (dotted_again p ss fits.0 fits.1)
 
 -- ---- in the words of the contract
 

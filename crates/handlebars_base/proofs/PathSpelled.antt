@@ -1,11 +1,11 @@
--- A part, and a step: what is spelled so is read.
+-- A part, and a link: what is spelled so is read.
 use Rattle.std.proofs.Common.{◌≡◌, ℕ, zero, suc, ◌+◌, ◌<◌, ◌≤◌, Bool, true, false, not, ltb, List, [], ◌∷◌, ◌++◌, length, drop, Some, None, refl, sym, ap, subst, ◌∙◌, append_assoc, arith, inl, inr, length-append}
 use Rattle.std.specs.Prelude.{◌==◌}
 use Rattle.std.specs.List.{prefix_len, AllByRecursion}
 use Rattle.std.proofs.lemmas.Bool.{ne_eqb, lt-ltb}
 use Rattle.std.proofs.lemmas.List.{take_at, drop_at, nil_from_length}
-use Rattle.handlebars_base.specs.Path.{is_symbol, IsIdentifier, Part, dots, plain, bracketed, spelled_part, IsPart, is_dots, Step, spelled_steps, AreSteps, joins}
-use Rattle.handlebars_base.specs.PathReading.{after, bracketed_at, plain_at, part_at, step_at, steps_at, steps_of}
+use Rattle.handlebars_base.specs.Path.{is_symbol, IsIdentifier, Part, dots, plain, bracketed, spelled_part, IsPart, is_dots, Link, spelled_links, AreLinks, joins}
+use Rattle.handlebars_base.specs.PathReading.{after, bracketed_at, plain_at, part_at, link_at, links_at, links_of}
 use Rattle.handlebars_base.proofs.PathParts.{joins_cases}
 
 -- ---- runs and marks
@@ -56,52 +56,52 @@ part_again (plain (x ∷ xs)) rest fits stop =
     rw (no_point, no_bracket) (plain_again (x ∷ xs) rest fits stop)
 part_again (bracketed n) rest fits stop = ap bracketed_at (append_assoc n (93 ∷ []) rest) ∙ bracketed_again n rest fits
 
--- ---- steps
+-- ---- links
 
 by_slash : (before : Bool) (p : Part) (rest : List ℕ) → IsPart p → prefix_len is_symbol rest ≡ 0 →
-    step_at before (47 ∷ (spelled_part p ++ rest)) ≡ Some (record { sep = 47; part = p }, rest)
-unfolding step_at after
+    link_at before (47 ∷ (spelled_part p ++ rest)) ≡ Some (record { sep = 47; part = p }, rest)
+unfolding link_at after
 by_slash before p rest fits stop = rw (part_again p rest fits stop) refl
 
 by_dot : (before : Bool) (p : Part) (rest : List ℕ) → IsPart p → prefix_len is_symbol rest ≡ 0 → before ≡ false →
-    is_dots p ≡ false → step_at before (46 ∷ (spelled_part p ++ rest)) ≡ Some (record { sep = 46; part = p }, rest)
-unfolding step_at after
+    is_dots p ≡ false → link_at before (46 ∷ (spelled_part p ++ rest)) ≡ Some (record { sep = 46; part = p }, rest)
+unfolding link_at after
 by_dot before p rest fits stop a b = rw (part_again p rest fits stop, a, b) refl
 
-pub step_again : (before : Bool) (s : Step) (rest : List ℕ) → joins before s.sep (is_dots s.part) ≡ true → IsPart s.part →
-    prefix_len is_symbol rest ≡ 0 → step_at before (s.sep ∷ (spelled_part s.part ++ rest)) ≡ Some (s, rest)
-step_again before s rest joined fits stop =
-    let at : ℕ → Type 0 = λ c. step_at before (c ∷ (spelled_part s.part ++ rest)) ≡ Some (record { sep = c; part = s.part }, rest) in
+pub link_again : (before : Bool) (s : Link) (rest : List ℕ) → joins before s.sep (is_dots s.part) ≡ true → IsPart s.part →
+    prefix_len is_symbol rest ≡ 0 → link_at before (s.sep ∷ (spelled_part s.part ++ rest)) ≡ Some (s, rest)
+link_again before s rest joined fits stop =
+    let at : ℕ → Type 0 = λ c. link_at before (c ∷ (spelled_part s.part ++ rest)) ≡ Some (record { sep = c; part = s.part }, rest) in
     elim (joins_cases before s.sep (is_dots s.part) joined) [
       | inl slash ↦ subst at (sym slash) (by_slash before s.part rest fits stop)
       | inr point ↦ subst at (sym point.0) (by_dot before s.part rest fits stop point.1 point.2)
     ]
 
--- no step begins with a symbol, so a name in front of one ends there
-pub steps_stop : (before : Bool) (ss : List Step) → AreSteps before ss → prefix_len is_symbol (spelled_steps ss) ≡ 0
-steps_stop before [] fits = refl
-steps_stop before (s ∷ ss) fits =
+-- no link begins with a symbol, so a name in front of one ends there
+pub links_stop : (before : Bool) (ss : List Link) → AreLinks before ss → prefix_len is_symbol (spelled_links ss) ≡ 0
+links_stop before [] fits = refl
+links_stop before (s ∷ ss) fits =
     elim (joins_cases before s.sep (is_dots s.part) fits.0) [
       | inl slash ↦ rw slash refl
       | inr point ↦ rw point.0 refl
     ]
 
-pub steps_again : (n : ℕ) (before : Bool) (ss : List Step) → length ss < n → AreSteps before ss →
-    steps_at n before (spelled_steps ss) ≡ Some ss
-unfolding steps_at
-steps_again zero before ss lt fits = absurd (omega arith)
-steps_again (suc n) before [] lt fits = refl
-steps_again (suc n) before (s ∷ ss) lt fits =
-    let first = step_again before s (spelled_steps ss) fits.0 fits.1 (steps_stop (is_dots s.part) ss fits.2) in
-    rw (first, steps_again n (is_dots s.part) ss (omega arith) fits.2) refl
+pub links_again : (n : ℕ) (before : Bool) (ss : List Link) → length ss < n → AreLinks before ss →
+    links_at n before (spelled_links ss) ≡ Some ss
+unfolding links_at
+links_again zero before ss lt fits = absurd (omega arith)
+links_again (suc n) before [] lt fits = refl
+links_again (suc n) before (s ∷ ss) lt fits =
+    let first = link_again before s (spelled_links ss) fits.0 fits.1 (links_stop (is_dots s.part) ss fits.2) in
+    rw (first, links_again n (is_dots s.part) ss (omega arith) fits.2) refl
 
--- each step takes a byte at least, so the reader's bound is enough
-steps_long : (ss : List Step) → length ss ≤ length (spelled_steps ss)
-steps_long [] = omega arith
-steps_long (s ∷ ss) = omega (arith, steps_long ss, length-append (spelled_part s.part) (spelled_steps ss))
+-- each link takes a byte at least, so the reader's bound is enough
+links_long : (ss : List Link) → length ss ≤ length (spelled_links ss)
+links_long [] = omega arith
+links_long (s ∷ ss) = omega (arith, links_long ss, length-append (spelled_part s.part) (spelled_links ss))
 
-pub steps_of_again : (before : Bool) (ss : List Step) → AreSteps before ss →
-    steps_of before (spelled_steps ss) ≡ Some ss
-unfolding steps_of
-steps_of_again before ss fits =
-    steps_again (length (spelled_steps ss) + 1) before ss (omega (arith, steps_long ss)) fits
+pub links_of_again : (before : Bool) (ss : List Link) → AreLinks before ss →
+    links_of before (spelled_links ss) ≡ Some ss
+unfolding links_of
+links_of_again before ss fits =
+    links_again (length (spelled_links ss) + 1) before ss (omega (arith, links_long ss)) fits

@@ -3,7 +3,7 @@ use Rattle.std.proofs.Common.{◌≡◌, ◌≢◌, ℕ, zero, suc, ◌+◌, ◌
 use Rattle.std.specs.Prelude.{◌==◌, codes}
 use Rattle.std.specs.List.{prefix_len, AllByRecursion}
 use Rattle.std.proofs.lemmas.Bool.{ne_eqb, not-true, not-false, or_parts}
-use Rattle.handlebars_base.specs.Path.{Reference, IsPath, is_symbol, IsIdentifier, Part, dots, plain, bracketed, spelled_part, IsPart, is_dots, Step, spelled_steps, AreSteps, ups, Shape, dot, at_root, at_name, in_parts, spelled, IsShape}
+use Rattle.handlebars_base.specs.Path.{Reference, IsPath, is_symbol, IsIdentifier, Part, dots, plain, bracketed, spelled_part, IsPart, is_dots, Link, spelled_links, AreLinks, ups, Shape, dot, at_root, at_name, in_parts, spelled, IsShape}
 use Rattle.handlebars_base.specs.PathReading.{is_reference_byte, starts_reference, stops, reference_from, reference_len}
 use Rattle.std.proofs.lemmas.List.{take_at, drop_at}
 use Rattle.handlebars_base.proofs.PathParts.{joins_cases}
@@ -66,11 +66,11 @@ passed_part dots fits = passed_byte 46 (46 ∷ []) refl refl (passed_byte 46 [] 
 passed_part (plain n) fits = passed_symbols n fits.1
 passed_part (bracketed n) fits = passed_bracketed n fits
 
-passed_steps : (before : Bool) (ss : List Step) → AreSteps before ss → IsPassed (spelled_steps ss)
-passed_steps before [] fits = passed_none
-passed_steps before (s ∷ ss) fits =
-    let more = passed_steps (is_dots s.part) ss fits.2 in
-    let behind = passed_both (spelled_part s.part) (spelled_steps ss) (passed_part s.part fits.1) more in
+passed_links : (before : Bool) (ss : List Link) → AreLinks before ss → IsPassed (spelled_links ss)
+passed_links before [] fits = passed_none
+passed_links before (s ∷ ss) fits =
+    let more = passed_links (is_dots s.part) ss fits.2 in
+    let behind = passed_both (spelled_part s.part) (spelled_links ss) (passed_part s.part fits.1) more in
     elim (joins_cases before s.sep (is_dots s.part) fits.0) [
       | inl slash ↦ rw slash (passed_byte 47 _ refl refl behind)
       | inr point ↦ rw point.0 (passed_byte 46 _ refl refl behind)
@@ -81,16 +81,16 @@ passed_ups zero t p = p
 passed_ups (suc n) t p =
     passed_byte 46 _ refl refl (passed_byte 46 _ refl refl (passed_byte 47 _ refl refl (passed_ups n t p)))
 
-passed_name : (n : ℕ) (name : List ℕ) (ss : List Step) → IsIdentifier name → AreSteps false ss →
-    IsPassed (64 ∷ (ups n ++ (name ++ spelled_steps ss)))
+passed_name : (n : ℕ) (name : List ℕ) (ss : List Link) → IsIdentifier name → AreLinks false ss →
+    IsPassed (64 ∷ (ups n ++ (name ++ spelled_links ss)))
 passed_name n name ss id fits =
-    let behind = passed_both name (spelled_steps ss) (passed_symbols name id.1) (passed_steps false ss fits) in
-    passed_byte 64 _ refl refl (passed_ups n (name ++ spelled_steps ss) behind)
+    let behind = passed_both name (spelled_links ss) (passed_symbols name id.1) (passed_links false ss fits) in
+    passed_byte 64 _ refl refl (passed_ups n (name ++ spelled_links ss) behind)
 
-passed_parts : (p : Part) (ss : List Step) → IsPart p → AreSteps (is_dots p) ss →
-    IsPassed (spelled_part p ++ spelled_steps ss)
-passed_parts p ss fits steps =
-    passed_both (spelled_part p) (spelled_steps ss) (passed_part p fits) (passed_steps (is_dots p) ss steps)
+passed_parts : (p : Part) (ss : List Link) → IsPart p → AreLinks (is_dots p) ss →
+    IsPassed (spelled_part p ++ spelled_links ss)
+passed_parts p ss fits links =
+    passed_both (spelled_part p) (spelled_links ss) (passed_part p fits) (passed_links (is_dots p) ss links)
 
 passed_shape : (s : Shape) → IsShape s → IsPassed (spelled s)
 passed_shape dot fits = passed_byte 46 [] refl refl passed_none
@@ -145,7 +145,7 @@ starts_shape dot fits = refl
 starts_shape (at_root ss) fits = refl
 starts_shape (at_name n name ss) fits = refl
 starts_shape (in_parts true p ss) fits = refl
-starts_shape (in_parts false p ss) fits = starts_part p (spelled_steps ss) fits.0
+starts_shape (in_parts false p ss) fits = starts_part p (spelled_links ss) fits.0
 
 -- a path begins with a byte that a reference begins with
 pub stops-path : (text : List ℕ) (means : Reference) → IsPath text means → stops text ≡ false

@@ -1,7 +1,7 @@
 -- What a call answers, want of memory aside: it is said here once.
 use Rattle.std.specs.Prelude.{◌≡◌, ◌≢◌, Result, MatchResult}
 use Rattle.handlebars_base.specs.Reasons.{Reason, out_of_memory}
-use Rattle.handlebars_base.specs.RenderFaults.{reason_in}
+use Rattle.handlebars_base.specs.RenderRefusals.{reason_in}
 use Rattle.handlebars_base.specs.declared.error.render_error.RenderError.{RenderError}
 
 -- what a definition gives: a value, or the reason of a refusal

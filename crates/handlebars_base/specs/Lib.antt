@@ -1,6 +1,6 @@
 pub mod Reasons
-pub mod TemplateFaults
-pub mod RenderFaults
+pub mod TemplateRefusals
+pub mod RenderRefusals
 pub mod Answers
 pub mod Values
 pub mod Scoped

@@ -15,15 +15,15 @@ pub data Segment : Type 0 where
   up : Segment
 
 -- A path through the data by its segments, or a variable of the block so many blocks up, by its name. Both keep
--- the text as written.
+-- the text as raw_of.
 pub data Reference : Type 0 where
   relative : List Segment → List ℕ → Reference
   variable : ℕ → List ℕ → List ℕ → Reference
 
--- the text as written
-abbrev pub written : Reference → List ℕ
-written (relative segments text) = text
-written (variable level name text) = text
+-- the text as raw_of
+abbrev pub raw_of : Reference → List ℕ
+raw_of (relative segments text) = text
+raw_of (variable level name text) = text
 
 -- ---- symbols and parts
 
@@ -58,36 +58,36 @@ is_dots dots = true
 is_dots (plain n) = false
 is_dots (bracketed n) = false
 
--- ---- steps
+-- ---- links
 
 -- a separator, and the part behind it
-pub record Step : Type 0 where
+pub record Link : Type 0 where
   pub sep : ℕ
   pub part : Part
 
-abbrev pub spelled_steps : List Step → List ℕ
-spelled_steps [] = []
-spelled_steps (s ∷ ss) = s.sep ∷ (spelled_part s.part ++ spelled_steps ss)
+abbrev pub spelled_links : List Link → List ℕ
+spelled_links [] = []
+spelled_links (s ∷ ss) = s.sep ∷ (spelled_part s.part ++ spelled_links ss)
 
 -- `/` joins any two parts, and `.` two of which neither is `..`
 abbrev pub joins : Bool → ℕ → Bool → Bool
 joins before sep behind = (sep == 47) || ((sep == 46) && (not before && not behind))
 
--- steps behind a part, which is `..` or not
-abbrev pub AreSteps : Bool → List Step → Type 0
-AreSteps before [] = ⊤
-AreSteps before (s ∷ ss) =
-    (joins before s.sep (is_dots s.part) ≡ true) × IsPart s.part × AreSteps (is_dots s.part) ss
+-- links behind a part, which is `..` or not
+abbrev pub AreLinks : Bool → List Link → Type 0
+AreLinks before [] = ⊤
+AreLinks before (s ∷ ss) =
+    (joins before s.sep (is_dots s.part) ≡ true) × IsPart s.part × AreLinks (is_dots s.part) ss
 
 -- ---- whole paths
 
--- `.` alone; `@root` and steps; `@`, a number of `../`, a name and steps; or a part and steps, with `./` in front
+-- `.` alone; `@root` and links; `@`, a number of `../`, a name and links; or a part and links, with `./` in front
 -- or not
 pub data Shape : Type 0 where
   dot : Shape
-  at_root : List Step → Shape
-  at_name : ℕ → List ℕ → List Step → Shape
-  in_parts : Bool → Part → List Step → Shape
+  at_root : List Link → Shape
+  at_name : ℕ → List ℕ → List Link → Shape
+  in_parts : Bool → Part → List Link → Shape
 
 -- so many `../`
 abbrev pub ups : ℕ → List ℕ
@@ -96,19 +96,19 @@ ups (suc n) = 46 ∷ 46 ∷ 47 ∷ ups n
 
 abbrev pub spelled : Shape → List ℕ
 spelled dot = 46 ∷ []
-spelled (at_root ss) = 64 ∷ (codes "root" ++ spelled_steps ss)
-spelled (at_name n name ss) = 64 ∷ (ups n ++ (name ++ spelled_steps ss))
-spelled (in_parts true p ss) = 46 ∷ 47 ∷ (spelled_part p ++ spelled_steps ss)
-spelled (in_parts false p ss) = spelled_part p ++ spelled_steps ss
+spelled (at_root ss) = 64 ∷ (codes "root" ++ spelled_links ss)
+spelled (at_name n name ss) = 64 ∷ (ups n ++ (name ++ spelled_links ss))
+spelled (in_parts true p ss) = 46 ∷ 47 ∷ (spelled_part p ++ spelled_links ss)
+spelled (in_parts false p ss) = spelled_part p ++ spelled_links ss
 
 -- A variable isn't named `this`, and right behind the `@` not `root`, which is the root's own form.
 abbrev pub IsShape : Shape → Type 0
 IsShape dot = ⊤
-IsShape (at_root ss) = AreSteps false ss
+IsShape (at_root ss) = AreLinks false ss
 IsShape (at_name zero name ss) =
-    IsIdentifier name × (bytes_eq name (codes "this") ≡ false) × (bytes_eq name (codes "root") ≡ false) × AreSteps false ss
-IsShape (at_name (suc n) name ss) = IsIdentifier name × (bytes_eq name (codes "this") ≡ false) × AreSteps false ss
-IsShape (in_parts b p ss) = IsPart p × AreSteps (is_dots p) ss
+    IsIdentifier name × (bytes_eq name (codes "this") ≡ false) × (bytes_eq name (codes "root") ≡ false) × AreLinks false ss
+IsShape (at_name (suc n) name ss) = IsIdentifier name × (bytes_eq name (codes "this") ≡ false) × AreLinks false ss
+IsShape (in_parts b p ss) = IsPart p × AreLinks (is_dots p) ss
 
 -- ---- from the shape to the meaning
 
@@ -121,16 +121,16 @@ part_segments dots = up ∷ []
 part_segments (plain n) = name_segments n
 part_segments (bracketed n) = name_segments n
 
-abbrev pub step_segments : List Step → List Segment
-step_segments [] = []
-step_segments (s ∷ ss) = part_segments s.part ++ step_segments ss
+abbrev pub link_segments : List Link → List Segment
+link_segments [] = []
+link_segments (s ∷ ss) = part_segments s.part ++ link_segments ss
 
--- The steps behind a variable's name add nothing.
+-- The links behind a variable's name add nothing.
 abbrev pub meaning : List ℕ → Shape → Reference
 meaning text dot = relative [] text
-meaning text (at_root ss) = relative (root ∷ step_segments ss) text
+meaning text (at_root ss) = relative (root ∷ link_segments ss) text
 meaning text (at_name n name ss) = variable n name text
-meaning text (in_parts b p ss) = relative (part_segments p ++ step_segments ss) text
+meaning text (in_parts b p ss) = relative (part_segments p ++ link_segments ss) text
 
 -- the text is a path that means this
 pub record IsPath (text : List ℕ) (means : Reference) : Type 0 where

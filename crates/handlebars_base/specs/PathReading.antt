@@ -2,7 +2,7 @@
 use Rattle.std.specs.Prelude.{ℕ, zero, suc, ◌+◌, Bool, true, false, not, ◌&&◌, ◌||◌, ◌==◌, nat_lt, if◌then◌else◌, List, [], ◌∷◌, length, take, drop, Option, Some, None, option_and_then, codes}
 use Rattle.std.specs.List.{prefix_len, position_or_len, before_first, after_first}
 use Rattle.std.specs.Str.{bytes_eq}
-use Rattle.handlebars_base.specs.Path.{is_symbol, Part, dots, plain, bracketed, is_dots, Step, Shape, dot, at_root, at_name, in_parts}
+use Rattle.handlebars_base.specs.Path.{is_symbol, Part, dots, plain, bracketed, is_dots, Link, Shape, dot, at_root, at_name, in_parts}
 
 infixl 10 ◌>>=◌
 abbrev pub ◌>>=◌ : {A B : Type 0} → Option A → (A → Option B) → Option B
@@ -39,7 +39,7 @@ unfoldable pub ups_at : ℕ → List ℕ → ℕ × List ℕ
 ups_at n (a ∷ b ∷ c ∷ r) = if is_up_mark a b c then ups_at (n + 1) r else (n, a ∷ b ∷ c ∷ r)
 ups_at n t = (n, t)
 
--- ---- parts and steps, each with the text behind it
+-- ---- parts and links, each with the text behind it
 
 -- a name in brackets, behind the opening one
 unfoldable pub bracketed_at : List ℕ → Option (Part × List ℕ)
@@ -58,36 +58,36 @@ part_at t =
     with_or (after 46 t) (λ r. after 46 r >>= λ r. Some (dots, r))
     (with_or (after 91 t) bracketed_at (plain_at t))
 
-abbrev pub step_by : ℕ → Part × List ℕ → Step × List ℕ
-step_by sep p = (record { sep = sep; part = p.0 }, p.1)
+abbrev pub link_by : ℕ → Part × List ℕ → Link × List ℕ
+link_by sep p = (record { sep = sep; part = p.0 }, p.1)
 
--- a step behind its `/`
-abbrev pub slash_step : List ℕ → Option (Step × List ℕ)
-slash_step r = part_at r >>= λ p. Some (step_by 47 p)
+-- a link behind its `/`
+abbrev pub slash_link : List ℕ → Option (Link × List ℕ)
+slash_link r = part_at r >>= λ p. Some (link_by 47 p)
 
--- a step behind its `.`, which joins no `..`
-abbrev pub dot_step : Bool → List ℕ → Option (Step × List ℕ)
-dot_step before r = part_at r >>= λ p. if before || is_dots p.0 then None else Some (step_by 46 p)
+-- a link behind its `.`, which joins no `..`
+abbrev pub dot_link : Bool → List ℕ → Option (Link × List ℕ)
+dot_link before r = part_at r >>= λ p. if before || is_dots p.0 then None else Some (link_by 46 p)
 
--- a step behind a part, which is `..` or not
-unfoldable pub step_at : Bool → List ℕ → Option (Step × List ℕ)
-step_at before t = with_or (after 47 t) slash_step (after 46 t >>= dot_step before)
+-- a link behind a part, which is `..` or not
+unfoldable pub link_at : Bool → List ℕ → Option (Link × List ℕ)
+link_at before t = with_or (after 47 t) slash_link (after 46 t >>= dot_link before)
 
-abbrev pub part_of_step : Step × List ℕ → Part × List ℕ
-part_of_step q = (q.0.part, q.1)
+abbrev pub part_of_link : Link × List ℕ → Part × List ℕ
+part_of_link q = (q.0.part, q.1)
 
--- steps to the end of the text, fewer than the number
-unfoldable pub steps_at : ℕ → Bool → List ℕ → Option (List Step)
-steps_at zero before t = None
-steps_at (suc n) before [] = Some []
-steps_at (suc n) before (s ∷ t) = do
-  q ← step_at before (s ∷ t)
-  ss ← steps_at n (is_dots q.0.part) q.1
+-- links to the end of the text, fewer than the number
+unfoldable pub links_at : ℕ → Bool → List ℕ → Option (List Link)
+links_at zero before t = None
+links_at (suc n) before [] = Some []
+links_at (suc n) before (s ∷ t) = do
+  q ← link_at before (s ∷ t)
+  ss ← links_at n (is_dots q.0.part) q.1
   Some (q.0 ∷ ss)
 
--- Each step takes a byte at least, so this many are enough.
-unfoldable pub steps_of : Bool → List ℕ → Option (List Step)
-steps_of before t = steps_at (length t + 1) before t
+-- Each link takes a byte at least, so this many are enough.
+unfoldable pub links_of : Bool → List ℕ → Option (List Link)
+links_of before t = links_at (length t + 1) before t
 
 -- ---- whole paths
 
@@ -95,7 +95,7 @@ abbrev pub is_no_name : List ℕ → Bool
 is_no_name name = bytes_eq name [] || bytes_eq name (codes "this")
 
 -- so many `../` and a name behind an `@`
-abbrev pub at_shape : ℕ → List ℕ → List Step → Shape
+abbrev pub at_shape : ℕ → List ℕ → List Link → Shape
 at_shape level name ss = if (level == 0) && bytes_eq name (codes "root") then at_root ss else at_name level name ss
 
 -- what stands behind an `@`, given as the number of `../` and the text behind them
@@ -103,13 +103,13 @@ unfoldable pub at_of : ℕ × List ℕ → Option Shape
 at_of u =
     if is_no_name (symbols_of u.1)
     then None
-    else (steps_of false (behind_symbols u.1) >>= λ ss. Some (at_shape u.0 (symbols_of u.1) ss))
+    else (links_of false (behind_symbols u.1) >>= λ ss. Some (at_shape u.0 (symbols_of u.1) ss))
 
 -- parts to the end of the text, behind a `./` or not
 unfoldable pub parts_of : Bool → List ℕ → Option Shape
 parts_of dotted t = do
   p ← part_at t
-  ss ← steps_of (is_dots p.0) p.1
+  ss ← links_of (is_dots p.0) p.1
   Some (in_parts dotted p.0 ss)
 
 -- `.` alone, `./` and parts, or parts

@@ -9,8 +9,8 @@ use Rattle.handlebars_base.specs.declared.json.path.PathSeg.{PathSeg}
 use Rattle.handlebars_base.specs.declared.json.path.PathSeg.TheVariants.{Named, Ruled}
 use Rattle.handlebars_base.specs.declared.json.path.Path.{Path}
 use Rattle.handlebars_base.specs.declared.json.path.Path.TheVariants as path
-use Rattle.handlebars_base.specs.declared.json.path.reading.Piece.{Piece}
-use Rattle.handlebars_base.specs.declared.json.path.reading.Piece.TheVariants as piece
+use Rattle.handlebars_base.specs.declared.json.path.reading.Part.{Part as ReadPart}
+use Rattle.handlebars_base.specs.declared.json.path.reading.Part.TheVariants as part
 
 abbrev pub segment_of_rule : PathRule → Segment
 segment_of_rule rule.Root = root
@@ -29,11 +29,11 @@ reference_of (path.Relative p) = relative (segments_of p.0.items) (string_bytes 
 reference_of (path.Local p) = variable p.0 (string_bytes p.1) (string_bytes p.2)
 
 -- a part, wherever its text lies
-abbrev pub part_of : Piece → Part
-part_of piece.Up = dots
-part_of (piece.Plain name) = plain name.now
-part_of (piece.Bracketed name) = bracketed name.now
+abbrev pub part_of : ReadPart → Part
+part_of part.Up = dots
+part_of (part.Plain name) = plain name.now
+part_of (part.Bracketed name) = bracketed name.now
 
 -- a part, and the text behind it
-abbrev pub found_at : Piece × Bor (List ℕ) → Part × List ℕ
+abbrev pub found_at : ReadPart × Bor (List ℕ) → Part × List ℕ
 found_at x = (part_of x.0, x.1.now)

@@ -13,7 +13,7 @@ pub data TemplateReason : Type 0 where
   template_out_of_memory : TemplateReason
 
 -- why, in which template, at which line and column
-pub record TemplateFault : Type 0 where
+pub record TemplateRefusal : Type 0 where
   pub reason : TemplateReason
   pub name : Option (List ℕ)
   pub position : Option (ℕ × ℕ)
@@ -21,7 +21,7 @@ pub record TemplateFault : Type 0 where
 -- why a call is refused
 pub data Reason : Type 0 where
   template_not_found : List ℕ → Reason
-  template_error : TemplateFault → Reason
+  template_error : TemplateRefusal → Reason
   missing_variable : Option (List ℕ) → Reason
   partial_not_found : List ℕ → Reason
   partial_block_not_found : Reason
@@ -48,8 +48,8 @@ pub data Reason : Type 0 where
   failed : Reason
   out_of_memory : Reason
 
--- A template's fault is the reason of a refusal; its want of memory is want of memory.
-abbrev pub reason_for : TemplateFault → TemplateReason → Reason
+-- A template's refusal is the reason of a refusal; its want of memory is want of memory.
+abbrev pub reason_for : TemplateRefusal → TemplateReason → Reason
 reason_for f (mismatching_closed_helper a b) = template_error f
 reason_for f (mismatching_closed_decorator a b) = template_error f
 reason_for f (invalid_syntax a) = template_error f
@@ -59,11 +59,11 @@ reason_for f (template_io_error a) = template_error f
 reason_for f (walkdir_error a) = template_error f
 reason_for f template_out_of_memory = out_of_memory
 
-abbrev pub of_template : TemplateFault → Reason
+abbrev pub of_template : TemplateRefusal → Reason
 of_template f = reason_for f f.reason
 
 -- a refusal: why, in which template, and at which line and column
-pub record Fault : Type 0 where
+pub record Refusal : Type 0 where
   pub reason : Reason
   pub name : Option (List ℕ)
   pub line : Option ℕ

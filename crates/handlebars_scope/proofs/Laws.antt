@@ -106,8 +106,8 @@ escaped_is_unmarked xs mark is there =
 
 -- ---- each `&`
 
-abbrev Begins : List ℕ → Type 0
-Begins rest = (b : ℕ) × (entity : List ℕ) × (after : List ℕ) × (entity_of b ≡ Some entity) × (38 ∷ rest ≡ entity ++ after)
+abbrev IsBeginning : List ℕ → Type 0
+IsBeginning rest = (b : ℕ) × (entity : List ℕ) × (after : List ℕ) × (entity_of b ≡ Some entity) × (38 ∷ rest ≡ entity ++ after)
 
 abbrev NoAmpersand : List ℕ → Type 0
 NoAmpersand = AllByRecursion (λ b. b ≢ 38)
@@ -119,15 +119,15 @@ skip P (b ∷ bs) more [] rest none e go = absurd (none.0 cc)
 skip P (b ∷ bs) more (f ∷ front) rest none e go = skip P bs more front rest none.1 (cc) go
 
 -- an `&` in an entity and what follows is the entity's first byte, or stands in what follows
-in_entity : (b : ℕ) (t more front rest : List ℕ) → entity_of b ≡ Some (38 ∷ t) → NoAmpersand t → (38 ∷ t) ++ more ≡ front ++ 38 ∷ rest → ((front' : List ℕ) → more ≡ front' ++ 38 ∷ rest → Begins rest) → Begins rest
+in_entity : (b : ℕ) (t more front rest : List ℕ) → entity_of b ≡ Some (38 ∷ t) → NoAmpersand t → (38 ∷ t) ++ more ≡ front ++ 38 ∷ rest → ((front' : List ℕ) → more ≡ front' ++ 38 ∷ rest → IsBeginning rest) → IsBeginning rest
 in_entity b t more [] rest is none e go = (b, 38 ∷ t, more, is, sym e)
-in_entity b t more (f ∷ front) rest is none e go = skip (Begins rest) t more front rest none (cc) go
+in_entity b t more (f ∷ front) rest is none e go = skip (IsBeginning rest) t more front rest none (cc) go
 
 byte : (b : ℕ) → eqb b 38 ≡ false → b ≢ 38
 byte b h = grind (arith, nat_tests)
 
 abbrev AtByte : ℕ → Type 0
-AtByte b = (more front rest : List ℕ) → escaped_byte b ++ more ≡ front ++ 38 ∷ rest → ((front' : List ℕ) → more ≡ front' ++ 38 ∷ rest → Begins rest) → Begins rest
+AtByte b = (more front rest : List ℕ) → escaped_byte b ++ more ≡ front ++ 38 ∷ rest → ((front' : List ℕ) → more ≡ front' ++ 38 ∷ rest → IsBeginning rest) → IsBeginning rest
 
 at_byte : (b : ℕ) → AtByte b
 at_byte = by_bytes AtByte
@@ -138,7 +138,7 @@ at_byte = by_bytes AtByte
     (λ more front rest. in_entity 39 (codes "#x27;") more front rest refl (byte _ refl, (byte _ refl, (byte _ refl, (byte _ refl, (byte _ refl, tt))))))
     (λ more front rest. in_entity 96 (codes "#x60;") more front rest refl (byte _ refl, (byte _ refl, (byte _ refl, (byte _ refl, (byte _ refl, tt))))))
     (λ more front rest. in_entity 61 (codes "#x3D;") more front rest refl (byte _ refl, (byte _ refl, (byte _ refl, (byte _ refl, (byte _ refl, tt))))))
-    (λ b o more front rest e go. skip (Begins rest) (b ∷ []) more front rest (o.ampersand, tt) (sym (ap (λ t. t ++ more) (escaped_byte-other b o)) ∙ e) go)
+    (λ b o more front rest e go. skip (IsBeginning rest) (b ∷ []) more front rest (o.ampersand, tt) (sym (ap (λ t. t ++ more) (escaped_byte-other b o)) ∙ e) go)
 
 pub escaped_begins_entities : BeginsEntities
 unfolding escaped

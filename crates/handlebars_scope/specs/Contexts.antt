@@ -5,7 +5,7 @@ use Rattle.serde_json.specs.Data.{Data}
 use Rattle.serde_json.specs.View.{view}
 use Rattle.serde_json.specs.Written.{has_float}
 use Rattle.handlebars_base.specs.Reasons.{invalid_number}
-use Rattle.handlebars_base.specs.RenderFaults.{fault_of, plain_fault}
+use Rattle.handlebars_base.specs.RenderRefusals.{refusal_of, plain_refusal}
 use Rattle.handlebars_base.specs.declared.error.render_error.RenderError.{RenderError}
 use Rattle.handlebars_scope.specs.declared.context.Context.{Context}
 
@@ -16,4 +16,4 @@ data_of c = view c.value
 -- the call succeeds where all numbers are in the range, and else refuses a number
 abbrev pub TestsRange : {A : Type 0} → Data → Result A RenderError → Type 0
 TestsRange d (Ok x) = has_float d ≡ false
-TestsRange d (Err e) = (has_float d ≡ true) × (fault_of e ≡ plain_fault invalid_number)
+TestsRange d (Err e) = (has_float d ≡ true) × (refusal_of e ≡ plain_refusal invalid_number)

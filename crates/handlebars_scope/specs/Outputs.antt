@@ -7,15 +7,15 @@ use Rattle.handlebars_base.specs.Reasons.{Reason, io_error, out_of_memory}
 use Rattle.handlebars_scope.specs.declared.output.StringOutput.{StringOutput}
 
 -- xs is a beginning of ys, which may be nothing or all of it
-abbrev pub Begins : List ℕ → List ℕ → Type 0
-Begins xs ys = (rest : List ℕ) × (ys ≡ xs ++ rest)
+abbrev pub IsBeginning : List ℕ → List ℕ → Type 0
+IsBeginning xs ys = (rest : List ℕ) × (ys ≡ xs ++ rest)
 
 -- A segment is written, or a beginning of it is and the write has failed: that counts, as far as 64 bits count.
 -- `text` and `faults` stand for what was there before, `later` and `total` for what is there now.
 abbrev pub Written : List ℕ → List ℕ → ℕ → Result (Unit {0}) Error → List ℕ → ℕ → Type 0
 Written seg text faults (Ok u) later total = (later ≡ text ++ seg) × (total ≡ faults)
 Written seg text faults (Err e) later total =
-    ((front : List ℕ) × Begins front seg × (later ≡ text ++ front)) × (faults + 1 < 2 ^ 64 → total ≡ faults + 1)
+    ((front : List ℕ) × IsBeginning front seg × (later ≡ text ++ front)) × (faults + 1 < 2 ^ 64 → total ≡ faults + 1)
 
 -- the text that an output in memory holds
 abbrev pub text_of : StringOutput → List ℕ

@@ -5,7 +5,7 @@ ghost use Rattle.serde_json.specs.Errors.{IsMemory};
 ghost use Rattle.serde_json.specs.View.{view};
 ghost use Rattle.serde_json.specs.Written.{has_float};
 ghost use Rattle.handlebars_base.specs.Reasons.{out_of_memory, serde_error};
-ghost use Rattle.handlebars_base.specs.RenderFaults.{reason_in, fault_of, plain_fault};
+ghost use Rattle.handlebars_base.specs.RenderRefusals.{reason_in, refusal_of, plain_refusal};
 
 mod range;
 pub mod walk;
@@ -30,7 +30,7 @@ impl Context {
     ghost use Rattle.serde_json.specs.Written.{has_float};
     ghost use Rattle.handlebars_base.specs.Answers.{gives, refuses};
     ghost use Rattle.handlebars_base.specs.Reasons.{out_of_memory};
-    ghost use Rattle.handlebars_base.specs.RenderFaults.{reason_in, fault_of, plain_fault};
+    ghost use Rattle.handlebars_base.specs.RenderRefusals.{reason_in, refusal_of, plain_refusal};
     ghost use Rattle.handlebars_scope.specs.Contexts.{data_of, TestsRange};
     ghost use Rattle.handlebars_scope.specs.Wraps.{IsConversion};
 
@@ -48,7 +48,7 @@ impl Context {
         ensures ok { IfOk result (λ c. IsConversion T.writes source.now (gives (data_of c))) }
         ensures err { IfErr result (λ e. reason_in e ≢ out_of_memory
             → IsConversion T.writes source.now (refuses (reason_in e))) }
-        ensures plain { IfErr result (λ e. fault_of e ≡ plain_fault (reason_in e)) }
+        ensures plain { IfErr result (λ e. refusal_of e ≡ plain_refusal (reason_in e)) }
     {
         let text = match serde_json::to_string(alloc, source) {
             Ok(text) => text,
@@ -83,7 +83,7 @@ impl Context {
 fn refused(cause: serde_json::Error) -> RenderError
     ensures memory { IsMemory cause → reason_in result ≡ out_of_memory }
     ensures other { ¬ (IsMemory cause) → reason_in result ≡ serde_error }
-    ensures plain { fault_of result ≡ plain_fault (reason_in result) }
+    ensures plain { refusal_of result ≡ plain_refusal (reason_in result) }
 {
     if cause.is_memory() {
         RenderErrorReason::OutOfMemory.into()

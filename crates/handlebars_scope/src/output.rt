@@ -4,7 +4,7 @@ ghost use Rattle.std.specs.Prelude.{◌≡◌, ℕ, List, [], IfErr, OnErr, stri
 ghost use Rattle.std.specs.IoError.{error_kind};
 ghost use Rattle.std.specs.declared.io.Error.{Error};
 ghost use Rattle.std.specs.declared.io.ErrorKind.TheVariants.{OutOfMemory};
-ghost use Rattle.handlebars_base.specs.RenderFaults.{fault_of, plain_fault};
+ghost use Rattle.handlebars_base.specs.RenderRefusals.{refusal_of, plain_refusal};
 ghost use Rattle.handlebars_scope.specs.Outputs.{Written, text_of, faults_of, write_reason};
 
 use handlebars_base::error::{RenderError, RenderErrorReason};
@@ -80,7 +80,7 @@ impl Output for StringOutput {
 
 /// The refusal for a write that failed: `OutOfMemory` for want of memory, and else `IOError`.
 pub fn output_fault(cause: io::Error) -> RenderError
-    ensures { fault_of result ≡ plain_fault (write_reason (error_kind cause)) }
+    ensures { refusal_of result ≡ plain_refusal (write_reason (error_kind cause)) }
 {
     match cause.kind() {
         ErrorKind::OutOfMemory => RenderErrorReason::OutOfMemory.into(),

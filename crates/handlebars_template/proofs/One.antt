@@ -5,11 +5,11 @@ use Rattle.std.proofs.lemmas.List.{append-nil, drop_at}
 use Rattle.std.proofs.lemmas.Bool.{cases_Bool, eqb-true, eqb-false, ne_eqb}
 use borrow.Author.Tests.{ltb-true, ltb-false}
 use Rattle.handlebars_template.specs.Place.{place}
-use Rattle.handlebars_template.specs.Text.{IsText, at_end, at_tag, a_byte, two_escaped, four_escaped, slashes, braces, before_braces}
+use Rattle.handlebars_template.specs.Text.{IsText, at_end, at_tag, a_byte, two_escaped, four_escaped, backslashes, braces, before_braces}
 use Rattle.handlebars_template.specs.Tag.{Tag, IsTag, NoTag}
-use Rattle.handlebars_template.specs.Cut.{Piece, text_piece, Begins, starts, goes_on, IsCut}
-use Rattle.handlebars_template.specs.Compile.{compiled, refused, whole, no_tag, unreadable, tree_of, OneCut, OneOutcome}
-use Rattle.handlebars_template.proofs.Runs.{slashes-run, slashes-braces, before_braces-run}
+use Rattle.handlebars_template.specs.Cut.{Slice, text_slice, Reads, starts, goes_on, IsCut}
+use Rattle.handlebars_template.specs.Compile.{compiled, refused, whole, no_tag, unreadable, tree_of, OneCut, OneCompilation}
+use Rattle.handlebars_template.proofs.Runs.{backslashes-run, backslashes-braces, before_braces-run}
 use Rattle.handlebars_template.proofs.Tags.{same_tag, tag_braces, right_same}
 
 -- ---- a text, read by a function
@@ -20,13 +20,13 @@ keep b q = (b ∷ q.0, q.1)
 -- what is kept of the text in front, and what follows it; so many braces in front are text
 pub text_at : ℕ → List ℕ → List ℕ × List ℕ
 text_at n [] = ([], [])
-text_at zero (b ∷ t) = cond (before_braces (b ∷ t)) (cond (slashes (b ∷ t) == 1) (text_at (cond (braces (drop 2 t)) 4 2) t) (replicate (slashes (b ∷ t) - 1) 92, drop (slashes (b ∷ t)) (b ∷ t))) (keep b (text_at zero t))
+text_at zero (b ∷ t) = cond (before_braces (b ∷ t)) (cond (backslashes (b ∷ t) == 1) (text_at (cond (braces (drop 2 t)) 4 2) t) (replicate (backslashes (b ∷ t) - 1) 92, drop (backslashes (b ∷ t)) (b ∷ t))) (keep b (text_at zero t))
 text_at (suc n) (b ∷ t) = keep b (text_at n t)
 
-at_run : (t : List ℕ) → 0 < length t → before_braces t ≡ true → slashes t ≢ 1 → text_at 0 t ≡ (replicate (slashes t - 1) 92, drop (slashes t) t)
+at_run : (t : List ℕ) → 0 < length t → before_braces t ≡ true → backslashes t ≢ 1 → text_at 0 t ≡ (replicate (backslashes t - 1) 92, drop (backslashes t) t)
 unfolding text_at
 at_run [] lt marks more = absurd (omega arith)
-at_run (b ∷ t) lt marks more = rw (marks, ne_eqb (slashes (b ∷ t)) 1 more) refl
+at_run (b ∷ t) lt marks more = rw (marks, ne_eqb (backslashes (b ∷ t)) 1 more) refl
 
 braces_some : (t : List ℕ) → braces t ≡ true → 0 < length t
 braces_some [] h = absurd cc
@@ -34,8 +34,8 @@ braces_some (b ∷ t) h = omega arith
 
 run_again : (run : ℕ) (follows : List ℕ) → braces follows ≡ true → run ≢ 1 → text_at 0 (replicate run 92 ++ follows) ≡ (replicate (run - 1) 92, follows)
 run_again run follows marks more =
-    let stop = slashes-braces follows marks in
-    let len = slashes-run run follows stop in
+    let stop = backslashes-braces follows marks in
+    let len = backslashes-run run follows stop in
     let long : 0 < length (replicate run 92 ++ follows) = omega (arith, length-append (replicate run 92) follows, braces_some follows marks) in
     at_run (replicate run 92 ++ follows) long (before_braces-run run follows stop ∙ marks) (λ e. more (sym len ∙ e))
     ∙ ap (λ (n : ℕ). (replicate (n - 1) 92, drop n (replicate run 92 ++ follows))) len ∙ ap (λ (z : List ℕ). (replicate (run - 1) 92, z)) (dropped run)
@@ -73,20 +73,20 @@ same_source : (s b c x y : List ℕ) → b ≡ c → s ≡ b ++ x → s ≡ c ++
 same_source s b c x y e h k = cancel c x y (ap (λ (z : List ℕ). z ++ x) (sym e) ∙ sym h ∙ k)
 
 -- how many tags were read
-pub count : {s b : List ℕ} {ps : List Piece} → Begins s b ps → ℕ
+pub count : {s b : List ℕ} {ps : List Slice} → Reads s b ps → ℕ
 count starts = zero
 count (goes_on r x k t rest tag is words fits) = suc (count r)
 
-pub record At (b c : List ℕ) (ps qs : List Piece) : Type 0 where
+pub record At (b c : List ℕ) (ps qs : List Slice) : Type 0 where
   pub here : b ≡ c
-  pub pieces : ps ≡ qs
+  pub slices : ps ≡ qs
 
 suc_same : (n m : ℕ) → suc n ≡ suc m → n ≡ m
 suc_same n m e = omega arith
 
-pub same_at : {s b c : List ℕ} {ps qs : List Piece} → (r : Begins s b ps) (q : Begins s c qs) → count r ≡ count q → At b c ps qs
+pub same_at : {s b c : List ℕ} {ps qs : List Slice} → (r : Reads s b ps) (q : Reads s c qs) → count r ≡ count q → At b c ps qs
 unfolding count
-same_at starts starts n = record { here = refl; pieces = refl }
+same_at starts starts n = record { here = refl; slices = refl }
 same_at starts (goes_on q y k u rest tag is words fits) n = absurd (omega arith)
 same_at (goes_on r x k t rest tag is words fits) starts n = absurd (omega arith)
 same_at {s} (goes_on {before = b} {ps = ps} r x k t rest tag is words fits) (goes_on {before = c} {ps = qs} q y l u more gat js those kits) n =
@@ -94,8 +94,8 @@ same_at {s} (goes_on {before = b} {ps = ps} r x k t rest tag is words fits) (goe
     let left : x ++ (t ++ rest) ≡ y ++ (u ++ more) = same_source s b c (x ++ (t ++ rest)) (y ++ (u ++ more)) a.here is js in
     let texts = same_text x y k l (t ++ rest) (u ++ more) words those left in
     let tags = same_tag t u rest more tag gat fits kits texts.follows in
-    let bc = a.here in let pq = a.pieces in let xy = texts.slices in let kl = texts.kept in let tu = tags.slices in let gs = tags.tags in
-    record { here = cc; pieces = cc }
+    let bc = a.here in let pq = a.slices in let xy = texts.slices in let kl = texts.kept in let tu = tags.slices in let gs = tags.tags in
+    record { here = cc; slices = cc }
 
 -- a tag stands behind a beginning
 pub record Goes (s b : List ℕ) : Type 0 where
@@ -111,8 +111,8 @@ pub record Goes (s b : List ℕ) : Type 0 where
 -- a shorter beginning, n tags long, on the way to a longer one
 pub record Back (s : List ℕ) (n : ℕ) : Type 0 where
   pub before : List ℕ
-  pub pieces : List Piece
-  pub begins : Begins s before pieces
+  pub slices : List Slice
+  pub begins : Reads s before slices
   pub long : count begins ≡ n
   pub goes : Goes s before
 
@@ -122,11 +122,11 @@ split n m lt = elim (cases_Bool (n == m)) [
   | inr other ↦ inr (let apart = eqb-false n m other in omega arith)
 ]
 
-pub back : {s b : List ℕ} {ps : List Piece} → (r : Begins s b ps) (n : ℕ) → n < count r → Back s n
+pub back : {s b : List ℕ} {ps : List Slice} → (r : Reads s b ps) (n : ℕ) → n < count r → Back s n
 unfolding count
 back starts n lt = absurd (omega arith)
 back {s} (goes_on {before = b} {ps = ps} r x k t rest tag is words fits) n lt = elim (split n (count r) lt) [
-  | inl here ↦ record { before = b; pieces = ps; begins = r; long = sym here; goes = record { text = x; kept = k; slice = t; rest = rest; tag = tag; whole = is; fits = words; is = fits } }
+  | inl here ↦ record { before = b; slices = ps; begins = r; long = sym here; goes = record { text = x; kept = k; slice = t; rest = rest; tag = tag; whole = is; fits = words; is = fits } }
   | inr less ↦ back r n less
 ]
 
@@ -141,7 +141,7 @@ no_goes s b x k left g e =
     let both = same_text g.text x g.kept k (g.slice ++ g.rest) left g.fits e.fits (cancel b (g.text ++ (g.slice ++ g.rest)) (x ++ left) (sym g.whole ∙ e.whole)) in
     e.none g.slice g.rest g.tag (sym both.follows) g.is
 
-no_longer : {s b c x k left : List ℕ} {ps qs : List Piece} → (r : Begins s b ps) → Ends s b x k left → (q : Begins s c qs) → count r < count q → ⊥
+no_longer : {s b c x k left : List ℕ} {ps qs : List Slice} → (r : Reads s b ps) → Ends s b x k left → (q : Reads s c qs) → count r < count q → ⊥
 no_longer {s} {b} {c} {x} {k} {left} r ends q lt =
     let m = back q (count r) lt in
     let a = same_at r m.begins (sym m.long) in
@@ -156,7 +156,7 @@ by_order n m = elim (cases_Bool (n == m)) [
   ]
 ]
 
-pub both_end : {s b c x k y l left more : List ℕ} {ps qs : List Piece} → (r : Begins s b ps) → Ends s b x k left → (q : Begins s c qs) → Ends s c y l more → At b c ps qs
+pub both_end : {s b c x k y l left more : List ℕ} {ps qs : List Slice} → (r : Reads s b ps) → Ends s b x k left → (q : Reads s c qs) → Ends s c y l more → At b c ps qs
 both_end r h q g = elim (by_order (count r) (count q)) [
   | inl same ↦ same_at r q same
   | inr other ↦ elim other [
@@ -175,29 +175,29 @@ nothing_there slice rest t e h =
     let never : false ≡ true = ap braces e ∙ tag_braces slice rest t h in
     absurd cc
 
-ends_of : {s : List ℕ} {ps : List Piece} → (c : IsCut s ps) → Ends s c.before c.text c.kept []
+ends_of : {s : List ℕ} {ps : List Slice} → (c : IsCut s ps) → Ends s c.before c.text c.kept []
 ends_of {s} c = record { whole = c.whole ∙ ap (λ (z : List ℕ). c.before ++ z) (sym (append-nil c.text)); fits = c.fits; none = nothing_there }
 
 pub one_cut : OneCut
 one_cut s ps qs a b =
     let at = both_end a.begins (ends_of a) b.begins (ends_of b) in
     let texts = same_behind s a.before b.before a.text a.kept b.text b.kept [] [] at.here (ends_of a) (ends_of b) in
-    let here = at.here in let pieces = at.pieces in let text = texts.slices in let kept = texts.kept in
-    let all : a.pieces ++ text_piece (place a.before) a.text a.kept ∷ [] ≡ b.pieces ++ text_piece (place b.before) b.text b.kept ∷ [] = cc in
+    let here = at.here in let slices = at.slices in let text = texts.slices in let kept = texts.kept in
+    let all : a.slices ++ text_slice (place a.before) a.text a.kept ∷ [] ≡ b.slices ++ text_slice (place b.before) b.text b.kept ∷ [] = cc in
     a.gives ∙ all ∙ sym b.gives
 
-cut_stuck : {s before text kept left : List ℕ} {ps qs : List Piece} → IsCut s ps → Begins s before qs → Ends s before text kept left → braces left ≡ true → ⊥
+cut_stuck : {s before text kept left : List ℕ} {ps qs : List Slice} → IsCut s ps → Reads s before qs → Ends s before text kept left → braces left ≡ true → ⊥
 cut_stuck {s} {before} {text} {kept} {left} a q e marks =
     let at = both_end a.begins (ends_of a) q e in
     let texts = same_behind s a.before before a.text a.kept text kept [] left at.here (ends_of a) e in
     let never : false ≡ true = ap braces texts.follows ∙ marks in
     absurd cc
 
-pub one_outcome : OneOutcome
-one_outcome s options _ _ (whole {ps = ps} a) (whole {ps = qs} b) = ap (λ (z : List Piece). compiled (tree_of options z)) (one_cut s ps qs a b)
-one_outcome s options _ _ (whole a) (no_tag q text kept left is words marks none) = absurd (cut_stuck a q (record { whole = is; fits = words; none = none }) marks)
-one_outcome s options _ _ (no_tag q text kept left is words marks none) (whole a) = absurd (cut_stuck a q (record { whole = is; fits = words; none = none }) marks)
-one_outcome s options _ _ (no_tag {before = b} r x k left is words marks none) (no_tag {before = c} q y l more js those kits others) =
+pub one_compilation : OneCompilation
+one_compilation s options _ _ (whole {ps = ps} a) (whole {ps = qs} b) = ap (λ (z : List Slice). compiled (tree_of options z)) (one_cut s ps qs a b)
+one_compilation s options _ _ (whole a) (no_tag q text kept left is words marks none) = absurd (cut_stuck a q (record { whole = is; fits = words; none = none }) marks)
+one_compilation s options _ _ (no_tag q text kept left is words marks none) (whole a) = absurd (cut_stuck a q (record { whole = is; fits = words; none = none }) marks)
+one_compilation s options _ _ (no_tag {before = b} r x k left is words marks none) (no_tag {before = c} q y l more js those kits others) =
     let h : Ends s b x k left = record { whole = is; fits = words; none = none } in
     let g : Ends s c y l more = record { whole = js; fits = those; none = others } in
     let at = both_end r h q g in

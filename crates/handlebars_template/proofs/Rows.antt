@@ -8,25 +8,25 @@ use Rattle.handlebars_base.specs.PathReading.{reference_from}
 use Rattle.handlebars_template.specs.Place.{place}
 use Rattle.handlebars_template.specs.Text.{braces, IsText, at_end, at_tag, a_byte, two_escaped}
 use Rattle.handlebars_template.specs.Tag.{Tag, expression_tag, IsTag, an_expression, IsNames, NoTag}
-use Rattle.handlebars_template.specs.TagSteps.{behind_open, behind_close}
-use Rattle.handlebars_template.specs.TextSteps.{is_plain}
-use Rattle.handlebars_template.specs.Cut.{Piece, text_piece, tag_piece, starts, goes_on}
+use Rattle.handlebars_template.specs.TagReading.{behind_open, behind_close}
+use Rattle.handlebars_template.specs.TextReading.{is_plain}
+use Rattle.handlebars_template.specs.Cut.{Slice, text_slice, tag_slice, starts, goes_on}
 use Rattle.handlebars_template.specs.Compile.{Compiles, compiled, refused, unreadable, no_options, whole, no_tag, tree_of}
 use Rattle.handlebars_template.specs.Rows.{EmptyRow, ValueRow, EscapedRow, MemberRow, UnclosedRow, PlaceRow}
 use Rattle.handlebars_template.proofs.Tags.{not_closed}
 use Rattle.handlebars_template.proofs.Texts.{plain_bytes}
 
 pub empty_row : EmptyRow
-empty_row = whole {ps = text_piece (place []) [] [] ∷ []} (record { before = []; pieces = []; begins = starts; text = []; kept = []; whole = refl; fits = at_end refl; gives = refl })
+empty_row = whole {ps = text_slice (place []) [] [] ∷ []} (record { before = []; slices = []; begins = starts; text = []; kept = []; whole = refl; fits = at_end refl; gives = refl })
 
 -- a text and a tag, and nothing behind it
-abbrev pieces : List ℕ → List ℕ → List ℕ → Tag → List Piece
-pieces text kept slice t = text_piece (place []) text kept ∷ tag_piece (place text) slice t ∷ text_piece (place (text ++ slice)) [] [] ∷ []
+abbrev slices : List ℕ → List ℕ → List ℕ → Tag → List Slice
+slices text kept slice t = text_slice (place []) text kept ∷ tag_slice (place text) slice t ∷ text_slice (place (text ++ slice)) [] [] ∷ []
 
-one_tag : (text kept slice : List ℕ) (t : Tag) → IsText (slice ++ []) text kept → IsTag slice t → Compiles (text ++ (slice ++ [])) no_options (compiled (tree_of no_options (pieces text kept slice t)))
-one_tag text kept slice t words is = whole {ps = pieces text kept slice t} (record {
+one_tag : (text kept slice : List ℕ) (t : Tag) → IsText (slice ++ []) text kept → IsTag slice t → Compiles (text ++ (slice ++ [])) no_options (compiled (tree_of no_options (slices text kept slice t)))
+one_tag text kept slice t words is = whole {ps = slices text kept slice t} (record {
   before = text ++ slice;
-  pieces = text_piece (place []) text kept ∷ tag_piece (place text) slice t ∷ [];
+  slices = text_slice (place []) text kept ∷ tag_slice (place text) slice t ∷ [];
   begins = goes_on starts text kept slice [] t refl words is;
   text = [];
   kept = [];

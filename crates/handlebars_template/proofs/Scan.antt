@@ -6,55 +6,55 @@ use Rattle.std.proofs.lemmas.Bool.{cases_Bool}
 use Rattle.std.proofs.lemmas.List.{append-nil, nil_from_length, take_at}
 use Rattle.std.proofs.lemmas.List.Sums.{fold-append}
 use Rattle.std.proofs.lemmas.Str.{chars-append, chars-nil, IsUtf8-append, IsUtf8-nil, IsUtf8-take, IsCharBoundary-at_seam, length-le-encodes, encodes-chars}
-use Rattle.handlebars_template.specs.Place.{Place, origin, step, behind, place}
+use Rattle.handlebars_template.specs.Place.{Place, origin, behind_char, behind, place}
 use Rattle.handlebars_template.specs.Text.{IsText, at_end, at_tag, a_byte, two_escaped, four_escaped, braces}
 use Rattle.handlebars_template.specs.Tag.{Tag, IsTag, an_expression, NoTag}
 use Rattle.handlebars_template.specs.Tree.{Element, raw_string}
-use Rattle.handlebars_template.specs.Cut.{Piece, text_piece, tag_piece, Begins, starts, goes_on}
-use Rattle.handlebars_template.specs.Compile.{Options, compiled, refused, Compiles, whole, no_tag, unreadable, tree_of, element_of, piece_elements, piece_places}
+use Rattle.handlebars_template.specs.Cut.{Slice, text_slice, tag_slice, Reads, starts, goes_on}
+use Rattle.handlebars_template.specs.Compile.{Options, compiled, refused, Compiles, whole, no_tag, unreadable, tree_of, element_of, slice_elements, slice_places}
 
 pub behind-append : (p : Place) (x y : List ℕ) → IsUtf8 x → behind p (x ++ y) ≡ behind (behind p x) y
-behind-append p x y h = ap (fold step p) (chars-append x y h) ∙ fold-append step p (chars x) (chars y)
+behind-append p x y h = ap (fold behind_char p) (chars-append x y h) ∙ fold-append behind_char p (chars x) (chars y)
 
-pub piece_elements-append : (ps qs : List Piece) → piece_elements (ps ++ qs) ≡ piece_elements ps ++ piece_elements qs
-piece_elements-append [] qs = refl
-piece_elements-append (text_piece p [] kept ∷ ps) qs = piece_elements-append ps qs
-piece_elements-append (text_piece p (b ∷ slice) kept ∷ ps) qs = ap (λ (z : List Element). raw_string kept ∷ z) (piece_elements-append ps qs)
-piece_elements-append (tag_piece p slice t ∷ ps) qs = ap (λ (z : List Element). element_of t ∷ z) (piece_elements-append ps qs)
+pub slice_elements-append : (ps qs : List Slice) → slice_elements (ps ++ qs) ≡ slice_elements ps ++ slice_elements qs
+slice_elements-append [] qs = refl
+slice_elements-append (text_slice p [] kept ∷ ps) qs = slice_elements-append ps qs
+slice_elements-append (text_slice p (b ∷ slice) kept ∷ ps) qs = ap (λ (z : List Element). raw_string kept ∷ z) (slice_elements-append ps qs)
+slice_elements-append (tag_slice p slice t ∷ ps) qs = ap (λ (z : List Element). element_of t ∷ z) (slice_elements-append ps qs)
 
-pub piece_places-append : (ps qs : List Piece) → piece_places (ps ++ qs) ≡ piece_places ps ++ piece_places qs
-piece_places-append [] qs = refl
-piece_places-append (text_piece p [] kept ∷ ps) qs = piece_places-append ps qs
-piece_places-append (text_piece p (b ∷ slice) kept ∷ ps) qs = ap (λ (z : List Place). p ∷ z) (piece_places-append ps qs)
-piece_places-append (tag_piece p slice t ∷ ps) qs = ap (λ (z : List Place). p ∷ z) (piece_places-append ps qs)
+pub slice_places-append : (ps qs : List Slice) → slice_places (ps ++ qs) ≡ slice_places ps ++ slice_places qs
+slice_places-append [] qs = refl
+slice_places-append (text_slice p [] kept ∷ ps) qs = slice_places-append ps qs
+slice_places-append (text_slice p (b ∷ slice) kept ∷ ps) qs = ap (λ (z : List Place). p ∷ z) (slice_places-append ps qs)
+slice_places-append (tag_slice p slice t ∷ ps) qs = ap (λ (z : List Place). p ∷ z) (slice_places-append ps qs)
 
 -- Behind a beginning of the source stands this text, and behind it what is left. These are the elements so far.
 pub record Scans (source slice kept left : List ℕ) (at : Place) (es : List Element) (places : List Place) : Type 0 where
   pub before : List ℕ
-  pub pieces : List Piece
-  pub begins : Begins source before pieces
+  pub slices : List Slice
+  pub begins : Reads source before slices
   pub parts : source ≡ before ++ (slice ++ left)
   pub fits : IsText left slice kept
   pub utf8 : IsUtf8 before
   pub there : at ≡ place before
-  pub elements : es ≡ piece_elements pieces
-  pub mapping : places ≡ piece_places pieces
+  pub elements : es ≡ slice_elements slices
+  pub mapping : places ≡ slice_places slices
 
 pub scan_starts : (source slice kept left : List ℕ) → source ≡ slice ++ left → IsText left slice kept → Scans source slice kept left origin [] []
-scan_starts source slice kept left e h = record { before = []; pieces = []; begins = starts; parts = e; fits = h; utf8 = IsUtf8-nil; there = sym (ap (fold step origin) chars-nil); elements = refl; mapping = refl }
+scan_starts source slice kept left e h = record { before = []; slices = []; begins = starts; parts = e; fits = h; utf8 = IsUtf8-nil; there = sym (ap (fold behind_char origin) chars-nil); elements = refl; mapping = refl }
 
 place_at : {source slice kept left : List ℕ} {at : Place} {es : List Element} {places : List Place} → (h : Scans source slice kept left at es places) → behind at slice ≡ place (h.before ++ slice)
 place_at {slice = slice} h = ap (λ (p : Place). behind p slice) h.there ∙ sym (behind-append origin h.before slice h.utf8)
 
 -- a text and a tag
-abbrev pub pair_of : Place → List ℕ → List ℕ → Place → List ℕ → Tag → List Piece
-pair_of p text kept q slice t = text_piece p text kept ∷ tag_piece q slice t ∷ []
+abbrev pub pair_of : Place → List ℕ → List ℕ → Place → List ℕ → Tag → List Slice
+pair_of p text kept q slice t = text_slice p text kept ∷ tag_slice q slice t ∷ []
 
-one_tag : (q : Place) (slice : List ℕ) (t : Tag) (p : Place) (text kept : List ℕ) → piece_elements (pair_of p text kept q slice t) ≡ piece_elements (text_piece p text kept ∷ []) ++ element_of t ∷ []
+one_tag : (q : Place) (slice : List ℕ) (t : Tag) (p : Place) (text kept : List ℕ) → slice_elements (pair_of p text kept q slice t) ≡ slice_elements (text_slice p text kept ∷ []) ++ element_of t ∷ []
 one_tag q slice t p [] kept = refl
 one_tag q slice t p (b ∷ text) kept = refl
 
-one_place : (q : Place) (slice : List ℕ) (t : Tag) (p : Place) (text kept : List ℕ) → piece_places (pair_of p text kept q slice t) ≡ piece_places (text_piece p text kept ∷ []) ++ q ∷ []
+one_place : (q : Place) (slice : List ℕ) (t : Tag) (p : Place) (text kept : List ℕ) → slice_places (pair_of p text kept q slice t) ≡ slice_places (text_slice p text kept ∷ []) ++ q ∷ []
 one_place q slice t p [] kept = refl
 one_place q slice t p (b ∷ text) kept = refl
 
@@ -68,23 +68,23 @@ utf8_three b s t x y z = IsUtf8-append b (s ++ t) x (IsUtf8-append s t y z)
 pub scan_goes : {source slice kept left : List ℕ} {at : Place} {es : List Element} {places : List Place} → (h : Scans source slice kept left at es places)
     → (t : Tag) (spelled rest x k y : List ℕ) → left ≡ spelled ++ rest → IsTag spelled t → rest ≡ x ++ y → IsText y x k → IsUtf8 slice → IsUtf8 spelled
     → (q : Place) → q ≡ behind at slice
-    → Scans source x k y (behind q spelled) ((es ++ piece_elements (text_piece at slice kept ∷ [])) ++ element_of t ∷ []) ((places ++ piece_places (text_piece at slice kept ∷ [])) ++ q ∷ [])
+    → Scans source x k y (behind q spelled) ((es ++ slice_elements (text_slice at slice kept ∷ [])) ++ element_of t ∷ []) ((places ++ slice_places (text_slice at slice kept ∷ [])) ++ q ∷ [])
 scan_goes {source} {slice} {kept} {left} {at} {es} {places} h t spelled rest x k y is fits cut words u v q qe =
     let b : List ℕ = h.before in
     let q2 : q ≡ place (b ++ slice) = qe ∙ place_at h in
-    let new : List Piece = pair_of (place b) slice kept (place (b ++ slice)) spelled t in
-    let begins : Begins source (b ++ (slice ++ spelled)) (h.pieces ++ new) = goes_on h.begins slice kept spelled rest t (h.parts ∙ ap (λ (z : List ℕ). b ++ (slice ++ z)) is) (subst (λ (z : List ℕ). IsText z slice kept) is h.fits) fits in
-    let here : text_piece at slice kept ≡ text_piece (place b) slice kept = ap (λ (p : Place). text_piece p slice kept) h.there in
+    let new : List Slice = pair_of (place b) slice kept (place (b ++ slice)) spelled t in
+    let begins : Reads source (b ++ (slice ++ spelled)) (h.slices ++ new) = goes_on h.begins slice kept spelled rest t (h.parts ∙ ap (λ (z : List ℕ). b ++ (slice ++ z)) is) (subst (λ (z : List ℕ). IsText z slice kept) is h.fits) fits in
+    let here : text_slice at slice kept ≡ text_slice (place b) slice kept = ap (λ (p : Place). text_slice p slice kept) h.there in
     record {
       before = b ++ (slice ++ spelled);
-      pieces = h.pieces ++ new;
+      slices = h.slices ++ new;
       begins = begins;
       parts = h.parts ∙ ap (λ (z : List ℕ). b ++ (slice ++ z)) (is ∙ ap (λ (z : List ℕ). spelled ++ z) cut) ∙ regroup b slice spelled x y;
       fits = words;
       utf8 = utf8_three b slice spelled h.utf8 u v;
       there = ap (λ (p : Place). behind p spelled) q2 ∙ sym (behind-append origin (b ++ slice) spelled (IsUtf8-append b slice h.utf8 u)) ∙ ap place (append_assoc b slice spelled);
-      elements = append_assoc es _ _ ∙ ap (λ (z : List Element). z ++ (piece_elements (text_piece at slice kept ∷ []) ++ element_of t ∷ [])) h.elements ∙ ap (λ (p : Piece). piece_elements h.pieces ++ (piece_elements (p ∷ []) ++ element_of t ∷ [])) here ∙ ap (λ (z : List Element). piece_elements h.pieces ++ z) (sym (one_tag (place (b ++ slice)) spelled t (place b) slice kept)) ∙ sym (piece_elements-append h.pieces new);
-      mapping = append_assoc places _ _ ∙ ap (λ (z : List Place). z ++ (piece_places (text_piece at slice kept ∷ []) ++ q ∷ [])) h.mapping ∙ ap (λ (p : Piece). piece_places h.pieces ++ (piece_places (p ∷ []) ++ q ∷ [])) here ∙ ap (λ (p : Place). piece_places h.pieces ++ (piece_places (text_piece (place b) slice kept ∷ []) ++ p ∷ [])) q2 ∙ ap (λ (z : List Place). piece_places h.pieces ++ z) (sym (one_place (place (b ++ slice)) spelled t (place b) slice kept)) ∙ sym (piece_places-append h.pieces new);
+      elements = append_assoc es _ _ ∙ ap (λ (z : List Element). z ++ (slice_elements (text_slice at slice kept ∷ []) ++ element_of t ∷ [])) h.elements ∙ ap (λ (p : Slice). slice_elements h.slices ++ (slice_elements (p ∷ []) ++ element_of t ∷ [])) here ∙ ap (λ (z : List Element). slice_elements h.slices ++ z) (sym (one_tag (place (b ++ slice)) spelled t (place b) slice kept)) ∙ sym (slice_elements-append h.slices new);
+      mapping = append_assoc places _ _ ∙ ap (λ (z : List Place). z ++ (slice_places (text_slice at slice kept ∷ []) ++ q ∷ [])) h.mapping ∙ ap (λ (p : Slice). slice_places h.slices ++ (slice_places (p ∷ []) ++ q ∷ [])) here ∙ ap (λ (p : Place). slice_places h.slices ++ (slice_places (text_slice (place b) slice kept ∷ []) ++ p ∷ [])) q2 ∙ ap (λ (z : List Place). slice_places h.slices ++ z) (sym (one_place (place (b ++ slice)) spelled t (place b) slice kept)) ∙ sym (slice_places-append h.slices new);
     }
 
 -- a text that something follows is followed by braces
@@ -100,38 +100,38 @@ pub scan_unreadable : {source slice kept left : List ℕ} {at : Place} {es : Lis
 scan_unreadable {source} {slice} {kept} {left} h lt none options q qe = subst (λ (p : Place). Compiles source options (refused (unreadable options p))) (sym (qe ∙ place_at h)) (no_tag h.begins slice kept left h.parts h.fits (some_left h.fits lt) none)
 
 pub scan_ends : {source slice kept left : List ℕ} {at : Place} {es : List Element} {places : List Place} → (h : Scans source slice kept left at es places) → length left ≡ 0
-    → (options : Options) → Compiles source options (compiled (tree_of options (h.pieces ++ text_piece at slice kept ∷ [])))
+    → (options : Options) → Compiles source options (compiled (tree_of options (h.slices ++ text_slice at slice kept ∷ [])))
 scan_ends {source} {slice} {kept} {left} {at} h over options =
     let none : left ≡ [] = nil_from_length left over in
     whole (record {
       before = h.before;
-      pieces = h.pieces;
+      slices = h.slices;
       begins = h.begins;
       text = slice;
       kept = kept;
       whole = h.parts ∙ ap (λ (z : List ℕ). h.before ++ (slice ++ z)) none ∙ ap (λ (z : List ℕ). h.before ++ z) (append-nil slice);
       fits = subst (λ (z : List ℕ). IsText z slice kept) none h.fits;
-      gives = ap (λ (p : Place). h.pieces ++ text_piece p slice kept ∷ []) h.there;
+      gives = ap (λ (p : Place). h.slices ++ text_slice p slice kept ∷ []) h.there;
     })
 
 -- the tree's elements and their places, as the code has them
-pub end_elements : {source slice kept left : List ℕ} {at : Place} {es : List Element} {places : List Place} → (h : Scans source slice kept left at es places) → piece_elements (h.pieces ++ text_piece at slice kept ∷ []) ≡ es ++ piece_elements (text_piece at slice kept ∷ [])
-end_elements {slice = slice} {kept = kept} {at = at} h = piece_elements-append h.pieces (text_piece at slice kept ∷ []) ∙ ap (λ (z : List Element). z ++ piece_elements (text_piece at slice kept ∷ [])) (sym h.elements)
+pub end_elements : {source slice kept left : List ℕ} {at : Place} {es : List Element} {places : List Place} → (h : Scans source slice kept left at es places) → slice_elements (h.slices ++ text_slice at slice kept ∷ []) ≡ es ++ slice_elements (text_slice at slice kept ∷ [])
+end_elements {slice = slice} {kept = kept} {at = at} h = slice_elements-append h.slices (text_slice at slice kept ∷ []) ∙ ap (λ (z : List Element). z ++ slice_elements (text_slice at slice kept ∷ [])) (sym h.elements)
 
-pub end_places : {source slice kept left : List ℕ} {at : Place} {es : List Element} {places : List Place} → (h : Scans source slice kept left at es places) → piece_places (h.pieces ++ text_piece at slice kept ∷ []) ≡ places ++ piece_places (text_piece at slice kept ∷ [])
-end_places {slice = slice} {kept = kept} {at = at} h = piece_places-append h.pieces (text_piece at slice kept ∷ []) ∙ ap (λ (z : List Place). z ++ piece_places (text_piece at slice kept ∷ [])) (sym h.mapping)
+pub end_places : {source slice kept left : List ℕ} {at : Place} {es : List Element} {places : List Place} → (h : Scans source slice kept left at es places) → slice_places (h.slices ++ text_slice at slice kept ∷ []) ≡ places ++ slice_places (text_slice at slice kept ∷ [])
+end_places {slice = slice} {kept = kept} {at = at} h = slice_places-append h.slices (text_slice at slice kept ∷ []) ∙ ap (λ (z : List Place). z ++ slice_places (text_slice at slice kept ∷ [])) (sym h.mapping)
 
 -- ---- lines and columns fit
 
-step_bound : (p : Place) (c : ℕ) → ((step p c).line ≤ p.line + 1) × ((step p c).column ≤ p.column + 1)
-step_bound p c = elim (cases_Bool (c == 10)) [
+char_bound : (p : Place) (c : ℕ) → ((behind_char p c).line ≤ p.line + 1) × ((behind_char p c).column ≤ p.column + 1)
+char_bound p c = elim (cases_Bool (c == 10)) [
   | inl is ↦ rw is (omega arith, omega arith)
   | inr isnt ↦ rw isnt (omega arith, omega arith)
 ]
 
-bounded : (cs : List ℕ) (p : Place) → ((fold step p cs).line ≤ p.line + length cs) × ((fold step p cs).column ≤ p.column + 1 + length cs)
+bounded : (cs : List ℕ) (p : Place) → ((fold behind_char p cs).line ≤ p.line + length cs) × ((fold behind_char p cs).column ≤ p.column + 1 + length cs)
 bounded [] p = (omega arith, omega arith)
-bounded (c ∷ cs) p = let r = bounded cs (step p c) in let s = step_bound p c in (omega (arith, r.0, s.0), omega (arith, r.1, s.1))
+bounded (c ∷ cs) p = let r = bounded cs (behind_char p c) in let s = char_bound p c in (omega (arith, r.0, s.0), omega (arith, r.1, s.1))
 
 place_fits : (before : List ℕ) → IsUtf8 before → ((place before).line ≤ 1 + length before) × ((place before).column ≤ 2 + length before)
 place_fits before h =
@@ -176,8 +176,8 @@ front_utf8 left s rest e u v = subst IsUtf8 (front_is left s rest e) (IsUtf8-tak
 pub step_at : {source slice kept left : List ℕ} {at : Place} {es : List Element} {places : List Place} → (h : Scans source slice kept left at es places)
     → (t : Tag) (spelled rest x k y : List ℕ) → left ≡ spelled ++ rest → IsTag spelled t → rest ≡ x ++ y → IsText y x k → IsUtf8 slice → IsUtf8 spelled
     → (q : Place) → q ≡ behind at slice → (next : Place) (split : List ℕ) → split ≡ spelled → next ≡ behind q split
-    → (mid last : List Element) → mid ≡ es ++ piece_elements (text_piece at slice kept ∷ []) → last ≡ mid ++ element_of t ∷ []
-    → (here there : List Place) → here ≡ places ++ piece_places (text_piece at slice kept ∷ []) → there ≡ here ++ q ∷ []
+    → (mid last : List Element) → mid ≡ es ++ slice_elements (text_slice at slice kept ∷ []) → last ≡ mid ++ element_of t ∷ []
+    → (here there : List Place) → here ≡ places ++ slice_places (text_slice at slice kept ∷ []) → there ≡ here ++ q ∷ []
     → Scans source x k y next last there
 step_at h t spelled rest x k y is fits cut words u v q qe next split se ne mid last me le here there he te = rw (ne, se, le, me, te, he) (scan_goes h t spelled rest x k y is fits cut words u v q qe)
 

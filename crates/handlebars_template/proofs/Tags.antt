@@ -9,7 +9,7 @@ use Rattle.handlebars_base.specs.PathReading.{stops, starts_reference, reference
 use Rattle.handlebars_base.proofs.References.{one_meaning, take-path, drop-path, stops-path, starts_other}
 use Rattle.handlebars_template.specs.Text.{braces}
 use Rattle.handlebars_template.specs.Tag.{Tag, expression_tag, IsTag, an_expression, IsWhite, is_white, IsNames, NoTag}
-use Rattle.handlebars_template.specs.TagSteps.{Follows, behind_white, behind_open, behind_close}
+use Rattle.handlebars_template.specs.TagReading.{Follows, behind_white, behind_open, behind_close}
 
 -- ---- white
 

@@ -8,9 +8,9 @@ use Rattle.handlebars_base.proofs.PathParts.{prefix_pass}
 use Rattle.std.specs.Str.{IsCharBoundary, IsUtf8}
 use Rattle.std.proofs.lemmas.Str.{IsCharBoundary-at_seam}
 use Rattle.std.proofs.lemmas.List.Sums.{prefix_len-le-length, prefix_len_stops}
-use Rattle.handlebars_template.specs.Text.{IsText, at_end, at_tag, a_byte, two_escaped, four_escaped, is_slash, slashes, braces, before_braces}
-use Rattle.handlebars_template.specs.TextSteps.{is_plain, GoesOn, Ends}
-use Rattle.handlebars_template.proofs.Runs.{run_is, slashes-drop, before_braces-run, two_braces, escape_at}
+use Rattle.handlebars_template.specs.Text.{IsText, at_end, at_tag, a_byte, two_escaped, four_escaped, is_backslash, backslashes, braces, before_braces}
+use Rattle.handlebars_template.specs.TextReading.{is_plain, GoesOn, Ends}
+use Rattle.handlebars_template.proofs.Runs.{run_is, backslashes-drop, before_braces-run, two_braces, escape_at}
 
 -- ---- one part
 
@@ -23,43 +23,43 @@ pub plain_bytes : (p follows slice more : List ℕ) → AllByRecursion (λ b. is
 plain_bytes [] follows slice more all h = h
 plain_bytes (b ∷ p) follows slice more all h = a_byte b (plain_clear b ((p ++ slice) ++ follows) all.0) (plain_bytes p follows slice more all.1 h)
 
-pub plain_part : (t : List ℕ) → GoesOn t (take (prefix_len is_plain t) t) (drop (prefix_len is_plain t) t)
-plain_part t = record {
+pub plain_chunk : (t : List ℕ) → GoesOn t (take (prefix_len is_plain t) t) (drop (prefix_len is_plain t) t)
+plain_chunk t = record {
   taken = take (prefix_len is_plain t) t;
   whole = sym (take-append-drop (prefix_len is_plain t) t);
   on = λ follows slice more e h. plain_bytes (take (prefix_len is_plain t) t) follows slice more (prefix_pass is_plain t) h;
 }
 
-run_bytes : (run : ℕ) (follows slice more : List ℕ) → slashes (slice ++ follows) ≡ 0 → braces (slice ++ follows) ≡ false → IsText follows slice more → IsText follows (replicate run 92 ++ slice) (replicate run 92 ++ more)
+run_bytes : (run : ℕ) (follows slice more : List ℕ) → backslashes (slice ++ follows) ≡ 0 → braces (slice ++ follows) ≡ false → IsText follows slice more → IsText follows (replicate run 92 ++ slice) (replicate run 92 ++ more)
 run_bytes zero follows slice more stop clear h = h
 run_bytes (suc run) follows slice more stop clear h =
     a_byte 92 (ap (λ (z : List ℕ). before_braces (92 ∷ z)) (append_assoc (replicate run 92) slice follows) ∙ before_braces-run (suc run) (slice ++ follows) stop ∙ clear) (run_bytes run follows slice more stop clear h)
 
 -- backslashes before which no braces stand
-pub run_part : (t : List ℕ) → before_braces t ≡ false → GoesOn t (take (slashes t) t) (drop (slashes t) t)
-run_part t clear = record {
-  taken = take (slashes t) t;
-  whole = sym (take-append-drop (slashes t) t);
-  on = λ follows slice more e h. rw (run_is t) (run_bytes (slashes t) follows slice more (ap slashes (sym e) ∙ slashes-drop t) (ap braces (sym e) ∙ clear) h);
+pub run_chunk : (t : List ℕ) → before_braces t ≡ false → GoesOn t (take (backslashes t) t) (drop (backslashes t) t)
+run_chunk t clear = record {
+  taken = take (backslashes t) t;
+  whole = sym (take-append-drop (backslashes t) t);
+  on = λ follows slice more e h. rw (run_is t) (run_bytes (backslashes t) follows slice more (ap backslashes (sym e) ∙ backslashes-drop t) (ap braces (sym e) ∙ clear) h);
 }
 
 -- one byte
-pub byte_part : (b : ℕ) (t : List ℕ) → before_braces (b ∷ t) ≡ false → GoesOn (b ∷ t) (b ∷ []) t
-byte_part b t clear = record {
+pub byte_chunk : (b : ℕ) (t : List ℕ) → before_braces (b ∷ t) ≡ false → GoesOn (b ∷ t) (b ∷ []) t
+byte_chunk b t clear = record {
   taken = b ∷ [];
   whole = refl;
   on = λ follows slice more e h. a_byte b (ap (λ (z : List ℕ). before_braces (b ∷ z)) (sym e) ∙ clear) h;
 }
 
-pub first_part : (t : List ℕ) → 0 < length t → before_braces t ≡ false → GoesOn t (take 1 t) (drop 1 t)
-first_part [] lt clear = absurd (omega arith)
-first_part (b ∷ t) lt clear = byte_part b t clear
+pub first_chunk : (t : List ℕ) → 0 < length t → before_braces t ≡ false → GoesOn t (take 1 t) (drop 1 t)
+first_chunk [] lt clear = absurd (omega arith)
+first_chunk (b ∷ t) lt clear = byte_chunk b t clear
 
-four_part : (r : List ℕ) → GoesOn (92 ∷ 123 ∷ 123 ∷ 123 ∷ 123 ∷ r) (123 ∷ 123 ∷ 123 ∷ 123 ∷ []) r
-four_part r = record { taken = 92 ∷ 123 ∷ 123 ∷ 123 ∷ 123 ∷ []; whole = refl; on = λ follows slice more e h. four_escaped h }
+four_chunk : (r : List ℕ) → GoesOn (92 ∷ 123 ∷ 123 ∷ 123 ∷ 123 ∷ r) (123 ∷ 123 ∷ 123 ∷ 123 ∷ []) r
+four_chunk r = record { taken = 92 ∷ 123 ∷ 123 ∷ 123 ∷ 123 ∷ []; whole = refl; on = λ follows slice more e h. four_escaped h }
 
-two_part : (r : List ℕ) → braces r ≡ false → GoesOn (92 ∷ 123 ∷ 123 ∷ r) (123 ∷ 123 ∷ []) r
-two_part r clear = record { taken = 92 ∷ 123 ∷ 123 ∷ []; whole = refl; on = λ follows slice more e h. two_escaped (ap braces (sym e) ∙ clear) h }
+two_chunk : (r : List ℕ) → braces r ≡ false → GoesOn (92 ∷ 123 ∷ 123 ∷ r) (123 ∷ 123 ∷ []) r
+two_chunk r clear = record { taken = 92 ∷ 123 ∷ 123 ∷ []; whole = refl; on = λ follows slice more e h. two_escaped (ap braces (sym e) ∙ clear) h }
 
 -- the braces that one backslash makes text
 abbrev pub escaped : List ℕ → ℕ
@@ -67,19 +67,19 @@ escaped t = cond (braces (drop 2 t)) 4 2
 
 escape_front : (r : List ℕ) → GoesOn (92 ∷ 123 ∷ 123 ∷ r) (take (escaped (123 ∷ 123 ∷ r)) (123 ∷ 123 ∷ r)) (drop (escaped (123 ∷ 123 ∷ r)) (123 ∷ 123 ∷ r))
 escape_front r = elim (cases_Bool (braces r)) [
-  | inl more ↦ let two = two_braces r more in rw (more, two.1) (four_part two.0)
-  | inr clear ↦ rw clear (two_part r clear)
+  | inl more ↦ let two = two_braces r more in rw (more, two.1) (four_chunk two.0)
+  | inr clear ↦ rw clear (two_chunk r clear)
 ]
 
-pub escape_part : (t : List ℕ) → before_braces t ≡ true → slashes t ≡ 1 → GoesOn t (take (escaped (drop 1 t)) (drop 1 t)) (drop (escaped (drop 1 t)) (drop 1 t))
-escape_part t marks one = let e = escape_at t marks one in rw e.1 (escape_front e.0)
+pub escape_chunk : (t : List ℕ) → before_braces t ≡ true → backslashes t ≡ 1 → GoesOn t (take (escaped (drop 1 t)) (drop 1 t)) (drop (escaped (drop 1 t)) (drop 1 t))
+escape_chunk t marks one = let e = escape_at t marks one in rw e.1 (escape_front e.0)
 
 -- no backslash before a tag
-pub bare_end : (t : List ℕ) → slashes t ≡ 0 → before_braces t ≡ true → Ends t (take 0 t) (drop 0 t)
+pub bare_end : (t : List ℕ) → backslashes t ≡ 0 → before_braces t ≡ true → Ends t (take 0 t) (drop 0 t)
 bare_end t none marks = record { taken = []; whole = refl; ends = at_tag 0 (subst (λ (n : ℕ). braces (drop n t) ≡ true) none marks) (λ e. absurd (omega (arith, e))) }
 
-run_shape : (t : List ℕ) → t ≡ replicate (slashes t) 92 ++ drop (slashes t) t
-run_shape t = sym (take-append-drop (slashes t) t) ∙ ap (λ (z : List ℕ). z ++ drop (slashes t) t) (run_is t)
+run_shape : (t : List ℕ) → t ≡ replicate (backslashes t) 92 ++ drop (backslashes t) t
+run_shape t = sym (take-append-drop (backslashes t) t) ∙ ap (λ (z : List ℕ). z ++ drop (backslashes t) t) (run_is t)
 
 less_one : (n : ℕ) → (suc n - 1) ≡ n
 less_one n = omega arith
@@ -96,10 +96,10 @@ end_at n y more marks = rw (less_one n, take_at (replicate n 92) y n (length-rep
 })
 
 -- several backslashes before a tag, of which the first is dropped
-pub run_end : (t : List ℕ) (run : ℕ) → run ≡ slashes t → run ≢ 0 → run ≢ 1 → before_braces t ≡ true → Ends t (take (run - 1) (drop 1 t)) (drop (run - 1) (drop 1 t))
+pub run_end : (t : List ℕ) (run : ℕ) → run ≡ backslashes t → run ≢ 0 → run ≢ 1 → before_braces t ≡ true → Ends t (take (run - 1) (drop 1 t)) (drop (run - 1) (drop 1 t))
 run_end t zero is some more marks = absurd (some refl)
 run_end t (suc n) is some more marks =
-    let y = drop (slashes t) t in
+    let y = drop (backslashes t) t in
     let shape : t ≡ replicate (suc n) 92 ++ y = run_shape t ∙ ap (λ (k : ℕ). replicate k 92 ++ y) (sym is) in
     subst (λ (z : List ℕ). Ends z (take (suc n - 1) (drop 1 z)) (drop (suc n - 1) (drop 1 z))) (sym shape) (end_at n y more marks)
 
@@ -153,26 +153,26 @@ first_ascii t none some =
     let lt : prefix_len is_plain t < length t = omega arith in
     subst (λ (n : ℕ). get_or t n 0 < 128) none (mark_ascii _ (prefix_len_stops is_plain t 0 lt))
 
-in_run : (t : List ℕ) (k : ℕ) → k < slashes t → get_or t k 0 ≡ 92
+in_run : (t : List ℕ) (k : ℕ) → k < backslashes t → get_or t k 0 ≡ 92
 in_run [] k lt = absurd (omega arith)
-in_run (b ∷ t) zero lt = elim (cases_Bool (is_slash b)) [
+in_run (b ∷ t) zero lt = elim (cases_Bool (is_backslash b)) [
   | inl slash ↦ eqb-true b 92 slash
-  | inr other ↦ let none : slashes (b ∷ t) ≡ 0 = rw other refl in absurd (omega arith)
+  | inr other ↦ let none : backslashes (b ∷ t) ≡ 0 = rw other refl in absurd (omega arith)
 ]
-in_run (b ∷ t) (suc k) lt = elim (cases_Bool (is_slash b)) [
-  | inl slash ↦ let more : slashes (b ∷ t) ≡ 1 + slashes t = rw slash refl in in_run t k (omega arith)
-  | inr other ↦ let none : slashes (b ∷ t) ≡ 0 = rw other refl in absurd (omega arith)
+in_run (b ∷ t) (suc k) lt = elim (cases_Bool (is_backslash b)) [
+  | inl slash ↦ let more : backslashes (b ∷ t) ≡ 1 + backslashes t = rw slash refl in in_run t k (omega arith)
+  | inr other ↦ let none : backslashes (b ∷ t) ≡ 0 = rw other refl in absurd (omega arith)
 ]
 
-pub run_ascii : (t : List ℕ) (run : ℕ) → run ≡ slashes t → run ≢ 0 → get_or t (run - 1) 0 < 128
+pub run_ascii : (t : List ℕ) (run : ℕ) → run ≡ backslashes t → run ≢ 0 → get_or t (run - 1) 0 < 128
 run_ascii t zero is some = absurd (some refl)
 run_ascii t (suc n) is some = let e = in_run t (suc n - 1) (omega (arith, is)) in omega (arith, e)
 
-pub slashes_fit : (t : List ℕ) → slashes t ≤ length t
-slashes_fit t = prefix_len-le-length is_slash t
+pub slashes_fit : (t : List ℕ) → backslashes t ≤ length t
+slashes_fit t = prefix_len-le-length is_backslash t
 
 -- behind the first of several backslashes
-pub more_ascii : (t : List ℕ) (run : ℕ) → run ≡ slashes t → run ≢ 0 → run ≢ 1 → get_or (drop 1 t) (run - 1 - 1) 0 < 128
+pub more_ascii : (t : List ℕ) (run : ℕ) → run ≡ backslashes t → run ≢ 0 → run ≢ 1 → get_or (drop 1 t) (run - 1 - 1) 0 < 128
 more_ascii [] run is some more = absurd (some is)
 more_ascii (b ∷ t) zero is some more = absurd (some refl)
 more_ascii (b ∷ t) (suc zero) is some more = absurd (more refl)
@@ -187,7 +187,7 @@ escaped_at r = elim (cases_Bool (braces r)) [
   | inr clear ↦ rw clear (omega arith, omega arith, omega arith)
 ]
 
-pub escaped_fits : (t : List ℕ) → before_braces t ≡ true → slashes t ≡ 1 → (2 ≤ length (drop 1 t)) × (escaped (drop 1 t) ≤ length (drop 1 t)) × (get_or (drop 1 t) (escaped (drop 1 t) - 1) 0 < 128) × (0 < escaped (drop 1 t))
+pub escaped_fits : (t : List ℕ) → before_braces t ≡ true → backslashes t ≡ 1 → (2 ≤ length (drop 1 t)) × (escaped (drop 1 t) ≤ length (drop 1 t)) × (get_or (drop 1 t) (escaped (drop 1 t) - 1) 0 < 128) × (0 < escaped (drop 1 t))
 escaped_fits t marks one =
     let e = escape_at t marks one in
     let f = escaped_at e.0 in
@@ -200,8 +200,8 @@ pub shorter_more : (t : List ℕ) (n : ℕ) → 0 < length t → length (drop n 
 shorter_more t n lt = omega (arith, length-drop n (drop 1 t), length-drop 1 t)
 
 -- what the code tested
-pub before_is : (t a b u : List ℕ) (run : ℕ) (v : Bool) → a ≡ t → run ≡ slashes a → b ≡ t → u ≡ drop run b → v ≡ braces u → before_braces t ≡ v
-before_is t a b u run v ae re be ue ve = sym (ve ∙ ap braces (ue ∙ ap (drop run) be ∙ ap (λ (n : ℕ). drop n t) (re ∙ ap slashes ae)))
+pub before_is : (t a b u : List ℕ) (run : ℕ) (v : Bool) → a ≡ t → run ≡ backslashes a → b ≡ t → u ≡ drop run b → v ≡ braces u → before_braces t ≡ v
+before_is t a b u run v ae re be ue ve = sym (ve ∙ ap braces (ue ∙ ap (drop run) be ∙ ap (λ (n : ℕ). drop n t) (re ∙ ap backslashes ae)))
 
 pub some_left : (t : List ℕ) → before_braces t ≡ true → 0 < length t
 some_left [] h = absurd cc

@@ -2,7 +2,7 @@
 use Rattle.std.proofs.Common.{◌≡◌, ◌∙◌, ◌++◌, ◌∷◌, [], List, map, refl, sym, None, option_map, length}
 use Rattle.handlebars_template.specs.Place.{Place}
 use Rattle.handlebars_template.specs.Tree.{Tree, tree, Element, Call, Decorator, Param, Binding}
-use Rattle.handlebars_template.specs.TreeView.{text, place_of, element_view, tree_view, elements_view, binding_step, param_step, element_step, decorator_step, call_step, subexpression_step, tree_step}
+use Rattle.handlebars_template.specs.TreeView.{text, place_of, element_view, tree_view, elements_view, binding_layer, param_layer, element_layer, decorator_layer, call_layer, subexpression_layer, tree_layer}
 use Rattle.handlebars_template.specs.declared.template.tree.BlockParam.{BlockParam}
 use Rattle.handlebars_template.specs.declared.template.tree.BlockParam.TheOpen.{Template-F}
 use Rattle.handlebars_template.specs.declared.template.tree.BlockParam.TheViews.{roll-Template, out-Template}
@@ -13,27 +13,27 @@ use Rattle.handlebars_template.specs.declared.template.tree.Template.{Template}
 use Rattle.handlebars_template.specs.declared.template.tree.TemplateElement.{TemplateElement}
 use Rattle.handlebars_template.specs.declared.template.tree.Parameter.{Parameter}
 use Rattle.handlebars_template.specs.declared.template.tree.Subexpression.{Subexpression}
-use Rattle.handlebars_template.specs.Cut.{Piece, text_piece}
-use Rattle.handlebars_template.specs.Compile.{no_options, Compiles, compiled, tree_of, piece_elements, piece_places}
+use Rattle.handlebars_template.specs.Cut.{Slice, text_slice}
+use Rattle.handlebars_template.specs.Compile.{no_options, Compiles, compiled, tree_of, slice_elements, slice_places}
 use Rattle.handlebars_template.proofs.Scan.{Scans, scan_ends, end_elements, end_places}
 use Rattle.std.proofs.Common.{ℕ, subst}
 
 pub tree_view-roll : (x : Template-F BlockParam Parameter TemplateElement DecoratorTemplate HelperTemplate Subexpression Template)
     → tree_view (roll-Template x) ≡ tree (option_map text x.name) (elements_view x.elements.items) (map place_of x.mapping.items)
-tree_view-roll x = fold-roll-Template Binding Param Element Decorator Call Element Tree binding_step param_step element_step decorator_step call_step subexpression_step tree_step x
+tree_view-roll x = fold-roll-Template Binding Param Element Decorator Call Element Tree binding_layer param_layer element_layer decorator_layer call_layer subexpression_layer tree_layer x
 
 pub tree_view-out : (t : Template)
     → tree_view t ≡ tree (option_map text (out-Template t).name) (elements_view (out-Template t).elements.items) (map place_of (out-Template t).mapping.items)
-tree_view-out t = fold_out-Template Binding Param Element Decorator Call Element Tree binding_step param_step element_step decorator_step call_step subexpression_step tree_step t
+tree_view-out t = fold_out-Template Binding Param Element Decorator Call Element Tree binding_layer param_layer element_layer decorator_layer call_layer subexpression_layer tree_layer t
 
 -- at the end of the source
 pub tree_at : {source slice kept left : List ℕ} {at : Place} {es : List Element} {places : List Place} → Scans source slice kept left at es places → length left ≡ 0
     → (x : Template-F BlockParam Parameter TemplateElement DecoratorTemplate HelperTemplate Subexpression Template) → x.name ≡ None
-    → map element_view x.elements.items ≡ es ++ piece_elements (text_piece at slice kept ∷ [])
-    → map place_of x.mapping.items ≡ places ++ piece_places (text_piece at slice kept ∷ [])
+    → map element_view x.elements.items ≡ es ++ slice_elements (text_slice at slice kept ∷ [])
+    → map place_of x.mapping.items ≡ places ++ slice_places (text_slice at slice kept ∷ [])
     → Compiles source no_options (compiled (tree_view (roll-Template x)))
 tree_at {source} {slice} {kept} {left} {at} {es} {places} h over x none elements mapping =
-    let ps : List Piece = h.pieces ++ text_piece at slice kept ∷ [] in
+    let ps : List Slice = h.slices ++ text_slice at slice kept ∷ [] in
     let is : tree_view (roll-Template x) ≡ tree_of no_options ps =
     tree_view-roll x ∙ rw (none, elements ∙ sym (end_elements h), mapping ∙ sym (end_places h)) refl in
     subst (λ (t : Tree). Compiles source no_options (compiled t)) (sym is) (scan_ends h over no_options)

@@ -1,11 +1,11 @@
 -- What compiling a source answers: its tree, or the first refusal.
 use Rattle.std.specs.Prelude.{◌≡◌, ℕ, Bool, true, false, List, [], ◌∷◌, ◌++◌, Option, None, Some, unwrap_or, codes}
-use Rattle.handlebars_base.specs.Reasons.{TemplateFault, invalid_syntax}
+use Rattle.handlebars_base.specs.Reasons.{TemplateRefusal, invalid_syntax}
 use Rattle.handlebars_base.specs.Path.{Reference}
 use Rattle.handlebars_template.specs.Place.{Place, place}
 use Rattle.handlebars_template.specs.Text.{IsText, braces}
 use Rattle.handlebars_template.specs.Tag.{Tag, expression_tag, NoTag}
-use Rattle.handlebars_template.specs.Cut.{Piece, text_piece, tag_piece, Begins, IsCut}
+use Rattle.handlebars_template.specs.Cut.{Slice, text_slice, tag_slice, Reads, IsCut}
 use Rattle.handlebars_template.specs.Tree.{Tree, tree, elements_of, Element, raw_string, expression, Call, call, path, no_params, no_pairs, no_binding, no_body}
 
 -- the name of the template, if it has one, and whether inclusions add no indentation
@@ -24,44 +24,44 @@ abbrev pub element_of : Tag → Element
 element_of (expression_tag means) = expression (value_call means)
 
 -- An empty slice has no element; any other text has one, and each tag has one.
-abbrev pub piece_elements : List Piece → List Element
-piece_elements [] = []
-piece_elements (text_piece p [] kept ∷ ps) = piece_elements ps
-piece_elements (text_piece p (b ∷ slice) kept ∷ ps) = raw_string kept ∷ piece_elements ps
-piece_elements (tag_piece p slice t ∷ ps) = element_of t ∷ piece_elements ps
+abbrev pub slice_elements : List Slice → List Element
+slice_elements [] = []
+slice_elements (text_slice p [] kept ∷ ps) = slice_elements ps
+slice_elements (text_slice p (b ∷ slice) kept ∷ ps) = raw_string kept ∷ slice_elements ps
+slice_elements (tag_slice p slice t ∷ ps) = element_of t ∷ slice_elements ps
 
 -- the places of these elements
-abbrev pub piece_places : List Piece → List Place
-piece_places [] = []
-piece_places (text_piece p [] kept ∷ ps) = piece_places ps
-piece_places (text_piece p (b ∷ slice) kept ∷ ps) = p ∷ piece_places ps
-piece_places (tag_piece p slice t ∷ ps) = p ∷ piece_places ps
+abbrev pub slice_places : List Slice → List Place
+slice_places [] = []
+slice_places (text_slice p [] kept ∷ ps) = slice_places ps
+slice_places (text_slice p (b ∷ slice) kept ∷ ps) = p ∷ slice_places ps
+slice_places (tag_slice p slice t ∷ ps) = p ∷ slice_places ps
 
-abbrev pub tree_of : Options → List Piece → Tree
-tree_of options ps = tree options.name (elements_of (piece_elements ps)) (piece_places ps)
+abbrev pub tree_of : Options → List Slice → Tree
+tree_of options ps = tree options.name (elements_of (slice_elements ps)) (slice_places ps)
 
-abbrev pub unreadable : Options → Place → TemplateFault
+abbrev pub unreadable : Options → Place → TemplateRefusal
 unreadable options p = record {
   reason = invalid_syntax (codes "unreadable tag");
   name = Some (unwrap_or options.name (codes "Unnamed"));
   position = Some (p.line, p.column);
 }
 
-pub data Outcome : Type 0 where
-  compiled : Tree → Outcome
-  refused : TemplateFault → Outcome
+pub data Compilation : Type 0 where
+  compiled : Tree → Compilation
+  refused : TemplateRefusal → Compilation
 
-pub data Compiles (source : List ℕ) (options : Options) : Outcome → Type 0 where
+pub data Compiles (source : List ℕ) (options : Options) : Compilation → Type 0 where
   -- the source is texts and tags to its end
-  whole : {ps : List Piece} → IsCut source ps → Compiles source options (compiled (tree_of options ps))
+  whole : {ps : List Slice} → IsCut source ps → Compiles source options (compiled (tree_of options ps))
   -- Behind a beginning of texts and tags and one more text stand braces with which no tag begins.
-  no_tag : {before : List ℕ} {ps : List Piece} → Begins source before ps
+  no_tag : {before : List ℕ} {ps : List Slice} → Reads source before ps
       → (text kept left : List ℕ) → source ≡ before ++ (text ++ left) → IsText left text kept → braces left ≡ true → NoTag left
       → Compiles source options (refused (unreadable options (place (before ++ text))))
 
 -- A source has at most one cut, and at most one outcome.
 abbrev pub OneCut : Type 0
-OneCut = (source : List ℕ) (ps qs : List Piece) → IsCut source ps → IsCut source qs → ps ≡ qs
+OneCut = (source : List ℕ) (ps qs : List Slice) → IsCut source ps → IsCut source qs → ps ≡ qs
 
-abbrev pub OneOutcome : Type 0
-OneOutcome = (source : List ℕ) (options : Options) (a b : Outcome) → Compiles source options a → Compiles source options b → a ≡ b
+abbrev pub OneCompilation : Type 0
+OneCompilation = (source : List ℕ) (options : Options) (a b : Compilation) → Compiles source options a → Compiles source options b → a ≡ b

@@ -1,8 +1,8 @@
 pub mod Place
 pub mod Text
-pub mod TextSteps
+pub mod TextReading
 pub mod Tag
-pub mod TagSteps
+pub mod TagReading
 pub mod Cut
 pub mod Tree
 pub mod TreeView

@@ -10,12 +10,12 @@ abbrev pub origin : Place
 origin = record { line = 1; column = 1 }
 
 -- behind one character: a newline begins a line
-abbrev pub step : Place → ℕ → Place
-step p c = if c == 10 then record { line = p.line + 1; column = 1 } else record { line = p.line; column = p.column + 1 }
+abbrev pub behind_char : Place → ℕ → Place
+behind_char p c = if c == 10 then record { line = p.line + 1; column = 1 } else record { line = p.line; column = p.column + 1 }
 
 -- behind a text that begins at a place
 abbrev pub behind : Place → List ℕ → Place
-behind p text = fold step p (chars text)
+behind p text = fold behind_char p (chars text)
 
 -- behind the first part of a source
 abbrev pub place : List ℕ → Place

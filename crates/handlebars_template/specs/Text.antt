@@ -2,12 +2,12 @@
 use Rattle.std.specs.Prelude.{◌≡◌, ◌≢◌, ℕ, ◌-◌, Bool, true, false, ◌&&◌, ◌==◌, List, [], ◌∷◌, ◌++◌, drop, replicate}
 use Rattle.std.specs.List.{prefix_len}
 
-abbrev pub is_slash : ℕ → Bool
-is_slash b = b == 92
+abbrev pub is_backslash : ℕ → Bool
+is_backslash b = b == 92
 
 -- how many backslashes stand in front
-abbrev pub slashes : List ℕ → ℕ
-slashes t = prefix_len is_slash t
+abbrev pub backslashes : List ℕ → ℕ
+backslashes t = prefix_len is_backslash t
 
 -- two opening braces stand in front
 abbrev pub braces : List ℕ → Bool
@@ -17,7 +17,7 @@ braces (a ∷ b ∷ t) = (a == 123) && (b == 123)
 
 -- a run of backslashes in front, none or more, stands directly before braces
 abbrev pub before_braces : List ℕ → Bool
-before_braces t = braces (drop (slashes t) t)
+before_braces t = braces (drop (backslashes t) t)
 
 -- IsText follows slice kept: the slice is a whole text where these bytes follow, and this is kept of it.
 pub data IsText (follows : List ℕ) : List ℕ → List ℕ → Type 0 where

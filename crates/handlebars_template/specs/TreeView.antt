@@ -34,60 +34,60 @@ body_of None = no_body
 body_of (Some t) = body t
 
 -- one level each, with what is inside already seen
-abbrev pub binding_step : BlockParam-F Binding Param Element Decorator Call Element Tree → Binding
-binding_step (BlockParam-F.Single p) = single p
-binding_step (BlockParam-F.Pair p) = both p.0 p.1
+abbrev pub binding_layer : BlockParam-F Binding Param Element Decorator Call Element Tree → Binding
+binding_layer (BlockParam-F.Single p) = single p
+binding_layer (BlockParam-F.Pair p) = both p.0 p.1
 
-abbrev pub param_step : Parameter-F Binding Param Element Decorator Call Element Tree → Param
-param_step (Parameter-F.Name s) = name (text s)
-param_step (Parameter-F.Path p) = path (reference_of p)
-param_step (Parameter-F.Literal v) = literal (json.view v)
-param_step (Parameter-F.Subexpression s) = subexpression s
+abbrev pub param_layer : Parameter-F Binding Param Element Decorator Call Element Tree → Param
+param_layer (Parameter-F.Name s) = name (text s)
+param_layer (Parameter-F.Path p) = path (reference_of p)
+param_layer (Parameter-F.Literal v) = literal (json.view v)
+param_layer (Parameter-F.Subexpression s) = subexpression s
 
-abbrev pub element_step : TemplateElement-F Binding Param Element Decorator Call Element Tree → Element
-element_step (TemplateElement-F.RawString s) = raw_string (text s)
-element_step (TemplateElement-F.HtmlExpression b) = html_expression b.value
-element_step (TemplateElement-F.Expression b) = expression b.value
-element_step (TemplateElement-F.HelperBlock b) = helper_block b.value
-element_step (TemplateElement-F.DecoratorExpression b) = decorator_expression b.value
-element_step (TemplateElement-F.DecoratorBlock b) = decorator_block b.value
-element_step (TemplateElement-F.PartialExpression b) = partial_expression b.value
-element_step (TemplateElement-F.PartialBlock b) = partial_block b.value
-element_step (TemplateElement-F.Comment s) = comment (text s)
+abbrev pub element_layer : TemplateElement-F Binding Param Element Decorator Call Element Tree → Element
+element_layer (TemplateElement-F.RawString s) = raw_string (text s)
+element_layer (TemplateElement-F.HtmlExpression b) = html_expression b.value
+element_layer (TemplateElement-F.Expression b) = expression b.value
+element_layer (TemplateElement-F.HelperBlock b) = helper_block b.value
+element_layer (TemplateElement-F.DecoratorExpression b) = decorator_expression b.value
+element_layer (TemplateElement-F.DecoratorBlock b) = decorator_block b.value
+element_layer (TemplateElement-F.PartialExpression b) = partial_expression b.value
+element_layer (TemplateElement-F.PartialBlock b) = partial_block b.value
+element_layer (TemplateElement-F.Comment s) = comment (text s)
 
-abbrev pub decorator_step : DecoratorTemplate-F Binding Param Element Decorator Call Element Tree → Decorator
-decorator_step t = decorator t.name (params_of t.params.items) (pairs_of t.hash.entries) (body_of t.template) (option_map text t.indent) t.indent_before_write
+abbrev pub decorator_layer : DecoratorTemplate-F Binding Param Element Decorator Call Element Tree → Decorator
+decorator_layer t = decorator t.name (params_of t.params.items) (pairs_of t.hash.entries) (body_of t.template) (option_map text t.indent) t.indent_before_write
 
-abbrev pub call_step : HelperTemplate-F Binding Param Element Decorator Call Element Tree → Call
-call_step h = call h.name (params_of h.params.items) (pairs_of h.hash.entries) (binding_of h.block_param) (body_of h.template) (body_of h.inverse) h.block h.chain h.indent_before_write
+abbrev pub call_layer : HelperTemplate-F Binding Param Element Decorator Call Element Tree → Call
+call_layer h = call h.name (params_of h.params.items) (pairs_of h.hash.entries) (binding_of h.block_param) (body_of h.template) (body_of h.inverse) h.block h.chain h.indent_before_write
 
-abbrev pub subexpression_step : Subexpression-F Binding Param Element Decorator Call Element Tree → Element
-subexpression_step s = s.element.value
+abbrev pub subexpression_layer : Subexpression-F Binding Param Element Decorator Call Element Tree → Element
+subexpression_layer s = s.element.value
 
-abbrev pub tree_step : Template-F Binding Param Element Decorator Call Element Tree → Tree
-tree_step t = tree (option_map text t.name) (elements_of t.elements.items) (map place_of t.mapping.items)
+abbrev pub tree_layer : Template-F Binding Param Element Decorator Call Element Tree → Tree
+tree_layer t = tree (option_map text t.name) (elements_of t.elements.items) (map place_of t.mapping.items)
 
 -- what each type stands for
 abbrev pub binding_view : BlockParam → Binding
-binding_view = fold-BlockParam Binding Param Element Decorator Call Element Tree binding_step param_step element_step decorator_step call_step subexpression_step tree_step
+binding_view = fold-BlockParam Binding Param Element Decorator Call Element Tree binding_layer param_layer element_layer decorator_layer call_layer subexpression_layer tree_layer
 
 abbrev pub param_view : Parameter → Param
-param_view = fold-Parameter Binding Param Element Decorator Call Element Tree binding_step param_step element_step decorator_step call_step subexpression_step tree_step
+param_view = fold-Parameter Binding Param Element Decorator Call Element Tree binding_layer param_layer element_layer decorator_layer call_layer subexpression_layer tree_layer
 
 abbrev pub element_view : TemplateElement → Element
-element_view = fold-TemplateElement Binding Param Element Decorator Call Element Tree binding_step param_step element_step decorator_step call_step subexpression_step tree_step
+element_view = fold-TemplateElement Binding Param Element Decorator Call Element Tree binding_layer param_layer element_layer decorator_layer call_layer subexpression_layer tree_layer
 
 abbrev pub decorator_view : DecoratorTemplate → Decorator
-decorator_view = fold-DecoratorTemplate Binding Param Element Decorator Call Element Tree binding_step param_step element_step decorator_step call_step subexpression_step tree_step
+decorator_view = fold-DecoratorTemplate Binding Param Element Decorator Call Element Tree binding_layer param_layer element_layer decorator_layer call_layer subexpression_layer tree_layer
 
 abbrev pub call_view : HelperTemplate → Call
-call_view = fold-HelperTemplate Binding Param Element Decorator Call Element Tree binding_step param_step element_step decorator_step call_step subexpression_step tree_step
+call_view = fold-HelperTemplate Binding Param Element Decorator Call Element Tree binding_layer param_layer element_layer decorator_layer call_layer subexpression_layer tree_layer
 
 abbrev pub subexpression_view : Subexpression → Element
-subexpression_view = fold-Subexpression Binding Param Element Decorator Call Element Tree binding_step param_step element_step decorator_step call_step subexpression_step tree_step
+subexpression_view = fold-Subexpression Binding Param Element Decorator Call Element Tree binding_layer param_layer element_layer decorator_layer call_layer subexpression_layer tree_layer
 
 abbrev pub tree_view : Template → Tree
-tree_view = fold-Template Binding Param Element Decorator Call Element Tree binding_step param_step element_step decorator_step call_step subexpression_step tree_step
+tree_view = fold-Template Binding Param Element Decorator Call Element Tree binding_layer param_layer element_layer decorator_layer call_layer subexpression_layer tree_layer
 
 abbrev pub elements_view : List TemplateElement → Elements
 elements_view es = elements_of (map element_view es)

@@ -1,7 +1,7 @@
 //! `hbs TEMPLATE DATA`: prints what a template gives over JSON data.
 #![tactic(auto)]
 
-mod fault;
+mod failure;
 mod files;
 mod run;
 #[cfg(test)]

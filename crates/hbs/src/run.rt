@@ -2,7 +2,7 @@
 
 ghost use Rattle.std.specs.Prelude.{◌≡◌, ◌≢◌, ◌≤◌, Err, IfOk, length, vec_len};
 
-use crate::fault::Fault;
+use crate::failure::Failure;
 use crate::text::text;
 use crate::words::Word;
 use handlebars::TemplateReader;
@@ -42,17 +42,17 @@ fn run_words<R: TemplateReader, O: Write, E: Write>(
 {
     match print(alloc, words, files, out) {
         Ok(()) => 0,
-        Err(fault) => report(&fault, err),
+        Err(failure) => report(&failure, err),
     }
 }
 
-// Says a fault, and answers its status. Where it can't be said, the status still tells of it.
-fn report<E: Write>(fault: &Fault<'_>, err: &mut E) -> u8
+// Says a failure, and answers its status. Where it can't be said, the status still tells of it.
+fn report<E: Write>(failure: &Failure<'_>, err: &mut E) -> u8
     ensures bound { result ≤ 2 }
-    ensures usage { fault.now ≡ Fault.Usage → result ≡ 2 }
+    ensures usage { failure.now ≡ Failure.Usage → result ≡ 2 }
 {
-    let _ = writeln!(err, "{fault}");
-    fault.status()
+    let _ = writeln!(err, "{failure}");
+    failure.status()
 }
 
 fn print<'a, R: TemplateReader, O: Write>(
@@ -60,16 +60,16 @@ fn print<'a, R: TemplateReader, O: Write>(
     words: &'a [Word],
     files: &mut R,
     out: &mut O,
-) -> Result<(), Fault<'a>>
-    ensures usage { length words.now ≢ 2 → result ≡ Err Fault.Usage }
+) -> Result<(), Failure<'a>>
+    ensures usage { length words.now ≢ 2 → result ≡ Err Failure.Usage }
 {
     let [Word::Text(template), Word::Text(data)] = words else {
-        return Err(Fault::Usage);
+        return Err(Failure::Usage);
     };
     let text = text(alloc, template.as_str(), data.as_str(), files)?;
     match write_text(text.as_str(), out) {
         Ok(()) => Ok(()),
-        Err(_) => Err(Fault::CannotWrite),
+        Err(_) => Err(Failure::CannotWrite),
     }
 }
 

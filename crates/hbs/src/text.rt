@@ -1,6 +1,6 @@
 //! The text that a run prints.
 
-use crate::fault::Fault;
+use crate::failure::Failure;
 use crate::files::NoFiles;
 use handlebars::{Context, JsonValue, Registry, TemplateReader};
 use log::sink::Discard;
@@ -12,7 +12,7 @@ pub fn text<'a, R: TemplateReader>(
     template: &'a str,
     data: &'a str,
     files: &mut R,
-) -> Result<String, Fault<'a>> {
+) -> Result<String, Failure<'a>> {
     let source = read(template, files)?;
     let value = json(alloc, data, read(data, files)?.as_str())?;
     let context = Context::try_from(value)?;
@@ -26,21 +26,21 @@ pub fn text<'a, R: TemplateReader>(
     Ok(text)
 }
 
-fn read<'a, R: TemplateReader>(path: &'a str, files: &mut R) -> Result<String, Fault<'a>> {
+fn read<'a, R: TemplateReader>(path: &'a str, files: &mut R) -> Result<String, Failure<'a>> {
     match files.read(path) {
         Ok(text) => Ok(text),
-        Err(cause) => Err(Fault::of_reader(path, cause)),
+        Err(cause) => Err(Failure::of_reader(path, cause)),
     }
 }
 
 // The value that the text of a file is.
-fn json<'a>(alloc: Global, path: &'a str, text: &str) -> Result<JsonValue, Fault<'a>> {
+fn json<'a>(alloc: Global, path: &'a str, text: &str) -> Result<JsonValue, Failure<'a>> {
     match JsonValue::from_str(alloc, text) {
         Ok(value) => Ok(value),
         Err(cause) => Err(if cause.is_memory() {
-            Fault::OutOfMemory
+            Failure::OutOfMemory
         } else {
-            Fault::NotJson(path)
+            Failure::NotJson(path)
         }),
     }
 }

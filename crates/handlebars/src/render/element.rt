@@ -4,13 +4,13 @@ ghost use Rattle.std.specs.Prelude.{◌≡◌, ◌≢◌, IfOk, IfErr, List, ℕ
 ghost use Rattle.serde_json.specs.View.{view};
 ghost use Rattle.handlebars_base.specs.Answers.{Answers};
 ghost use Rattle.handlebars_base.specs.Reasons.{out_of_memory, helper_not_found, decorator_not_found, partial_not_found};
-ghost use Rattle.handlebars_base.specs.RenderFaults.{fault_of, plain_fault, reason_in};
+ghost use Rattle.handlebars_base.specs.RenderRefusals.{refusal_of, plain_refusal, reason_in};
 ghost use Rattle.handlebars_base.specs.Values.{rendered};
 ghost use Rattle.handlebars_template.specs.TreeView.{element_view, call_view, decorator_view, param_view, params_view, pairs_view};
 ghost use Rattle.handlebars_scope.specs.Escape.{escaped};
 ghost use Rattle.handlebars_scope.specs.Put.{Origin, Site, line_behind, ends_line};
 ghost use Rattle.handlebars.specs.State.{Setting};
-ghost use Rattle.handlebars.specs.Means.{put, show, express, one, lacks_params, lacks_pairs, value_of, param_value, written_text, call_name, decorator_name};
+ghost use Rattle.handlebars.specs.Means.{put, show, render_expression, render_element, lacks_params, lacks_pairs, value_of, param_value, written_text, call_name, decorator_name};
 ghost use Rattle.handlebars.specs.Steps.{run};
 ghost use Rattle.handlebars.specs.View.{state_of, has_failed, line_of, held, CarriesOut};
 
@@ -34,32 +34,32 @@ pub fn render_element<O: Output>(
     rc: &mut RenderContext,
     out: &mut O,
 ) -> Result<(), RenderError>
-    ensures renders { (site : Site) → CarriesOut (record { given = view data.now }) (run (one (record { given = view data.now }) site (element_view element.now))) O.may_give (state_of rc.old)
+    ensures renders { (site : Site) → CarriesOut (record { given = view data.now }) (run (render_element (record { given = view data.now }) site (element_view element.now))) O.may_give (state_of rc.old)
         (held (O.text out.old) (O.faults out.old)) result (state_of rc.new) (held (O.text out.new) (O.faults out.new)) }
     ensures ready { has_failed rc.new ≡ has_failed rc.old }
 {
     match element {
         TemplateElement::RawString(text) => put(rc, out, text.as_str()),
-        TemplateElement::Expression(helper) => expression(alloc, helper, data, rc, out),
+        TemplateElement::Expression(helper) => render_expression(alloc, helper, data, rc, out),
         TemplateElement::Comment(_) => Ok(()),
-        TemplateElement::HtmlExpression(helper) => Err(no_helper(alloc, helper)),
-        TemplateElement::HelperBlock(helper) => Err(no_helper(alloc, helper)),
-        TemplateElement::DecoratorExpression(tag) => Err(no_decorator(alloc, tag)),
-        TemplateElement::DecoratorBlock(tag) => Err(no_decorator(alloc, tag)),
-        TemplateElement::PartialExpression(tag) => Err(no_partial(alloc, tag)),
-        TemplateElement::PartialBlock(tag) => Err(no_partial(alloc, tag)),
+        TemplateElement::HtmlExpression(helper) => Err(helper_not_found(alloc, helper)),
+        TemplateElement::HelperBlock(helper) => Err(helper_not_found(alloc, helper)),
+        TemplateElement::DecoratorExpression(tag) => Err(decorator_not_found(alloc, tag)),
+        TemplateElement::DecoratorBlock(tag) => Err(decorator_not_found(alloc, tag)),
+        TemplateElement::PartialExpression(tag) => Err(partial_not_found(alloc, tag)),
+        TemplateElement::PartialBlock(tag) => Err(partial_not_found(alloc, tag)),
     }
 }
 
 // Writes the value of an expression.
-fn expression<O: Output>(
+fn render_expression<O: Output>(
     alloc: Global,
     helper: &HelperTemplate,
     data: &Json,
     rc: &mut RenderContext,
     out: &mut O,
 ) -> Result<(), RenderError>
-    ensures renders { (site : Site) → CarriesOut (record { given = view data.now }) (run (express (view data.now) site (call_view helper.now))) O.may_give (state_of rc.old)
+    ensures renders { (site : Site) → CarriesOut (record { given = view data.now }) (run (render_expression (view data.now) site (call_view helper.now))) O.may_give (state_of rc.old)
         (held (O.text out.old) (O.faults out.old)) result (state_of rc.new) (held (O.text out.new) (O.faults out.new)) }
     ensures ready { has_failed rc.new ≡ has_failed rc.old }
 {
@@ -110,12 +110,12 @@ fn value_of<'a>(
     data: &'a Json,
 ) -> Result<Option<&'a Json>, RenderError>
     ensures value { Answers (option_map (λ v. view v.now)) result (value_of (view data.now) (call_view helper.now)) }
-    ensures plain { IfErr result (λ e. fault_of e ≡ plain_fault (reason_in e)) }
+    ensures plain { IfErr result (λ e. refusal_of e ≡ plain_refusal (reason_in e)) }
 {
     if lacks_params(&helper.params) && lacks_pairs(&helper.hash) {
         param_value(alloc, &helper.name, data)
     } else {
-        Err(no_helper(alloc, helper))
+        Err(helper_not_found(alloc, helper))
     }
 }
 
@@ -138,7 +138,7 @@ fn param_value<'a>(
     data: &'a Json,
 ) -> Result<Option<&'a Json>, RenderError>
     ensures value { Answers (option_map (λ v. view v.now)) result (param_value (view data.now) (param_view parameter.now)) }
-    ensures plain { IfErr result (λ e. fault_of e ≡ plain_fault (reason_in e)) }
+    ensures plain { IfErr result (λ e. refusal_of e ≡ plain_refusal (reason_in e)) }
 {
     match parameter {
         Parameter::Path(path) => resolve(data, path),
@@ -189,8 +189,8 @@ fn ends_line(text: &[u8]) -> bool
 }
 
 // The refusals of what nothing is registered for, by the name as written.
-fn no_helper(alloc: Global, helper: &HelperTemplate) -> RenderError
-    ensures plain { fault_of result ≡ plain_fault (reason_in result) }
+fn helper_not_found(alloc: Global, helper: &HelperTemplate) -> RenderError
+    ensures plain { refusal_of result ≡ plain_refusal (reason_in result) }
     ensures reason { reason_in result ≢ out_of_memory → reason_in result ≡ helper_not_found (call_name (call_view helper.now)) }
 {
     match String::from_str(alloc, written_text(&helper.name)) {
@@ -199,8 +199,8 @@ fn no_helper(alloc: Global, helper: &HelperTemplate) -> RenderError
     }
 }
 
-fn no_decorator(alloc: Global, tag: &DecoratorTemplate) -> RenderError
-    ensures plain { fault_of result ≡ plain_fault (reason_in result) }
+fn decorator_not_found(alloc: Global, tag: &DecoratorTemplate) -> RenderError
+    ensures plain { refusal_of result ≡ plain_refusal (reason_in result) }
     ensures reason { reason_in result ≢ out_of_memory → reason_in result ≡ decorator_not_found (decorator_name (decorator_view tag.now)) }
 {
     match String::from_str(alloc, written_text(&tag.name)) {
@@ -209,8 +209,8 @@ fn no_decorator(alloc: Global, tag: &DecoratorTemplate) -> RenderError
     }
 }
 
-fn no_partial(alloc: Global, tag: &DecoratorTemplate) -> RenderError
-    ensures plain { fault_of result ≡ plain_fault (reason_in result) }
+fn partial_not_found(alloc: Global, tag: &DecoratorTemplate) -> RenderError
+    ensures plain { refusal_of result ≡ plain_refusal (reason_in result) }
     ensures reason { reason_in result ≢ out_of_memory → reason_in result ≡ partial_not_found (decorator_name (decorator_view tag.now)) }
 {
     match String::from_str(alloc, written_text(&tag.name)) {

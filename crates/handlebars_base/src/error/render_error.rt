@@ -82,12 +82,12 @@ pub struct RenderError {
 }
 
 impl RenderError {
-    ghost use Rattle.handlebars_base.specs.RenderFaults.{reason_of, reason_in, cause_of, plain_fault, fault_of, name_if_none, place_if_none};
+    ghost use Rattle.handlebars_base.specs.RenderRefusals.{reason_of, reason_in, cause_of, plain_refusal, refusal_of, name_if_none, place_if_none};
 
     /// A refusal of a caller's own, `Other` of the text. Where the text finds no memory, the reason
     /// says so.
     pub fn new(alloc: Global, text: &str) -> RenderError
-        ensures plain { fault_of result ≡ plain_fault (reason_in result) }
+        ensures plain { refusal_of result ≡ plain_refusal (reason_in result) }
         ensures reason { reason_in result ≢ out_of_memory → reason_in result ≡ other text.now }
     {
         match String::from_str(alloc, text) {
@@ -98,7 +98,7 @@ impl RenderError {
 
     /// `MissingVariable` of the text. Where a copy of it finds no memory, the reason says so.
     pub fn strict_error(path: Option<&String>) -> RenderError
-        ensures plain { fault_of result ≡ plain_fault (reason_in result) }
+        ensures plain { refusal_of result ≡ plain_refusal (reason_in result) }
         ensures reason { reason_in result ≢ out_of_memory
             → reason_in result ≡ missing_variable (option_map (λ s. string_bytes s.now) path.entry) }
     {
@@ -114,7 +114,7 @@ impl RenderError {
     /// `NestedError` of the cause's text; `info` is not kept. Where the text finds no memory, the
     /// reason says so.
     pub fn from_error<E: fmt::Display>(alloc: Global, _info: &str, cause: &E) -> RenderError
-        ensures plain { fault_of result ≡ plain_fault (reason_in result) }
+        ensures plain { refusal_of result ≡ plain_refusal (reason_in result) }
         ensures reason { reason_in result ≢ out_of_memory → (text : List ℕ) × (reason_in result ≡ nested_error text) }
         ensures text { IfSome (E.output cause.now) (λ text. reason_in result ≢ out_of_memory → reason_in result ≡ nested_error text) }
     {
@@ -134,7 +134,7 @@ impl RenderError {
 
     /// With the position of an element, where none is known yet.
     pub fn at(self, line: usize, column: usize) -> RenderError
-        ensures placed { fault_of result ≡ place_if_none line column (fault_of self) }
+        ensures placed { refusal_of result ≡ place_if_none line column (refusal_of self) }
         ensures cause { cause_of result ≡ cause_of self }
     {
         match (self.line_no, self.column_no) {
@@ -157,7 +157,7 @@ impl RenderError {
     /// the reason says so.
     pub fn in_template(self, name: &String) -> RenderError
         ensures named { reason_in result ≢ out_of_memory
-            → fault_of result ≡ name_if_none (string_bytes name.now) (fault_of self) }
+            → refusal_of result ≡ name_if_none (string_bytes name.now) (refusal_of self) }
         ensures cause { reason_in result ≢ out_of_memory → cause_of result ≡ cause_of self }
         ensures memory { reason_in self ≡ out_of_memory → reason_in result ≡ out_of_memory }
     {
@@ -200,12 +200,12 @@ impl fmt::Display for RenderError {
 impl std::error::Error for RenderError {}
 
 impl From<RenderErrorReason> for RenderError {
-    ghost use Rattle.handlebars_base.specs.RenderFaults.{reason_of, cause_of, plain_fault, fault_of};
+    ghost use Rattle.handlebars_base.specs.RenderRefusals.{reason_of, cause_of, plain_refusal, refusal_of};
 
-    ghost from_gives = { λ r e. fault_of e ≡ plain_fault (reason_of r) };
+    ghost from_gives = { λ r e. refusal_of e ≡ plain_refusal (reason_of r) };
 
     fn from(reason: RenderErrorReason) -> RenderError
-        ensures fault { fault_of result ≡ plain_fault (reason_of reason) }
+        ensures refusal { refusal_of result ≡ plain_refusal (reason_of reason) }
         ensures cause { cause_of result ≡ reason }
     {
         RenderError {
@@ -218,16 +218,16 @@ impl From<RenderErrorReason> for RenderError {
 }
 
 impl From<TemplateError> for RenderError {
-    ghost use Rattle.handlebars_base.specs.RenderFaults.{reason_in, cause_of, fault_within, plain_fault, fault_of};
-    ghost use Rattle.handlebars_base.specs.TemplateFaults.{template_fault_of};
+    ghost use Rattle.handlebars_base.specs.RenderRefusals.{reason_in, cause_of, refusal_within, plain_refusal, refusal_of};
+    ghost use Rattle.handlebars_base.specs.TemplateRefusals.{template_refusal_of};
 
-    ghost from_gives = { λ t e. fault_of e ≡ plain_fault (of_template (template_fault_of t)) };
+    ghost from_gives = { λ t e. refusal_of e ≡ plain_refusal (of_template (template_refusal_of t)) };
 
     fn from(cause: TemplateError) -> RenderError
-        ensures fault { fault_of result ≡ plain_fault (of_template (template_fault_of cause)) }
+        ensures refusal { refusal_of result ≡ plain_refusal (of_template (template_refusal_of cause)) }
 
         // Want of memory isn't wrapped.
-        ensures memory { reason_in result ≡ out_of_memory → fault_within (cause_of result) ≡ None }
+        ensures memory { reason_in result ≡ out_of_memory → refusal_within (cause_of result) ≡ None }
         ensures cause { reason_in result ≢ out_of_memory → cause_of result ≡ RenderErrorReason.TemplateError cause }
     {
         RenderError::from(RenderErrorReason::from(cause))
@@ -235,12 +235,12 @@ impl From<TemplateError> for RenderError {
 }
 
 impl From<io::Error> for RenderError {
-    ghost use Rattle.handlebars_base.specs.RenderFaults.{cause_of, plain_fault, fault_of};
+    ghost use Rattle.handlebars_base.specs.RenderRefusals.{cause_of, plain_refusal, refusal_of};
 
-    ghost from_gives = { λ _ e. fault_of e ≡ plain_fault io_error };
+    ghost from_gives = { λ _ e. refusal_of e ≡ plain_refusal io_error };
 
     fn from(cause: io::Error) -> RenderError
-        ensures fault { fault_of result ≡ plain_fault io_error }
+        ensures refusal { refusal_of result ≡ plain_refusal io_error }
         ensures cause { cause_of result ≡ RenderErrorReason.IOError cause }
     {
         RenderError::from(RenderErrorReason::IOError(cause))
@@ -248,12 +248,12 @@ impl From<io::Error> for RenderError {
 }
 
 impl From<FromUtf8Error> for RenderError {
-    ghost use Rattle.handlebars_base.specs.RenderFaults.{cause_of, plain_fault, fault_of};
+    ghost use Rattle.handlebars_base.specs.RenderRefusals.{cause_of, plain_refusal, refusal_of};
 
-    ghost from_gives = { λ _ e. fault_of e ≡ plain_fault utf8_error };
+    ghost from_gives = { λ _ e. refusal_of e ≡ plain_refusal utf8_error };
 
     fn from(cause: FromUtf8Error) -> RenderError
-        ensures fault { fault_of result ≡ plain_fault utf8_error }
+        ensures refusal { refusal_of result ≡ plain_refusal utf8_error }
         ensures cause { cause_of result ≡ RenderErrorReason.Utf8Error cause }
     {
         RenderError::from(RenderErrorReason::Utf8Error(cause))
@@ -261,12 +261,12 @@ impl From<FromUtf8Error> for RenderError {
 }
 
 impl From<AllocError> for RenderError {
-    ghost use Rattle.handlebars_base.specs.RenderFaults.{cause_of, plain_fault, fault_of};
+    ghost use Rattle.handlebars_base.specs.RenderRefusals.{cause_of, plain_refusal, refusal_of};
 
-    ghost from_gives = { λ _ e. fault_of e ≡ plain_fault out_of_memory };
+    ghost from_gives = { λ _ e. refusal_of e ≡ plain_refusal out_of_memory };
 
     fn from(_e: AllocError) -> RenderError
-        ensures fault { fault_of result ≡ plain_fault out_of_memory }
+        ensures refusal { refusal_of result ≡ plain_refusal out_of_memory }
         ensures cause { cause_of result ≡ RenderErrorReason.OutOfMemory }
     {
         RenderError::from(RenderErrorReason::OutOfMemory)
@@ -274,12 +274,12 @@ impl From<AllocError> for RenderError {
 }
 
 impl<T: Drop> From<AllocFailed<T>> for RenderError {
-    ghost use Rattle.handlebars_base.specs.RenderFaults.{cause_of, plain_fault, fault_of};
+    ghost use Rattle.handlebars_base.specs.RenderRefusals.{cause_of, plain_refusal, refusal_of};
 
-    ghost from_gives = { λ _ e. fault_of e ≡ plain_fault out_of_memory };
+    ghost from_gives = { λ _ e. refusal_of e ≡ plain_refusal out_of_memory };
 
     fn from(_e: AllocFailed<T>) -> RenderError
-        ensures fault { fault_of result ≡ plain_fault out_of_memory }
+        ensures refusal { refusal_of result ≡ plain_refusal out_of_memory }
         ensures cause { cause_of result ≡ RenderErrorReason.OutOfMemory }
     {
         RenderError::from(AllocError)
@@ -287,7 +287,7 @@ impl<T: Drop> From<AllocFailed<T>> for RenderError {
 }
 
 impl From<RenderError> for RenderErrorReason {
-    ghost use Rattle.handlebars_base.specs.RenderFaults.{reason_of, reason_in, cause_of};
+    ghost use Rattle.handlebars_base.specs.RenderRefusals.{reason_of, reason_in, cause_of};
 
     ghost from_gives = { λ e r. reason_of r ≡ reason_in e };
 
@@ -300,16 +300,16 @@ impl From<RenderError> for RenderErrorReason {
 }
 
 impl From<TemplateError> for RenderErrorReason {
-    ghost use Rattle.handlebars_base.specs.RenderFaults.{reason_of, fault_within};
-    ghost use Rattle.handlebars_base.specs.TemplateFaults.{template_fault_of};
+    ghost use Rattle.handlebars_base.specs.RenderRefusals.{reason_of, refusal_within};
+    ghost use Rattle.handlebars_base.specs.TemplateRefusals.{template_refusal_of};
 
-    ghost from_gives = { λ e r. reason_of r ≡ of_template (template_fault_of e) };
+    ghost from_gives = { λ e r. reason_of r ≡ of_template (template_refusal_of e) };
 
     fn from(cause: TemplateError) -> RenderErrorReason
-        ensures reason { reason_of result ≡ of_template (template_fault_of cause) }
+        ensures reason { reason_of result ≡ of_template (template_refusal_of cause) }
 
         // Want of memory isn't wrapped.
-        ensures memory { reason_of result ≡ out_of_memory → fault_within result ≡ None }
+        ensures memory { reason_of result ≡ out_of_memory → refusal_within result ≡ None }
         ensures cause { reason_of result ≢ out_of_memory → result ≡ RenderErrorReason.TemplateError cause }
     {
         match cause.reason() {
@@ -320,7 +320,7 @@ impl From<TemplateError> for RenderErrorReason {
 }
 
 impl From<io::Error> for RenderErrorReason {
-    ghost use Rattle.handlebars_base.specs.RenderFaults.{reason_of};
+    ghost use Rattle.handlebars_base.specs.RenderRefusals.{reason_of};
 
     ghost from_gives = { λ _ r. reason_of r ≡ io_error };
 
@@ -333,7 +333,7 @@ impl From<io::Error> for RenderErrorReason {
 }
 
 impl From<FromUtf8Error> for RenderErrorReason {
-    ghost use Rattle.handlebars_base.specs.RenderFaults.{reason_of};
+    ghost use Rattle.handlebars_base.specs.RenderRefusals.{reason_of};
 
     ghost from_gives = { λ _ r. reason_of r ≡ utf8_error };
 
@@ -346,7 +346,7 @@ impl From<FromUtf8Error> for RenderErrorReason {
 }
 
 impl From<serde_json::Error> for RenderErrorReason {
-    ghost use Rattle.handlebars_base.specs.RenderFaults.{reason_of};
+    ghost use Rattle.handlebars_base.specs.RenderRefusals.{reason_of};
 
     ghost from_gives = { λ _ r. reason_of r ≡ serde_error };
 

@@ -1,5 +1,5 @@
 ghost use Rattle.std.specs.Prelude.{◌≡◌, ◌≢◌, Some, None, IsSome, option_map, string_bytes};
-ghost use Rattle.handlebars_base.specs.Reasons.{TemplateReason, TemplateFault, template_out_of_memory, template_io_error};
+ghost use Rattle.handlebars_base.specs.Reasons.{TemplateReason, TemplateRefusal, template_out_of_memory, template_io_error};
 
 use std::alloc::{AllocError, Global};
 use std::fmt::Write;
@@ -46,11 +46,11 @@ pub struct TemplateError {
 }
 
 impl TemplateError {
-    ghost use Rattle.handlebars_base.specs.TemplateFaults.{template_reason_of, template_cause_of, template_fault_of, shown_lines};
+    ghost use Rattle.handlebars_base.specs.TemplateRefusals.{template_reason_of, template_cause_of, template_refusal_of, shown_lines};
 
     /// An error with no name and no position.
     pub fn of(reason: TemplateErrorReason) -> TemplateError
-        ensures fault { template_fault_of result ≡ record { reason = template_reason_of reason; name = None; position = None } }
+        ensures refusal { template_refusal_of result ≡ record { reason = template_reason_of reason; name = None; position = None } }
         ensures cause { template_cause_of result ≡ reason }
         ensures shown { shown_lines result ≡ None }
     {
@@ -66,13 +66,13 @@ impl TemplateError {
     /// With a position, and the lines of the source around it. Where these find no memory, the
     /// reason says so, and the error has no position and no name.
     pub fn at(self, alloc: Global, source: &str, line_no: usize, column_no: usize) -> TemplateError
-        ensures at { (template_fault_of result).reason ≢ template_out_of_memory
-            → template_fault_of result ≡ record (template_fault_of self) { position = Some (line_no, column_no) } }
-        ensures cause { (template_fault_of result).reason ≢ template_out_of_memory → template_cause_of result ≡ template_cause_of self }
-        ensures shown { (template_fault_of result).reason ≢ template_out_of_memory → IsSome (shown_lines result) }
-        ensures bare { (template_fault_of self).reason ≢ template_out_of_memory → (template_fault_of result).reason ≡ template_out_of_memory
-            → template_fault_of result ≡ record { reason = template_out_of_memory; name = None; position = None } }
-        ensures memory { (template_fault_of self).reason ≡ template_out_of_memory → (template_fault_of result).reason ≡ template_out_of_memory }
+        ensures at { (template_refusal_of result).reason ≢ template_out_of_memory
+            → template_refusal_of result ≡ record (template_refusal_of self) { position = Some (line_no, column_no) } }
+        ensures cause { (template_refusal_of result).reason ≢ template_out_of_memory → template_cause_of result ≡ template_cause_of self }
+        ensures shown { (template_refusal_of result).reason ≢ template_out_of_memory → IsSome (shown_lines result) }
+        ensures bare { (template_refusal_of self).reason ≢ template_out_of_memory → (template_refusal_of result).reason ≡ template_out_of_memory
+            → template_refusal_of result ≡ record { reason = template_out_of_memory; name = None; position = None } }
+        ensures memory { (template_refusal_of self).reason ≡ template_out_of_memory → (template_refusal_of result).reason ≡ template_out_of_memory }
     {
         match template_segment(alloc, source, line_no, column_no) {
             Ok(segment) => TemplateError {
@@ -88,7 +88,7 @@ impl TemplateError {
 
     /// With the name of its template.
     pub fn in_template(self, name: String) -> TemplateError
-        ensures named { template_fault_of result ≡ record (template_fault_of self) { name = Some (string_bytes name) } }
+        ensures named { template_refusal_of result ≡ record (template_refusal_of self) { name = Some (string_bytes name) } }
         ensures cause { template_cause_of result ≡ template_cause_of self }
         ensures shown { shown_lines result ≡ shown_lines self }
     {
@@ -102,7 +102,7 @@ impl TemplateError {
     }
 
     pub fn reason(&self) -> &TemplateErrorReason
-        ensures reason { template_reason_of result.now ≡ (template_fault_of self.now).reason }
+        ensures reason { template_reason_of result.now ≡ (template_refusal_of self.now).reason }
         ensures cause { result.now ≡ template_cause_of self.now }
     {
         &self.reason
@@ -110,7 +110,7 @@ impl TemplateError {
 
     /// Line and column, where there are both.
     pub fn pos(&self) -> Option<(usize, usize)>
-        ensures { result ≡ (template_fault_of self.now).position }
+        ensures { result ≡ (template_refusal_of self.now).position }
     {
         match (self.line_no, self.column_no) {
             (Some(line), Some(column)) => Some((line, column)),
@@ -120,19 +120,19 @@ impl TemplateError {
 
     /// The name of the template, where it has one.
     pub fn name(&self) -> Option<&String>
-        ensures { option_map (λ s. string_bytes s.now) result ≡ (template_fault_of self.now).name }
+        ensures { option_map (λ s. string_bytes s.now) result ≡ (template_refusal_of self.now).name }
     {
         self.template_name.as_ref()
     }
 }
 
 impl From<(io::Error, String)> for TemplateError {
-    ghost use Rattle.handlebars_base.specs.TemplateFaults.{template_cause_of, template_fault_of};
+    ghost use Rattle.handlebars_base.specs.TemplateRefusals.{template_cause_of, template_refusal_of};
 
-    ghost from_gives = { λ p e. template_fault_of e ≡ record { reason = template_io_error (string_bytes p.1); name = None; position = None } };
+    ghost from_gives = { λ p e. template_refusal_of e ≡ record { reason = template_io_error (string_bytes p.1); name = None; position = None } };
 
     fn from(info: (io::Error, String)) -> TemplateError
-        ensures fault { template_fault_of result ≡ record { reason = template_io_error (string_bytes info.1); name = None; position = None } }
+        ensures refusal { template_refusal_of result ≡ record { reason = template_io_error (string_bytes info.1); name = None; position = None } }
         ensures cause { template_cause_of result ≡ TemplateErrorReason.IoError info.0 info.1 }
     {
         let (cause, name) = info;
@@ -141,9 +141,9 @@ impl From<(io::Error, String)> for TemplateError {
 }
 
 impl From<AllocError> for TemplateError {
-    ghost use Rattle.handlebars_base.specs.TemplateFaults.{template_fault_of};
+    ghost use Rattle.handlebars_base.specs.TemplateRefusals.{template_refusal_of};
 
-    ghost from_gives = { λ _ e. template_fault_of e ≡ record { reason = template_out_of_memory; name = None; position = None } };
+    ghost from_gives = { λ _ e. template_refusal_of e ≡ record { reason = template_out_of_memory; name = None; position = None } };
 
     fn from(_e: AllocError) -> TemplateError {
         TemplateError::of(TemplateErrorReason::OutOfMemory)

@@ -1,11 +1,11 @@
-//! Paths into the data, as templates write them: `@root` and steps from there, a variable of a block behind `@`, or
+//! Paths into the data, as templates write them: `@root` and links from there, a variable of a block behind `@`, or
 //! names, names in brackets and `..`, joined by `/` or `.`.
 
 ghost use Rattle.std.specs.Prelude.{◌≡◌, ◌≢◌, ◌↔◌, IfOk, IfErr, IfSome, IsNone, List, ℕ};
-ghost use Rattle.handlebars_base.specs.Path.{IsPath, Reference, written};
+ghost use Rattle.handlebars_base.specs.Path.{IsPath, Reference, raw_of};
 ghost use Rattle.handlebars_base.specs.PathView.{reference_of};
 ghost use Rattle.handlebars_base.specs.Reasons.{out_of_memory, invalid_json_path};
-ghost use Rattle.handlebars_base.specs.RenderFaults.{reason_in, fault_of, plain_fault};
+ghost use Rattle.handlebars_base.specs.RenderRefusals.{reason_in, refusal_of, plain_refusal};
 
 use crate::error::{RenderError, RenderErrorReason};
 use std::alloc::{AllocError, Global};
@@ -27,14 +27,14 @@ pub enum PathRule {
     Up,
 }
 
-/// One step through the data. The name `this` stays where it is, so it makes no segment.
+/// One link through the data. The name `this` stays where it is, so it makes no segment.
 #[derive(Debug, Drop, PartialEq, Eq)]
 pub enum PathSeg {
     Named(String),
     Ruled(PathRule),
 }
 
-/// A path, with the text as written in the last place.
+/// A path, with the text as raw_of in the last place.
 #[derive(Debug, Drop, PartialEq, Eq)]
 pub enum Path {
     /// The way through the data.
@@ -51,7 +51,7 @@ impl Path {
         // Only what is no path is refused, unless memory runs out.
         ensures err { IfErr result (λ e. reason_in e ≢ out_of_memory
             → (reason_in e ≡ invalid_json_path raw.now) × ((means : Reference) → IsPath raw.now means → ⊥)) }
-        ensures plain { IfErr result (λ e. fault_of e ≡ plain_fault (reason_in e)) }
+        ensures plain { IfErr result (λ e. refusal_of e ≡ plain_refusal (reason_in e)) }
     {
         match read_path(alloc, raw)? {
             Some(path) => Ok(path),
@@ -59,9 +59,9 @@ impl Path {
         }
     }
 
-    /// The text as written.
+    /// The text as raw_of.
     pub fn raw(&self) -> &str
-        ensures { result.now ≡ written (reference_of self.now) }
+        ensures { result.now ≡ raw_of (reference_of self.now) }
     {
         match self {
             Path::Relative((_, raw)) => raw.as_str(),

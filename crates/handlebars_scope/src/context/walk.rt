@@ -4,7 +4,7 @@ ghost use Rattle.std.specs.Prelude.{◌≡◌, ◌≢◌, IfErr, option_map, str
 ghost use Rattle.serde_json.specs.View.{view};
 ghost use Rattle.handlebars_base.specs.Answers.{Answers};
 ghost use Rattle.handlebars_base.specs.Reasons.{out_of_memory, invalid_json_index};
-ghost use Rattle.handlebars_base.specs.RenderFaults.{reason_in, fault_of, plain_fault};
+ghost use Rattle.handlebars_base.specs.RenderRefusals.{reason_in, refusal_of, plain_refusal};
 ghost use Rattle.handlebars_scope.specs.Resolve.{index_of, member_at, names_of, resolved, value_at};
 ghost use Rattle.handlebars_base.specs.PathView.{reference_of, segments_of};
 
@@ -17,7 +17,7 @@ use std::alloc::AllocError;
 /// begins with; none where a name has no value, and for a variable of a block.
 pub fn resolve<'a>(data: &'a Json, path: &Path) -> Result<Option<&'a Json>, RenderError>
     ensures answers { Answers (option_map (λ v. view v.now)) result (resolved (reference_of path.now) (view data.now)) }
-    ensures plain { IfErr result (λ e. fault_of e ≡ plain_fault (reason_in e)) }
+    ensures plain { IfErr result (λ e. refusal_of e ≡ plain_refusal (reason_in e)) }
 {
     match path {
         Path::Relative((segments, _)) => along(data, segments),
@@ -29,7 +29,7 @@ pub fn resolve<'a>(data: &'a Json, path: &Path) -> Result<Option<&'a Json>, Rend
 fn along<'a>(data: &'a Json, segments: &Vec<PathSeg>) -> Result<Option<&'a Json>, RenderError>
     ensures answers { Answers (option_map (λ v. view v.now)) result
         (value_at (view data.now) (names_of (segments_of segments.now.items))) }
-    ensures plain { IfErr result (λ e. fault_of e ≡ plain_fault (reason_in e)) }
+    ensures plain { IfErr result (λ e. refusal_of e ≡ plain_refusal (reason_in e)) }
 {
     let mut here = data;
     for segment in segments {
@@ -47,7 +47,7 @@ fn along<'a>(data: &'a Json, segments: &Vec<PathSeg>) -> Result<Option<&'a Json>
 // One name further.
 fn member<'a>(value: &'a Json, name: &String) -> Result<Option<&'a Json>, RenderError>
     ensures answers { Answers (option_map (λ v. view v.now)) result (member_at (view value.now) (string_bytes name.now)) }
-    ensures plain { IfErr result (λ e. fault_of e ≡ plain_fault (reason_in e)) }
+    ensures plain { IfErr result (λ e. refusal_of e ≡ plain_refusal (reason_in e)) }
 {
     match value {
         Json::Array(_) => match index_of(name.as_str()) {
@@ -68,7 +68,7 @@ fn index_of(text: &str) -> Option<usize>
 // The refusal of a name that is no index.
 fn wrong_index(name: &String) -> RenderError
     ensures reason { reason_in result ≢ out_of_memory → reason_in result ≡ invalid_json_index (string_bytes name.now) }
-    ensures plain { fault_of result ≡ plain_fault (reason_in result) }
+    ensures plain { refusal_of result ≡ plain_refusal (reason_in result) }
 {
     match name.clone() {
         Ok(name) => RenderErrorReason::InvalidJsonIndex(name).into(),

@@ -2,11 +2,11 @@
 
 ghost use Rattle.std.specs.Prelude.{◌≡◌, ◌≢◌, ◌++◌, ◌∷◌, [], IfOk, IfErr, OnOk, IsSome, List, ℕ, map, string_bytes, false};
 ghost use Rattle.handlebars_base.specs.Reasons.{template_out_of_memory};
-ghost use Rattle.handlebars_base.specs.TemplateFaults.{template_fault_of, shown_lines};
+ghost use Rattle.handlebars_base.specs.TemplateRefusals.{template_refusal_of, shown_lines};
 ghost use Rattle.handlebars_base.specs.PathView.{reference_of};
 ghost use Rattle.handlebars_template.specs.Tag.{expression_tag};
-ghost use Rattle.handlebars_template.specs.Cut.{text_piece, tag_piece};
-ghost use Rattle.handlebars_template.specs.Compile.{Compiles, compiled, refused, no_options, unreadable, value_call, element_of, piece_elements, piece_places, OneCut, OneOutcome};
+ghost use Rattle.handlebars_template.specs.Cut.{text_slice, tag_slice};
+ghost use Rattle.handlebars_template.specs.Compile.{Compiles, compiled, refused, no_options, unreadable, value_call, element_of, slice_elements, slice_places, OneCut, OneCompilation};
 ghost use Rattle.handlebars_template.specs.TreeView.{tree_view, call_view, element_view, place_of, text};
 
 use crate::template::place::advance;
@@ -25,9 +25,9 @@ impl Template {
     /// template `Unnamed`. In time linear in the source.
     pub fn compile(alloc: Global, source: &str) -> Result<Template, TemplateError>
         ensures ok { IfOk result (λ template. Compiles source.now no_options (compiled (tree_view template))) }
-        ensures err { IfErr result (λ e. (template_fault_of e).reason ≢ template_out_of_memory
-            → Compiles source.now no_options (refused (template_fault_of e))) }
-        ensures shown { IfErr result (λ e. (template_fault_of e).reason ≢ template_out_of_memory → IsSome (shown_lines e)) }
+        ensures err { IfErr result (λ e. (template_refusal_of e).reason ≢ template_out_of_memory
+            → Compiles source.now no_options (refused (template_refusal_of e))) }
+        ensures shown { IfErr result (λ e. (template_refusal_of e).reason ≢ template_out_of_memory → IsSome (shown_lines e)) }
     {
         let mut tree = Growing {
             elements: Vec::new(alloc),
@@ -60,8 +60,8 @@ pub fn one_cut()
 {}
 
 /// A source has at most one outcome: a tree or a refusal, and not both.
-pub fn one_outcome()
-    ensures { OneOutcome }
+pub fn one_compilation()
+    ensures { OneCompilation }
 {}
 
 // The elements so far, and where each begins.
@@ -80,9 +80,9 @@ impl Growing {
         kept: String,
     ) -> Result<(), AllocError>
         ensures elements { OnOk result (map element_view self.new.elements.items
-            ≡ map element_view self.old.elements.items ++ piece_elements (text_piece (place_of place) slice.now (string_bytes kept) ∷ [])) }
+            ≡ map element_view self.old.elements.items ++ slice_elements (text_slice (place_of place) slice.now (string_bytes kept) ∷ [])) }
         ensures places { OnOk result (map place_of self.new.mapping.items
-            ≡ map place_of self.old.mapping.items ++ piece_places (text_piece (place_of place) slice.now (string_bytes kept) ∷ [])) }
+            ≡ map place_of self.old.mapping.items ++ slice_places (text_slice (place_of place) slice.now (string_bytes kept) ∷ [])) }
     {
         if slice.is_empty() {
             return Ok(());
@@ -103,7 +103,7 @@ impl Growing {
         ensures places { OnOk result (map place_of self.new.mapping.items
             ≡ map place_of self.old.mapping.items ++ place_of place ∷ []) }
     {
-        let value = Box::new(alloc, value_of(alloc, path))?;
+        let value = Box::new(alloc, value_call(alloc, path))?;
         self.elements.push(TemplateElement::Expression(value))?;
         self.mapping.push(place)?;
         Ok(())
@@ -111,7 +111,7 @@ impl Growing {
 }
 
 // The value that a path leads to.
-fn value_of(alloc: Global, path: Path) -> HelperTemplate
+fn value_call(alloc: Global, path: Path) -> HelperTemplate
     ensures { call_view result ≡ value_call (reference_of path) }
 {
     HelperTemplate {
@@ -129,9 +129,9 @@ fn value_of(alloc: Global, path: Path) -> HelperTemplate
 
 // The refusal of a tag that doesn't read.
 fn unreadable(alloc: Global, source: &str, at: TemplateMapping) -> TemplateError
-    ensures fault { (template_fault_of result).reason ≢ template_out_of_memory
-        → template_fault_of result ≡ unreadable no_options (place_of at) }
-    ensures shown { (template_fault_of result).reason ≢ template_out_of_memory → IsSome (shown_lines result) }
+    ensures refusal { (template_refusal_of result).reason ≢ template_out_of_memory
+        → template_refusal_of result ≡ unreadable no_options (place_of at) }
+    ensures shown { (template_refusal_of result).reason ≢ template_out_of_memory → IsSome (shown_lines result) }
 {
     match unreadable_in(alloc, source, at) {
         Ok(error) => error,
@@ -144,9 +144,9 @@ fn unreadable_in(
     source: &str,
     at: TemplateMapping,
 ) -> Result<TemplateError, AllocError>
-    ensures fault { IfOk result (λ e. (template_fault_of e).reason ≢ template_out_of_memory
-        → template_fault_of e ≡ unreadable no_options (place_of at)) }
-    ensures shown { IfOk result (λ e. (template_fault_of e).reason ≢ template_out_of_memory → IsSome (shown_lines e)) }
+    ensures refusal { IfOk result (λ e. (template_refusal_of e).reason ≢ template_out_of_memory
+        → template_refusal_of e ≡ unreadable no_options (place_of at)) }
+    ensures shown { IfOk result (λ e. (template_refusal_of e).reason ≢ template_out_of_memory → IsSome (shown_lines e)) }
 {
     let reason = TemplateErrorReason::InvalidSyntax(String::from_str(alloc, "unreadable tag")?);
     let name = String::from_str(alloc, "Unnamed")?;

@@ -6,7 +6,7 @@ ghost use Rattle.std.specs.Option.{option_map};
 ghost use Rattle.handlebars_base.specs.PathView.{reference_of};
 ghost use Rattle.handlebars_template.specs.Text.{braces};
 ghost use Rattle.handlebars_template.specs.Tag.{IsNames, IsTag, NoTag, Tag, expression_tag, is_white};
-ghost use Rattle.handlebars_template.specs.TagSteps.{Follows, behind_white, behind_open, behind_close};
+ghost use Rattle.handlebars_template.specs.TagReading.{Follows, behind_white, behind_open, behind_close};
 
 use handlebars_base::json::path::{Path, PathSeg, read_path, split_reference};
 use std::alloc::{AllocError, Global};
@@ -75,7 +75,7 @@ fn behind_white(text: &str) -> &str
 }
 
 // What follows the braces that open a tag.
-#[tactic(auto, unfolding(crate::specs::TagSteps::behind_open))]
+#[tactic(auto, unfolding(crate::specs::TagReading::behind_open))]
 fn behind_open(text: &str) -> Option<&str>
     ensures { option_map (λ rest. rest.now) result ≡ behind_open text.now }
 {
@@ -86,7 +86,7 @@ fn behind_open(text: &str) -> Option<&str>
 }
 
 // What follows the braces that close a tag.
-#[tactic(auto, unfolding(crate::specs::TagSteps::behind_close))]
+#[tactic(auto, unfolding(crate::specs::TagReading::behind_close))]
 fn behind_close(text: &str) -> Option<&str>
     ensures { option_map (λ rest. rest.now) result ≡ behind_close text.now }
 {

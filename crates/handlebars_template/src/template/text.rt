@@ -2,14 +2,14 @@
 
 ghost use Rattle.std.specs.Prelude.{◌≡◌, ◌≢◌, ◌+◌, ◌-◌, ◌<◌, ◌≤◌, ◌++◌, IfOk, length, take, drop, slice_index, string_bytes, if◌then◌else◌, true};
 ghost use Rattle.std.specs.List.{prefix_len};
-ghost use Rattle.handlebars_template.specs.Text.{IsText, is_slash, slashes, braces, before_braces};
-ghost use Rattle.handlebars_template.specs.TextSteps.{is_plain, ReadsPart};
+ghost use Rattle.handlebars_template.specs.Text.{IsText, is_backslash, backslashes, braces, before_braces};
+ghost use Rattle.handlebars_template.specs.TextReading.{is_plain, ReadsChunk};
 
 use std::alloc::{AllocError, Global};
 
 /// A part of a text: what is kept of it, and what stands behind it. With the last part a tag begins.
 #[derive(Clone, Copy)]
-pub enum Part<'a> {
+pub enum Chunk<'a> {
     On(&'a str, &'a str),
     Last(&'a str, &'a str),
 }
@@ -23,12 +23,12 @@ pub fn text<'a>(alloc: Global, source: &'a str) -> Result<(String, &'a str, &'a 
     let mut kept = String::new(alloc);
     let mut rest = source;
     while !rest.is_empty() {
-        match next_part(rest) {
-            Part::On(part, behind) => {
+        match next_chunk(rest) {
+            Chunk::On(part, behind) => {
                 kept.push_str(part)?;
                 rest = behind;
             }
-            Part::Last(part, behind) => {
+            Chunk::Last(part, behind) => {
                 kept.push_str(part)?;
                 let (slice, left) = source.split_at(source.len() - behind.len());
                 return Ok((kept, slice, left));
@@ -40,45 +40,45 @@ pub fn text<'a>(alloc: Global, source: &'a str) -> Result<(String, &'a str, &'a 
 }
 
 // The next part of a text.
-fn next_part<'a>(rest: &'a str) -> Part<'a>
+fn next_chunk<'a>(rest: &'a str) -> Chunk<'a>
     requires { 0 < length rest.now }
-    ensures { ReadsPart rest.now result }
+    ensures { ReadsChunk rest.now result }
 {
     let plain = plain_len(rest.as_bytes());
     if plain > 0 {
         let (part, behind) = rest.split_at(plain);
-        return Part::On(part, behind);
+        return Chunk::On(part, behind);
     }
-    let run = slashes(rest.as_bytes());
+    let run = backslashes(rest.as_bytes());
     if braces(tail(rest.as_bytes(), run)) {
         before_braces(rest, run)
     } else if run == 0 {
         let (part, behind) = split_behind(rest, 1);
-        Part::On(part, behind)
+        Chunk::On(part, behind)
     } else {
         let (part, behind) = split_behind(rest, run);
-        Part::On(part, behind)
+        Chunk::On(part, behind)
     }
 }
 
 // The part that begins with a run of backslashes, none or more, before braces.
-fn before_braces<'a>(rest: &'a str, run: usize) -> Part<'a>
-    requires run { run ≡ slashes rest.now }
+fn before_braces<'a>(rest: &'a str, run: usize) -> Chunk<'a>
+    requires run { run ≡ backslashes rest.now }
     requires marks { before_braces rest.now ≡ true }
-    ensures { ReadsPart rest.now result }
+    ensures { ReadsChunk rest.now result }
 {
     if run == 0 {
         let (part, behind) = rest.split_at(0);
-        return Part::Last(part, behind);
+        return Chunk::Last(part, behind);
     }
     // One backslash is dropped: it makes the braces text, or is the first of several.
     let (_dropped, more) = split_behind(rest, 1);
     if run == 1 {
         let (part, behind) = split_behind(more, escaped_len(more.as_bytes()));
-        return Part::On(part, behind);
+        return Chunk::On(part, behind);
     }
     let (part, behind) = split_behind(more, run - 1);
-    Part::Last(part, behind)
+    Chunk::Last(part, behind)
 }
 
 // How many of the braces in front one backslash makes text.
@@ -124,8 +124,8 @@ fn is_plain(byte: u8) -> bool
     !(byte == b'\\' || byte == b'{')
 }
 
-fn slashes(text: &[u8]) -> usize
-    ensures { result ≡ slashes text.now }
+fn backslashes(text: &[u8]) -> usize
+    ensures { result ≡ backslashes text.now }
 {
     let mut n = 0;
     while n < text.len() && text[n] == b'\\' {

@@ -20,7 +20,7 @@ fn closing(bytes: &[u8]) -> Option<usize>
 }
 
 /// The length of the byte or of the name in brackets that a reference begins with.
-fn piece_len(bytes: &[u8]) -> Option<usize>
+fn token_len(bytes: &[u8]) -> Option<usize>
     ensures none { IsNone result → reference_len bytes.now ≡ 0 }
     ensures some { IfSome result (λ len. 0 < len) }
     ensures within { IfSome result (λ len. len ≤ length bytes.now) }
@@ -43,7 +43,7 @@ fn front_len(bytes: &[u8]) -> usize
     ensures { result ≡ reference_len bytes.now }
 {
     let mut end = 0;
-    while let Some(len) = piece_len(&bytes[end..]) {
+    while let Some(len) = token_len(&bytes[end..]) {
         end += len;
     }
     end

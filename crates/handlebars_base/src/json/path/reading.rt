@@ -2,9 +2,9 @@
 
 ghost use Rattle.std.specs.Prelude.{◌≡◌, ◌++◌, IfOk, OnOk, true, false};
 ghost use Rattle.std.specs.Option.{option_map};
-ghost use Rattle.handlebars_base.specs.Path.{is_dots, part_segments, step_segments, meaning};
+ghost use Rattle.handlebars_base.specs.Path.{is_dots, part_segments, link_segments, meaning};
 ghost use Rattle.handlebars_base.specs.PathView.{segments_of, part_of, found_at, reference_of};
-ghost use Rattle.handlebars_base.specs.PathReading.{ups_at, part_at, bracketed_at, plain_at, step_at, part_of_step, steps_of, at_of, parts_of, dotted_of, shape_of};
+ghost use Rattle.handlebars_base.specs.PathReading.{ups_at, part_at, bracketed_at, plain_at, link_at, part_of_link, links_of, at_of, parts_of, dotted_of, shape_of};
 
 use super::scan::{after, symbols, ups};
 use super::{Path, PathRule, PathSeg};
@@ -12,49 +12,49 @@ use std::alloc::{AllocError, Global};
 
 /// One part of a path, as it stands in the text.
 #[derive(Clone, Copy)]
-enum Piece<'a> {
+enum Part<'a> {
     Up,
     Plain(&'a str),
     Bracketed(&'a str),
 }
 
-fn is_up(piece: Piece) -> bool
-    ensures { result ≡ is_dots (part_of piece.entry) }
+fn is_up(part: Part) -> bool
+    ensures { result ≡ is_dots (part_of part.entry) }
 {
-    match piece {
-        Piece::Up => true,
-        Piece::Plain(_) | Piece::Bracketed(_) => false,
+    match part {
+        Part::Up => true,
+        Part::Plain(_) | Part::Bracketed(_) => false,
     }
 }
 
 /// A name in brackets, behind the opening one.
 #[tactic(auto, unfolding(crate::specs::PathReading::bracketed_at))]
-fn bracketed(text: &str) -> Option<(Piece<'_>, &str)>
+fn bracketed(text: &str) -> Option<(Part<'_>, &str)>
     ensures { option_map found_at result ≡ bracketed_at text.now }
 {
     let (name, rest) = text.split_once(']')?;
-    Some((Piece::Bracketed(name), rest))
+    Some((Part::Bracketed(name), rest))
 }
 
 #[tactic(auto, unfolding(crate::specs::PathReading::plain_at))]
-fn plain(text: &str) -> Option<(Piece<'_>, &str)>
+fn plain(text: &str) -> Option<(Part<'_>, &str)>
     ensures { option_map found_at result ≡ plain_at text.now }
 {
     let (name, rest) = symbols(text);
     if name.is_empty() {
         return None;
     }
-    Some((Piece::Plain(name), rest))
+    Some((Part::Plain(name), rest))
 }
 
 /// The part at the front, and what follows it.
 #[tactic(auto, unfolding(crate::specs::PathReading::part_at))]
-fn piece_of(text: &str) -> Option<(Piece<'_>, &str)>
+fn part_at(text: &str) -> Option<(Part<'_>, &str)>
     ensures { option_map found_at result ≡ part_at text.now }
 {
     if let Some(rest) = after(b'.', text) {
         let rest = after(b'.', rest)?;
-        return Some((Piece::Up, rest));
+        return Some((Part::Up, rest));
     }
     if let Some(rest) = after(b'[', text) {
         return bracketed(rest);
@@ -63,14 +63,14 @@ fn piece_of(text: &str) -> Option<(Piece<'_>, &str)>
 }
 
 /// The part behind a separator. A dot doesn't join `..` to anything.
-#[tactic(auto, unfolding(crate::specs::PathReading::step_at))]
-fn step(before_up: bool, text: &str) -> Option<(Piece<'_>, &str)>
-    ensures { option_map found_at result ≡ option_map part_of_step (step_at before_up text.now) }
+#[tactic(auto, unfolding(crate::specs::PathReading::link_at))]
+fn link(before_up: bool, text: &str) -> Option<(Part<'_>, &str)>
+    ensures { option_map found_at result ≡ option_map part_of_link (link_at before_up text.now) }
 {
     if let Some(rest) = after(b'/', text) {
-        return piece_of(rest);
+        return part_at(rest);
     }
-    let (found, rest) = piece_of(after(b'.', text)?)?;
+    let (found, rest) = part_at(after(b'.', text)?)?;
     if before_up || is_up(found) {
         return None;
     }
@@ -78,12 +78,12 @@ fn step(before_up: bool, text: &str) -> Option<(Piece<'_>, &str)>
 }
 
 /// Adds the segment of a part, if it has one.
-fn push(alloc: Global, segs: &mut Vec<PathSeg>, piece: Piece) -> Result<(), AllocError>
-    ensures { OnOk result (segments_of segs.new.items ≡ segments_of segs.old.items ++ part_segments (part_of piece.entry)) }
+fn push(alloc: Global, segs: &mut Vec<PathSeg>, part: Part) -> Result<(), AllocError>
+    ensures { OnOk result (segments_of segs.new.items ≡ segments_of segs.old.items ++ part_segments (part_of part.entry)) }
 {
-    match piece {
-        Piece::Up => segs.push(PathSeg::Ruled(PathRule::Up))?,
-        Piece::Plain(name) | Piece::Bracketed(name) => {
+    match part {
+        Part::Up => segs.push(PathSeg::Ruled(PathRule::Up))?,
+        Part::Plain(name) | Part::Bracketed(name) => {
             if name != "this" {
                 segs.push(PathSeg::Named(String::from_str(alloc, name)?))?;
             }
@@ -92,20 +92,20 @@ fn push(alloc: Global, segs: &mut Vec<PathSeg>, piece: Piece) -> Result<(), Allo
     Ok(())
 }
 
-/// The segments of the steps to the end of the text, behind those that are there.
-fn steps(
+/// The segments of the links to the end of the text, behind those that are there.
+fn links(
     alloc: Global,
     mut segs: Vec<PathSeg>,
     up: bool,
     text: &str,
 ) -> Result<Option<Vec<PathSeg>>, AllocError>
     ensures { IfOk result (λ read. option_map (λ v. segments_of v.items) read
-        ≡ option_map (λ ss. segments_of segs.items ++ step_segments ss) (steps_of up text.now)) }
+        ≡ option_map (λ ss. segments_of segs.items ++ link_segments ss) (links_of up text.now)) }
 {
     let mut before_up = up;
     let mut rest = text;
     while !rest.is_empty() {
-        let Some((found, behind)) = step(before_up, rest) else {
+        let Some((found, behind)) = link(before_up, rest) else {
             return Ok(None);
         };
         push(alloc, &mut segs, found)?;
@@ -127,7 +127,7 @@ fn at_sign(alloc: Global, raw: &str, text: &str) -> Result<Option<Path>, AllocEr
     }
     let mut segs = Vec::new(alloc);
     segs.push(PathSeg::Ruled(PathRule::Root))?;
-    let Some(segs) = steps(alloc, segs, false, rest)? else {
+    let Some(segs) = links(alloc, segs, false, rest)? else {
         return Ok(None);
     };
     let raw = String::from_str(alloc, raw)?;
@@ -143,12 +143,12 @@ fn parts(alloc: Global, raw: &str, text: &str) -> Result<Option<Path>, AllocErro
     ensures alone { IfOk result (λ read. option_map reference_of read ≡ option_map (meaning raw.now) (parts_of false text.now)) }
     ensures dotted { IfOk result (λ read. option_map reference_of read ≡ option_map (meaning raw.now) (parts_of true text.now)) }
 {
-    let Some((first, rest)) = piece_of(text) else {
+    let Some((first, rest)) = part_at(text) else {
         return Ok(None);
     };
     let mut segs = Vec::new(alloc);
     push(alloc, &mut segs, first)?;
-    let Some(segs) = steps(alloc, segs, is_up(first), rest)? else {
+    let Some(segs) = links(alloc, segs, is_up(first), rest)? else {
         return Ok(None);
     };
     Ok(Some(Path::Relative((segs, String::from_str(alloc, raw)?))))

@@ -1,11 +1,11 @@
 use Rattle.handlebars_scope.specs.Contexts.{data_of}
 use Rattle.std.proofs.lemmas.Result.{IfOk-weaker, IfErr-weaker}
-use Rattle.handlebars_base.specs.TemplateFaults.{template_fault_of}
+use Rattle.handlebars_base.specs.TemplateRefusals.{template_refusal_of}
 use Rattle.handlebars.proofs.AnswerLaws.{has_one_answer, answer_has_origins, compile_refused, gives_text, refuses_with}
 use Rattle.handlebars.proofs.registry.Registry.render_template_with_context.Goals as goal
 
 pub returns-in_err-template-clause-err : goal.returns-in_err-template-clause-err
-returns-in_err-template-clause-err g c = compile_refused c.args.source.now (data_of c.args.ctx.now) (template_fault_of c.in_err-template.field-0.0) c.from_residual.result
+returns-in_err-template-clause-err g c = compile_refused c.args.source.now (data_of c.args.ctx.now) (template_refusal_of c.in_err-template.field-0.0) c.from_residual.result
     c.in_err-template.ensures.err c.from_residual.ensures.1
 
 pub returns-in_err-template-clause-one : goal.returns-in_err-template-clause-one

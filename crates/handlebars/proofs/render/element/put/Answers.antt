@@ -1,5 +1,5 @@
 use Rattle.std.proofs.Common.{ap, ◌∙◌}
-use Rattle.handlebars_base.proofs.OptionSteps.{empty, nonempty}
+use Rattle.handlebars_base.proofs.OptionBinds.{empty, nonempty}
 use Rattle.handlebars_scope.specs.Put.{LineState}
 use Rattle.handlebars.specs.View.{state_of}
 use Rattle.handlebars.proofs.Carry.{put_none, put_ok, put_err}

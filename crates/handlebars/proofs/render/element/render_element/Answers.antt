@@ -3,25 +3,25 @@ use Rattle.handlebars.proofs.Carry.{c_done, c_refuse}
 use Rattle.handlebars.proofs.render.element.render_element.Goals as goal
 
 pub returns-in-Expression-clause-renders : goal.returns-in-Expression-clause-renders
-returns-in-Expression-clause-renders g c = λ site. rw (c.in-Expression.is, element_view-Expression) (rw c.deref.ensures at (c.expression.ensures.renders site))
+returns-in-Expression-clause-renders g c = λ site. rw (c.in-Expression.is, element_view-Expression) (rw c.deref.ensures at (c.render_expression.ensures.renders site))
 
 pub returns-in-Comment-clause-renders : goal.returns-in-Comment-clause-renders
 returns-in-Comment-clause-renders g c = λ site. rw (c.in-Comment.is, element_view-Comment) (c_done _ _)
 
 pub returns-in-HtmlExpression-clause-renders : goal.returns-in-HtmlExpression-clause-renders
-returns-in-HtmlExpression-clause-renders g c = λ site. rw (c.in-HtmlExpression.is, element_view-HtmlExpression) (c_refuse _ _ c.no_helper.result c.no_helper.ensures.plain (rw c.deref-in-HtmlExpression.ensures at c.no_helper.ensures.reason))
+returns-in-HtmlExpression-clause-renders g c = λ site. rw (c.in-HtmlExpression.is, element_view-HtmlExpression) (c_refuse _ _ c.helper_not_found.result c.helper_not_found.ensures.plain (rw c.deref-in-HtmlExpression.ensures at c.helper_not_found.ensures.reason))
 
 pub returns-in-HelperBlock-clause-renders : goal.returns-in-HelperBlock-clause-renders
-returns-in-HelperBlock-clause-renders g c = λ site. rw (c.in-HelperBlock.is, element_view-HelperBlock) (c_refuse _ _ c.no_helper-in-HelperBlock.result c.no_helper-in-HelperBlock.ensures.plain (rw c.deref-in-HelperBlock.ensures at c.no_helper-in-HelperBlock.ensures.reason))
+returns-in-HelperBlock-clause-renders g c = λ site. rw (c.in-HelperBlock.is, element_view-HelperBlock) (c_refuse _ _ c.helper_not_found-in-HelperBlock.result c.helper_not_found-in-HelperBlock.ensures.plain (rw c.deref-in-HelperBlock.ensures at c.helper_not_found-in-HelperBlock.ensures.reason))
 
 pub returns-in-DecoratorExpression-clause-renders : goal.returns-in-DecoratorExpression-clause-renders
-returns-in-DecoratorExpression-clause-renders g c = λ site. rw (c.in-DecoratorExpression.is, element_view-DecoratorExpression) (c_refuse _ _ c.no_decorator.result c.no_decorator.ensures.plain (rw c.deref-in-DecoratorExpression.ensures at c.no_decorator.ensures.reason))
+returns-in-DecoratorExpression-clause-renders g c = λ site. rw (c.in-DecoratorExpression.is, element_view-DecoratorExpression) (c_refuse _ _ c.decorator_not_found.result c.decorator_not_found.ensures.plain (rw c.deref-in-DecoratorExpression.ensures at c.decorator_not_found.ensures.reason))
 
 pub returns-in-DecoratorBlock-clause-renders : goal.returns-in-DecoratorBlock-clause-renders
-returns-in-DecoratorBlock-clause-renders g c = λ site. rw (c.in-DecoratorBlock.is, element_view-DecoratorBlock) (c_refuse _ _ c.no_decorator-in-DecoratorBlock.result c.no_decorator-in-DecoratorBlock.ensures.plain (rw c.deref-in-DecoratorBlock.ensures at c.no_decorator-in-DecoratorBlock.ensures.reason))
+returns-in-DecoratorBlock-clause-renders g c = λ site. rw (c.in-DecoratorBlock.is, element_view-DecoratorBlock) (c_refuse _ _ c.decorator_not_found-in-DecoratorBlock.result c.decorator_not_found-in-DecoratorBlock.ensures.plain (rw c.deref-in-DecoratorBlock.ensures at c.decorator_not_found-in-DecoratorBlock.ensures.reason))
 
 pub returns-in-PartialExpression-clause-renders : goal.returns-in-PartialExpression-clause-renders
-returns-in-PartialExpression-clause-renders g c = λ site. rw (c.in-PartialExpression.is, element_view-PartialExpression) (c_refuse _ _ c.no_partial.result c.no_partial.ensures.plain (rw c.deref-in-PartialExpression.ensures at c.no_partial.ensures.reason))
+returns-in-PartialExpression-clause-renders g c = λ site. rw (c.in-PartialExpression.is, element_view-PartialExpression) (c_refuse _ _ c.partial_not_found.result c.partial_not_found.ensures.plain (rw c.deref-in-PartialExpression.ensures at c.partial_not_found.ensures.reason))
 
 pub returns-in-PartialBlock-clause-renders : goal.returns-in-PartialBlock-clause-renders
-returns-in-PartialBlock-clause-renders g c = λ site. rw (c.in-PartialBlock.is, element_view-PartialBlock) (c_refuse _ _ c.no_partial-in-PartialBlock.result c.no_partial-in-PartialBlock.ensures.plain (rw c.deref-in-PartialBlock.ensures at c.no_partial-in-PartialBlock.ensures.reason))
+returns-in-PartialBlock-clause-renders g c = λ site. rw (c.in-PartialBlock.is, element_view-PartialBlock) (c_refuse _ _ c.partial_not_found-in-PartialBlock.result c.partial_not_found-in-PartialBlock.ensures.plain (rw c.deref-in-PartialBlock.ensures at c.partial_not_found-in-PartialBlock.ensures.reason))

@@ -3,7 +3,7 @@ use Rattle.std.specs.Prelude.{slice_get}
 use Rattle.handlebars_template.specs.declared.template.tree.TemplateMapping.{TemplateMapping}
 use Rattle.handlebars_template.specs.TreeView.{element_view, place_of}
 use Rattle.handlebars_template.proofs.Trees.{tree_view-out}
-use Rattle.handlebars_base.specs.RenderFaults.{fault_of}
+use Rattle.handlebars_base.specs.RenderRefusals.{refusal_of}
 use Rattle.handlebars_template.specs.Place.{Place}
 use Rattle.handlebars.specs.Runs.{mark}
 use Rattle.handlebars.specs.Steps.{One}
@@ -38,7 +38,7 @@ returns-in-Err-clause-renders g c =
     (below-seen element_view c.deref-element-items.result.now c.loop-index.index c.loop-index-test.true)
     (get_or-seen element_view c.deref-element-items.result.now c.loop-index.index c.element-item.result c.element-item.is)
     c.loop-index.invariant.left
-    (placed_marks _ _ _ _ _ (c.placed.ensures (c.loop-index.index ∷ []) (element_view c.element-item.result) ∙ ap (λ (z : Option Place). mark (One (c.loop-index.index ∷ []) z (element_view c.element-item.result)) (fault_of c.in-Err.e)) place))
+    (placed_marks _ _ _ _ _ (c.placed.ensures (c.loop-index.index ∷ []) (element_view c.element-item.result) ∙ ap (λ (z : Option Place). mark (One (c.loop-index.index ∷ []) z (element_view c.element-item.result)) (refusal_of c.in-Err.e)) place))
     (c.in-Err.ensures.renders (c.loop-index.index ∷ [])))))
 
 pub returns-in-Err-clause-ready : goal.returns-in-Err-clause-ready

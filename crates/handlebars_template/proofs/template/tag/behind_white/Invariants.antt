@@ -1,7 +1,7 @@
 use Rattle.std.proofs.Common.{◌≡◌, length}
 use denote.Text.{Utf8}
 use denote.Shadow.{shadow}
-use Rattle.handlebars_template.specs.TagSteps.{behind_white}
+use Rattle.handlebars_template.specs.TagReading.{behind_white}
 use Rattle.handlebars_template.proofs.template.tag.behind_white.Given as goal
 
 abbrev pub invariant-loop-first : goal.invariant-loop-first

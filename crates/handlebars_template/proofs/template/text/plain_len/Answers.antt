@@ -1,6 +1,6 @@
 use Rattle.std.proofs.Common.{arith, sym, ◌∙◌}
 use Rattle.std.proofs.lemmas.List.Sums.{prefix_len_is}
-use Rattle.handlebars_template.specs.TextSteps.{is_plain}
+use Rattle.handlebars_template.specs.TextReading.{is_plain}
 use Rattle.handlebars_template.proofs.template.text.plain_len.Goals as goal
 
 pub returns-else-is_plain : goal.returns-else-is_plain

@@ -1,5 +1,5 @@
 use Rattle.std.proofs.Common.{length, ◌-◌, ◌≡◌, ◌<◌, ◌≤◌, ℕ, get_or, true}
-use Rattle.handlebars_template.specs.TextSteps.{is_plain}
+use Rattle.handlebars_template.specs.TextReading.{is_plain}
 use Rattle.handlebars_template.proofs.template.text.plain_len.Given as goal
 
 abbrev pub invariant-loop-n : goal.invariant-loop-n

@@ -1,7 +1,7 @@
 use Rattle.std.proofs.Common.{rules, string_bytes}
 use Rattle.std.specs.Str.{IsUtf8}
 use Rattle.handlebars_template.proofs.Texts.{goes_further, ends_there, end_boundary, all_reads}
-use Rattle.handlebars_base.proofs.OptionSteps.{empty}
+use Rattle.handlebars_base.proofs.OptionBinds.{empty}
 use Rattle.handlebars_template.proofs.template.text.text.Goals as goal
 
 pub loop-rest-preserved : goal.loop-rest-preserved

@@ -1,7 +1,7 @@
 use Rattle.std.proofs.Common.{length, string_bytes}
 use denote.Text.{Utf8}
 use denote.Shadow.{shadow}
-use Rattle.handlebars_template.specs.TextSteps.{GoesOn}
+use Rattle.handlebars_template.specs.TextReading.{GoesOn}
 use Rattle.handlebars_template.proofs.template.text.text.Given as goal
 
 abbrev pub invariant-loop-rest : goal.invariant-loop-rest

@@ -1,6 +1,6 @@
 use Rattle.std.proofs.Common.{arith, rules, refl, ◌∙◌, ◌≤◌, length, string_bytes}
 use Rattle.std.specs.Str.{IsUtf8}
-use Rattle.handlebars_base.proofs.OptionSteps.{empty, nonempty}
+use Rattle.handlebars_base.proofs.OptionBinds.{empty, nonempty}
 use Rattle.handlebars_base.specs.PathView.{reference_of}
 use Rattle.handlebars_template.specs.Tag.{expression_tag}
 use Rattle.handlebars_template.specs.TreeView.{place_of}
@@ -24,7 +24,7 @@ advance-at-requires-clause-column c = omega (arith, at_fits c.loop-left.invarian
 
 pub returns-in_default-clause-err : goal.returns-in_default-clause-err
 returns-in_default-clause-err c = λ memory.
-    rw (c.unreadable.ensures.fault memory) (scan_unreadable c.loop-left.invariant.scans (nonempty c.loop-left.left.now c.loop-left-test.ensures) (rw c.in_default.is at c.in_ok-path.ensures) no_options (place_of c.advance-at.result) c.advance-at.ensures)
+    rw (c.unreadable.ensures.refusal memory) (scan_unreadable c.loop-left.invariant.scans (nonempty c.loop-left.left.now c.loop-left-test.ensures) (rw c.in_default.is at c.in_ok-path.ensures) no_options (place_of c.advance-at.result) c.advance-at.ensures)
 
 pub split_at-requires : goal.split_at-requires
 split_at-requires c =

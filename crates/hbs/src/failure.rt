@@ -9,7 +9,7 @@ use std::{fmt, io};
 
 /// Why a run ends with no rendering; the texts are paths.
 #[derive(Drop)]
-pub enum Fault<'a> {
+pub enum Failure<'a> {
     Usage,
     CannotRead(&'a str),
     NotJson(&'a str),
@@ -18,12 +18,12 @@ pub enum Fault<'a> {
     CannotWrite,
 }
 
-impl<'a> Fault<'a> {
-    /// The fault of a reader at a path.
-    pub fn of_reader(path: &'a str, cause: io::Error) -> Fault<'a> {
+impl<'a> Failure<'a> {
+    /// The failure of a reader at a path.
+    pub fn of_reader(path: &'a str, cause: io::Error) -> Failure<'a> {
         match cause.kind() {
-            ErrorKind::OutOfMemory => Fault::OutOfMemory,
-            _ => Fault::CannotRead(path),
+            ErrorKind::OutOfMemory => Failure::OutOfMemory,
+            _ => Failure::CannotRead(path),
         }
     }
 
@@ -31,40 +31,40 @@ impl<'a> Fault<'a> {
     pub fn status(&self) -> u8
         ensures bound { result ≤ 2 }
         ensures failed { 0 < result }
-        ensures usage { self.now ≡ Fault.Usage → result ≡ 2 }
+        ensures usage { self.now ≡ Failure.Usage → result ≡ 2 }
     {
         match self {
-            Fault::Usage => 2,
-            Fault::CannotRead(_) => 2,
-            Fault::NotJson(_) => 2,
-            Fault::Refused(_) => 1,
-            Fault::OutOfMemory => 1,
-            Fault::CannotWrite => 1,
+            Failure::Usage => 2,
+            Failure::CannotRead(_) => 2,
+            Failure::NotJson(_) => 2,
+            Failure::Refused(_) => 1,
+            Failure::OutOfMemory => 1,
+            Failure::CannotWrite => 1,
         }
     }
 }
 
-impl From<AllocError> for Fault<'_> {
+impl From<AllocError> for Failure<'_> {
     fn from(_e: AllocError) -> Self {
-        Fault::OutOfMemory
+        Failure::OutOfMemory
     }
 }
 
-impl From<RenderError> for Fault<'_> {
+impl From<RenderError> for Failure<'_> {
     fn from(cause: RenderError) -> Self {
-        Fault::Refused(cause)
+        Failure::Refused(cause)
     }
 }
 
-impl fmt::Display for Fault<'_> {
+impl fmt::Display for Failure<'_> {
     fn fmt<W: fmt::Write>(&self, f: &mut fmt::Formatter<W>) -> fmt::Result {
         match self {
-            Fault::Usage => write!(f, "usage: hbs [--strict] TEMPLATE DATA [FOLDER]"),
-            Fault::CannotRead(path) => write!(f, "hbs: cannot read {path}"),
-            Fault::NotJson(path) => write!(f, "hbs: not JSON: {path}"),
-            Fault::Refused(cause) => write_reason(cause.reason(), f),
-            Fault::OutOfMemory => write!(f, "Out of memory"),
-            Fault::CannotWrite => write!(f, "hbs: cannot write"),
+            Failure::Usage => write!(f, "usage: hbs [--strict] TEMPLATE DATA [FOLDER]"),
+            Failure::CannotRead(path) => write!(f, "hbs: cannot read {path}"),
+            Failure::NotJson(path) => write!(f, "hbs: not JSON: {path}"),
+            Failure::Refused(cause) => write_reason(cause.reason(), f),
+            Failure::OutOfMemory => write!(f, "Out of memory"),
+            Failure::CannotWrite => write!(f, "hbs: cannot write"),
         }
     }
 }

@@ -1,7 +1,7 @@
 use Rattle.std.proofs.Common.{◌≡◌, ℕ, ◌-◌, List, length, take, drop, sym, arith, length-drop}
 use Rattle.std.proofs.lemmas.List.{take_all}
 use Rattle.handlebars_base.proofs.PathFront.{reference_len-none, reference_len-open, reference_len-closed, reference_len-byte, reference_len-stop}
-use Rattle.handlebars_base.proofs.json.path.front.piece_len.Goals as goal
+use Rattle.handlebars_base.proofs.json.path.front.token_len.Goals as goal
 
 behind_first : (t : List ℕ) → take (length t - 1) (drop 1 t) ≡ drop 1 t
 behind_first t = take_all (length t - 1) (drop 1 t) (omega (arith, length-drop 1 t))

@@ -1,14 +1,14 @@
 -- What the errors of rendering stand for.
 use Rattle.std.specs.Prelude.{ℕ, List, Option, Some, None, option_map, string_bytes}
-use Rattle.handlebars_base.specs.Reasons.{Reason, Fault, TemplateFault, template_not_found, of_template, missing_variable, partial_not_found, partial_block_not_found, helper_not_found, param_not_found_for_index, param_not_found_for_name, param_type_mismatch_for_name, hash_type_mismatch_for_name, decorator_not_found, cannot_include_self, invalid_logging_level, invalid_param_type, block_content_required, invalid_json_path, invalid_json_index, serde_error, io_error, utf8_error, nested_error, unimplemented, other, inclusion_limit, invalid_number, failed, out_of_memory}
-use Rattle.handlebars_base.specs.TemplateFaults.{template_fault_of}
+use Rattle.handlebars_base.specs.Reasons.{Reason, Refusal, TemplateRefusal, template_not_found, of_template, missing_variable, partial_not_found, partial_block_not_found, helper_not_found, param_not_found_for_index, param_not_found_for_name, param_type_mismatch_for_name, hash_type_mismatch_for_name, decorator_not_found, cannot_include_self, invalid_logging_level, invalid_param_type, block_content_required, invalid_json_path, invalid_json_index, serde_error, io_error, utf8_error, nested_error, unimplemented, other, inclusion_limit, invalid_number, failed, out_of_memory}
+use Rattle.handlebars_base.specs.TemplateRefusals.{template_refusal_of}
 use Rattle.handlebars_base.specs.declared.error.render_error.RenderError.{RenderError}
 use Rattle.handlebars_base.specs.declared.error.render_error.RenderErrorReason.{RenderErrorReason}
 use Rattle.handlebars_base.specs.declared.error.render_error.RenderErrorReason.TheVariants.{TemplateNotFound, TemplateError, MissingVariable, PartialNotFound, PartialBlockNotFound, HelperNotFound, ParamNotFoundForIndex, ParamNotFoundForName, ParamTypeMismatchForName, HashTypeMismatchForName, DecoratorNotFound, CannotIncludeSelf, InvalidLoggingLevel, InvalidParamType, BlockContentRequired, InvalidJsonPath, InvalidJsonIndex, SerdeError, IOError, Utf8Error, NestedError, Unimplemented, Other, InclusionLimit, InvalidNumber, Failed, OutOfMemory}
 
 abbrev pub reason_of : RenderErrorReason → Reason
 reason_of (TemplateNotFound a) = template_not_found (string_bytes a)
-reason_of (TemplateError e) = of_template (template_fault_of e)
+reason_of (TemplateError e) = of_template (template_refusal_of e)
 reason_of (MissingVariable a) = missing_variable (option_map string_bytes a)
 reason_of (PartialNotFound a) = partial_not_found (string_bytes a)
 reason_of PartialBlockNotFound = partial_block_not_found
@@ -39,35 +39,35 @@ reason_of OutOfMemory = out_of_memory
 abbrev pub cause_of : RenderError → RenderErrorReason
 cause_of e = e.reason
 
--- the template's fault that a reason holds
-abbrev pub fault_within : RenderErrorReason → Option TemplateFault
-fault_within (TemplateError e) = Some (template_fault_of e)
-fault_within r = None
+-- the template's refusal that a reason holds
+abbrev pub refusal_within : RenderErrorReason → Option TemplateRefusal
+refusal_within (TemplateError e) = Some (template_refusal_of e)
+refusal_within r = None
 
 abbrev pub reason_in : RenderError → Reason
 reason_in e = reason_of e.reason
 
-abbrev pub fault_of : RenderError → Fault
-fault_of e = record { reason = reason_in e; name = option_map string_bytes e.template_name; line = e.line_no; column = e.column_no }
+abbrev pub refusal_of : RenderError → Refusal
+refusal_of e = record { reason = reason_in e; name = option_map string_bytes e.template_name; line = e.line_no; column = e.column_no }
 
 -- a refusal with no template and no position yet
-abbrev pub plain_fault : Reason → Fault
-plain_fault r = record { reason = r; name = None; line = None; column = None }
+abbrev pub plain_refusal : Reason → Refusal
+plain_refusal r = record { reason = r; name = None; line = None; column = None }
 
 abbrev pub or_else : {A : Type 0} → Option A → A → Option A
 or_else None x = Some x
 or_else (Some y) x = Some y
 
 -- the name of the innermost template that has one
-abbrev pub name_if_none : List ℕ → Fault → Fault
+abbrev pub name_if_none : List ℕ → Refusal → Refusal
 name_if_none n f = record f { name = or_else f.name n }
 
-abbrev pub placed : Fault → Option ℕ → Option ℕ → ℕ → ℕ → Fault
+abbrev pub placed : Refusal → Option ℕ → Option ℕ → ℕ → ℕ → Refusal
 placed f None None line column = record f { line = Some line; column = Some column }
 placed f None (Some c) line column = f
 placed f (Some l) None line column = f
 placed f (Some l) (Some c) line column = f
 
 -- the position of the innermost element that has one
-abbrev pub place_if_none : ℕ → ℕ → Fault → Fault
+abbrev pub place_if_none : ℕ → ℕ → Refusal → Refusal
 place_if_none line column f = placed f f.line f.column line column

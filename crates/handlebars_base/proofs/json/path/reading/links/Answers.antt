@@ -1,8 +1,8 @@
 use Rattle.std.proofs.Common.{rules}
 use Rattle.handlebars_base.specs.PathView.{segments_of}
-use Rattle.handlebars_base.proofs.OptionSteps.{empty, nonempty}
-use Rattle.handlebars_base.proofs.PathSteps.{starts, is_done, is_stuck, shorter, goes_on}
-use Rattle.handlebars_base.proofs.json.path.reading.steps.Goals as goal
+use Rattle.handlebars_base.proofs.OptionBinds.{empty, nonempty}
+use Rattle.handlebars_base.proofs.PathLinks.{starts, is_done, is_stuck, shorter, goes_on}
+use Rattle.handlebars_base.proofs.json.path.reading.links.Goals as goal
 
 pub loop-rest-init : goal.loop-rest-init
 loop-rest-init c = (search rules, starts _ _ _)

@@ -1,4 +1,4 @@
--- What is known behind a step of a reader that gave something, or nothing.
+-- What is known behind a link of a reader that gave something, or nothing.
 use Rattle.std.proofs.Common.{◌≡◌, ◌<◌, Bool, true, false, cond, eqb, List, length, Option, Some, None, refl, sym, ◌⊎◌, inl, inr, arith}
 use Rattle.std.proofs.lemmas.Bool.{eqb-true, eqb-false}
 use Rattle.std.specs.Option.{option_map}

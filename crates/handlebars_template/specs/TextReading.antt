@@ -1,8 +1,8 @@
 -- How a text is read part by part. Only the code's own contracts cite this.
 use Rattle.std.specs.Prelude.{◌≡◌, ℕ, ◌<◌, Bool, not, ◌||◌, ◌==◌, List, ◌++◌, length}
 use Rattle.handlebars_template.specs.Text.{IsText}
-use Rattle.handlebars_template.specs.declared.template.text.Part.{Part}
-use Rattle.handlebars_template.specs.declared.template.text.Part.TheVariants.{On, Last}
+use Rattle.handlebars_template.specs.declared.template.text.Chunk.{Chunk}
+use Rattle.handlebars_template.specs.declared.template.text.Chunk.TheVariants.{On, Last}
 
 -- neither a backslash nor an opening brace
 abbrev pub is_plain : ℕ → Bool
@@ -20,6 +20,6 @@ pub record Ends (rest kept behind : List ℕ) : Type 0 where
   pub whole : rest ≡ taken ++ behind
   pub ends : IsText behind taken kept
 
-abbrev pub ReadsPart : List ℕ → Part → Type 0
-ReadsPart rest (On part behind) = GoesOn rest part.now behind.now × (length behind.now < length rest)
-ReadsPart rest (Last part behind) = Ends rest part.now behind.now
+abbrev pub ReadsChunk : List ℕ → Chunk → Type 0
+ReadsChunk rest (On part behind) = GoesOn rest part.now behind.now × (length behind.now < length rest)
+ReadsChunk rest (Last part behind) = Ends rest part.now behind.now

@@ -1,6 +1,6 @@
 -- What the errors of templates stand for.
 use Rattle.std.specs.Prelude.{ℕ, List, Option, Some, None, option_map, string_bytes}
-use Rattle.handlebars_base.specs.Reasons.{TemplateReason, TemplateFault, mismatching_closed_helper, mismatching_closed_decorator, invalid_syntax, invalid_param, nested_subexpression, template_io_error, walkdir_error, template_out_of_memory}
+use Rattle.handlebars_base.specs.Reasons.{TemplateReason, TemplateRefusal, mismatching_closed_helper, mismatching_closed_decorator, invalid_syntax, invalid_param, nested_subexpression, template_io_error, walkdir_error, template_out_of_memory}
 use Rattle.handlebars_base.specs.declared.error.template_error.TemplateError.{TemplateError}
 use Rattle.handlebars_base.specs.declared.error.template_error.TemplateErrorReason.{TemplateErrorReason}
 use Rattle.handlebars_base.specs.declared.error.template_error.TemplateErrorReason.TheVariants.{MismatchingClosedHelper, MismatchingClosedDecorator, InvalidSyntax, InvalidParam, NestedSubexpression, IoError, WalkdirError, OutOfMemory}
@@ -29,8 +29,8 @@ both None y = None
 both (Some x) None = None
 both (Some x) (Some y) = Some (x, y)
 
-abbrev pub template_fault_of : TemplateError → TemplateFault
-template_fault_of e = record {
+abbrev pub template_refusal_of : TemplateError → TemplateRefusal
+template_refusal_of e = record {
   reason = template_reason_of e.reason;
   name = option_map string_bytes e.template_name;
   position = both e.line_no e.column_no;
