@@ -1,3 +1,4 @@
+pub mod Bytes
 pub mod Reasons
 pub mod TemplateRefusals
 pub mod RenderRefusals
