@@ -50,8 +50,7 @@ impl Path {
 
         // Only what is no path is refused, unless memory runs out.
         ensures err { IfErr result (λ e. reason_in e ≢ out_of_memory
-            → (reason_in e ≡ invalid_json_path raw.now) × ((means : Reference) → IsPath raw.now means → ⊥)) }
-        ensures plain { IfErr result (λ e. refusal_of e ≡ plain_refusal (reason_in e)) }
+            → (refusal_of e ≡ plain_refusal (invalid_json_path raw.now)) × ((means : Reference) → IsPath raw.now means → ⊥)) }
     {
         match read_path(alloc, raw)? {
             Some(path) => Ok(path),
