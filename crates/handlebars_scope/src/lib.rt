@@ -2,5 +2,6 @@
 #![tactic(auto)]
 
 pub mod context;
+pub mod line;
 pub mod output;
 pub mod support;

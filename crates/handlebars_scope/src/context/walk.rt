@@ -5,8 +5,9 @@ ghost use Rattle.serde_json.specs.View.{view};
 ghost use Rattle.handlebars_base.specs.Answers.{Answers};
 ghost use Rattle.handlebars_base.specs.Reasons.{out_of_memory, invalid_json_index};
 ghost use Rattle.handlebars_base.specs.RenderRefusals.{reason_in, refusal_of, plain_refusal};
-ghost use Rattle.handlebars_scope.specs.Resolve.{index_of, member_at, names_of, resolved, value_at};
+ghost use Rattle.handlebars_scope.specs.Resolve.{answer_map, index_of, member_at, names_of, resolved, value_at};
 ghost use Rattle.handlebars_base.specs.PathView.{reference_of, segments_of};
+ghost use Rattle.handlebars_base.specs.Scoped.{present_in};
 
 use handlebars_base::error::{RenderError, RenderErrorReason};
 use handlebars_base::json::path::{Path, PathSeg};
@@ -16,7 +17,8 @@ use std::alloc::AllocError;
 /// The value that a path leads to from the data, in the one empty block of scope that a rendering
 /// begins with; none where a name has no value, and for a variable of a block.
 pub fn resolve<'a>(data: &'a Json, path: &Path) -> Result<Option<&'a Json>, RenderError>
-    ensures answers { Answers (option_map (λ v. view v.now)) result (resolved (reference_of path.now) (view data.now)) }
+    ensures answers { Answers (option_map (λ v. view v.now)) result
+        (answer_map present_in (resolved (reference_of path.now) (view data.now))) }
     ensures plain { IfErr result (λ e. refusal_of e ≡ plain_refusal (reason_in e)) }
 {
     match path {
