@@ -4,15 +4,11 @@ use Rattle.std.specs.Str.{all_ascii_digits}
 use Rattle.std.specs.Str.Parse.{digits_value, without_leading_plus}
 use Rattle.serde_json.specs.Data.{Data, null, boolean, number, string, array, object, Items}
 use Rattle.serde_json.specs.Find.{get_member, get_item}
-use Rattle.handlebars_base.specs.Answers.{Answer, gives, refuses}
+use Rattle.handlebars_base.specs.Answers.{Answer, gives, refuses, refuses_for, answer_map}
 use Rattle.handlebars_base.specs.Bytes.{Text}
 use Rattle.handlebars_base.specs.Path.{Segment, named, root, local, up, Reference, relative, variable}
 use Rattle.handlebars_base.specs.Reasons.{invalid_json_index}
 use Rattle.handlebars_base.specs.Scoped.{Found, walked, missing}
-
-abbrev pub answer_map : {A B : Type 0} → (A → B) → Answer A → Answer B
-answer_map f (gives x) = gives (f x)
-answer_map f (refuses r) = refuses r
 
 -- the value of one digit or more, where it is below 2^64
 abbrev pub digits_index : Text → Option ℕ
@@ -26,7 +22,7 @@ index_of name = digits_index (without_leading_plus name)
 -- an item at an index, which may be missing; a name that is no index is refused
 abbrev pub item_at : Items → Text → Option ℕ → Answer (Option Data)
 item_at ds name (Some i) = gives (get_item i ds)
-item_at ds name None = refuses (invalid_json_index name)
+item_at ds name None = refuses_for (invalid_json_index name)
 
 -- one name leads into an object or an array, and nowhere from any other value
 abbrev pub member_at : Data → Text → Answer (Option Data)
