@@ -6,7 +6,7 @@ use Rattle.handlebars_template.specs.Place.{Place, place}
 use Rattle.handlebars_template.specs.Text.{IsText, braces}
 use Rattle.handlebars_template.specs.Tag.{Tag, expression_tag, NoTag}
 use Rattle.handlebars_template.specs.Cut.{Slice, text_slice, tag_slice, Reads, IsCut}
-use Rattle.handlebars_template.specs.Tree.{Tree, tree, elements_of, Element, raw_string, expression, Call, call, path, no_params, no_pairs, no_binding, no_body}
+use Rattle.handlebars_template.specs.Tree.{Tree, tree, elements_of, Element, raw_string, expression, Call, call, args, bodies, path, no_params, no_pairs, no_binding, no_body}
 
 -- the name of the template, if it has one, and whether inclusions add no indentation
 pub record Options : Type 0 where
@@ -18,7 +18,9 @@ no_options = record { name = None; prevent_indent = false }
 
 -- the value that a path leads to: a call with nothing but the path
 abbrev pub value_call : Reference → Call
-value_call means = call (path means) no_params no_pairs no_binding no_body no_body false false false
+value_call means =
+    call (path means) (args no_params no_pairs) no_binding (bodies no_body no_body)
+    (record { block = false; chain = false; indent_before_write = false })
 
 abbrev pub element_of : Tag → Element
 element_of (expression_tag means) = expression (value_call means)

@@ -7,7 +7,7 @@ mod tag;
 mod text;
 mod tree;
 
-pub use compile::{one_cut, one_compilation};
+pub use compile::{one_compilation, one_cut};
 pub use rows::worked_rows;
 pub use tree::{
     BlockParam, DecoratorTemplate, HelperTemplate, Parameter, Subexpression, Template,
