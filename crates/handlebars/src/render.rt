@@ -14,9 +14,8 @@ mod setting;
 mod tree;
 
 use crate::registry::Registry;
-use crate::render::element::render_alone;
 use crate::render::setting::Setting;
-use crate::render::tree::render_tree;
+use crate::render::tree::{render_alone, render_tree};
 pub use context::RenderContext;
 use handlebars_base::error::{RenderError, RenderErrorReason};
 use handlebars_scope::context::Context;

@@ -3,9 +3,9 @@
 ghost use Rattle.std.specs.Prelude.{◌≡◌, ◌≢◌, option_map, string_bytes};
 ghost use Rattle.handlebars_base.specs.Reasons.{out_of_memory};
 ghost use Rattle.handlebars_base.specs.RenderRefusals.{reason_in, spot_of, cause_of};
-ghost use Rattle.handlebars_template.specs.TreeView.{tree_view, place_of};
+ghost use Rattle.handlebars_template.specs.TreeView.{tree_view, element_view, place_of};
 ghost use Rattle.handlebars_scope.specs.Sites.{first_tree};
-ghost use Rattle.handlebars.specs.Means.{render_tree, render_whole};
+ghost use Rattle.handlebars.specs.Means.{render_tree, render_whole, render_alone};
 ghost use Rattle.handlebars.specs.Runs.{placed_at, named_as};
 ghost use Rattle.handlebars.specs.Steps.{run};
 ghost use Rattle.handlebars.specs.View.{setting_in, moment, CarriesOut, IsKept};
@@ -15,7 +15,7 @@ use crate::render::element::render_element;
 use crate::render::setting::Setting;
 use handlebars_base::error::RenderError;
 use handlebars_scope::output::Output;
-use handlebars_template::template::{Template, TemplateMapping};
+use handlebars_template::template::{Template, TemplateElement, TemplateMapping};
 
 /// Renders a tree; a refusal takes its name, where none is known yet.
 pub fn render_tree<O: Output>(
@@ -32,6 +32,20 @@ pub fn render_tree<O: Output>(
         Ok(()) => Ok(()),
         Err(e) => Err(named(e, &template.name)),
     }
+}
+
+/// Renders an element that stands in no tree.
+pub fn render_alone<O: Output>(
+    setting: &Setting,
+    element: &TemplateElement,
+    rc: &mut RenderContext,
+    out: &mut O,
+) -> Result<(), RenderError>
+    ensures renders { CarriesOut (setting_in setting.now) (render_alone (element_view element.now))
+        O.may_give (moment rc.old (O.held out.old)) result (moment rc.new (O.held out.new)) }
+    ensures kept { IsKept rc.old rc.new }
+{
+    render_element(setting, element, rc, out)
 }
 
 // The name and the elements of a tree.
