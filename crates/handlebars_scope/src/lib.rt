@@ -5,3 +5,4 @@ pub mod context;
 pub mod line;
 pub mod output;
 pub mod support;
+pub mod value;

@@ -1,6 +1,6 @@
 //! Where a rendering writes.
 
-ghost use Rattle.std.specs.Prelude.{◌≡◌, IfErr, OnErr, string_bytes};
+ghost use Rattle.std.specs.Prelude.{◌≡◌, IfErr, IfOk, OnErr, string_bytes};
 ghost use Rattle.std.specs.IoError.{error_kind};
 ghost use Rattle.std.specs.declared.io.Error.{Error};
 ghost use Rattle.std.specs.declared.io.ErrorKind.TheVariants.{OutOfMemory};
@@ -8,7 +8,7 @@ ghost use Rattle.handlebars_base.specs.RenderRefusals.{refusal_of, plain_refusal
 ghost use Rattle.handlebars_scope.specs.Outputs.{Held, nothing, Written, held_of, write_reason};
 
 use handlebars_base::error::{RenderError, RenderErrorReason};
-use std::alloc::Global;
+use std::alloc::{AllocError, Global};
 use std::io;
 use std::io::ErrorKind;
 
@@ -42,6 +42,16 @@ impl StringOutput {
             text: String::new(alloc),
             faults: 0,
         }
+    }
+
+    /// Nothing yet, with room for a text of so many bytes.
+    pub fn with_capacity(alloc: Global, capacity: usize) -> Result<StringOutput, AllocError>
+        ensures { IfOk result (λ o. held_of o ≡ nothing) }
+    {
+        Ok(StringOutput {
+            text: String::with_capacity(alloc, capacity)?,
+            faults: 0,
+        })
     }
 
     /// All that was written.
