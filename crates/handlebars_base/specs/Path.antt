@@ -84,7 +84,7 @@ AreLinks before (s ∷ ss) =
 -- `.` alone; `@root` and links; `@`, a number of `../`, a name and links; or a part and links, with `./` in front
 -- or not
 pub data Shape : Type 0 where
-  dot : Shape
+  itself : Shape
   at_root : List Link → Shape
   at_name : ℕ → List ℕ → List Link → Shape
   in_parts : Bool → Part → List Link → Shape
@@ -95,7 +95,7 @@ ups zero = []
 ups (suc n) = 46 ∷ 46 ∷ 47 ∷ ups n
 
 abbrev pub spelled : Shape → List ℕ
-spelled dot = 46 ∷ []
+spelled itself = 46 ∷ []
 spelled (at_root ss) = 64 ∷ (codes "root" ++ spelled_links ss)
 spelled (at_name n name ss) = 64 ∷ (ups n ++ (name ++ spelled_links ss))
 spelled (in_parts true p ss) = 46 ∷ 47 ∷ (spelled_part p ++ spelled_links ss)
@@ -103,7 +103,7 @@ spelled (in_parts false p ss) = spelled_part p ++ spelled_links ss
 
 -- A variable isn't named `this`, and right behind the `@` not `root`, which is the root's own form.
 abbrev pub IsShape : Shape → Type 0
-IsShape dot = ⊤
+IsShape itself = ⊤
 IsShape (at_root ss) = AreLinks false ss
 IsShape (at_name zero name ss) =
     IsIdentifier name × (bytes_eq name (codes "this") ≡ false) × (bytes_eq name (codes "root") ≡ false) × AreLinks false ss
@@ -127,7 +127,7 @@ link_segments (s ∷ ss) = part_segments s.part ++ link_segments ss
 
 -- The links behind a variable's name add nothing.
 abbrev pub meaning : List ℕ → Shape → Reference
-meaning text dot = relative [] text
+meaning text itself = relative [] text
 meaning text (at_root ss) = relative (root ∷ link_segments ss) text
 meaning text (at_name n name ss) = variable n name text
 meaning text (in_parts b p ss) = relative (part_segments p ++ link_segments ss) text

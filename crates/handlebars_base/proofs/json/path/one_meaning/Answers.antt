@@ -1,4 +1,4 @@
-use Rattle.handlebars_base.proofs.References.{one_meaning}
+use Rattle.handlebars_base.proofs.PathShapes.{one_meaning}
 use Rattle.handlebars_base.proofs.json.path.one_meaning.Goals as goal
 
 pub returns : goal.returns
