@@ -202,7 +202,9 @@ reference_from within [] = 0
 reference_from true (x ∷ xs) =
     if x == right_bracket then suc (reference_from false xs) else one_more (reference_from true xs)
 reference_from false (x ∷ xs) =
-    if x == left_bracket then one_more (reference_from true xs) else if is_reference_byte x then suc (reference_from false xs) else 0
+    if x == left_bracket
+    then one_more (reference_from true xs)
+    else if is_reference_byte x then suc (reference_from false xs) else 0
 
 -- the length of the longest front of reference bytes and of names in brackets, each closed
 abbrev pub reference_len : Text → ℕ
