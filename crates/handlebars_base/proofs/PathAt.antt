@@ -1,11 +1,13 @@
 -- Paths in front of longer texts, as they are read.
 use Rattle.std.proofs.Common.{◌≡◌, ℕ, ◌+◌, ◌-◌, ◌<◌, ◌≤◌, Bool, true, List, [], ◌++◌, length, take, drop, Option, Some, None, refl, sym, ap, subst, ◌∙◌, arith, inl, inr, append-nil, length-append}
+use Rattle.std.specs.Prelude.{◌↔◌}
 use Rattle.std.specs.Option.{option_map}
 use Rattle.std.specs.Str.{IsCharBoundary}
 use Rattle.std.proofs.lemmas.List.{take-append-drop, take_at, drop_at, length-take, nil_from_length}
 use Rattle.std.proofs.lemmas.Option.{same_Some, none-some}
 use Rattle.handlebars_base.specs.Path.{Reference, raw_of, IsPath, meaning, Link, Shape, itself, at_root, at_name, in_parts, spelled}
 use Rattle.handlebars_base.specs.PathReading.{◌>>=◌, Start, here, from_root, from_variable, from_part, start_at, links_behind, is_dotted, shape_from, start_segments, start_meaning, shape_at, IsLeft, path_of, path_at, slice_at, reference_from, reference_len, stops}
+use Rattle.handlebars_base.specs.Laws.{IsInFront}
 use Rattle.handlebars_base.proofs.OptionBinds.{bind_some, map_some, none_or_some}
 use Rattle.handlebars_base.proofs.PathShapes.{shape_at_takes, shape_at_again, path_known, path_is}
 use Rattle.handlebars_base.proofs.PathFront.{reference_len-le, reference_len_boundary}
@@ -183,6 +185,26 @@ path_at-start t s r raw rest start cut =
     let means : p.0.0 ≡ start_meaning raw s (start_segments s ss) =
     h.is.gives ∙ ap (λ (x : Shape × List ℕ). meaning h.slice x.0) shape ∙ ap (λ (z : List ℕ). meaning z (shape_from (is_dotted t) s ss)) slice ∙ meaning-start raw (is_dotted t) s ss in
     p.1 ∙ some_pair p.0 _ rest means (ap (λ (x : List ℕ × List ℕ). x.1) p.2)
+
+-- ---- the law
+
+raw_of-path : (t : List ℕ) (means : Reference) → IsPath t means → raw_of means ≡ t
+raw_of-path t means h = ap raw_of h.gives ∙ raw_of-meaning t h.shape
+
+in_front : (t : List ℕ) (means : Reference) (rest : List ℕ) → path_at t ≡ Some (means, rest) → IsInFront t means rest
+in_front t means rest e =
+    let h = path_takes t (means, rest) e in
+    let raw = raw_of-path h.slice means h.is in
+    record {
+      whole = h.whole ∙ ap (λ (z : List ℕ). z ++ rest) (sym raw);
+      path = subst (λ (z : List ℕ). IsPath z means) (sym raw) h.is;
+      ends = h.ends;
+    }
+
+pub paths_in_front : (t : List ℕ) (means : Reference) (rest : List ℕ) →
+    (path_at t ≡ Some (means, rest)) ↔ IsInFront t means rest
+paths_in_front t means rest =
+    (in_front t means rest, λ h. ap path_at h.whole ∙ path_at-append (raw_of means) rest means h.path h.ends)
 
 -- ---- in the words of the contract of the whole text
 

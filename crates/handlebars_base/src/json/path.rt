@@ -87,8 +87,3 @@ pub fn read_path(alloc: Global, raw: &str) -> Result<Option<Path>, AllocError>
         None => Ok(None),
     }
 }
-
-/// No text has two meanings.
-pub fn one_meaning()
-    ensures { (text : List ℕ) (a b : Reference) → IsPath text a → IsPath text b → a ≡ b }
-{}
