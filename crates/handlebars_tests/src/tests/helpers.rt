@@ -1,31 +1,12 @@
 //! What the tests share.
 
-use handlebars::{Context, EntryKind, JsonValue, Registry, RenderError, TemplateReader};
+use crate::answer::NoFiles;
+use handlebars::{Context, JsonValue, Registry, RenderError};
 use log::sink::Discard;
 use std::alloc::Global;
 use std::fmt::{Debug, Display};
-use std::io;
-use std::io::ErrorKind;
 use std::process::Abort;
 use std::test::Fail;
-
-/// Has no file.
-#[derive(Drop)]
-pub struct NoFiles;
-
-impl TemplateReader for NoFiles {
-    ghost reads = { λ _ _ _ _. Unit {0} };
-
-    ghost lists = { λ _ _ _ _. Unit {0} };
-
-    fn read(&mut self, _path: &str) -> Result<String, io::Error> {
-        Err(io::Error::from(ErrorKind::NotFound))
-    }
-
-    fn list(&mut self, _folder: &str) -> Result<Vec<(String, EntryKind)>, io::Error> {
-        Err(io::Error::from(ErrorKind::NotFound))
-    }
-}
 
 /// The data of a text in JSON.
 pub fn data_of(alloc: Global, text: &str) -> Result<Context, Fail> {
@@ -43,6 +24,11 @@ pub fn rendered(
     Ok(registry.render_template_with_context(source, &data, &Discard, &mut NoFiles))
 }
 
+/// The error where there is to be one.
+pub fn refusal<T: Drop, E: Drop>(answer: Result<T, E>) -> Result<E, Fail> {
+    Ok(answer.err().ok_or("no refusal")?)
+}
+
 /// Asserts what a value is printed as.
 pub fn prints(
     rt: &impl Abort,
@@ -52,6 +38,18 @@ pub fn prints(
 ) -> Result<(), Fail> {
     let text = value.to_string(alloc)?;
     assert_eq!(rt; text.as_str(), wanted);
+    Ok(())
+}
+
+/// Asserts what each of these values is printed as.
+pub fn all_print<T: Display>(
+    rt: &impl Abort,
+    alloc: Global,
+    table: &[(T, &str)],
+) -> Result<(), Fail> {
+    for (value, wanted) in table {
+        prints(rt, alloc, value, *wanted)?;
+    }
     Ok(())
 }
 
@@ -75,11 +73,12 @@ pub fn refuses(
     Ok(())
 }
 
-/// A text, so many times.
-pub fn repeated(alloc: Global, text: &str, count: u32) -> Result<String, Fail> {
+/// A text so many times, and what stands behind it.
+pub fn repeated(alloc: Global, text: &str, count: u32, end: &str) -> Result<String, Fail> {
     let mut all = String::new(alloc);
     for _ in 0..count {
         all.push_str(text)?;
     }
+    all.push_str(end)?;
     Ok(all)
 }
