@@ -128,8 +128,8 @@ module _ (p : Setting) (may : Error → Type 0) where
     text = whole.text ∙ ap (λ (z : Text). h.text ++ z) (sym (join-pieces_of o t));
     tells = ended whole.faults;
   }
-  c_puts o [] (front_put cause some given cut_short tells) = absurd (omega (arith, some))
-  c_puts o (b ∷ t) {h = h} (front_put cause some given cut_short tells) = record {
+  c_puts o [] (front_put cause given cut_short tells) = absurd (omega (arith, cut_short.some))
+  c_puts o (b ∷ t) {h = h} (front_put cause given cut_short tells) = record {
     pieces = record { origin = o; text = cut_short.front } ∷ [];
     outcome = Faulted nowhere;
     runs = got (cut refl (cut_off cut_short.is_front));

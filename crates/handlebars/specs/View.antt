@@ -1,5 +1,5 @@
 -- What the code's values stand for, and what a call of it says of a run.
-use Rattle.std.specs.Prelude.{◌≡◌, ◌≢◌, ℕ, Option, ◌+◌, ◌^◌, ◌<◌, List, ◌++◌, option_map, Result, Ok, Err, string_bytes, Bool, length}
+use Rattle.std.specs.Prelude.{◌≡◌, ◌≢◌, ℕ, Option, ◌+◌, ◌^◌, ◌<◌, List, ◌++◌, option_map, Result, Ok, Err, string_bytes, Bool}
 use Rattle.std.specs.declared.io.Error.{Error}
 use Rattle.std.specs.IoError.{error_kind}
 use Rattle.serde_json.specs.View.{view}
@@ -89,12 +89,12 @@ pub record CarriesOut (p : Setting) (k : Steps) (may : Error → Type 0) (before
 abbrev pub behind : Text → State → State
 behind t s = record s { line = line_behind t s.line }
 
--- A text was written, whatever the setting, or a beginning of one that isn't empty, and the output failed.
+-- A text was written, whatever the setting, or a beginning of it, and the output failed.
 pub data Puts (t : Text) (may : Error → Type 0) (before : Moment) : Result (Unit {0}) RenderError → Moment → Type 0 where
   all_put : {after : Moment} {u : Unit {0}} → after.state ≡ behind t before.state → IsWhole t before.held after.held
       → Puts t may before (Ok u) after
-  front_put : {after : Moment} {e : RenderError} (cause : Error) → (0 < length t) → may cause
-      → IsCutOff t before.held after.held → TellsFault cause nowhere e → Puts t may before (Err e) after
+  front_put : {after : Moment} {e : RenderError} (cause : Error) → may cause → IsCutOff t before.held after.held
+      → TellsFault cause nowhere e → Puts t may before (Err e) after
 
 -- The steps end well from this state, and the text is that of their pieces.
 pub record GivesString (p : Setting) (k : Steps) (s next : State) (text : Text) : Type 0 where

@@ -1,13 +1,13 @@
 -- The views, one level at a time.
 use Rattle.std.proofs.Common.{◌≡◌, ◌&&◌, suc, ◌==◌, List, [], ◌∷◌, length, option_map, refl, sym, ap, ◌∙◌, rules, arith, Box, Global, String}
 use Rattle.std.proofs.lemmas.Bool.{ne_eqb}
-use Rattle.handlebars_template.specs.Tree.{call_name, call_params, call_pairs, call_binding, call_body, call_inverse, call_marks, decorator_name, decorator_params, decorator_pairs, decorator_body, decorator_marks, lacks_params, lacks_pairs, is_value, html_expression, expression, helper_block, decorator_expression, decorator_block, partial_expression, partial_block, comment}
+use Rattle.handlebars_template.specs.Tree.{call_name, call_params, call_pairs, call_binding, call_body, call_inverse, call_marks, decorator_name, decorator_params, decorator_pairs, decorator_body, decorator_marks, lacks_params, lacks_pairs, is_value, html_expression, expression, helper_block, decorator_expression, decorator_block, partial_expression, partial_block, comment, raw_string}
 use Rattle.handlebars_template.specs.TreeView.{text, element_view, call_view, decorator_view, param_view, params_view, pairs_view, body_view, block_param_view}
 use Rattle.handlebars_template.specs.declared.template.tree.BlockParam.{the_lemmas}
 use Rattle.handlebars_template.specs.declared.template.tree.HelperTemplate.{HelperTemplate, out-HelperTemplate}
 use Rattle.handlebars_template.specs.declared.template.tree.DecoratorTemplate.{DecoratorTemplate, out-DecoratorTemplate}
 use Rattle.handlebars_template.specs.declared.template.tree.Parameter.{Parameter}
-use Rattle.handlebars_template.specs.declared.template.tree.TemplateElement.TheVariants.{HtmlExpression, Expression, HelperBlock, DecoratorExpression, DecoratorBlock, PartialExpression, PartialBlock, Comment}
+use Rattle.handlebars_template.specs.declared.template.tree.TemplateElement.TheVariants.{HtmlExpression, Expression, HelperBlock, DecoratorExpression, DecoratorBlock, PartialExpression, PartialBlock, Comment, RawString}
 
 pub element_view-HtmlExpression : (b : Box HelperTemplate Global) → element_view (HtmlExpression b) ≡ html_expression (call_view b.value)
 element_view-HtmlExpression b = search (rules, the_lemmas)
@@ -29,6 +29,9 @@ element_view-PartialExpression b = search (rules, the_lemmas)
 
 pub element_view-PartialBlock : (b : Box DecoratorTemplate Global) → element_view (PartialBlock b) ≡ partial_block (decorator_view b.value)
 element_view-PartialBlock b = search (rules, the_lemmas)
+
+pub element_view-RawString : (s : String Global) → element_view (RawString s) ≡ raw_string (text s)
+element_view-RawString s = search (rules, the_lemmas)
 
 pub element_view-Comment : (s : String Global) → element_view (Comment s) ≡ comment (text s)
 element_view-Comment s = search (rules, the_lemmas)

@@ -20,7 +20,8 @@ use crate::render::setting::Setting;
 use handlebars_base::error::{RenderError, RenderErrorReason};
 use handlebars_base::json::value::Json;
 use handlebars_scope::context::walk::resolve;
-use handlebars_scope::output::{Output, output_fault, write_escaped_value};
+use handlebars_scope::output::{Output, output_fault};
+use handlebars_scope::value::write_escaped_value;
 use handlebars_template::template::{
     DecoratorTemplate, HelperTemplate, Parameter, TemplateElement,
 };
@@ -88,7 +89,7 @@ fn write_value<O: Output>(
     }
 }
 
-// Writes a text; an empty one leaves the output alone.
+// Writes a text.
 fn write_text<O: Output>(
     text: &str,
     rc: &mut RenderContext,
@@ -97,9 +98,6 @@ fn write_text<O: Output>(
     ensures puts { Puts text.now O.may_give (moment rc.old (O.held out.old)) result (moment rc.new (O.held out.new)) }
     ensures kept { IsKept rc.old rc.new }
 {
-    if text.is_empty() {
-        return Ok(());
-    }
     match out.write(text) {
         Ok(()) => {
             rc.pass_text(text);

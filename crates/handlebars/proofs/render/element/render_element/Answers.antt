@@ -1,4 +1,4 @@
-use Rattle.handlebars_template.proofs.Levels.{element_view-Expression, element_view-HtmlExpression, element_view-HelperBlock, element_view-DecoratorExpression, element_view-DecoratorBlock, element_view-PartialExpression, element_view-PartialBlock, element_view-Comment}
+use Rattle.handlebars_template.proofs.Levels.{element_view-Expression, element_view-HtmlExpression, element_view-HelperBlock, element_view-DecoratorExpression, element_view-DecoratorBlock, element_view-PartialExpression, element_view-PartialBlock, element_view-Comment, element_view-RawString}
 use Rattle.handlebars_scope.specs.Put.{of_text}
 use Rattle.handlebars.proofs.Carry.{c_done, c_refuses, c_puts}
 use Rattle.handlebars.proofs.render.element.render_element.Goals as goal
@@ -35,5 +35,5 @@ pub returns-in-Comment-clause-renders : goal.returns-in-Comment-clause-renders
 returns-in-Comment-clause-renders g c = λ site. rw (c.in-Comment.is, element_view-Comment) (c_done _ _)
 
 pub returns-in-RawString-clause-renders : goal.returns-in-RawString-clause-renders
-returns-in-RawString-clause-renders g c = λ site. rw c.in-RawString.is
+returns-in-RawString-clause-renders g c = λ site. rw (c.in-RawString.is, element_view-RawString)
     (c_puts _ _ (of_text site) _ (rw c.as_str.ensures.value at c.write_text.ensures.puts))
