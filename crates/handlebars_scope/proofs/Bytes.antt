@@ -3,6 +3,7 @@ use Rattle.std.proofs.Common.{◌≡◌, ◌≢◌, ℕ, ◌<◌, ◌≤◌, ◌
 use Rattle.std.proofs.lemmas.Bool.Decides.{nat_tests, eqb_tells}
 use Rattle.std.proofs.lemmas.Bool.{cases_lt}
 use Rattle.handlebars_scope.specs.Escape.{entity_of, escaped_byte, escaped}
+use Rattle.handlebars_base.specs.Bytes.{Text}
 
 -- none of the seven bytes
 pub record IsOther (b : ℕ) : Type 0 where
@@ -44,10 +45,10 @@ entity_of-high : (b : ℕ) → 128 ≤ b → entity_of b ≡ None
 entity_of-high b h = entity_of-other b (record { less = λ e. omega arith; greater = λ e. omega arith; quote = λ e. omega arith; ampersand = λ e. omega arith; apostrophe = λ e. omega arith; back = λ e. omega arith; equals = λ e. omega arith })
 
 -- a byte with an entity is a character of its own
-pub entity_is_ascii : (b : ℕ) (entity : List ℕ) → entity_of b ≡ Some entity → b < 128
+pub entity_is_ascii : (b : ℕ) (entity : Text) → entity_of b ≡ Some entity → b < 128
 entity_is_ascii b entity e = ⊎_elim (λ h. h) (λ h. absurd (let none = entity_of-high b h in cc)) (cases_lt b 128)
 
-pub escaped-append : (xs ys : List ℕ) → escaped (xs ++ ys) ≡ escaped xs ++ escaped ys
+pub escaped-append : (xs ys : Text) → escaped (xs ++ ys) ≡ escaped xs ++ escaped ys
 unfolding escaped
 escaped-append [] ys = refl
 escaped-append (b ∷ bs) ys = ap (λ t. escaped_byte b ++ t) (escaped-append bs ys) ∙ sym (append_assoc (escaped_byte b) (escaped bs) (escaped ys))

@@ -7,6 +7,7 @@ use Rattle.std.proofs.lemmas.Bool.{false≢true}
 use Rattle.std.proofs.lemmas.Bool.Decides.{Decides-ltb}
 use Rattle.std.proofs.lemmas.Str.Parse.{numerals_by_value, tells_all_ascii_digits, IsNumeralModel}
 use Rattle.handlebars_scope.specs.Resolve.{index_of}
+use Rattle.handlebars_base.specs.Bytes.{Text}
 
 digits : IsNumeralModel (λ ds. all_ascii_digits ds ≡ true) (digits_value 10)
 digits = numerals_by_value _ tells_all_ascii_digits
@@ -23,7 +24,7 @@ by_tests true false d v P Q R (Err e) h f g b c = refl
 by_tests false b d v P Q R (Ok x) h f g _ _ = absurd (false≢true (g h.0.0.1))
 by_tests false b d v P Q R (Err e) h f g _ _ = refl
 
-pub index_by_parse : {E : Type 0} (name : List ℕ) (r : Result ℕ E) → ParsesUnsigned 64 10 name r → result_ok r ≡ index_of name
+pub index_by_parse : {E : Type 0} (name : Text) (r : Result ℕ E) → ParsesUnsigned 64 10 name r → result_ok r ≡ index_of name
 index_by_parse name r h =
     let ds = without_leading_plus name in
     by_tests _ _ _ _ _ _ _ r h (digits.to ds) (digits.from ds) (Decides-ltb _ _) (Decides-ltb _ _)

@@ -4,5 +4,5 @@ mod Runs
 pub mod Writes
 pub mod Numbers
 pub mod Values
-pub mod Laws
+pub mod EscapeLaws
 pub mod Lines

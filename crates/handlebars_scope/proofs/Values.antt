@@ -1,12 +1,12 @@
 -- The text of a value, escaped, part by part.
-use Rattle.std.proofs.Common.{◌≡◌, ℕ, suc, ◌+◌, ◌<◌, ◌≤◌, Bool, true, false, List, [], ◌++◌, drop, get_or, length, codes, Some, refl, sym, rules, ap, ap₂, ◌∙◌, add-one, drop-cons, ℤ, None, String, Global, BTreeMap}
+use Rattle.std.proofs.Common.{◌≡◌, ℕ, suc, ◌+◌, ◌<◌, ◌≤◌, Bool, true, false, List, [], ◌++◌, drop, get_or, length, codes, Some, refl, sym, rules, ap, ap₂, ◌∙◌, add-one, drop-cons, ℤ, None, String, Global, Vec, BTreeMap, string_bytes}
 use Rattle.std.proofs.lemmas.List.{drop_all}
 use Rattle.std.specs.Prelude.{decimal}
 use Rattle.std.specs.Fmt.{signed_decimal}
-use Rattle.serde_json.specs.Data.{Num, unsigned, negative, float, Data, null, boolean, array, object, Items, item}
+use Rattle.serde_json.specs.Data.{Num, unsigned, negative, float, Data, null, boolean, string, array, object, Items, item}
 use Rattle.serde_json.specs.Find.{as_u64, as_i64}
 use Rattle.serde_json.specs.View.{view, items_view, members_view}
-use Rattle.serde_json.specs.declared.value.Value.{Value, Null, Bool as BoolOf, Object, the_lemmas}
+use Rattle.serde_json.specs.declared.value.Value.{Value, Null, Bool as BoolOf, String as StringOf, Array, Object, the_lemmas}
 use Rattle.handlebars_base.specs.Values.{rendered, rendered_items, rendered_number, word, separator}
 use Rattle.handlebars_scope.specs.Escape.{escaped}
 use Rattle.handlebars_scope.proofs.Bytes.{escaped-append}
@@ -21,6 +21,15 @@ view-Bool b = search (rules, the_lemmas)
 
 view-Object : (m : BTreeMap (String Global) Value) → view (Object m) ≡ object (members_view m.entries)
 view-Object m = search (rules, the_lemmas)
+
+view-String : (s : String Global) → view (StringOf s) ≡ string (string_bytes s)
+view-String s = search (rules, the_lemmas)
+
+pub view-Array : (a : Vec Value Global) → view (Array a) ≡ array (items_view a.items)
+view-Array a = search (rules, the_lemmas)
+
+pub rendered-string : (v : Value) (s : String Global) → v ≡ StringOf s → rendered (view v) ≡ string_bytes s
+rendered-string v s e = ap rendered (ap view e ∙ view-String s)
 
 pub escaped-null : (v : Value) → v ≡ Null → escaped (rendered (view v)) ≡ []
 unfolding escaped

@@ -1,24 +1,25 @@
 -- What holds of every escaped text.
-use Rattle.std.specs.Prelude.{◌≡◌, ℕ, List, ◌∷◌, ◌++◌, Contains, codes, Some}
+use Rattle.std.specs.Prelude.{◌≡◌, ℕ, ◌∷◌, ◌++◌, Contains, codes, Some}
+use Rattle.handlebars_base.specs.Bytes.{Text, ampersand}
 use Rattle.handlebars_scope.specs.Escape.{entity_of, escaped}
 
 -- a text may be escaped in parts
 abbrev pub Joins : Type 0
-Joins = (xs ys : List ℕ) → escaped (xs ++ ys) ≡ escaped xs ++ escaped ys
+Joins = (xs ys : Text) → escaped (xs ++ ys) ≡ escaped xs ++ escaped ys
 
 -- two texts never become one
 abbrev pub IsInjective : Type 0
-IsInjective = (xs ys : List ℕ) → escaped xs ≡ escaped ys → xs ≡ ys
+IsInjective = (xs ys : Text) → escaped xs ≡ escaped ys → xs ≡ ys
 
 -- what has a meaning of its own in HTML, but for `&`: < > " ' ` =
-abbrev pub marks : List ℕ
+abbrev pub marks : Text
 marks = codes "<>\"'`="
 
 -- none of the marks is left
 abbrev pub IsUnmarked : Type 0
-IsUnmarked = (xs : List ℕ) (mark : ℕ) → Contains marks mark → ¬ Contains (escaped xs) mark
+IsUnmarked = (xs : Text) (mark : ℕ) → Contains marks mark → ¬ Contains (escaped xs) mark
 
 -- where an `&` is, one of the seven entities begins
 abbrev pub BeginsEntities : Type 0
-BeginsEntities = (xs front rest : List ℕ) → escaped xs ≡ front ++ 38 ∷ rest
-    → (b : ℕ) × (entity : List ℕ) × (after : List ℕ) × (entity_of b ≡ Some entity) × (38 ∷ rest ≡ entity ++ after)
+BeginsEntities = (xs front rest : Text) → escaped xs ≡ front ++ ampersand ∷ rest
+    → (b : ℕ) × (entity : Text) × (after : Text) × (entity_of b ≡ Some entity) × (ampersand ∷ rest ≡ entity ++ after)

@@ -2,6 +2,7 @@
 #![tactic(auto)]
 
 pub mod context;
+pub mod laws;
 pub mod line;
 pub mod output;
 pub mod support;

@@ -1,8 +1,14 @@
 //! The line that is being written.
 
 ghost use Rattle.std.specs.Prelude.{◌≡◌};
+ghost use Rattle.serde_json.specs.View.{view, number_view};
+ghost use Rattle.handlebars_base.specs.Values.{rendered, rendered_number};
+ghost use Rattle.handlebars_scope.specs.Escape.{escaped};
 ghost use Rattle.handlebars_scope.specs.LineView.{line_of};
 ghost use Rattle.handlebars_scope.specs.Put.{first_line, line_after, line_behind, ends_line};
+
+use handlebars_base::json::value::Json;
+use serde_json::Number;
 
 /// What is known of the line that is being written: whether indentation goes before the next text,
 /// whether the last text ended a line, and whether there was one.
@@ -33,6 +39,30 @@ impl Line {
             self
         } else {
             line_after(ends_line(text.as_bytes()))
+        }
+    }
+
+    /// The line behind a value that is written here, rendered and escaped.
+    pub fn behind_value(self, value: &Json) -> Line
+        ensures { line_of result ≡ line_behind (escaped (rendered (view value.now))) (line_of self) }
+    {
+        match value {
+            Json::Null => self,
+            Json::Number(number) => self.behind_number(number),
+            // No entity ends a line.
+            Json::String(text) => self.behind(text.as_str()),
+            Json::Bool(_) | Json::Array(_) | Json::Object(_) => line_after(false),
+        }
+    }
+
+    // The line behind a number; one outside the range writes nothing.
+    fn behind_number(self, number: &Number) -> Line
+        ensures { line_of result ≡ line_behind (escaped (rendered_number (number_view number.now))) (line_of self) }
+    {
+        if number.is_f64() {
+            self
+        } else {
+            line_after(false)
         }
     }
 }

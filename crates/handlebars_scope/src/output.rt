@@ -1,10 +1,10 @@
 //! Where a rendering writes.
 
-ghost use Rattle.std.specs.Prelude.{◌≡◌, IfErr, IfOk, OnErr, string_bytes};
+ghost use Rattle.std.specs.Prelude.{◌≡◌, ◌≢◌, IfErr, IfOk, OnErr, string_bytes};
 ghost use Rattle.std.specs.IoError.{error_kind};
 ghost use Rattle.std.specs.declared.io.Error.{Error};
 ghost use Rattle.std.specs.declared.io.ErrorKind.TheVariants.{OutOfMemory};
-ghost use Rattle.handlebars_base.specs.RenderRefusals.{refusal_of, plain_refusal};
+ghost use Rattle.handlebars_base.specs.RenderRefusals.{cause_of, refusal_of, plain_refusal};
 ghost use Rattle.handlebars_scope.specs.Outputs.{Held, nothing, Written, held_of, write_reason};
 
 use handlebars_base::error::{RenderError, RenderErrorReason};
@@ -45,8 +45,8 @@ impl StringOutput {
         }
     }
 
-    /// Nothing yet, with room for a text of so many bytes.
-    pub fn with_capacity(alloc: Global, capacity: usize) -> Result<StringOutput, AllocError>
+    // Nothing yet, with room for a text of so many bytes.
+    pub(crate) fn with_capacity(alloc: Global, capacity: usize) -> Result<StringOutput, AllocError>
         ensures { IfOk result (λ o. held_of o ≡ nothing) }
     {
         Ok(StringOutput {
@@ -86,12 +86,14 @@ impl Output for StringOutput {
     }
 }
 
-/// The refusal for a write that failed: `OutOfMemory` for want of memory, and else `IOError`.
+/// The refusal for a write that failed: `OutOfMemory` for want of memory, and else `IOError` of the
+/// cause.
 pub fn output_fault(cause: io::Error) -> RenderError
-    ensures { refusal_of result ≡ plain_refusal (write_reason (error_kind cause)) }
+    ensures refusal { refusal_of result ≡ plain_refusal (write_reason (error_kind cause)) }
+    ensures cause { error_kind cause ≢ OutOfMemory → cause_of result ≡ RenderErrorReason.IOError cause }
 {
     match cause.kind() {
         ErrorKind::OutOfMemory => RenderErrorReason::OutOfMemory.into(),
-        _ => RenderErrorReason::IOError(cause).into(),
+        _ => RenderError::from(RenderErrorReason::IOError(cause)),
     }
 }

@@ -3,7 +3,6 @@
 ghost use Rattle.std.specs.Prelude.{◌≡◌, IfErr, IfOk, option_map, string_bytes};
 ghost use Rattle.handlebars_scope.specs.Escape.{entity_of, escaped};
 ghost use Rattle.handlebars_scope.specs.Outputs.{Written};
-ghost use Rattle.handlebars_scope.specs.EscapeLaws.{Joins, IsInjective, IsUnmarked, BeginsEntities};
 
 use crate::output::{Output, StringOutput};
 use std::alloc::{AllocError, Global};
@@ -80,11 +79,3 @@ pub fn no_escape(alloc: Global, text: &str) -> Result<String, AllocError>
 {
     String::from_str(alloc, text)
 }
-
-/// The laws of escaping, for whoever reads what was escaped.
-pub fn escape_laws()
-    ensures joins { Joins }
-    ensures injective { IsInjective }
-    ensures unmarked { IsUnmarked }
-    ensures entities { BeginsEntities }
-{}

@@ -6,6 +6,7 @@ use Rattle.std.specs.List.{AllByRecursion}
 use Rattle.handlebars_scope.specs.Escape.{entity_of, escaped_byte, escaped}
 use Rattle.handlebars_scope.specs.EscapeLaws.{IsInjective, marks, IsUnmarked, BeginsEntities}
 use Rattle.handlebars_scope.proofs.Bytes.{IsOther, by_bytes, escaped_byte-other}
+use Rattle.handlebars_base.specs.Bytes.{Text}
 
 -- ---- a decoder: what stands first in an escaped text, and what follows it
 
@@ -19,28 +20,28 @@ named x y =
 len_of : ℕ → ℕ
 len_of x = if x == 108 then 3 else (if x == 103 then 3 else (if x == 97 then 4 else 5))
 
-first_of : List ℕ → ℕ
+first_of : Text → ℕ
 first_of [] = 0
 first_of (b ∷ bs) = if b == 38 then named (get_or bs 0 0) (get_or bs 2 0) else b
 
-rest_of : List ℕ → List ℕ
+rest_of : Text → Text
 rest_of [] = []
 rest_of (b ∷ bs) = if b == 38 then drop (len_of (get_or bs 0 0)) bs else bs
 
 no_ampersand : (b : ℕ) → IsOther b → (b == 38) ≡ false
 no_ampersand b o = let h = o.ampersand in grind (arith, nat_tests)
 
-first_of-escaped : (rest : List ℕ) (b : ℕ) → first_of (escaped_byte b ++ rest) ≡ b
+first_of-escaped : (rest : Text) (b : ℕ) → first_of (escaped_byte b ++ rest) ≡ b
 unfolding first_of named
 first_of-escaped rest = by_bytes (λ b. first_of (escaped_byte b ++ rest) ≡ b) refl refl refl refl refl refl refl
     (λ b o. ap (λ t. first_of (t ++ rest)) (escaped_byte-other b o) ∙ ap (λ x. cond x (named (get_or rest 0 0) (get_or rest 2 0)) b) (no_ampersand b o))
 
-rest_of-escaped : (rest : List ℕ) (b : ℕ) → rest_of (escaped_byte b ++ rest) ≡ rest
+rest_of-escaped : (rest : Text) (b : ℕ) → rest_of (escaped_byte b ++ rest) ≡ rest
 unfolding rest_of len_of
 rest_of-escaped rest = by_bytes (λ b. rest_of (escaped_byte b ++ rest) ≡ rest) refl refl refl refl refl refl refl
     (λ b o. ap (λ t. rest_of (t ++ rest)) (escaped_byte-other b o) ∙ ap (λ x. cond x (drop (len_of (get_or rest 0 0)) rest) rest) (no_ampersand b o))
 
-not_empty : (b : ℕ) (rest : List ℕ) → escaped_byte b ++ rest ≢ []
+not_empty : (b : ℕ) (rest : Text) → escaped_byte b ++ rest ≢ []
 not_empty b rest = by_bytes (λ b. escaped_byte b ++ rest ≢ []) (λ e. cc) (λ e. cc) (λ e. cc) (λ e. cc) (λ e. cc) (λ e. cc) (λ e. cc)
     (λ b o e. let f = sym (ap (λ t. t ++ rest) (escaped_byte-other b o)) ∙ e in cc) b
 
@@ -70,7 +71,7 @@ no_mark b h1 h2 h3 h4 h5 h6 = record { less = h1; greater = h2; quote = h3; apos
 plain : (b : ℕ) → cond (eqb b 60) false (cond (eqb b 62) false (cond (eqb b 34) false (cond (eqb b 39) false (cond (eqb b 96) false (cond (eqb b 61) false true))))) ≡ true → IsNoMark b
 plain b h = no_mark b (λ e. grind (arith, nat_tests)) (λ e. grind (arith, nat_tests)) (λ e. grind (arith, nat_tests)) (λ e. grind (arith, nat_tests)) (λ e. grind (arith, nat_tests)) (λ e. grind (arith, nat_tests))
 
-all_append : (xs ys : List ℕ) → AllByRecursion IsNoMark xs → AllByRecursion IsNoMark ys → AllByRecursion IsNoMark (xs ++ ys)
+all_append : (xs ys : Text) → AllByRecursion IsNoMark xs → AllByRecursion IsNoMark ys → AllByRecursion IsNoMark (xs ++ ys)
 all_append [] ys h k = k
 all_append (x ∷ xs) ys h k = (h.0, all_append xs ys h.1 k)
 
@@ -85,7 +86,7 @@ byte_unmarked = by_bytes (λ b. AllByRecursion IsNoMark (escaped_byte b))
     (plain _ refl, (plain _ refl, (plain _ refl, (plain _ refl, (plain _ refl, (plain _ refl, tt))))))
     (λ b o. subst (AllByRecursion IsNoMark) (sym (escaped_byte-other b o)) (no_mark b o.less o.greater o.quote o.apostrophe o.back o.equals, tt))
 
-all_unmarked : (xs : List ℕ) → AllByRecursion IsNoMark (escaped xs)
+all_unmarked : (xs : Text) → AllByRecursion IsNoMark (escaped xs)
 unfolding escaped
 all_unmarked [] = tt
 all_unmarked (b ∷ bs) = all_append (escaped_byte b) (escaped bs) (byte_unmarked b) (all_unmarked bs)
@@ -106,20 +107,20 @@ escaped_is_unmarked xs mark is there =
 
 -- ---- each `&`
 
-abbrev IsBeginning : List ℕ → Type 0
-IsBeginning rest = (b : ℕ) × (entity : List ℕ) × (after : List ℕ) × (entity_of b ≡ Some entity) × (38 ∷ rest ≡ entity ++ after)
+abbrev IsBeginning : Text → Type 0
+IsBeginning rest = (b : ℕ) × (entity : Text) × (after : Text) × (entity_of b ≡ Some entity) × (38 ∷ rest ≡ entity ++ after)
 
-abbrev NoAmpersand : List ℕ → Type 0
+abbrev NoAmpersand : Text → Type 0
 NoAmpersand = AllByRecursion (λ b. b ≢ 38)
 
 -- an `&` after bytes that are none stands in what follows them
-skip : (P : Type 0) (e more front rest : List ℕ) → NoAmpersand e → e ++ more ≡ front ++ 38 ∷ rest → ((front' : List ℕ) → more ≡ front' ++ 38 ∷ rest → P) → P
+skip : (P : Type 0) (e more front rest : Text) → NoAmpersand e → e ++ more ≡ front ++ 38 ∷ rest → ((front' : Text) → more ≡ front' ++ 38 ∷ rest → P) → P
 skip P [] more front rest none e go = go front e
 skip P (b ∷ bs) more [] rest none e go = absurd (none.0 cc)
 skip P (b ∷ bs) more (f ∷ front) rest none e go = skip P bs more front rest none.1 (cc) go
 
 -- an `&` in an entity and what follows is the entity's first byte, or stands in what follows
-in_entity : (b : ℕ) (t more front rest : List ℕ) → entity_of b ≡ Some (38 ∷ t) → NoAmpersand t → (38 ∷ t) ++ more ≡ front ++ 38 ∷ rest → ((front' : List ℕ) → more ≡ front' ++ 38 ∷ rest → IsBeginning rest) → IsBeginning rest
+in_entity : (b : ℕ) (t more front rest : Text) → entity_of b ≡ Some (38 ∷ t) → NoAmpersand t → (38 ∷ t) ++ more ≡ front ++ 38 ∷ rest → ((front' : Text) → more ≡ front' ++ 38 ∷ rest → IsBeginning rest) → IsBeginning rest
 in_entity b t more [] rest is none e go = (b, 38 ∷ t, more, is, sym e)
 in_entity b t more (f ∷ front) rest is none e go = skip (IsBeginning rest) t more front rest none (cc) go
 
@@ -127,7 +128,7 @@ byte : (b : ℕ) → eqb b 38 ≡ false → b ≢ 38
 byte b h = grind (arith, nat_tests)
 
 abbrev AtByte : ℕ → Type 0
-AtByte b = (more front rest : List ℕ) → escaped_byte b ++ more ≡ front ++ 38 ∷ rest → ((front' : List ℕ) → more ≡ front' ++ 38 ∷ rest → IsBeginning rest) → IsBeginning rest
+AtByte b = (more front rest : Text) → escaped_byte b ++ more ≡ front ++ 38 ∷ rest → ((front' : Text) → more ≡ front' ++ 38 ∷ rest → IsBeginning rest) → IsBeginning rest
 
 at_byte : (b : ℕ) → AtByte b
 at_byte = by_bytes AtByte

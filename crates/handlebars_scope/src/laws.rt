@@ -1,0 +1,11 @@
+//! Laws of what is defined here, for whoever builds on it.
+
+ghost use Rattle.handlebars_scope.specs.EscapeLaws.{Joins, IsInjective, IsUnmarked, BeginsEntities};
+
+/// The laws of escaping.
+pub fn escape_laws()
+    ensures joins { Joins }
+    ensures injective { IsInjective }
+    ensures unmarked { IsUnmarked }
+    ensures entities { BeginsEntities }
+{}
