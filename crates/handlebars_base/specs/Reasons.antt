@@ -1,48 +1,49 @@
 -- Why something is refused: the reasons as plain data. A cause that comes from outside has no parts here.
-use Rattle.std.specs.Prelude.{ℕ, List, Option}
+use Rattle.std.specs.Prelude.{ℕ, Option, None}
+use Rattle.handlebars_base.specs.Bytes.{Text}
 
 -- why a template has no tree
 pub data TemplateReason : Type 0 where
-  mismatching_closed_helper : List ℕ → List ℕ → TemplateReason
-  mismatching_closed_decorator : List ℕ → List ℕ → TemplateReason
-  invalid_syntax : List ℕ → TemplateReason
-  invalid_param : List ℕ → TemplateReason
+  mismatching_closed_helper : Text → Text → TemplateReason
+  mismatching_closed_decorator : Text → Text → TemplateReason
+  invalid_syntax : Text → TemplateReason
+  invalid_param : Text → TemplateReason
   nested_subexpression : TemplateReason
-  template_io_error : List ℕ → TemplateReason
-  walkdir_error : List ℕ → TemplateReason
+  template_io_error : Text → TemplateReason
+  walkdir_error : Text → TemplateReason
   template_out_of_memory : TemplateReason
 
--- why, in which template, at which line and column
+-- why a template has no tree, in which template, at which line and column
 pub record TemplateRefusal : Type 0 where
   pub reason : TemplateReason
-  pub name : Option (List ℕ)
+  pub name : Option Text
   pub position : Option (ℕ × ℕ)
 
 -- why a call is refused
 pub data Reason : Type 0 where
-  template_not_found : List ℕ → Reason
+  template_not_found : Text → Reason
   template_error : TemplateRefusal → Reason
-  missing_variable : Option (List ℕ) → Reason
-  partial_not_found : List ℕ → Reason
+  missing_variable : Option Text → Reason
+  partial_not_found : Text → Reason
   partial_block_not_found : Reason
-  helper_not_found : List ℕ → Reason
-  param_not_found_for_index : List ℕ → ℕ → Reason
-  param_not_found_for_name : List ℕ → List ℕ → Reason
-  param_type_mismatch_for_name : List ℕ → List ℕ → List ℕ → Reason
-  hash_type_mismatch_for_name : List ℕ → List ℕ → List ℕ → Reason
-  decorator_not_found : List ℕ → Reason
+  helper_not_found : Text → Reason
+  param_not_found_for_index : Text → ℕ → Reason
+  param_not_found_for_name : Text → Text → Reason
+  param_type_mismatch_for_name : Text → Text → Text → Reason
+  hash_type_mismatch_for_name : Text → Text → Text → Reason
+  decorator_not_found : Text → Reason
   cannot_include_self : Reason
-  invalid_logging_level : List ℕ → Reason
-  invalid_param_type : List ℕ → Reason
+  invalid_logging_level : Text → Reason
+  invalid_param_type : Text → Reason
   block_content_required : Reason
-  invalid_json_path : List ℕ → Reason
-  invalid_json_index : List ℕ → Reason
+  invalid_json_path : Text → Reason
+  invalid_json_index : Text → Reason
   serde_error : Reason
   io_error : Reason
   utf8_error : Reason
-  nested_error : List ℕ → Reason
+  nested_error : Text → Reason
   unimplemented : Reason
-  other : List ℕ → Reason
+  other : Text → Reason
   inclusion_limit : ℕ → Reason
   invalid_number : Reason
   failed : Reason
@@ -62,9 +63,16 @@ reason_for f template_out_of_memory = out_of_memory
 abbrev pub of_template : TemplateRefusal → Reason
 of_template f = reason_for f f.reason
 
--- a refusal: why, in which template, and at which line and column
-pub record Refusal : Type 0 where
-  pub reason : Reason
-  pub name : Option (List ℕ)
+-- where something is refused or a write failed, as far as it is known: in which template, at which line and column
+pub record Spot : Type 0 where
+  pub name : Option Text
   pub line : Option ℕ
   pub column : Option ℕ
+
+abbrev pub nowhere : Spot
+nowhere = record { name = None; line = None; column = None }
+
+-- a refusal: why, and where
+pub record Refusal : Type 0 where
+  pub reason : Reason
+  pub spot : Spot

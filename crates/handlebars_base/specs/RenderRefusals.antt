@@ -1,6 +1,8 @@
 -- What the errors of rendering stand for.
-use Rattle.std.specs.Prelude.{ℕ, List, Option, Some, None, option_map, string_bytes}
-use Rattle.handlebars_base.specs.Reasons.{Reason, Refusal, TemplateRefusal, template_not_found, of_template, missing_variable, partial_not_found, partial_block_not_found, helper_not_found, param_not_found_for_index, param_not_found_for_name, param_type_mismatch_for_name, hash_type_mismatch_for_name, decorator_not_found, cannot_include_self, invalid_logging_level, invalid_param_type, block_content_required, invalid_json_path, invalid_json_index, serde_error, io_error, utf8_error, nested_error, unimplemented, other, inclusion_limit, invalid_number, failed, out_of_memory}
+use Rattle.std.specs.Prelude.{ℕ, Option, Some, None, option_map, Result, Ok, Err, string_bytes}
+use Rattle.std.specs.declared.alloc.AllocError.{AllocError}
+use Rattle.handlebars_base.specs.Bytes.{Text}
+use Rattle.handlebars_base.specs.Reasons.{Reason, Spot, nowhere, Refusal, TemplateRefusal, template_not_found, of_template, missing_variable, partial_not_found, partial_block_not_found, helper_not_found, param_not_found_for_index, param_not_found_for_name, param_type_mismatch_for_name, hash_type_mismatch_for_name, decorator_not_found, cannot_include_self, invalid_logging_level, invalid_param_type, block_content_required, invalid_json_path, invalid_json_index, serde_error, io_error, utf8_error, nested_error, unimplemented, other, inclusion_limit, invalid_number, failed, out_of_memory}
 use Rattle.handlebars_base.specs.TemplateRefusals.{template_refusal_of}
 use Rattle.handlebars_base.specs.declared.error.render_error.RenderError.{RenderError}
 use Rattle.handlebars_base.specs.declared.error.render_error.RenderErrorReason.{RenderErrorReason}
@@ -35,6 +37,11 @@ reason_of InvalidNumber = invalid_number
 reason_of Failed = failed
 reason_of OutOfMemory = out_of_memory
 
+-- a reason, or want of memory
+abbrev pub reason_or_memory : Result RenderErrorReason AllocError → Reason
+reason_or_memory (Ok r) = reason_of r
+reason_or_memory (Err e) = out_of_memory
+
 -- the reason itself, with a cause that comes from outside
 abbrev pub cause_of : RenderError → RenderErrorReason
 cause_of e = e.reason
@@ -47,27 +54,28 @@ refusal_within r = None
 abbrev pub reason_in : RenderError → Reason
 reason_in e = reason_of e.reason
 
+abbrev pub spot_of : RenderError → Spot
+spot_of e = record { name = option_map string_bytes e.template_name; line = e.line_no; column = e.column_no }
+
 abbrev pub refusal_of : RenderError → Refusal
-refusal_of e = record { reason = reason_in e; name = option_map string_bytes e.template_name; line = e.line_no; column = e.column_no }
+refusal_of e = record { reason = reason_in e; spot = spot_of e }
 
 -- a refusal with no template and no position yet
 abbrev pub plain_refusal : Reason → Refusal
-plain_refusal r = record { reason = r; name = None; line = None; column = None }
+plain_refusal r = record { reason = r; spot = nowhere }
 
 abbrev pub or_else : {A : Type 0} → Option A → A → Option A
 or_else None x = Some x
 or_else (Some y) x = Some y
 
 -- the name of the innermost template that has one
-abbrev pub name_if_none : List ℕ → Refusal → Refusal
-name_if_none n f = record f { name = or_else f.name n }
+abbrev pub name_if_none : Text → Spot → Spot
+name_if_none n s = record s { name = or_else s.name n }
 
-abbrev pub placed : Refusal → Option ℕ → Option ℕ → ℕ → ℕ → Refusal
-placed f None None line column = record f { line = Some line; column = Some column }
-placed f None (Some c) line column = f
-placed f (Some l) None line column = f
-placed f (Some l) (Some c) line column = f
+abbrev pub placed : Spot → Option ℕ → ℕ → ℕ → Spot
+placed s None line column = record s { line = Some line; column = Some column }
+placed s (Some l) line column = s
 
--- the position of the innermost element that has one
-abbrev pub place_if_none : ℕ → ℕ → Refusal → Refusal
-place_if_none line column f = placed f f.line f.column line column
+-- The position of the innermost element that has one. Where no line is known, line and column are taken.
+abbrev pub place_if_none : ℕ → ℕ → Spot → Spot
+place_if_none line column s = placed s s.line line column

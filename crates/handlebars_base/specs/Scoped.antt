@@ -1,5 +1,6 @@
 -- A value with where it came from.
-use Rattle.std.specs.Prelude.{ℕ, List, map, string_bytes, Option, Some, None}
+use Rattle.std.specs.Prelude.{List, map, string_bytes, Option, Some, None}
+use Rattle.handlebars_base.specs.Bytes.{Text}
 use Rattle.serde_json.specs.Data.{Data, null}
 use Rattle.serde_json.specs.View.{view}
 use Rattle.handlebars_base.specs.declared.json.value.ScopedJson.{ScopedJson}
@@ -7,7 +8,7 @@ use Rattle.handlebars_base.specs.declared.json.value.ScopedJson.TheVariants.{Con
 
 -- a value that was walked to from the data, with its full path; another value; or none
 pub data Found : Type 0 where
-  walked : Data → List (List ℕ) → Found
+  walked : Data → List Text → Found
   value : Data → Found
   missing : Found
 
@@ -29,7 +30,7 @@ data_in (walked d path) = d
 data_in (value d) = d
 data_in missing = null
 
-abbrev pub path_in : Found → Option (List (List ℕ))
+abbrev pub path_in : Found → Option (List Text)
 path_in (walked d path) = Some path
 path_in (value d) = None
 path_in missing = None

@@ -1,5 +1,6 @@
 -- What the errors of templates stand for.
-use Rattle.std.specs.Prelude.{ℕ, List, Option, Some, None, option_map, string_bytes}
+use Rattle.std.specs.Prelude.{ℕ, Option, Some, None, option_map, string_bytes}
+use Rattle.handlebars_base.specs.Bytes.{Text}
 use Rattle.handlebars_base.specs.Reasons.{TemplateReason, TemplateRefusal, mismatching_closed_helper, mismatching_closed_decorator, invalid_syntax, invalid_param, nested_subexpression, template_io_error, walkdir_error, template_out_of_memory}
 use Rattle.handlebars_base.specs.declared.error.template_error.TemplateError.{TemplateError}
 use Rattle.handlebars_base.specs.declared.error.template_error.TemplateErrorReason.{TemplateErrorReason}
@@ -20,7 +21,7 @@ abbrev pub template_cause_of : TemplateError → TemplateErrorReason
 template_cause_of e = e.reason
 
 -- the lines of the source that it shows, where it shows any
-abbrev pub shown_lines : TemplateError → Option (List ℕ)
+abbrev pub shown_lines : TemplateError → Option Text
 shown_lines e = option_map string_bytes e.segment
 
 -- a line and a column, where both are there

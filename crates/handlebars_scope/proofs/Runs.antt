@@ -1,63 +1,67 @@
--- Copying the runs of a text between characters that have entities.
-use Rattle.std.proofs.Common.{◌≡◌, ℕ, ◌+◌, ◌-◌, ◌<◌, ◌≤◌, List, [], ◌∷◌, ◌++◌, take, drop, get_or, length, sym, ap, ap₂, ◌∙◌, arith, append_assoc, append-nil, Some, None, unwrap_or, length-drop, get_or-drop}
+-- Writing the runs of a text between characters that have entities.
+use Rattle.std.proofs.Common.{◌≡◌, ℕ, ◌+◌, ◌-◌, ◌<◌, ◌≤◌, [], ◌∷◌, ◌++◌, take, drop, get_or, length, refl, sym, ap, ap₂, ◌∙◌, subst, arith, append_assoc, append-nil, Some, None, unwrap_or, length-drop, get_or-drop, add-one, drop-cons}
 use Rattle.std.specs.Str.{IsCharBoundary, IsUtf8}
-use Rattle.std.proofs.lemmas.Str.{IsCharBoundary-start, IsCharBoundary-after_ascii}
-use Rattle.std.proofs.lemmas.List.{take_more}
+use Rattle.std.proofs.lemmas.Str.{IsCharBoundary-after_ascii}
+use Rattle.std.proofs.lemmas.List.{take_more, take_all, drop_all}
+use Rattle.handlebars_base.specs.Bytes.{Text}
 use Rattle.handlebars_scope.specs.Escape.{entity_of, escaped_byte, escaped}
-use Rattle.handlebars_scope.proofs.Bytes.{entity_is_ascii, escaped-append, escaped-nil, escaped-one}
+use Rattle.handlebars_scope.proofs.Bytes.{entity_is_ascii}
 
--- what is out, with the run from `copied` to `at` that is not out yet, is the escape of all up to `at`
-pub record Covers (text : List ℕ) (copied at : ℕ) (out : List ℕ) : Type 0 where
-  pub within : copied ≤ at
-  pub boundary : IsCharBoundary text copied
-  pub covers : out ++ take (at - copied) (drop copied text) ≡ escaped (take at text)
+-- what is left at a byte, where the run before it is not written either
+abbrev pub left_at : Text → ℕ → ℕ → Text
+left_at text written at = take (at - written) (drop written text) ++ escaped (drop at text)
 
-pub covers_nothing : (text out : List ℕ) → IsUtf8 text → out ≡ [] → Covers text 0 0 out
-covers_nothing text out u e = record {
-  within = omega arith;
-  boundary = IsCharBoundary-start text u;
-  covers = append-nil out ∙ e ∙ sym escaped-nil;
-}
+pub left_at-start : (text : Text) → escaped text ≡ left_at text 0 0
+left_at-start text = refl
 
--- the escape of one byte more
-escaped_more : (text : List ℕ) (at : ℕ) → at < length text → escaped (take (at + 1) text) ≡ escaped (take at text) ++ escaped_byte (get_or text at 0)
-escaped_more text at l =
-    let b = get_or text at 0 in
-    ap escaped (take_more text at 0 l) ∙ escaped-append (take at text) (b ∷ []) ∙ ap (λ t. escaped (take at text) ++ t) (escaped-one b)
+escaped-drop : (text : Text) (at : ℕ) → at < length text
+    → escaped (drop at text) ≡ escaped_byte (get_or text at 0) ++ escaped (drop (at + 1) text)
+unfolding escaped
+escaped-drop text at l = rw (add-one, drop-cons text at 0 l) refl
 
-run_more : (text : List ℕ) (copied at : ℕ) → copied ≤ at → at < length text
-    → take (at + 1 - copied) (drop copied text) ≡ take (at - copied) (drop copied text) ++ get_or text at 0 ∷ []
-run_more text copied at w l =
-    let inside : at - copied < length (drop copied text) = omega (arith, length-drop copied text) in
-    let count : at + 1 - copied ≡ at - copied + 1 = omega arith in
-    let place : copied + (at - copied) ≡ at = omega arith in
-    ap (λ n. take n (drop copied text)) count ∙ take_more (drop copied text) (at - copied) 0 inside
-    ∙ ap (λ b. take (at - copied) (drop copied text) ++ b ∷ []) (get_or-drop copied text (at - copied) 0 ∙ ap (λ n. get_or text n 0) place)
+run-more : (text : Text) (written at : ℕ) → written ≤ at → at < length text
+    → take (at + 1 - written) (drop written text) ≡ take (at - written) (drop written text) ++ get_or text at 0 ∷ []
+run-more text written at w l =
+    let inside : at - written < length (drop written text) = omega (arith, length-drop written text) in
+    let count : at + 1 - written ≡ at - written + 1 = omega arith in
+    let place : written + (at - written) ≡ at = omega arith in
+    ap (λ n. take n (drop written text)) count ∙ take_more (drop written text) (at - written) 0 inside
+    ∙ ap (λ b. take (at - written) (drop written text) ++ b ∷ []) (get_or-drop written text (at - written) 0 ∙ ap (λ n. get_or text n 0) place)
 
 -- past a byte with no entity
-pub covers_plain : (text out : List ℕ) (copied at : ℕ) → Covers text copied at out → at < length text → None ≡ entity_of (get_or text at 0)
-    → Covers text copied (at + 1) out
-covers_plain text out copied at c l e =
-    let run = take (at - copied) (drop copied text) in
+pub left_at-plain : (text bytes : Text) (written at : ℕ) → bytes ≡ text → written ≤ at → at < length bytes
+    → None ≡ entity_of (get_or bytes at 0) → left_at text written at ≡ left_at text written (at + 1)
+left_at-plain text bytes written at is w l e =
     let b = get_or text at 0 in
-    let itself : escaped_byte b ≡ b ∷ [] = ap (λ r. unwrap_or r (b ∷ [])) (sym e) in
-    record {
-      within = omega arith;
-      boundary = c.boundary;
-      covers = ap (λ t. out ++ t) (run_more text copied at c.within l) ∙ sym (append_assoc out run (b ∷ []))
-          ∙ ap₂ (λ s t. s ++ t) c.covers (sym itself) ∙ sym (escaped_more text at l);
-    }
+    let run = take (at - written) (drop written text) in
+    let rest = escaped (drop (at + 1) text) in
+    let inside : at < length text = subst (λ t. at < length t) is l in
+    let itself : escaped_byte b ≡ b ∷ [] = ap (λ r. unwrap_or r (b ∷ [])) (sym (e ∙ ap (λ t. entity_of (get_or t at 0)) is)) in
+    ap (λ t. run ++ t) (escaped-drop text at inside ∙ ap (λ t. t ++ rest) itself) ∙ sym (append_assoc run (b ∷ []) rest)
+    ∙ ap (λ t. t ++ rest) (sym (run-more text written at w inside))
 
--- past a byte with an entity, once the run before it and the entity are out
-pub covers_entity : (text out entity more : List ℕ) (copied at : ℕ) → IsUtf8 text → Covers text copied at out → at < length text → Some entity ≡ entity_of (get_or text at 0)
-    → more ≡ (out ++ take (at - copied) (drop copied text)) ++ entity → Covers text (at + 1) (at + 1) more
-covers_entity text out entity more copied at u c l e m =
+-- past a byte with an entity
+pub left_at-entity : (text bytes run entity : Text) (written at : ℕ) → bytes ≡ text → run ≡ take (at - written) (drop written text)
+    → at < length bytes → Some entity ≡ entity_of (get_or bytes at 0) → left_at text written at ≡ run ++ (entity ++ left_at text (at + 1) (at + 1))
+left_at-entity text bytes run entity written at is is_run l e =
     let b = get_or text at 0 in
-    let is_entity : escaped_byte b ≡ entity = ap (λ r. unwrap_or r (b ∷ [])) (sym e) in
-    let none : at + 1 - (at + 1) ≡ 0 = omega arith in
-    record {
-      within = omega arith;
-      boundary = IsCharBoundary-after_ascii text at u l (entity_is_ascii b entity (sym e));
-      covers = ap (λ n. more ++ take n (drop (at + 1) text)) none ∙ append-nil more ∙ m
-          ∙ ap₂ (λ s t. s ++ t) c.covers (sym is_entity) ∙ sym (escaped_more text at l);
-    }
+    let rest = escaped (drop (at + 1) text) in
+    let is_entity : escaped_byte b ≡ entity = ap (λ r. unwrap_or r (b ∷ [])) (sym (e ∙ ap (λ t. entity_of (get_or t at 0)) is)) in
+    let nothing : at + 1 - (at + 1) ≡ 0 = omega arith in
+    ap₂ (λ s t. s ++ t) (sym is_run) (escaped-drop text at (subst (λ t. at < length t) is l)
+    ∙ ap₂ (λ s t. s ++ t) is_entity (sym (ap (λ n. take n (drop (at + 1) text) ++ rest) nothing)))
+
+-- behind it a text may be cut
+pub boundary-entity : (text bytes entity : Text) (at : ℕ) → IsUtf8 text → bytes ≡ text → at < length bytes
+    → Some entity ≡ entity_of (get_or bytes at 0) → IsCharBoundary text (at + 1)
+boundary-entity text bytes entity at u is l e =
+    IsCharBoundary-after_ascii text at u (subst (λ t. at < length t) is l) (entity_is_ascii _ entity (sym (e ∙ ap (λ t. entity_of (get_or t at 0)) is)))
+
+-- at the end only a run is left
+pub left_at-end : (text bytes run : Text) (written at : ℕ) → bytes ≡ text → run ≡ drop written text → length bytes ≤ at → left_at text written at ≡ run
+unfolding escaped
+left_at-end text bytes run written at is is_run l =
+    let past : length text ≤ at = subst (λ t. length t ≤ at) is l in
+    let none : escaped (drop at text) ≡ [] = ap escaped (drop_all at text past) in
+    let all : take (at - written) (drop written text) ≡ drop written text = take_all (at - written) (drop written text) (omega (arith, length-drop written text)) in
+    ap₂ (λ s t. s ++ t) all none ∙ append-nil (drop written text) ∙ sym is_run

@@ -1,7 +1,9 @@
 pub mod Contexts
 pub mod Wraps
 pub mod Resolve
-pub mod Outputs
 pub mod Escape
 pub mod EscapeLaws
+pub mod Outputs
+pub mod Sites
 pub mod Put
+pub mod LineView

@@ -1,5 +1,5 @@
 -- The data that a context has of any value that serde writes.
-use Rattle.std.specs.Prelude.{◌≡◌, ◌⊎◌, ℕ, List, [], Some, true, false}
+use Rattle.std.specs.Prelude.{◌≡◌, ◌⊎◌, [], Some, true, false}
 use Rattle.serde.specs.Event.{Log}
 use Rattle.serde_json.specs.Data.{Data}
 use Rattle.serde_json.specs.Read.{read}
@@ -7,14 +7,16 @@ use Rattle.serde_json.specs.Sent.{IsTextOf}
 use Rattle.serde_json.specs.Written.{has_float}
 use Rattle.handlebars_base.specs.Reasons.{serde_error, invalid_number}
 use Rattle.handlebars_base.specs.Answers.{Answer, gives, refuses}
+use Rattle.handlebars_base.specs.Bytes.{Text}
+use Rattle.handlebars_base.specs.RenderRefusals.{plain_refusal}
 
 -- a text of JSON that the value may be written as, and the data that is read from it
 abbrev pub IsWrittenAs : {T : Type 0} → (T → Log → Log → Type 0) → T → Data → Type 0
-IsWrittenAs writes x d = (log : Log) × (text : List ℕ) × writes x (Some []) log × IsTextOf log text × (read text ≡ Some d)
+IsWrittenAs writes x d = (log : Log) × (text : Text) × writes x (Some []) log × IsTextOf log text × (read text ≡ Some d)
 
 -- Data is given where its numbers are in the range. serde_json may refuse to write a value for reasons of the value's
 -- own, of which nothing is said here.
 abbrev pub IsConversion : {T : Type 0} → (T → Log → Log → Type 0) → T → Answer Data → Type 0
 IsConversion writes x (gives d) = IsWrittenAs writes x d × (has_float d ≡ false)
 IsConversion writes x (refuses r) =
-    (r ≡ serde_error) ⊎ ((r ≡ invalid_number) × (d : Data) × IsWrittenAs writes x d × (has_float d ≡ true))
+    (r ≡ plain_refusal serde_error) ⊎ ((r ≡ plain_refusal invalid_number) × (d : Data) × IsWrittenAs writes x d × (has_float d ≡ true))

@@ -4,8 +4,8 @@ ghost use Rattle.std.specs.Prelude.{◌≡◌, false};
 ghost use Rattle.serde_json.specs.Errors.{IsMemory};
 ghost use Rattle.serde_json.specs.View.{view};
 ghost use Rattle.serde_json.specs.Written.{has_float};
-ghost use Rattle.handlebars_base.specs.Reasons.{out_of_memory, serde_error};
-ghost use Rattle.handlebars_base.specs.RenderRefusals.{reason_in, refusal_of, plain_refusal};
+ghost use Rattle.handlebars_base.specs.Reasons.{nowhere, out_of_memory, serde_error};
+ghost use Rattle.handlebars_base.specs.RenderRefusals.{reason_in, spot_of};
 
 mod range;
 pub mod walk;
@@ -28,9 +28,9 @@ impl Context {
     ghost use Rattle.serde_json.specs.Data.{null};
     ghost use Rattle.serde_json.specs.View.{view};
     ghost use Rattle.serde_json.specs.Written.{has_float};
-    ghost use Rattle.handlebars_base.specs.Answers.{gives, refuses};
-    ghost use Rattle.handlebars_base.specs.Reasons.{out_of_memory};
-    ghost use Rattle.handlebars_base.specs.RenderRefusals.{reason_in, refusal_of, plain_refusal};
+    ghost use Rattle.handlebars_base.specs.Answers.{gives, refuses_for};
+    ghost use Rattle.handlebars_base.specs.Reasons.{nowhere, out_of_memory};
+    ghost use Rattle.handlebars_base.specs.RenderRefusals.{reason_in, spot_of};
     ghost use Rattle.handlebars_scope.specs.Contexts.{data_of, TestsRange};
     ghost use Rattle.handlebars_scope.specs.Wraps.{IsConversion};
 
@@ -47,8 +47,8 @@ impl Context {
     pub fn wraps<T: Serialize>(alloc: Global, source: &T) -> Result<Context, RenderError>
         ensures ok { IfOk result (λ c. IsConversion T.writes source.now (gives (data_of c))) }
         ensures err { IfErr result (λ e. reason_in e ≢ out_of_memory
-            → IsConversion T.writes source.now (refuses (reason_in e))) }
-        ensures plain { IfErr result (λ e. refusal_of e ≡ plain_refusal (reason_in e)) }
+            → IsConversion T.writes source.now (refuses_for (reason_in e))) }
+        ensures plain { IfErr result (λ e. spot_of e ≡ nowhere) }
     {
         let text = match serde_json::to_string(alloc, source) {
             Ok(text) => text,
@@ -83,7 +83,7 @@ impl Context {
 fn refused(cause: serde_json::Error) -> RenderError
     ensures memory { IsMemory cause → reason_in result ≡ out_of_memory }
     ensures other { ¬ (IsMemory cause) → reason_in result ≡ serde_error }
-    ensures plain { refusal_of result ≡ plain_refusal (reason_in result) }
+    ensures plain { spot_of result ≡ nowhere }
 {
     if cause.is_memory() {
         RenderErrorReason::OutOfMemory.into()

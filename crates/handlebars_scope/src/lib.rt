@@ -2,5 +2,7 @@
 #![tactic(auto)]
 
 pub mod context;
+pub mod line;
 pub mod output;
 pub mod support;
+pub mod value;

@@ -1,31 +1,29 @@
 //! Where a rendering writes.
 
-ghost use Rattle.std.specs.Prelude.{◌≡◌, ℕ, List, [], IfErr, OnErr, string_bytes};
+ghost use Rattle.std.specs.Prelude.{◌≡◌, IfErr, IfOk, OnErr, string_bytes};
 ghost use Rattle.std.specs.IoError.{error_kind};
 ghost use Rattle.std.specs.declared.io.Error.{Error};
 ghost use Rattle.std.specs.declared.io.ErrorKind.TheVariants.{OutOfMemory};
 ghost use Rattle.handlebars_base.specs.RenderRefusals.{refusal_of, plain_refusal};
-ghost use Rattle.handlebars_scope.specs.Outputs.{Written, text_of, faults_of, write_reason};
+ghost use Rattle.handlebars_scope.specs.Outputs.{Held, nothing, Written, held_of, write_reason};
 
 use handlebars_base::error::{RenderError, RenderErrorReason};
-use std::alloc::Global;
+use std::alloc::{AllocError, Global};
 use std::io;
 use std::io::ErrorKind;
 
 /// Takes the text of a rendering, segment by segment.
 pub trait Output {
-    // What has been written.
-    ghost text: { Self → List ℕ };
-
-    // How many writes have failed.
-    ghost faults: { Self → ℕ };
+    // What has been written, and how many writes have failed.
+    ghost held: { Self → Held };
 
     // The errors that a write may give: any, where the output does not say.
     ghost may_give: { Error → Type 0 } = { λ _. Unit {0} };
 
-    /// Writes a segment. Where that fails, a beginning of the segment may have been written.
+    /// Writes a segment. Where that fails, a beginning of the segment may have been written. To write
+    /// nothing never fails.
     fn write(&mut self, seg: &str) -> Result<(), io::Error>
-        ensures written { Written seg.now (text self.old) (faults self.old) result (text self.new) (faults self.new) }
+        ensures written { Written seg.now (held self.old) result (held self.new) }
         ensures given { IfErr result may_give };
 }
 
@@ -39,8 +37,7 @@ pub struct StringOutput {
 impl StringOutput {
     /// Nothing yet; this takes no memory.
     pub fn new(alloc: Global) -> StringOutput
-        ensures text { text_of result ≡ [] }
-        ensures faults { faults_of result ≡ 0 }
+        ensures { held_of result ≡ nothing }
     {
         StringOutput {
             text: String::new(alloc),
@@ -48,26 +45,37 @@ impl StringOutput {
         }
     }
 
+    /// Nothing yet, with room for a text of so many bytes.
+    pub fn with_capacity(alloc: Global, capacity: usize) -> Result<StringOutput, AllocError>
+        ensures { IfOk result (λ o. held_of o ≡ nothing) }
+    {
+        Ok(StringOutput {
+            text: String::with_capacity(alloc, capacity)?,
+            faults: 0,
+        })
+    }
+
     /// All that was written.
     pub fn into_string(self) -> String
-        ensures { string_bytes result ≡ text_of self }
+        ensures { string_bytes result ≡ (held_of self).text }
     {
         self.text
     }
 }
 
 impl Output for StringOutput {
-    ghost text = { text_of };
-
-    ghost faults = { faults_of };
+    ghost held = { held_of };
 
     ghost may_give = { λ e. error_kind e ≡ OutOfMemory };
 
     fn write(&mut self, seg: &str) -> Result<(), io::Error>
-        ensures written { Written seg.now (text_of self.old) (faults_of self.old) result (text_of self.new) (faults_of self.new) }
+        ensures written { Written seg.now (held_of self.old) result (held_of self.new) }
         ensures given { IfErr result (λ e. error_kind e ≡ OutOfMemory) }
-        ensures whole { OnErr result (text_of self.new ≡ text_of self.old) }
+        ensures whole { OnErr result ((held_of self.new).text ≡ (held_of self.old).text) }
     {
+        if seg.is_empty() {
+            return Ok(());
+        }
         match self.text.push_str(seg) {
             Ok(()) => Ok(()),
             Err(cause) => {

@@ -7,7 +7,8 @@ use Rattle.std.proofs.lemmas.List.{take-append-drop, take_at}
 use Rattle.handlebars_base.specs.Bytes.{Text, is_white, left_brace, right_brace}
 use Rattle.handlebars_base.specs.Path.{IsPath, Reference}
 use Rattle.handlebars_base.specs.PathReading.{stops, starts_reference, reference_len}
-use Rattle.handlebars_base.proofs.References.{one_meaning, take-path, drop-path, stops-path, starts_other}
+use Rattle.handlebars_base.proofs.PathShapes.{one_meaning}
+use Rattle.handlebars_base.proofs.References.{take-path, drop-path, stops-path, starts_other}
 use Rattle.handlebars_template.specs.Text.{braces}
 use Rattle.handlebars_template.specs.Tag.{Tag, expression_tag, IsTag, an_expression, IsWhite, IsNames, NoTag}
 use Rattle.handlebars_template.specs.TagReading.{Follows, behind_white, behind_open, behind_close}

@@ -1,4 +1,5 @@
-ghost use Rattle.std.specs.Prelude.{◌≡◌, ◌≢◌, Some, None, option_map, string_bytes, IfSome, ℕ, List};
+ghost use Rattle.std.specs.Prelude.{◌≡◌, ◌≢◌, Some, None, option_map, string_bytes, IfOk, IfSome};
+ghost use Rattle.handlebars_base.specs.Bytes.{Text};
 ghost use Rattle.handlebars_base.specs.Reasons.{Reason, out_of_memory, io_error, utf8_error, serde_error, of_template, other, missing_variable, nested_error};
 
 use crate::error::{TemplateError, TemplateErrorReason};
@@ -71,6 +72,39 @@ pub enum RenderErrorReason {
     OutOfMemory,
 }
 
+impl RenderErrorReason {
+    ghost use Rattle.handlebars_base.specs.RenderRefusals.{reason_of};
+
+    fn of_text(alloc: Global, text: &str) -> Result<RenderErrorReason, AllocError>
+        ensures { IfOk result (λ r. reason_of r ≡ other text.now) }
+    {
+        Ok(RenderErrorReason::Other(String::from_str(alloc, text)?))
+    }
+
+    fn of_variable(
+        alloc: Global,
+        path: Option<&String>,
+    ) -> Result<RenderErrorReason, AllocError>
+        ensures { IfOk result (λ r. reason_of r ≡ missing_variable (option_map (λ s. string_bytes s.now) path.entry)) }
+    {
+        let path = match path {
+            Some(text) => Some(String::from_str(alloc, text.as_str())?),
+            None => None,
+        };
+        Ok(RenderErrorReason::MissingVariable(path))
+    }
+
+    fn of_cause<E: fmt::Display>(
+        alloc: Global,
+        cause: &E,
+    ) -> Result<RenderErrorReason, AllocError>
+        ensures nested { IfOk result (λ r. (text : Text) × (reason_of r ≡ nested_error text)) }
+        ensures text { IfOk result (λ r. IfSome (E.output cause.now) (λ text. reason_of r ≡ nested_error text)) }
+    {
+        Ok(RenderErrorReason::NestedError(cause.to_string(alloc)?))
+    }
+}
+
 /// A refusal: why, in which template, and at which line and column, counted from 1, columns in
 /// characters.
 #[derive(Debug, Drop)]
@@ -82,7 +116,7 @@ pub struct RenderError {
 }
 
 impl RenderError {
-    ghost use Rattle.handlebars_base.specs.RenderRefusals.{reason_of, reason_in, cause_of, plain_refusal, refusal_of, name_if_none, place_if_none};
+    ghost use Rattle.handlebars_base.specs.RenderRefusals.{reason_of, reason_in, cause_of, plain_refusal, refusal_of, spot_of, name_if_none, place_if_none};
 
     /// A refusal of a caller's own, `Other` of the text. Where the text finds no memory, the reason
     /// says so.
@@ -90,38 +124,26 @@ impl RenderError {
         ensures plain { refusal_of result ≡ plain_refusal (reason_in result) }
         ensures reason { reason_in result ≢ out_of_memory → reason_in result ≡ other text.now }
     {
-        match String::from_str(alloc, text) {
-            Ok(text) => RenderErrorReason::Other(text).into(),
-            Err(AllocError) => RenderErrorReason::OutOfMemory.into(),
-        }
+        RenderErrorReason::of_text(alloc, text).into()
     }
 
     /// `MissingVariable` of the text. Where a copy of it finds no memory, the reason says so.
-    pub fn strict_error(path: Option<&String>) -> RenderError
+    pub fn strict_error(alloc: Global, path: Option<&String>) -> RenderError
         ensures plain { refusal_of result ≡ plain_refusal (reason_in result) }
         ensures reason { reason_in result ≢ out_of_memory
             → reason_in result ≡ missing_variable (option_map (λ s. string_bytes s.now) path.entry) }
     {
-        match path {
-            None => RenderErrorReason::MissingVariable(None).into(),
-            Some(text) => match text.clone() {
-                Ok(text) => RenderErrorReason::MissingVariable(Some(text)).into(),
-                Err(AllocError) => RenderErrorReason::OutOfMemory.into(),
-            },
-        }
+        RenderErrorReason::of_variable(alloc, path).into()
     }
 
     /// `NestedError` of the cause's text; `info` is not kept. Where the text finds no memory, the
     /// reason says so.
     pub fn from_error<E: fmt::Display>(alloc: Global, _info: &str, cause: &E) -> RenderError
         ensures plain { refusal_of result ≡ plain_refusal (reason_in result) }
-        ensures reason { reason_in result ≢ out_of_memory → (text : List ℕ) × (reason_in result ≡ nested_error text) }
+        ensures reason { reason_in result ≢ out_of_memory → (text : Text) × (reason_in result ≡ nested_error text) }
         ensures text { IfSome (E.output cause.now) (λ text. reason_in result ≢ out_of_memory → reason_in result ≡ nested_error text) }
     {
-        match cause.to_string(alloc) {
-            Ok(text) => RenderErrorReason::NestedError(text).into(),
-            Err(AllocError) => RenderErrorReason::OutOfMemory.into(),
-        }
+        RenderErrorReason::of_cause(alloc, cause).into()
     }
 
     /// Why.
@@ -132,24 +154,19 @@ impl RenderError {
         &self.reason
     }
 
-    /// With the position of an element, where none is known yet.
+    /// With the position of an element, where no line is known yet.
     pub fn at(self, line: usize, column: usize) -> RenderError
-        ensures placed { refusal_of result ≡ place_if_none line column (refusal_of self) }
+        ensures placed { spot_of result ≡ place_if_none line column (spot_of self) }
         ensures cause { cause_of result ≡ cause_of self }
     {
-        match (self.line_no, self.column_no) {
-            (None, None) => RenderError {
-                template_name: self.template_name,
-                line_no: Some(line),
-                column_no: Some(column),
-                reason: self.reason,
-            },
-            (line_no, column_no) => RenderError {
-                template_name: self.template_name,
-                line_no,
-                column_no,
-                reason: self.reason,
-            },
+        if self.line_no.is_some() {
+            return self;
+        }
+        RenderError {
+            template_name: self.template_name,
+            line_no: Some(line),
+            column_no: Some(column),
+            reason: self.reason,
         }
     }
 
@@ -157,7 +174,7 @@ impl RenderError {
     /// the reason says so.
     pub fn in_template(self, name: &String) -> RenderError
         ensures named { reason_in result ≢ out_of_memory
-            → refusal_of result ≡ name_if_none (string_bytes name.now) (refusal_of self) }
+            → spot_of result ≡ name_if_none (string_bytes name.now) (spot_of self) }
         ensures cause { reason_in result ≢ out_of_memory → cause_of result ≡ cause_of self }
         ensures memory { reason_in self ≡ out_of_memory → reason_in result ≡ out_of_memory }
     {
@@ -213,6 +230,20 @@ impl From<RenderErrorReason> for RenderError {
             line_no: None,
             column_no: None,
             reason,
+        }
+    }
+}
+
+/// The reason, or want of memory where its text found none.
+impl From<Result<RenderErrorReason, AllocError>> for RenderError {
+    ghost use Rattle.handlebars_base.specs.RenderRefusals.{reason_or_memory, plain_refusal, refusal_of};
+
+    ghost from_gives = { λ r e. refusal_of e ≡ plain_refusal (reason_or_memory r) };
+
+    fn from(reason: Result<RenderErrorReason, AllocError>) -> RenderError {
+        match reason {
+            Ok(reason) => reason.into(),
+            Err(AllocError) => RenderErrorReason::OutOfMemory.into(),
         }
     }
 }

@@ -151,7 +151,7 @@ impl From<AllocError> for TemplateError {
 }
 
 // The lines from three before to three after the position, numbered from 0, with a marker below
-// the line of the fault: it has a sign for each byte of the line.
+// the line of the position.
 fn template_segment(
     alloc: Global,
     source: &str,
@@ -175,10 +175,13 @@ fn template_segment(
     Ok(out)
 }
 
+// A sign for each byte of the line, `^` for that of the column.
 fn mark(out: &mut String, content: &str, column: usize) -> Result<(), AllocError> {
-    out.push_str("     |")?;
-    for byte in 0..content.len() {
-        out.push(if byte == column { '^' } else { '-' })?;
+    let before = column.min(content.len());
+    write!(out, "     |{:-<before$}", "")?;
+    if column < content.len() {
+        let behind = content.len() - column - 1;
+        write!(out, "^{:-<behind$}", "")?;
     }
     out.push('\n')
 }

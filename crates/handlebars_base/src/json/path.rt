@@ -13,8 +13,9 @@ use std::alloc::{AllocError, Global};
 mod front;
 mod reading;
 mod scan;
+mod start;
 
-pub use front::{reference_len, split_reference};
+pub use front::{PathFront, PathSlice, read_front, reference_len, split_path, split_reference};
 
 /// A segment that is no name.
 #[derive(Clone, Copy, Debug, PartialEq, Eq)]
@@ -50,8 +51,7 @@ impl Path {
 
         // Only what is no path is refused, unless memory runs out.
         ensures err { IfErr result (λ e. reason_in e ≢ out_of_memory
-            → (reason_in e ≡ invalid_json_path raw.now) × ((means : Reference) → IsPath raw.now means → ⊥)) }
-        ensures plain { IfErr result (λ e. refusal_of e ≡ plain_refusal (reason_in e)) }
+            → (refusal_of e ≡ plain_refusal (invalid_json_path raw.now)) × ((means : Reference) → IsPath raw.now means → ⊥)) }
     {
         match read_path(alloc, raw)? {
             Some(path) => Ok(path),
@@ -75,10 +75,14 @@ pub fn read_path(alloc: Global, raw: &str) -> Result<Option<Path>, AllocError>
     ensures found { IfOk result (λ read. IfSome read (λ path. IsPath raw.now (reference_of path))) }
     ensures none { IfOk result (λ read. IsNone read ↔ ((means : Reference) → IsPath raw.now means → ⊥)) }
 {
-    reading::whole(alloc, raw)
+    match read_front(alloc, raw)? {
+        Some(front) => {
+            if front.rest.is_empty() {
+                Ok(Some(front.path))
+            } else {
+                Ok(None)
+            }
+        }
+        None => Ok(None),
+    }
 }
-
-/// No text has two meanings.
-pub fn one_meaning()
-    ensures { (text : List ℕ) (a b : Reference) → IsPath text a → IsPath text b → a ≡ b }
-{}

@@ -1,6 +1,7 @@
 //! Values of JSON: how they are rendered, and where they come from.
 
-ghost use Rattle.std.specs.Prelude.{◌≡◌, ◌++◌, IfOk, OnOk, IsTrue, ◌↔◌, string_bytes, List, ℕ, true, false, option_map, map, Some};
+ghost use Rattle.std.specs.Prelude.{◌≡◌, ◌++◌, IfOk, OnOk, IsTrue, ◌↔◌, string_bytes, true, false, option_map, map, Some};
+ghost use Rattle.handlebars_base.specs.Bytes.{Text};
 ghost use Rattle.serde_json.specs.View.{view, number_view, items_view};
 ghost use Rattle.handlebars_base.specs.Values.{rendered, rendered_items, rendered_number};
 ghost use Rattle.handlebars_base.specs.Scoped.{found_of, data_in, present_in, path_in, derived_in, missing, value};
@@ -52,7 +53,7 @@ impl<'rc> ScopedJson<'rc> {
     }
 
     /// The value as one that has no place in the data; `Missing` becomes null.
-    pub fn into_derived(self) -> Result<ScopedJson<'rc>, AllocError>
+    pub fn into_derived(self, _alloc: Global) -> Result<ScopedJson<'rc>, AllocError>
         ensures value { IfOk result (λ s. found_of s ≡ value (data_in (found_of self.entry))) }
         ensures derived { IfOk result (λ s. derived_in s ≡ Some (data_in (found_of self.entry))) }
     {
@@ -85,7 +86,7 @@ impl<'rc> From<Value> for ScopedJson<'rc> {
 
 /// What a template writes for a value.
 pub trait JsonRender {
-    ghost renders_as: { Self → List ℕ };
+    ghost renders_as: { Self → Text };
 
     fn render(&self, alloc: Global) -> Result<String, AllocError>
         ensures { IfOk result (λ s. string_bytes s ≡ renders_as self.now) };

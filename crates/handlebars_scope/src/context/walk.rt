@@ -1,12 +1,13 @@
 //! Walking into data along names.
 
-ghost use Rattle.std.specs.Prelude.{◌≡◌, ◌≢◌, IfErr, option_map, string_bytes};
+ghost use Rattle.std.specs.Prelude.{◌≡◌, IfOk, option_map, string_bytes};
 ghost use Rattle.serde_json.specs.View.{view};
-ghost use Rattle.handlebars_base.specs.Answers.{Answers};
-ghost use Rattle.handlebars_base.specs.Reasons.{out_of_memory, invalid_json_index};
-ghost use Rattle.handlebars_base.specs.RenderRefusals.{reason_in, refusal_of, plain_refusal};
+ghost use Rattle.handlebars_base.specs.Answers.{Answers, answer_map};
+ghost use Rattle.handlebars_base.specs.Reasons.{invalid_json_index};
+ghost use Rattle.handlebars_base.specs.RenderRefusals.{reason_of};
 ghost use Rattle.handlebars_scope.specs.Resolve.{index_of, member_at, names_of, resolved, value_at};
 ghost use Rattle.handlebars_base.specs.PathView.{reference_of, segments_of};
+ghost use Rattle.handlebars_base.specs.Scoped.{present_in};
 
 use handlebars_base::error::{RenderError, RenderErrorReason};
 use handlebars_base::json::path::{Path, PathSeg};
@@ -16,8 +17,8 @@ use std::alloc::AllocError;
 /// The value that a path leads to from the data, in the one empty block of scope that a rendering
 /// begins with; none where a name has no value, and for a variable of a block.
 pub fn resolve<'a>(data: &'a Json, path: &Path) -> Result<Option<&'a Json>, RenderError>
-    ensures answers { Answers (option_map (λ v. view v.now)) result (resolved (reference_of path.now) (view data.now)) }
-    ensures plain { IfErr result (λ e. refusal_of e ≡ plain_refusal (reason_in e)) }
+    ensures { Answers (option_map (λ v. view v.now)) result
+        (answer_map present_in (resolved (reference_of path.now) (view data.now))) }
 {
     match path {
         Path::Relative((segments, _)) => along(data, segments),
@@ -27,9 +28,8 @@ pub fn resolve<'a>(data: &'a Json, path: &Path) -> Result<Option<&'a Json>, Rend
 
 // Along the names of a path; the other segments add nothing.
 fn along<'a>(data: &'a Json, segments: &Vec<PathSeg>) -> Result<Option<&'a Json>, RenderError>
-    ensures answers { Answers (option_map (λ v. view v.now)) result
+    ensures { Answers (option_map (λ v. view v.now)) result
         (value_at (view data.now) (names_of (segments_of segments.now.items))) }
-    ensures plain { IfErr result (λ e. refusal_of e ≡ plain_refusal (reason_in e)) }
 {
     let mut here = data;
     for segment in segments {
@@ -46,13 +46,12 @@ fn along<'a>(data: &'a Json, segments: &Vec<PathSeg>) -> Result<Option<&'a Json>
 
 // One name further.
 fn member<'a>(value: &'a Json, name: &String) -> Result<Option<&'a Json>, RenderError>
-    ensures answers { Answers (option_map (λ v. view v.now)) result (member_at (view value.now) (string_bytes name.now)) }
-    ensures plain { IfErr result (λ e. refusal_of e ≡ plain_refusal (reason_in e)) }
+    ensures { Answers (option_map (λ v. view v.now)) result (member_at (view value.now) (string_bytes name.now)) }
 {
     match value {
         Json::Array(_) => match index_of(name.as_str()) {
             Some(index) => Ok(value.get(index)),
-            None => Err(wrong_index(name)),
+            None => Err(wrong_index(name).into()),
         },
         Json::Object(_) => Ok(value.get(name.as_str())),
         _ => Ok(None),
@@ -65,13 +64,9 @@ fn index_of(text: &str) -> Option<usize>
     text.parse::<usize>().ok()
 }
 
-// The refusal of a name that is no index.
-fn wrong_index(name: &String) -> RenderError
-    ensures reason { reason_in result ≢ out_of_memory → reason_in result ≡ invalid_json_index (string_bytes name.now) }
-    ensures plain { refusal_of result ≡ plain_refusal (reason_in result) }
+// Why a name that is no index is refused.
+fn wrong_index(name: &String) -> Result<RenderErrorReason, AllocError>
+    ensures { IfOk result (λ r. reason_of r ≡ invalid_json_index (string_bytes name.now)) }
 {
-    match name.clone() {
-        Ok(name) => RenderErrorReason::InvalidJsonIndex(name).into(),
-        Err(AllocError) => RenderErrorReason::OutOfMemory.into(),
-    }
+    Ok(RenderErrorReason::InvalidJsonIndex(name.clone()?))
 }

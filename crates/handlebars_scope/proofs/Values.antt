@@ -1,0 +1,83 @@
+-- The text of a value, escaped, part by part.
+use Rattle.std.proofs.Common.{◌≡◌, ℕ, suc, ◌+◌, ◌<◌, ◌≤◌, Bool, true, false, List, [], ◌++◌, drop, get_or, length, codes, Some, refl, sym, rules, ap, ap₂, ◌∙◌, add-one, drop-cons, ℤ, None, String, Global, BTreeMap}
+use Rattle.std.proofs.lemmas.List.{drop_all}
+use Rattle.std.specs.Prelude.{decimal}
+use Rattle.std.specs.Fmt.{signed_decimal}
+use Rattle.serde_json.specs.Data.{Num, unsigned, negative, float, Data, null, boolean, array, object, Items, item}
+use Rattle.serde_json.specs.Find.{as_u64, as_i64}
+use Rattle.serde_json.specs.View.{view, items_view, members_view}
+use Rattle.serde_json.specs.declared.value.Value.{Value, Null, Bool as BoolOf, Object, the_lemmas}
+use Rattle.handlebars_base.specs.Values.{rendered, rendered_items, rendered_number, word, separator}
+use Rattle.handlebars_scope.specs.Escape.{escaped}
+use Rattle.handlebars_scope.proofs.Bytes.{escaped-append}
+use Rattle.handlebars_scope.proofs.Numbers.{escaped-numeric, numeric-decimal, numeric-signed_decimal}
+
+-- a value by what it is in the code
+view-Null : view Null ≡ null
+view-Null = search (rules, the_lemmas)
+
+view-Bool : (b : Bool) → view (BoolOf b) ≡ boolean b
+view-Bool b = search (rules, the_lemmas)
+
+view-Object : (m : BTreeMap (String Global) Value) → view (Object m) ≡ object (members_view m.entries)
+view-Object m = search (rules, the_lemmas)
+
+pub escaped-null : (v : Value) → v ≡ Null → escaped (rendered (view v)) ≡ []
+unfolding escaped
+escaped-null v e = ap (λ d. escaped (rendered d)) (ap view e ∙ view-Null)
+
+escaped-word : (b : Bool) → escaped (word b) ≡ word b
+unfolding escaped
+escaped-word true = refl
+escaped-word false = refl
+
+pub escaped-bool : (v : Value) (b is : Bool) → v ≡ BoolOf b → b ≡ is → escaped (rendered (view v)) ≡ word is
+escaped-bool v b is e f = ap (λ d. escaped (rendered d)) (ap view e ∙ view-Bool b ∙ ap boolean f) ∙ escaped-word is
+
+pub escaped-object : (v : Value) (m : BTreeMap (String Global) Value) → v ≡ Object m → escaped (rendered (view v)) ≡ codes "[object]"
+unfolding escaped
+escaped-object v m e = ap (λ d. escaped (rendered d)) (ap view e ∙ view-Object m)
+
+escaped-separator : (first : Bool) → escaped (separator first) ≡ separator first
+unfolding escaped
+escaped-separator true = refl
+escaped-separator false = refl
+
+pub escaped-array : (ds : Items) → escaped (rendered (array ds)) ≡ codes "[" ++ (escaped (rendered_items true ds) ++ codes "]")
+unfolding escaped
+escaped-array ds = ap (λ t. codes "[" ++ t) (escaped-append (rendered_items true ds) (codes "]"))
+
+-- the members from one on: what stands before it, itself, and the others
+pub escaped-items : (first : Bool) (d : Data) (ds : Items)
+    → escaped (rendered_items first (item d ds)) ≡ separator first ++ (escaped (rendered d) ++ escaped (rendered_items false ds))
+escaped-items first d ds =
+    escaped-append (separator first) (rendered d ++ rendered_items false ds)
+    ∙ ap₂ (λ s t. s ++ t) (escaped-separator first) (escaped-append (rendered d) (rendered_items false ds))
+
+pub escaped-items_from : (first is_first : Bool) (vs : List Value) (i : ℕ) (v : Value) → first ≡ is_first → i < length vs → v ≡ get_or vs i v
+    → escaped (rendered_items first (items_view (drop i vs)))
+    ≡ separator is_first ++ (escaped (rendered (view v)) ++ escaped (rendered_items false (items_view (drop (i + 1) vs))))
+escaped-items_from first is_first vs i v f l e =
+    ap₂ (λ x ws. escaped (rendered_items x (items_view ws))) f (drop-cons vs i v l)
+    ∙ escaped-items is_first (view (get_or vs i v)) (items_view (drop (suc i) vs))
+    ∙ ap₂ (λ w j. separator is_first ++ (escaped (rendered (view w)) ++ escaped (rendered_items false (items_view (drop j vs))))) (sym e) (sym (add-one i))
+
+pub escaped-items_end : (first : Bool) (vs : List Value) (i : ℕ) → length vs ≤ i → escaped (rendered_items first (items_view (drop i vs))) ≡ []
+unfolding escaped
+escaped-items_end first vs i l = ap (λ ws. escaped (rendered_items first (items_view ws))) (drop_all i vs l)
+
+pub escaped-unsigned : (x : Num) (n : ℕ) → Some n ≡ as_u64 x → escaped (rendered_number x) ≡ decimal n
+escaped-unsigned (unsigned m) n e = let is : m ≡ n = cc in escaped-numeric (decimal m) (numeric-decimal m) ∙ ap decimal is
+escaped-unsigned (negative z) n e = cc
+escaped-unsigned (float f) n e = cc
+
+pub escaped-negative : (x : Num) (z : ℤ) → None ≡ as_u64 x → Some z ≡ as_i64 x → escaped (rendered_number x) ≡ signed_decimal z
+escaped-negative (unsigned m) z n e = cc
+escaped-negative (negative y) z n e = let is : y ≡ z = cc in escaped-numeric (signed_decimal y) (numeric-signed_decimal y) ∙ ap signed_decimal is
+escaped-negative (float f) z n e = cc
+
+pub escaped-float : (x : Num) → None ≡ as_u64 x → None ≡ as_i64 x → escaped (rendered_number x) ≡ []
+unfolding escaped
+escaped-float (unsigned m) n e = cc
+escaped-float (negative y) n e = cc
+escaped-float (float f) n e = refl

@@ -1,0 +1,6 @@
+-- What the state of a line in the code stands for.
+use Rattle.handlebars_scope.specs.Put.{LineState}
+use Rattle.handlebars_scope.specs.declared.line.Line.{Line}
+
+abbrev pub line_of : Line → LineState
+line_of l = record { before = l.before; trailing = l.trailing; produced = l.produced }

@@ -1,0 +1,73 @@
+//! Writing values of JSON.
+
+ghost use Rattle.std.specs.Prelude.{◌≡◌, IfErr, true};
+ghost use Rattle.serde_json.specs.View.{view, number_view, items_view};
+ghost use Rattle.handlebars_base.specs.Values.{rendered, rendered_items, rendered_number};
+ghost use Rattle.serde_json.specs.Data.{array};
+ghost use Rattle.handlebars_scope.specs.Escape.{escaped};
+ghost use Rattle.handlebars_scope.specs.Outputs.{Written};
+
+use crate::output::Output;
+use crate::support::write_escaped;
+use handlebars_base::json::value::Json;
+use itoa::Buffer;
+use serde_json::Number;
+use std::io;
+
+/// Writes a value, rendered and escaped, with no text made on the way. Only texts need an escape.
+#[cycle(write)]
+pub fn write_escaped_value<O: Output>(out: &mut O, value: &Json) -> Result<(), io::Error>
+    ensures written { Written (escaped (rendered (view value.now))) (O.held out.old) result (O.held out.new) }
+    ensures given { IfErr result O.may_give }
+{
+    match value {
+        Json::Null => Ok(()),
+        Json::Bool(true) => out.write("true"),
+        Json::Bool(false) => out.write("false"),
+        Json::Number(number) => write_number(out, number),
+        Json::String(text) => write_escaped(out, text.as_str()),
+        Json::Array(items) => write_array(out, items),
+        Json::Object(_) => out.write("[object]"),
+    }
+}
+
+#[cycle(write)]
+fn write_array<O: Output>(out: &mut O, items: &Vec<Json>) -> Result<(), io::Error>
+    ensures written { Written (escaped (rendered (array (items_view items.now.items)))) (O.held out.old) result (O.held out.new) }
+    ensures given { IfErr result O.may_give }
+{
+    out.write("[")?;
+    write_items(out, items)?;
+    out.write("]")
+}
+
+#[cycle(write)]
+fn write_items<O: Output>(out: &mut O, items: &Vec<Json>) -> Result<(), io::Error>
+    ensures written { Written (escaped (rendered_items true (items_view items.now.items))) (O.held out.old) result (O.held out.new) }
+    ensures given { IfErr result O.may_give }
+{
+    let mut first = true;
+    for item in items {
+        if !first {
+            out.write(", ")?;
+        }
+        write_escaped_value(out, item)?;
+        first = false;
+    }
+    Ok(())
+}
+
+// A number outside the range counts as null.
+fn write_number<O: Output>(out: &mut O, number: &Number) -> Result<(), io::Error>
+    ensures written { Written (escaped (rendered_number (number_view number.now))) (O.held out.old) result (O.held out.new) }
+    ensures given { IfErr result O.may_give }
+{
+    let mut digits = Buffer::new();
+    if let Some(n) = number.as_u64() {
+        out.write(digits.format(n))
+    } else if let Some(n) = number.as_i64() {
+        out.write(digits.format(n))
+    } else {
+        Ok(())
+    }
+}

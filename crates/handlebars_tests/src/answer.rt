@@ -1,0 +1,83 @@
+//! What a row answers.
+
+use crate::outcome::{Outcome, Refusal};
+use crate::row::Row;
+use handlebars::{
+    Context, EntryKind, Registry, RenderContext, RenderError, Renderable, StringOutput, Template,
+    TemplateReader,
+};
+use log::sink::Discard;
+use std::alloc::{AllocError, Global};
+use std::io;
+use std::io::ErrorKind;
+
+/// What a row comes to, in each of the two ways to render it.
+#[derive(Drop)]
+pub struct Answer {
+    /// What the registry hands out: the whole text, or none of it.
+    pub registry: Result<String, Refusal>,
+    /// What the template writes.
+    pub template: Outcome,
+}
+
+impl Answer {
+    /// Renders a row.
+    pub fn of(alloc: Global, row: &Row) -> Result<Answer, AllocError> {
+        let registry = match registry_text(alloc, row) {
+            Ok(text) => Ok(text),
+            Err(error) => Err(Refusal::of(alloc, &error)?),
+        };
+        let mut out = StringOutput::new(alloc);
+        let refusal = match write_template(alloc, row, &mut out) {
+            Ok(()) => None,
+            Err(error) => Some(Refusal::of(alloc, &error)?),
+        };
+        let text = out.into_string();
+        Ok(Answer {
+            registry,
+            template: Outcome { text, refusal },
+        })
+    }
+
+    /// Whether both ways come to the outcome.
+    pub fn is(&self, wanted: &Outcome) -> bool {
+        let handed_out = match (&self.registry, &wanted.refusal) {
+            (Ok(text), None) => *text == wanted.text,
+            (Err(refusal), Some(wanted)) => *refusal == *wanted,
+            _ => false,
+        };
+        handed_out && self.template == *wanted
+    }
+}
+
+fn registry_text(alloc: Global, row: &Row) -> Result<String, RenderError> {
+    let registry = Registry::new(alloc)?;
+    let data = Context::try_from(row.data.clone()?)?;
+    registry.render_template_with_context(row.source.as_str(), &data, &Discard, &mut NoFiles)
+}
+
+fn write_template(alloc: Global, row: &Row, out: &mut StringOutput) -> Result<(), RenderError> {
+    let registry = Registry::new(alloc)?;
+    let data = Context::try_from(row.data.clone()?)?;
+    let template = Template::compile(alloc, row.source.as_str())?;
+    let mut rc = RenderContext::new(alloc, None)?;
+    template.render(alloc, &registry, &data, &mut rc, out, &Discard)
+}
+
+/// Has no file: a row reaches none.
+#[derive(Drop)]
+pub struct NoFiles;
+
+impl TemplateReader for NoFiles {
+    ghost reads = { λ _ _ _ _. Unit {0} };
+
+    ghost lists = { λ _ _ _ _. Unit {0} };
+
+    fn read(&mut self, _path: &str) -> Result<String, io::Error> {
+        Err(io::Error::from(ErrorKind::Unsupported))
+    }
+
+    fn list(&mut self, _folder: &str) -> Result<Vec<(String, EntryKind)>, io::Error> {
+        Err(io::Error::from(ErrorKind::Unsupported))
+    }
+}

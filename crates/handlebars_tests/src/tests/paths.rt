@@ -1,0 +1,57 @@
+//! Paths, read from texts.
+
+use crate::tests::helpers::{refusal, shows};
+use handlebars_base::json::path::{Path, PathRule, PathSeg, reference_len};
+use std::alloc::{AllocError, Global};
+use std::test::Fail;
+
+fn named(alloc: Global, name: &str) -> Result<PathSeg, AllocError> {
+    Ok(PathSeg::Named(String::from_str(alloc, name)?))
+}
+
+// A path keeps its text. `this` has no segment, and what is in brackets is one name.
+#[test]
+fn reads_paths(rt: HostRuntime) -> Result<(), Fail> {
+    let alloc = rt.alloc();
+    for text in [
+        "a/b.c",
+        "@root/a",
+        "@../../index.x",
+        "../../a/[b c].d",
+        "./this",
+        ".",
+        "été",
+    ] {
+        assert_eq!(rt; Path::parse(alloc, text)?.raw(), text);
+    }
+
+    let text = "../this/a.[b.c]";
+    let segments = vec![in alloc;
+        PathSeg::Ruled(PathRule::Up),
+        named(alloc, "a")?,
+        named(alloc, "b.c")?,
+    ]?;
+    let wanted = Path::Relative((segments, String::from_str(alloc, text)?));
+    assert_eq!(rt; Path::parse(alloc, text)?, wanted);
+
+    let text = "@../index";
+    let name = String::from_str(alloc, "index")?;
+    let wanted = Path::Local((1, name, String::from_str(alloc, text)?));
+    assert_eq!(rt; Path::parse(alloc, text)?, wanted);
+    Ok(())
+}
+
+// The whole text is to be a path; a reference reaches as far as it is one.
+#[test]
+fn refuses_what_is_no_path(rt: HostRuntime) -> Result<(), Fail> {
+    let alloc = rt.alloc();
+    for text in ["", "./", "a..", "..a", "../a..b", "@this", "[a", "a b"] {
+        let error = refusal(Path::parse(alloc, text))?;
+        let wanted = format!(in alloc; "InvalidJsonPath({text:?})")?;
+        shows(&rt, alloc, error.reason(), wanted.as_str())?;
+    }
+    for (text, length) in [("a.[b c]/d e", 9), ("a.[b c", 2), ("é}}", 2)] {
+        assert_eq!(rt; reference_len(text), length, "at {text}");
+    }
+    Ok(())
+}
