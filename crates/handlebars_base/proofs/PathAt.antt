@@ -15,13 +15,6 @@ use Rattle.handlebars_base.proofs.References.{reference_len-append, reference_le
 
 -- ---- a path, and what follows it
 
--- A path with its text, in front of what it does not go on in.
-pub record TakesPath (t : List ℕ) (means : Reference) (rest : List ℕ) : Type 0 where
-  pub slice : List ℕ
-  pub whole : t ≡ slice ++ rest
-  pub is : IsPath slice means
-  pub ends : reference_len rest ≡ 0
-
 front_ends : (t : List ℕ) (means : Reference) → IsPath (take (reference_len t) t) means →
     reference_len (drop (reference_len t) t) ≡ 0
 front_ends t means h =
@@ -31,15 +24,27 @@ front_ends t means h =
     ap reference_len (sym (take-append-drop (reference_len t) t)) ∙ reference_len-append front back means h in
     omega (arith, goes, reference_len-le t, length-take (reference_len t) t)
 
-pub path_takes : (t : List ℕ) (p : Reference × List ℕ) → path_at t ≡ Some p → TakesPath t p.0 p.1
+raw_of-meaning : (t : List ℕ) (s : Shape) → raw_of (meaning t s) ≡ t
+raw_of-meaning t itself = refl
+raw_of-meaning t (at_root ss) = refl
+raw_of-meaning t (at_name n name ss) = refl
+raw_of-meaning t (in_parts dotted p ss) = refl
+
+raw_of-path : (t : List ℕ) (means : Reference) → IsPath t means → raw_of means ≡ t
+raw_of-path t means h = ap raw_of h.gives ∙ raw_of-meaning t h.shape
+
+-- what is found is a path, and goes as far as a reference does
+pub path_at-some : (t : List ℕ) (p : Reference × List ℕ) → path_at t ≡ Some p → IsInFront t p.0 p.1
 unfolding path_at
-path_takes t p e =
-    let b = bind_some (path_of (take (reference_len t) t)) (λ m. Some (m, drop (reference_len t) t)) p e in
-    let is = path_is (take (reference_len t) t) b.0 b.1 in
-    subst (λ (z : Reference × List ℕ). TakesPath t z.0 z.1) (same_Some _ p b.2) (record {
-      slice = take (reference_len t) t;
-      whole = sym (take-append-drop (reference_len t) t);
-      is = is;
+path_at-some t p e =
+    let front = take (reference_len t) t in
+    let back = drop (reference_len t) t in
+    let b = bind_some (path_of front) (λ m. Some (m, back)) p e in
+    let is = path_is front b.0 b.1 in
+    let raw = raw_of-path front b.0 is in
+    subst (λ (z : Reference × List ℕ). IsInFront t z.0 z.1) (same_Some _ p b.2) (record {
+      whole = sym (take-append-drop (reference_len t) t) ∙ ap (λ (z : List ℕ). z ++ back) (sym raw);
+      path = subst (λ (z : List ℕ). IsPath z b.0) (sym raw) is;
       ends = front_ends t b.0 is;
     })
 
@@ -57,23 +62,30 @@ unfolding path_at
 path_at-append t rest means h e =
     path_found t rest means (reference_len (t ++ rest)) h (omega (arith, e, reference_len-append t rest means h))
 
-pub path_again : (t : List ℕ) (means : Reference) (rest : List ℕ) → IsPath t means → stops rest ≡ true →
+pub path_at-stops : (t rest : List ℕ) (means : Reference) → IsPath t means → stops rest ≡ true →
     path_at (t ++ rest) ≡ Some (means, rest)
-path_again t means rest h stop = path_at-append t rest means h (reference_len-stops rest stop)
+path_at-stops t rest means h stop = path_at-append t rest means h (reference_len-stops rest stop)
+
+pub paths_in_front : (t : List ℕ) (means : Reference) (rest : List ℕ) →
+    (path_at t ≡ Some (means, rest)) ↔ IsInFront t means rest
+paths_in_front t means rest = (
+  path_at-some t (means, rest),
+  λ h. ap path_at h.whole ∙ path_at-append (raw_of means) rest means h.path h.ends,
+)
 
 -- ---- as it is read from left to right
 
 -- a path that is found is the shape that is read
-shape_at-path : (t : List ℕ) (p : Reference × List ℕ) (h : TakesPath t p.0 p.1) → shape_at t ≡ Some (h.is.shape, p.1)
+shape_at-path : (t : List ℕ) (p : Reference × List ℕ) (h : IsInFront t p.0 p.1) → shape_at t ≡ Some (h.path.shape, p.1)
 shape_at-path t p h =
-    ap shape_at (h.whole ∙ ap (λ (z : List ℕ). z ++ p.1) h.is.spells) ∙
-    shape_at_again h.is.shape p.1 h.is.fits h.ends
+    ap shape_at (h.whole ∙ ap (λ (z : List ℕ). z ++ p.1) h.path.spells) ∙
+    shape_at_again h.path.shape p.1 h.path.fits h.ends
 
 pub path_at-none : (t : List ℕ) → shape_at t ≡ None → path_at t ≡ None
 path_at-none t none =
     elim (none_or_some (path_at t)) [
       | inl nothing ↦ nothing
-      | inr some ↦ absurd (none-some _ (sym none ∙ shape_at-path t some.0 (path_takes t some.0 some.1)))
+      | inr some ↦ absurd (none-some _ (sym none ∙ shape_at-path t some.0 (path_at-some t some.0 some.1)))
     ]
 
 -- behind the shape a reference goes on
@@ -83,8 +95,8 @@ path_at-goes t s rest read more =
     elim (none_or_some (path_at t)) [
       | inl nothing ↦ nothing
       | inr some ↦
-          let h = path_takes t some.0 some.1 in
-          let same = same_Some (s, rest) (h.is.shape, some.0.1) (sym read ∙ shape_at-path t some.0 h) in
+          let h = path_at-some t some.0 some.1 in
+          let same = same_Some (s, rest) (h.path.shape, some.0.1) (sym read ∙ shape_at-path t some.0 h) in
           let ends : reference_len rest ≡ reference_len some.0.1 = ap (λ (x : Shape × List ℕ). reference_len x.1) same in
           absurd (omega (arith, h.ends))
     ]
@@ -108,12 +120,6 @@ slice_at-none t none = ap written_at (path_at-none t none)
 pub slice_at-goes : (t : List ℕ) (s : Shape) (rest : List ℕ) → shape_at t ≡ Some (s, rest) → 0 < reference_len rest →
     slice_at t ≡ None
 slice_at-goes t s rest read more = ap written_at (path_at-goes t s rest read more)
-
-raw_of-meaning : (t : List ℕ) (s : Shape) → raw_of (meaning t s) ≡ t
-raw_of-meaning t itself = refl
-raw_of-meaning t (at_root ss) = refl
-raw_of-meaning t (at_name n name ss) = refl
-raw_of-meaning t (in_parts dotted p ss) = refl
 
 -- what is left is no longer than the text
 pub left_length : (t : List ℕ) (s : Shape) (rest : List ℕ) → shape_at t ≡ Some (s, rest) → length rest ≤ length t
@@ -178,41 +184,22 @@ pub path_at-start : (t : List ℕ) (s : Start) (r raw rest : List ℕ) → start
     path_at t ≡ Some (start_meaning raw s (start_segments s (links_behind s r).0), rest)
 path_at-start t s r raw rest start cut =
     let p = map_some (λ (p : Reference × List ℕ). (raw_of p.0, p.1)) (path_at t) (raw, rest) cut in
-    let h = path_takes t p.0 p.1 in
+    let h = path_at-some t p.0 p.1 in
     let ss = (links_behind s r).0 in
     let shape = same_Some _ _ (sym (shape_at-path t p.0 h) ∙ shape_at-start t s r start) in
-    let slice : h.slice ≡ raw = sym (ap raw_of h.is.gives ∙ raw_of-meaning h.slice h.is.shape) ∙ ap (λ (x : List ℕ × List ℕ). x.0) p.2 in
     let means : p.0.0 ≡ start_meaning raw s (start_segments s ss) =
-    h.is.gives ∙ ap (λ (x : Shape × List ℕ). meaning h.slice x.0) shape ∙ ap (λ (z : List ℕ). meaning z (shape_from (is_dotted t) s ss)) slice ∙ meaning-start raw (is_dotted t) s ss in
+    h.path.gives ∙ ap (λ (x : Shape × List ℕ). meaning (raw_of p.0.0) x.0) shape ∙
+    ap (λ (x : List ℕ × List ℕ). meaning x.0 (shape_from (is_dotted t) s ss)) p.2 ∙ meaning-start raw (is_dotted t) s ss in
     p.1 ∙ some_pair p.0 _ rest means (ap (λ (x : List ℕ × List ℕ). x.1) p.2)
-
--- ---- the law
-
-raw_of-path : (t : List ℕ) (means : Reference) → IsPath t means → raw_of means ≡ t
-raw_of-path t means h = ap raw_of h.gives ∙ raw_of-meaning t h.shape
-
-in_front : (t : List ℕ) (means : Reference) (rest : List ℕ) → path_at t ≡ Some (means, rest) → IsInFront t means rest
-in_front t means rest e =
-    let h = path_takes t (means, rest) e in
-    let raw = raw_of-path h.slice means h.is in
-    record {
-      whole = h.whole ∙ ap (λ (z : List ℕ). z ++ rest) (sym raw);
-      path = subst (λ (z : List ℕ). IsPath z means) (sym raw) h.is;
-      ends = h.ends;
-    }
-
-pub paths_in_front : (t : List ℕ) (means : Reference) (rest : List ℕ) →
-    (path_at t ≡ Some (means, rest)) ↔ IsInFront t means rest
-paths_in_front t means rest =
-    (in_front t means rest, λ h. ap path_at h.whole ∙ path_at-append (raw_of means) rest means h.path h.ends)
 
 -- ---- in the words of the contract of the whole text
 
 pub is_whole : (t : List ℕ) (p : Reference × List ℕ) → path_at t ≡ Some p → length p.1 ≡ 0 → IsPath t p.0
 is_whole t p e none =
-    let h = path_takes t p e in
-    let all : t ≡ h.slice = h.whole ∙ ap (λ (z : List ℕ). h.slice ++ z) (nil_from_length p.1 none) ∙ append-nil h.slice in
-    subst (λ (z : List ℕ). IsPath z p.0) (sym all) h.is
+    let h = path_at-some t p e in
+    let raw = raw_of p.0 in
+    let all : t ≡ raw = h.whole ∙ ap (λ (z : List ℕ). raw ++ z) (nil_from_length p.1 none) ∙ append-nil raw in
+    subst (λ (z : List ℕ). IsPath z p.0) (sym all) h.path
 
 whole_at : (t : List ℕ) (means : Reference) → IsPath t means → path_at t ≡ Some (means, [])
 unfolding reference_from
