@@ -1,55 +1,56 @@
 -- Reading a tag: what is read is spelled so, and what is spelled so is read.
-use Rattle.std.proofs.Common.{◌≡◌, ◌≢◌, ℕ, ◌<◌, Bool, true, false, not, ◌&&◌, List, [], ◌∷◌, ◌++◌, length, take, drop, Option, Some, None, refl, sym, ap, subst, ◌∙◌, append_assoc, arith, inl, inr, length-append, codes}
+use Rattle.std.proofs.Common.{◌≡◌, ◌≢◌, ℕ, ◌<◌, Bool, true, false, not, ◌&&◌, [], ◌∷◌, ◌++◌, length, take, drop, Option, Some, None, refl, sym, ap, subst, ◌∙◌, append_assoc, arith, inl, inr, length-append, codes}
 use Rattle.std.specs.Prelude.{◌==◌}
 use Rattle.std.proofs.lemmas.Bool.{eqb-true, cases_Bool, and_parts, not-true, or_cases}
 use Rattle.std.proofs.lemmas.Option.{cond_some, same_Some, none-some}
 use Rattle.std.proofs.lemmas.List.{take-append-drop, take_at}
+use Rattle.handlebars_base.specs.Bytes.{Text, is_white, left_brace, right_brace}
 use Rattle.handlebars_base.specs.Path.{IsPath, Reference}
 use Rattle.handlebars_base.specs.PathReading.{stops, starts_reference, reference_len}
 use Rattle.handlebars_base.proofs.PathShapes.{one_meaning}
 use Rattle.handlebars_base.proofs.References.{take-path, drop-path, stops-path, starts_other}
 use Rattle.handlebars_template.specs.Text.{braces}
-use Rattle.handlebars_template.specs.Tag.{Tag, expression_tag, IsTag, an_expression, IsWhite, is_white, IsNames, NoTag}
+use Rattle.handlebars_template.specs.Tag.{Tag, expression_tag, IsTag, an_expression, IsWhite, IsNames, NoTag}
 use Rattle.handlebars_template.specs.TagReading.{Follows, behind_white, behind_open, behind_close}
 
 -- ---- white
 
-pub record Skips (t : List ℕ) : Type 0 where
-  pub white : List ℕ
+pub record Skips (t : Text) : Type 0 where
+  pub white : Text
   pub is : IsWhite white
   pub whole : t ≡ white ++ behind_white t
 
-on_white : (b : ℕ) (t : List ℕ) → is_white b ≡ true → behind_white (b ∷ t) ≡ behind_white t
+on_white : (b : ℕ) (t : Text) → is_white b ≡ true → behind_white (b ∷ t) ≡ behind_white t
 on_white b t h = rw h refl
 
-on_other : (b : ℕ) (t : List ℕ) → is_white b ≡ false → behind_white (b ∷ t) ≡ b ∷ t
+on_other : (b : ℕ) (t : Text) → is_white b ≡ false → behind_white (b ∷ t) ≡ b ∷ t
 on_other b t h = rw h refl
 
-pub skips : (t : List ℕ) → Skips t
+pub skips : (t : Text) → Skips t
 skips [] = record { white = []; is = tt; whole = refl }
 skips (b ∷ t) = elim (cases_Bool (is_white b)) [
-  | inl yea ↦ let more = skips t in record { white = b ∷ more.white; is = (yea, more.is); whole = ap (λ (z : List ℕ). b ∷ z) (more.whole ∙ ap (λ (z : List ℕ). more.white ++ z) (sym (on_white b t yea))) }
+  | inl yea ↦ let more = skips t in record { white = b ∷ more.white; is = (yea, more.is); whole = ap (λ (z : Text). b ∷ z) (more.whole ∙ ap (λ (z : Text). more.white ++ z) (sym (on_white b t yea))) }
   | inr nay ↦ record { white = []; is = tt; whole = sym (on_other b t nay) }
 ]
 
 -- no white stands in front
-pub dark : List ℕ → Bool
+pub dark : Text → Bool
 dark [] = true
 dark (b ∷ t) = not (is_white b)
 
-dark_stays : (t : List ℕ) → dark t ≡ true → behind_white t ≡ t
+dark_stays : (t : Text) → dark t ≡ true → behind_white t ≡ t
 unfolding dark
 dark_stays [] h = refl
 dark_stays (b ∷ t) h = rw (not-true (is_white b) h) refl
 
-pub behind_white-append : (w t : List ℕ) → IsWhite w → dark t ≡ true → behind_white (w ++ t) ≡ t
+pub behind_white-append : (w t : Text) → IsWhite w → dark t ≡ true → behind_white (w ++ t) ≡ t
 behind_white-append [] t white h = dark_stays t h
 behind_white-append (b ∷ w) t white h = rw white.0 (behind_white-append w t white.1 h)
 
 not_white : (b : ℕ) → starts_reference b ≡ true → is_white b ≡ false
 not_white b h = rw (starts_other 32 b refl h, starts_other 9 b refl h, starts_other 10 b refl h, starts_other 13 b refl h) refl
 
-begins_dark : (t : List ℕ) → stops t ≡ false → dark t ≡ true
+begins_dark : (t : Text) → stops t ≡ false → dark t ≡ true
 unfolding dark
 begins_dark [] h = absurd cc
 begins_dark (b ∷ t) h = rw (not_white b (starts b h)) refl
@@ -57,10 +58,10 @@ begins_dark (b ∷ t) h = rw (not_white b (starts b h)) refl
     starts : (b : ℕ) → not (starts_reference b) ≡ false → starts_reference b ≡ true
     starts b h = elim (cases_Bool (starts_reference b)) [ inl y ↦ y | inr n ↦ let e : not (starts_reference b) ≡ true = rw n refl in absurd cc ]
 
-path_dark : (r more : List ℕ) (means : Reference) → IsPath r means → dark (r ++ more) ≡ true
+path_dark : (r more : Text) (means : Reference) → IsPath r means → dark (r ++ more) ≡ true
 path_dark r more means h = joined r (stops-path r means h)
   where
-    joined : (r : List ℕ) → stops r ≡ false → dark (r ++ more) ≡ true
+    joined : (r : Text) → stops r ≡ false → dark (r ++ more) ≡ true
     joined [] e = absurd cc
     joined (b ∷ r) e = begins_dark (b ∷ (r ++ more)) e
 
@@ -71,13 +72,13 @@ white_stops b h = elim (cases_Bool (starts_reference b)) [
   | inr other ↦ rw other refl
 ]
 
-more_stops : (v rest : List ℕ) → IsWhite v → stops (v ++ (125 ∷ 125 ∷ rest)) ≡ true
+more_stops : (v rest : Text) → IsWhite v → stops (v ++ (125 ∷ 125 ∷ rest)) ≡ true
 more_stops [] rest white = refl
 more_stops (b ∷ v) rest white = white_stops b white.0
 
 -- ---- braces
 
-pub behind_open-some : (t r : List ℕ) → behind_open t ≡ Some r → t ≡ 123 ∷ 123 ∷ r
+pub behind_open-some : (t r : Text) → behind_open t ≡ Some r → t ≡ 123 ∷ 123 ∷ r
 unfolding behind_open
 behind_open-some [] r e = absurd cc
 behind_open-some (a ∷ []) r e = absurd cc
@@ -89,7 +90,7 @@ behind_open-some (a ∷ b ∷ t) r e =
     let rest = g.1 in
     cc
 
-pub behind_close-some : (t r : List ℕ) → behind_close t ≡ Some r → t ≡ 125 ∷ 125 ∷ r
+pub behind_close-some : (t r : Text) → behind_close t ≡ Some r → t ≡ 125 ∷ 125 ∷ r
 unfolding behind_close
 behind_close-some [] r e = absurd cc
 behind_close-some (a ∷ []) r e = absurd cc
@@ -101,26 +102,26 @@ behind_close-some (a ∷ b ∷ t) r e =
     let rest = g.1 in
     cc
 
-opened : (t : List ℕ) → behind_open (123 ∷ 123 ∷ t) ≡ Some t
+opened : (t : Text) → behind_open (123 ∷ 123 ∷ t) ≡ Some t
 unfolding behind_open
 opened t = refl
 
-closed : (t : List ℕ) → behind_close (125 ∷ 125 ∷ t) ≡ Some t
+closed : (t : Text) → behind_close (125 ∷ 125 ∷ t) ≡ Some t
 unfolding behind_close
 closed t = refl
 
 -- ---- the parts of an expression, as they are read
 
 -- the path between the braces
-abbrev pub raw_in : List ℕ → List ℕ
+abbrev pub raw_in : Text → Text
 raw_in inside = take (reference_len (behind_white inside)) (behind_white inside)
 
 -- what stands behind it
-abbrev pub more_in : List ℕ → List ℕ
+abbrev pub more_in : Text → Text
 more_in inside = drop (reference_len (behind_white inside)) (behind_white inside)
 
-pub record Reads (left : List ℕ) (t : Tag) (rest : List ℕ) : Type 0 where
-  pub inside : List ℕ
+pub record TagParts (left : Text) (t : Tag) (rest : Text) : Type 0 where
+  pub inside : Text
   pub opens : behind_open left ≡ Some inside
   pub closes : behind_close (behind_white (more_in inside)) ≡ Some rest
   pub means : Reference
@@ -129,100 +130,110 @@ pub record Reads (left : List ℕ) (t : Tag) (rest : List ℕ) : Type 0 where
   pub other : raw_in inside ≢ codes "else"
   pub is : t ≡ expression_tag means
 
-regroup : (w r v rest : List ℕ) → (w ++ (r ++ (v ++ 125 ∷ 125 ∷ []))) ++ rest ≡ w ++ (r ++ (v ++ (125 ∷ 125 ∷ rest)))
+regroup : (w r v rest : Text) → (w ++ (r ++ (v ++ 125 ∷ 125 ∷ []))) ++ rest ≡ w ++ (r ++ (v ++ (125 ∷ 125 ∷ rest)))
 regroup w r v rest = simp append_assoc
 
-pub reads_again : (slice left rest : List ℕ) (t : Tag) → left ≡ slice ++ rest → IsTag slice t → Reads left t rest
+pub reads_again : (slice left rest : Text) (t : Tag) → left ≡ slice ++ rest → IsTag slice t → TagParts left t rest
 unfolding dark
-reads_again slice left rest t e (an_expression w r v means white path names other white') =
-    let inside : List ℕ = w ++ (r ++ (v ++ (125 ∷ 125 ∷ rest))) in
-    let whole : left ≡ 123 ∷ 123 ∷ inside = e ∙ ap (λ (z : List ℕ). 123 ∷ 123 ∷ z) (regroup w r v rest) in
-    let follow : List ℕ = v ++ (125 ∷ 125 ∷ rest) in
-    let start : behind_white inside ≡ r ++ follow = behind_white-append w (r ++ follow) white (path_dark r follow means path) in
-    let stop = more_stops v rest white' in
-    let raw : raw_in inside ≡ r = ap (λ (z : List ℕ). take (reference_len z) z) start ∙ take-path r follow means path stop in
-    let more : more_in inside ≡ follow = ap (λ (z : List ℕ). drop (reference_len z) z) start ∙ drop-path r follow means path stop in
+reads_again slice left rest t e (an_expression {means = means} x) =
+    let follow : Text = x.behind ++ (right_brace ∷ right_brace ∷ rest) in
+    let inside : Text = x.before ++ (x.path ++ follow) in
+    let whole : left ≡ left_brace ∷ left_brace ∷ inside = e ∙ ap (λ (z : Text). z ++ rest) x.spells ∙ ap (λ (z : Text). left_brace ∷ left_brace ∷ z) (regroup x.before x.path x.behind rest) in
+    let start : behind_white inside ≡ x.path ++ follow = behind_white-append x.before (x.path ++ follow) x.white_before (path_dark x.path follow means x.is_path) in
+    let stop = more_stops x.behind rest x.white_behind in
+    let raw : raw_in inside ≡ x.path = ap (λ (z : Text). take (reference_len z) z) start ∙ take-path x.path follow means x.is_path stop in
+    let more : more_in inside ≡ follow = ap (λ (z : Text). drop (reference_len z) z) start ∙ drop-path x.path follow means x.is_path stop in
     record {
       inside = inside;
       opens = ap behind_open whole ∙ opened inside;
-      closes = ap (λ (z : List ℕ). behind_close (behind_white z)) more ∙ ap behind_close (behind_white-append v (125 ∷ 125 ∷ rest) white' refl) ∙ closed rest;
+      closes = ap (λ (z : Text). behind_close (behind_white z)) more ∙ ap behind_close (behind_white-append x.behind (right_brace ∷ right_brace ∷ rest) x.white_behind refl) ∙ closed rest;
       means = means;
-      path = subst (λ (z : List ℕ). IsPath z means) (sym raw) path;
-      names = names;
-      other = λ is. other (sym raw ∙ is);
+      path = subst (λ (z : Text). IsPath z means) (sym raw) x.is_path;
+      names = x.names;
+      other = λ is. x.no_else (sym raw ∙ is);
       is = refl;
     }
 
-pub follows : (left inside rest : List ℕ) (means : Reference) → behind_open left ≡ Some inside → behind_close (behind_white (more_in inside)) ≡ Some rest
+pub follows : (left inside rest : Text) (means : Reference) → behind_open left ≡ Some inside → behind_close (behind_white (more_in inside)) ≡ Some rest
     → raw_in inside ≢ codes "else" → IsPath (raw_in inside) means → IsNames means → Follows left (expression_tag means) rest
 follows left inside rest means o c other path names =
     let front = skips inside in
     let back = skips (more_in inside) in
     let parts : behind_white inside ≡ raw_in inside ++ more_in inside = sym (take-append-drop (reference_len (behind_white inside)) (behind_white inside)) in
-    let ends : more_in inside ≡ back.white ++ (125 ∷ 125 ∷ rest) = back.whole ∙ ap (λ (z : List ℕ). back.white ++ z) (behind_close-some _ rest c) in
-    let all : inside ≡ front.white ++ (raw_in inside ++ (back.white ++ (125 ∷ 125 ∷ rest))) = front.whole ∙ ap (λ (z : List ℕ). front.white ++ z) (parts ∙ ap (λ (z : List ℕ). raw_in inside ++ z) ends) in
+    let ends : more_in inside ≡ back.white ++ (125 ∷ 125 ∷ rest) = back.whole ∙ ap (λ (z : Text). back.white ++ z) (behind_close-some _ rest c) in
+    let all : inside ≡ front.white ++ (raw_in inside ++ (back.white ++ (125 ∷ 125 ∷ rest))) = front.whole ∙ ap (λ (z : Text). front.white ++ z) (parts ∙ ap (λ (z : Text). raw_in inside ++ z) ends) in
     record {
       slice = 123 ∷ 123 ∷ (front.white ++ (raw_in inside ++ (back.white ++ 125 ∷ 125 ∷ [])));
-      whole = behind_open-some left inside o ∙ ap (λ (z : List ℕ). 123 ∷ 123 ∷ z) (all ∙ sym (regroup front.white (raw_in inside) back.white rest));
-      is = an_expression front.white (raw_in inside) back.white means front.is path names other back.is;
+      whole = behind_open-some left inside o ∙ ap (λ (z : Text). 123 ∷ 123 ∷ z) (all ∙ sym (regroup front.white (raw_in inside) back.white rest));
+      is_tag = an_expression (record {
+        before = front.white;
+        path = raw_in inside;
+        behind = back.white;
+        spells = refl;
+        white_before = front.is;
+        white_behind = back.is;
+        is_path = path;
+        names = names;
+        no_else = other;
+      });
     }
 
 -- ---- where none is read, none stands
 
-some_same : (left a b : List ℕ) → behind_open left ≡ Some a → behind_open left ≡ Some b → a ≡ b
+some_same : (left a b : Text) → behind_open left ≡ Some a → behind_open left ≡ Some b → a ≡ b
 some_same left a b e h = same_Some a b (sym e ∙ h)
 
-pub not_open : (left : List ℕ) → behind_open left ≡ None → NoTag left
+pub not_open : (left : Text) → behind_open left ≡ None → NoTag left
 not_open left none slice rest t e h = let r = reads_again slice left rest t e h in none-some r.inside (sym none ∙ r.opens)
 
-pub not_closed : (left inside : List ℕ) → behind_open left ≡ Some inside → behind_close (behind_white (more_in inside)) ≡ None → NoTag left
+pub not_closed : (left inside : Text) → behind_open left ≡ Some inside → behind_close (behind_white (more_in inside)) ≡ None → NoTag left
 not_closed left inside o none slice rest t e h =
     let r = reads_again slice left rest t e h in
     let same = some_same left inside r.inside o r.opens in
-    none-some rest (sym none ∙ ap (λ (z : List ℕ). behind_close (behind_white (more_in z))) same ∙ r.closes)
+    none-some rest (sym none ∙ ap (λ (z : Text). behind_close (behind_white (more_in z))) same ∙ r.closes)
 
-pub not_else : (left inside : List ℕ) → behind_open left ≡ Some inside → raw_in inside ≡ codes "else" → NoTag left
+pub not_else : (left inside : Text) → behind_open left ≡ Some inside → raw_in inside ≡ codes "else" → NoTag left
 not_else left inside o is slice rest t e h =
     let r = reads_again slice left rest t e h in
     let same = some_same left inside r.inside o r.opens in
     r.other (ap raw_in (sym same) ∙ is)
 
-pub not_path : (left inside : List ℕ) → behind_open left ≡ Some inside → ((means : Reference) → IsPath (raw_in inside) means → ⊥) → NoTag left
+pub not_path : (left inside : Text) → behind_open left ≡ Some inside → ((means : Reference) → IsPath (raw_in inside) means → ⊥) → NoTag left
 not_path left inside o none slice rest t e h =
     let r = reads_again slice left rest t e h in
     let same = some_same left inside r.inside o r.opens in
-    none r.means (subst (λ (z : List ℕ). IsPath (raw_in z) r.means) (sym same) r.path)
+    none r.means (subst (λ (z : Text). IsPath (raw_in z) r.means) (sym same) r.path)
 
-pub not_names : (left inside : List ℕ) (means : Reference) → behind_open left ≡ Some inside → IsPath (raw_in inside) means → (IsNames means → ⊥) → NoTag left
+pub not_names : (left inside : Text) (means : Reference) → behind_open left ≡ Some inside → IsPath (raw_in inside) means → (IsNames means → ⊥) → NoTag left
 not_names left inside means o path none slice rest t e h =
     let r = reads_again slice left rest t e h in
     let same = some_same left inside r.inside o r.opens in
-    let one = one_meaning (raw_in inside) means r.means path (subst (λ (z : List ℕ). IsPath (raw_in z) r.means) (sym same) r.path) in
+    let one = one_meaning (raw_in inside) means r.means path (subst (λ (z : Text). IsPath (raw_in z) r.means) (sym same) r.path) in
     none (subst IsNames (sym one) r.names)
 
 -- ---- at most one tag
 
-pub right_same : (a b x y : List ℕ) → a ++ x ≡ b ++ y → x ≡ y → a ≡ b
+pub right_same : (a b x y : Text) → a ++ x ≡ b ++ y → x ≡ y → a ≡ b
 right_same a b x y e same =
     let long : length a ≡ length b = omega (arith, ap length e, length-append a x, length-append b y, ap length same) in
     sym (take_at a x (length b) long) ∙ ap (take (length b)) e ∙ take_at b y (length b) refl
 
-pub record SameTag (slice slice' rest rest' : List ℕ) (t t' : Tag) : Type 0 where
+pub record SameTag (slice slice' rest rest' : Text) (t t' : Tag) : Type 0 where
   pub slices : slice ≡ slice'
   pub rests : rest ≡ rest'
   pub tags : t ≡ t'
 
-pub same_tag : (slice slice' rest rest' : List ℕ) (t t' : Tag) → IsTag slice t → IsTag slice' t' → slice ++ rest ≡ slice' ++ rest' → SameTag slice slice' rest rest' t t'
+pub same_tag : (slice slice' rest rest' : Text) (t t' : Tag) → IsTag slice t → IsTag slice' t' → slice ++ rest ≡ slice' ++ rest' → SameTag slice slice' rest rest' t t'
 same_tag slice slice' rest rest' t t' h h' e =
     let r = reads_again slice (slice ++ rest) rest t refl h in
     let q = reads_again slice' (slice ++ rest) rest' t' e h' in
     let same = some_same (slice ++ rest) r.inside q.inside r.opens q.opens in
-    let rests : rest ≡ rest' = same_Some rest rest' (sym r.closes ∙ ap (λ (z : List ℕ). behind_close (behind_white (more_in z))) same ∙ q.closes) in
-    let one = one_meaning (raw_in r.inside) r.means q.means r.path (subst (λ (z : List ℕ). IsPath (raw_in z) q.means) (sym same) q.path) in
+    let rests : rest ≡ rest' = same_Some rest rest' (sym r.closes ∙ ap (λ (z : Text). behind_close (behind_white (more_in z))) same ∙ q.closes) in
+    let one = one_meaning (raw_in r.inside) r.means q.means r.path (subst (λ (z : Text). IsPath (raw_in z) q.means) (sym same) q.path) in
     record { slices = right_same slice slice' rest rest' e rests; rests = rests; tags = r.is ∙ ap expression_tag one ∙ sym q.is }
 
-pub tag_braces : (slice rest : List ℕ) (t : Tag) → IsTag slice t → braces (slice ++ rest) ≡ true
-tag_braces slice rest t (an_expression w r v means white path names other white') = refl
+pub tag_braces : (slice rest : Text) (t : Tag) → IsTag slice t → braces (slice ++ rest) ≡ true
+tag_braces slice rest t (an_expression x) = ap (λ (z : Text). braces (z ++ rest)) x.spells
 
 pub white_ascii : (b : ℕ) → is_white b ≡ true → b < 128
 white_ascii b h = elim (or_cases (b == 32) _ h) [
@@ -238,9 +249,9 @@ white_ascii b h = elim (or_cases (b == 32) _ h) [
 
 -- ---- as the code reads
 
-pub raw_is : (inside start raw : List ℕ) → start ≡ behind_white inside → raw ≡ take (reference_len start) start → raw ≡ raw_in inside
-raw_is inside start raw e h = h ∙ ap (λ (z : List ℕ). take (reference_len z) z) e
+pub raw_is : (inside start raw : Text) → start ≡ behind_white inside → raw ≡ take (reference_len start) start → raw ≡ raw_in inside
+raw_is inside start raw e h = h ∙ ap (λ (z : Text). take (reference_len z) z) e
 
-pub closes_is : (inside start more dark : List ℕ) (o : Option (List ℕ)) → start ≡ behind_white inside → more ≡ drop (reference_len start) start → dark ≡ behind_white more → o ≡ behind_close dark
+pub closes_is : (inside start more dark : Text) (o : Option (Text)) → start ≡ behind_white inside → more ≡ drop (reference_len start) start → dark ≡ behind_white more → o ≡ behind_close dark
     → behind_close (behind_white (more_in inside)) ≡ o
-closes_is inside start more dark o e h d c = sym (c ∙ ap behind_close (d ∙ ap behind_white (h ∙ ap (λ (z : List ℕ). drop (reference_len z) z) e)))
+closes_is inside start more dark o e h d c = sym (c ∙ ap behind_close (d ∙ ap behind_white (h ∙ ap (λ (z : Text). drop (reference_len z) z) e)))

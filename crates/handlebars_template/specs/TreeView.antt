@@ -1,7 +1,8 @@
 -- The tree that a `Template` stands for.
-use Rattle.std.specs.Prelude.{ℕ, List, [], ◌∷◌, map, Option, None, Some, option_map, String, string_bytes}
+use Rattle.std.specs.Prelude.{List, [], ◌∷◌, map, Option, None, Some, option_map, String, string_bytes}
 use Rattle.std.specs.declared.alloc.Global.{Global}
 use Rattle.serde_json.specs.View as json
+use Rattle.handlebars_base.specs.Bytes.{Text}
 use Rattle.handlebars_base.specs.PathView.{reference_of}
 use Rattle.handlebars_template.specs.Place.{Place}
 use Rattle.handlebars_template.specs.Tree.{Tree, tree, Elements, elements_of, Element, raw_string, html_expression, expression, helper_block, decorator_expression, decorator_block, partial_expression, partial_block, comment, Call, call, Decorator, decorator, args, bodies, Param, name, path, literal, subexpression, Params, params_of, Pairs, no_pairs, pair, Binding, no_binding, single, both, Body, no_body, body}
@@ -15,7 +16,7 @@ use Rattle.handlebars_template.specs.declared.template.tree.Parameter.{Parameter
 use Rattle.handlebars_template.specs.declared.template.tree.Subexpression.{Subexpression, fold-Subexpression}
 use Rattle.handlebars_template.specs.declared.template.tree.BlockParam.TheOpen.{BlockParam-F, Parameter-F, TemplateElement-F, DecoratorTemplate-F, HelperTemplate-F, Subexpression-F, Template-F}
 
-abbrev pub text : String Global → List ℕ
+abbrev pub text : String Global → Text
 text s = string_bytes s
 
 abbrev pub place_of : TemplateMapping → Place

@@ -6,12 +6,12 @@ ghost use Rattle.handlebars_base.specs.TemplateRefusals.{template_refusal_of, sh
 ghost use Rattle.handlebars_base.specs.PathView.{reference_of};
 ghost use Rattle.handlebars_template.specs.Tag.{expression_tag};
 ghost use Rattle.handlebars_template.specs.Cut.{text_slice, tag_slice};
-ghost use Rattle.handlebars_template.specs.Compile.{Compiles, compiled, refused, no_options, unreadable, value_call, element_of, slice_elements, slice_places, OneCut, OneCompilation};
+ghost use Rattle.handlebars_template.specs.Compile.{Compiles, compiled, refused, no_options, unreadable, value_call, element_of, slice_elements, slice_places};
 ghost use Rattle.handlebars_template.specs.TreeView.{tree_view, call_view, element_view, place_of, text};
 
 use crate::template::place::advance;
 use crate::template::tag::tag;
-use crate::template::text::text;
+use crate::template::text::{TextFront, text};
 use crate::template::tree::{
     HelperTemplate, Parameter, Template, TemplateElement, TemplateMapping,
 };
@@ -34,18 +34,19 @@ impl Template {
             mapping: Vec::new(alloc),
         };
         let mut place = TemplateMapping(1, 1);
-        let (mut kept, mut slice, mut left) = text(alloc, source)?;
-        while !left.is_empty() {
-            let at = advance(place, slice);
-            let Some((path, behind)) = tag(alloc, left)? else {
+        let mut front = text(alloc, source)?;
+        'tags: while !front.rest.is_empty() {
+            let left = front.rest;
+            let at = advance(place, front.slice);
+            let Some(found) = tag(alloc, left)? else {
                 return Err(unreadable(alloc, source, at));
             };
-            tree.add_text(place, slice, kept)?;
-            tree.add_expression(alloc, at, path)?;
-            place = advance(at, left.split_at(left.len() - behind.len()).0);
-            (kept, slice, left) = text(alloc, behind)?;
+            tree.add_text(place, front)?;
+            tree.add_expression(alloc, at, found.path)?;
+            place = advance(at, left.split_at(left.len() - found.rest.len()).0);
+            front = text(alloc, found.rest)?;
         }
-        tree.add_text(place, slice, kept)?;
+        tree.add_text(place, front)?;
         Ok(Template {
             name: None,
             elements: tree.elements,
@@ -53,16 +54,6 @@ impl Template {
         })
     }
 }
-
-/// A source has at most one cut into texts and tags.
-pub fn one_cut()
-    ensures { OneCut }
-{}
-
-/// A source has at most one outcome: a tree or a refusal, and not both.
-pub fn one_compilation()
-    ensures { OneCompilation }
-{}
 
 // The elements so far, and where each begins.
 #[derive(Drop)]
@@ -73,21 +64,16 @@ struct Growing {
 
 impl Growing {
     // An empty slice has no element.
-    fn add_text(
-        &mut self,
-        place: TemplateMapping,
-        slice: &str,
-        kept: String,
-    ) -> Result<(), AllocError>
-        ensures elements { OnOk result (map element_view self.new.elements.items
-            ≡ map element_view self.old.elements.items ++ slice_elements (text_slice (place_of place) slice.now (string_bytes kept) ∷ [])) }
-        ensures places { OnOk result (map place_of self.new.mapping.items
-            ≡ map place_of self.old.mapping.items ++ slice_places (text_slice (place_of place) slice.now (string_bytes kept) ∷ [])) }
+    fn add_text(&mut self, place: TemplateMapping, front: TextFront) -> Result<(), AllocError>
+        ensures elements { OnOk result (map element_view self.new.elements.items ≡ map element_view self.old.elements.items
+            ++ slice_elements (text_slice (place_of place) front.entry.slice.now (string_bytes front.entry.kept) ∷ [])) }
+        ensures places { OnOk result (map place_of self.new.mapping.items ≡ map place_of self.old.mapping.items
+            ++ slice_places (text_slice (place_of place) front.entry.slice.now (string_bytes front.entry.kept) ∷ [])) }
     {
-        if slice.is_empty() {
+        if front.slice.is_empty() {
             return Ok(());
         }
-        self.elements.push(TemplateElement::RawString(kept))?;
+        self.elements.push(TemplateElement::RawString(front.kept))?;
         self.mapping.push(place)?;
         Ok(())
     }

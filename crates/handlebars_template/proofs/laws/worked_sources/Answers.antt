@@ -1,5 +1,5 @@
 use Rattle.handlebars_template.proofs.Rows.{empty_row, value_row, escaped_row, member_row, unclosed_row, place_row}
-use Rattle.handlebars_template.proofs.template.rows.worked_rows.Goals as goal
+use Rattle.handlebars_template.proofs.laws.worked_sources.Goals as goal
 
 pub returns-clause-empty : goal.returns-clause-empty
 returns-clause-empty c = empty_row
