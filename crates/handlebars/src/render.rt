@@ -83,13 +83,8 @@ impl Renderable for Template {
             return Err(RenderErrorReason::Failed.into());
         }
         let given = data.data();
-        match render_tree(&Setting { alloc, given }, self, rc, out) {
-            Ok(()) => Ok(()),
-            Err(e) => {
-                rc.fail();
-                Err(e)
-            }
-        }
+        let answer = render_tree(&Setting { alloc, given }, self, rc, out);
+        fail_after(rc, answer)
     }
 
     fn renders<L: Log>(
@@ -106,6 +101,18 @@ impl Renderable for Template {
             Err(e) => Err(e),
         }
     }
+}
+
+// After a refusal the context has failed.
+fn fail_after(rc: &mut RenderContext, answer: Result<(), RenderError>) -> Result<(), RenderError>
+    ensures answer { result ≡ answer }
+    ensures ok { OnOk result (rc.new ≡ rc.old) }
+    ensures err { OnErr result (rc.new ≡ record rc.old { failed = true }) }
+{
+    if answer.is_err() {
+        rc.fail();
+    }
+    answer
 }
 
 /// An element alone, which has no position: a refusal of it has none either.
@@ -125,13 +132,8 @@ impl Renderable for TemplateElement {
             return Err(RenderErrorReason::Failed.into());
         }
         let given = data.data();
-        match render_alone(&Setting { alloc, given }, self, rc, out) {
-            Ok(()) => Ok(()),
-            Err(e) => {
-                rc.fail();
-                Err(e)
-            }
-        }
+        let answer = render_alone(&Setting { alloc, given }, self, rc, out);
+        fail_after(rc, answer)
     }
 
     fn renders<L: Log>(
