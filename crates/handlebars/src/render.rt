@@ -79,9 +79,7 @@ impl Renderable for Template {
         out: &mut O,
         _log: &L,
     ) -> Result<(), RenderError> {
-        if rc.has_failed() {
-            return Err(RenderErrorReason::Failed.into());
-        }
+        ready(rc)?;
         let given = data.data();
         let answer = render_tree(&Setting { alloc, given }, self, rc, out);
         fail_after(rc, answer)
@@ -100,6 +98,18 @@ impl Renderable for Template {
             Ok(()) => Ok(out.into_string()),
             Err(e) => Err(e),
         }
+    }
+}
+
+// A context that has failed is refused.
+fn ready(rc: &RenderContext) -> Result<(), RenderError>
+    ensures ok { IfOk result (λ _. has_failed rc.now ≡ false) }
+    ensures err { IfErr result (λ e. (has_failed rc.now ≡ true) × (refusal_of e ≡ plain_refusal failed)) }
+{
+    if rc.has_failed() {
+        Err(RenderErrorReason::Failed.into())
+    } else {
+        Ok(())
     }
 }
 
@@ -128,9 +138,7 @@ impl Renderable for TemplateElement {
         out: &mut O,
         _log: &L,
     ) -> Result<(), RenderError> {
-        if rc.has_failed() {
-            return Err(RenderErrorReason::Failed.into());
-        }
+        ready(rc)?;
         let given = data.data();
         let answer = render_alone(&Setting { alloc, given }, self, rc, out);
         fail_after(rc, answer)

@@ -103,7 +103,7 @@ fn write_text<O: Output>(
             rc.pass_text(text);
             Ok(())
         }
-        Err(cause) => Err(output_fault(cause)),
+        Err(fault) => Err(output_fault(fault)),
     }
 }
 
