@@ -1,5 +1,8 @@
 //! What a row answers.
 
+ghost use Rattle.std.specs.Prelude.{◌≡◌, IsTrue};
+ghost use Rattle.handlebars_tests.specs.Outcomes.{outcome_view, handed_of, handed_out};
+
 use crate::outcome::{Outcome, Refusal};
 use crate::row::Row;
 use handlebars::{
@@ -40,13 +43,22 @@ impl Answer {
     }
 
     /// Whether both ways come to the outcome.
-    pub fn is(&self, wanted: &Outcome) -> bool {
-        let handed_out = match (&self.registry, &wanted.refusal) {
-            (Ok(text), None) => *text == wanted.text,
-            (Err(refusal), Some(wanted)) => *refusal == *wanted,
-            _ => false,
-        };
-        handed_out && self.template == *wanted
+    pub fn comes_to(&self, wanted: &Outcome) -> bool
+        ensures template { IsTrue result → outcome_view self.now.template ≡ outcome_view wanted.now }
+        ensures registry { IsTrue result → handed_of self.now.registry ≡ handed_out (outcome_view wanted.now) }
+    {
+        hands_out(&self.registry, wanted) && self.template.equals(wanted)
+    }
+}
+
+// Of an outcome that ends with a refusal no text is handed out.
+fn hands_out(handed: &Result<String, Refusal>, wanted: &Outcome) -> bool
+    ensures { IsTrue result → handed_of handed.now ≡ handed_out (outcome_view wanted.now) }
+{
+    match (handed, &wanted.refusal) {
+        (Ok(text), None) => *text == wanted.text,
+        (Err(refusal), Some(wanted)) => *refusal == *wanted,
+        _ => false,
     }
 }
 

@@ -12,6 +12,8 @@ pub enum Fault {
     NoWords(io::Error),
     #[error("cannot be read: {0}")]
     CannotRead(io::Error),
+    #[error("has no .json file")]
+    NoFiles,
     #[error("not JSON: {0}")]
     NotJson(serde_json::Error),
     #[error("no array of rows")]

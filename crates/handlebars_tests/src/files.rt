@@ -47,6 +47,9 @@ fn folder_paths<R: Files + AllocGlobal + Clone + Drop>(
             paths.push(format!(in rt.alloc(); "{folder}/{name}")?)?;
         }
     }
+    if paths.is_empty() {
+        return Err(Fault::NoFiles);
+    }
     paths.sort()?;
     Ok(paths)
 }

@@ -5,10 +5,26 @@ use std::alloc::{AllocError, Global};
 use std::fmt;
 
 /// The text that is written, and why it ends before the template's end, if it does.
-#[derive(PartialEq, Drop)]
+#[derive(Drop)]
 pub struct Outcome {
     pub text: String,
     pub refusal: Option<Refusal>,
+}
+
+impl Outcome {
+    ghost use Rattle.std.specs.Prelude.{◌≡◌, IsTrue};
+    ghost use Rattle.handlebars_tests.specs.Outcomes.{outcome_view};
+
+    /// Whether both are one outcome.
+    pub fn equals(&self, other: &Outcome) -> bool
+        ensures { IsTrue result → outcome_view self.now ≡ outcome_view other.now }
+    {
+        match (&self.refusal, &other.refusal) {
+            (None, None) => self.text == other.text,
+            (Some(own), Some(others)) => *own == *others && self.text == other.text,
+            _ => false,
+        }
+    }
 }
 
 /// Why a rendering ends early, and where.

@@ -65,7 +65,7 @@ fn differences(alloc: Global, rows: Vec<Row>) -> Result<Vec<Difference>, AllocEr
     let mut differences = Vec::new(alloc);
     for (index, row) in rows.into_iter().enumerate() {
         let answer = Answer::of(alloc, &row)?;
-        if !answer.is(&row.wanted) {
+        if !answer.comes_to(&row.wanted) {
             let number = index.saturating_add(1);
             differences.push(Difference {
                 number,

@@ -7,8 +7,8 @@ use std::test::Fail;
 #[test]
 fn scoped_values_render(rt: HostRuntime) -> Result<(), Fail> {
     let alloc = rt.alloc();
-    let value = Json::from_str(alloc, r#"[1, [null, "a"], {}, 1.5]"#)?;
-    let wanted = "[1, [, a], [object], ]";
+    let value = Json::from_str(alloc, r#"[1, [null, "é<"], {}, 1.5]"#)?;
+    let wanted = "[1, [, é<], [object], ]";
     assert_eq!(rt; value.render(alloc)?.as_str(), wanted);
     let scoped = ScopedJson::Constant(&value);
     assert_eq!(rt; scoped.render(alloc)?.as_str(), wanted);
