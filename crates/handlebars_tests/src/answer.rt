@@ -6,13 +6,10 @@ ghost use Rattle.handlebars_tests.specs.Outcomes.{outcome_view, handed_of, hande
 use crate::outcome::{Outcome, Refusal};
 use crate::row::Row;
 use handlebars::{
-    Context, EntryKind, Registry, RenderContext, RenderError, Renderable, StringOutput, Template,
-    TemplateReader,
+    Context, NoFiles, Registry, RenderContext, RenderError, Renderable, StringOutput, Template,
 };
 use log::sink::Discard;
 use std::alloc::{AllocError, Global};
-use std::io;
-use std::io::ErrorKind;
 
 /// What a row comes to, in each of the two ways to render it.
 #[derive(Drop)]
@@ -74,22 +71,4 @@ fn write_template(alloc: Global, row: &Row, out: &mut StringOutput) -> Result<()
     let template = Template::compile(alloc, row.source.as_str())?;
     let mut rc = RenderContext::new(alloc, None)?;
     template.render(alloc, &registry, &data, &mut rc, out, &Discard)
-}
-
-/// Has no file: a row reaches none.
-#[derive(Drop)]
-pub struct NoFiles;
-
-impl TemplateReader for NoFiles {
-    ghost reads = { λ _ _ _ _. Unit {0} };
-
-    ghost lists = { λ _ _ _ _. Unit {0} };
-
-    fn read(&mut self, _path: &str) -> Result<String, io::Error> {
-        Err(io::Error::from(ErrorKind::Unsupported))
-    }
-
-    fn list(&mut self, _folder: &str) -> Result<Vec<(String, EntryKind)>, io::Error> {
-        Err(io::Error::from(ErrorKind::Unsupported))
-    }
 }

@@ -1,14 +1,14 @@
 //! The files that words stand for, and the rows in them.
 
-use crate::fault::Fault;
+use crate::failure::Failure;
 use crate::row::Row;
 use handlebars::JsonValue;
 use std::rt::{Env, Files};
 use std::{env, fs};
 
 /// The words of the command line, or, where there is none, the folder `data`.
-pub fn words<R: Env + AllocGlobal>(rt: &R) -> Result<Vec<String>, Fault> {
-    let args = env::args(rt).map_err(Fault::NoWords)?;
+pub fn words<R: Env + AllocGlobal>(rt: &R) -> Result<Vec<String>, Failure> {
+    let args = env::args(rt).map_err(Failure::NoWords)?;
     let mut words: Vec<String> = args.skip(1).collect(rt.alloc())?;
     if words.is_empty() {
         words.push(String::from_str(rt.alloc(), "data")?)?;
@@ -20,7 +20,7 @@ pub fn words<R: Env + AllocGlobal>(rt: &R) -> Result<Vec<String>, Fault> {
 pub fn file_paths<R: Files + AllocGlobal + Clone + Drop>(
     rt: &R,
     word: &str,
-) -> Result<Vec<String>, Fault> {
+) -> Result<Vec<String>, Failure> {
     if is_folder(rt, word) {
         return folder_paths(rt, word);
     }
@@ -38,32 +38,32 @@ fn is_folder(rt: &impl Files, path: &str) -> bool {
 fn folder_paths<R: Files + AllocGlobal + Clone + Drop>(
     rt: &R,
     folder: &str,
-) -> Result<Vec<String>, Fault> {
+) -> Result<Vec<String>, Failure> {
     let mut paths = Vec::new(rt.alloc());
-    for entry in fs::read_dir(rt, folder).map_err(Fault::CannotRead)? {
-        let entry = entry.map_err(Fault::CannotRead)?;
+    for entry in fs::read_dir(rt, folder).map_err(Failure::CannotRead)? {
+        let entry = entry.map_err(Failure::CannotRead)?;
         let name = entry.file_name();
         if name.ends_with(".json") {
             paths.push(format!(in rt.alloc(); "{folder}/{name}")?)?;
         }
     }
     if paths.is_empty() {
-        return Err(Fault::NoFiles);
+        return Err(Failure::NoFiles);
     }
     paths.sort()?;
     Ok(paths)
 }
 
 /// The rows of a file.
-pub fn rows<R: Files + AllocGlobal>(rt: &R, path: &str) -> Result<Vec<Row>, Fault> {
-    let text = fs::read_to_string(rt, path).map_err(Fault::CannotRead)?;
-    let value = JsonValue::from_str(rt.alloc(), text.as_str()).map_err(Fault::NotJson)?;
+pub fn rows<R: Files + AllocGlobal>(rt: &R, path: &str) -> Result<Vec<Row>, Failure> {
+    let text = fs::read_to_string(rt, path).map_err(Failure::CannotRead)?;
+    let value = JsonValue::from_str(rt.alloc(), text.as_str()).map_err(Failure::NotJson)?;
     let JsonValue::Array(values) = value else {
-        return Err(Fault::NoArray);
+        return Err(Failure::NoArray);
     };
     let mut rows = Vec::new(rt.alloc());
     for (index, value) in values.into_iter().enumerate() {
-        let row = Row::try_from(value).map_err(|cause| Fault::NoRow(
+        let row = Row::try_from(value).map_err(|cause| Failure::NoRow(
             index.saturating_add(1),
             cause,
         ))?;

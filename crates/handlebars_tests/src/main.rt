@@ -3,7 +3,7 @@
 #![tactic(auto)]
 
 mod answer;
-mod fault;
+mod failure;
 mod files;
 mod outcome;
 mod row;
@@ -18,9 +18,9 @@ fn main(rt: HostRuntime) -> ExitCode {
     match run(&rt) {
         Ok(true) => ExitCode::SUCCESS,
         Ok(false) => ExitCode::FAILURE,
-        Err(fault) => {
+        Err(failure) => {
             // Where this can't be said either, the status still tells of it.
-            let _ = eprintln!(rt; "handlebars_tests: {fault}");
+            let _ = eprintln!(rt; "handlebars_tests: {failure}");
             ExitCode::FAILURE
         }
     }

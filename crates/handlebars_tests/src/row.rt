@@ -14,7 +14,7 @@ pub struct Row {
 
 /// Why a value is no row.
 #[derive(Debug, Drop, Error)]
-pub enum RowFault {
+pub enum RowFailure {
     #[error("no object")]
     NoObject,
     #[error("unknown field {0:?}")]
@@ -30,11 +30,11 @@ pub enum RowFault {
 }
 
 impl TryFrom<JsonValue> for Row {
-    type Error = RowFault;
+    type Error = RowFailure;
 
-    fn try_from(value: JsonValue) -> Result<Row, RowFault> {
+    fn try_from(value: JsonValue) -> Result<Row, RowFailure> {
         let JsonValue::Object(members) = value else {
-            return Err(RowFault::NoObject);
+            return Err(RowFailure::NoObject);
         };
         let mut fields = Fields::default();
         for (name, value) in members {
@@ -57,7 +57,7 @@ struct Fields {
 }
 
 impl Fields {
-    fn take(&mut self, name: String, value: JsonValue) -> Result<(), RowFault> {
+    fn take(&mut self, name: String, value: JsonValue) -> Result<(), RowFailure> {
         match name.as_str() {
             "source" => self.source = Some(text(name, value)?),
             "data" => self.data = value,
@@ -66,30 +66,30 @@ impl Fields {
             "line" => self.line = Some(number(name, &value)?),
             "column" => self.column = Some(number(name, &value)?),
             "template" => self.template = Some(text(name, value)?),
-            _ => return Err(RowFault::UnknownField(name)),
+            _ => return Err(RowFailure::UnknownField(name)),
         }
         Ok(())
     }
 }
 
-fn text(name: String, value: JsonValue) -> Result<String, RowFault> {
+fn text(name: String, value: JsonValue) -> Result<String, RowFailure> {
     match value {
         JsonValue::String(text) => Ok(text),
-        _ => Err(RowFault::NoText(name)),
+        _ => Err(RowFailure::NoText(name)),
     }
 }
 
-fn number(name: String, value: &JsonValue) -> Result<usize, RowFault> {
+fn number(name: String, value: &JsonValue) -> Result<usize, RowFailure> {
     match value.as_u64() {
         Some(number) => Ok(number as usize),
-        None => Err(RowFault::NoNumber(name)),
+        None => Err(RowFailure::NoNumber(name)),
     }
 }
 
 impl TryFrom<Fields> for Row {
-    type Error = RowFault;
+    type Error = RowFailure;
 
-    fn try_from(fields: Fields) -> Result<Row, RowFault> {
+    fn try_from(fields: Fields) -> Result<Row, RowFailure> {
         let Fields {
             source,
             data,
@@ -108,13 +108,13 @@ impl TryFrom<Fields> for Row {
             }),
             None => {
                 if line.is_some() || column.is_some() || template.is_some() {
-                    return Err(RowFault::NoReason);
+                    return Err(RowFailure::NoReason);
                 }
                 None
             }
         };
-        let source = source.ok_or(RowFault::Missing("source"))?;
-        let text = text.ok_or(RowFault::Missing("text"))?;
+        let source = source.ok_or(RowFailure::Missing("source"))?;
+        let text = text.ok_or(RowFailure::Missing("text"))?;
         let wanted = Outcome { text, refusal };
         Ok(Row {
             source,

@@ -1,7 +1,7 @@
 //! A run of the program.
 
 use crate::answer::Answer;
-use crate::fault::Fault;
+use crate::failure::Failure;
 use crate::files::{file_paths, rows, words};
 use crate::row::Row;
 use std::alloc::{AllocError, Global};
@@ -11,7 +11,7 @@ use std::rt::{Env, Files};
 /// Runs the files of the words, and answers whether all of their rows come to what is wanted.
 pub fn run<R: Files + Env + Print + Eprint + AllocGlobal + Clone + Drop>(
     rt: &R,
-) -> Result<bool, Fault> {
+) -> Result<bool, Failure> {
     let mut passed = true;
     for word in words(rt)? {
         passed = told(rt, word.as_str(), run_word(rt, word.as_str())) && passed;
@@ -22,7 +22,7 @@ pub fn run<R: Files + Env + Print + Eprint + AllocGlobal + Clone + Drop>(
 fn run_word<R: Files + Print + Eprint + AllocGlobal + Clone + Drop>(
     rt: &R,
     word: &str,
-) -> Result<bool, Fault> {
+) -> Result<bool, Failure> {
     let mut passed = true;
     for path in file_paths(rt, word)? {
         passed = told(rt, path.as_str(), run_file(rt, path.as_str())) && passed;
@@ -30,25 +30,25 @@ fn run_word<R: Files + Print + Eprint + AllocGlobal + Clone + Drop>(
     Ok(passed)
 }
 
-// Tells of a fault, with which nothing has passed. Where that can't be told, the status still does.
-fn told<R: Eprint>(rt: &R, path: &str, passed: Result<bool, Fault>) -> bool {
+// Tells of a failure, with which nothing has passed. Where that can't be told, the status still does.
+fn told<R: Eprint>(rt: &R, path: &str, passed: Result<bool, Failure>) -> bool {
     match passed {
         Ok(passed) => passed,
-        Err(fault) => {
-            let _ = eprintln!(rt; "{path}: {fault}");
+        Err(failure) => {
+            let _ = eprintln!(rt; "{path}: {failure}");
             false
         }
     }
 }
 
-fn run_file<R: Files + Print + AllocGlobal>(rt: &R, path: &str) -> Result<bool, Fault> {
+fn run_file<R: Files + Print + AllocGlobal>(rt: &R, path: &str) -> Result<bool, Failure> {
     let rows = rows(rt, path)?;
     let count = rows.len();
     let differences = differences(rt.alloc(), rows)?;
     let differing = differences.len();
-    println!(rt; "{path}: {differing} of {count} rows differ").map_err(Fault::CannotWrite)?;
+    println!(rt; "{path}: {differing} of {count} rows differ").map_err(Failure::CannotWrite)?;
     for difference in &differences {
-        println!(rt; "{difference}").map_err(Fault::CannotWrite)?;
+        println!(rt; "{difference}").map_err(Failure::CannotWrite)?;
     }
     Ok(differences.is_empty())
 }

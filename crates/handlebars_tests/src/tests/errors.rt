@@ -199,7 +199,7 @@ const ON_THE_LAST_LINE: &str = r#"Template error: invalid handlebars syntax: unr
      = reason: invalid handlebars syntax: unreadable tag
 "#;
 
-// Lines are numbered from 0. The marker below the line of the fault has a sign for each byte. A call that renders adds
+// Lines are numbered from 0. The marker below the line of the position has a sign for each byte. A call that renders adds
 // no place of its own.
 #[test]
 fn template_errors_show_lines(rt: HostRuntime) -> Result<(), Fail> {
@@ -242,9 +242,9 @@ fn made_errors(alloc: Global) -> Result<Vec<(RenderError, &'static str)>, AllocE
     let cause = io::Error::other("disk");
     Ok(vec![in alloc;
         (RenderError::new(alloc, "bad"), r#"Other("bad")"#),
-        (RenderError::strict_error(None), "MissingVariable(None)"),
+        (RenderError::strict_error(alloc, None), "MissingVariable(None)"),
         (
-            RenderError::strict_error(Some(&name)),
+            RenderError::strict_error(alloc, Some(&name)),
             r#"MissingVariable(Some("a"))"#
         ),
         (

@@ -1,7 +1,6 @@
 //! What the tests share.
 
-use crate::answer::NoFiles;
-use handlebars::{Context, JsonValue, Registry, RenderError};
+use handlebars::{Context, JsonValue, NoFiles, Registry, RenderError};
 use log::sink::Discard;
 use std::alloc::Global;
 use std::fmt::{Debug, Display};

@@ -27,9 +27,9 @@ fn renders_one_after_another(rt: HostRuntime) -> Result<(), Fail> {
     Ok(())
 }
 
-// After a fault a context renders no template, and nothing more is written.
+// After a refusal a context renders no template, and nothing more is written.
 #[test]
-fn fails_from_a_fault_on(rt: HostRuntime) -> Result<(), Fail> {
+fn fails_from_a_refusal_on(rt: HostRuntime) -> Result<(), Fail> {
     let alloc = rt.alloc();
     let registry = Registry::new(alloc)?;
     let data = data_of(alloc, r#"{"a":[1]}"#)?;
@@ -71,13 +71,14 @@ struct Bounded {
 }
 
 impl Output for Bounded {
-    ghost use Rattle.handlebars_scope.specs.Outputs.{text_of};
+    ghost use Rattle.handlebars_scope.specs.Outputs.{held_of};
 
-    ghost text = { λ o. text_of o.kept };
-
-    ghost faults = { λ o. o.refused };
+    ghost held = { λ o. record (held_of o.kept) { faults = o.refused } };
 
     fn write(&mut self, seg: &str) -> Result<(), io::Error> {
+        if seg.is_empty() {
+            return Ok(());
+        }
         if self.room == 0 {
             self.refused = self.refused.saturating_add(1);
             return Err(io::Error::from(ErrorKind::NotFound));

@@ -77,7 +77,7 @@ fn unregistered(alloc: Global) -> Result<Vec<(TemplateElement, &'static str)>, A
     ]?)
 }
 
-// A fault has the template's name, and the position of its element where the mapping has one.
+// A refusal has the template's name, and the position of its element where the mapping has one.
 #[test]
 fn elements_render_by_hand(rt: HostRuntime) -> Result<(), Fail> {
     let alloc = rt.alloc();

@@ -12,7 +12,7 @@ fn scoped_values_render(rt: HostRuntime) -> Result<(), Fail> {
     assert_eq!(rt; value.render(alloc)?.as_str(), wanted);
     let scoped = ScopedJson::Constant(&value);
     assert_eq!(rt; scoped.render(alloc)?.as_str(), wanted);
-    assert_eq!(rt; scoped.into_derived()?.render(alloc)?.as_str(), wanted);
+    assert_eq!(rt; scoped.into_derived(alloc)?.render(alloc)?.as_str(), wanted);
     let made = ScopedJson::from(value);
     assert_eq!(rt; made.render(alloc)?.as_str(), wanted);
     assert_eq!(rt; ScopedJson::Missing.render(alloc)?.as_str(), "");
@@ -26,16 +26,16 @@ fn values_lose_their_place(rt: HostRuntime) -> Result<(), Fail> {
     let value = Json::from_str(alloc, "[1]")?;
     let scoped = ScopedJson::Context(&value, vec![in alloc; String::from_str(alloc, "a")?]?);
     assert_eq!(rt; scoped.context_path().map(|path| path.len()), Some(1));
-    let derived = scoped.into_derived()?;
+    let derived = scoped.into_derived(alloc)?;
     assert!(rt; derived.context_path().is_none());
     assert!(rt; derived.as_json() == Some(&value));
 
-    let made = ScopedJson::from(Json::Bool(true)).into_derived()?;
+    let made = ScopedJson::from(Json::Bool(true)).into_derived(alloc)?;
     assert!(rt; made.context_path().is_none());
 
     let missing = ScopedJson::Missing;
     assert!(rt; missing.is_missing() && missing.as_json().is_none());
-    let derived = missing.into_derived()?;
+    let derived = missing.into_derived(alloc)?;
     assert!(rt; !derived.is_missing());
     assert!(rt; derived.as_json().is_some_and(|value| value.is_null()));
     Ok(())

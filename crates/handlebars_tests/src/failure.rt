@@ -1,13 +1,13 @@
 //! Why rows aren't run.
 
-use crate::row::RowFault;
+use crate::row::RowFailure;
 use std::alloc::AllocError;
 use std::io;
 use thiserror::Error;
 
 /// Why the words, the files of a word or the rows of a file aren't there.
 #[derive(Debug, Drop, Error)]
-pub enum Fault {
+pub enum Failure {
     #[error("no words: {0}")]
     NoWords(io::Error),
     #[error("cannot be read: {0}")]
@@ -20,7 +20,7 @@ pub enum Fault {
     NoArray,
     /// The row's number in its file, from 1.
     #[error("row {0}: {1}")]
-    NoRow(usize, RowFault),
+    NoRow(usize, RowFailure),
     #[error("cannot write: {0}")]
     CannotWrite(io::Error),
     #[error("out of memory")]
