@@ -4,7 +4,7 @@ use Rattle.std.specs.Str.{chars}
 use Rattle.std.proofs.lemmas.List.{append-nil, take_at, drop_at}
 use Rattle.handlebars_base.specs.Bytes.{Text, left_brace}
 use Rattle.handlebars_base.specs.Path.{IsPath, Reference, named, relative, plain, in_parts}
-use Rattle.handlebars_base.specs.PathReading.{reference_from}
+use Rattle.handlebars_base.proofs.PathAt.{path_at-stops}
 use Rattle.handlebars_template.specs.Place.{place}
 use Rattle.handlebars_template.specs.Text.{braces, IsText, at_end, at_tag, a_byte, two_escaped}
 use Rattle.handlebars_template.specs.Tag.{Tag, expression_tag, IsTag, an_expression, IsNames, NoTag}
@@ -13,7 +13,7 @@ use Rattle.handlebars_template.specs.TextReading.{clear_len}
 use Rattle.handlebars_template.specs.Cut.{Slice, text_slice, tag_slice, starts, goes_on}
 use Rattle.handlebars_template.specs.Compile.{Compiles, compiled, refused, unreadable, no_options, whole, no_tag, tree_of}
 use Rattle.handlebars_template.specs.Rows.{EmptyRow, ValueRow, EscapedRow, MemberRow, UnclosedRow, PlaceRow}
-use Rattle.handlebars_template.proofs.Tags.{not_closed}
+use Rattle.handlebars_template.proofs.Tags.{no_tag-close}
 use Rattle.handlebars_template.proofs.Texts.{clear_bytes}
 
 pub empty_row : EmptyRow
@@ -102,9 +102,9 @@ unclosed : (text name : Text) → IsText (123 ∷ 123 ∷ name) text text → No
 unclosed text name words none = no_tag (record { before = []; slices = []; begins = starts; text = text; kept = text; left = left_brace ∷ left_brace ∷ name; whole = refl; is_text = words; marks = refl; none = none; there = refl })
 
 pub unclosed_row : UnclosedRow
-unfolding chars behind_open behind_close reference_from
-unclosed_row = unclosed (codes "ab") (codes "name") (bare (codes "ab") (codes "{{name") refl refl) (not_closed (codes "{{name") (codes "name") refl refl)
+unfolding chars behind_open behind_close
+unclosed_row = unclosed (codes "ab") (codes "name") (bare (codes "ab") (codes "{{name") refl refl) (no_tag-close (codes "{{name") (codes "name") [] _ refl (path_at-stops (codes "name") [] _ is_name refl) refl)
 
 pub place_row : PlaceRow
-unfolding chars behind_open behind_close reference_from
-place_row = unclosed (10 ∷ 195 ∷ 169 ∷ []) (codes "a") (bare (10 ∷ 195 ∷ 169 ∷ []) (codes "{{a") refl refl) (not_closed (codes "{{a") (codes "a") refl refl)
+unfolding chars behind_open behind_close
+place_row = unclosed (10 ∷ 195 ∷ 169 ∷ []) (codes "a") (bare (10 ∷ 195 ∷ 169 ∷ []) (codes "{{a") refl refl) (no_tag-close (codes "{{a") (codes "a") [] _ refl (path_at-stops (codes "a") [] _ is_a refl) refl)

@@ -1,14 +1,14 @@
 -- Reading a tag: what is read is spelled so, and what is spelled so is read.
-use Rattle.std.proofs.Common.{◌≡◌, ◌≢◌, ℕ, ◌<◌, Bool, true, false, not, ◌&&◌, [], ◌∷◌, ◌++◌, length, take, drop, Option, Some, None, refl, sym, ap, subst, ◌∙◌, append_assoc, arith, inl, inr, length-append, codes}
+use Rattle.std.proofs.Common.{◌≡◌, ◌≢◌, ℕ, ◌<◌, Bool, true, false, not, ◌&&◌, [], ◌∷◌, ◌++◌, length, take, Option, Some, None, refl, sym, ap, subst, ◌∙◌, append_assoc, arith, inl, inr, length-append, codes}
 use Rattle.std.specs.Prelude.{◌==◌}
 use Rattle.std.proofs.lemmas.Bool.{eqb-true, cases_Bool, and_parts, not-true, or_cases}
 use Rattle.std.proofs.lemmas.Option.{cond_some, same_Some, none-some}
-use Rattle.std.proofs.lemmas.List.{take-append-drop, take_at}
+use Rattle.std.proofs.lemmas.List.{take_at}
 use Rattle.handlebars_base.specs.Bytes.{Text, is_white, left_brace, right_brace}
-use Rattle.handlebars_base.specs.Path.{IsPath, Reference}
-use Rattle.handlebars_base.specs.PathReading.{stops, starts_reference, reference_len}
-use Rattle.handlebars_base.proofs.PathShapes.{one_meaning}
-use Rattle.handlebars_base.proofs.References.{take-path, drop-path, stops-path, starts_other}
+use Rattle.handlebars_base.specs.Path.{IsPath, Reference, raw_of}
+use Rattle.handlebars_base.specs.PathReading.{path_at, starts_reference, stops}
+use Rattle.handlebars_base.proofs.PathAt.{path_at-some, path_at-stops}
+use Rattle.handlebars_base.proofs.References.{stops-path, starts_other}
 use Rattle.handlebars_template.specs.Text.{braces}
 use Rattle.handlebars_template.specs.Tag.{Tag, expression_tag, IsTag, an_expression, IsWhite, IsNames, NoTag}
 use Rattle.handlebars_template.specs.TagReading.{Follows, behind_white, behind_open, behind_close}
@@ -112,111 +112,108 @@ closed t = refl
 
 -- ---- the parts of an expression, as they are read
 
--- the path between the braces
-abbrev pub raw_in : Text → Text
-raw_in inside = take (reference_len (behind_white inside)) (behind_white inside)
-
--- what stands behind it
-abbrev pub more_in : Text → Text
-more_in inside = drop (reference_len (behind_white inside)) (behind_white inside)
-
 pub record TagParts (left : Text) (t : Tag) (rest : Text) : Type 0 where
   pub inside : Text
   pub opens : behind_open left ≡ Some inside
-  pub closes : behind_close (behind_white (more_in inside)) ≡ Some rest
   pub means : Reference
-  pub path : IsPath (raw_in inside) means
+  pub more : Text
+  pub path : path_at (behind_white inside) ≡ Some (means, more)
+  pub closes : behind_close (behind_white more) ≡ Some rest
+  pub no_else : raw_of means ≢ codes "else"
   pub names : IsNames means
-  pub other : raw_in inside ≢ codes "else"
   pub is : t ≡ expression_tag means
 
-regroup : (w r v rest : Text) → (w ++ (r ++ (v ++ 125 ∷ 125 ∷ []))) ++ rest ≡ w ++ (r ++ (v ++ (125 ∷ 125 ∷ rest)))
+regroup : (w r v rest : Text) → (w ++ (r ++ (v ++ right_brace ∷ right_brace ∷ []))) ++ rest ≡ w ++ (r ++ (v ++ (right_brace ∷ right_brace ∷ rest)))
 regroup w r v rest = simp append_assoc
-
-pub reads_again : (slice left rest : Text) (t : Tag) → left ≡ slice ++ rest → IsTag slice t → TagParts left t rest
-unfolding dark
-reads_again slice left rest t e (an_expression {means = means} x) =
-    let follow : Text = x.behind ++ (right_brace ∷ right_brace ∷ rest) in
-    let inside : Text = x.before ++ (x.path ++ follow) in
-    let whole : left ≡ left_brace ∷ left_brace ∷ inside = e ∙ ap (λ (z : Text). z ++ rest) x.spells ∙ ap (λ (z : Text). left_brace ∷ left_brace ∷ z) (regroup x.before x.path x.behind rest) in
-    let start : behind_white inside ≡ x.path ++ follow = behind_white-append x.before (x.path ++ follow) x.white_before (path_dark x.path follow means x.is_path) in
-    let stop = more_stops x.behind rest x.white_behind in
-    let raw : raw_in inside ≡ x.path = ap (λ (z : Text). take (reference_len z) z) start ∙ take-path x.path follow means x.is_path stop in
-    let more : more_in inside ≡ follow = ap (λ (z : Text). drop (reference_len z) z) start ∙ drop-path x.path follow means x.is_path stop in
-    record {
-      inside = inside;
-      opens = ap behind_open whole ∙ opened inside;
-      closes = ap (λ (z : Text). behind_close (behind_white z)) more ∙ ap behind_close (behind_white-append x.behind (right_brace ∷ right_brace ∷ rest) x.white_behind refl) ∙ closed rest;
-      means = means;
-      path = subst (λ (z : Text). IsPath z means) (sym raw) x.is_path;
-      names = x.names;
-      other = λ is. x.no_else (sym raw ∙ is);
-      is = refl;
-    }
-
-pub follows : (left inside rest : Text) (means : Reference) → behind_open left ≡ Some inside → behind_close (behind_white (more_in inside)) ≡ Some rest
-    → raw_in inside ≢ codes "else" → IsPath (raw_in inside) means → IsNames means → Follows left (expression_tag means) rest
-follows left inside rest means o c other path names =
-    let front = skips inside in
-    let back = skips (more_in inside) in
-    let parts : behind_white inside ≡ raw_in inside ++ more_in inside = sym (take-append-drop (reference_len (behind_white inside)) (behind_white inside)) in
-    let ends : more_in inside ≡ back.white ++ (125 ∷ 125 ∷ rest) = back.whole ∙ ap (λ (z : Text). back.white ++ z) (behind_close-some _ rest c) in
-    let all : inside ≡ front.white ++ (raw_in inside ++ (back.white ++ (125 ∷ 125 ∷ rest))) = front.whole ∙ ap (λ (z : Text). front.white ++ z) (parts ∙ ap (λ (z : Text). raw_in inside ++ z) ends) in
-    record {
-      slice = 123 ∷ 123 ∷ (front.white ++ (raw_in inside ++ (back.white ++ 125 ∷ 125 ∷ [])));
-      whole = behind_open-some left inside o ∙ ap (λ (z : Text). 123 ∷ 123 ∷ z) (all ∙ sym (regroup front.white (raw_in inside) back.white rest));
-      is_tag = an_expression (record {
-        before = front.white;
-        path = raw_in inside;
-        behind = back.white;
-        spells = refl;
-        white_before = front.is;
-        white_behind = back.is;
-        is_path = path;
-        names = names;
-        no_else = other;
-      });
-    }
-
--- ---- where none is read, none stands
-
-some_same : (left a b : Text) → behind_open left ≡ Some a → behind_open left ≡ Some b → a ≡ b
-some_same left a b e h = same_Some a b (sym e ∙ h)
-
-pub not_open : (left : Text) → behind_open left ≡ None → NoTag left
-not_open left none slice rest t e h = let r = reads_again slice left rest t e h in none-some r.inside (sym none ∙ r.opens)
-
-pub not_closed : (left inside : Text) → behind_open left ≡ Some inside → behind_close (behind_white (more_in inside)) ≡ None → NoTag left
-not_closed left inside o none slice rest t e h =
-    let r = reads_again slice left rest t e h in
-    let same = some_same left inside r.inside o r.opens in
-    none-some rest (sym none ∙ ap (λ (z : Text). behind_close (behind_white (more_in z))) same ∙ r.closes)
-
-pub not_else : (left inside : Text) → behind_open left ≡ Some inside → raw_in inside ≡ codes "else" → NoTag left
-not_else left inside o is slice rest t e h =
-    let r = reads_again slice left rest t e h in
-    let same = some_same left inside r.inside o r.opens in
-    r.other (ap raw_in (sym same) ∙ is)
-
-pub not_path : (left inside : Text) → behind_open left ≡ Some inside → ((means : Reference) → IsPath (raw_in inside) means → ⊥) → NoTag left
-not_path left inside o none slice rest t e h =
-    let r = reads_again slice left rest t e h in
-    let same = some_same left inside r.inside o r.opens in
-    none r.means (subst (λ (z : Text). IsPath (raw_in z) r.means) (sym same) r.path)
-
-pub not_names : (left inside : Text) (means : Reference) → behind_open left ≡ Some inside → IsPath (raw_in inside) means → (IsNames means → ⊥) → NoTag left
-not_names left inside means o path none slice rest t e h =
-    let r = reads_again slice left rest t e h in
-    let same = some_same left inside r.inside o r.opens in
-    let one = one_meaning (raw_in inside) means r.means path (subst (λ (z : Text). IsPath (raw_in z) r.means) (sym same) r.path) in
-    none (subst IsNames (sym one) r.names)
-
--- ---- at most one tag
 
 pub right_same : (a b x y : Text) → a ++ x ≡ b ++ y → x ≡ y → a ≡ b
 right_same a b x y e same =
     let long : length a ≡ length b = omega (arith, ap length e, length-append a x, length-append b y, ap length same) in
     sym (take_at a x (length b) long) ∙ ap (take (length b)) e ∙ take_at b y (length b) refl
+
+-- a tag in front is read so
+pub tag_parts : (slice left rest : Text) (t : Tag) → left ≡ slice ++ rest → IsTag slice t → TagParts left t rest
+unfolding dark
+tag_parts slice left rest t e (an_expression {means = means} x) =
+    let follow : Text = x.behind ++ (right_brace ∷ right_brace ∷ rest) in
+    let inside : Text = x.before ++ (x.path ++ follow) in
+    let whole : left ≡ left_brace ∷ left_brace ∷ inside = e ∙ ap (λ (z : Text). z ++ rest) x.spells ∙ ap (λ (z : Text). left_brace ∷ left_brace ∷ z) (regroup x.before x.path x.behind rest) in
+    let start : behind_white inside ≡ x.path ++ follow = behind_white-append x.before (x.path ++ follow) x.white_before (path_dark x.path follow means x.is_path) in
+    let path : path_at (x.path ++ follow) ≡ Some (means, follow) = path_at-stops x.path follow means x.is_path (more_stops x.behind rest x.white_behind) in
+    let raw : raw_of means ≡ x.path = sym (right_same x.path (raw_of means) follow follow (path_at-some (x.path ++ follow) (means, follow) path).whole refl) in
+    record {
+      inside = inside;
+      opens = ap behind_open whole ∙ opened inside;
+      means = means;
+      more = follow;
+      path = ap path_at start ∙ path;
+      closes = ap behind_close (behind_white-append x.behind (right_brace ∷ right_brace ∷ rest) x.white_behind refl) ∙ closed rest;
+      no_else = λ is. x.no_else (sym raw ∙ is);
+      names = x.names;
+      is = refl;
+    }
+
+-- what is read so is a tag in front
+pub parts_tag : (left inside more rest : Text) (means : Reference) → behind_open left ≡ Some inside → path_at (behind_white inside) ≡ Some (means, more)
+    → behind_close (behind_white more) ≡ Some rest → raw_of means ≢ codes "else" → IsNames means → Follows left (expression_tag means) rest
+parts_tag left inside more rest means o p c no_else names =
+    let front = skips inside in
+    let back = skips more in
+    let path = path_at-some (behind_white inside) (means, more) p in
+    let ends : more ≡ back.white ++ (right_brace ∷ right_brace ∷ rest) = back.whole ∙ ap (λ (z : Text). back.white ++ z) (behind_close-some _ rest c) in
+    let all : inside ≡ front.white ++ (raw_of means ++ (back.white ++ (right_brace ∷ right_brace ∷ rest))) = front.whole ∙ ap (λ (z : Text). front.white ++ z) (path.whole ∙ ap (λ (z : Text). raw_of means ++ z) ends) in
+    record {
+      slice = left_brace ∷ left_brace ∷ (front.white ++ (raw_of means ++ (back.white ++ right_brace ∷ right_brace ∷ [])));
+      whole = behind_open-some left inside o ∙ ap (λ (z : Text). left_brace ∷ left_brace ∷ z) (all ∙ sym (regroup front.white (raw_of means) back.white rest));
+      is_tag = an_expression (record {
+        before = front.white;
+        path = raw_of means;
+        behind = back.white;
+        spells = refl;
+        white_before = front.is;
+        white_behind = back.is;
+        is_path = path.path;
+        names = names;
+        no_else = no_else;
+      });
+    }
+
+-- ---- where none is read, none stands
+
+pub no_tag-open : (left : Text) → behind_open left ≡ None → NoTag left
+no_tag-open left none slice rest t e h = let r = tag_parts slice left rest t e h in none-some r.inside (sym none ∙ r.opens)
+
+path_again : (left inside : Text) (x y : Option (Reference × Text)) (i : Text) → behind_open left ≡ Some inside → behind_open left ≡ Some i → path_at (behind_white inside) ≡ x → path_at (behind_white i) ≡ y → x ≡ y
+path_again left inside x y i o p e h = sym e ∙ ap (λ (z : Text). path_at (behind_white z)) (same_Some inside i (sym o ∙ p)) ∙ h
+
+pub no_tag-path : (left inside : Text) → behind_open left ≡ Some inside → path_at (behind_white inside) ≡ None → NoTag left
+no_tag-path left inside o none slice rest t e h =
+    let r = tag_parts slice left rest t e h in
+    none-some (r.means, r.more) (path_again left inside None (Some (r.means, r.more)) r.inside o r.opens none r.path)
+
+same_path : (left inside more : Text) (means : Reference) {t : Tag} {rest : Text} → behind_open left ≡ Some inside → path_at (behind_white inside) ≡ Some (means, more)
+    → (r : TagParts left t rest) → ◌≡◌ {A = Reference × Text} (means, more) (r.means, r.more)
+same_path left inside more means o p r = same_Some (means, more) (r.means, r.more) (path_again left inside (Some (means, more)) (Some (r.means, r.more)) r.inside o r.opens p r.path)
+
+pub no_tag-close : (left inside more : Text) (means : Reference) → behind_open left ≡ Some inside → path_at (behind_white inside) ≡ Some (means, more)
+    → behind_close (behind_white more) ≡ None → NoTag left
+no_tag-close left inside more means o p none slice rest t e h =
+    let r = tag_parts slice left rest t e h in
+    none-some rest (sym none ∙ ap (λ (q : Reference × Text). behind_close (behind_white q.1)) (same_path left inside more means o p r) ∙ r.closes)
+
+pub no_tag-else : (left inside more : Text) (means : Reference) → behind_open left ≡ Some inside → path_at (behind_white inside) ≡ Some (means, more)
+    → raw_of means ≡ codes "else" → NoTag left
+no_tag-else left inside more means o p is slice rest t e h =
+    let r = tag_parts slice left rest t e h in
+    r.no_else (sym (ap (λ (q : Reference × Text). raw_of q.0) (same_path left inside more means o p r)) ∙ is)
+
+pub no_tag-names : (left inside more : Text) (means : Reference) → behind_open left ≡ Some inside → path_at (behind_white inside) ≡ Some (means, more)
+    → (IsNames means → ⊥) → NoTag left
+no_tag-names left inside more means o p none slice rest t e h =
+    let r = tag_parts slice left rest t e h in
+    none (subst (λ (q : Reference × Text). IsNames q.0) (sym (same_path left inside more means o p r)) r.names)
+
+-- ---- at most one tag
 
 pub record SameTag (slice slice' rest rest' : Text) (t t' : Tag) : Type 0 where
   pub slices : slice ≡ slice'
@@ -225,12 +222,11 @@ pub record SameTag (slice slice' rest rest' : Text) (t t' : Tag) : Type 0 where
 
 pub same_tag : (slice slice' rest rest' : Text) (t t' : Tag) → IsTag slice t → IsTag slice' t' → slice ++ rest ≡ slice' ++ rest' → SameTag slice slice' rest rest' t t'
 same_tag slice slice' rest rest' t t' h h' e =
-    let r = reads_again slice (slice ++ rest) rest t refl h in
-    let q = reads_again slice' (slice ++ rest) rest' t' e h' in
-    let same = some_same (slice ++ rest) r.inside q.inside r.opens q.opens in
-    let rests : rest ≡ rest' = same_Some rest rest' (sym r.closes ∙ ap (λ (z : Text). behind_close (behind_white (more_in z))) same ∙ q.closes) in
-    let one = one_meaning (raw_in r.inside) r.means q.means r.path (subst (λ (z : Text). IsPath (raw_in z) q.means) (sym same) q.path) in
-    record { slices = right_same slice slice' rest rest' e rests; rests = rests; tags = r.is ∙ ap expression_tag one ∙ sym q.is }
+    let r = tag_parts slice (slice ++ rest) rest t refl h in
+    let q = tag_parts slice' (slice ++ rest) rest' t' e h' in
+    let same = same_path (slice ++ rest) r.inside r.more r.means r.opens r.path q in
+    let rests : rest ≡ rest' = same_Some rest rest' (sym r.closes ∙ ap (λ (z : Reference × Text). behind_close (behind_white z.1)) same ∙ q.closes) in
+    record { slices = right_same slice slice' rest rest' e rests; rests = rests; tags = r.is ∙ ap (λ (z : Reference × Text). expression_tag z.0) same ∙ sym q.is }
 
 pub tag_braces : (slice rest : Text) (t : Tag) → IsTag slice t → braces (slice ++ rest) ≡ true
 tag_braces slice rest t (an_expression x) = ap (λ (z : Text). braces (z ++ rest)) x.spells
@@ -246,12 +242,3 @@ white_ascii b h = elim (or_cases (b == 32) _ h) [
     ]
   ]
 ]
-
--- ---- as the code reads
-
-pub raw_is : (inside start raw : Text) → start ≡ behind_white inside → raw ≡ take (reference_len start) start → raw ≡ raw_in inside
-raw_is inside start raw e h = h ∙ ap (λ (z : Text). take (reference_len z) z) e
-
-pub closes_is : (inside start more dark : Text) (o : Option (Text)) → start ≡ behind_white inside → more ≡ drop (reference_len start) start → dark ≡ behind_white more → o ≡ behind_close dark
-    → behind_close (behind_white (more_in inside)) ≡ o
-closes_is inside start more dark o e h d c = sym (c ∙ ap behind_close (d ∙ ap behind_white (h ∙ ap (λ (z : Text). drop (reference_len z) z) e)))

@@ -26,7 +26,7 @@ advance-at-requires-clause-column c = omega (arith, at_fits c.tags.invariant.sca
 
 pub returns-in_default-clause-err : goal.returns-in_default-clause-err
 returns-in_default-clause-err c = λ memory.
-    rw (c.unreadable.ensures.refusal memory) (scan_unreadable c.tags.invariant.scans (nonempty c.tags.front.rest.now c.tags-test.ensures) (rw c.in_default.is at c.in_ok-found.ensures) no_options (place_of c.advance-at.result) c.advance-at.ensures)
+    rw (c.in_ok-unreadable.ensures.refusal memory) (scan_unreadable c.tags.invariant.scans (nonempty c.tags.front.rest.now c.tags-test.ensures) (rw c.in_default.is at c.in_ok-found.ensures) no_options (place_of c.advance-at.result) c.advance-at.ensures)
 
 pub split_at-requires : goal.split_at-requires
 split_at-requires c =
