@@ -41,38 +41,38 @@ pub record Scans (source slice kept left : Text) (at : Place) (es : List Element
   pub elements : es ≡ slice_elements slices
   pub mapping : places ≡ slice_places slices
 
-pub scan_starts : (source slice kept left : Text) → source ≡ slice ++ left → IsText left slice kept → Scans source slice kept left origin [] []
-scan_starts source slice kept left e h = record { before = []; slices = []; begins = starts; parts = e; is_text = h; utf8 = IsUtf8-nil; there = sym (ap (fold behind_char origin) chars-nil); elements = refl; mapping = refl }
+pub Scans-start : (source slice kept left : Text) → source ≡ slice ++ left → IsText left slice kept → Scans source slice kept left origin [] []
+Scans-start source slice kept left e h = record { before = []; slices = []; begins = starts; parts = e; is_text = h; utf8 = IsUtf8-nil; there = sym (ap (fold behind_char origin) chars-nil); elements = refl; mapping = refl }
 
-place_at : {source slice kept left : Text} {at : Place} {es : List Element} {places : List Place} → (h : Scans source slice kept left at es places) → behind at slice ≡ place (h.before ++ slice)
-place_at {slice = slice} h = ap (λ (p : Place). behind p slice) h.there ∙ sym (behind-append origin h.before slice h.utf8)
+behind-place : {source slice kept left : Text} {at : Place} {es : List Element} {places : List Place} → (h : Scans source slice kept left at es places) → behind at slice ≡ place (h.before ++ slice)
+behind-place {slice = slice} h = ap (λ (p : Place). behind p slice) h.there ∙ sym (behind-append origin h.before slice h.utf8)
 
 -- a text and a tag
 abbrev pub pair_of : Place → Text → Text → Place → Text → Tag → List Slice
 pair_of p text kept q slice t = text_slice p text kept ∷ tag_slice q slice t ∷ []
 
-one_tag : (q : Place) (slice : Text) (t : Tag) (p : Place) (text kept : Text) → slice_elements (pair_of p text kept q slice t) ≡ slice_elements (text_slice p text kept ∷ []) ++ element_of t ∷ []
-one_tag q slice t p [] kept = refl
-one_tag q slice t p (b ∷ text) kept = refl
+slice_elements-pair : (q : Place) (slice : Text) (t : Tag) (p : Place) (text kept : Text) → slice_elements (pair_of p text kept q slice t) ≡ slice_elements (text_slice p text kept ∷ []) ++ element_of t ∷ []
+slice_elements-pair q slice t p [] kept = refl
+slice_elements-pair q slice t p (b ∷ text) kept = refl
 
-one_place : (q : Place) (slice : Text) (t : Tag) (p : Place) (text kept : Text) → slice_places (pair_of p text kept q slice t) ≡ slice_places (text_slice p text kept ∷ []) ++ q ∷ []
-one_place q slice t p [] kept = refl
-one_place q slice t p (b ∷ text) kept = refl
+slice_places-pair : (q : Place) (slice : Text) (t : Tag) (p : Place) (text kept : Text) → slice_places (pair_of p text kept q slice t) ≡ slice_places (text_slice p text kept ∷ []) ++ q ∷ []
+slice_places-pair q slice t p [] kept = refl
+slice_places-pair q slice t p (b ∷ text) kept = refl
 
 regroup : (b s t x y : Text) → b ++ (s ++ (t ++ (x ++ y))) ≡ (b ++ (s ++ t)) ++ (x ++ y)
 regroup b s t x y = sym (simp append_assoc)
 
-utf8_three : (b s t : Text) → IsUtf8 b → IsUtf8 s → IsUtf8 t → IsUtf8 (b ++ (s ++ t))
-utf8_three b s t x y z = IsUtf8-append b (s ++ t) x (IsUtf8-append s t y z)
+IsUtf8-three : (b s t : Text) → IsUtf8 b → IsUtf8 s → IsUtf8 t → IsUtf8 (b ++ (s ++ t))
+IsUtf8-three b s t x y z = IsUtf8-append b (s ++ t) x (IsUtf8-append s t y z)
 
 -- one turn: the text, the tag behind it, and the next text
-pub scan_goes : {source slice kept left : Text} {at : Place} {es : List Element} {places : List Place} → (h : Scans source slice kept left at es places)
+pub Scans-tag : {source slice kept left : Text} {at : Place} {es : List Element} {places : List Place} → (h : Scans source slice kept left at es places)
     → (t : Tag) (spelled rest x k y : Text) → left ≡ spelled ++ rest → IsTag spelled t → rest ≡ x ++ y → IsText y x k → IsUtf8 slice → IsUtf8 spelled
     → (q : Place) → q ≡ behind at slice
     → Scans source x k y (behind q spelled) ((es ++ slice_elements (text_slice at slice kept ∷ [])) ++ element_of t ∷ []) ((places ++ slice_places (text_slice at slice kept ∷ [])) ++ q ∷ [])
-scan_goes {source} {slice} {kept} {left} {at} {es} {places} h t spelled rest x k y is fits cut words u v q qe =
+Scans-tag {source} {slice} {kept} {left} {at} {es} {places} h t spelled rest x k y is fits cut words u v q qe =
     let b : Text = h.before in
-    let q2 : q ≡ place (b ++ slice) = qe ∙ place_at h in
+    let q2 : q ≡ place (b ++ slice) = qe ∙ behind-place h in
     let new : List Slice = pair_of (place b) slice kept (place (b ++ slice)) spelled t in
     let begins : Reads source (b ++ (slice ++ spelled)) (h.slices ++ new) = goes_on h.begins (record {
       text = slice;
@@ -91,23 +91,23 @@ scan_goes {source} {slice} {kept} {left} {at} {es} {places} h t spelled rest x k
       begins = begins;
       parts = h.parts ∙ ap (λ (z : Text). b ++ (slice ++ z)) (is ∙ ap (λ (z : Text). spelled ++ z) cut) ∙ regroup b slice spelled x y;
       is_text = words;
-      utf8 = utf8_three b slice spelled h.utf8 u v;
+      utf8 = IsUtf8-three b slice spelled h.utf8 u v;
       there = ap (λ (p : Place). behind p spelled) q2 ∙ sym (behind-append origin (b ++ slice) spelled (IsUtf8-append b slice h.utf8 u)) ∙ ap place (append_assoc b slice spelled);
-      elements = append_assoc es _ _ ∙ ap (λ (z : List Element). z ++ (slice_elements (text_slice at slice kept ∷ []) ++ element_of t ∷ [])) h.elements ∙ ap (λ (p : Slice). slice_elements h.slices ++ (slice_elements (p ∷ []) ++ element_of t ∷ [])) here ∙ ap (λ (z : List Element). slice_elements h.slices ++ z) (sym (one_tag (place (b ++ slice)) spelled t (place b) slice kept)) ∙ sym (slice_elements-append h.slices new);
-      mapping = append_assoc places _ _ ∙ ap (λ (z : List Place). z ++ (slice_places (text_slice at slice kept ∷ []) ++ q ∷ [])) h.mapping ∙ ap (λ (p : Slice). slice_places h.slices ++ (slice_places (p ∷ []) ++ q ∷ [])) here ∙ ap (λ (p : Place). slice_places h.slices ++ (slice_places (text_slice (place b) slice kept ∷ []) ++ p ∷ [])) q2 ∙ ap (λ (z : List Place). slice_places h.slices ++ z) (sym (one_place (place (b ++ slice)) spelled t (place b) slice kept)) ∙ sym (slice_places-append h.slices new);
+      elements = append_assoc es _ _ ∙ ap (λ (z : List Element). z ++ (slice_elements (text_slice at slice kept ∷ []) ++ element_of t ∷ [])) h.elements ∙ ap (λ (p : Slice). slice_elements h.slices ++ (slice_elements (p ∷ []) ++ element_of t ∷ [])) here ∙ ap (λ (z : List Element). slice_elements h.slices ++ z) (sym (slice_elements-pair (place (b ++ slice)) spelled t (place b) slice kept)) ∙ sym (slice_elements-append h.slices new);
+      mapping = append_assoc places _ _ ∙ ap (λ (z : List Place). z ++ (slice_places (text_slice at slice kept ∷ []) ++ q ∷ [])) h.mapping ∙ ap (λ (p : Slice). slice_places h.slices ++ (slice_places (p ∷ []) ++ q ∷ [])) here ∙ ap (λ (p : Place). slice_places h.slices ++ (slice_places (text_slice (place b) slice kept ∷ []) ++ p ∷ [])) q2 ∙ ap (λ (z : List Place). slice_places h.slices ++ z) (sym (slice_places-pair (place (b ++ slice)) spelled t (place b) slice kept)) ∙ sym (slice_places-append h.slices new);
     }
 
 -- a text that something follows is followed by braces
-some_left : {left slice kept : Text} → IsText left slice kept → 0 < length left → braces left ≡ true
-some_left (at_end over) lt = absurd (omega (arith, ap length over))
-some_left (at_tag run marks more) lt = marks
-some_left (a_byte b clear h) lt = some_left h lt
-some_left (two_escaped clear h) lt = some_left h lt
-some_left (four_escaped h) lt = some_left h lt
+IsText-some : {left slice kept : Text} → IsText left slice kept → 0 < length left → braces left ≡ true
+IsText-some (at_end over) lt = absurd (omega (arith, ap length over))
+IsText-some (at_tag run marks more) lt = marks
+IsText-some (a_byte b clear h) lt = IsText-some h lt
+IsText-some (two_escaped clear h) lt = IsText-some h lt
+IsText-some (four_escaped h) lt = IsText-some h lt
 
-pub scan_unreadable : {source slice kept left : Text} {at : Place} {es : List Element} {places : List Place} → Scans source slice kept left at es places → 0 < length left → NoTag left
+pub Compiles-unreadable : {source slice kept left : Text} {at : Place} {es : List Element} {places : List Place} → Scans source slice kept left at es places → 0 < length left → NoTag left
     → (options : Options) (q : Place) → q ≡ behind at slice → Compiles source options (refused (unreadable options q))
-scan_unreadable {source} {slice} {kept} {left} h lt none options q qe = subst (λ (p : Place). Compiles source options (refused (unreadable options p))) (sym (qe ∙ place_at h)) (no_tag (record {
+Compiles-unreadable {source} {slice} {kept} {left} h lt none options q qe = subst (λ (p : Place). Compiles source options (refused (unreadable options p))) (sym (qe ∙ behind-place h)) (no_tag (record {
   before = h.before;
   slices = h.slices;
   begins = h.begins;
@@ -116,14 +116,14 @@ scan_unreadable {source} {slice} {kept} {left} h lt none options q qe = subst (�
   left = left;
   whole = h.parts;
   is_text = h.is_text;
-  marks = some_left h.is_text lt;
+  marks = IsText-some h.is_text lt;
   none = none;
   there = refl;
 }))
 
-pub scan_ends : {source slice kept left : Text} {at : Place} {es : List Element} {places : List Place} → (h : Scans source slice kept left at es places) → length left ≡ 0
+pub Compiles-end : {source slice kept left : Text} {at : Place} {es : List Element} {places : List Place} → (h : Scans source slice kept left at es places) → length left ≡ 0
     → (options : Options) → Compiles source options (compiled (tree_of options (h.slices ++ text_slice at slice kept ∷ [])))
-scan_ends {source} {slice} {kept} {left} {at} h over options =
+Compiles-end {source} {slice} {kept} {left} {at} h over options =
     let none : left ≡ [] = nil_from_length left over in
     whole (record {
       before = h.before;
@@ -137,42 +137,42 @@ scan_ends {source} {slice} {kept} {left} {at} h over options =
     })
 
 -- the tree's elements and their places, as the code has them
-pub end_elements : {source slice kept left : Text} {at : Place} {es : List Element} {places : List Place} → (h : Scans source slice kept left at es places) → slice_elements (h.slices ++ text_slice at slice kept ∷ []) ≡ es ++ slice_elements (text_slice at slice kept ∷ [])
-end_elements {slice = slice} {kept = kept} {at = at} h = slice_elements-append h.slices (text_slice at slice kept ∷ []) ∙ ap (λ (z : List Element). z ++ slice_elements (text_slice at slice kept ∷ [])) (sym h.elements)
+pub slice_elements-end : {source slice kept left : Text} {at : Place} {es : List Element} {places : List Place} → (h : Scans source slice kept left at es places) → slice_elements (h.slices ++ text_slice at slice kept ∷ []) ≡ es ++ slice_elements (text_slice at slice kept ∷ [])
+slice_elements-end {slice = slice} {kept = kept} {at = at} h = slice_elements-append h.slices (text_slice at slice kept ∷ []) ∙ ap (λ (z : List Element). z ++ slice_elements (text_slice at slice kept ∷ [])) (sym h.elements)
 
-pub end_places : {source slice kept left : Text} {at : Place} {es : List Element} {places : List Place} → (h : Scans source slice kept left at es places) → slice_places (h.slices ++ text_slice at slice kept ∷ []) ≡ places ++ slice_places (text_slice at slice kept ∷ [])
-end_places {slice = slice} {kept = kept} {at = at} h = slice_places-append h.slices (text_slice at slice kept ∷ []) ∙ ap (λ (z : List Place). z ++ slice_places (text_slice at slice kept ∷ [])) (sym h.mapping)
+pub slice_places-end : {source slice kept left : Text} {at : Place} {es : List Element} {places : List Place} → (h : Scans source slice kept left at es places) → slice_places (h.slices ++ text_slice at slice kept ∷ []) ≡ places ++ slice_places (text_slice at slice kept ∷ [])
+slice_places-end {slice = slice} {kept = kept} {at = at} h = slice_places-append h.slices (text_slice at slice kept ∷ []) ∙ ap (λ (z : List Place). z ++ slice_places (text_slice at slice kept ∷ [])) (sym h.mapping)
 
 -- ---- lines and columns fit
 
-char_bound : (p : Place) (c : ℕ) → ((behind_char p c).line ≤ p.line + 1) × ((behind_char p c).column ≤ p.column + 1)
-char_bound p c = elim (cases_Bool (c == 10)) [
+behind_char-bound : (p : Place) (c : ℕ) → ((behind_char p c).line ≤ p.line + 1) × ((behind_char p c).column ≤ p.column + 1)
+behind_char-bound p c = elim (cases_Bool (c == 10)) [
   | inl is ↦ rw is (omega arith, omega arith)
   | inr isnt ↦ rw isnt (omega arith, omega arith)
 ]
 
-bounded : (cs : Text) (p : Place) → ((fold behind_char p cs).line ≤ p.line + length cs) × ((fold behind_char p cs).column ≤ p.column + 1 + length cs)
-bounded [] p = (omega arith, omega arith)
-bounded (c ∷ cs) p = let r = bounded cs (behind_char p c) in let s = char_bound p c in (omega (arith, r.0, s.0), omega (arith, r.1, s.1))
+fold-bound : (cs : Text) (p : Place) → ((fold behind_char p cs).line ≤ p.line + length cs) × ((fold behind_char p cs).column ≤ p.column + 1 + length cs)
+fold-bound [] p = (omega arith, omega arith)
+fold-bound (c ∷ cs) p = let r = fold-bound cs (behind_char p c) in let s = behind_char-bound p c in (omega (arith, r.0, s.0), omega (arith, r.1, s.1))
 
-place_fits : (before : Text) → IsUtf8 before → ((place before).line ≤ 1 + length before) × ((place before).column ≤ 2 + length before)
-place_fits before h =
+place-bound : (before : Text) → IsUtf8 before → ((place before).line ≤ 1 + length before) × ((place before).column ≤ 2 + length before)
+place-bound before h =
     let short : length (chars before) ≤ length before = omega (arith, length-le-encodes (chars before), ap length (encodes-chars before h)) in
-    let r = bounded (chars before) origin in
+    let r = fold-bound (chars before) origin in
     (omega (arith, r.0), omega (arith, r.1))
 
-pub at_fits : {source slice kept left : Text} {at : Place} {es : List Element} {places : List Place} → Scans source slice kept left at es places → (at.line + length slice ≤ 1 + length source) × (at.column + length slice ≤ 2 + length source)
-at_fits {source} {slice} {kept} {left} {at} h =
-    let r = place_fits h.before h.utf8 in
+pub Scans-fits : {source slice kept left : Text} {at : Place} {es : List Element} {places : List Place} → Scans source slice kept left at es places → (at.line + length slice ≤ 1 + length source) × (at.column + length slice ≤ 2 + length source)
+Scans-fits {source} {slice} {kept} {left} {at} h =
+    let r = place-bound h.before h.utf8 in
     let line : at.line ≡ (place h.before).line = ap (λ (p : Place). p.line) h.there in
     let column : at.column ≡ (place h.before).column = ap (λ (p : Place). p.column) h.there in
     let long : length source ≡ length h.before + (length slice + length left) = omega (arith, ap length h.parts, length-append h.before (slice ++ left), length-append slice left) in
     (omega (arith, r.0), omega (arith, r.1))
 
-pub there_fits : {source slice kept left : Text} {at : Place} {es : List Element} {places : List Place} → Scans source slice kept left at es places → IsUtf8 slice → (q : Place) → q ≡ behind at slice → (k : ℕ) → k ≤ length left → (q.line + k ≤ 1 + length source) × (q.column + k ≤ 2 + length source)
-there_fits {source} {slice} {kept} {left} {at} h u q is k le =
-    let r = place_fits (h.before ++ slice) (IsUtf8-append h.before slice h.utf8 u) in
-    let same : q ≡ place (h.before ++ slice) = is ∙ place_at h in
+pub Scans-fits_behind : {source slice kept left : Text} {at : Place} {es : List Element} {places : List Place} → Scans source slice kept left at es places → IsUtf8 slice → (q : Place) → q ≡ behind at slice → (k : ℕ) → k ≤ length left → (q.line + k ≤ 1 + length source) × (q.column + k ≤ 2 + length source)
+Scans-fits_behind {source} {slice} {kept} {left} {at} h u q is k le =
+    let r = place-bound (h.before ++ slice) (IsUtf8-append h.before slice h.utf8 u) in
+    let same : q ≡ place (h.before ++ slice) = is ∙ behind-place h in
     let line : q.line ≡ (place (h.before ++ slice)).line = ap (λ (p : Place). p.line) same in
     let column : q.column ≡ (place (h.before ++ slice)).column = ap (λ (p : Place). p.column) same in
     let front : length (h.before ++ slice) ≡ length h.before + length slice = length-append h.before slice in
@@ -181,32 +181,32 @@ there_fits {source} {slice} {kept} {left} {at} h u q is k le =
 
 -- ---- the tag's slice, as it is split off
 
-seam : (left s rest : Text) → left ≡ s ++ rest → length left - length rest ≡ length s
-seam left s rest e = omega (arith, ap length e, length-append s rest)
+length-seam : (left s rest : Text) → left ≡ s ++ rest → length left - length rest ≡ length s
+length-seam left s rest e = omega (arith, ap length e, length-append s rest)
 
-pub front_is : (left s rest : Text) → left ≡ s ++ rest → take (length left - length rest) left ≡ s
-front_is left s rest e = rw (seam left s rest e, e) (take_at s rest (length s) refl)
+pub take-seam : (left s rest : Text) → left ≡ s ++ rest → take (length left - length rest) left ≡ s
+take-seam left s rest e = rw (length-seam left s rest e, e) (take_at s rest (length s) refl)
 
-pub seam_boundary : (left s rest : Text) → left ≡ s ++ rest → IsUtf8 rest → IsCharBoundary left (length left - length rest)
-seam_boundary left s rest e u = rw (seam left s rest e) (IsCharBoundary-at_seam left s rest e u)
+pub IsCharBoundary-seam : (left s rest : Text) → left ≡ s ++ rest → IsUtf8 rest → IsCharBoundary left (length left - length rest)
+IsCharBoundary-seam left s rest e u = rw (length-seam left s rest e) (IsCharBoundary-at_seam left s rest e u)
 
-pub front_utf8 : (left s rest : Text) → left ≡ s ++ rest → IsUtf8 left → IsUtf8 rest → IsUtf8 s
-front_utf8 left s rest e u v = subst IsUtf8 (front_is left s rest e) (IsUtf8-take left (length left - length rest) u (seam_boundary left s rest e v))
+pub IsUtf8-front : (left s rest : Text) → left ≡ s ++ rest → IsUtf8 left → IsUtf8 rest → IsUtf8 s
+IsUtf8-front left s rest e u v = subst IsUtf8 (take-seam left s rest e) (IsUtf8-take left (length left - length rest) u (IsCharBoundary-seam left s rest e v))
 
 -- ---- in the code's own values
 
-pub step_at : {source slice kept left : Text} {at : Place} {es : List Element} {places : List Place} → (h : Scans source slice kept left at es places)
+pub Scans-step : {source slice kept left : Text} {at : Place} {es : List Element} {places : List Place} → (h : Scans source slice kept left at es places)
     → (t : Tag) (spelled rest x k y : Text) → left ≡ spelled ++ rest → IsTag spelled t → rest ≡ x ++ y → IsText y x k → IsUtf8 slice → IsUtf8 spelled
     → (q : Place) → q ≡ behind at slice → (next : Place) (split : Text) → split ≡ spelled → next ≡ behind q split
     → (mid last : List Element) → mid ≡ es ++ slice_elements (text_slice at slice kept ∷ []) → last ≡ mid ++ element_of t ∷ []
     → (here there : List Place) → here ≡ places ++ slice_places (text_slice at slice kept ∷ []) → there ≡ here ++ q ∷ []
     → Scans source x k y next last there
-step_at h t spelled rest x k y is fits cut words u v q qe next split se ne mid last me le here there he te = rw (ne, se, le, me, te, he) (scan_goes h t spelled rest x k y is fits cut words u v q qe)
+Scans-step h t spelled rest x k y is fits cut words u v q qe next split se ne mid last me le here there he te = rw (ne, se, le, me, te, he) (Scans-tag h t spelled rest x k y is fits cut words u v q qe)
 
-tag_long : (slice : Text) (t : Tag) → IsTag slice t → 0 < length slice
-tag_long slice t (an_expression x) = omega (arith, ap length x.spells)
+length-tag : (slice : Text) (t : Tag) → IsTag slice t → 0 < length slice
+length-tag slice t (an_expression x) = omega (arith, ap length x.spells)
 
-pub shorter : (left spelled rest x y : Text) (t : Tag) → left ≡ spelled ++ rest → IsTag spelled t → rest ≡ x ++ y → length y < length left
-shorter left spelled rest x y t is fits cut =
-    let some = tag_long spelled t fits in
+pub length-rest : (left spelled rest x y : Text) (t : Tag) → left ≡ spelled ++ rest → IsTag spelled t → rest ≡ x ++ y → length y < length left
+length-rest left spelled rest x y t is fits cut =
+    let some = length-tag spelled t fits in
     omega (arith, ap length is, length-append spelled rest, ap length cut, length-append x y)

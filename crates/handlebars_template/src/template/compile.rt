@@ -1,11 +1,11 @@
 //! From a source to its tree.
 
-ghost use Rattle.std.specs.Prelude.{◌≡◌, ◌≢◌, ◌++◌, ◌∷◌, [], IfOk, IfErr, OnOk, IsSome, List, ℕ, map, string_bytes, false};
+ghost use Rattle.std.specs.Prelude.{◌≡◌, ◌≢◌, ◌++◌, ◌∷◌, [], IfOk, IfErr, OnOk, IsSome, map, string_bytes, false};
 ghost use Rattle.handlebars_base.specs.Reasons.{template_out_of_memory};
 ghost use Rattle.handlebars_base.specs.TemplateRefusals.{template_refusal_of, shown_lines};
 ghost use Rattle.handlebars_base.specs.PathView.{reference_of};
 ghost use Rattle.handlebars_template.specs.Tag.{expression_tag};
-ghost use Rattle.handlebars_template.specs.Cut.{text_slice, tag_slice};
+ghost use Rattle.handlebars_template.specs.Cut.{text_slice};
 ghost use Rattle.handlebars_template.specs.Compile.{Compiles, compiled, refused, no_options, unreadable, value_call, element_of, slice_elements, slice_places};
 ghost use Rattle.handlebars_template.specs.TreeView.{tree_view, call_view, element_view, place_of, text};
 
@@ -39,7 +39,7 @@ impl Template {
             let left = front.rest;
             let at = advance(place, front.slice);
             let Some(found) = tag(alloc, left)? else {
-                return Err(unreadable(alloc, source, at));
+                return Err(unreadable(alloc, source, at)?);
             };
             tree.add_text(place, front)?;
             tree.add_expression(alloc, at, found.path)?;
@@ -114,22 +114,7 @@ fn value_call(alloc: Global, path: Path) -> HelperTemplate
 }
 
 // The refusal of a tag that doesn't read.
-fn unreadable(alloc: Global, source: &str, at: TemplateMapping) -> TemplateError
-    ensures refusal { (template_refusal_of result).reason ≢ template_out_of_memory
-        → template_refusal_of result ≡ unreadable no_options (place_of at) }
-    ensures shown { (template_refusal_of result).reason ≢ template_out_of_memory → IsSome (shown_lines result) }
-{
-    match unreadable_in(alloc, source, at) {
-        Ok(error) => error,
-        Err(AllocError) => TemplateError::of(TemplateErrorReason::OutOfMemory),
-    }
-}
-
-fn unreadable_in(
-    alloc: Global,
-    source: &str,
-    at: TemplateMapping,
-) -> Result<TemplateError, AllocError>
+fn unreadable(alloc: Global, source: &str, at: TemplateMapping) -> Result<TemplateError, AllocError>
     ensures refusal { IfOk result (λ e. (template_refusal_of e).reason ≢ template_out_of_memory
         → template_refusal_of e ≡ unreadable no_options (place_of at)) }
     ensures shown { IfOk result (λ e. (template_refusal_of e).reason ≢ template_out_of_memory → IsSome (shown_lines e)) }

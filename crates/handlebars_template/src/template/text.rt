@@ -1,6 +1,6 @@
 //! Texts: what a source holds up to the next tag, and what is kept of it.
 
-ghost use Rattle.std.specs.Prelude.{◌≡◌, ◌≢◌, ◌+◌, ◌-◌, ◌<◌, ◌≤◌, ◌++◌, [], IfOk, length, take, drop, slice_index, string_bytes, true, false};
+ghost use Rattle.std.specs.Prelude.{◌≡◌, ◌≢◌, ◌+◌, ◌-◌, ◌<◌, ◌≤◌, ◌++◌, IfOk, length, take, drop, slice_index, string_bytes, true, false};
 ghost use Rattle.handlebars_template.specs.Text.{IsText, backslashes, braces, before_braces};
 ghost use Rattle.handlebars_template.specs.TextReading.{GoesOn, Ends, clear_len, escaped_len};
 

@@ -1,21 +1,21 @@
 use Rattle.std.proofs.Common.{◌≡◌, ◌∙◌, ap, sym, drop}
 use Rattle.handlebars_template.specs.Text.{backslashes}
 use Rattle.handlebars_template.specs.TextReading.{clear_len}
-use Rattle.handlebars_template.proofs.Texts.{clear_boundary, clear_front, clear_last}
+use Rattle.handlebars_template.proofs.Texts.{IsCharBoundary-clear_len, GoesOn-clear, Ends-clear}
 use Rattle.handlebars_template.proofs.template.text.next_chunk.Goals as goal
 
 pub split_at-requires : goal.split_at-requires
-split_at-requires c = rw (c.clear_len.ensures, c.as_bytes.ensures.value) (clear_boundary c.args.source.now)
+split_at-requires c = rw (c.clear_len.ensures, c.as_bytes.ensures.value) (IsCharBoundary-clear_len c.args.source.now)
 
 pub returns-then-run-eq0-clause-last : goal.returns-then-run-eq0-clause-last
 returns-then-run-eq0-clause-last c = λ _.
     let t = c.args.source.now in
     let len : c.clear_len.result ≡ clear_len t = c.clear_len.ensures ∙ ap clear_len c.as_bytes.ensures.value in
     let behind : c.as_bytes-2.result.now ≡ drop (clear_len t) t = c.as_bytes-2.ensures.value ∙ c.split_at.ensures.back ∙ rw len in
-    rw (c.split_at.ensures.front, c.split_at.ensures.back, len) (clear_last t (ap backslashes (sym behind) ∙ sym c.backslashes-run.ensures ∙ c.if-run-eq0.true))
+    rw (c.split_at.ensures.front, c.split_at.ensures.back, len) (Ends-clear t (ap backslashes (sym behind) ∙ sym c.backslashes-run.ensures ∙ c.if-run-eq0.true))
 
 pub returns-else-is_empty-clause-on : goal.returns-else-is_empty-clause-on
 returns-else-is_empty-clause-on c = λ _.
     let t = c.args.source.now in
     let len : c.clear_len.result ≡ clear_len t = c.clear_len.ensures ∙ ap clear_len c.as_bytes.ensures.value in
-    rw (c.split_at.ensures.front, c.split_at.ensures.back, len) (clear_front t)
+    rw (c.split_at.ensures.front, c.split_at.ensures.back, len) (GoesOn-clear t)
