@@ -4,7 +4,7 @@ use Rattle.std.specs.Prelude.{◌==◌, ◌||◌, replicate}
 use Rattle.std.specs.List.{prefix_len, AllByRecursion}
 use Rattle.std.proofs.lemmas.Bool.{eqb-true, cases_Bool, or_parts, or_cases, not-true, not-false}
 use Rattle.std.proofs.lemmas.List.{take-append-drop, append-nil, take_at, drop_at, length-drop, nil_from_length}
-use Rattle.handlebars_base.proofs.PathParts.{prefix_pass}
+use Rattle.handlebars_base.proofs.PathMarks.{prefix_pass}
 use Rattle.std.specs.Str.{IsCharBoundary, IsUtf8}
 use Rattle.std.proofs.lemmas.Str.{IsCharBoundary-at_seam}
 use Rattle.std.proofs.lemmas.List.Sums.{prefix_len-le-length, prefix_len_stops}

@@ -11,8 +11,8 @@ use crate::error::{RenderError, RenderErrorReason};
 use std::alloc::{AllocError, Global};
 
 mod front;
-mod reading;
-mod scan;
+mod links;
+mod marks;
 mod start;
 
 pub use front::{PathFront, PathSlice, read_front, reference_len, split_path, split_reference};

@@ -7,7 +7,7 @@ ghost use Rattle.handlebars_base.specs.PathView.{front_of, slice_of};
 ghost use Rattle.handlebars_base.specs.PathReading.{is_reference_byte, reference_len, IsLeft, path_at, slice_at};
 
 use super::Path;
-use super::scan::is_symbol;
+use super::marks::is_symbol;
 use super::start::{behind_start, path, segments, start_at};
 use std::alloc::{AllocError, Global};
 

@@ -3,7 +3,7 @@ use Rattle.handlebars_base.specs.Bytes.{Text}
 use Rattle.handlebars_base.specs.Path.{Link, link_segments}
 use Rattle.handlebars_base.specs.PathView.{segments_of}
 use Rattle.handlebars_base.proofs.PathLinks.{loop-none, loop-shorter, loop-rest, loop-segments}
-use Rattle.handlebars_base.proofs.json.path.reading.push_links.Goals as goal
+use Rattle.handlebars_base.proofs.json.path.links.push_links.Goals as goal
 
 pub loop-found-smaller : goal.loop-found-smaller
 loop-found-smaller c = loop-shorter c.loop-found.before_up c.loop-found.rest.now _ c.in-Some.behind.now c.in-Some.ensures

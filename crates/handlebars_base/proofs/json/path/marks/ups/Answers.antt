@@ -1,6 +1,6 @@
 use Rattle.std.proofs.Common.{arith, rules, sym, ◌∙◌}
-use Rattle.handlebars_base.proofs.PathScan.{ups_some, ups_none, after_up_length}
-use Rattle.handlebars_base.proofs.json.path.scan.ups.Goals as goal
+use Rattle.handlebars_base.proofs.PathMarks.{ups_some, ups_none, after_up_length}
+use Rattle.handlebars_base.proofs.json.path.marks.ups.Goals as goal
 
 pub loop-behind-smaller : goal.loop-behind-smaller
 loop-behind-smaller c = omega (arith, after_up_length c.loop-behind.rest.now c.in-Some.behind.now (sym c.in-Some.ensures))

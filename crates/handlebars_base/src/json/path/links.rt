@@ -6,7 +6,7 @@ ghost use Rattle.handlebars_base.specs.Path.{is_dots, part_segments, link_segmen
 ghost use Rattle.handlebars_base.specs.PathView.{segments_of, part_of, found_at};
 ghost use Rattle.handlebars_base.specs.PathReading.{part_at, bracketed_at, plain_at, link_at, part_of_link, links_of};
 
-use super::scan::{after, symbols};
+use super::marks::{after, symbols};
 use super::{PathRule, PathSeg};
 use std::alloc::{AllocError, Global};
 

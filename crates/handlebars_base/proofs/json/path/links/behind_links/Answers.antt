@@ -1,6 +1,6 @@
 use Rattle.std.proofs.Common.{rules, sym, ap, ◌∙◌}
 use Rattle.handlebars_base.proofs.PathLinks.{loop-none, loop-shorter, loop-rest}
-use Rattle.handlebars_base.proofs.json.path.reading.behind_links.Goals as goal
+use Rattle.handlebars_base.proofs.json.path.links.behind_links.Goals as goal
 
 pub loop-found-smaller : goal.loop-found-smaller
 loop-found-smaller c = loop-shorter c.loop-found.before_up c.loop-found.rest.now _ c.in-Some.behind.now c.in-Some.ensures

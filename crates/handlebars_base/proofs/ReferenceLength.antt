@@ -1,13 +1,14 @@
 -- How far a reference goes at the front of a text.
-use Rattle.std.proofs.Common.{◌≡◌, ℕ, zero, suc, ◌+◌, ◌<◌, ◌≤◌, Bool, true, false, List, [], ◌∷◌, length, ltb, get_or, drop, Some, None, refl, ap, arith, inl, inr}
+use Rattle.std.proofs.Common.{◌≡◌, ℕ, zero, suc, ◌+◌, ◌<◌, ◌≤◌, Bool, true, false, List, [], ◌∷◌, length, ltb, get_or, drop, Some, None, refl, sym, ap, ◌∙◌, arith, inl, inr}
 use Rattle.std.specs.Prelude.{◌==◌}
-use Rattle.std.specs.List.{position, position_or_len}
+use Rattle.std.specs.List.{position, position_or_len, prefix_len}
 use Rattle.std.specs.Str.{IsCharBoundary}
-use Rattle.std.proofs.lemmas.Bool.{or_parts, eqb-true, ne_eqb, ltb-true, ltb-false, cases_Bool}
+use Rattle.std.proofs.lemmas.Bool.{or_parts, eqb-true, ne_eqb, ltb-true, ltb-false, cases_Bool, both_ways}
 use Rattle.std.proofs.lemmas.Option.{cond_some}
-use Rattle.handlebars_base.specs.PathReading.{is_reference_byte, one_more, reference_from, reference_len}
+use Rattle.handlebars_base.specs.Path.{is_symbol}
+use Rattle.handlebars_base.specs.PathReading.{after, is_reference_byte, one_more, reference_from, reference_len}
 use Rattle.handlebars_base.proofs.OptionBinds.{cond_none}
-use Rattle.handlebars_base.proofs.PathScan.{no_symbol_ascii}
+use Rattle.handlebars_base.proofs.PathMarks.{no_symbol_ascii}
 
 -- ---- in brackets
 
@@ -150,3 +151,35 @@ reference_len_boundary t = (
       let small : get_or t (reference_len t) 0 < 128 = from_end false t (λ no. absurd cc) lt in
       absurd (omega arith),
 )
+
+-- ---- where no reference goes on
+
+no_reference : (x : ℕ) (t : List ℕ) → reference_len (x ∷ t) ≡ 0 → (x == 91) ≡ false → is_reference_byte x ≡ false
+unfolding reference_from
+no_reference x t e other =
+    elim (cases_Bool (is_reference_byte x)) [
+      | inl on ↦ absurd (let some : suc (reference_len t) ≡ 0 = rw (other, on) at e in omega arith)
+      | inr stop ↦ stop
+    ]
+
+-- no symbol stands there
+pub prefix_len-end : (t : List ℕ) → reference_len t ≡ 0 → prefix_len is_symbol t ≡ 0
+prefix_len-end [] e = refl
+prefix_len-end (x ∷ t) e =
+    elim (cases_Bool (x == 91)) [
+      | inl opens ↦ let same : x ≡ 91 = eqb-true x 91 opens in rw same refl
+      | inr other ↦ rw ((or_parts (is_symbol x) _ (no_reference x t e other)).0) refl
+    ]
+
+-- and no mark that a reference goes over
+pub after-end : (c : ℕ) (t : List ℕ) → is_reference_byte c ≡ true → (c == 91) ≡ false → reference_len t ≡ 0 → after c t ≡ None
+unfolding after
+after-end c [] on other e = refl
+after-end c (x ∷ t) on other e =
+    elim (cases_Bool (x == c)) [
+      | inl yea ↦
+          let same : x ≡ c = eqb-true x c yea in
+          let no : is_reference_byte c ≡ false = ap is_reference_byte (sym same) ∙ no_reference x t e (ap (λ (b : ℕ). b == 91) same ∙ other) in
+          absurd (both_ways (is_reference_byte c) no on)
+      | inr nay ↦ rw nay refl
+    ]

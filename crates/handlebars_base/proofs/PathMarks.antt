@@ -1,14 +1,49 @@
--- Symbols and `../` at the front of a text.
-use Rattle.std.proofs.Common.{◌≡◌, ℕ, zero, suc, ◌+◌, ◌<◌, false, List, [], ◌∷◌, ◌++◌, length, get_or, Some, None, refl, ap, ◌∙◌, arith}
+-- Marks, runs of symbols and `../` at the front of a text.
+use Rattle.std.proofs.Common.{◌≡◌, ℕ, zero, suc, ◌+◌, ◌<◌, Bool, true, false, List, [], ◌∷◌, ◌++◌, length, get_or, take, Some, None, refl, ap, ◌∙◌, arith, inl, inr}
 use Rattle.std.specs.Prelude.{◌==◌}
-use Rattle.std.specs.List.{prefix_len}
+use Rattle.std.specs.List.{prefix_len, AllByRecursion}
 use Rattle.std.specs.Str.{IsCharBoundary}
-use Rattle.std.proofs.lemmas.Bool.{or_parts, leb-false}
+use Rattle.std.proofs.lemmas.Bool.{or_parts, leb-false, eqb-true, ne_eqb, cases_Bool}
 use Rattle.std.proofs.lemmas.List.Sums.{prefix_len-le-length, prefix_len_stops}
 use Rattle.std.proofs.lemmas.Option.{cond_some}
 use Rattle.handlebars_base.specs.Path.{is_symbol, ups}
-use Rattle.handlebars_base.specs.PathReading.{is_up_mark, after_up, ups_at}
+use Rattle.handlebars_base.specs.PathReading.{after, is_up_mark, after_up, ups_at}
 use Rattle.handlebars_base.proofs.OptionBinds.{cond_none}
+
+-- ---- marks and runs
+
+pub after_takes : (c : ℕ) (t r : List ℕ) → after c t ≡ Some r → t ≡ c ∷ r
+unfolding after
+after_takes c [] r e = absurd cc
+after_takes c (x ∷ xs) r e =
+    let g = cond_some (x == c) xs r e in
+    let same : x ≡ c = eqb-true x c g.0 in
+    let rest = g.1 in
+    cc
+
+-- all of a run passes
+pub prefix_pass : (p : ℕ → Bool) (t : List ℕ) → AllByRecursion (λ b. p b ≡ true) (take (prefix_len p t) t)
+prefix_pass p [] = tt
+prefix_pass p (x ∷ xs) =
+    let more : 1 + prefix_len p xs ≡ suc (prefix_len p xs) = omega arith in
+    elim (cases_Bool (p x)) [
+      | inl passes ↦ rw (passes, more) (passes, prefix_pass p xs)
+      | inr fails ↦ rw fails tt
+    ]
+
+-- a run ends where what follows does not go on with it
+pub prefix_again : (p : ℕ → Bool) (n rest : List ℕ) → AllByRecursion (λ b. p b ≡ true) n → prefix_len p rest ≡ 0 →
+    prefix_len p (n ++ rest) ≡ length n
+prefix_again p [] rest all stop = stop
+prefix_again p (x ∷ xs) rest all stop = rw all.0 (omega (arith, prefix_again p xs rest all.1 stop))
+
+-- what is a symbol is no mark
+pub not_symbol : (x c : ℕ) → is_symbol x ≡ true → is_symbol c ≡ false → (x == c) ≡ false
+not_symbol x c yea nay = ne_eqb x c (λ e. let same : is_symbol x ≡ is_symbol c = ap is_symbol e in absurd cc)
+
+pub after_other : (c x : ℕ) (t : List ℕ) → (x == c) ≡ false → after c (x ∷ t) ≡ None
+unfolding after
+after_other c x t h = rw h refl
 
 -- ---- symbols
 

@@ -4,7 +4,7 @@ use denote.Shadow.{shadow}
 use Rattle.handlebars_base.specs.Path.{link_segments}
 use Rattle.handlebars_base.specs.PathReading.{links_of}
 use Rattle.handlebars_base.specs.PathView.{segments_of}
-use Rattle.handlebars_base.proofs.json.path.reading.push_links.Given as goal
+use Rattle.handlebars_base.proofs.json.path.links.push_links.Given as goal
 
 abbrev pub invariant-loop-found : goal.invariant-loop-found
 invariant-loop-found l =

@@ -10,7 +10,7 @@ use Rattle.handlebars_base.specs.PathReading.{◌>>=◌, Start, here, from_root,
 use Rattle.handlebars_base.specs.Laws.{IsInFront}
 use Rattle.handlebars_base.proofs.OptionBinds.{bind_some, map_some, none_or_some}
 use Rattle.handlebars_base.proofs.PathShapes.{shape_at_takes, shape_at_again, path_known, path_is}
-use Rattle.handlebars_base.proofs.PathFront.{reference_len-le, reference_len_boundary}
+use Rattle.handlebars_base.proofs.ReferenceLength.{reference_len-le, reference_len_boundary}
 use Rattle.handlebars_base.proofs.References.{reference_len-append, reference_len-stops}
 
 -- ---- a path, and what follows it
