@@ -35,7 +35,7 @@ pub enum PathSeg {
     Ruled(PathRule),
 }
 
-/// A path, with the text as raw_of in the last place.
+/// A path, with its text as written in the last place.
 #[derive(Debug, Drop, PartialEq, Eq)]
 pub enum Path {
     /// The way through the data.
@@ -60,7 +60,7 @@ impl Path {
         }
     }
 
-    /// The text as raw_of.
+    /// The text as written.
     pub fn raw(&self) -> &str
         ensures { result.now ≡ raw_of (reference_of self.now) }
     {

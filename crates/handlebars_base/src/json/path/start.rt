@@ -81,7 +81,7 @@ pub fn behind_start<'a>(start: Start<'_>, text: &'a str) -> &'a str
 }
 
 /// The segments of a start and of the links behind it, and what follows these.
-pub fn segments<'a>(
+pub fn start_segments<'a>(
     alloc: Global,
     start: Start<'_>,
     text: &'a str,
@@ -108,7 +108,7 @@ pub fn segments<'a>(
 }
 
 /// The path that starts there, and goes on by these segments.
-pub fn path(
+pub fn path_from(
     alloc: Global,
     start: Start<'_>,
     segs: Vec<PathSeg>,
