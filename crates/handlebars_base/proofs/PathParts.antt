@@ -1,35 +1,15 @@
 -- A part, and a link: what is read is spelled so, and what is spelled so is read.
-use Rattle.std.proofs.Common.{◌≡◌, ◌≢◌, ℕ, suc, ◌+◌, ◌<◌, Bool, true, false, cond, not, ◌||◌, ltb, List, [], ◌∷◌, ◌++◌, length, get_or, take, drop, Some, None, refl, sym, ap, subst, ◌∙◌, append_assoc, arith, ◌⊎◌, inl, inr, length-append}
+use Rattle.std.proofs.Common.{◌≡◌, ◌≢◌, ℕ, ◌+◌, ◌<◌, Bool, true, false, cond, not, ◌||◌, ltb, List, [], ◌∷◌, ◌++◌, length, get_or, drop, Some, None, refl, sym, ap, subst, ◌∙◌, append_assoc, arith, ◌⊎◌, inl, inr, length-append}
 use Rattle.std.specs.Prelude.{◌==◌}
 use Rattle.std.specs.List.{prefix_len, position_or_len, before_first, after_first, AllByRecursion}
-use Rattle.std.proofs.lemmas.Bool.{eqb-true, ltb-true, or_parts, or_cases, and_parts, not-true, not-false, eqb-false, cases_Bool, ne_eqb, lt-ltb}
+use Rattle.std.proofs.lemmas.Bool.{eqb-true, ltb-true, or_parts, or_cases, and_parts, not-true, not-false, eqb-false, ne_eqb, lt-ltb}
 use Rattle.std.proofs.lemmas.Option.{cond_some}
 use Rattle.std.proofs.lemmas.List.{take-append-drop, length-take, take_at, drop_at, nil_from_length}
 use Rattle.std.proofs.lemmas.List.Sums.{prefix_len-le-length, prefix_len_stops, split_at_first}
 use Rattle.handlebars_base.specs.Path.{is_symbol, IsIdentifier, Part, dots, plain, bracketed, spelled_part, IsPart, is_dots, Link, joins}
 use Rattle.handlebars_base.specs.PathReading.{◌>>=◌, with_or, after, symbols_of, behind_symbols, bracketed_at, plain_at, part_at, link_by, slash_link, dot_link, link_at}
 use Rattle.handlebars_base.proofs.OptionBinds.{bind_some, with_or_is, guard_some}
-
--- ---- marks and runs
-
-pub after_takes : (c : ℕ) (t r : List ℕ) → after c t ≡ Some r → t ≡ c ∷ r
-unfolding after
-after_takes c [] r e = absurd cc
-after_takes c (x ∷ xs) r e =
-    let g = cond_some (x == c) xs r e in
-    let same : x ≡ c = eqb-true x c g.0 in
-    let rest = g.1 in
-    cc
-
--- all of a run passes
-pub prefix_pass : (p : ℕ → Bool) (t : List ℕ) → AllByRecursion (λ b. p b ≡ true) (take (prefix_len p t) t)
-prefix_pass p [] = tt
-prefix_pass p (x ∷ xs) =
-    let more : 1 + prefix_len p xs ≡ suc (prefix_len p xs) = omega arith in
-    elim (cases_Bool (p x)) [
-      | inl passes ↦ rw (passes, more) (passes, prefix_pass p xs)
-      | inr fails ↦ rw fails tt
-    ]
+use Rattle.handlebars_base.proofs.PathMarks.{after_takes, after_other, prefix_pass, prefix_again, not_symbol}
 
 -- ---- parts
 
@@ -139,22 +119,6 @@ joins_cases before sep behind h =
           let b = and_parts (not before) (not behind) a.1 in
           inr (eqb-true sep 46 a.0, not-true before b.0, not-true behind b.1)
     ]
-
--- ---- what is spelled so is read: runs and marks
-
--- a run ends where what follows does not go on with it
-pub prefix_again : (p : ℕ → Bool) (n rest : List ℕ) → AllByRecursion (λ b. p b ≡ true) n → prefix_len p rest ≡ 0 →
-    prefix_len p (n ++ rest) ≡ length n
-prefix_again p [] rest all stop = stop
-prefix_again p (x ∷ xs) rest all stop = rw all.0 (omega (arith, prefix_again p xs rest all.1 stop))
-
--- what is a symbol is no mark
-pub not_symbol : (x c : ℕ) → is_symbol x ≡ true → is_symbol c ≡ false → (x == c) ≡ false
-not_symbol x c yea nay = ne_eqb x c (λ e. let same : is_symbol x ≡ is_symbol c = ap is_symbol e in absurd cc)
-
-pub after_other : (c x : ℕ) (t : List ℕ) → (x == c) ≡ false → after c (x ∷ t) ≡ None
-unfolding after
-after_other c x t h = rw h refl
 
 -- ---- what is spelled so is read: parts
 

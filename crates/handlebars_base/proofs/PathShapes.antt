@@ -9,10 +9,11 @@ use Rattle.std.proofs.lemmas.Option.{same_Some, cond_some}
 use Rattle.std.proofs.lemmas.List.{take-append-drop, take_at, drop_at, nil_from_length}
 use Rattle.std.proofs.lemmas.Slice.Eq.{bytes_eq-Decides}
 use Rattle.handlebars_base.specs.Path.{Reference, meaning, IsPath, is_symbol, IsIdentifier, Part, dots, plain, bracketed, spelled_part, IsPart, is_dots, Link, spelled_links, AreLinks, ups, Shape, itself, at_root, at_name, in_parts, spelled, IsShape}
-use Rattle.handlebars_base.specs.PathReading.{◌>>=◌, after, is_up_mark, after_up, ups_at, symbols_of, behind_symbols, part_at, link_at, links_of, Start, here, from_root, from_variable, from_part, is_no_name, named_start, named_at, part_start, dot_start, unnamed_at, start_at, links_behind, is_dotted, shape_from, shape_at, shape_of, path_of, is_reference_byte, reference_from, reference_len}
+use Rattle.handlebars_base.specs.PathReading.{◌>>=◌, after, is_up_mark, after_up, ups_at, symbols_of, behind_symbols, part_at, link_at, links_of, Start, here, from_root, from_variable, from_part, is_no_name, named_start, named_at, part_start, dot_start, unnamed_at, start_at, links_behind, is_dotted, shape_from, shape_at, shape_of, path_of, reference_from, reference_len}
 use Rattle.handlebars_base.proofs.OptionBinds.{bind_some, with_or_is, guard_some, map_some}
-use Rattle.handlebars_base.proofs.PathParts.{after_takes, prefix_pass, prefix_again, not_symbol, after_other, part_takes, part_again}
-use Rattle.handlebars_base.proofs.PathScan.{ups_again, after_up_other}
+use Rattle.handlebars_base.proofs.PathMarks.{after_takes, after_other, prefix_pass, prefix_again, not_symbol, ups_again, after_up_other}
+use Rattle.handlebars_base.proofs.PathParts.{part_takes, part_again}
+use Rattle.handlebars_base.proofs.ReferenceLength.{prefix_len-end, after-end}
 use Rattle.handlebars_base.proofs.PathLinks.{links_of_take, links_stop, links_of_again}
 
 -- ---- what is read is spelled so: the start
@@ -218,43 +219,12 @@ shape_takes t s e =
       fits = taken.fits;
     })
 
--- ---- where no reference goes on
+-- ---- what is spelled so is read
 
-no_reference : (x : ℕ) (t : List ℕ) → reference_len (x ∷ t) ≡ 0 → (x == 91) ≡ false → is_reference_byte x ≡ false
-unfolding reference_from
-no_reference x t e other =
-    elim (cases_Bool (is_reference_byte x)) [
-      | inl on ↦ absurd (let some : suc (reference_len t) ≡ 0 = rw (other, on) at e in omega arith)
-      | inr stop ↦ stop
-    ]
-
--- no symbol stands there
-prefix_len-end : (t : List ℕ) → reference_len t ≡ 0 → prefix_len is_symbol t ≡ 0
-prefix_len-end [] e = refl
-prefix_len-end (x ∷ t) e =
-    elim (cases_Bool (x == 91)) [
-      | inl opens ↦ let same : x ≡ 91 = eqb-true x 91 opens in rw same refl
-      | inr other ↦ rw ((or_parts (is_symbol x) _ (no_reference x t e other)).0) refl
-    ]
-
--- and no mark that a reference goes over
-after-end : (c : ℕ) (t : List ℕ) → is_reference_byte c ≡ true → (c == 91) ≡ false → reference_len t ≡ 0 → after c t ≡ None
-unfolding after
-after-end c [] on other e = refl
-after-end c (x ∷ t) on other e =
-    elim (cases_Bool (x == c)) [
-      | inl yea ↦
-          let same : x ≡ c = eqb-true x c yea in
-          let no : is_reference_byte c ≡ false = ap is_reference_byte (sym same) ∙ no_reference x t e (ap (λ (b : ℕ). b == 91) same ∙ other) in
-          absurd (both_ways (is_reference_byte c) no on)
-      | inr nay ↦ rw nay refl
-    ]
-
+-- no link stands where no reference goes on
 link_at-end : (before : Bool) (t : List ℕ) → reference_len t ≡ 0 → link_at before t ≡ None
 unfolding link_at
 link_at-end before t e = rw (after-end 47 t refl refl e, after-end 46 t refl refl e) refl
-
--- ---- what is spelled so is read
 
 -- links to where no reference goes on
 links_end : (before : Bool) (ss : List Link) (rest : List ℕ) → AreLinks before ss → reference_len rest ≡ 0 →

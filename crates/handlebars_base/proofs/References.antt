@@ -1,12 +1,13 @@
 -- Paths within longer texts: what a path's text is like, and that a front that goes as far as it can ends with it.
-use Rattle.std.proofs.Common.{◌≡◌, ◌≢◌, ℕ, zero, suc, ◌+◌, Bool, true, false, not, ◌||◌, List, [], ◌∷◌, ◌++◌, length, take, drop, refl, sym, ap, subst, ◌∙◌, append_assoc, arith, inl, inr, length-append}
+use Rattle.std.proofs.Common.{◌≡◌, ℕ, zero, suc, ◌+◌, Bool, true, false, not, List, [], ◌∷◌, ◌++◌, length, take, drop, refl, sym, ap, subst, ◌∙◌, append_assoc, arith, inl, inr, length-append}
 use Rattle.std.specs.Prelude.{◌==◌, codes}
-use Rattle.std.specs.List.{prefix_len, AllByRecursion}
-use Rattle.std.proofs.lemmas.Bool.{ne_eqb, not-true, not-false, or_parts}
+use Rattle.std.specs.List.{AllByRecursion}
+use Rattle.std.proofs.lemmas.Bool.{ne_eqb, not-true, or_parts}
 use Rattle.handlebars_base.specs.Path.{Reference, IsPath, is_symbol, IsIdentifier, Part, dots, plain, bracketed, spelled_part, IsPart, is_dots, Link, spelled_links, AreLinks, ups, Shape, itself, at_root, at_name, in_parts, spelled, IsShape}
 use Rattle.handlebars_base.specs.PathReading.{is_reference_byte, starts_reference, stops, reference_from, reference_len}
 use Rattle.std.proofs.lemmas.List.{take_at, drop_at}
-use Rattle.handlebars_base.proofs.PathParts.{joins_cases, not_symbol}
+use Rattle.handlebars_base.proofs.PathParts.{joins_cases}
+use Rattle.handlebars_base.proofs.PathMarks.{not_symbol}
 
 -- ---- a reference goes over the whole of a path
 
@@ -141,31 +142,7 @@ starts_shape (in_parts false p ss) fits = starts_part p (spelled_links ss) fits.
 pub stops-path : (text : List ℕ) (means : Reference) → IsPath text means → stops text ≡ false
 stops-path text means h = ap stops h.spells ∙ starts_shape h.shape h.fits
 
-pub path_not_empty : (text : List ℕ) (means : Reference) → IsPath text means → text ≢ []
-path_not_empty text means h none =
-    let starts : stops [] ≡ false = ap stops (sym none) ∙ stops-path text means h in absurd cc
-
-first_other : (p : ℕ → Bool) (t : List ℕ) → ((b : ℕ) → starts_reference b ≡ true → p b ≡ false) → stops t ≡ false →
-    prefix_len p t ≡ 0
-first_other p [] other starts = refl
-first_other p (x ∷ xs) other starts = rw (other x (not-false (starts_reference x) starts)) refl
-
--- a path begins with none of the bytes that no reference begins with
-pub prefix_len-path : (p : ℕ → Bool) (text : List ℕ) (means : Reference) →
-    ((b : ℕ) → starts_reference b ≡ true → p b ≡ false) → IsPath text means → prefix_len p text ≡ 0
-prefix_len-path p text means other h = first_other p text other (stops-path text means h)
-
 -- one byte that no reference begins with is no other's
 pub starts_other : (c b : ℕ) → starts_reference c ≡ false → starts_reference b ≡ true → (b == c) ≡ false
 starts_other c b never begins =
     ne_eqb b c (λ e. let same : starts_reference b ≡ starts_reference c = ap starts_reference e in absurd cc)
-
-not_white : (b : ℕ) → starts_reference b ≡ true → (b == 32 || (b == 9 || (b == 10 || b == 13))) ≡ false
-not_white b h =
-    rw (starts_other 32 b refl h, starts_other 9 b refl h, starts_other 10 b refl h, starts_other 13 b refl h) refl
-
--- a space, a tab, a line feed or a carriage return begins no path
-pub white-path : (text : List ℕ) (means : Reference) → IsPath text means →
-    prefix_len (λ b. b == 32 || (b == 9 || (b == 10 || b == 13))) text ≡ 0
-white-path text means h =
-    prefix_len-path (λ b. b == 32 || (b == 9 || (b == 10 || b == 13))) text means not_white h

@@ -16,12 +16,12 @@ pub data Segment : Type 0 where
   up : Segment
 
 -- A path through the data by its segments, or a variable of the block so many blocks up, by its name. Both keep
--- the text as raw_of.
+-- the text as written.
 pub data Reference : Type 0 where
   relative : List Segment → Text → Reference
   variable : ℕ → Text → Text → Reference
 
--- the text as raw_of
+-- the text as written
 abbrev pub raw_of : Reference → Text
 raw_of (relative segments text) = text
 raw_of (variable level name text) = text

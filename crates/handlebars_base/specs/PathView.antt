@@ -10,8 +10,8 @@ use Rattle.handlebars_base.specs.declared.json.path.PathSeg.{PathSeg}
 use Rattle.handlebars_base.specs.declared.json.path.PathSeg.TheVariants.{Named, Ruled}
 use Rattle.handlebars_base.specs.declared.json.path.Path.{Path}
 use Rattle.handlebars_base.specs.declared.json.path.Path.TheVariants as path
-use Rattle.handlebars_base.specs.declared.json.path.reading.Part.{Part as ReadPart}
-use Rattle.handlebars_base.specs.declared.json.path.reading.Part.TheVariants as part
+use Rattle.handlebars_base.specs.declared.json.path.links.Part.{Part as ReadPart}
+use Rattle.handlebars_base.specs.declared.json.path.links.Part.TheVariants as part
 use Rattle.handlebars_base.specs.declared.json.path.start.Start.{Start as ReadStart}
 use Rattle.handlebars_base.specs.declared.json.path.start.Start.TheVariants as start
 use Rattle.handlebars_base.specs.declared.json.path.front.PathSlice.{PathSlice}

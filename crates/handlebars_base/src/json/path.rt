@@ -11,8 +11,8 @@ use crate::error::{RenderError, RenderErrorReason};
 use std::alloc::{AllocError, Global};
 
 mod front;
-mod reading;
-mod scan;
+mod links;
+mod marks;
 mod start;
 
 pub use front::{PathFront, PathSlice, read_front, reference_len, split_path, split_reference};
@@ -35,7 +35,7 @@ pub enum PathSeg {
     Ruled(PathRule),
 }
 
-/// A path, with the text as raw_of in the last place.
+/// A path, with its text as written in the last place.
 #[derive(Debug, Drop, PartialEq, Eq)]
 pub enum Path {
     /// The way through the data.
@@ -59,7 +59,7 @@ impl Path {
         }
     }
 
-    /// The text as raw_of.
+    /// The text as written.
     pub fn raw(&self) -> &str
         ensures { result.now ≡ raw_of (reference_of self.now) }
     {

@@ -1,7 +1,7 @@
 //! Paths, read from texts.
 
 use crate::tests::helpers::{refusal, shows};
-use handlebars_base::json::path::{Path, PathRule, PathSeg, reference_len};
+use handlebars_base::json::path::{Path, PathRule, PathSeg, read_front, reference_len, split_path};
 use std::alloc::{AllocError, Global};
 use std::test::Fail;
 
@@ -38,6 +38,31 @@ fn reads_paths(rt: HostRuntime) -> Result<(), Fail> {
     let name = String::from_str(alloc, "index")?;
     let wanted = Path::Local((1, name, String::from_str(alloc, text)?));
     assert_eq!(rt; Path::parse(alloc, text)?, wanted);
+    Ok(())
+}
+
+#[test]
+fn finds_paths_in_front(rt: HostRuntime) -> Result<(), Fail> {
+    let alloc = rt.alloc();
+    let table = [
+        ("a.[b c]/d e", "a.[b c]/d", " e"),
+        ("@../x=1", "@../x", "=1"),
+        (".)", ".", ")"),
+        ("./a[b", "./a", "[b"),
+        ("été}}", "été", "}}"),
+    ];
+    for (text, raw, rest) in table {
+        let slice = split_path(text).ok_or("no path")?;
+        assert_eq!(rt; slice.raw, raw);
+        assert_eq!(rt; slice.rest, rest);
+        let front = read_front(alloc, text)?.ok_or("no path")?;
+        assert_eq!(rt; front.path.raw(), raw);
+        assert_eq!(rt; front.rest, rest);
+    }
+    for text in ["a..b c", "@this}}", "[a", "=1", ""] {
+        assert!(rt; split_path(text).is_none());
+        assert!(rt; read_front(alloc, text)?.is_none());
+    }
     Ok(())
 }
 

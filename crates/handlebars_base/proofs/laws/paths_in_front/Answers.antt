@@ -1,4 +1,4 @@
-use Rattle.handlebars_base.proofs.PathAt.{paths_in_front}
+use Rattle.handlebars_base.proofs.PathsInFront.{paths_in_front}
 use Rattle.handlebars_base.proofs.laws.paths_in_front.Goals as goal
 
 pub returns : goal.returns

@@ -7,8 +7,8 @@ ghost use Rattle.handlebars_base.specs.PathView.{front_of, slice_of};
 ghost use Rattle.handlebars_base.specs.PathReading.{is_reference_byte, reference_len, IsLeft, path_at, slice_at};
 
 use super::Path;
-use super::scan::is_symbol;
-use super::start::{behind_start, path, segments, start_at};
+use super::marks::is_symbol;
+use super::start::{behind_start, path_from, start_at, start_segments};
 use std::alloc::{AllocError, Global};
 
 /// The text of a path, and what follows it.
@@ -41,11 +41,11 @@ pub fn read_front(alloc: Global, text: &str) -> Result<Option<PathFront<'_>>, Al
     let Some((start, behind)) = start_at(text) else {
         return Ok(None);
     };
-    let (segs, rest) = segments(alloc, start, behind)?;
+    let (segs, rest) = start_segments(alloc, start, behind)?;
     let Some(slice) = cut(text, rest) else {
         return Ok(None);
     };
-    let path = path(alloc, start, segs, slice.raw)?;
+    let path = path_from(alloc, start, segs, slice.raw)?;
     Ok(Some(PathFront {
         path,
         rest: slice.rest,

@@ -5,8 +5,8 @@ ghost use Rattle.std.specs.Option.{option_map};
 ghost use Rattle.handlebars_base.specs.PathView.{segments_of, start_of, started_at, reference_of};
 ghost use Rattle.handlebars_base.specs.PathReading.{named_at, unnamed_at, dot_start, start_at, links_behind, start_segments, start_meaning, ups_at};
 
-use super::reading::{Part, behind_links, is_up, part_at, push, push_links};
-use super::scan::{after, symbols, ups};
+use super::links::{Part, behind_links, is_up, part_at, push, push_links};
+use super::marks::{after, symbols, ups};
 use super::{Path, PathRule, PathSeg};
 use std::alloc::{AllocError, Global};
 
@@ -81,7 +81,7 @@ pub fn behind_start<'a>(start: Start<'_>, text: &'a str) -> &'a str
 }
 
 /// The segments of a start and of the links behind it, and what follows these.
-pub fn segments<'a>(
+pub fn start_segments<'a>(
     alloc: Global,
     start: Start<'_>,
     text: &'a str,
@@ -108,7 +108,7 @@ pub fn segments<'a>(
 }
 
 /// The path that starts there, and goes on by these segments.
-pub fn path(
+pub fn path_from(
     alloc: Global,
     start: Start<'_>,
     segs: Vec<PathSeg>,

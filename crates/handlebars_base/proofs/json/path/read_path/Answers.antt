@@ -2,7 +2,7 @@ use Rattle.std.proofs.Common.{refl, sym}
 use Rattle.std.proofs.lemmas.Bool.{true≢false}
 use Rattle.handlebars_base.specs.PathView.{front_of}
 use Rattle.handlebars_base.proofs.OptionBinds.{empty, nonempty}
-use Rattle.handlebars_base.proofs.PathAt.{is_whole, is_no_whole, is_no_path}
+use Rattle.handlebars_base.proofs.PathsInFront.{is_whole, is_no_whole, is_no_path}
 use Rattle.handlebars_base.proofs.json.path.read_path.Goals as goal
 
 pub returns-then-is_empty-clause-found : goal.returns-then-is_empty-clause-found

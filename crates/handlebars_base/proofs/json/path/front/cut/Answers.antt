@@ -1,7 +1,7 @@
 use Rattle.std.proofs.Common.{◌≡◌, sym, arith}
 use Rattle.std.proofs.lemmas.Bool.{eqb-true, eqb-false, not-true, not-false}
 use Rattle.handlebars_base.specs.PathReading.{reference_len}
-use Rattle.handlebars_base.proofs.PathAt.{slice_at-goes, left_length, cut_boundary, cut_slice}
+use Rattle.handlebars_base.proofs.PathsInFront.{slice_at-goes, left_length, cut_boundary, cut_slice}
 use Rattle.handlebars_base.proofs.json.path.front.cut.Goals as goal
 
 pub returns-then-goes_on : goal.returns-then-goes_on

@@ -1,5 +1,5 @@
 use Rattle.std.proofs.Common.{sym}
-use Rattle.handlebars_base.proofs.PathAt.{path_at-none, is_left, shape_at-no_start, path_at-start}
+use Rattle.handlebars_base.proofs.PathsInFront.{path_at-none, is_left, shape_at-no_start, path_at-start}
 use Rattle.handlebars_base.proofs.json.path.front.read_front.Goals as goal
 
 pub returns-in_default : goal.returns-in_default

@@ -1,5 +1,5 @@
 use Rattle.std.proofs.Common.{sym}
-use Rattle.handlebars_base.proofs.PathAt.{slice_at-none, is_left, shape_at-no_start}
+use Rattle.handlebars_base.proofs.PathsInFront.{slice_at-none, is_left, shape_at-no_start}
 use Rattle.handlebars_base.proofs.json.path.front.split_path.Goals as goal
 
 pub returns-in_err-start : goal.returns-in_err-start

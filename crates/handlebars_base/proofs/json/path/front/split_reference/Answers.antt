@@ -1,4 +1,4 @@
-use Rattle.handlebars_base.proofs.PathFront.{reference_len_boundary}
+use Rattle.handlebars_base.proofs.ReferenceLength.{reference_len_boundary}
 use Rattle.handlebars_base.proofs.json.path.front.split_reference.Goals as goal
 
 pub split_at-requires : goal.split_at-requires
