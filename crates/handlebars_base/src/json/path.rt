@@ -15,7 +15,7 @@ mod links;
 mod marks;
 mod start;
 
-pub use front::{PathFront, PathSlice, read_front, reference_len, split_path, split_reference};
+pub use front::{PathFront, PathSlice, read_front, split_path};
 
 /// A segment that is no name.
 #[derive(Clone, Copy, Debug, PartialEq, Eq)]

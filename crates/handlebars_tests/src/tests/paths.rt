@@ -1,7 +1,7 @@
 //! Paths, read from texts.
 
 use crate::tests::helpers::{refusal, shows};
-use handlebars_base::json::path::{Path, PathRule, PathSeg, read_front, reference_len, split_path};
+use handlebars_base::json::path::{Path, PathRule, PathSeg, read_front, split_path};
 use std::alloc::{AllocError, Global};
 use std::test::Fail;
 
@@ -66,7 +66,7 @@ fn finds_paths_in_front(rt: HostRuntime) -> Result<(), Fail> {
     Ok(())
 }
 
-// The whole text is to be a path; a reference reaches as far as it is one.
+// The whole text is to be a path.
 #[test]
 fn refuses_what_is_no_path(rt: HostRuntime) -> Result<(), Fail> {
     let alloc = rt.alloc();
@@ -74,9 +74,6 @@ fn refuses_what_is_no_path(rt: HostRuntime) -> Result<(), Fail> {
         let error = refusal(Path::parse(alloc, text))?;
         let wanted = format!(in alloc; "InvalidJsonPath({text:?})")?;
         shows(&rt, alloc, error.reason(), wanted.as_str())?;
-    }
-    for (text, length) in [("a.[b c]/d e", 9), ("a.[b c", 2), ("é}}", 2)] {
-        assert_eq!(rt; reference_len(text), length, "at {text}");
     }
     Ok(())
 }

@@ -1,6 +1,6 @@
 //! Paths in front of longer texts.
 
-ghost use Rattle.std.specs.Prelude.{◌≡◌, ◌==◌, ◌+◌, ◌<◌, ◌≤◌, IfOk, IfSome, IsNone, length, take, drop, not};
+ghost use Rattle.std.specs.Prelude.{◌≡◌, ◌==◌, ◌+◌, ◌<◌, ◌≤◌, IfOk, IfSome, IsNone, length, drop, not};
 ghost use Rattle.std.specs.List.{position};
 ghost use Rattle.std.specs.Option.{option_map};
 ghost use Rattle.handlebars_base.specs.PathView.{front_of, slice_of};
@@ -102,30 +102,4 @@ fn token_len(bytes: &[u8]) -> Option<usize>
     } else {
         None
     }
-}
-
-fn front_len(bytes: &[u8]) -> usize
-    ensures { result ≡ reference_len bytes.now }
-{
-    let mut end = 0;
-    while let Some(len) = token_len(&bytes[end..]) {
-        end += len;
-    }
-    end
-}
-
-/// The length of the longest front of symbols, `.`, `/`, `@` and names in closed brackets. What follows it is ASCII,
-/// so the text may be split there.
-pub fn reference_len(text: &str) -> usize
-    ensures { result ≡ reference_len text.now }
-{
-    front_len(text.as_bytes())
-}
-
-/// The text up to its `reference_len`, and from there on.
-pub fn split_reference(text: &str) -> (&str, &str)
-    ensures front { result.0.now ≡ take (reference_len text.now) text.now }
-    ensures rest { result.1.now ≡ drop (reference_len text.now) text.now }
-{
-    text.split_at(reference_len(text))
 }
