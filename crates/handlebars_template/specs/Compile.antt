@@ -11,7 +11,7 @@ use Rattle.handlebars_template.specs.Tree.{Tree, tree, elements_of, Element, raw
 
 -- the name of the template, if it has one, and whether inclusions add no indentation
 pub record Options : Type 0 where
-  pub name : Option (Text)
+  pub name : Option Text
   pub prevent_indent : Bool
 
 abbrev pub no_options : Options

@@ -11,7 +11,8 @@ at line column = record { line = line; column = column }
 
 -- a text where the source begins, and a value behind it
 abbrev pub text_and_value : Text → Element → Place → Tree
-text_and_value text value there = tree None (element (raw_string text) (element value no_elements)) (at 1 1 ∷ there ∷ [])
+text_and_value text value there =
+    tree None (element (raw_string text) (element value no_elements)) (at 1 1 ∷ there ∷ [])
 
 -- the value that these names lead to, written so
 abbrev pub value_at : List Segment → Text → Element

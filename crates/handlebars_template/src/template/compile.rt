@@ -7,7 +7,7 @@ ghost use Rattle.handlebars_base.specs.PathView.{reference_of};
 ghost use Rattle.handlebars_template.specs.Tag.{expression_tag};
 ghost use Rattle.handlebars_template.specs.Cut.{text_slice};
 ghost use Rattle.handlebars_template.specs.Compile.{Compiles, compiled, refused, no_options, unreadable, value_call, element_of, slice_elements, slice_places};
-ghost use Rattle.handlebars_template.specs.TreeView.{tree_view, call_view, element_view, place_of, text};
+ghost use Rattle.handlebars_template.specs.TreeView.{tree_view, call_view, element_view, place_of};
 
 use crate::template::place::advance;
 use crate::template::tag::tag;
@@ -21,13 +21,14 @@ use std::alloc::{AllocError, Global};
 use std::collections::BTreeMap;
 
 impl Template {
-    /// The tree of a source, or the first fault in it: `InvalidSyntax` with its position, in the
-    /// template `Unnamed`. In time linear in the source.
+    /// The tree of a source, or what the first unreadable tag is refused with: `InvalidSyntax` at its position, in
+    /// the template `Unnamed`. In time linear in the source.
     pub fn compile(alloc: Global, source: &str) -> Result<Template, TemplateError>
         ensures ok { IfOk result (λ template. Compiles source.now no_options (compiled (tree_view template))) }
         ensures err { IfErr result (λ e. (template_refusal_of e).reason ≢ template_out_of_memory
             → Compiles source.now no_options (refused (template_refusal_of e))) }
-        ensures shown { IfErr result (λ e. (template_refusal_of e).reason ≢ template_out_of_memory → IsSome (shown_lines e)) }
+        ensures shown { IfErr result (λ e. (template_refusal_of e).reason ≢ template_out_of_memory
+            → IsSome (shown_lines e)) }
     {
         let mut tree = Growing {
             elements: Vec::new(alloc),
@@ -65,10 +66,12 @@ struct Growing {
 impl Growing {
     // An empty slice has no element.
     fn add_text(&mut self, place: TemplateMapping, front: TextFront) -> Result<(), AllocError>
-        ensures elements { OnOk result (map element_view self.new.elements.items ≡ map element_view self.old.elements.items
-            ++ slice_elements (text_slice (place_of place) front.entry.slice.now (string_bytes front.entry.kept) ∷ [])) }
-        ensures places { OnOk result (map place_of self.new.mapping.items ≡ map place_of self.old.mapping.items
-            ++ slice_places (text_slice (place_of place) front.entry.slice.now (string_bytes front.entry.kept) ∷ [])) }
+        ensures elements { let text = text_slice (place_of place) front.entry.slice.now (string_bytes front.entry.kept) in
+            OnOk result (map element_view self.new.elements.items
+                ≡ map element_view self.old.elements.items ++ slice_elements (text ∷ [])) }
+        ensures places { let text = text_slice (place_of place) front.entry.slice.now (string_bytes front.entry.kept) in
+            OnOk result (map place_of self.new.mapping.items
+                ≡ map place_of self.old.mapping.items ++ slice_places (text ∷ [])) }
     {
         if front.slice.is_empty() {
             return Ok(());
@@ -117,7 +120,8 @@ fn value_call(alloc: Global, path: Path) -> HelperTemplate
 fn unreadable(alloc: Global, source: &str, at: TemplateMapping) -> Result<TemplateError, AllocError>
     ensures refusal { IfOk result (λ e. (template_refusal_of e).reason ≢ template_out_of_memory
         → template_refusal_of e ≡ unreadable no_options (place_of at)) }
-    ensures shown { IfOk result (λ e. (template_refusal_of e).reason ≢ template_out_of_memory → IsSome (shown_lines e)) }
+    ensures shown { IfOk result (λ e. (template_refusal_of e).reason ≢ template_out_of_memory
+        → IsSome (shown_lines e)) }
 {
     let reason = TemplateErrorReason::InvalidSyntax(String::from_str(alloc, "unreadable tag")?);
     let name = String::from_str(alloc, "Unnamed")?;
