@@ -63,13 +63,14 @@ escaped-items first d ds =
     escaped-append (separator first) (rendered d ++ rendered_items false ds)
     ∙ ap₂ (λ s t. s ++ t) (escaped-separator first) (escaped-append (rendered d) (rendered_items false ds))
 
-pub escaped-items_from : (first is_first : Bool) (vs : List Value) (i : ℕ) (v : Value) → first ≡ is_first → i < length vs → v ≡ get_or vs i v
+pub escaped-items_from : (first : Bool) (vs : List Value) (i : ℕ) (v : Value) → i < length vs → v ≡ get_or vs i v
     → escaped (rendered_items first (items_view (drop i vs)))
-    ≡ separator is_first ++ (escaped (rendered (view v)) ++ escaped (rendered_items false (items_view (drop (i + 1) vs))))
-escaped-items_from first is_first vs i v f l e =
-    ap₂ (λ x ws. escaped (rendered_items x (items_view ws))) f (drop-cons vs i v l)
-    ∙ escaped-items is_first (view (get_or vs i v)) (items_view (drop (suc i) vs))
-    ∙ ap₂ (λ w j. separator is_first ++ (escaped (rendered (view w)) ++ escaped (rendered_items false (items_view (drop j vs))))) (sym e) (sym (add-one i))
+    ≡ separator first ++ (escaped (rendered (view v)) ++ escaped (rendered_items false (items_view (drop (i + 1) vs))))
+escaped-items_from first vs i v l e =
+    let tail = λ (j : ℕ). escaped (rendered_items false (items_view (drop j vs))) in
+    ap (λ ws. escaped (rendered_items first (items_view ws))) (drop-cons vs i v l)
+    ∙ escaped-items first (view (get_or vs i v)) (items_view (drop (suc i) vs))
+    ∙ ap₂ (λ w j. separator first ++ (escaped (rendered (view w)) ++ tail j)) (sym e) (sym (add-one i))
 
 pub escaped-items_end : (first : Bool) (vs : List Value) (i : ℕ) → length vs ≤ i → escaped (rendered_items first (items_view (drop i vs))) ≡ []
 unfolding escaped
