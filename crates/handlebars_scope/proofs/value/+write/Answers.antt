@@ -6,15 +6,18 @@ use Rattle.handlebars_scope.proofs.value.+write.Goals as goal
 
 pub write_array-returns-in_err-write-clause-written : goal.write_array-returns-in_err-write-clause-written
 write_array-returns-in_err-write-clause-written g t c =
-    fails _ _ c.from_residual.ensures.0 (left_is (escaped-array (items_view c.args.items.now.items)) (begins _ _)) c.in_err-write.ensures.written
+    let left = left_is (escaped-array (items_view c.args.items.now.items)) (begins _ _) in
+    fails _ _ c.from_residual.ensures.0 left c.in_err-write.ensures.written
 
 pub write_array-returns-in_err-write_items-clause-written : goal.write_array-returns-in_err-write_items-clause-written
 write_array-returns-in_err-write_items-clause-written g t c =
-    fails _ _ c.from_residual-in_err-write_items.ensures.0 (goes_on (left_is (escaped-array (items_view c.args.items.now.items)) (begins _ _)) c.in_ok-write.ensures.written) c.in_err-write_items.ensures.written
+    let left = left_is (escaped-array (items_view c.args.items.now.items)) (begins _ _) in
+    fails _ _ c.from_residual-in_err-write_items.ensures.0 (goes_on left c.in_ok-write.ensures.written) c.in_err-write_items.ensures.written
 
 pub write_array-returns-clause-written : goal.write_array-returns-clause-written
 write_array-returns-clause-written g t c =
-    ends _ _ (goes_on (goes_on (left_is (escaped-array (items_view c.args.items.now.items)) (begins _ _)) c.in_ok-write.ensures.written) c.in_ok-write_items.ensures.written) c.write-2.ensures.written
+    let left = left_is (escaped-array (items_view c.args.items.now.items)) (begins _ _) in
+    ends _ _ (goes_on (goes_on left c.in_ok-write.ensures.written) c.in_ok-write_items.ensures.written) c.write-2.ensures.written
 
 pub write_escaped_value-returns-in-Null-clause-written : goal.write_escaped_value-returns-in-Null-clause-written
 write_escaped_value-returns-in-Null-clause-written g t c = rw (escaped-null c.args.value.now c.in-Null.is) (whole-nil _)
