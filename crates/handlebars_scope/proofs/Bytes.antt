@@ -1,5 +1,5 @@
 -- What escaping does to a byte, and to a join.
-use Rattle.std.proofs.Common.{◌≡◌, ◌≢◌, ℕ, ◌<◌, ◌≤◌, ◌==◌, false, ⊎_elim, List, [], ◌∷◌, ◌++◌, refl, sym, ap, ◌∙◌, subst, arith, append_assoc, append-nil, None, Some, unwrap_or}
+use Rattle.std.proofs.Common.{◌≡◌, ◌≢◌, ℕ, ◌<◌, ◌≤◌, ◌==◌, false, ⊎_elim, [], ◌∷◌, ◌++◌, refl, sym, ap, ◌∙◌, subst, arith, append_assoc, None, Some, unwrap_or}
 use Rattle.std.proofs.lemmas.Bool.Decides.{nat_tests, eqb_tells}
 use Rattle.std.proofs.lemmas.Bool.{cases_lt}
 use Rattle.handlebars_scope.specs.Escape.{entity_of, escaped_byte, escaped}
@@ -52,11 +52,3 @@ pub escaped-append : (xs ys : Text) → escaped (xs ++ ys) ≡ escaped xs ++ esc
 unfolding escaped
 escaped-append [] ys = refl
 escaped-append (b ∷ bs) ys = ap (λ t. escaped_byte b ++ t) (escaped-append bs ys) ∙ sym (append_assoc (escaped_byte b) (escaped bs) (escaped ys))
-
-pub escaped-nil : escaped [] ≡ []
-unfolding escaped
-escaped-nil = refl
-
-pub escaped-one : (b : ℕ) → escaped (b ∷ []) ≡ escaped_byte b
-unfolding escaped
-escaped-one b = append-nil (escaped_byte b)

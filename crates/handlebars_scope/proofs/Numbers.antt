@@ -47,17 +47,21 @@ glyph n = digit (n % 10) (omega arith)
 
 numeric-digits_onto : (k n : ℕ) (t : Text) → AllByRecursion IsNumeric t → AllByRecursion IsNumeric (digits_onto k 10 false n t)
 numeric-digits_onto zero n t h = h
-numeric-digits_onto (suc k) n t h = elim (n / 10 == 0) as (λ x. AllByRecursion IsNumeric (cond x (digit_glyph false (n % 10) ∷ t) (digits_onto k 10 false (n / 10) (digit_glyph false (n % 10) ∷ t)))) [
-  | true ↦ (glyph n, h)
-  | false ↦ numeric-digits_onto k (n / 10) _ (glyph n, h)
-]
+numeric-digits_onto (suc k) n t h =
+    let more = digit_glyph false (n % 10) ∷ t in
+    elim (n / 10 == 0) as (λ x. AllByRecursion IsNumeric (cond x more (digits_onto k 10 false (n / 10) more))) [
+      | true ↦ (glyph n, h)
+      | false ↦ numeric-digits_onto k (n / 10) more (glyph n, h)
+    ]
 
 nonempty-digits_onto : (k n : ℕ) (b : ℕ) (t : Text) → 1 ≤ length (digits_onto k 10 false n (b ∷ t))
 nonempty-digits_onto zero n b t = omega arith
-nonempty-digits_onto (suc k) n b t = elim (n / 10 == 0) as (λ x. 1 ≤ length (cond x (digit_glyph false (n % 10) ∷ b ∷ t) (digits_onto k 10 false (n / 10) (digit_glyph false (n % 10) ∷ b ∷ t)))) [
-  | true ↦ omega arith
-  | false ↦ nonempty-digits_onto k (n / 10) (digit_glyph false (n % 10)) (b ∷ t)
-]
+nonempty-digits_onto (suc k) n b t =
+    let more = digit_glyph false (n % 10) ∷ b ∷ t in
+    elim (n / 10 == 0) as (λ x. 1 ≤ length (cond x more (digits_onto k 10 false (n / 10) more))) [
+      | true ↦ omega arith
+      | false ↦ nonempty-digits_onto k (n / 10) (digit_glyph false (n % 10)) (b ∷ t)
+    ]
 
 pub numeric-decimal : (n : ℕ) → AllByRecursion IsNumeric (decimal n)
 unfolding digits
@@ -65,10 +69,12 @@ numeric-decimal n = numeric-digits_onto 64 n [] tt
 
 pub nonempty-decimal : (n : ℕ) → 1 ≤ length (decimal n)
 unfolding digits
-nonempty-decimal n = elim (n / 10 == 0) as (λ x. 1 ≤ length (cond x (digit_glyph false (n % 10) ∷ []) (digits_onto 63 10 false (n / 10) (digit_glyph false (n % 10) ∷ [])))) [
-  | true ↦ omega arith
-  | false ↦ nonempty-digits_onto 63 (n / 10) (digit_glyph false (n % 10)) []
-]
+nonempty-decimal n =
+    let last = digit_glyph false (n % 10) ∷ [] in
+    elim (n / 10 == 0) as (λ x. 1 ≤ length (cond x last (digits_onto 63 10 false (n / 10) last))) [
+      | true ↦ omega arith
+      | false ↦ nonempty-digits_onto 63 (n / 10) (digit_glyph false (n % 10)) []
+    ]
 
 pub numeric-signed_decimal : (z : ℤ) → AllByRecursion IsNumeric (signed_decimal z)
 numeric-signed_decimal (pos n) = numeric-decimal n

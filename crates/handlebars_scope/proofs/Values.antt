@@ -63,26 +63,33 @@ escaped-items first d ds =
     escaped-append (separator first) (rendered d ++ rendered_items false ds)
     ∙ ap₂ (λ s t. s ++ t) (escaped-separator first) (escaped-append (rendered d) (rendered_items false ds))
 
-pub escaped-items_from : (first is_first : Bool) (vs : List Value) (i : ℕ) (v : Value) → first ≡ is_first → i < length vs → v ≡ get_or vs i v
+pub escaped-items_from : (first : Bool) (vs : List Value) (i : ℕ) (v : Value) → i < length vs → v ≡ get_or vs i v
     → escaped (rendered_items first (items_view (drop i vs)))
-    ≡ separator is_first ++ (escaped (rendered (view v)) ++ escaped (rendered_items false (items_view (drop (i + 1) vs))))
-escaped-items_from first is_first vs i v f l e =
-    ap₂ (λ x ws. escaped (rendered_items x (items_view ws))) f (drop-cons vs i v l)
-    ∙ escaped-items is_first (view (get_or vs i v)) (items_view (drop (suc i) vs))
-    ∙ ap₂ (λ w j. separator is_first ++ (escaped (rendered (view w)) ++ escaped (rendered_items false (items_view (drop j vs))))) (sym e) (sym (add-one i))
+    ≡ separator first ++ (escaped (rendered (view v)) ++ escaped (rendered_items false (items_view (drop (i + 1) vs))))
+escaped-items_from first vs i v l e =
+    let tail = λ (j : ℕ). escaped (rendered_items false (items_view (drop j vs))) in
+    ap (λ ws. escaped (rendered_items first (items_view ws))) (drop-cons vs i v l)
+    ∙ escaped-items first (view (get_or vs i v)) (items_view (drop (suc i) vs))
+    ∙ ap₂ (λ w j. separator first ++ (escaped (rendered (view w)) ++ tail j)) (sym e) (sym (add-one i))
 
-pub escaped-items_end : (first : Bool) (vs : List Value) (i : ℕ) → length vs ≤ i → escaped (rendered_items first (items_view (drop i vs))) ≡ []
+pub escaped-items_end : (first : Bool) (vs : List Value) (i : ℕ) → length vs ≤ i
+    → escaped (rendered_items first (items_view (drop i vs))) ≡ []
 unfolding escaped
 escaped-items_end first vs i l = ap (λ ws. escaped (rendered_items first (items_view ws))) (drop_all i vs l)
 
 pub escaped-unsigned : (x : Num) (n : ℕ) → Some n ≡ as_u64 x → escaped (rendered_number x) ≡ decimal n
-escaped-unsigned (unsigned m) n e = let is : m ≡ n = cc in escaped-numeric (decimal m) (numeric-decimal m) ∙ ap decimal is
+escaped-unsigned (unsigned m) n e =
+    let is : m ≡ n = cc in
+    escaped-numeric (decimal m) (numeric-decimal m) ∙ ap decimal is
 escaped-unsigned (negative z) n e = cc
 escaped-unsigned (float f) n e = cc
 
-pub escaped-negative : (x : Num) (z : ℤ) → None ≡ as_u64 x → Some z ≡ as_i64 x → escaped (rendered_number x) ≡ signed_decimal z
+pub escaped-negative : (x : Num) (z : ℤ) → None ≡ as_u64 x → Some z ≡ as_i64 x
+    → escaped (rendered_number x) ≡ signed_decimal z
 escaped-negative (unsigned m) z n e = cc
-escaped-negative (negative y) z n e = let is : y ≡ z = cc in escaped-numeric (signed_decimal y) (numeric-signed_decimal y) ∙ ap signed_decimal is
+escaped-negative (negative y) z n e =
+    let is : y ≡ z = cc in
+    escaped-numeric (signed_decimal y) (numeric-signed_decimal y) ∙ ap signed_decimal is
 escaped-negative (float f) z n e = cc
 
 pub escaped-float : (x : Num) → None ≡ as_u64 x → None ≡ as_i64 x → escaped (rendered_number x) ≡ []

@@ -50,7 +50,8 @@ cut_off-append {t} {all} {x = x} left h k = record {
   front = h.front ++ k.front;
   is_front = (
     k.is_front.0 ++ left,
-    h.split ∙ ap (λ a. h.front ++ (a ++ left)) k.is_front.1 ∙ ap (λ a. h.front ++ a) (append_assoc k.front k.is_front.0 left)
+    h.split ∙ ap (λ a. h.front ++ (a ++ left)) k.is_front.1
+        ∙ ap (λ a. h.front ++ a) (append_assoc k.front k.is_front.0 left)
         ∙ sym (append_assoc h.front k.front (k.is_front.0 ++ left)),
   );
   text = k.text ∙ ap (λ a. a ++ k.front) h.whole.text ∙ append_assoc x.text h.front k.front;
@@ -58,11 +59,13 @@ cut_off-append {t} {all} {x = x} left h k = record {
 }
 
 -- a write that fails
-pub fails : {t all : Text} {x y z : Held} (r : Result (Unit {0}) Error) (left : Text) → IsErr r → AllBut (t ++ left) all x y → IsCutOff t y z → Written all x r z
+pub fails : {t all : Text} {x y z : Held} (r : Result (Unit {0}) Error) (left : Text) → IsErr r
+    → AllBut (t ++ left) all x y → IsCutOff t y z → Written all x r z
 fails r left bad h k = failed r bad (cut_off-append left h k)
 
 -- the last write
-pub ends : {t all : Text} {x y : Held} (z : Held) (r : Result (Unit {0}) Error) → AllBut t all x y → Written t y r z → Written all x r z
+pub ends : {t all : Text} {x y : Held} (z : Held) (r : Result (Unit {0}) Error) → AllBut t all x y → Written t y r z
+    → Written all x r z
 ends {t} {all} {x} z (Ok u) h k = rw (h.split) (whole-append h.whole k)
 ends {t} z (Err e) h k = cut_off-append [] (left_is (sym (append-nil t)) h) k
 

@@ -13,7 +13,8 @@ use Rattle.handlebars_base.specs.Scoped.{Found, walked, missing}
 -- the value of one digit or more, where it is below 2^64
 abbrev pub digits_index : Text → Option ℕ
 digits_index ds =
-    if all_ascii_digits ds && (nat_lt 0 (length ds) && nat_lt (digits_value 10 ds) (2 ^ 64)) then Some (digits_value 10 ds) else None
+    if all_ascii_digits ds && (nat_lt 0 (length ds) && nat_lt (digits_value 10 ds) (2 ^ 64))
+    then Some (digits_value 10 ds) else None
 
 -- an index is digits after at most one `+`
 abbrev pub index_of : Text → Option ℕ

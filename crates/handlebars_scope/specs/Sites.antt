@@ -1,4 +1,5 @@
--- The way to an element of a run: the tree that it stands in, and its index there. So no two elements of a run share one.
+-- The way to an element of a run: the tree that it stands in, and its index there. So no two elements of a run share
+-- one.
 use Rattle.std.specs.Prelude.{ℕ}
 
 -- a tree: the one that the run begins with, or the body or the inverse of the block at a site

@@ -10,13 +10,21 @@ use Rattle.handlebars_base.specs.Answers.{Answer, gives, refuses}
 use Rattle.handlebars_base.specs.Bytes.{Text}
 use Rattle.handlebars_base.specs.RenderRefusals.{plain_refusal}
 
--- a text of JSON that the value may be written as, and the data that is read from it
-abbrev pub IsWrittenAs : {T : Type 0} → (T → Log → Log → Type 0) → T → Data → Type 0
-IsWrittenAs writes x d = (log : Log) × (text : Text) × writes x (Some []) log × IsTextOf log text × (read text ≡ Some d)
+-- the value may be written as a text of JSON, from which this data is read
+pub record IsWrittenAs {T : Type 0} (writes : T → Log → Log → Type 0) (x : T) (d : Data) : Type 0 where
+  pub log : Log
+  pub text : Text
+  pub written : writes x (Some []) log
+  pub is_text : IsTextOf log text
+  pub is_read : read text ≡ Some d
+
+-- the value may be written with a number outside the range
+abbrev pub MayLeaveRange : {T : Type 0} → (T → Log → Log → Type 0) → T → Type 0
+MayLeaveRange writes x = (d : Data) × IsWrittenAs writes x d × (has_float d ≡ true)
 
 -- Data is given where its numbers are in the range. serde_json may refuse to write a value for reasons of the value's
 -- own, of which nothing is said here.
 abbrev pub IsConversion : {T : Type 0} → (T → Log → Log → Type 0) → T → Answer Data → Type 0
 IsConversion writes x (gives d) = IsWrittenAs writes x d × (has_float d ≡ false)
 IsConversion writes x (refuses r) =
-    (r ≡ plain_refusal serde_error) ⊎ ((r ≡ plain_refusal invalid_number) × (d : Data) × IsWrittenAs writes x d × (has_float d ≡ true))
+    (r ≡ plain_refusal serde_error) ⊎ ((r ≡ plain_refusal invalid_number) × MayLeaveRange writes x)

@@ -2,7 +2,7 @@
 
 ghost use Rattle.std.specs.Prelude.{◌≡◌, IfErr, true};
 ghost use Rattle.serde_json.specs.View.{view, number_view, items_view};
-ghost use Rattle.handlebars_base.specs.Values.{rendered, rendered_items, rendered_number};
+ghost use Rattle.handlebars_base.specs.Values.{rendered, rendered_items, rendered_number, separator};
 ghost use Rattle.serde_json.specs.Data.{array};
 ghost use Rattle.handlebars_scope.specs.Escape.{escaped};
 ghost use Rattle.handlebars_scope.specs.Outputs.{Written};
@@ -17,7 +17,8 @@ use std::io;
 /// Writes a value, rendered and escaped, with no text made on the way. Only texts need an escape.
 #[cycle(write)]
 pub fn write_escaped_value<O: Output>(out: &mut O, value: &Json) -> Result<(), io::Error>
-    ensures written { Written (escaped (rendered (view value.now))) (O.held out.old) result (O.held out.new) }
+    ensures written { Written (escaped (rendered (view value.now)))
+        (O.held out.old) result (O.held out.new) }
     ensures given { IfErr result O.may_give }
 {
     match value {
@@ -33,7 +34,8 @@ pub fn write_escaped_value<O: Output>(out: &mut O, value: &Json) -> Result<(), i
 
 #[cycle(write)]
 fn write_array<O: Output>(out: &mut O, items: &Vec<Json>) -> Result<(), io::Error>
-    ensures written { Written (escaped (rendered (array (items_view items.now.items)))) (O.held out.old) result (O.held out.new) }
+    ensures written { Written (escaped (rendered (array (items_view items.now.items))))
+        (O.held out.old) result (O.held out.new) }
     ensures given { IfErr result O.may_give }
 {
     out.write("[")?;
@@ -43,23 +45,34 @@ fn write_array<O: Output>(out: &mut O, items: &Vec<Json>) -> Result<(), io::Erro
 
 #[cycle(write)]
 fn write_items<O: Output>(out: &mut O, items: &Vec<Json>) -> Result<(), io::Error>
-    ensures written { Written (escaped (rendered_items true (items_view items.now.items))) (O.held out.old) result (O.held out.new) }
+    ensures written { Written (escaped (rendered_items true (items_view items.now.items)))
+        (O.held out.old) result (O.held out.new) }
     ensures given { IfErr result O.may_give }
 {
     let mut first = true;
     for item in items {
-        if !first {
-            out.write(", ")?;
-        }
+        write_separator(out, first)?;
         write_escaped_value(out, item)?;
         first = false;
     }
     Ok(())
 }
 
+// What stands before a member.
+fn write_separator<O: Output>(out: &mut O, first: bool) -> Result<(), io::Error>
+    ensures written { Written (separator first) (O.held out.old) result (O.held out.new) }
+    ensures given { IfErr result O.may_give }
+{
+    if first {
+        return Ok(());
+    }
+    out.write(", ")
+}
+
 // A number outside the range counts as null.
 fn write_number<O: Output>(out: &mut O, number: &Number) -> Result<(), io::Error>
-    ensures written { Written (escaped (rendered_number (number_view number.now))) (O.held out.old) result (O.held out.new) }
+    ensures written { Written (escaped (rendered_number (number_view number.now)))
+        (O.held out.old) result (O.held out.new) }
     ensures given { IfErr result O.may_give }
 {
     let mut digits = Buffer::new();

@@ -11,7 +11,7 @@ returns-in-Null c = sym (ap (λ t. line_behind t (line_of c.args.self)) (escaped
 pub returns-in-String : goal.returns-in-String
 returns-in-String c =
     rw (rendered-string c.args.value.now c.in-String.text c.in-String.is)
-        (c.behind.ensures ∙ ap (λ t. line_behind t (line_of c.args.self)) c.as_str.ensures.value ∙ sym (line_behind-escaped _ (line_of c.args.self)))
+    (c.behind.ensures ∙ ap (λ t. line_behind t (line_of c.args.self)) c.as_str.ensures.value ∙ sym (line_behind-escaped _ (line_of c.args.self)))
 
 pub returns-in-Bool : goal.returns-in-Bool
 returns-in-Bool c = c.line_after.ensures ∙ sym (line_behind-composed c.args.value.now (line_of c.args.self) c.in-Bool.is)
