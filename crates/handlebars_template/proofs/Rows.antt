@@ -4,7 +4,7 @@ use Rattle.std.specs.Str.{chars}
 use Rattle.std.proofs.lemmas.List.{append-nil, take_at, drop_at}
 use Rattle.handlebars_base.specs.Bytes.{Text, backslash, left_brace, right_brace}
 use Rattle.handlebars_base.specs.Path.{IsPath, Reference, named, relative, plain, in_parts}
-use Rattle.handlebars_base.proofs.PathAt.{path_at-stops}
+use Rattle.handlebars_base.proofs.PathsInFront.{path_at-stops}
 use Rattle.handlebars_template.specs.Place.{place}
 use Rattle.handlebars_template.specs.Text.{braces, IsText, at_end, at_tag, a_byte, two_escaped}
 use Rattle.handlebars_template.specs.Tag.{Tag, expression_tag, IsTag, an_expression, IsNames, NoTag}

@@ -7,7 +7,7 @@ use Rattle.std.proofs.lemmas.List.{take_at}
 use Rattle.handlebars_base.specs.Bytes.{Text, is_white, left_brace, right_brace}
 use Rattle.handlebars_base.specs.Path.{IsPath, Reference, raw_of}
 use Rattle.handlebars_base.specs.PathReading.{path_at, starts_reference, stops}
-use Rattle.handlebars_base.proofs.PathAt.{path_at-some, path_at-stops}
+use Rattle.handlebars_base.proofs.PathsInFront.{path_at-some, path_at-stops}
 use Rattle.handlebars_base.proofs.References.{stops-path, starts_other}
 use Rattle.handlebars_template.specs.Text.{braces}
 use Rattle.handlebars_template.specs.Tag.{Tag, expression_tag, IsTag, an_expression, IsWhite, IsNames, NoTag}
