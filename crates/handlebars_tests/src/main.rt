@@ -3,6 +3,7 @@
 #![tactic(auto)]
 
 mod answer;
+mod caller;
 mod failure;
 mod files;
 mod outcome;

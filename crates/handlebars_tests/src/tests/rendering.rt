@@ -1,5 +1,6 @@
 //! Render contexts, outputs and readers of a caller's own.
 
+use crate::caller::rendered_again;
 use crate::tests::helpers::{data_of, refusal, refuses};
 use handlebars::{
     EntryKind, Output, Registry, RenderContext, RenderErrorReason, Renderable, StringOutput,
@@ -24,6 +25,28 @@ fn renders_one_after_another(rt: HostRuntime) -> Result<(), Fail> {
         template.render(alloc, &registry, &data, &mut rc, &mut out, &Discard)?;
     }
     assert_eq!(rt; out.into_string().as_str(), "x1\n1y");
+    Ok(())
+}
+
+// An element alone has no position, and rendering changes nothing that the next one reads.
+#[test]
+fn renders_elements_alone(rt: HostRuntime) -> Result<(), Fail> {
+    let alloc = rt.alloc();
+    let registry = Registry::new(alloc)?;
+    let data = data_of(alloc, r#"{"a":[1]}"#)?;
+    let template = Template::compile(alloc, "{{a}}{{a.x}}")?;
+    let [shown, refused] = template.elements.as_slice() else {
+        return Err("no two elements".into());
+    };
+    let mut rc = RenderContext::new(alloc, None)?;
+    let text = shown.renders(alloc, &registry, &data, &mut rc, &Discard)?;
+    assert_eq!(rt; text.as_str(), "[1]");
+    let error = refusal(refused.renders(alloc, &registry, &data, &mut rc, &Discard))?;
+    refuses(&rt, alloc, &error, r#"InvalidJsonIndex("x")"#, (None, None))?;
+
+    let (first, second) = rendered_again(&registry, "{{a}}!", &data, &Discard)?;
+    assert_eq!(rt; first.as_str(), "[1]!");
+    assert_eq!(rt; second.as_str(), "[1]!");
     Ok(())
 }
 
