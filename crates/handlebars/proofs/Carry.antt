@@ -1,19 +1,19 @@
 -- How the answers of calls compose, for the proofs of the rendering functions.
-use Rattle.std.proofs.Common.{◌≡◌, ◌≢◌, ℕ, ◌<◌, List, [], ◌∷◌, ◌++◌, length, Option, None, Some, Result, Ok, Err, refl, sym, ap, ◌∙◌, subst, append_assoc, append-nil, ◌⊎◌, inl, inr, arith}
+use Rattle.std.proofs.Common.{◌≡◌, ◌≢◌, ℕ, ◌<◌, List, [], ◌∷◌, ◌++◌, length, Result, Ok, Err, refl, sym, ap, ◌∙◌, subst, append_assoc, append-nil, ◌⊎◌, inl, inr, arith}
 use Rattle.std.specs.declared.io.Error.{Error}
-use Rattle.std.specs.IoError.{error_kind}
 use Rattle.std.specs.Result.{IsErrAnd}
-use Rattle.handlebars_base.specs.Reasons.{Reason, Refusal, out_of_memory}
-use Rattle.handlebars_base.specs.RenderRefusals.{reason_in, refusal_of, plain_refusal, placed}
+use Rattle.handlebars_base.specs.Answers.{IsRefusal}
+use Rattle.handlebars_base.specs.Bytes.{Text}
+use Rattle.handlebars_base.specs.Reasons.{Reason, Spot, nowhere, Refusal, out_of_memory}
+use Rattle.handlebars_base.specs.RenderRefusals.{reason_in, reason_of, spot_of, cause_of, refusal_of, plain_refusal}
 use Rattle.handlebars_base.specs.declared.error.render_error.RenderError.{RenderError}
-use Rattle.handlebars_template.specs.Tree.{tree}
-use Rattle.handlebars_scope.specs.Outputs.{Written, write_reason}
-use Rattle.handlebars_scope.specs.Put.{Origin, Piece, join, line_behind}
+use Rattle.handlebars_scope.specs.Outputs.{Held}
+use Rattle.handlebars_scope.specs.Put.{Origin, Piece, join, pieces_of}
 use Rattle.handlebars.specs.State.{Setting, State}
-use Rattle.handlebars.specs.Steps.{Task, One, Whole, Steps, Done, Refuse, Get, Set, Do, run, ◌>>=◌, ◌>>◌}
-use Rattle.handlebars.specs.Means.{put, todo}
+use Rattle.handlebars.specs.Steps.{Task, Steps, Done, Refuse, Get, Set, Do, run, ◌>>=◌, ◌>>◌}
+use Rattle.handlebars.specs.Means.{write_text, todo}
 use Rattle.handlebars.specs.Runs.{Outcome, Ended, Refused, Faulted, NoMemory, mark, cut_off, Runs, done, refused, wrote, got, set, did, did_over, stop, cut}
-use Rattle.handlebars.specs.View.{Held, held, Tells, ended, refusal, write_fault, no_memory, CarriesOut}
+use Rattle.handlebars.specs.View.{Moment, TellsFault, Tells, ended, refusal, fault, no_memory, CarriesOut, Puts, all_put, front_put, behind}
 use Rattle.handlebars.proofs.RunLaws.{join-append, stops_short}
 
 -- want of memory, or another reason
@@ -21,112 +21,135 @@ pub memory_or : (r : Reason) → (r ≡ out_of_memory) ⊎ (r ≢ out_of_memory)
 memory_or out_of_memory = inl refl
 memory_or _ = inr (λ e. cc)
 
-go_on : {may : Error → Type 0} {before between after : ℕ} {o : Outcome} {r : Result (Unit {0}) RenderError} {next : State} → between ≡ before → Tells may between after o r next → Tells may before after o r next
+abbrev pub at : State → Held → Moment
+at s h = record { state = s; held = h }
+
+go_on : {may : Error → Type 0} {before between after : ℕ} {o : Outcome} {r : Result (Unit {0}) RenderError} {next : State}
+    → between ≡ before → Tells may between after o r next → Tells may before after o r next
 go_on {may = may} {after = after} {o = o} {r = r} {next = next} e t = subst (λ (n : ℕ). Tells may n after o r next) e t
 
-both_texts : (T U V : List ℕ) (xs ys : List Piece) → U ≡ T ++ join xs → V ≡ U ++ join ys → V ≡ T ++ join (xs ++ ys)
-both_texts T U V xs ys a b = b ∙ ap (λ (z : List ℕ). z ++ join ys) a ∙ append_assoc T (join xs) (join ys) ∙ ap (λ (z : List ℕ). T ++ z) (sym (join-append xs ys))
+both_texts : (T U V : Text) (xs ys : List Piece) → U ≡ T ++ join xs → V ≡ U ++ join ys → V ≡ T ++ join (xs ++ ys)
+both_texts T U V xs ys a b =
+    b ∙ ap (λ (z : Text). z ++ join ys) a ∙ append_assoc T (join xs) (join ys) ∙ ap (λ (z : Text). T ++ z) (sym (join-append xs ys))
 
 -- the steps came to their end
-pub record Ends (p : Setting) (k : Steps) (s : State) (old : Held) (next : State) (new : Held) : Type 0 where
+pub record Ends (p : Setting) (k : Steps) (before after : Moment) : Type 0 where
   pub pieces : List Piece
-  pub runs : Runs p k s pieces (Ended next)
-  pub text : new.text ≡ old.text ++ join pieces
-  pub faults : new.faults ≡ old.faults
-
-pub mark-reason : (t : Task) (f : Refusal) → (mark t f).reason ≡ f.reason
-mark-reason (One site None e) f = refl
-mark-reason (One site (Some place) e) f = placed-reason f f.line f.column
-  where
-    placed-reason : (f : Refusal) (l c : Option ℕ) → (placed f l c place.line place.column).reason ≡ f.reason
-    placed-reason f None None = refl
-    placed-reason f None (Some c) = refl
-    placed-reason f (Some l) None = refl
-    placed-reason f (Some l) (Some c) = refl
-mark-reason (Whole (tree None es places)) f = refl
-mark-reason (Whole (tree (Some n) es places)) f = refl
+  pub runs : Runs p k before.state pieces (Ended after.state)
+  pub text : after.held.text ≡ before.held.text ++ join pieces
+  pub faults : after.held.faults ≡ before.held.faults
 
 -- An error becomes another, which has the mark of the task, or says that memory ran out.
 pub record IsMarked (t : Task) (e d : RenderError) : Type 0 where
-  pub same : reason_in d ≢ out_of_memory → refusal_of d ≡ mark t (refusal_of e)
+  pub spot : reason_in d ≢ out_of_memory → spot_of d ≡ mark t (spot_of e)
+  pub cause : reason_in d ≢ out_of_memory → cause_of d ≡ cause_of e
   pub memory : reason_in e ≡ out_of_memory → reason_in d ≡ out_of_memory
 
+-- an error that a task leaves as it is
+pub unmarked : (t : Task) (e : RenderError) → mark t (spot_of e) ≡ spot_of e → IsMarked t e e
+unmarked t e is = record { spot = λ _. sym is; cause = λ _. refl; memory = λ m. m }
+
 marked-reason : (t : Task) (e d : RenderError) → IsMarked t e d → reason_in d ≢ out_of_memory → reason_in d ≡ reason_in e
-marked-reason t e d m other = ap (λ (f : Refusal). f.reason) (m.same other) ∙ mark-reason t (refusal_of e)
+marked-reason t e d m other = ap reason_of (m.cause other)
+
+marked-refusal : (t : Task) (e d : RenderError) → IsMarked t e d → reason_in d ≢ out_of_memory
+    → refusal_of d ≡ record { reason = reason_in e; spot = mark t (spot_of e) }
+marked-refusal t e d m other =
+    ap (λ (r : Reason). record { reason = r; spot = spot_of d }) (marked-reason t e d m other)
+    ∙ ap (λ (z : Spot). record { reason = reason_in e; spot = z }) (m.spot other)
+
+marked-fault : (t : Task) (e d : RenderError) (cause : Error) (spot : Spot) → IsMarked t e d → TellsFault cause spot e → TellsFault cause (mark t spot) d
+marked-fault t e d cause spot m f = record {
+  reason = λ other. marked-reason t e d m other ∙ f.reason (λ memory. other (m.memory memory));
+  kept = λ other. m.cause other ∙ f.kept (λ memory. other (m.memory memory));
+  where_it_is = λ other. m.spot other ∙ ap (mark t) (f.where_it_is (λ memory. other (m.memory memory)));
+}
+
+join-pieces_of : (o : Origin) (t : Text) → join (pieces_of o t ++ []) ≡ t
+join-pieces_of o [] = refl
+join-pieces_of o (b ∷ t) = append-nil (b ∷ t)
 
 module _ (p : Setting) (may : Error → Type 0) where
-  pub c_done : {s : State} {h : Held} {u : Unit {0}} → CarriesOut p Done may s h (Ok u) s h
-  c_done {s = s} {h = h} = record { pieces = []; outcome = Ended s; runs = done; text = sym (append-nil h.text); tells = ended refl }
+  pub c_done : {s : State} {h : Held} {u : Unit {0}} → CarriesOut p Done may (at s h) (Ok u) (at s h)
+  c_done {s = s} {h = h} =
+      record { pieces = []; outcome = Ended s; runs = done; text = sym (append-nil h.text); tells = ended refl }
 
-  pub c_no_memory : {k : Steps} {s next : State} {h : Held} (e : RenderError) → reason_in e ≡ out_of_memory → CarriesOut p k may s h (Err e) next h
-  c_no_memory {h = h} e memory = record { pieces = []; outcome = NoMemory; runs = stop tt; text = sym (append-nil h.text); tells = no_memory refl memory }
+  pub c_no_memory : {k : Steps} {s next : State} {h : Held} (e : RenderError) → reason_in e ≡ out_of_memory
+      → CarriesOut p k may (at s h) (Err e) (at next h)
+  c_no_memory {h = h} e memory =
+      record { pieces = []; outcome = NoMemory; runs = stop; text = sym (append-nil h.text); tells = no_memory refl memory }
 
-  refused_so : {r : Reason} {s next : State} {h : Held} (e : RenderError) → refusal_of e ≡ plain_refusal r → CarriesOut p (Refuse r) may s h (Err e) next h
+  refused_so : {r : Refusal} {s next : State} {h : Held} (e : RenderError) → refusal_of e ≡ r
+      → CarriesOut p (Refuse r) may (at s h) (Err e) (at next h)
   refused_so {r = r} {s = s} {h = h} e is = record {
     pieces = [];
     outcome = Refused (refusal_of e);
-    runs = subst (λ (f : Refusal). Runs p (Refuse r) s [] (Refused f)) (sym is) refused;
+    runs = subst (λ (z : Refusal). Runs p (Refuse r) s [] (Refused z)) (sym is) refused;
     text = sym (append-nil h.text);
     tells = refusal refl;
   }
 
-  pub c_refuse : {r : Reason} {s next : State} {h : Held} (e : RenderError) → refusal_of e ≡ plain_refusal (reason_in e) → (reason_in e ≢ out_of_memory → reason_in e ≡ r) → CarriesOut p (Refuse r) may s h (Err e) next h
-  c_refuse e plain is = elim (memory_or (reason_in e)) [
+  pub c_refuse : {r : Refusal} {s next : State} {h : Held} (e : RenderError) → IsRefusal r e
+      → CarriesOut p (Refuse r) may (at s h) (Err e) (at next h)
+  c_refuse e is = elim (memory_or (reason_in e)) [
     | inl memory ↦ c_no_memory e memory
-    | inr other ↦ refused_so e (plain ∙ ap plain_refusal (is other))
+    | inr other ↦ refused_so e (is other)
   ]
 
-  pub c_get : {f : State → Steps} {s next : State} {h new : Held} {r : Result (Unit {0}) RenderError} → CarriesOut p (f s) may s h r next new → CarriesOut p (Get f) may s h r next new
+  -- the same of a call that only refuses
+  pub c_refuses : {r : Refusal} {s next : State} {h : Held} (x : Result (Unit {0}) RenderError) → IsErrAnd x (IsRefusal r)
+      → CarriesOut p (Refuse r) may (at s h) x (at next h)
+  c_refuses (Ok u) is = absurd is
+  c_refuses (Err e) is = c_refuse e is
+
+  pub c_get : {f : State → Steps} {s next : State} {h new : Held} {r : Result (Unit {0}) RenderError}
+      → CarriesOut p (f s) may (at s h) r (at next new) → CarriesOut p (Get f) may (at s h) r (at next new)
   c_get c = record { pieces = c.pieces; outcome = c.outcome; runs = got c.runs; text = c.text; tells = c.tells }
 
-  pub c_set : {k : Steps} {s mid next : State} {h new : Held} {r : Result (Unit {0}) RenderError} → CarriesOut p k may mid h r next new → CarriesOut p (Set mid k) may s h r next new
+  pub c_set : {k : Steps} {s mid next : State} {h new : Held} {r : Result (Unit {0}) RenderError}
+      → CarriesOut p k may (at mid h) r (at next new) → CarriesOut p (Set mid k) may (at s h) r (at next new)
   c_set c = record { pieces = c.pieces; outcome = c.outcome; runs = set c.runs; text = c.text; tells = c.tells }
 
   -- an error that says so, as `?` hands it on
-  pub c_out_of_memory : {k : Steps} {s next : State} {h : Held} (r : Result (Unit {0}) RenderError) → IsErrAnd r (λ e. refusal_of e ≡ plain_refusal out_of_memory) → CarriesOut p k may s h r next h
+  pub c_out_of_memory : {k : Steps} {s next : State} {h : Held} (r : Result (Unit {0}) RenderError)
+      → IsErrAnd r (λ e. refusal_of e ≡ plain_refusal out_of_memory) → CarriesOut p k may (at s h) r (at next h)
   c_out_of_memory (Ok u) is = absurd is
   c_out_of_memory (Err e) is = c_no_memory e (ap (λ (f : Refusal). f.reason) is)
 
   -- ---- writing
 
-  pub put_none : (o : Origin) (t : List ℕ) {s : State} {h : Held} {u : Unit {0}} → length t ≡ 0 → CarriesOut p (run (put o t)) may s h (Ok u) s h
-  put_none o [] over = c_done
-  put_none o (b ∷ t) over = absurd (omega (arith, over))
-
-  pub put_ok : (o : Origin) (t : List ℕ) {s next : State} {T T' : List ℕ} {F F' : ℕ} {u : Unit {0}} → 0 < length t → next ≡ record s { line = line_behind t } → (T' ≡ T ++ t) × (F' ≡ F)
-      → CarriesOut p (run (put o t)) may s (held T F) (Ok u) next (held T' F')
+  pub c_puts : (o : Origin) (t : Text) {s next : State} {h new : Held} {r : Result (Unit {0}) RenderError}
+      → Puts t may (at s h) r (at next new) → CarriesOut p (run (write_text o t)) may (at s h) r (at next new)
   unfolding ◌>>=◌ ◌>>◌
-  put_ok o [] some is w = absurd (omega (arith, some))
-  put_ok o (b ∷ t) {s = s} {next = next} {T = T} {F = F} some is w = record {
-    pieces = record { origin = o; text = b ∷ t } ∷ [];
+  c_puts o t {s = s} {next = next} {h = h} (all_put is whole) = record {
+    pieces = pieces_of o t ++ [];
     outcome = Ended next;
-    runs = got (wrote (set (subst (λ (z : State). Runs p Done (record s { line = line_behind (b ∷ t) }) [] (Ended z)) (sym is) done)));
-    text = w.0 ∙ ap (λ (z : List ℕ). T ++ z) (sym (append-nil (b ∷ t)));
-    tells = ended w.1;
+    runs = got (wrote (set (subst (λ (z : State). Runs p Done (behind t s) [] (Ended z)) (sym is) done)));
+    text = whole.text ∙ ap (λ (z : Text). h.text ++ z) (sym (join-pieces_of o t));
+    tells = ended whole.faults;
   }
-
-  pub put_err : (o : Origin) (t : List ℕ) {s next : State} {T T' : List ℕ} {F F' : ℕ} (cause : Error) (e : RenderError) → 0 < length t → Written t T F (Err cause) T' F' → may cause
-      → refusal_of e ≡ plain_refusal (write_reason (error_kind cause)) → CarriesOut p (run (put o t)) may s (held T F) (Err e) next (held T' F')
-  unfolding ◌>>=◌ ◌>>◌
-  put_err o [] cause e some w m is = absurd (omega (arith, some))
-  put_err o (b ∷ t) {T = T} cause e some w m is = record {
-    pieces = record { origin = o; text = w.0.0 } ∷ [];
-    outcome = Faulted;
-    runs = got (cut tt (cut_off w.0.1));
-    text = w.0.2 ∙ ap (λ (z : List ℕ). T ++ z) (sym (append-nil w.0.0));
-    tells = write_fault cause m w.1 (λ other. ap (λ (f : Refusal). f.reason) is);
+  c_puts o [] (front_put cause given cut_short tells) = absurd (omega (arith, cut_short.some))
+  c_puts o (b ∷ t) {h = h} (front_put cause given cut_short tells) = record {
+    pieces = record { origin = o; text = cut_short.front } ∷ [];
+    outcome = Faulted nowhere;
+    runs = got (cut refl (cut_off cut_short.is_front));
+    text = cut_short.text ∙ ap (λ (z : Text). h.text ++ z) (sym (append-nil cut_short.front));
+    tells = fault cause nowhere given cut_short.faults tells;
   }
 
   -- ---- a part, and what comes next
 
-  ends_as : (o : Outcome) {k : Steps} {s next : State} {old new : Held} {u : Unit {0}} (ps : List Piece) → Runs p k s ps o → new.text ≡ old.text ++ join ps → Tells may old.faults new.faults o (Ok u) next → Ends p k s old next new
+  ends_as : (o : Outcome) {k : Steps} {s next : State} {old new : Held} {u : Unit {0}} (ps : List Piece) → Runs p k s ps o
+      → new.text ≡ old.text ++ join ps → Tells may old.faults new.faults o (Ok u) next → Ends p k (at s old) (at next new)
   ends_as _ ps r t (ended same) = record { pieces = ps; runs = r; text = t; faults = same }
 
-  pub ends : {k : Steps} {s next : State} {old new : Held} {u : Unit {0}} → CarriesOut p k may s old (Ok u) next new → Ends p k s old next new
+  pub ends : {k : Steps} {s next : State} {old new : Held} {u : Unit {0}}
+      → CarriesOut p k may (at s old) (Ok u) (at next new) → Ends p k (at s old) (at next new)
   ends c = ends_as c.outcome c.pieces c.runs c.text c.tells
 
   pub c_then : {t : Task} {k : Steps} {s mid next : State} {h between new : Held} {u : Unit {0}} {r : Result (Unit {0}) RenderError}
-      → CarriesOut p (todo p t) may s h (Ok u) mid between → CarriesOut p k may mid between r next new → CarriesOut p (Do t k) may s h r next new
+      → CarriesOut p (todo p t) may (at s h) (Ok u) (at mid between) → CarriesOut p k may (at mid between) r (at next new)
+      → CarriesOut p (Do t k) may (at s h) r (at next new)
   c_then {h = h} {between = between} {new = new} a b =
       let e = ends a in
       record {
@@ -137,30 +160,46 @@ module _ (p : Setting) (may : Error → Type 0) where
         tells = go_on e.faults b.tells;
       }
 
-  over_as : (o : Outcome) {t : Task} {k : Steps} {s next : State} {old new : Held} (e d : RenderError) → IsMarked t e d → (ps : List Piece) → Runs p (todo p t) s ps o → new.text ≡ old.text ++ join ps → Tells may old.faults new.faults o (Err e) next
-      → CarriesOut p (Do t k) may s old (Err d) next new
+  over_as : (o : Outcome) {t : Task} {k : Steps} {s next : State} {old new : Held} (e d : RenderError) → IsMarked t e d
+      → (ps : List Piece) → Runs p (todo p t) s ps o → new.text ≡ old.text ++ join ps
+      → Tells may old.faults new.faults o (Err e) next → CarriesOut p (Do t k) may (at s old) (Err d) (at next new)
   over_as _ {t = t} {k = k} {s = s} e d m ps r x (refusal same) = elim (memory_or (reason_in d)) [
-    | inl memory ↦ record { pieces = ps; outcome = NoMemory; runs = did_over (stops_short r refl) tt; text = x; tells = no_memory same memory }
+    | inl memory ↦ record {
+      pieces = ps;
+      outcome = NoMemory;
+      runs = did_over (stops_short r refl) tt;
+      text = x;
+      tells = no_memory same memory;
+    }
     | inr other ↦ record {
       pieces = ps;
       outcome = Refused (refusal_of d);
-      runs = subst (λ (f : Refusal). Runs p (Do t k) s ps (Refused f)) (sym (m.same other)) (did_over r tt);
+      runs = subst (λ (f : Refusal). Runs p (Do t k) s ps (Refused f)) (sym (marked-refusal t e d m other)) (did_over r tt);
       text = x;
       tells = refusal same;
     }
   ]
-  over_as _ {t = t} e d m ps r x (write_fault cause given counted reason) = record {
+  over_as _ {t = t} e d m ps r x (fault cause spot given counted tells) = record {
     pieces = ps;
-    outcome = Faulted;
+    outcome = Faulted (mark t spot);
     runs = did_over r tt;
     text = x;
-    tells = write_fault cause given counted (λ other. marked-reason t e d m other ∙ reason (λ memory. other (m.memory memory)));
+    tells = fault cause (mark t spot) given counted (marked-fault t e d cause spot m tells);
   }
-  over_as _ e d m ps r x (no_memory same memory) = record { pieces = ps; outcome = NoMemory; runs = did_over r tt; text = x; tells = no_memory same (m.memory memory) }
+  over_as _ e d m ps r x (no_memory same memory) =
+      record { pieces = ps; outcome = NoMemory; runs = did_over r tt; text = x; tells = no_memory same (m.memory memory) }
 
-  pub c_over : {t : Task} {k : Steps} {s next : State} {h new : Held} (e d : RenderError) → IsMarked t e d → CarriesOut p (todo p t) may s h (Err e) next new → CarriesOut p (Do t k) may s h (Err d) next new
+  pub c_over : {t : Task} {k : Steps} {s next : State} {h new : Held} (e d : RenderError) → IsMarked t e d
+      → CarriesOut p (todo p t) may (at s h) (Err e) (at next new) → CarriesOut p (Do t k) may (at s h) (Err d) (at next new)
   c_over e d m c = over_as c.outcome e d m c.pieces c.runs c.text c.tells
 
   -- the last part
-  pub c_last : {t : Task} {s next : State} {h new : Held} {u : Unit {0}} → CarriesOut p (todo p t) may s h (Ok u) next new → CarriesOut p (Do t Done) may s h (Ok u) next new
+  pub c_last : {t : Task} {s next : State} {h new : Held} {u : Unit {0}}
+      → CarriesOut p (todo p t) may (at s h) (Ok u) (at next new) → CarriesOut p (Do t Done) may (at s h) (Ok u) (at next new)
   c_last c = c_then c c_done
+
+  -- a part alone that leaves its errors as they are
+  pub c_only : {t : Task} {s next : State} {h new : Held} (r : Result (Unit {0}) RenderError) → ((spot : Spot) → mark t spot ≡ spot)
+      → CarriesOut p (todo p t) may (at s h) r (at next new) → CarriesOut p (Do t Done) may (at s h) r (at next new)
+  c_only (Ok u) is c = c_last c
+  c_only {t = t} (Err e) is c = c_over e e (unmarked t e (is (spot_of e))) c

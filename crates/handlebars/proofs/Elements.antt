@@ -1,68 +1,133 @@
 -- What elements and the loop over them carry out.
-use Rattle.std.proofs.Common.{◌≡◌, ◌≢◌, ℕ, ◌+◌, ◌<◌, ◌≤◌, List, [], ◌∷◌, length, drop, get_or, Option, Result, Ok, Err, refl, sym, ap, subst, inl, inr}
+use Rattle.std.proofs.Common.{◌≡◌, ◌≢◌, ℕ, ◌+◌, ◌<◌, ◌≤◌, List, [], ◌∷◌, length, drop, get_or, Option, Result, Ok, Err, refl, sym, ap, subst, arith, inl, inr}
 use Rattle.std.specs.Prelude.{slice_get}
 use Rattle.std.proofs.lemmas.List.{drop_more, drop_all}
 use Rattle.std.specs.declared.io.Error.{Error}
 use Rattle.serde_json.specs.Data.{Data}
-use Rattle.handlebars_base.specs.Answers.{Answer, gives, refuses}
-use Rattle.handlebars_base.specs.Reasons.{out_of_memory}
-use Rattle.handlebars_base.specs.RenderRefusals.{reason_in, refusal_of, plain_refusal}
+use Rattle.handlebars_base.specs.Answers.{Answer, gives, refuses, answer_map, IsRefusal}
+use Rattle.handlebars_base.specs.Bytes.{Text}
+use Rattle.handlebars_base.specs.Reasons.{Refusal, out_of_memory}
+use Rattle.handlebars_base.specs.RenderRefusals.{reason_in, refusal_of}
+use Rattle.handlebars_base.specs.Scoped.{Found, present_in}
 use Rattle.handlebars_base.specs.declared.error.render_error.RenderError.{RenderError}
 use Rattle.handlebars_template.specs.Place.{Place}
 use Rattle.handlebars_template.specs.Tree.{tree, Element, elements_of, Call}
-use Rattle.handlebars_scope.specs.Put.{Site}
+use Rattle.handlebars_scope.specs.Outputs.{Held}
+use Rattle.handlebars_scope.specs.Put.{of_value}
+use Rattle.handlebars_scope.specs.Sites.{TreeSite, Site, element_in}
 use Rattle.handlebars.specs.State.{Setting, State}
 use Rattle.handlebars.specs.Steps.{One, Steps, Do, run, answer, ◌>>=◌, ◌>>◌}
-use Rattle.handlebars.specs.Means.{show, render_expression, value_of, render_elements, render_whole, todo}
-use Rattle.handlebars.specs.View.{Held, CarriesOut}
-use Rattle.handlebars.proofs.Carry.{memory_or, c_done, c_no_memory, c_refuse, c_get, c_set, c_then, c_over, IsMarked}
+use Rattle.handlebars.specs.Means.{shown, write_value, render_expression, value_of, render_elements, render_whole, todo}
+use Rattle.handlebars.specs.View.{Moment, CarriesOut, Puts}
+use Rattle.handlebars.proofs.Carry.{memory_or, at, c_done, c_no_memory, c_refuse, c_get, c_set, c_puts, c_then, c_over, IsMarked}
 
 -- the steps of the elements from an index on
-abbrev pub from_index : List Element → List Place → ℕ → Steps
-from_index es places i = run (render_elements i (elements_of (drop i es)) places)
+abbrev pub from_index : TreeSite → List Element → List Place → ℕ → Steps
+from_index site es places i = run (render_elements site i (elements_of (drop i es)) places)
 
-at_index : (es : List Element) (places : List Place) (i : ℕ) (d : Element) → i < length es → from_index es places i ≡ Do (One (i ∷ []) (slice_get places i) (get_or es i d)) (from_index es places (i + 1))
+at_index : (site : TreeSite) (es : List Element) (places : List Place) (i : ℕ) (d : Element) → i < length es
+    → from_index site es places i ≡ Do (One (element_in site i) (slice_get places i) (get_or es i d)) (from_index site es places (i + 1))
 unfolding ◌>>◌
-at_index es places i d lt = ap (λ (z : List Element). run (render_elements i (elements_of z) places)) (drop_more es i d lt)
+at_index site es places i d lt =
+    ap (λ (z : List Element). run (render_elements site i (elements_of z) places)) (drop_more es i d lt)
+
+-- the value behind the one that a call gives
+pub record IsSeen (a : Answer Found) (o : Option Data) : Type 0 where
+  pub found : Found
+  pub is : a ≡ gives found
+  pub seen : present_in found ≡ o
+
+gives_or : Option Data → Answer (Option Data) → Option Data
+gives_or d (gives o) = o
+gives_or d (refuses r) = d
+
+same_value : {a b : Option Data} → gives a ≡ gives b → a ≡ b
+unfolding gives_or
+same_value {a = a} e = ap (gives_or a) e
+
+refuses_or : Refusal → Answer (Option Data) → Refusal
+refuses_or d (gives o) = d
+refuses_or d (refuses r) = r
+
+-- a refusal in place of a value
+abbrev no_value : Refusal → Answer (Option Data)
+no_value r = refuses r
+
+same_refused : {r q : Refusal} → no_value r ≡ no_value q → r ≡ q
+unfolding refuses_or
+same_refused {r = r} e = ap (refuses_or r) e
+
+differs : {o : Option Data} {r : Refusal} → gives o ≡ refuses r → ⊥
+differs e = cc
+
+found_value : (a : Answer Found) (o : Option Data) → answer_map present_in a ≡ gives o → IsSeen a o
+found_value (gives v) o is = record { found = v; is = refl; seen = same_value is }
+found_value (refuses r) o is = absurd (differs (sym is))
 
 module _ (p : Setting) (may : Error → Type 0) where
-  pub express_ok : (d : Data) (site : Site) (c : Call) (v : Option Data) {s next : State} {h new : Held} {r : Result (Unit {0}) RenderError} → value_of d c ≡ gives v → CarriesOut p (run (show site v)) may s h r next new → CarriesOut p (run (render_expression d site c)) may s h r next new
+  pub express_ok : (site : Site) (c : Call) (o : Option Data) {s next : State} {h new : Held} {r : Result (Unit {0}) RenderError}
+      → answer_map present_in (value_of p s c) ≡ gives o → Puts (shown o) may (at s h) r (at next new)
+      → CarriesOut p (run (render_expression p site c)) may (at s h) r (at next new)
   unfolding ◌>>=◌
-  express_ok d site c v {s = s} {next = next} {h = h} {new = new} {r = r} is a = subst (λ (z : Answer (Option Data)). CarriesOut p (run (answer z >>= show site)) may s h r next new) (sym is) a
+  express_ok site c o {s = s} {next = next} {h = h} {new = new} {r = r} is puts =
+      let v = found_value (value_of p s c) o is in
+      let here = subst (λ (z : Option Data). Puts (shown z) may (at s h) r (at next new)) (sym v.seen) puts in
+      c_get p may (subst (λ (z : Answer Found). CarriesOut p (run (answer z >>= write_value site)) may (at s h) r (at next new))
+        (sym v.is) (c_puts p may (of_value site v.found) (shown (present_in v.found)) here))
 
-  pub express_err : (d : Data) (site : Site) (c : Call) {s next : State} {h : Held} (e : RenderError) → refusal_of e ≡ plain_refusal (reason_in e) → (reason_in e ≢ out_of_memory → value_of d c ≡ refuses (reason_in e)) → CarriesOut p (run (render_expression d site c)) may s h (Err e) next h
+  refused_so : (site : Site) (a : Answer Found) {s next : State} {h : Held} (e : RenderError)
+      → (reason_in e ≢ out_of_memory → answer_map present_in a ≡ refuses (refusal_of e))
+      → CarriesOut p (run (answer a >>= write_value site)) may (at s h) (Err e) (at next h)
   unfolding ◌>>=◌
-  express_err d site c {s = s} {next = next} {h = h} e plain is = elim (memory_or (reason_in e)) [
+  refused_so site (gives v) e is = elim (memory_or (reason_in e)) [
     | inl memory ↦ c_no_memory p may e memory
-    | inr other ↦ subst (λ (z : Answer (Option Data)). CarriesOut p (run (answer z >>= show site)) may s h (Err e) next h) (sym (is other)) (c_refuse p may e plain (λ o. refl))
+    | inr other ↦ absurd (differs (is other))
   ]
+  refused_so site (refuses q) e is = c_refuse p may e (λ other. sym (same_refused (is other)))
+
+  pub express_err : (site : Site) (c : Call) {s next : State} {h : Held} (e : RenderError)
+      → (reason_in e ≢ out_of_memory → answer_map present_in (value_of p s c) ≡ refuses (refusal_of e))
+      → CarriesOut p (run (render_expression p site c)) may (at s h) (Err e) (at next h)
+  unfolding ◌>>=◌
+  express_err site c {s = s} e is = c_get p may (refused_so site (value_of p s c) e is)
 
   -- ---- the loop over elements
 
   -- What ends so from here ends so from the start.
-  abbrev pub Left : List Element → List Place → ℕ → State → Held → State → Held → Type 0
-  Left es places i s h mid between = (r : Result (Unit {0}) RenderError) (next : State) (new : Held) → CarriesOut p (from_index es places i) may mid between r next new → CarriesOut p (from_index es places 0) may s h r next new
+  abbrev pub Left : TreeSite → List Element → List Place → ℕ → Moment → Moment → Type 0
+  Left site es places i first now = (r : Result (Unit {0}) RenderError) (last : Moment)
+      → CarriesOut p (from_index site es places i) may now r last → CarriesOut p (from_index site es places 0) may first r last
 
-  pub left_starts : (es : List Element) (places : List Place) (s : State) (h : Held) → Left es places 0 s h s h
-  left_starts es places s h = λ r next new c. c
+  pub left_starts : (site : TreeSite) (es : List Element) (places : List Place) (m : Moment) → Left site es places 0 m m
+  left_starts site es places m = λ r last c. c
 
-  pub left_goes : (es : List Element) (places : List Place) (i : ℕ) (d x : Element) (s : State) (h : Held) {mid next : State} {between new : Held} {u : Unit {0}} → i < length es → get_or es i d ≡ x → Left es places i s h mid between
-      → CarriesOut p (todo p (One (i ∷ []) (slice_get places i) x)) may mid between (Ok u) next new → Left es places (i + 1) s h next new
-  left_goes es places i d x s h {mid = mid} {next = next} {between = between} {new = new} lt is left a = λ r last newest c. left r last newest
-      (subst (λ (k : Steps). CarriesOut p k may mid between r last newest) (sym (at_index es places i d lt))
-      (subst (λ (z : Element). CarriesOut p (Do (One (i ∷ []) (slice_get places i) z) (from_index es places (i + 1))) may mid between r last newest) (sym is) (c_then p may a c)))
+  pub left_goes : (site : TreeSite) (es : List Element) (places : List Place) (i : ℕ) (d x : Element) (first now next : Moment) {u : Unit {0}}
+      → i < length es → get_or es i d ≡ x → Left site es places i first now
+      → CarriesOut p (todo p (One (element_in site i) (slice_get places i) x)) may now (Ok u) next → Left site es places (i + 1) first next
+  left_goes site es places i d x first now next lt is left a = λ r last c. left r last
+      (subst (λ (k : Steps). CarriesOut p k may now r last) (sym (at_index site es places i d lt))
+      (subst (λ (z : Element). CarriesOut p (Do (One (element_in site i) (slice_get places i) z) (from_index site es places (i + 1))) may now r last)
+        (sym is) (c_then p may a c)))
 
-  pub left_over : (es : List Element) (places : List Place) (i : ℕ) (d x : Element) {s mid next : State} {h between new : Held} (e f : RenderError) → i < length es → get_or es i d ≡ x → Left es places i s h mid between
-      → IsMarked (One (i ∷ []) (slice_get places i) x) e f → CarriesOut p (todo p (One (i ∷ []) (slice_get places i) x)) may mid between (Err e) next new → CarriesOut p (from_index es places 0) may s h (Err f) next new
-  left_over es places i d x {mid = mid} {next = next} {between = between} {new = new} e f lt is left m a = left (Err f) next new
-      (subst (λ (k : Steps). CarriesOut p k may mid between (Err f) next new) (sym (at_index es places i d lt))
-      (subst (λ (z : Element). CarriesOut p (Do (One (i ∷ []) (slice_get places i) z) (from_index es places (i + 1))) may mid between (Err f) next new) (sym is) (c_over p may e f m a)))
+  pub left_over : (site : TreeSite) (es : List Element) (places : List Place) (i : ℕ) (d x : Element) (first now next : Moment) (e f : RenderError)
+      → i < length es → get_or es i d ≡ x → Left site es places i first now → IsMarked (One (element_in site i) (slice_get places i) x) e f
+      → CarriesOut p (todo p (One (element_in site i) (slice_get places i) x)) may now (Err e) next
+      → CarriesOut p (from_index site es places 0) may first (Err f) next
+  left_over site es places i d x first now next e f lt is left m a = left (Err f) next
+      (subst (λ (k : Steps). CarriesOut p k may now (Err f) next) (sym (at_index site es places i d lt))
+      (subst (λ (z : Element). CarriesOut p (Do (One (element_in site i) (slice_get places i) z) (from_index site es places (i + 1))) may now (Err f) next)
+        (sym is) (c_over p may e f m a)))
 
-  pub left_ends : (es : List Element) (places : List Place) (i : ℕ) {s mid : State} {h between : Held} {u : Unit {0}} → length es ≤ i → Left es places i s h mid between → CarriesOut p (from_index es places 0) may s h (Ok u) mid between
-  left_ends es places i {mid = mid} {between = between} {u = u} over left = left (Ok u) mid between (subst (λ (z : List Element). CarriesOut p (run (render_elements i (elements_of z) places)) may mid between (Ok u) mid between) (sym (drop_all i es over)) (c_done p may))
+  pub left_ends : (site : TreeSite) (es : List Element) (places : List Place) (i : ℕ) (first now : Moment) {u : Unit {0}} → length es ≤ i
+      → Left site es places i first now → CarriesOut p (from_index site es places 0) may first (Ok u) now
+  left_ends site es places i first now {u = u} over left = left (Ok u) now
+      (subst (λ (z : List Element). CarriesOut p (run (render_elements site i (elements_of z) places)) may now (Ok u) now)
+        (sym (drop_all i es over)) (c_done p may))
 
   -- a tree: its name, then its elements
-  pub whole_with : (n : Option (List ℕ)) (es : List Element) (places : List Place) {s mid next : State} {h new : Held} {r : Result (Unit {0}) RenderError} → mid ≡ record s { current = n }
-      → CarriesOut p (from_index es places 0) may mid h r next new → CarriesOut p (run (render_whole (tree n (elements_of es) places))) may s h r next new
+  pub whole_with : (site : TreeSite) (n : Option Text) (es : List Element) (places : List Place) {s mid next : State} {h new : Held} {r : Result (Unit {0}) RenderError}
+      → mid ≡ record s { current = n } → CarriesOut p (from_index site es places 0) may (at mid h) r (at next new)
+      → CarriesOut p (run (render_whole site (tree n (elements_of es) places))) may (at s h) r (at next new)
   unfolding ◌>>=◌ ◌>>◌
-  whole_with n es places {s = s} {next = next} {h = h} {new = new} {r = r} is c = c_get p may (c_set p may (subst (λ (z : State). CarriesOut p (from_index es places 0) may z h r next new) is c))
+  whole_with site n es places {s = s} {next = next} {h = h} {new = new} {r = r} is c =
+      c_get p may (c_set p may (subst (λ (z : State). CarriesOut p (from_index site es places 0) may (at z h) r (at next new)) is c))

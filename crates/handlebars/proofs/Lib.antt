@@ -1,9 +1,9 @@
 pub mod RunLaws
 pub mod RunOrigins
 pub mod Carry
+pub mod Puts
 pub mod Elements
-pub mod Lines
-pub mod Empties
+pub mod Kept
 pub mod Lists
 pub mod AnswerLaws
 pub mod Texts

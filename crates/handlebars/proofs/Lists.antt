@@ -5,17 +5,16 @@ use Rattle.std.proofs.Math.ListN.{get_or-map}
 use Rattle.std.proofs.lemmas.List.{length-map}
 use Rattle.std.proofs.lemmas.Option.{slice_get-map, slice_get_past, slice_get_read}
 use denote.Ref.{Bor}
-use Rattle.handlebars_base.specs.Reasons.{Refusal}
-use Rattle.handlebars_base.specs.RenderRefusals.{refusal_of}
+use Rattle.handlebars_base.specs.RenderRefusals.{reason_of, spot_of, cause_of}
 use Rattle.handlebars_base.specs.declared.error.render_error.RenderError.{RenderError}
 use Rattle.handlebars_template.specs.Place.{Place}
 use Rattle.handlebars_template.specs.Tree.{Element}
 use Rattle.handlebars_template.specs.TreeView.{place_of}
 use Rattle.handlebars_template.specs.declared.template.tree.TemplateMapping.{TemplateMapping}
-use Rattle.handlebars_scope.specs.Put.{Site}
-use Rattle.handlebars.specs.Runs.{mark}
+use Rattle.handlebars_scope.specs.Sites.{Site}
 use Rattle.handlebars.specs.Steps.{One}
-use Rattle.handlebars.proofs.Carry.{IsMarked, mark-reason}
+use Rattle.handlebars.specs.Runs.{placed_at}
+use Rattle.handlebars.proofs.Carry.{IsMarked}
 
 pub get_or-seen : {A B : Type 0} (f : A → B) (xs : List A) (i : ℕ) (x : A) → x ≡ get_or xs i x → get_or (map f xs) i (f x) ≡ f x
 get_or-seen f xs i x is = get_or-map f xs i x ∙ ap f (sym is)
@@ -34,10 +33,12 @@ through f h (Some a) = refl
 pub place_there : (ms : List TemplateMapping) (i : ℕ) (o : Option (Bor TemplateMapping)) → option_map (λ m. m.now) o ≡ slice_get ms i → option_map (λ m. place_of m.now) o ≡ slice_get (map place_of ms) i
 place_there ms i o is = sym (through (λ m. m.now) place_of o) ∙ ap (option_map place_of) is ∙ sym (slice_get-map place_of ms i)
 
-pub placed_marks : (site : Site) (place : Option Place) (x : Element) (e d : RenderError) → refusal_of d ≡ mark (One site place x) (refusal_of e) → IsMarked (One site place x) e d
-placed_marks site place x e d is = record {
-  same = λ _. is;
-  memory = λ memory. ap (λ (f : Refusal). f.reason) is ∙ mark-reason (One site place x) (refusal_of e) ∙ memory;
+pub placed_marks : (site : Site) (place : Option Place) (x : Element) (e d : RenderError)
+    → spot_of d ≡ placed_at place (spot_of e) → cause_of d ≡ cause_of e → IsMarked (One site place x) e d
+placed_marks site place x e d is kept = record {
+  spot = λ _. is;
+  cause = λ _. kept;
+  memory = λ memory. ap reason_of kept ∙ memory;
 }
 
 -- what a look into a slice found

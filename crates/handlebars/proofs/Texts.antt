@@ -1,36 +1,43 @@
 -- What a rendering into a text answers.
-use Rattle.std.proofs.Common.{◌≡◌, ◌≢◌, ℕ, List, [], ◌++◌, Ok, Err, refl, ap, ◌∙◌, subst}
+use Rattle.std.proofs.Common.{◌≡◌, ◌≢◌, ℕ, [], ◌++◌, Ok, Err, refl, ap, ◌∙◌, subst}
 use Rattle.std.specs.declared.io.Error.{Error}
 use Rattle.std.specs.declared.io.ErrorKind.TheVariants.{OutOfMemory}
 use Rattle.std.specs.IoError.{error_kind}
+use Rattle.handlebars_base.specs.Bytes.{Text}
 use Rattle.handlebars_base.specs.Reasons.{out_of_memory}
 use Rattle.handlebars_base.specs.RenderRefusals.{reason_in, refusal_of}
 use Rattle.handlebars_base.specs.declared.error.render_error.RenderError.{RenderError}
-use Rattle.handlebars_scope.specs.Outputs.{write_reason}
+use Rattle.handlebars_scope.specs.Outputs.{Held, write_reason}
 use Rattle.handlebars_scope.specs.Put.{join}
 use Rattle.handlebars.specs.State.{Setting, State}
 use Rattle.handlebars.specs.Steps.{Steps}
 use Rattle.handlebars.specs.Runs.{Outcome, Ended, Refused, Runs}
-use Rattle.handlebars.specs.View.{Held, Tells, ended, refusal, write_fault, no_memory, CarriesOut, GivesString, RefusesString}
+use Rattle.handlebars.specs.View.{Tells, ended, refusal, fault, no_memory, CarriesOut, GivesString, RefusesString}
+use Rattle.handlebars.proofs.Carry.{at}
 
-ended_so : {may : Error → Type 0} {before after : ℕ} {o : Outcome} {u : Unit {0}} {next : State} → Tells may before after o (Ok u) next → o ≡ Ended next
+ended_so : {may : Error → Type 0} {before after : ℕ} {o : Outcome} {u : Unit {0}} {next : State}
+    → Tells may before after o (Ok u) next → o ≡ Ended next
 ended_so (ended same) = refl
 
-refused_so : {may : Error → Type 0} {before after : ℕ} {o : Outcome} {e : RenderError} {next : State} → ((cause : Error) → may cause → error_kind cause ≡ OutOfMemory) → reason_in e ≢ out_of_memory
+refused_so : {may : Error → Type 0} {before after : ℕ} {o : Outcome} {e : RenderError} {next : State}
+    → ((cause : Error) → may cause → error_kind cause ≡ OutOfMemory) → reason_in e ≢ out_of_memory
     → Tells may before after o (Err e) next → o ≡ Refused (refusal_of e)
 refused_so only other (refusal same) = refl
-refused_so only other (write_fault cause given count is) = absurd (other (is other ∙ ap write_reason (only cause given)))
+refused_so only other (fault cause spot given count tells) = absurd (other (tells.reason other ∙ ap write_reason (only cause given)))
 refused_so only other (no_memory same is) = absurd (other is)
 
 module _ (p : Setting) (k : Steps) (may : Error → Type 0) where
-  pub gives_string : {s next : State} {h new : Held} {u : Unit {0}} → h.text ≡ [] → CarriesOut p k may s h (Ok u) next new → GivesString p k s next new.text
+  pub gives_string : {s next : State} {h new : Held} {u : Unit {0}} → h.text ≡ []
+      → CarriesOut p k may (at s h) (Ok u) (at next new) → GivesString p k s next new.text
   gives_string {s = s} empty c = record {
     pieces = c.pieces;
     runs = subst (λ (o : Outcome). Runs p k s c.pieces o) (ended_so c.tells) c.runs;
-    is = c.text ∙ ap (λ (xs : List ℕ). xs ++ join c.pieces) empty;
+    is = c.text ∙ ap (λ (xs : Text). xs ++ join c.pieces) empty;
   }
 
-  pub refuses_string : {s next : State} {h new : Held} (e : RenderError) → ((cause : Error) → may cause → error_kind cause ≡ OutOfMemory) → reason_in e ≢ out_of_memory → CarriesOut p k may s h (Err e) next new → RefusesString p k s (refusal_of e)
+  pub refuses_string : {s next : State} {h new : Held} (e : RenderError)
+      → ((cause : Error) → may cause → error_kind cause ≡ OutOfMemory) → reason_in e ≢ out_of_memory
+      → CarriesOut p k may (at s h) (Err e) (at next new) → RefusesString p k s (refusal_of e)
   refuses_string {s = s} e only other c = record {
     pieces = c.pieces;
     runs = subst (λ (o : Outcome). Runs p k s c.pieces o) (refused_so only other c.tells) c.runs;

@@ -18,7 +18,7 @@ unfolding ◌>>=◌ ◌>>◌ escaped
 value_row = record {
   pieces = _;
   last = _;
-  answers = rendered compiling.value_row (did (got (set (did (got (wrote (set done))) (did (got (wrote (set done))) done)))) done);
+  answers = rendered compiling.value_row (did (got (set (did (got (wrote (set done))) (did (got (got (wrote (set done)))) done)))) done);
   is = refl;
 }
 
@@ -27,7 +27,7 @@ unfolding ◌>>=◌ ◌>>◌ escaped
 markup_row = record {
   pieces = _;
   last = _;
-  answers = rendered compiling.value_row (did (got (set (did (got (wrote (set done))) (did (got (wrote (set done))) done)))) done);
+  answers = rendered compiling.value_row (did (got (set (did (got (wrote (set done))) (did (got (got (wrote (set done)))) done)))) done);
   is = refl;
 }
 
@@ -36,7 +36,7 @@ unfolding ◌>>=◌ ◌>>◌
 missing_row = record {
   pieces = _;
   last = _;
-  answers = rendered compiling.value_row (did (got (set (did (got (wrote (set done))) (did done done)))) done);
+  answers = rendered compiling.value_row (did (got (set (did (got (wrote (set done))) (did (got (got (wrote (set done)))) done)))) done);
   is = refl;
 }
 
@@ -45,13 +45,13 @@ unfolding ◌>>=◌ ◌>>◌ escaped digits
 escaped_row = record {
   pieces = _;
   last = _;
-  answers = rendered compiling.escaped_row (did (got (set (did (got (wrote (set done))) (did (got (wrote (set done))) done)))) done);
+  answers = rendered compiling.escaped_row (did (got (set (did (got (wrote (set done))) (did (got (got (wrote (set done)))) done)))) done);
   is = refl;
 }
 
 pub refusal_row : RefusalRow
 unfolding ◌>>=◌ ◌>>◌
-refusal_row = rendered compiling.member_row (did_over (got (set (did (got (wrote (set done))) (did_over refused tt)))) tt)
+refusal_row = rendered compiling.member_row (did_over (got (set (did (got (wrote (set done))) (did_over (got refused) tt)))) tt)
 
 pub unclosed_row : UnclosedRow
 unclosed_row given = not_compiled compiling.unclosed_row

@@ -1,51 +1,94 @@
 -- Where each piece of a run comes from.
 use Rattle.std.specs.Prelude.{◌≡◌, ℕ, zero, suc, List, [], ◌∷◌, ◌++◌, Option, None, Some}
 use Rattle.std.specs.List.{AllByRecursion}
-use Rattle.serde_json.specs.Data.{Data}
 use Rattle.handlebars_base.specs.Answers.{gives}
-use Rattle.handlebars_base.specs.Values.{rendered}
-use Rattle.handlebars_template.specs.Tree.{Tree, tree, Elements, no_elements, element, Element, raw_string, expression, Call}
-use Rattle.handlebars_scope.specs.Escape.{escaped}
-use Rattle.handlebars_scope.specs.Put.{Site, Origin, of_text, of_value, Piece}
-use Rattle.handlebars.specs.State.{Setting}
-use Rattle.handlebars.specs.Means.{value_of}
+use Rattle.handlebars_base.specs.Bytes.{Text}
+use Rattle.handlebars_base.specs.Scoped.{Found, present_in}
+use Rattle.handlebars_template.specs.Tree.{Tree, tree, tree_elements, Elements, no_elements, element, Element, raw_string, html_expression, expression, helper_block, decorator_expression, decorator_block, partial_expression, partial_block, comment, Call, call_body, call_inverse, decorator_body, Body, no_body, body}
+use Rattle.handlebars_scope.specs.Put.{Origin, of_text, of_value, Piece}
+use Rattle.handlebars_scope.specs.Sites.{TreeSite, first_tree, body_at, inverse_at, Site, element_in}
+use Rattle.handlebars.specs.State.{Setting, State}
+use Rattle.handlebars.specs.Means.{shown, value_of}
 
--- a text is a part of another
-pub record IsWithin (text all : List ℕ) : Type 0 where
-  pub left : List ℕ
-  pub right : List ℕ
-  pub is : all ≡ left ++ (text ++ right)
+-- ---- what stands at a site
 
 abbrev pub nth : Elements → ℕ → Option Element
 nth no_elements i = None
 nth (element e es) zero = Some e
 nth (element e es) (suc i) = nth es i
 
--- the element at a site of a tree; none stands within another
-abbrev pub element_at : Tree → Site → Option Element
-element_at (tree n es places) [] = None
-element_at (tree n es places) (i ∷ []) = nth es i
-element_at (tree n es places) (i ∷ j ∷ more) = None
+abbrev pub nth_in : Option Tree → ℕ → Option Element
+nth_in None i = None
+nth_in (Some t) i = nth (tree_elements t) i
+
+abbrev pub tree_in : Body → Option Tree
+tree_in no_body = None
+tree_in (body t) = Some t
+
+-- the body of an element
+abbrev pub body_in : Option Element → Option Tree
+body_in None = None
+body_in (Some (raw_string t)) = None
+body_in (Some (html_expression c)) = tree_in (call_body c)
+body_in (Some (expression c)) = tree_in (call_body c)
+body_in (Some (helper_block c)) = tree_in (call_body c)
+body_in (Some (decorator_expression t)) = tree_in (decorator_body t)
+body_in (Some (decorator_block t)) = tree_in (decorator_body t)
+body_in (Some (partial_expression t)) = tree_in (decorator_body t)
+body_in (Some (partial_block t)) = tree_in (decorator_body t)
+body_in (Some (comment t)) = None
+
+-- its inverse
+abbrev pub inverse_in : Option Element → Option Tree
+inverse_in None = None
+inverse_in (Some (raw_string t)) = None
+inverse_in (Some (html_expression c)) = tree_in (call_inverse c)
+inverse_in (Some (expression c)) = tree_in (call_inverse c)
+inverse_in (Some (helper_block c)) = tree_in (call_inverse c)
+inverse_in (Some (decorator_expression t)) = None
+inverse_in (Some (decorator_block t)) = None
+inverse_in (Some (partial_expression t)) = None
+inverse_in (Some (partial_block t)) = None
+inverse_in (Some (comment t)) = None
+
+-- the tree and the element at their sites, in a run that begins with the tree u
+abbrev mutual
+  pub tree_at : Tree → TreeSite → Option Tree
+  tree_at u first_tree = Some u
+  tree_at u (body_at site) = body_in (element_at u site)
+  tree_at u (inverse_at site) = inverse_in (element_at u site)
+
+  pub element_at : Tree → Site → Option Element
+  element_at u (element_in at i) = nth_in (tree_at u at) i
+
+-- ---- origins
+
+-- a text is a part of another
+pub record IsWithin (t all : Text) : Type 0 where
+  pub left : Text
+  pub right : Text
+  pub is : all ≡ left ++ (t ++ right)
 
 -- a part of the text element at the site
-pub record IsOfText (t : Tree) (site : Site) (text : List ℕ) : Type 0 where
-  pub all : List ℕ
-  pub stands : element_at t site ≡ Some (raw_string all)
-  pub is : IsWithin text all
+pub record IsOfText (u : Tree) (site : Site) (t : Text) : Type 0 where
+  pub all : Text
+  pub stands : element_at u site ≡ Some (raw_string all)
+  pub is : IsWithin t all
 
--- a part of the value that the expression at the site has, rendered and escaped
-pub record IsOfValue (p : Setting) (t : Tree) (site : Site) (value : Data) (text : List ℕ) : Type 0 where
+-- a part of the value that the expression at the site has in a state, rendered and escaped
+pub record IsOfValue (p : Setting) (u : Tree) (site : Site) (found : Found) (t : Text) : Type 0 where
   pub helper : Call
-  pub stands : element_at t site ≡ Some (expression helper)
-  pub has : value_of p.given helper ≡ gives (Some value)
-  pub is : IsWithin text (escaped (rendered value))
+  pub stands : element_at u site ≡ Some (expression helper)
+  pub state : State
+  pub has : value_of p state helper ≡ gives found
+  pub is : IsWithin t (shown (present_in found))
 
-abbrev pub ComesFrom : Setting → Tree → Origin → List ℕ → Type 0
-ComesFrom p t (of_text site) text = IsOfText t site text
-ComesFrom p t (of_value site value) text = IsOfValue p t site value text
+abbrev pub ComesFrom : Setting → Tree → Origin → Text → Type 0
+ComesFrom p u (of_text site) t = IsOfText u site t
+ComesFrom p u (of_value site found) t = IsOfValue p u site found t
 
 abbrev pub HasOrigin : Setting → Tree → Piece → Type 0
-HasOrigin p t piece = ComesFrom p t piece.origin piece.text
+HasOrigin p u piece = ComesFrom p u piece.origin piece.text
 
 abbrev pub HaveOrigins : Setting → Tree → List Piece → Type 0
-HaveOrigins p t ps = AllByRecursion (HasOrigin p t) ps
+HaveOrigins p u ps = AllByRecursion (HasOrigin p u) ps

@@ -1,45 +1,69 @@
 -- Worked sources, each with its answer over data.
-use Rattle.std.specs.Prelude.{ℕ, List, [], ◌∷◌, ◌++◌, Some, None, codes}
+use Rattle.std.specs.Prelude.{[], ◌∷◌, ◌++◌, Some, None, codes}
 use Rattle.serde_json.specs.Data.{unsigned, Data, null, number, string, array, object, no_members, member, no_items, item}
+use Rattle.handlebars_base.specs.Bytes.{Text, backslash}
 use Rattle.handlebars_base.specs.Reasons.{Refusal, invalid_json_index, of_template}
 use Rattle.handlebars_base.specs.RenderRefusals.{plain_refusal}
 use Rattle.handlebars_template.specs.Compile.{no_options, unreadable}
 use Rattle.handlebars_template.specs.Rows.{at, escaped_source}
 use Rattle.handlebars_scope.specs.Put.{of_text}
+use Rattle.handlebars_scope.specs.Sites.{first_tree, element_in}
+use Rattle.handlebars.specs.State.{Setting}
 use Rattle.handlebars.specs.Runs.{Refused}
 use Rattle.handlebars.specs.Answer.{RenderAnswers, GivesText}
 
 -- data with one member
-abbrev pub with : List ℕ → Data → Data
+abbrev pub with : Text → Data → Data
 with name value = object (member name value no_members)
+
+-- a run over data
+abbrev pub over : Data → Setting
+over given = record { given = given }
 
 -- The empty source gives the empty text, over any data.
 abbrev pub EmptyRow : Type 0
-EmptyRow = (given : Data) → GivesText [] given []
+EmptyRow = (given : Data) → GivesText (over given) no_options [] []
+
+abbrev pub foo : Data
+foo = with (codes "name") (string (codes "foo"))
 
 abbrev pub ValueRow : Type 0
-ValueRow = GivesText (codes "Hello {{name}}") (with (codes "name") (string (codes "foo"))) (codes "Hello foo")
+ValueRow = GivesText (over foo) no_options (codes "Hello {{name}}") (codes "Hello foo")
+
+abbrev pub markup : Data
+markup = with (codes "name") (string (codes "<b>"))
 
 -- A value is escaped.
 abbrev pub MarkupRow : Type 0
-MarkupRow = GivesText (codes "Hello {{name}}") (with (codes "name") (string (codes "<b>"))) (codes "Hello &lt;b&gt;")
+MarkupRow = GivesText (over markup) no_options (codes "Hello {{name}}") (codes "Hello &lt;b&gt;")
 
 -- A value that is missing writes nothing.
 abbrev pub MissingRow : Type 0
-MissingRow = GivesText (codes "Hello {{name}}") null (codes "Hello ")
+MissingRow = GivesText (over null) no_options (codes "Hello {{name}}") (codes "Hello ")
+
+abbrev pub one : Data
+one = with (codes "a") (number (unsigned 1))
 
 -- Braces behind one backslash are text, and of two backslashes one is dropped.
 abbrev pub EscapedRow : Type 0
-EscapedRow = GivesText escaped_source (with (codes "a") (number (unsigned 1))) (codes "{{a}} " ++ (92 ∷ codes "1"))
+EscapedRow = GivesText (over one) no_options escaped_source (codes "{{a}} " ++ (backslash ∷ codes "1"))
 
 -- a name that is no index, at line 1 and column 2
 abbrev pub wrong_index : Refusal
-wrong_index = record { reason = invalid_json_index (codes "x"); name = None; line = Some 1; column = Some 2 }
+wrong_index = record {
+  reason = invalid_json_index (codes "x");
+  spot = record { name = None; line = Some 1; column = Some 2 };
+}
 
--- The text before the fault is written.
+abbrev pub ones : Data
+ones = with (codes "a") (array (item (number (unsigned 1)) no_items))
+
+-- The text before the refusal is written.
 abbrev pub RefusalRow : Type 0
-RefusalRow = RenderAnswers (codes "x{{a.x}}") (with (codes "a") (array (item (number (unsigned 1)) no_items))) (record { origin = of_text (0 ∷ []); text = codes "x" } ∷ []) (Refused wrong_index)
+RefusalRow = RenderAnswers (over ones) no_options (codes "x{{a.x}}")
+    (record { origin = of_text (element_in first_tree 0); text = codes "x" } ∷ []) (Refused wrong_index)
 
 -- A source that doesn't compile is refused before anything is written, over any data.
 abbrev pub UnclosedRow : Type 0
-UnclosedRow = (given : Data) → RenderAnswers (codes "ab{{name") given [] (Refused (plain_refusal (of_template (unreadable no_options (at 1 3)))))
+UnclosedRow = (given : Data) → RenderAnswers (over given) no_options (codes "ab{{name") []
+    (Refused (plain_refusal (of_template (unreadable no_options (at 1 3)))))

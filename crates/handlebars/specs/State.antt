@@ -1,6 +1,7 @@
 -- What a run reads and what it changes.
-use Rattle.std.specs.Prelude.{ℕ, List, Option, None}
+use Rattle.std.specs.Prelude.{Option, None}
 use Rattle.serde_json.specs.Data.{Data}
+use Rattle.handlebars_base.specs.Bytes.{Text}
 use Rattle.handlebars_scope.specs.Put.{LineState, first_line}
 
 -- all that stays as it is in a run
@@ -9,8 +10,12 @@ pub record Setting : Type 0 where
 
 -- what a run changes: the name of the template that is being rendered, if it has one, and the line that is written
 pub record State : Type 0 where
-  pub current : Option (List ℕ)
+  pub current : Option Text
   pub line : LineState
 
 abbrev pub first_state : State
 first_state = record { current = None; line = first_line }
+
+-- the data that paths lead into
+abbrev pub data_at : Setting → State → Data
+data_at p s = p.given

@@ -1,21 +1,23 @@
 -- A small language of steps, in which the meaning of a template is written.
 use Rattle.std.specs.Prelude.{List, Option}
-use Rattle.handlebars_base.specs.Reasons.{Reason}
+use Rattle.handlebars_base.specs.Reasons.{Reason, Refusal}
+use Rattle.handlebars_base.specs.RenderRefusals.{plain_refusal}
 use Rattle.handlebars_base.specs.Answers.{Answer, gives, refuses}
 use Rattle.handlebars_template.specs.Place.{Place}
 use Rattle.handlebars_template.specs.Tree.{Tree, Element}
-use Rattle.handlebars_scope.specs.Put.{Piece, Site}
+use Rattle.handlebars_scope.specs.Put.{Piece}
+use Rattle.handlebars_scope.specs.Sites.{TreeSite, Site}
 use Rattle.handlebars.specs.State.{State}
 
--- a part of a run: an element at its site and its place, where it has one, or a whole tree
+-- a part of a run: an element at its site and its place, where it has one, or a whole tree at its site
 pub data Task : Type 0 where
   One : Site → Option Place → Element → Task
-  Whole : Tree → Task
+  Whole : TreeSite → Tree → Task
 
 -- steps to be carried out one after the other
 pub data Steps : Type 0 where
   Done : Steps
-  Refuse : Reason → Steps
+  Refuse : Refusal → Steps
   Write : List Piece → Steps → Steps
   Get : (State → Steps) → Steps
   Set : State → Steps → Steps
@@ -39,8 +41,12 @@ return a = λ k. k a
 abbrev pub run : Prog (Unit {0}) → Steps
 run m = m (λ u. Done)
 
-abbrev pub refuse : {A : Type 0} → Reason → Prog A
+abbrev pub refuse : {A : Type 0} → Refusal → Prog A
 refuse r = λ k. Refuse r
+
+-- with no template and no position yet
+abbrev pub refuse_for : {A : Type 0} → Reason → Prog A
+refuse_for r = refuse (plain_refusal r)
 
 -- a value, or a refusal, that a definition gives
 abbrev pub answer : {A : Type 0} → Answer A → Prog A

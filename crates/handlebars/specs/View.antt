@@ -2,63 +2,107 @@
 use Rattle.std.specs.Prelude.{◌≡◌, ◌≢◌, ℕ, Option, ◌+◌, ◌^◌, ◌<◌, List, ◌++◌, option_map, Result, Ok, Err, string_bytes, Bool}
 use Rattle.std.specs.declared.io.Error.{Error}
 use Rattle.std.specs.IoError.{error_kind}
-use Rattle.handlebars_base.specs.Reasons.{Refusal, out_of_memory}
-use Rattle.handlebars_base.specs.RenderRefusals.{reason_in, refusal_of}
+use Rattle.serde_json.specs.View.{view}
+use Rattle.handlebars_base.specs.Bytes.{Text}
+use Rattle.handlebars_base.specs.Reasons.{Spot, nowhere, Refusal, out_of_memory}
+use Rattle.handlebars_base.specs.RenderRefusals.{reason_in, spot_of, refusal_of, cause_of}
 use Rattle.handlebars_base.specs.declared.error.render_error.RenderError.{RenderError}
-use Rattle.handlebars_scope.specs.Outputs.{write_reason}
-use Rattle.handlebars_scope.specs.Put.{LineState, Piece, join}
+use Rattle.handlebars_base.specs.declared.error.render_error.RenderErrorReason.TheVariants.{IOError}
+use Rattle.handlebars_template.specs.Compile.{Options, no_options}
+use Rattle.handlebars_scope.specs.Contexts.{data_of}
+use Rattle.handlebars_scope.specs.LineView.{line_of}
+use Rattle.handlebars_scope.specs.Outputs.{Held, IsWhole, IsCutOff, write_reason}
+use Rattle.handlebars_scope.specs.Put.{Piece, join, line_behind}
+use Rattle.handlebars_scope.specs.declared.context.Context.{Context}
 use Rattle.handlebars.specs.State.{Setting, State}
 use Rattle.handlebars.specs.Steps.{Steps}
 use Rattle.handlebars.specs.Runs.{Outcome, Ended, Refused, Faulted, NoMemory, Runs}
+use Rattle.handlebars.specs.declared.registry.Registry.{Registry}
 use Rattle.handlebars.specs.declared.render.context.RenderContext.{RenderContext}
-use Rattle.handlebars.specs.declared.render.context.Line.{Line}
+use Rattle.handlebars.specs.declared.render.setting.Setting as declared
 
-abbrev pub line_of : Line → LineState
-line_of l = record { before = l.before; trailing = l.trailing; produced = l.produced }
+-- ---- what a run reads and changes
+
+-- the setting of a run, with a registry and over a context
+abbrev pub setting_of : Registry → Context → Setting
+setting_of r c = record { given = data_of c }
+
+-- the same, as the code of a rendering has it
+abbrev pub setting_in : declared.Setting → Setting
+setting_in x = record { given = view x.given.now }
+
+-- how a registry compiles sources
+abbrev pub options_of : Registry → Options
+options_of r = no_options
 
 abbrev pub state_of : RenderContext → State
 state_of rc = record { current = option_map string_bytes rc.current_template; line = line_of rc.line }
 
 -- the name of the template that the run began with, if it has one
-abbrev pub root_of : RenderContext → Option (List ℕ)
+abbrev pub root_of : RenderContext → Option Text
 root_of rc = option_map string_bytes rc.root_template
 
 abbrev pub has_failed : RenderContext → Bool
 has_failed rc = rc.failed
 
--- what an output holds: its text, and how many of its writes failed
-pub record Held : Type 0 where
-  pub text : List ℕ
-  pub faults : ℕ
+-- what no rendering changes: the first template's name, and, until the run is over, whether the context has failed
+pub record IsKept (before after : RenderContext) : Type 0 where
+  pub root : root_of after ≡ root_of before
+  pub failed : has_failed after ≡ has_failed before
 
-abbrev pub held : List ℕ → ℕ → Held
-held text faults = record { text = text; faults = faults }
+-- the state of a run and what its output holds, at one moment
+pub record Moment : Type 0 where
+  pub state : State
+  pub held : Held
 
--- How the answer of a call goes with the outcome of a run. A write that failed is counted, and is told by its kind; a
--- refusal has the run's reason, position and name; want of memory may come anywhere.
+abbrev pub moment : RenderContext → Held → Moment
+moment rc held = record { state = state_of rc; held = held }
+
+-- ---- what calls say
+
+-- The error tells of a fault of the output: its reason by the kind of its cause, which it keeps, and the place.
+pub record TellsFault (cause : Error) (spot : Spot) (e : RenderError) : Type 0 where
+  pub reason : reason_in e ≢ out_of_memory → reason_in e ≡ write_reason (error_kind cause)
+  pub kept : reason_in e ≢ out_of_memory → cause_of e ≡ IOError cause
+  pub where_it_is : reason_in e ≢ out_of_memory → spot_of e ≡ spot
+
+-- How the answer of a call goes with the outcome of a run. A write that failed is counted; a refusal has the run's
+-- reason, position and name; want of memory may come anywhere.
 pub data Tells (may : Error → Type 0) (before after : ℕ) : Outcome → Result (Unit {0}) RenderError → State → Type 0 where
   ended : {s : State} {u : Unit {0}} → after ≡ before → Tells may before after (Ended s) (Ok u) s
   refusal : {s : State} {e : RenderError} → after ≡ before → Tells may before after (Refused (refusal_of e)) (Err e) s
-  write_fault : {s : State} {e : RenderError} → (cause : Error) → may cause → (before + 1 < 2 ^ 64 → after ≡ before + 1)
-      → (reason_in e ≢ out_of_memory → reason_in e ≡ write_reason (error_kind cause)) → Tells may before after Faulted (Err e) s
-  no_memory : {s : State} {e : RenderError} → after ≡ before → reason_in e ≡ out_of_memory → Tells may before after NoMemory (Err e) s
+  fault : {s : State} {e : RenderError} (cause : Error) (spot : Spot) → may cause
+      → (before + 1 < 2 ^ 64 → after ≡ before + 1) → TellsFault cause spot e → Tells may before after (Faulted spot) (Err e) s
+  no_memory : {s : State} {e : RenderError} → after ≡ before → reason_in e ≡ out_of_memory
+      → Tells may before after NoMemory (Err e) s
 
--- The steps were carried out from this state: the output has gained the text of their pieces, and the result and the
--- next state tell the outcome.
-pub record CarriesOut (p : Setting) (k : Steps) (may : Error → Type 0) (s : State) (old : Held) (r : Result (Unit {0}) RenderError) (next : State) (new : Held) : Type 0 where
+-- The steps were carried out from one moment to another: the output has gained the text of their pieces, and the result
+-- and the next state tell the outcome.
+pub record CarriesOut (p : Setting) (k : Steps) (may : Error → Type 0) (before : Moment) (r : Result (Unit {0}) RenderError) (after : Moment) : Type 0 where
   pub pieces : List Piece
   pub outcome : Outcome
-  pub runs : Runs p k s pieces outcome
-  pub text : new.text ≡ old.text ++ join pieces
-  pub tells : Tells may old.faults new.faults outcome r next
+  pub runs : Runs p k before.state pieces outcome
+  pub text : after.held.text ≡ before.held.text ++ join pieces
+  pub tells : Tells may before.held.faults after.held.faults outcome r after.state
+
+-- the state behind a text
+abbrev pub behind : Text → State → State
+behind t s = record s { line = line_behind t s.line }
+
+-- A text was written, whatever the setting, or a beginning of it, and the output failed.
+pub data Puts (t : Text) (may : Error → Type 0) (before : Moment) : Result (Unit {0}) RenderError → Moment → Type 0 where
+  all_put : {after : Moment} {u : Unit {0}} → after.state ≡ behind t before.state → IsWhole t before.held after.held
+      → Puts t may before (Ok u) after
+  front_put : {after : Moment} {e : RenderError} (cause : Error) → may cause → IsCutOff t before.held after.held
+      → TellsFault cause nowhere e → Puts t may before (Err e) after
 
 -- The steps end well from this state, and the text is that of their pieces.
-pub record GivesString (p : Setting) (k : Steps) (s next : State) (text : List ℕ) : Type 0 where
+pub record GivesString (p : Setting) (k : Steps) (s next : State) (text : Text) : Type 0 where
   pub pieces : List Piece
   pub runs : Runs p k s pieces (Ended next)
   pub is : text ≡ join pieces
 
 -- The steps are refused so from this state.
-pub record RefusesString (p : Setting) (k : Steps) (s : State) (f : Refusal) : Type 0 where
+pub record RefusesString (p : Setting) (k : Steps) (s : State) (r : Refusal) : Type 0 where
   pub pieces : List Piece
-  pub runs : Runs p k s pieces (Refused f)
+  pub runs : Runs p k s pieces (Refused r)

@@ -1,10 +1,17 @@
 //! Templates over JSON data, with scoping that is predictable and data that never becomes markup unless the template
 //! says so: each render call writes exactly the text that the language's definition gives, or refuses for its reason.
+//!
+//! ```
+//! let registry = Handlebars::new(alloc)?;
+//! let data = Context::try_from(JsonValue::from_str(alloc, r#"{"name":"<foo>"}"#)?)?;
+//! let text = registry.render_template_with_context("Hello {{name}}", &data, &Discard, &mut NoFiles)?;
+//! // Hello &lt;foo&gt;
+//! ```
 #![tactic(auto)]
 
+pub mod laws;
 mod registry;
 mod render;
-mod rows;
 mod sources;
 
 pub use handlebars_base::error::{
@@ -19,6 +26,5 @@ pub use handlebars_template::template;
 pub use handlebars_template::template::Template;
 pub use registry::{Registry, Registry as Handlebars};
 pub use render::{RenderContext, Renderable};
-pub use rows::worked_rows;
 pub use serde_json::Value as JsonValue;
-pub use sources::{EntryKind, TemplateReader};
+pub use sources::{EntryKind, NoFiles, TemplateReader};

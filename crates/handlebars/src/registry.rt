@@ -1,10 +1,10 @@
 //! The registry, and the calls that render.
 
-ghost use Rattle.std.specs.Prelude.{◌≢◌, IfOk, IfErr, string_bytes};
+ghost use Rattle.std.specs.Prelude.{◌≡◌, ◌≢◌, IfOk, IfErr, string_bytes};
 ghost use Rattle.handlebars_base.specs.Reasons.{out_of_memory};
 ghost use Rattle.handlebars_base.specs.RenderRefusals.{refusal_of, reason_in};
-ghost use Rattle.handlebars_scope.specs.Contexts.{data_of};
 ghost use Rattle.handlebars.specs.Answer.{GivesText, RefusesWith, HasOneAnswer, AnswerHasOrigins};
+ghost use Rattle.handlebars.specs.View.{setting_of, options_of};
 
 use crate::render::{RenderContext, Renderable};
 use crate::sources::TemplateReader;
@@ -35,14 +35,16 @@ impl Registry {
         _files: &mut R,
     ) -> Result<String, RenderError>
         // The text is the join of the pieces of the one answer that the language's definition gives.
-        ensures ok { IfOk result (λ text. GivesText source.now (data_of ctx.now) (string_bytes text)) }
+        ensures ok { IfOk result (λ text. GivesText (setting_of self.now ctx.now) (options_of self.now) source.now (string_bytes text)) }
 
         // A refusal, but for want of memory, is the definition's: its reason, its position and its name.
-        ensures err { IfErr result (λ e. reason_in e ≢ out_of_memory → RefusesWith source.now (data_of ctx.now) (refusal_of e)) }
+        ensures err { IfErr result (λ e. reason_in e ≢ out_of_memory
+            → RefusesWith (setting_of self.now ctx.now) (options_of self.now) source.now (refusal_of e)) }
 
-        // There is one such answer, and each of its pieces comes from the source's tree and the data.
-        ensures one { HasOneAnswer source.now (data_of ctx.now) }
-        ensures origins { AnswerHasOrigins source.now (data_of ctx.now) }
+        // There is at most one such answer, and each of its pieces comes from the source's tree and the data.
+        ensures one { HasOneAnswer (setting_of self.now ctx.now) (options_of self.now) source.now }
+        ensures origins { AnswerHasOrigins (setting_of self.now ctx.now) (options_of self.now) source.now }
+        ensures unread { _files.new ≡ _files.old }
     {
         let template = Template::compile(self.alloc, source)?;
         let mut rc = RenderContext::new(self.alloc, None)?;

@@ -1,27 +1,26 @@
 //! Rendering: carrying out what a template means.
 
-ghost use Rattle.std.specs.Prelude.{◌≡◌, ◌≢◌, ◌++◌, IfOk, IfErr, IsErrAnd, OnErr, OnOk, string_bytes, List, ℕ, true, false};
+ghost use Rattle.std.specs.Prelude.{◌≡◌, ◌≢◌, IfOk, IfErr, IsErrAnd, OnErr, OnOk, string_bytes, true, false};
 ghost use Rattle.handlebars_base.specs.Reasons.{out_of_memory, failed};
 ghost use Rattle.handlebars_base.specs.RenderRefusals.{refusal_of, plain_refusal, reason_in};
-ghost use Rattle.handlebars_template.specs.TreeView.{tree_view};
-ghost use Rattle.handlebars_scope.specs.Contexts.{data_of};
-ghost use Rattle.handlebars.specs.State.{Setting};
+ghost use Rattle.handlebars_template.specs.TreeView.{tree_view, element_view};
 ghost use Rattle.handlebars.specs.Steps.{Steps};
-ghost use Rattle.handlebars.specs.Means.{render_tree};
-ghost use Rattle.handlebars.specs.View.{state_of, has_failed, held, CarriesOut, GivesString, RefusesString};
-ghost use Rattle.handlebars.specs.Laws.{OneRun, StopsInBeginning, AllHaveOrigins};
+ghost use Rattle.handlebars.specs.Means.{render_tree, render_alone};
+ghost use Rattle.handlebars.specs.View.{setting_of, state_of, root_of, has_failed, moment, CarriesOut, GivesString, RefusesString};
 
 mod context;
 mod element;
+mod setting;
 mod tree;
 
 use crate::registry::Registry;
-use crate::render::tree::render_tree;
+use crate::render::setting::Setting;
+use crate::render::tree::{render_alone, render_tree};
 pub use context::RenderContext;
 use handlebars_base::error::{RenderError, RenderErrorReason};
 use handlebars_scope::context::Context;
 use handlebars_scope::output::{Output, StringOutput};
-use handlebars_template::template::Template;
+use handlebars_template::template::{Template, TemplateElement};
 use log::Log;
 use std::alloc::Global;
 
@@ -41,10 +40,11 @@ pub trait Renderable {
         out: &mut O,
         log: &L,
     ) -> Result<(), RenderError>
-        ensures renders { has_failed rc.old ≡ false → CarriesOut (record { given = data_of data.now }) (steps self.now) O.may_give (state_of rc.old)
-            (held (O.text out.old) (O.faults out.old)) result (state_of rc.new) (held (O.text out.new) (O.faults out.new)) }
-        ensures failed { has_failed rc.old ≡ true → IsErrAnd result (λ e. refusal_of e ≡ plain_refusal failed) × (rc.new ≡ rc.old)
-            × (O.text out.new ≡ O.text out.old) × (O.faults out.new ≡ O.faults out.old) }
+        ensures renders { has_failed rc.old ≡ false → CarriesOut (setting_of registry.now «data».now) (steps self.now)
+            O.may_give (moment rc.old (O.held out.old)) result (moment rc.new (O.held out.new)) }
+        ensures failed { has_failed rc.old ≡ true → IsErrAnd result (λ e. refusal_of e ≡ plain_refusal failed)
+            × (rc.new ≡ rc.old) × (O.held out.new ≡ O.held out.old) }
+        ensures root { root_of rc.new ≡ root_of rc.old }
         ensures ok { OnOk result (has_failed rc.new ≡ false) }
         ensures err { OnErr result (has_failed rc.new ≡ true) };
 
@@ -57,9 +57,12 @@ pub trait Renderable {
         rc: &mut RenderContext,
         log: &L,
     ) -> Result<String, RenderError>
-        ensures ok { IfOk result (λ text. (has_failed rc.old ≡ false) × GivesString (record { given = data_of data.now }) (steps self.now) (state_of rc.old) (state_of rc.new) (string_bytes text)) }
-        ensures err { IfErr result (λ e. has_failed rc.old ≡ false → reason_in e ≢ out_of_memory → RefusesString (record { given = data_of data.now }) (steps self.now) (state_of rc.old) (refusal_of e)) }
+        ensures ok { IfOk result (λ text. (has_failed rc.old ≡ false)
+            × GivesString (setting_of registry.now «data».now) (steps self.now) (state_of rc.old) (state_of rc.new) (string_bytes text)) }
+        ensures err { IfErr result (λ e. has_failed rc.old ≡ false → reason_in e ≢ out_of_memory
+            → RefusesString (setting_of registry.now «data».now) (steps self.now) (state_of rc.old) (refusal_of e)) }
         ensures failed { has_failed rc.old ≡ true → IsErrAnd result (λ e. refusal_of e ≡ plain_refusal failed) × (rc.new ≡ rc.old) }
+        ensures root { root_of rc.new ≡ root_of rc.old }
         ensures kept { OnOk result (has_failed rc.new ≡ false) }
         ensures fails { OnErr result (has_failed rc.new ≡ true) };
 }
@@ -76,16 +79,10 @@ impl Renderable for Template {
         out: &mut O,
         _log: &L,
     ) -> Result<(), RenderError> {
-        if rc.has_failed() {
-            return Err(RenderErrorReason::Failed.into());
-        }
-        match render_tree(alloc, self, data.data(), rc, out) {
-            Ok(()) => Ok(()),
-            Err(e) => {
-                rc.fail();
-                Err(e)
-            }
-        }
+        ready(rc)?;
+        let given = data.data();
+        let answer = render_tree(&Setting { alloc, given }, self, rc, out);
+        fail_after(rc, answer)
     }
 
     fn renders<L: Log>(
@@ -104,11 +101,61 @@ impl Renderable for Template {
     }
 }
 
-/// Two runs of the same steps from the same state are one, unless they stop on the way; a run that
-/// stops on the way has written a beginning of the whole one's text; and all that a tree's run
-/// writes has an origin in the tree.
-pub fn laws_of_runs()
-    ensures one { OneRun }
-    ensures beginning { StopsInBeginning }
-    ensures origins { AllHaveOrigins }
-{}
+// A context that has failed is refused.
+fn ready(rc: &RenderContext) -> Result<(), RenderError>
+    ensures ok { IfOk result (λ _. has_failed rc.now ≡ false) }
+    ensures err { IfErr result (λ e. (has_failed rc.now ≡ true) × (refusal_of e ≡ plain_refusal failed)) }
+{
+    if rc.has_failed() {
+        Err(RenderErrorReason::Failed.into())
+    } else {
+        Ok(())
+    }
+}
+
+// After a refusal the context has failed.
+fn fail_after(rc: &mut RenderContext, answer: Result<(), RenderError>) -> Result<(), RenderError>
+    ensures answer { result ≡ answer }
+    ensures ok { OnOk result (rc.new ≡ rc.old) }
+    ensures err { OnErr result (rc.new ≡ record rc.old { failed = true }) }
+{
+    if answer.is_err() {
+        rc.fail();
+    }
+    answer
+}
+
+/// An element alone, which has no position: a refusal of it has none either.
+impl Renderable for TemplateElement {
+    ghost steps = { λ e. render_alone (element_view e) };
+
+    fn render<L: Log, O: Output>(
+        &self,
+        alloc: Global,
+        _registry: &Registry,
+        data: &Context,
+        rc: &mut RenderContext,
+        out: &mut O,
+        _log: &L,
+    ) -> Result<(), RenderError> {
+        ready(rc)?;
+        let given = data.data();
+        let answer = render_alone(&Setting { alloc, given }, self, rc, out);
+        fail_after(rc, answer)
+    }
+
+    fn renders<L: Log>(
+        &self,
+        alloc: Global,
+        registry: &Registry,
+        data: &Context,
+        rc: &mut RenderContext,
+        log: &L,
+    ) -> Result<String, RenderError> {
+        let mut out = StringOutput::new(alloc);
+        match self.render(alloc, registry, data, rc, &mut out, log) {
+            Ok(()) => Ok(out.into_string()),
+            Err(e) => Err(e),
+        }
+    }
+}

@@ -7,6 +7,7 @@ ghost use Rattle.std.specs.declared.io.Error.{Error};
 ghost use Rattle.handlebars.specs.declared.sources.EntryKind.{EntryKind};
 
 use std::io;
+use std::io::ErrorKind;
 
 /// What stands under a name in a folder.
 #[derive(Clone, Copy, Debug, PartialEq, Eq)]
@@ -31,4 +32,24 @@ pub trait TemplateReader {
     /// The entries of a folder, with their names.
     fn list(&mut self, folder: &str) -> Result<Vec<(String, EntryKind)>, io::Error>
         ensures { lists self.old folder.now result self.new };
+}
+
+/// Has no file: for renderings that read none.
+#[derive(Drop)]
+pub struct NoFiles;
+
+impl TemplateReader for NoFiles {
+    ghost use Rattle.std.specs.Prelude.{◌≡◌, IsErr};
+
+    ghost reads = { λ before path answer after. IsErr answer × (after ≡ before) };
+
+    ghost lists = { λ before path answer after. IsErr answer × (after ≡ before) };
+
+    fn read(&mut self, _path: &str) -> Result<String, io::Error> {
+        Err(io::Error::from(ErrorKind::NotFound))
+    }
+
+    fn list(&mut self, _folder: &str) -> Result<Vec<(String, EntryKind)>, io::Error> {
+        Err(io::Error::from(ErrorKind::NotFound))
+    }
 }

@@ -1,8 +1,8 @@
 pub mod OptionBinds
-pub mod PathScan
+pub mod PathMarks
 pub mod PathParts
-pub mod PathSpelled
 pub mod PathLinks
 pub mod PathShapes
-pub mod PathFront
+pub mod ReferenceLength
 pub mod References
+pub mod PathsInFront

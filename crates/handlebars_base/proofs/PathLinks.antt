@@ -1,90 +1,158 @@
--- Links, read one after the other as a loop does.
-use Rattle.std.proofs.Common.{◌≡◌, ℕ, zero, suc, ◌+◌, ◌<◌, Bool, List, [], ◌∷◌, ◌++◌, length, Option, Some, None, refl, sym, ap, subst, ◌∙◌, append_assoc, arith, length-append}
-use Rattle.std.proofs.lemmas.List.{append-nil}
+-- Links behind a part, as many as fit: read one after the other, spelled, and read again.
+use Rattle.std.proofs.Common.{◌≡◌, ℕ, zero, suc, ◌<◌, ◌≤◌, Bool, List, [], ◌∷◌, ◌++◌, length, Some, None, refl, sym, ap, subst, ◌∙◌, append_assoc, arith, inl, inr, length-append}
+use Rattle.std.specs.List.{prefix_len}
 use Rattle.std.specs.Option.{option_map}
-use Rattle.handlebars_base.specs.Path.{Part, spelled_part, is_dots, Link, Segment, part_segments, link_segments}
-use Rattle.handlebars_base.specs.PathReading.{◌>>=◌, link_at, part_of_link, links_at, links_of}
-use Rattle.handlebars_base.proofs.OptionBinds.{map_some, map_none}
-use Rattle.handlebars_base.proofs.PathParts.{link_takes}
+use Rattle.handlebars_base.specs.Path.{is_symbol, Part, spelled_part, is_dots, Link, spelled_links, AreLinks, Segment, part_segments, link_segments}
+use Rattle.handlebars_base.specs.PathReading.{link_at, part_of_link, with_link, links_at, links_of}
+use Rattle.handlebars_base.proofs.OptionBinds.{none_or_some, map_some, map_none}
+use Rattle.handlebars_base.proofs.PathParts.{link_takes, joins_cases, link_again}
 
--- what was read before, and what is still read, are the whole
-pub record StillReads (front : List Segment) (before : Bool) (rest : List ℕ) (total : Option (List Segment)) : Type 0 where
-  pub fuel : ℕ
-  pub enough : length rest < fuel
-  pub same : option_map (λ ss. front ++ link_segments ss) (links_at fuel before rest) ≡ total
+-- ---- one link, and the others
 
--- ---- the start
-
-pub starts : (front : List Segment) (before : Bool) (t : List ℕ) →
-    StillReads front before t (option_map (λ ss. front ++ link_segments ss) (links_of before t))
-unfolding links_of
-starts front before t = record { fuel = length t + 1; enough = omega arith; same = refl }
-
--- ---- the end
-
-next : (n : ℕ) (before : Bool) (t : List ℕ) → 0 < length t →
-    links_at (suc n) before t ≡ (link_at before t >>= λ q. links_at n (is_dots q.0.part) q.1 >>= λ ss. Some (q.0 ∷ ss))
+at_link : (n : ℕ) (before : Bool) (t : List ℕ) (q : Link × List ℕ) → link_at before t ≡ Some q →
+    links_at (suc n) before t ≡ with_link q.0 (links_at n (is_dots q.0.part) q.1)
 unfolding links_at
-next n before [] h = absurd (omega arith)
-next n before (s ∷ t) h = refl
+at_link n before t q e = rw e refl
 
-at_end : (n : ℕ) (before : Bool) → 0 < n → links_at n before [] ≡ Some []
+at_none : (n : ℕ) (before : Bool) (t : List ℕ) → link_at before t ≡ None → links_at n before t ≡ ([], t)
 unfolding links_at
-at_end zero before h = absurd (omega arith)
-at_end (suc n) before h = refl
-
-pred : (n : ℕ) → 0 < n → (m : ℕ) × (n ≡ suc m)
-pred zero h = absurd (omega arith)
-pred (suc m) h = (m, refl)
-
--- the text is read to its end
-pub is_done : (front : List Segment) (before : Bool) (t : List ℕ) (total : Option (List Segment)) → length t ≡ 0 →
-    StillReads front before t total → Some front ≡ total
-is_done front before [] total e h =
-    ap Some (sym (append-nil front)) ∙ (rw (at_end h.fuel before (omega arith)) at h.same)
-is_done front before (x ∷ t) total e h = absurd (omega arith)
-
--- what is left begins with no link
-pub is_stuck : (front : List Segment) (before : Bool) (t : List ℕ) (total : Option (List Segment)) → 0 < length t →
-    None ≡ option_map part_of_link (link_at before t) → StillReads front before t total → None ≡ total
-is_stuck front before t total h none so_far =
-    let f = pred so_far.fuel (omega arith) in
-    rw (f.1, next f.0 before t h, map_none part_of_link (link_at before t) (sym none)) at so_far.same
-
--- ---- one link on
+at_none zero before t e = refl
+at_none (suc n) before t e = rw e refl
 
 shorter_link : (before : Bool) (t : List ℕ) (q : Link × List ℕ) → link_at before t ≡ Some q → length q.1 < length t
 shorter_link before t q e =
     omega (arith, ap length (link_takes before t q e).parts, length-append (spelled_part q.0.part) q.1)
 
-pub shorter : (before : Bool) (t : List ℕ) (p : Part) (r : List ℕ) →
+-- more than the text is long changes nothing
+enough : (n m : ℕ) (before : Bool) (t : List ℕ) → length t ≤ n → length t ≤ m → links_at n before t ≡ links_at m before t
+enough zero zero before t a b = refl
+enough zero (suc m) before t a b =
+    elim (none_or_some (link_at before t)) [
+      | inl none ↦ at_none zero before t none ∙ sym (at_none (suc m) before t none)
+      | inr some ↦ let less = shorter_link before t some.0 some.1 in absurd (omega arith)
+    ]
+enough (suc n) zero before t a b =
+    elim (none_or_some (link_at before t)) [
+      | inl none ↦ at_none (suc n) before t none ∙ sym (at_none zero before t none)
+      | inr some ↦ let less = shorter_link before t some.0 some.1 in absurd (omega arith)
+    ]
+enough (suc n) (suc m) before t a b =
+    elim (none_or_some (link_at before t)) [
+      | inl none ↦ at_none (suc n) before t none ∙ sym (at_none (suc m) before t none)
+      | inr some ↦
+          let less = shorter_link before t some.0 some.1 in
+          let others = enough n m (is_dots some.0.0.part) some.0.1 (omega arith) (omega arith) in
+          at_link n before t some.0 some.1 ∙ ap (with_link some.0.0) others ∙ sym (at_link m before t some.0 some.1)
+    ]
+
+links_of-some : (before : Bool) (t : List ℕ) (q : Link × List ℕ) → link_at before t ≡ Some q →
+    links_of before t ≡ with_link q.0 (links_of (is_dots q.0.part) q.1)
+unfolding links_of
+links_of-some before t q e =
+    let less = shorter_link before t q e in
+    let others = enough (length t) (length q.1) (is_dots q.0.part) q.1 (omega arith) (omega arith) in
+    enough (length t) (suc (length t)) before t (omega arith) (omega arith) ∙ at_link (length t) before t q e ∙
+    ap (with_link q.0) others
+
+pub links_of-none : (before : Bool) (t : List ℕ) → link_at before t ≡ None → links_of before t ≡ ([], t)
+unfolding links_of
+links_of-none before t e = at_none (length t) before t e
+
+-- ---- as a loop reads them, which sees no separator
+
+-- no link is in front
+pub loop-none : (before : Bool) (t : List ℕ) → None ≡ option_map part_of_link (link_at before t) → links_of before t ≡ ([], t)
+loop-none before t none = links_of-none before t (map_none part_of_link (link_at before t) (sym none))
+
+pub loop-shorter : (before : Bool) (t : List ℕ) (p : Part) (r : List ℕ) →
     Some (p, r) ≡ option_map part_of_link (link_at before t) → length r < length t
-shorter before t p r e =
+loop-shorter before t p r e =
     let q = map_some part_of_link (link_at before t) (p, r) (sym e) in
     subst (λ (x : Part × List ℕ). length x.1 < length t) q.2 (shorter_link before t q.0 q.1)
 
-regroup : (front : List Segment) (s : Link) (read : Option (List Link)) →
-    option_map (λ ss. front ++ link_segments ss) (read >>= λ ss. Some (s ∷ ss)) ≡
-    option_map (λ ss. (front ++ part_segments s.part) ++ link_segments ss) read
-regroup front s None = refl
-regroup front s (Some ss) = ap Some (sym (append_assoc front (part_segments s.part) (link_segments ss)))
-
-goes_over : (front : List Segment) (before : Bool) (t : List ℕ) (total : Option (List Segment)) (q : Link × List ℕ) →
-    0 < length t → link_at before t ≡ Some q → StillReads front before t total →
-    StillReads (front ++ part_segments q.0.part) (is_dots q.0.part) q.1 total
-goes_over front before t total q h e so_far =
-    let f = pred so_far.fuel (omega arith) in
-    record {
-      fuel = f.0;
-      enough = omega (arith, shorter_link before t q e, f.1);
-      same =
-          sym (regroup front q.0 (links_at f.0 (is_dots q.0.part) q.1)) ∙
-          (rw (f.1, next f.0 before t h, e) at so_far.same);
-    }
-
-pub goes_on : (front : List Segment) (before : Bool) (t : List ℕ) (total : Option (List Segment)) (p : Part) (r : List ℕ) →
-    0 < length t → Some (p, r) ≡ option_map part_of_link (link_at before t) → StillReads front before t total →
-    StillReads (front ++ part_segments p) (is_dots p) r total
-goes_on front before t total p r h e so_far =
+pub loop-rest : (before : Bool) (t : List ℕ) (p : Part) (r : List ℕ) →
+    Some (p, r) ≡ option_map part_of_link (link_at before t) → (links_of before t).1 ≡ (links_of (is_dots p) r).1
+loop-rest before t p r e =
     let q = map_some part_of_link (link_at before t) (p, r) (sym e) in
-    subst (λ (x : Part × List ℕ). StillReads (front ++ part_segments x.0) (is_dots x.0) x.1 total) q.2 (goes_over front before t total q.0 h q.1 so_far)
+    subst (λ (x : Part × List ℕ). (links_of before t).1 ≡ (links_of (is_dots x.0) x.1).1) q.2
+    (ap (λ (x : List Link × List ℕ). x.1) (links_of-some before t q.0 q.1))
+
+segments_of-some : (front : List Segment) (before : Bool) (t : List ℕ) (q : Link × List ℕ) → link_at before t ≡ Some q →
+    (front ++ part_segments q.0.part) ++ link_segments (links_of (is_dots q.0.part) q.1).0 ≡
+    front ++ link_segments (links_of before t).0
+segments_of-some front before t q e =
+    append_assoc front (part_segments q.0.part) (link_segments (links_of (is_dots q.0.part) q.1).0) ∙
+    ap (λ (x : List Link × List ℕ). front ++ link_segments x.0) (sym (links_of-some before t q e))
+
+pub loop-segments : (front : List Segment) (before : Bool) (t : List ℕ) (p : Part) (r : List ℕ) →
+    Some (p, r) ≡ option_map part_of_link (link_at before t) →
+    (front ++ part_segments p) ++ link_segments (links_of (is_dots p) r).0 ≡ front ++ link_segments (links_of before t).0
+loop-segments front before t p r e =
+    let q = map_some part_of_link (link_at before t) (p, r) (sym e) in
+    let segments : Part × List ℕ → List Segment = λ x. (front ++ part_segments x.0) ++ link_segments (links_of (is_dots x.0) x.1).0 in
+    subst (λ (x : Part × List ℕ). segments x ≡ front ++ link_segments (links_of before t).0) q.2
+    (segments_of-some front before t q.0 q.1)
+
+-- ---- what is read is spelled so
+
+pub record TakesLinks (before : Bool) (t : List ℕ) (q : List Link × List ℕ) : Type 0 where
+  pub parts : t ≡ spelled_links q.0 ++ q.1
+  pub fits : AreLinks before q.0
+
+links_take : (n : ℕ) (before : Bool) (t : List ℕ) → TakesLinks before t (links_at n before t)
+unfolding links_at
+links_take zero before t = record { parts = refl; fits = tt }
+links_take (suc n) before t =
+    elim (none_or_some (link_at before t)) [
+      | inl none ↦ rw none (record { parts = refl; fits = tt })
+      | inr some ↦
+          let taken = link_takes before t some.0 some.1 in
+          let others = links_take n (is_dots some.0.0.part) some.0.1 in
+          let read = links_at n (is_dots some.0.0.part) some.0.1 in
+          let behind : spelled_part some.0.0.part ++ some.0.1 ≡ (spelled_part some.0.0.part ++ spelled_links read.0) ++ read.1 =
+          ap (λ (r : List ℕ). spelled_part some.0.0.part ++ r) others.parts ∙ sym (append_assoc (spelled_part some.0.0.part) (spelled_links read.0) read.1) in
+          rw (some.1) (record {
+            parts = taken.parts ∙ ap (λ (r : List ℕ). some.0.0.sep ∷ r) behind;
+            fits = (taken.joined, taken.fits, others.fits);
+          })
+    ]
+
+pub links_of_take : (before : Bool) (t : List ℕ) → TakesLinks before t (links_of before t)
+unfolding links_of
+links_of_take before t = links_take (length t) before t
+
+-- ---- what is spelled so is read
+
+-- no link begins with a symbol, so a name in front of one ends there
+pub links_stop : (before : Bool) (ss : List Link) (rest : List ℕ) → AreLinks before ss → prefix_len is_symbol rest ≡ 0 →
+    prefix_len is_symbol (spelled_links ss ++ rest) ≡ 0
+links_stop before [] rest fits stop = stop
+links_stop before (s ∷ ss) rest fits stop =
+    elim (joins_cases before s.sep (is_dots s.part) fits.0) [
+      | inl slash ↦ rw slash refl
+      | inr point ↦ rw point.0 refl
+    ]
+
+links_again : (n : ℕ) (before : Bool) (ss : List Link) (rest : List ℕ) → length ss ≤ n → AreLinks before ss →
+    prefix_len is_symbol rest ≡ 0 → ((b : Bool) → link_at b rest ≡ None) → links_at n before (spelled_links ss ++ rest) ≡ (ss, rest)
+links_again n before [] rest le fits stop none = at_none n before rest (none before)
+links_again zero before (s ∷ ss) rest le fits stop none = absurd (omega arith)
+links_again (suc n) before (s ∷ ss) rest le fits stop none =
+    let behind = spelled_links ss ++ rest in
+    let first = link_again before s behind fits.0 fits.1 (links_stop (is_dots s.part) ss rest fits.2 stop) in
+    let whole : s.sep ∷ (spelled_part s.part ++ behind) ≡ spelled_links (s ∷ ss) ++ rest =
+    ap (λ (r : List ℕ). s.sep ∷ r) (sym (append_assoc (spelled_part s.part) (spelled_links ss) rest)) in
+    ap (links_at (suc n) before) (sym whole) ∙ at_link n before _ (s, behind) first ∙
+    ap (with_link s) (links_again n (is_dots s.part) ss rest (omega arith) fits.2 stop none)
+
+-- each link takes a byte at least, so the reader's bound is enough
+links_long : (ss : List Link) → length ss ≤ length (spelled_links ss)
+links_long [] = omega arith
+links_long (s ∷ ss) = omega (arith, links_long ss, length-append (spelled_part s.part) (spelled_links ss))
+
+pub links_of_again : (before : Bool) (ss : List Link) (rest : List ℕ) → AreLinks before ss →
+    prefix_len is_symbol rest ≡ 0 → ((b : Bool) → link_at b rest ≡ None) → links_of before (spelled_links ss ++ rest) ≡ (ss, rest)
+unfolding links_of
+links_of_again before ss rest fits stop none =
+    let long : length ss ≤ length (spelled_links ss ++ rest) = omega (arith, links_long ss, length-append (spelled_links ss) rest) in
+    links_again (length (spelled_links ss ++ rest)) before ss rest long fits stop none

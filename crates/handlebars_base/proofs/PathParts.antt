@@ -1,35 +1,15 @@
--- A part, and a link: what is read is spelled so.
-use Rattle.std.proofs.Common.{◌≡◌, ◌≢◌, ℕ, suc, ◌+◌, ◌<◌, Bool, true, false, cond, not, ◌||◌, ltb, List, [], ◌∷◌, ◌++◌, length, get_or, take, Some, None, refl, sym, ap, subst, ◌∙◌, append_assoc, arith, ◌⊎◌, inl, inr}
+-- A part, and a link: what is read is spelled so, and what is spelled so is read.
+use Rattle.std.proofs.Common.{◌≡◌, ◌≢◌, ℕ, ◌+◌, ◌<◌, Bool, true, false, cond, not, ◌||◌, ltb, List, [], ◌∷◌, ◌++◌, length, get_or, drop, Some, None, refl, sym, ap, subst, ◌∙◌, append_assoc, arith, ◌⊎◌, inl, inr, length-append}
 use Rattle.std.specs.Prelude.{◌==◌}
 use Rattle.std.specs.List.{prefix_len, position_or_len, before_first, after_first, AllByRecursion}
-use Rattle.std.proofs.lemmas.Bool.{eqb-true, ltb-true, or_parts, or_cases, and_parts, not-true, not-false, eqb-false, cases_Bool}
+use Rattle.std.proofs.lemmas.Bool.{eqb-true, ltb-true, or_parts, or_cases, and_parts, not-true, not-false, eqb-false, ne_eqb, lt-ltb}
 use Rattle.std.proofs.lemmas.Option.{cond_some}
-use Rattle.std.proofs.lemmas.List.{take-append-drop, length-take}
+use Rattle.std.proofs.lemmas.List.{take-append-drop, length-take, take_at, drop_at, nil_from_length}
 use Rattle.std.proofs.lemmas.List.Sums.{prefix_len-le-length, prefix_len_stops, split_at_first}
-use Rattle.handlebars_base.specs.Path.{is_symbol, Part, dots, plain, bracketed, spelled_part, IsPart, is_dots, Link, joins}
+use Rattle.handlebars_base.specs.Path.{is_symbol, IsIdentifier, Part, dots, plain, bracketed, spelled_part, IsPart, is_dots, Link, joins}
 use Rattle.handlebars_base.specs.PathReading.{◌>>=◌, with_or, after, symbols_of, behind_symbols, bracketed_at, plain_at, part_at, link_by, slash_link, dot_link, link_at}
 use Rattle.handlebars_base.proofs.OptionBinds.{bind_some, with_or_is, guard_some}
-
--- ---- marks and runs
-
-pub after_takes : (c : ℕ) (t r : List ℕ) → after c t ≡ Some r → t ≡ c ∷ r
-unfolding after
-after_takes c [] r e = absurd cc
-after_takes c (x ∷ xs) r e =
-    let g = cond_some (x == c) xs r e in
-    let same : x ≡ c = eqb-true x c g.0 in
-    let rest = g.1 in
-    cc
-
--- all of a run passes
-pub prefix_pass : (p : ℕ → Bool) (t : List ℕ) → AllByRecursion (λ b. p b ≡ true) (take (prefix_len p t) t)
-prefix_pass p [] = tt
-prefix_pass p (x ∷ xs) =
-    let more : 1 + prefix_len p xs ≡ suc (prefix_len p xs) = omega arith in
-    elim (cases_Bool (p x)) [
-      | inl passes ↦ rw (passes, more) (passes, prefix_pass p xs)
-      | inr fails ↦ rw fails tt
-    ]
+use Rattle.handlebars_base.proofs.PathMarks.{after_takes, after_other, prefix_pass, prefix_again, not_symbol}
 
 -- ---- parts
 
@@ -138,4 +118,57 @@ joins_cases before sep behind h =
           let a = and_parts (sep == 46) _ point in
           let b = and_parts (not before) (not behind) a.1 in
           inr (eqb-true sep 46 a.0, not-true before b.0, not-true behind b.1)
+    ]
+
+-- ---- what is spelled so is read: parts
+
+pub plain_again : (n rest : List ℕ) → IsIdentifier n → prefix_len is_symbol rest ≡ 0 →
+    plain_at (n ++ rest) ≡ Some (plain n, rest)
+unfolding plain_at
+plain_again n rest fits stop =
+    let len = prefix_again is_symbol n rest fits.1 stop in
+    let some : (length n == 0) ≡ false = ne_eqb (length n) 0 (λ e. fits.0 (nil_from_length n e)) in
+    rw (len, some, take_at n rest (length n) refl, drop_at n rest (length n) refl) refl
+
+pub bracketed_again : (n rest : List ℕ) → AllByRecursion (λ b. not (b == 93) ≡ true) n →
+    bracketed_at (n ++ 93 ∷ rest) ≡ Some (bracketed n, rest)
+unfolding bracketed_at
+bracketed_again n rest fits =
+    let len = prefix_again (λ b. not (b == 93)) n (93 ∷ rest) fits refl in
+    let within : ltb (length n) (length (n ++ 93 ∷ rest)) ≡ true = lt-ltb _ _ (omega (arith, length-append n (93 ∷ rest))) in
+    let behind : drop (length n + 1) (n ++ 93 ∷ rest) ≡ rest =
+    ap (drop (length n + 1)) (sym (append_assoc n (93 ∷ []) rest)) ∙
+    drop_at (n ++ 93 ∷ []) rest (length n + 1) (omega (arith, length-append n (93 ∷ []))) in
+    rw (len, within, take_at n (93 ∷ rest) (length n) refl, behind) refl
+
+pub part_again : (p : Part) (rest : List ℕ) → IsPart p → prefix_len is_symbol rest ≡ 0 →
+    part_at (spelled_part p ++ rest) ≡ Some (p, rest)
+unfolding part_at after
+part_again dots rest fits stop = refl
+part_again (plain []) rest fits stop = absurd (fits.0 refl)
+part_again (plain (x ∷ xs)) rest fits stop =
+    let no_point = after_other 46 x (xs ++ rest) (not_symbol x 46 fits.1.0 refl) in
+    let no_bracket = after_other 91 x (xs ++ rest) (not_symbol x 91 fits.1.0 refl) in
+    rw (no_point, no_bracket) (plain_again (x ∷ xs) rest fits stop)
+part_again (bracketed n) rest fits stop = ap bracketed_at (append_assoc n (93 ∷ []) rest) ∙ bracketed_again n rest fits
+
+-- ---- what is spelled so is read: links
+
+by_slash : (before : Bool) (p : Part) (rest : List ℕ) → IsPart p → prefix_len is_symbol rest ≡ 0 →
+    link_at before (47 ∷ (spelled_part p ++ rest)) ≡ Some (record { sep = 47; part = p }, rest)
+unfolding link_at after
+by_slash before p rest fits stop = rw (part_again p rest fits stop) refl
+
+by_dot : (before : Bool) (p : Part) (rest : List ℕ) → IsPart p → prefix_len is_symbol rest ≡ 0 → before ≡ false →
+    is_dots p ≡ false → link_at before (46 ∷ (spelled_part p ++ rest)) ≡ Some (record { sep = 46; part = p }, rest)
+unfolding link_at after
+by_dot before p rest fits stop a b = rw (part_again p rest fits stop, a, b) refl
+
+pub link_again : (before : Bool) (s : Link) (rest : List ℕ) → joins before s.sep (is_dots s.part) ≡ true → IsPart s.part →
+    prefix_len is_symbol rest ≡ 0 → link_at before (s.sep ∷ (spelled_part s.part ++ rest)) ≡ Some (s, rest)
+link_again before s rest joined fits stop =
+    let at : ℕ → Type 0 = λ c. link_at before (c ∷ (spelled_part s.part ++ rest)) ≡ Some (record { sep = c; part = s.part }, rest) in
+    elim (joins_cases before s.sep (is_dots s.part) joined) [
+      | inl slash ↦ subst at (sym slash) (by_slash before s.part rest fits stop)
+      | inr point ↦ subst at (sym point.0) (by_dot before s.part rest fits stop point.1 point.2)
     ]

@@ -1,48 +1,22 @@
--- A whole path: what is read is spelled so, and what is spelled so is read.
-use Rattle.std.proofs.Common.{◌≡◌, ℕ, zero, suc, ◌+◌, Bool, true, false, cond, List, [], ◌∷◌, ◌++◌, length, Option, Some, None, refl, sym, ap, subst, ◌∙◌, arith, inl, inr}
-use Rattle.std.specs.Prelude.{codes, ◌==◌}
+-- A path in front of a text: what is read is spelled so, and what is spelled so is read where no reference goes on.
+use Rattle.std.proofs.Common.{◌≡◌, ℕ, zero, suc, ◌+◌, Bool, true, false, cond, List, [], ◌∷◌, ◌++◌, length, Some, None, refl, sym, ap, subst, ◌∙◌, append_assoc, append-nil, arith, inl, inr}
+use Rattle.std.specs.Prelude.{codes, ◌==◌, ◌&&◌}
 use Rattle.std.specs.List.{prefix_len}
 use Rattle.std.specs.Str.{bytes_eq}
-use Rattle.std.proofs.lemmas.Bool.{or_parts, and_parts, eqb-true, cases_Bool, ne_eqb, both_ways, false_from_ne_true, true≢false}
-use Rattle.std.proofs.lemmas.Option.{same_Some, none-some}
-use Rattle.std.proofs.lemmas.List.{take-append-drop, take_at, drop_at}
-use Rattle.std.proofs.lemmas.Slice.Eq.{bytes_eq-Decides}
-use Rattle.std.specs.Prelude.{IfSome, IsNone, ◌↔◌}
 use Rattle.std.specs.Option.{option_map}
-use Rattle.handlebars_base.specs.declared.json.path.Path.{Path}
-use Rattle.handlebars_base.specs.PathView.{reference_of}
-use Rattle.handlebars_base.specs.Path.{Reference, meaning, IsPath, is_symbol, IsIdentifier, Part, dots, plain, bracketed, spelled_part, IsPart, is_dots, Link, spelled_links, AreLinks, ups, Shape, dot, at_root, at_name, in_parts, spelled, IsShape}
-use Rattle.handlebars_base.specs.PathReading.{◌>>=◌, with_or, after, is_up_mark, after_up, ups_at, symbols_of, behind_symbols, part_at, link_at, links_at, links_of, is_no_name, at_shape, at_of, parts_of, dotted_of, shape_of}
-use Rattle.handlebars_base.proofs.OptionBinds.{bind_some, with_or_is, guard_bind, cond_is, map_some}
-use Rattle.handlebars_base.proofs.PathParts.{after_takes, prefix_pass, part_takes, link_takes}
-use Rattle.handlebars_base.proofs.PathScan.{ups_again, after_up_other}
-use Rattle.handlebars_base.proofs.PathSpelled.{prefix_again, not_symbol, after_other, part_again, links_stop, links_of_again}
+use Rattle.std.proofs.lemmas.Bool.{or_parts, and_parts, eqb-true, cases_Bool, ne_eqb, both_ways, false_from_ne_true}
+use Rattle.std.proofs.lemmas.Option.{same_Some, cond_some}
+use Rattle.std.proofs.lemmas.List.{take-append-drop, take_at, drop_at, nil_from_length}
+use Rattle.std.proofs.lemmas.Slice.Eq.{bytes_eq-Decides}
+use Rattle.handlebars_base.specs.Path.{Reference, meaning, IsPath, is_symbol, IsIdentifier, Part, dots, plain, bracketed, spelled_part, IsPart, is_dots, Link, spelled_links, AreLinks, ups, Shape, itself, at_root, at_name, in_parts, spelled, IsShape}
+use Rattle.handlebars_base.specs.PathReading.{◌>>=◌, after, is_up_mark, after_up, ups_at, symbols_of, behind_symbols, part_at, link_at, links_of, Start, here, from_root, from_variable, from_part, is_no_name, named_start, named_at, part_start, dot_start, unnamed_at, start_at, links_behind, is_dotted, shape_from, shape_at, shape_of, path_of, reference_from, reference_len}
+use Rattle.handlebars_base.proofs.OptionBinds.{bind_some, with_or_is, guard_some, map_some}
+use Rattle.handlebars_base.proofs.PathMarks.{after_takes, after_other, prefix_pass, prefix_again, not_symbol, ups_again, after_up_other}
+use Rattle.handlebars_base.proofs.PathParts.{part_takes, part_again}
+use Rattle.handlebars_base.proofs.ReferenceLength.{prefix_len-end, after-end}
+use Rattle.handlebars_base.proofs.PathLinks.{links_of_take, links_stop, links_of_again}
 
--- ---- what is read is spelled so
-
-links_take : (n : ℕ) (before : Bool) (t : List ℕ) (ss : List Link) → links_at n before t ≡ Some ss →
-    (t ≡ spelled_links ss) × AreLinks before ss
-unfolding links_at
-links_take zero before t ss e = absurd cc
-links_take (suc n) before [] ss e =
-    let made : [] ≡ ss = cc in
-    subst (λ (ys : List Link). ([] ≡ spelled_links ys) × AreLinks before ys) made (refl, tt)
-links_take (suc n) before (s ∷ t) ss e =
-    let a = bind_some (link_at before (s ∷ t)) (λ q. links_at n (is_dots q.0.part) q.1 >>= λ ss. Some (q.0 ∷ ss)) ss e in
-    let b = bind_some (links_at n (is_dots a.0.0.part) a.0.1) (λ ss. Some (a.0.0 ∷ ss)) ss a.2 in
-    let taken = link_takes before (s ∷ t) a.0 a.1 in
-    let others = links_take n (is_dots a.0.0.part) a.0.1 b.0 b.1 in
-    let last = b.2 in
-    let made : a.0.0 ∷ b.0 ≡ ss = cc in
-    subst (λ (ys : List Link). (s ∷ t ≡ spelled_links ys) × AreLinks before ys) made (
-      taken.parts ∙ ap (λ (r : List ℕ). a.0.0.sep ∷ (spelled_part a.0.0.part ++ r)) others.0,
-      (taken.joined, taken.fits, others.1),
-    )
-
-links_of_take : (before : Bool) (t : List ℕ) (ss : List Link) → links_of before t ≡ Some ss →
-    (t ≡ spelled_links ss) × AreLinks before ss
-unfolding links_of
-links_of_take before t ss e = links_take (length t + 1) before t ss e
+-- ---- what is read is spelled so: the start
 
 ups_take : (n : ℕ) (t : List ℕ) → (k : ℕ) × (t ≡ ups k ++ (ups_at n t).1) × ((ups_at n t).0 ≡ n + k)
 unfolding ups_at
@@ -64,113 +38,241 @@ ups_take n (a ∷ b ∷ c ∷ t) =
       | inr none ↦ rw none (0, refl, omega arith)
     ]
 
+-- a shape that stands in front of a text, and what follows it
+pub record TakesFront (t : List ℕ) (x : Shape × List ℕ) : Type 0 where
+  pub parts : t ≡ spelled x.0 ++ x.1
+  pub fits : IsShape x.0
+
+-- the shape that a start and what follows it make
+abbrev pub shape_behind : Bool → Start × List ℕ → Shape × List ℕ
+shape_behind dotted s = (shape_from dotted s.0 (links_behind s.0 s.1).0, (links_behind s.0 s.1).1)
+
+-- ---- what is read is spelled so: names behind an `@`
+
+spelled_name : (n : ℕ) (name : List ℕ) (ss : List Link) (rest : List ℕ) →
+    64 ∷ (ups n ++ (name ++ (spelled_links ss ++ rest))) ≡ spelled (at_name n name ss) ++ rest
+spelled_name n name ss rest =
+    ap (λ (r : List ℕ). 64 ∷ (ups n ++ r)) (sym (append_assoc name (spelled_links ss) rest)) ∙
+    ap (λ (r : List ℕ). 64 ∷ r) (sym (append_assoc (ups n) (name ++ spelled_links ss) rest))
+
+root_or_name : (b dotted : Bool) (name : List ℕ) (ss : List Link) (rest : List ℕ) → bytes_eq name (codes "root") ≡ b →
+    IsIdentifier name → bytes_eq name (codes "this") ≡ false → AreLinks false ss →
+    TakesFront (64 ∷ (name ++ (spelled_links ss ++ rest))) (shape_from dotted (cond b from_root (from_variable 0 name)) ss, rest)
+root_or_name true dotted name ss rest is_root id this fits =
+    let root = (bytes_eq-Decides name (codes "root")).0 is_root in
+    record { parts = ap (λ (n : List ℕ). 64 ∷ (n ++ (spelled_links ss ++ rest))) root; fits = fits }
+root_or_name false dotted name ss rest is_root id this fits =
+    record { parts = spelled_name 0 name ss rest; fits = (id, this, is_root, fits) }
+
+not_zero : (n : ℕ) → (suc n == 0) ≡ false
+not_zero n = ne_eqb (suc n) 0 (λ e. absurd (omega arith))
+
+name_fits : (dotted : Bool) (n : ℕ) (name : List ℕ) (ss : List Link) (rest : List ℕ) → IsIdentifier name →
+    bytes_eq name (codes "this") ≡ false → AreLinks false ss →
+    TakesFront (64 ∷ (ups n ++ (name ++ (spelled_links ss ++ rest)))) (shape_from dotted (named_start n name) ss, rest)
+name_fits dotted zero name ss rest id this fits =
+    root_or_name (bytes_eq name (codes "root")) dotted name ss rest refl id this fits
+name_fits dotted (suc n) name ss rest id this fits =
+    rw (not_zero n) (record { parts = spelled_name (suc n) name ss rest; fits = (id, this, fits) })
+
+links_behind-named : (n : ℕ) (name t : List ℕ) → links_behind (named_start n name) t ≡ links_of false t
+links_behind-named n name t =
+    elim ((n == 0) && bytes_eq name (codes "root")) as (λ b. links_behind (cond b from_root (from_variable n name)) t ≡ links_of false t) [
+      | true ↦ refl
+      | false ↦ refl
+    ]
+
+name_takes : (dotted : Bool) (n : ℕ) (r : List ℕ) (x : Start × List ℕ) → named_at (n, r) ≡ Some x →
+    TakesFront (64 ∷ (ups n ++ r)) (shape_behind dotted x)
+unfolding named_at
+name_takes dotted n r x e =
+    let name = symbols_of r in
+    let g = guard_some (is_no_name name) (named_start n name, behind_symbols r) x e in
+    let tests = or_parts (bytes_eq name []) (bytes_eq name (codes "this")) g.0 in
+    let others = links_of_take false (behind_symbols r) in
+    let read = links_of false (behind_symbols r) in
+    let id : IsIdentifier name =
+    (λ none. both_ways (bytes_eq name []) tests.0 ((bytes_eq-Decides name []).1 none), prefix_pass is_symbol r) in
+    let whole : r ≡ name ++ (spelled_links read.0 ++ read.1) =
+    sym (take-append-drop (prefix_len is_symbol r) r) ∙ ap (λ (z : List ℕ). name ++ z) others.parts in
+    let fits = name_fits dotted n name read.0 read.1 id tests.1 others.fits in
+    subst (λ (y : Start × List ℕ). TakesFront (64 ∷ (ups n ++ r)) (shape_behind dotted y)) g.1
+    (subst (λ (q : List Link × List ℕ). TakesFront (64 ∷ (ups n ++ r)) (shape_from dotted (named_start n name) q.0, q.1)) (sym (links_behind-named n name (behind_symbols r)))
+    (subst (λ (z : List ℕ). TakesFront (64 ∷ (ups n ++ z)) (shape_from dotted (named_start n name) read.0, read.1)) (sym whole) fits))
+
+at_takes : (dotted : Bool) (t : List ℕ) (x : Start × List ℕ) → named_at (ups_at 0 t) ≡ Some x →
+    TakesFront (64 ∷ t) (shape_behind dotted x)
+at_takes dotted t x e =
+    let u = ups_take 0 t in
+    let level : u.0 ≡ (ups_at 0 t).0 = omega (arith, u.2) in
+    let whole : t ≡ ups (ups_at 0 t).0 ++ (ups_at 0 t).1 = u.1 ∙ ap (λ (k : ℕ). ups k ++ (ups_at 0 t).1) level in
+    subst (λ (z : List ℕ). TakesFront (64 ∷ z) (shape_behind dotted x)) (sym whole)
+    (name_takes dotted (ups_at 0 t).0 (ups_at 0 t).1 x e)
+
+-- ---- what is read is spelled so: parts
+
+record TakesParts (t : List ℕ) (p : Part) (q : List Link × List ℕ) : Type 0 where
+  pub parts : t ≡ (spelled_part p ++ spelled_links q.0) ++ q.1
+  pub fits : IsPart p
+  pub links : AreLinks (is_dots p) q.0
+
+parts_take : (t : List ℕ) (p : Part × List ℕ) → part_at t ≡ Some p → TakesParts t p.0 (links_of (is_dots p.0) p.1)
+parts_take t p e =
+    let first = part_takes t p e in
+    let others = links_of_take (is_dots p.0) p.1 in
+    let read = links_of (is_dots p.0) p.1 in
+    record {
+      parts = first.parts ∙ ap (λ (r : List ℕ). spelled_part p.0 ++ r) others.parts ∙ sym (append_assoc (spelled_part p.0) (spelled_links read.0) read.1);
+      fits = first.fits;
+      links = others.fits;
+    }
+
+-- where a part stands, `./` does not
+is_dotted-part : (p : Part) (rest : List ℕ) → IsPart p → is_dotted (spelled_part p ++ rest) ≡ false
+unfolding after
+is_dotted-part dots rest fits = refl
+is_dotted-part (plain []) rest fits = absurd (fits.0 refl)
+is_dotted-part (plain (x ∷ xs)) rest fits = rw (not_symbol x 46 fits.1.0 refl) refl
+is_dotted-part (bracketed n) rest fits = refl
+
+is_dotted-dot : (t : List ℕ) → is_dotted (46 ∷ 47 ∷ t) ≡ true
+unfolding after
+is_dotted-dot t = refl
+
+undotted_takes : (t : List ℕ) (p : Part × List ℕ) → part_at t ≡ Some p →
+    TakesFront t (shape_behind (is_dotted t) (from_part p.0, p.1))
+undotted_takes t p e =
+    let first = part_takes t p e in
+    let taken = parts_take t p e in
+    let no : is_dotted t ≡ false = ap is_dotted first.parts ∙ is_dotted-part p.0 p.1 first.fits in
+    rw no (record { parts = taken.parts; fits = (taken.fits, taken.links) })
+
+dotted_takes : (t : List ℕ) (p : Part × List ℕ) → part_at t ≡ Some p →
+    TakesFront (46 ∷ 47 ∷ t) (shape_behind (is_dotted (46 ∷ 47 ∷ t)) (from_part p.0, p.1))
+unfolding after
+dotted_takes t p e =
+    let taken = parts_take t p e in
+    record { parts = ap (λ (r : List ℕ). 46 ∷ 47 ∷ r) taken.parts; fits = (taken.fits, taken.links) }
+
+-- behind a `.`
+dot_takes : (r : List ℕ) (x : Start × List ℕ) → dot_start r ≡ Some x →
+    TakesFront (46 ∷ r) (shape_behind (is_dotted (46 ∷ r)) x)
+dot_takes r x e =
+    elim (with_or_is (after 47 r) (λ z. part_at z >>= part_start) (Some (here, r)) (Some x) e) [
+      | inl slash ↦
+          let b = bind_some (part_at slash.0) part_start x slash.2 in
+          let whole = after_takes 47 r slash.0 slash.1 in
+          subst (λ (y : Start × List ℕ). TakesFront (46 ∷ r) (shape_behind (is_dotted (46 ∷ r)) y)) (same_Some _ x b.2)
+          (subst (λ (z : List ℕ). TakesFront (46 ∷ z) (shape_behind (is_dotted (46 ∷ z)) (from_part b.0.0, b.0.1))) (sym whole) (dotted_takes slash.0 b.0 b.1))
+      | inr alone ↦
+          subst (λ (y : Start × List ℕ). TakesFront (46 ∷ r) (shape_behind (is_dotted (46 ∷ r)) y)) (same_Some (here, r) x alone.1)
+          (record { parts = refl; fits = tt })
+    ]
+
+unnamed_takes : (t : List ℕ) (x : Start × List ℕ) → unnamed_at t ≡ Some x → TakesFront t (shape_behind (is_dotted t) x)
+unfolding unnamed_at
+unnamed_takes t x e =
+    elim (with_or_is (part_at t) part_start (after 46 t >>= dot_start) (Some x) e) [
+      | inl first ↦
+          subst (λ (y : Start × List ℕ). TakesFront t (shape_behind (is_dotted t) y)) (same_Some _ x first.2)
+          (undotted_takes t first.0 first.1)
+      | inr other ↦
+          let b = bind_some (after 46 t) dot_start x other.1 in
+          rw (after_takes 46 t b.0 b.1) (dot_takes b.0 x b.2)
+    ]
+
+-- ---- what is read is spelled so: all
+
+start_takes : (t : List ℕ) (x : Start × List ℕ) → start_at t ≡ Some x → TakesFront t (shape_behind (is_dotted t) x)
+unfolding start_at
+start_takes t x e =
+    elim (with_or_is (after 64 t) (λ r. named_at (ups_at 0 r)) (unnamed_at t) (Some x) e) [
+      | inl at ↦ rw (after_takes 64 t at.0 at.1) (at_takes (is_dotted (64 ∷ at.0)) at.0 x at.2)
+      | inr other ↦ unnamed_takes t x other.1
+    ]
+
+pub shape_at_takes : (t : List ℕ) (x : Shape × List ℕ) → shape_at t ≡ Some x → TakesFront t x
+unfolding shape_at
+shape_at_takes t x e =
+    let b = bind_some (start_at t) (λ s. Some (shape_behind (is_dotted t) s)) x e in
+    subst (λ (y : Shape × List ℕ). TakesFront t y) (same_Some _ x b.2) (start_takes t b.0 b.1)
+
 -- a shape that the text spells
 pub record TakesShape (t : List ℕ) (s : Shape) : Type 0 where
   pub spells : t ≡ spelled s
   pub fits : IsShape s
 
-root_or_name : (b : Bool) (name : List ℕ) (ss : List Link) → bytes_eq name (codes "root") ≡ b → IsIdentifier name →
-    bytes_eq name (codes "this") ≡ false → AreLinks false ss →
-    TakesShape (64 ∷ (name ++ spelled_links ss)) (cond b (at_root ss) (at_name 0 name ss))
-root_or_name true name ss is_root id this fits =
-    let root = (bytes_eq-Decides name (codes "root")).0 is_root in
-    record { spells = ap (λ (n : List ℕ). 64 ∷ (n ++ spelled_links ss)) root; fits = fits }
-root_or_name false name ss is_root id this fits = record { spells = refl; fits = (id, this, is_root, fits) }
-
-not_zero : (n : ℕ) → (suc n == 0) ≡ false
-not_zero n = ne_eqb (suc n) 0 (λ e. absurd (omega arith))
-
-shape_fits : (n : ℕ) (name : List ℕ) (ss : List Link) → IsIdentifier name → bytes_eq name (codes "this") ≡ false →
-    AreLinks false ss →
-    TakesShape (64 ∷ (ups n ++ (name ++ spelled_links ss))) (at_shape n name ss)
-shape_fits zero name ss id this fits = root_or_name (bytes_eq name (codes "root")) name ss refl id this fits
-shape_fits (suc n) name ss id this fits = rw (not_zero n) (record { spells = refl; fits = (id, this, fits) })
-
-name_takes : (n : ℕ) (r : List ℕ) (s : Shape) → at_of (n, r) ≡ Some s → TakesShape (64 ∷ (ups n ++ r)) s
-unfolding at_of
-name_takes n r s e =
-    let g = guard_bind (is_no_name (symbols_of r)) (links_of false (behind_symbols r) >>= λ ss. Some (at_shape n (symbols_of r) ss)) s e in
-    let tests = or_parts (bytes_eq (symbols_of r) []) (bytes_eq (symbols_of r) (codes "this")) g.0 in
-    let b = bind_some (links_of false (behind_symbols r)) (λ ss. Some (at_shape n (symbols_of r) ss)) s g.1 in
-    let others = links_of_take false (behind_symbols r) b.0 b.1 in
-    let id : IsIdentifier (symbols_of r) =
-    (λ none. both_ways (bytes_eq (symbols_of r) []) tests.0 ((bytes_eq-Decides (symbols_of r) []).1 none), prefix_pass is_symbol r) in
-    let whole : r ≡ symbols_of r ++ spelled_links b.0 =
-    sym (take-append-drop (prefix_len is_symbol r) r) ∙ ap (λ (x : List ℕ). symbols_of r ++ x) others.0 in
-    subst (λ (v : Shape). TakesShape (64 ∷ (ups n ++ r)) v) (same_Some _ s b.2)
-    (subst (λ (x : List ℕ). TakesShape (64 ∷ (ups n ++ x)) (at_shape n (symbols_of r) b.0)) (sym whole)
-    (shape_fits n (symbols_of r) b.0 id tests.1 others.1))
-
-at_takes : (t : List ℕ) (s : Shape) → at_of (ups_at 0 t) ≡ Some s → TakesShape (64 ∷ t) s
-at_takes t s e =
-    let u = ups_take 0 t in
-    let level : u.0 ≡ (ups_at 0 t).0 = omega (arith, u.2) in
-    let whole : t ≡ ups (ups_at 0 t).0 ++ (ups_at 0 t).1 = u.1 ∙ ap (λ (k : ℕ). ups k ++ (ups_at 0 t).1) level in
-    subst (λ (x : List ℕ). TakesShape (64 ∷ x) s) (sym whole) (name_takes (ups_at 0 t).0 (ups_at 0 t).1 s e)
-
-parts_take : (t : List ℕ) (dotted : Bool) (s : Shape) → parts_of dotted t ≡ Some s →
-    (p : Part) × (ss : List Link) × (s ≡ in_parts dotted p ss) × (t ≡ spelled_part p ++ spelled_links ss) ×
-    IsShape (in_parts dotted p ss)
-unfolding parts_of
-parts_take t dotted s e =
-    let a = bind_some (part_at t) (λ p. links_of (is_dots p.0) p.1 >>= λ ss. Some (in_parts dotted p.0 ss)) s e in
-    let b = bind_some (links_of (is_dots a.0.0) a.0.1) (λ ss. Some (in_parts dotted a.0.0 ss)) s a.2 in
-    let first = part_takes t a.0 a.1 in
-    let others = links_of_take (is_dots a.0.0) a.0.1 b.0 b.1 in
-    let last = b.2 in
-    let made : s ≡ in_parts dotted a.0.0 b.0 = cc in
-    let whole = first.parts ∙ ap (λ (r : List ℕ). spelled_part a.0.0 ++ r) others.0 in
-    (a.0.0, b.0, made, whole, (first.fits, others.1))
-
-dotted_takes : (t : List ℕ) (s : Shape) → dotted_of t ≡ Some s → TakesShape t s
-unfolding dotted_of
-dotted_takes t s e =
-    let more = with_or (after 46 t >>= after 47) (parts_of true) (parts_of false t) in
-    elim (cond_is (bytes_eq t (codes ".")) (Some dot) more (Some s) e) [
-      | inl alone ↦ subst (λ (v : Shape). TakesShape t v) (same_Some dot s alone.1) (record {
-        spells = (bytes_eq-Decides t (codes ".")).0 alone.0;
-        fits = tt;
-      })
-      | inr others ↦ elim (with_or_is (after 46 t >>= after 47) (parts_of true) (parts_of false t) (Some s) others.1) [
-        | inl behind ↦
-            let b = bind_some (after 46 t) (after 47) behind.0 behind.1 in
-            let p = parts_take behind.0 true s behind.2 in
-            let point = after_takes 46 t b.0 b.1 in
-            let slash = ap (λ (r : List ℕ). 46 ∷ r) (after_takes 47 b.0 behind.0 b.2) in
-            subst (λ (v : Shape). TakesShape t v) (sym p.2) (record {
-              spells = point ∙ slash ∙ ap (λ (r : List ℕ). 46 ∷ 47 ∷ r) p.3;
-              fits = p.4;
-            })
-        | inr other ↦
-            let p = parts_take t false s other.1 in
-            subst (λ (v : Shape). TakesShape t v) (sym p.2) (record { spells = p.3; fits = p.4 })
-      ]
-    ]
+whole_is : (x : Shape × List ℕ) (s : Shape) → cond (length x.1 == 0) (Some x.0) None ≡ Some s →
+    (x.1 ≡ []) × (x.0 ≡ s)
+whole_is x s e =
+    let g = cond_some (length x.1 == 0) x.0 s e in
+    (nil_from_length x.1 (eqb-true (length x.1) 0 g.0), g.1)
 
 pub shape_takes : (t : List ℕ) (s : Shape) → shape_of t ≡ Some s → TakesShape t s
 unfolding shape_of
 shape_takes t s e =
-    elim (with_or_is (after 64 t) (λ r. at_of (ups_at 0 r)) (dotted_of t) (Some s) e) [
-      | inl at ↦ rw (after_takes 64 t at.0 at.1) (at_takes at.0 s at.2)
-      | inr other ↦ dotted_takes t s other.1
-    ]
+    let b = bind_some (shape_at t) (λ x. cond (length x.1 == 0) (Some x.0) None) s e in
+    let all = whole_is b.0 s b.2 in
+    let taken = shape_at_takes t b.0 b.1 in
+    subst (λ (v : Shape). TakesShape t v) all.1 (record {
+      spells = taken.parts ∙ ap (λ (r : List ℕ). spelled b.0.0 ++ r) all.0 ∙ append-nil (spelled b.0.0);
+      fits = taken.fits;
+    })
 
 -- ---- what is spelled so is read
 
-parts_again : (dotted : Bool) (p : Part) (ss : List Link) → IsPart p → AreLinks (is_dots p) ss →
-    parts_of dotted (spelled_part p ++ spelled_links ss) ≡ Some (in_parts dotted p ss)
-unfolding parts_of
-parts_again dotted p ss fits links =
-    rw (part_again p (spelled_links ss) fits (links_stop (is_dots p) ss links), links_of_again (is_dots p) ss links) refl
+-- no link stands where no reference goes on
+link_at-end : (before : Bool) (t : List ℕ) → reference_len t ≡ 0 → link_at before t ≡ None
+unfolding link_at
+link_at-end before t e = rw (after-end 47 t refl refl e, after-end 46 t refl refl e) refl
 
-dotted_again : (p : Part) (ss : List Link) → IsPart p → AreLinks (is_dots p) ss →
-    dotted_of (spelled_part p ++ spelled_links ss) ≡ Some (in_parts false p ss)
-unfolding dotted_of after
-dotted_again dots ss fits links = parts_again false dots ss fits links
-dotted_again (plain []) ss fits links = absurd (fits.0 refl)
-dotted_again (plain (x ∷ xs)) ss fits links =
-    rw (not_symbol x 46 fits.1.0 refl) (parts_again false (plain (x ∷ xs)) ss fits links)
-dotted_again (bracketed n) ss fits links = parts_again false (bracketed n) ss fits links
+-- links to where no reference goes on
+links_end : (before : Bool) (ss : List Link) (rest : List ℕ) → AreLinks before ss → reference_len rest ≡ 0 →
+    links_of before (spelled_links ss ++ rest) ≡ (ss, rest)
+links_end before ss rest fits e =
+    links_of_again before ss rest fits (prefix_len-end rest e) (λ b. link_at-end b rest e)
+
+stop_end : (before : Bool) (ss : List Link) (rest : List ℕ) → AreLinks before ss → reference_len rest ≡ 0 →
+    prefix_len is_symbol (spelled_links ss ++ rest) ≡ 0
+stop_end before ss rest fits e = links_stop before ss rest fits (prefix_len-end rest e)
+
+-- a shape is read where its start and its links are
+by_start : (t : List ℕ) (s : Start) (r : List ℕ) (ss : List Link) (rest : List ℕ) → start_at t ≡ Some (s, r) →
+    links_behind s r ≡ (ss, rest) → shape_at t ≡ Some (shape_from (is_dotted t) s ss, rest)
+unfolding shape_at
+by_start t s r ss rest start links = rw (start, links) refl
+
+not_up : (name rest : List ℕ) → IsIdentifier name → after_up (name ++ rest) ≡ None
+not_up [] rest id = absurd (id.0 refl)
+not_up (x ∷ xs) rest id = after_up_other x (xs ++ rest) (not_symbol x 46 id.1.0 refl)
+
+named_again : (n : ℕ) (name rest : List ℕ) → IsIdentifier name → bytes_eq name (codes "this") ≡ false →
+    prefix_len is_symbol rest ≡ 0 → named_at (n, name ++ rest) ≡ Some (named_start n name, rest)
+unfolding named_at
+named_again n name rest id this stop =
+    let len = prefix_again is_symbol name rest id.1 stop in
+    let front = take_at name rest (length name) refl in
+    let back = drop_at name rest (length name) refl in
+    let some : bytes_eq name [] ≡ false =
+    false_from_ne_true (bytes_eq name []) (λ e. id.0 ((bytes_eq-Decides name []).0 e)) in
+    rw (len, front, back, some, this) refl
+
+at_again : (n : ℕ) (name rest : List ℕ) → IsIdentifier name → bytes_eq name (codes "this") ≡ false →
+    prefix_len is_symbol rest ≡ 0 → start_at (64 ∷ (ups n ++ (name ++ rest))) ≡ Some (named_start n name, rest)
+unfolding start_at after
+at_again n name rest id this stop =
+    let level = ups_again n 0 (name ++ rest) (not_up name rest id) ∙ ap (λ (m : ℕ). (m, name ++ rest)) (omega arith) in
+    ap named_at level ∙ named_again n name rest id this stop
+
+name_again : (n : ℕ) (name : List ℕ) (ss : List Link) (rest : List ℕ) → IsIdentifier name →
+    bytes_eq name (codes "this") ≡ false → AreLinks false ss → reference_len rest ≡ 0 →
+    shape_at (spelled (at_name n name ss) ++ rest) ≡ Some (shape_from false (named_start n name) ss, rest)
+unfolding after
+name_again n name ss rest id this fits e =
+    let behind = spelled_links ss ++ rest in
+    let start = at_again n name behind id this (stop_end false ss rest fits e) in
+    let links = links_behind-named n name behind ∙ links_end false ss rest fits e in
+    ap shape_at (sym (spelled_name n name ss rest)) ∙ by_start _ (named_start n name) behind ss rest start links
 
 no_at : (p : Part) (rest : List ℕ) → IsPart p → after 64 (spelled_part p ++ rest) ≡ None
 unfolding after
@@ -179,67 +281,61 @@ no_at (plain []) rest fits = absurd (fits.0 refl)
 no_at (plain (x ∷ xs)) rest fits = after_other 64 x (xs ++ rest) (not_symbol x 64 fits.1.0 refl)
 no_at (bracketed n) rest fits = refl
 
-name_again : (n : ℕ) (name : List ℕ) (ss : List Link) → IsIdentifier name → bytes_eq name (codes "this") ≡ false →
-    AreLinks false ss →
-    at_of (n, name ++ spelled_links ss) ≡ Some (at_shape n name ss)
-unfolding at_of
-name_again n name ss id this fits =
-    let len = prefix_again is_symbol name (spelled_links ss) id.1 (links_stop false ss fits) in
-    let front = take_at name (spelled_links ss) (length name) refl in
-    let rest = drop_at name (spelled_links ss) (length name) refl in
-    let some : bytes_eq name [] ≡ false =
-    false_from_ne_true (bytes_eq name []) (λ e. id.0 ((bytes_eq-Decides name []).0 e)) in
-    rw (len, front, rest, some, this, links_of_again false ss fits) refl
+start_part : (p : Part) (rest : List ℕ) → IsPart p → prefix_len is_symbol rest ≡ 0 →
+    start_at (spelled_part p ++ rest) ≡ Some (from_part p, rest)
+unfolding start_at unnamed_at
+start_part p rest fits stop = rw (no_at p rest fits, part_again p rest fits stop) refl
 
-not_up : (name rest : List ℕ) → IsIdentifier name → after_up (name ++ rest) ≡ None
-not_up [] rest id = absurd (id.0 refl)
-not_up (x ∷ xs) rest id = after_up_other x (xs ++ rest) (not_symbol x 46 id.1.0 refl)
+start_dotted : (p : Part) (rest : List ℕ) → IsPart p → prefix_len is_symbol rest ≡ 0 →
+    start_at (46 ∷ 47 ∷ (spelled_part p ++ rest)) ≡ Some (from_part p, rest)
+unfolding start_at unnamed_at part_at after
+start_dotted p rest fits stop = ap (λ o. o >>= part_start) (part_again p rest fits stop)
 
-at_again : (n : ℕ) (name : List ℕ) (ss : List Link) → IsIdentifier name → bytes_eq name (codes "this") ≡ false →
-    AreLinks false ss →
-    at_of (ups_at 0 (ups n ++ (name ++ spelled_links ss))) ≡ Some (at_shape n name ss)
-at_again n name ss id this fits =
-    let rest = name ++ spelled_links ss in
-    let level = ups_again n 0 rest (not_up name (spelled_links ss) id) ∙ ap (λ (m : ℕ). (m, rest)) (omega arith) in
-    ap at_of level ∙ name_again n name ss id this fits
+start_itself : (rest : List ℕ) → reference_len rest ≡ 0 → start_at (46 ∷ rest) ≡ Some (here, rest)
+unfolding start_at unnamed_at part_at after
+start_itself rest e = rw (after-end 46 rest refl refl e, after-end 47 rest refl refl e) refl
+
+pub shape_at_again : (s : Shape) (rest : List ℕ) → IsShape s → reference_len rest ≡ 0 →
+    shape_at (spelled s ++ rest) ≡ Some (s, rest)
+shape_at_again itself rest fits e = by_start _ here rest [] rest (start_itself rest e) refl
+shape_at_again (at_root ss) rest fits e =
+    name_again 0 (codes "root") ss rest (λ e. absurd cc, (refl, (refl, (refl, (refl, tt))))) refl fits e
+shape_at_again (at_name zero name ss) rest fits e =
+    name_again 0 name ss rest fits.0 fits.1 fits.3 e ∙ rw (fits.2) refl
+shape_at_again (at_name (suc n) name ss) rest fits e =
+    name_again (suc n) name ss rest fits.0 fits.1 fits.2 e ∙ rw (not_zero n) refl
+shape_at_again (in_parts true p ss) rest fits e =
+    let behind = spelled_links ss ++ rest in
+    let start = start_dotted p behind fits.0 (stop_end (is_dots p) ss rest fits.1 e) in
+    let whole = ap (λ (r : List ℕ). 46 ∷ 47 ∷ r) (append_assoc (spelled_part p) (spelled_links ss) rest) in
+    ap shape_at whole ∙ by_start _ (from_part p) behind ss rest start (links_end (is_dots p) ss rest fits.1 e) ∙
+    ap (λ b. Some (in_parts b p ss, rest)) (is_dotted-dot (spelled_part p ++ behind))
+shape_at_again (in_parts false p ss) rest fits e =
+    let behind = spelled_links ss ++ rest in
+    let start = start_part p behind fits.0 (stop_end (is_dots p) ss rest fits.1 e) in
+    let whole = append_assoc (spelled_part p) (spelled_links ss) rest in
+    let no = is_dotted-part p behind fits.0 in
+    ap shape_at whole ∙ by_start _ (from_part p) behind ss rest start (links_end (is_dots p) ss rest fits.1 e) ∙ rw no refl
 
 pub shape_again : (s : Shape) → IsShape s → shape_of (spelled s) ≡ Some s
-unfolding shape_of dotted_of after
-shape_again dot fits = refl
-shape_again (at_root ss) fits =
-    at_again 0 (codes "root") ss (λ e. absurd cc, (refl, (refl, (refl, (refl, tt))))) refl fits
-shape_again (at_name zero name ss) fits = at_again 0 name ss fits.0 fits.1 fits.3 ∙ rw fits.2 refl
-shape_again (at_name (suc n) name ss) fits = at_again (suc n) name ss fits.0 fits.1 fits.2 ∙ rw (not_zero n) refl
-shape_again (in_parts true p ss) fits = parts_again true p ss fits.0 fits.1
-shape_again (in_parts false p ss) fits = rw (no_at p (spelled_links ss) fits.0) (dotted_again p ss fits.0 fits.1)
+unfolding shape_of reference_from
+shape_again s fits =
+    let read : shape_at (spelled s) ≡ Some (s, []) = ap shape_at (sym (append-nil (spelled s))) ∙ shape_at_again s [] fits refl in
+    rw read refl
 
--- ---- in the words of the contract
+-- ---- whole texts and their meanings
 
-pub is_found : (text : List ℕ) (read : Option Path) →
-    option_map reference_of read ≡ option_map (meaning text) (shape_of text) →
-    IfSome read (λ p. IsPath text (reference_of p))
-is_found text None same = tt
-is_found text (Some p) same =
-    let s = map_some (meaning text) (shape_of text) (reference_of p) (sym same) in
-    let taken = shape_takes text s.0 s.1 in
+pub path_known : (t : List ℕ) (means : Reference) → IsPath t means → path_of t ≡ Some means
+path_known t means h =
+    let shape : shape_of t ≡ Some h.shape = ap shape_of h.spells ∙ shape_again h.shape h.fits in
+    ap (option_map (meaning t)) shape ∙ ap Some (sym h.gives)
+
+pub path_is : (t : List ℕ) (means : Reference) → path_of t ≡ Some means → IsPath t means
+path_is t means e =
+    let s = map_some (meaning t) (shape_of t) means e in
+    let taken = shape_takes t s.0 s.1 in
     record { shape = s.0; fits = taken.fits; spells = taken.spells; gives = sym s.2 }
-
--- what is a path is read as its shape
-shape_read : (text : List ℕ) (means : Reference) (h : IsPath text means) → shape_of text ≡ Some h.shape
-shape_read text means h = ap shape_of h.spells ∙ shape_again h.shape h.fits
-
--- what is read, and only that, is a path
-pub is_none : (text : List ℕ) (read : Option Path) →
-    option_map reference_of read ≡ option_map (meaning text) (shape_of text) →
-    IsNone read ↔ ((means : Reference) → IsPath text means → ⊥)
-is_none text None same =
-    let only = λ (means : Reference) (h : IsPath text means).
-    none-some means (same ∙ ap (option_map (meaning text)) (shape_read text means h) ∙ ap Some (sym h.gives)) in
-    (λ _. only, λ _. refl)
-is_none text (Some p) same =
-    (λ none. absurd (true≢false none), λ no. absurd (no (reference_of p) (is_found text (Some p) same)))
 
 -- a text has at most one meaning
 pub one_meaning : (text : List ℕ) (a b : Reference) → IsPath text a → IsPath text b → a ≡ b
-one_meaning text a b p q =
-    p.gives ∙ ap (meaning text) (same_Some p.shape q.shape (sym (shape_read text a p) ∙ shape_read text b q)) ∙ sym q.gives
+one_meaning text a b p q = same_Some a b (sym (path_known text a p) ∙ path_known text b q)

@@ -1,22 +1,13 @@
 -- Paths within longer texts: what a path's text is like, and that a front that goes as far as it can ends with it.
-use Rattle.std.proofs.Common.{◌≡◌, ◌≢◌, ℕ, zero, suc, ◌+◌, ◌≤◌, Bool, true, false, not, ◌||◌, List, [], ◌∷◌, ◌++◌, length, take, drop, refl, sym, ap, subst, ◌∙◌, append_assoc, arith, inl, inr, length-append}
+use Rattle.std.proofs.Common.{◌≡◌, ℕ, zero, suc, ◌+◌, Bool, true, false, not, List, [], ◌∷◌, ◌++◌, length, take, drop, refl, sym, ap, subst, ◌∙◌, append_assoc, arith, inl, inr, length-append}
 use Rattle.std.specs.Prelude.{◌==◌, codes}
-use Rattle.std.specs.List.{prefix_len, AllByRecursion}
-use Rattle.std.proofs.lemmas.Bool.{ne_eqb, not-true, not-false, or_parts}
-use Rattle.handlebars_base.specs.Path.{Reference, IsPath, is_symbol, IsIdentifier, Part, dots, plain, bracketed, spelled_part, IsPart, is_dots, Link, spelled_links, AreLinks, ups, Shape, dot, at_root, at_name, in_parts, spelled, IsShape}
+use Rattle.std.specs.List.{AllByRecursion}
+use Rattle.std.proofs.lemmas.Bool.{ne_eqb, not-true, or_parts}
+use Rattle.handlebars_base.specs.Path.{Reference, IsPath, is_symbol, IsIdentifier, Part, dots, plain, bracketed, spelled_part, IsPart, is_dots, Link, spelled_links, AreLinks, ups, Shape, itself, at_root, at_name, in_parts, spelled, IsShape}
 use Rattle.handlebars_base.specs.PathReading.{is_reference_byte, starts_reference, stops, reference_from, reference_len}
 use Rattle.std.proofs.lemmas.List.{take_at, drop_at}
 use Rattle.handlebars_base.proofs.PathParts.{joins_cases}
-use Rattle.handlebars_base.proofs.PathSpelled.{not_symbol}
-use Rattle.handlebars_base.proofs.PathShapes as shapes
-use Rattle.handlebars_base.proofs.PathFront as front
-
--- a text has at most one meaning
-pub one_meaning : (text : List ℕ) (a b : Reference) → IsPath text a → IsPath text b → a ≡ b
-one_meaning = shapes.one_meaning
-
-pub reference_len-le : (t : List ℕ) → reference_len t ≤ length t
-reference_len-le = front.reference_len-le
+use Rattle.handlebars_base.proofs.PathMarks.{not_symbol}
 
 -- ---- a reference goes over the whole of a path
 
@@ -93,7 +84,7 @@ passed_parts p ss fits links =
     passed_both (spelled_part p) (spelled_links ss) (passed_part p fits) (passed_links (is_dots p) ss links)
 
 passed_shape : (s : Shape) → IsShape s → IsPassed (spelled s)
-passed_shape dot fits = passed_byte 46 [] refl refl passed_none
+passed_shape itself fits = passed_byte 46 [] refl refl passed_none
 passed_shape (at_root ss) fits =
     passed_name 0 (codes "root") ss (λ e. absurd cc, (refl, (refl, (refl, (refl, tt))))) fits
 passed_shape (at_name zero name ss) fits = passed_name 0 name ss fits.0 fits.3
@@ -141,7 +132,7 @@ starts_part (plain (x ∷ xs)) t fits = rw (fits.1.0) refl
 starts_part (bracketed n) t fits = refl
 
 starts_shape : (s : Shape) → IsShape s → stops (spelled s) ≡ false
-starts_shape dot fits = refl
+starts_shape itself fits = refl
 starts_shape (at_root ss) fits = refl
 starts_shape (at_name n name ss) fits = refl
 starts_shape (in_parts true p ss) fits = refl
@@ -151,31 +142,7 @@ starts_shape (in_parts false p ss) fits = starts_part p (spelled_links ss) fits.
 pub stops-path : (text : List ℕ) (means : Reference) → IsPath text means → stops text ≡ false
 stops-path text means h = ap stops h.spells ∙ starts_shape h.shape h.fits
 
-pub path_not_empty : (text : List ℕ) (means : Reference) → IsPath text means → text ≢ []
-path_not_empty text means h none =
-    let starts : stops [] ≡ false = ap stops (sym none) ∙ stops-path text means h in absurd cc
-
-first_other : (p : ℕ → Bool) (t : List ℕ) → ((b : ℕ) → starts_reference b ≡ true → p b ≡ false) → stops t ≡ false →
-    prefix_len p t ≡ 0
-first_other p [] other starts = refl
-first_other p (x ∷ xs) other starts = rw (other x (not-false (starts_reference x) starts)) refl
-
--- a path begins with none of the bytes that no reference begins with
-pub prefix_len-path : (p : ℕ → Bool) (text : List ℕ) (means : Reference) →
-    ((b : ℕ) → starts_reference b ≡ true → p b ≡ false) → IsPath text means → prefix_len p text ≡ 0
-prefix_len-path p text means other h = first_other p text other (stops-path text means h)
-
 -- one byte that no reference begins with is no other's
 pub starts_other : (c b : ℕ) → starts_reference c ≡ false → starts_reference b ≡ true → (b == c) ≡ false
 starts_other c b never begins =
     ne_eqb b c (λ e. let same : starts_reference b ≡ starts_reference c = ap starts_reference e in absurd cc)
-
-not_white : (b : ℕ) → starts_reference b ≡ true → (b == 32 || (b == 9 || (b == 10 || b == 13))) ≡ false
-not_white b h =
-    rw (starts_other 32 b refl h, starts_other 9 b refl h, starts_other 10 b refl h, starts_other 13 b refl h) refl
-
--- a space, a tab, a line feed or a carriage return begins no path
-pub white-path : (text : List ℕ) (means : Reference) → IsPath text means →
-    prefix_len (λ b. b == 32 || (b == 9 || (b == 10 || b == 13))) text ≡ 0
-white-path text means h =
-    prefix_len-path (λ b. b == 32 || (b == 9 || (b == 10 || b == 13))) text means not_white h

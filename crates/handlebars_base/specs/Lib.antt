@@ -8,3 +8,4 @@ pub mod Scoped
 pub mod Path
 pub mod PathView
 pub mod PathReading
+pub mod Laws

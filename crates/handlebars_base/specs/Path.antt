@@ -4,24 +4,25 @@ use Rattle.std.specs.Prelude.{◌≡◌, ◌≢◌, ℕ, zero, suc, Bool, true, 
 use Rattle.std.specs.Char.{is_ascii_alphanumeric}
 use Rattle.std.specs.List.{AllByRecursion}
 use Rattle.std.specs.Str.{bytes_eq}
+use Rattle.handlebars_base.specs.Bytes.{Text, dollar, hyphen, dot, slash, colon, at_sign, left_bracket, right_bracket, underscore}
 
 -- ---- what a path means
 
 -- a name to look up, the root of the data, this block, or the block around
 pub data Segment : Type 0 where
-  named : List ℕ → Segment
+  named : Text → Segment
   root : Segment
   local : Segment
   up : Segment
 
 -- A path through the data by its segments, or a variable of the block so many blocks up, by its name. Both keep
--- the text as raw_of.
+-- the text as written.
 pub data Reference : Type 0 where
-  relative : List Segment → List ℕ → Reference
-  variable : ℕ → List ℕ → List ℕ → Reference
+  relative : List Segment → Text → Reference
+  variable : ℕ → Text → Text → Reference
 
--- the text as raw_of
-abbrev pub raw_of : Reference → List ℕ
+-- the text as written
+abbrev pub raw_of : Reference → Text
 raw_of (relative segments text) = text
 raw_of (variable level name text) = text
 
@@ -30,28 +31,29 @@ raw_of (variable level name text) = text
 -- a letter, a digit, `_`, `-`, `$`, `:`, or a byte of a character from U+0080 on
 abbrev pub is_symbol : ℕ → Bool
 is_symbol b =
-    nat_le 128 b || (is_ascii_alphanumeric b || (b == 95 || (b == 45 || (b == 36 || b == 58))))
+    nat_le 128 b ||
+    (is_ascii_alphanumeric b || (b == underscore || (b == hyphen || (b == dollar || b == colon))))
 
 -- a run of symbols, at least one
-abbrev pub IsIdentifier : List ℕ → Type 0
+abbrev pub IsIdentifier : Text → Type 0
 IsIdentifier n = (n ≢ []) × AllByRecursion (λ b. is_symbol b ≡ true) n
 
 -- `..`, an identifier, or a name in brackets
 pub data Part : Type 0 where
   dots : Part
-  plain : List ℕ → Part
-  bracketed : List ℕ → Part
+  plain : Text → Part
+  bracketed : Text → Part
 
-abbrev pub spelled_part : Part → List ℕ
+abbrev pub spelled_part : Part → Text
 spelled_part dots = codes ".."
 spelled_part (plain n) = n
-spelled_part (bracketed n) = 91 ∷ (n ++ 93 ∷ [])
+spelled_part (bracketed n) = left_bracket ∷ (n ++ right_bracket ∷ [])
 
 -- brackets hold anything but a closing one
 abbrev pub IsPart : Part → Type 0
 IsPart dots = ⊤
 IsPart (plain n) = IsIdentifier n
-IsPart (bracketed n) = AllByRecursion (λ b. not (b == 93) ≡ true) n
+IsPart (bracketed n) = AllByRecursion (λ b. not (b == right_bracket) ≡ true) n
 
 abbrev pub is_dots : Part → Bool
 is_dots dots = true
@@ -65,13 +67,13 @@ pub record Link : Type 0 where
   pub sep : ℕ
   pub part : Part
 
-abbrev pub spelled_links : List Link → List ℕ
+abbrev pub spelled_links : List Link → Text
 spelled_links [] = []
 spelled_links (s ∷ ss) = s.sep ∷ (spelled_part s.part ++ spelled_links ss)
 
 -- `/` joins any two parts, and `.` two of which neither is `..`
 abbrev pub joins : Bool → ℕ → Bool → Bool
-joins before sep behind = (sep == 47) || ((sep == 46) && (not before && not behind))
+joins before sep behind = (sep == slash) || ((sep == dot) && (not before && not behind))
 
 -- links behind a part, which is `..` or not
 abbrev pub AreLinks : Bool → List Link → Type 0
@@ -84,36 +86,37 @@ AreLinks before (s ∷ ss) =
 -- `.` alone; `@root` and links; `@`, a number of `../`, a name and links; or a part and links, with `./` in front
 -- or not
 pub data Shape : Type 0 where
-  dot : Shape
+  itself : Shape
   at_root : List Link → Shape
-  at_name : ℕ → List ℕ → List Link → Shape
+  at_name : ℕ → Text → List Link → Shape
   in_parts : Bool → Part → List Link → Shape
 
 -- so many `../`
-abbrev pub ups : ℕ → List ℕ
+abbrev pub ups : ℕ → Text
 ups zero = []
-ups (suc n) = 46 ∷ 46 ∷ 47 ∷ ups n
+ups (suc n) = dot ∷ dot ∷ slash ∷ ups n
 
-abbrev pub spelled : Shape → List ℕ
-spelled dot = 46 ∷ []
-spelled (at_root ss) = 64 ∷ (codes "root" ++ spelled_links ss)
-spelled (at_name n name ss) = 64 ∷ (ups n ++ (name ++ spelled_links ss))
-spelled (in_parts true p ss) = 46 ∷ 47 ∷ (spelled_part p ++ spelled_links ss)
+abbrev pub spelled : Shape → Text
+spelled itself = dot ∷ []
+spelled (at_root ss) = at_sign ∷ (codes "root" ++ spelled_links ss)
+spelled (at_name n name ss) = at_sign ∷ (ups n ++ (name ++ spelled_links ss))
+spelled (in_parts true p ss) = dot ∷ slash ∷ (spelled_part p ++ spelled_links ss)
 spelled (in_parts false p ss) = spelled_part p ++ spelled_links ss
 
 -- A variable isn't named `this`, and right behind the `@` not `root`, which is the root's own form.
 abbrev pub IsShape : Shape → Type 0
-IsShape dot = ⊤
+IsShape itself = ⊤
 IsShape (at_root ss) = AreLinks false ss
 IsShape (at_name zero name ss) =
-    IsIdentifier name × (bytes_eq name (codes "this") ≡ false) × (bytes_eq name (codes "root") ≡ false) × AreLinks false ss
+    IsIdentifier name × (bytes_eq name (codes "this") ≡ false) × (bytes_eq name (codes "root") ≡ false) ×
+    AreLinks false ss
 IsShape (at_name (suc n) name ss) = IsIdentifier name × (bytes_eq name (codes "this") ≡ false) × AreLinks false ss
 IsShape (in_parts b p ss) = IsPart p × AreLinks (is_dots p) ss
 
 -- ---- from the shape to the meaning
 
 -- the name `this` adds no segment, in brackets neither
-abbrev pub name_segments : List ℕ → List Segment
+abbrev pub name_segments : Text → List Segment
 name_segments n = if bytes_eq n (codes "this") then [] else named n ∷ []
 
 abbrev pub part_segments : Part → List Segment
@@ -126,14 +129,14 @@ link_segments [] = []
 link_segments (s ∷ ss) = part_segments s.part ++ link_segments ss
 
 -- The links behind a variable's name add nothing.
-abbrev pub meaning : List ℕ → Shape → Reference
-meaning text dot = relative [] text
+abbrev pub meaning : Text → Shape → Reference
+meaning text itself = relative [] text
 meaning text (at_root ss) = relative (root ∷ link_segments ss) text
 meaning text (at_name n name ss) = variable n name text
 meaning text (in_parts b p ss) = relative (part_segments p ++ link_segments ss) text
 
 -- the text is a path that means this
-pub record IsPath (text : List ℕ) (means : Reference) : Type 0 where
+pub record IsPath (text : Text) (means : Reference) : Type 0 where
   pub shape : Shape
   pub fits : IsShape shape
   pub spells : text ≡ spelled shape

@@ -1,8 +1,10 @@
 -- Reading a path from left to right, and how far a reference goes, as functions on lists.
-use Rattle.std.specs.Prelude.{ℕ, zero, suc, ◌+◌, Bool, true, false, not, ◌&&◌, ◌||◌, ◌==◌, nat_lt, if◌then◌else◌, List, [], ◌∷◌, length, take, drop, Option, Some, None, option_and_then, codes}
+use Rattle.std.specs.Prelude.{◌≡◌, ℕ, zero, suc, ◌+◌, Bool, true, false, not, ◌&&◌, ◌||◌, ◌==◌, nat_lt, if◌then◌else◌, List, [], ◌∷◌, ◌++◌, length, take, drop, Option, Some, None, option_and_then, is_some, codes}
 use Rattle.std.specs.List.{prefix_len, position_or_len, before_first, after_first}
 use Rattle.std.specs.Str.{bytes_eq}
-use Rattle.handlebars_base.specs.Path.{is_symbol, Part, dots, plain, bracketed, is_dots, Link, Shape, dot, at_root, at_name, in_parts}
+use Rattle.std.specs.Option.{option_map}
+use Rattle.handlebars_base.specs.Bytes.{Text, dot, slash, at_sign, left_bracket, right_bracket}
+use Rattle.handlebars_base.specs.Path.{Segment, root, Reference, relative, variable, raw_of, is_symbol, Part, dots, plain, bracketed, is_dots, Link, Shape, itself, at_root, at_name, in_parts, part_segments, link_segments, meaning}
 
 infixl 10 ◌>>=◌
 abbrev pub ◌>>=◌ : {A B : Type 0} → Option A → (A → Option B) → Option B
@@ -16,125 +18,176 @@ with_or (Some x) f other = f x
 -- ---- marks and symbols
 
 -- what follows the mark c
-unfoldable pub after : ℕ → List ℕ → Option (List ℕ)
+unfoldable pub after : ℕ → Text → Option (Text)
 after c [] = None
 after c (x ∷ xs) = if x == c then Some xs else None
 
-abbrev pub symbols_of : List ℕ → List ℕ
+abbrev pub symbols_of : Text → Text
 symbols_of t = take (prefix_len is_symbol t) t
 
-abbrev pub behind_symbols : List ℕ → List ℕ
+abbrev pub behind_symbols : Text → Text
 behind_symbols t = drop (prefix_len is_symbol t) t
 
 abbrev pub is_up_mark : ℕ → ℕ → ℕ → Bool
-is_up_mark a b c = (a == 46) && ((b == 46) && (c == 47))
+is_up_mark a b c = (a == dot) && ((b == dot) && (c == slash))
 
 -- what follows `../`
-unfoldable pub after_up : List ℕ → Option (List ℕ)
+unfoldable pub after_up : Text → Option (Text)
 after_up (a ∷ b ∷ c ∷ r) = if is_up_mark a b c then Some r else None
 after_up _ = None
 
 -- how many `../` stand at the front, on top of n, and what follows them
-unfoldable pub ups_at : ℕ → List ℕ → ℕ × List ℕ
+unfoldable pub ups_at : ℕ → Text → ℕ × Text
 ups_at n (a ∷ b ∷ c ∷ r) = if is_up_mark a b c then ups_at (n + 1) r else (n, a ∷ b ∷ c ∷ r)
 ups_at n t = (n, t)
 
 -- ---- parts and links, each with the text behind it
 
 -- a name in brackets, behind the opening one
-unfoldable pub bracketed_at : List ℕ → Option (Part × List ℕ)
+unfoldable pub bracketed_at : Text → Option (Part × Text)
 bracketed_at t =
-    if nat_lt (position_or_len (λ b. b == 93) t) (length t)
-    then Some (bracketed (before_first (λ b. b == 93) t), after_first (λ b. b == 93) t)
+    if nat_lt (position_or_len (λ b. b == right_bracket) t) (length t)
+    then Some (bracketed (before_first (λ b. b == right_bracket) t), after_first (λ b. b == right_bracket) t)
     else None
 
 -- an identifier, as long as it goes
-unfoldable pub plain_at : List ℕ → Option (Part × List ℕ)
+unfoldable pub plain_at : Text → Option (Part × Text)
 plain_at t = if prefix_len is_symbol t == 0 then None else Some (plain (symbols_of t), behind_symbols t)
 
 -- After one `.` only another makes a part.
-unfoldable pub part_at : List ℕ → Option (Part × List ℕ)
+unfoldable pub part_at : Text → Option (Part × Text)
 part_at t =
-    with_or (after 46 t) (λ r. after 46 r >>= λ r. Some (dots, r))
-    (with_or (after 91 t) bracketed_at (plain_at t))
+    with_or (after dot t) (λ r. after dot r >>= λ r. Some (dots, r))
+    (with_or (after left_bracket t) bracketed_at (plain_at t))
 
-abbrev pub link_by : ℕ → Part × List ℕ → Link × List ℕ
+abbrev pub link_by : ℕ → Part × Text → Link × Text
 link_by sep p = (record { sep = sep; part = p.0 }, p.1)
 
 -- a link behind its `/`
-abbrev pub slash_link : List ℕ → Option (Link × List ℕ)
-slash_link r = part_at r >>= λ p. Some (link_by 47 p)
+abbrev pub slash_link : Text → Option (Link × Text)
+slash_link r = part_at r >>= λ p. Some (link_by slash p)
 
 -- a link behind its `.`, which joins no `..`
-abbrev pub dot_link : Bool → List ℕ → Option (Link × List ℕ)
-dot_link before r = part_at r >>= λ p. if before || is_dots p.0 then None else Some (link_by 46 p)
+abbrev pub dot_link : Bool → Text → Option (Link × Text)
+dot_link before r = part_at r >>= λ p. if before || is_dots p.0 then None else Some (link_by dot p)
 
 -- a link behind a part, which is `..` or not
-unfoldable pub link_at : Bool → List ℕ → Option (Link × List ℕ)
-link_at before t = with_or (after 47 t) slash_link (after 46 t >>= dot_link before)
+unfoldable pub link_at : Bool → Text → Option (Link × Text)
+link_at before t = with_or (after slash t) slash_link (after dot t >>= dot_link before)
 
-abbrev pub part_of_link : Link × List ℕ → Part × List ℕ
+abbrev pub part_of_link : Link × Text → Part × Text
 part_of_link q = (q.0.part, q.1)
 
--- links to the end of the text, fewer than the number
-unfoldable pub links_at : ℕ → Bool → List ℕ → Option (List Link)
-links_at zero before t = None
-links_at (suc n) before [] = Some []
-links_at (suc n) before (s ∷ t) = do
-  q ← link_at before (s ∷ t)
-  ss ← links_at n (is_dots q.0.part) q.1
-  Some (q.0 ∷ ss)
+-- a link in front of those that were read behind it
+abbrev pub with_link : Link → List Link × Text → List Link × Text
+with_link s q = (s ∷ q.0, q.1)
+
+-- links as long as they fit, at most the number, and what follows them
+unfoldable pub links_at : ℕ → Bool → Text → List Link × Text
+links_at zero before t = ([], t)
+links_at (suc n) before t =
+    with_or (link_at before t) (λ q. with_link q.0 (links_at n (is_dots q.0.part) q.1)) ([], t)
 
 -- Each link takes a byte at least, so this many are enough.
-unfoldable pub links_of : Bool → List ℕ → Option (List Link)
-links_of before t = links_at (length t + 1) before t
+unfoldable pub links_of : Bool → Text → List Link × Text
+links_of before t = links_at (length t) before t
+
+-- ---- where a path starts
+
+-- at this value, by `.` alone; at the root; at a variable so many blocks up; or at a part
+pub data Start : Type 0 where
+  here : Start
+  from_root : Start
+  from_variable : ℕ → Text → Start
+  from_part : Part → Start
+
+abbrev pub is_no_name : Text → Bool
+is_no_name name = bytes_eq name [] || bytes_eq name (codes "this")
+
+abbrev pub named_start : ℕ → Text → Start
+named_start level name = if (level == 0) && bytes_eq name (codes "root") then from_root else from_variable level name
+
+-- a name behind an `@`, given as the number of `../` and the text behind them
+unfoldable pub named_at : ℕ × Text → Option (Start × Text)
+named_at u =
+    if is_no_name (symbols_of u.1)
+    then None
+    else Some (named_start u.0 (symbols_of u.1), behind_symbols u.1)
+
+abbrev pub part_start : Part × Text → Option (Start × Text)
+part_start p = Some (from_part p.0, p.1)
+
+-- what follows a `.` that begins no `..`: a `/` and a part, or nothing of the path
+abbrev pub dot_start : Text → Option (Start × Text)
+dot_start r = with_or (after slash r) (λ r. part_at r >>= part_start) (Some (here, r))
+
+-- a path with no `@`
+unfoldable pub unnamed_at : Text → Option (Start × Text)
+unnamed_at t = with_or (part_at t) part_start (after dot t >>= dot_start)
+
+unfoldable pub start_at : Text → Option (Start × Text)
+start_at t = with_or (after at_sign t) (λ r. named_at (ups_at 0 r)) (unnamed_at t)
 
 -- ---- whole paths
 
-abbrev pub is_no_name : List ℕ → Bool
-is_no_name name = bytes_eq name [] || bytes_eq name (codes "this")
+-- the links behind a start, and what follows them
+abbrev pub links_behind : Start → Text → List Link × Text
+links_behind here t = ([], t)
+links_behind from_root t = links_of false t
+links_behind (from_variable level name) t = links_of false t
+links_behind (from_part p) t = links_of (is_dots p) t
 
--- so many `../` and a name behind an `@`
-abbrev pub at_shape : ℕ → List ℕ → List Link → Shape
-at_shape level name ss = if (level == 0) && bytes_eq name (codes "root") then at_root ss else at_name level name ss
+-- whether `./` stands in front
+abbrev pub is_dotted : Text → Bool
+is_dotted t = is_some (after dot t >>= after slash)
 
--- what stands behind an `@`, given as the number of `../` and the text behind them
-unfoldable pub at_of : ℕ × List ℕ → Option Shape
-at_of u =
-    if is_no_name (symbols_of u.1)
-    then None
-    else (links_of false (behind_symbols u.1) >>= λ ss. Some (at_shape u.0 (symbols_of u.1) ss))
+abbrev pub shape_from : Bool → Start → List Link → Shape
+shape_from dotted here ss = itself
+shape_from dotted from_root ss = at_root ss
+shape_from dotted (from_variable level name) ss = at_name level name ss
+shape_from dotted (from_part p) ss = in_parts dotted p ss
 
--- parts to the end of the text, behind a `./` or not
-unfoldable pub parts_of : Bool → List ℕ → Option Shape
-parts_of dotted t = do
-  p ← part_at t
-  ss ← links_of (is_dots p.0) p.1
-  Some (in_parts dotted p.0 ss)
+-- the segments of a start and its links: a variable has none
+abbrev pub start_segments : Start → List Link → List Segment
+start_segments here ss = []
+start_segments from_root ss = root ∷ link_segments ss
+start_segments (from_variable level name) ss = []
+start_segments (from_part p) ss = part_segments p ++ link_segments ss
 
--- `.` alone, `./` and parts, or parts
-unfoldable pub dotted_of : List ℕ → Option Shape
-dotted_of t =
-    if bytes_eq t (codes ".")
-    then Some dot
-    else with_or (after 46 t >>= after 47) (parts_of true) (parts_of false t)
+abbrev pub start_meaning : Text → Start → List Segment → Reference
+start_meaning text here segments = relative segments text
+start_meaning text from_root segments = relative segments text
+start_meaning text (from_variable level name) segments = variable level name text
+start_meaning text (from_part p) segments = relative segments text
+
+-- the shape in front of a text, with links as long as they fit, and what follows it
+unfoldable pub shape_at : Text → Option (Shape × Text)
+shape_at t = start_at t >>= λ s.
+    Some (shape_from (is_dotted t) s.0 (links_behind s.0 s.1).0, (links_behind s.0 s.1).1)
+
+-- a shape was read in front, and this is left
+abbrev pub IsLeft : Text → Text → Type 0
+IsLeft t rest = (s : Shape) × (shape_at t ≡ Some (s, rest))
 
 -- the path that the whole text is
-unfoldable pub shape_of : List ℕ → Option Shape
-shape_of t = with_or (after 64 t) (λ r. at_of (ups_at 0 r)) (dotted_of t)
+unfoldable pub shape_of : Text → Option Shape
+shape_of t = shape_at t >>= λ s. if length s.1 == 0 then Some s.0 else None
+
+abbrev pub path_of : Text → Option Reference
+path_of t = option_map (meaning t) (shape_of t)
 
 -- ---- how far a reference goes
 
 -- a byte that stands in a path outside brackets: a symbol, `.`, `/` or `@`
 abbrev pub is_reference_byte : ℕ → Bool
-is_reference_byte b = is_symbol b || (b == 46 || (b == 47 || b == 64))
+is_reference_byte b = is_symbol b || (b == dot || (b == slash || b == at_sign))
 
 -- a byte that a reference begins with: one of those, or an opening bracket
 abbrev pub starts_reference : ℕ → Bool
-starts_reference b = is_reference_byte b || b == 91
+starts_reference b = is_reference_byte b || b == left_bracket
 
 -- the text goes on with none of these, or ends
-abbrev pub stops : List ℕ → Bool
+abbrev pub stops : Text → Bool
 stops [] = true
 stops (x ∷ xs) = not (starts_reference x)
 
@@ -144,13 +197,23 @@ one_more zero = zero
 one_more (suc n) = suc (suc n)
 
 -- how far a reference goes from here on, in brackets or not: brackets that are never closed give nothing
-unfoldable pub reference_from : Bool → List ℕ → ℕ
+unfoldable pub reference_from : Bool → Text → ℕ
 reference_from within [] = 0
 reference_from true (x ∷ xs) =
-    if x == 93 then suc (reference_from false xs) else one_more (reference_from true xs)
+    if x == right_bracket then suc (reference_from false xs) else one_more (reference_from true xs)
 reference_from false (x ∷ xs) =
-    if x == 91 then one_more (reference_from true xs) else if is_reference_byte x then suc (reference_from false xs) else 0
+    if x == left_bracket
+    then one_more (reference_from true xs)
+    else if is_reference_byte x then suc (reference_from false xs) else 0
 
 -- the length of the longest front of reference bytes and of names in brackets, each closed
-abbrev pub reference_len : List ℕ → ℕ
+abbrev pub reference_len : Text → ℕ
 reference_len text = reference_from false text
+
+-- The path that the longest front of reference bytes is, and what follows it.
+unfoldable pub path_at : Text → Option (Reference × Text)
+path_at t = path_of (take (reference_len t) t) >>= λ means. Some (means, drop (reference_len t) t)
+
+-- the text of that path, and what follows it
+abbrev pub slice_at : Text → Option (Text × Text)
+slice_at t = option_map (λ p. (raw_of p.0, p.1)) (path_at t)

@@ -1,7 +1,8 @@
 -- What the paths of the program stand for.
-use Rattle.std.specs.Prelude.{ℕ, List, map}
+use Rattle.std.specs.Prelude.{List, map}
 use Rattle.std.specs.String.{string_bytes}
 use denote.Ref.{Bor}
+use Rattle.handlebars_base.specs.Bytes.{Text}
 use Rattle.handlebars_base.specs.Path.{Segment, named, root, local, up, Reference, relative, variable, Part, dots, plain, bracketed}
 use Rattle.handlebars_base.specs.declared.json.path.PathRule.{PathRule}
 use Rattle.handlebars_base.specs.declared.json.path.PathRule.TheVariants as rule
@@ -9,8 +10,13 @@ use Rattle.handlebars_base.specs.declared.json.path.PathSeg.{PathSeg}
 use Rattle.handlebars_base.specs.declared.json.path.PathSeg.TheVariants.{Named, Ruled}
 use Rattle.handlebars_base.specs.declared.json.path.Path.{Path}
 use Rattle.handlebars_base.specs.declared.json.path.Path.TheVariants as path
-use Rattle.handlebars_base.specs.declared.json.path.reading.Part.{Part as ReadPart}
-use Rattle.handlebars_base.specs.declared.json.path.reading.Part.TheVariants as part
+use Rattle.handlebars_base.specs.declared.json.path.links.Part.{Part as ReadPart}
+use Rattle.handlebars_base.specs.declared.json.path.links.Part.TheVariants as part
+use Rattle.handlebars_base.specs.declared.json.path.start.Start.{Start as ReadStart}
+use Rattle.handlebars_base.specs.declared.json.path.start.Start.TheVariants as start
+use Rattle.handlebars_base.specs.declared.json.path.front.PathSlice.{PathSlice}
+use Rattle.handlebars_base.specs.declared.json.path.front.PathFront.{PathFront}
+use Rattle.handlebars_base.specs.PathReading.{Start, here, from_root, from_variable, from_part}
 
 abbrev pub segment_of_rule : PathRule → Segment
 segment_of_rule rule.Root = root
@@ -35,5 +41,23 @@ part_of (part.Plain name) = plain name.now
 part_of (part.Bracketed name) = bracketed name.now
 
 -- a part, and the text behind it
-abbrev pub found_at : ReadPart × Bor (List ℕ) → Part × List ℕ
+abbrev pub found_at : ReadPart × Bor (Text) → Part × Text
 found_at x = (part_of x.0, x.1.now)
+
+abbrev pub start_of : ReadStart → Start
+start_of start.Here = here
+start_of start.Root = from_root
+start_of (start.Variable level name) = from_variable level name.now
+start_of (start.Part p) = from_part (part_of p)
+
+-- a start, and the text behind it
+abbrev pub started_at : ReadStart × Bor Text → Start × Text
+started_at x = (start_of x.0, x.1.now)
+
+-- a path in front of a text, and what follows it
+abbrev pub front_of : PathFront → Reference × Text
+front_of front = (reference_of front.path, front.rest.now)
+
+-- the text of a path in front, and what follows it
+abbrev pub slice_of : PathSlice → Text × Text
+slice_of slice = (slice.raw.now, slice.rest.now)

@@ -1,5 +1,5 @@
 -- Several writes in a row.
-use Rattle.std.proofs.Common.{◌≡◌, [], ◌++◌, refl, sym, ap, ◌∙◌, subst, append_assoc, append-nil, Ok, Err, Result}
+use Rattle.std.proofs.Common.{◌≡◌, [], ◌++◌, refl, sym, ap, ◌∙◌, subst, append_assoc, append-nil, Ok, Err, Result, ◌<◌, length, length-append, arith}
 use Rattle.std.proofs.lemmas.Bool.{false≢true}
 use Rattle.std.specs.Result.{IsErr}
 use Rattle.std.specs.declared.io.Error.{Error}
@@ -40,8 +40,13 @@ failed : {t : Text} {x y : Held} (r : Result (Unit {0}) Error) → IsErr r → I
 failed (Ok u) bad h = absurd (false≢true bad)
 failed (Err e) bad h = h
 
+some-append : (front t left all : Text) → all ≡ front ++ (t ++ left) → 0 < length t → 0 < length all
+some-append front t left all is some =
+    omega (arith, some, length-append front (t ++ left), length-append t left, ap length is)
+
 cut_off-append : {t all : Text} {x y z : Held} (left : Text) → AllBut (t ++ left) all x y → IsCutOff t y z → IsCutOff all x z
-cut_off-append {x = x} left h k = record {
+cut_off-append {t} {all} {x = x} left h k = record {
+  some = some-append h.front t left all h.split k.some;
   front = h.front ++ k.front;
   is_front = (
     k.is_front.0 ++ left,

@@ -1,5 +1,5 @@
 -- What an output holds after a write, and what a write that failed is called.
-use Rattle.std.specs.Prelude.{◌≡◌, ℕ, ◌+◌, ◌^◌, ◌<◌, [], ◌++◌, Result, Ok, Err, string_bytes}
+use Rattle.std.specs.Prelude.{◌≡◌, ℕ, ◌+◌, ◌^◌, ◌<◌, [], ◌++◌, length, Result, Ok, Err, string_bytes}
 use Rattle.std.specs.declared.io.Error.{Error}
 use Rattle.std.specs.declared.io.ErrorKind.{ErrorKind}
 use Rattle.std.specs.declared.io.ErrorKind.TheVariants.{OutOfMemory}
@@ -25,8 +25,9 @@ pub record IsWhole (t : Text) (before after : Held) : Type 0 where
   pub text : after.text ≡ before.text ++ t
   pub faults : after.faults ≡ before.faults
 
--- a beginning of it is, and the write has failed: that counts, as far as 64 bits count
+-- A beginning of it is, and the write has failed: that counts, as far as 64 bits count. To write nothing never fails.
 pub record IsCutOff (t : Text) (before after : Held) : Type 0 where
+  pub some : 0 < length t
   pub front : Text
   pub is_front : IsBeginning front t
   pub text : after.text ≡ before.text ++ front

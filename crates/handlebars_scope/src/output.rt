@@ -20,7 +20,8 @@ pub trait Output {
     // The errors that a write may give: any, where the output does not say.
     ghost may_give: { Error → Type 0 } = { λ _. Unit {0} };
 
-    /// Writes a segment. Where that fails, a beginning of the segment may have been written.
+    /// Writes a segment. Where that fails, a beginning of the segment may have been written. To write
+    /// nothing never fails.
     fn write(&mut self, seg: &str) -> Result<(), io::Error>
         ensures written { Written seg.now (held self.old) result (held self.new) }
         ensures given { IfErr result may_give };
@@ -72,6 +73,9 @@ impl Output for StringOutput {
         ensures given { IfErr result (λ e. error_kind e ≡ OutOfMemory) }
         ensures whole { OnErr result ((held_of self.new).text ≡ (held_of self.old).text) }
     {
+        if seg.is_empty() {
+            return Ok(());
+        }
         match self.text.push_str(seg) {
             Ok(()) => Ok(()),
             Err(cause) => {

@@ -1,11 +1,13 @@
 -- The views, one level at a time.
-use Rattle.std.proofs.Common.{◌≡◌, rules, Box, Global, String}
-use Rattle.handlebars_template.specs.Tree.{html_expression, expression, helper_block, decorator_expression, decorator_block, partial_expression, partial_block, comment}
-use Rattle.handlebars_template.specs.TreeView.{text, element_view, call_view, decorator_view}
+use Rattle.std.proofs.Common.{◌≡◌, ◌&&◌, suc, ◌==◌, List, [], ◌∷◌, length, option_map, refl, sym, ap, ◌∙◌, rules, arith, Box, Global, String}
+use Rattle.std.proofs.lemmas.Bool.{ne_eqb}
+use Rattle.handlebars_template.specs.Tree.{call_name, call_params, call_pairs, call_binding, call_body, call_inverse, call_marks, decorator_name, decorator_params, decorator_pairs, decorator_body, decorator_marks, lacks_params, lacks_pairs, is_value, html_expression, expression, helper_block, decorator_expression, decorator_block, partial_expression, partial_block, comment, raw_string}
+use Rattle.handlebars_template.specs.TreeView.{text, element_view, call_view, decorator_view, param_view, params_view, pairs_view, body_view, block_param_view}
 use Rattle.handlebars_template.specs.declared.template.tree.BlockParam.{the_lemmas}
-use Rattle.handlebars_template.specs.declared.template.tree.HelperTemplate.{HelperTemplate}
-use Rattle.handlebars_template.specs.declared.template.tree.DecoratorTemplate.{DecoratorTemplate}
-use Rattle.handlebars_template.specs.declared.template.tree.TemplateElement.TheVariants.{HtmlExpression, Expression, HelperBlock, DecoratorExpression, DecoratorBlock, PartialExpression, PartialBlock, Comment}
+use Rattle.handlebars_template.specs.declared.template.tree.HelperTemplate.{HelperTemplate, out-HelperTemplate}
+use Rattle.handlebars_template.specs.declared.template.tree.DecoratorTemplate.{DecoratorTemplate, out-DecoratorTemplate}
+use Rattle.handlebars_template.specs.declared.template.tree.Parameter.{Parameter}
+use Rattle.handlebars_template.specs.declared.template.tree.TemplateElement.TheVariants.{HtmlExpression, Expression, HelperBlock, DecoratorExpression, DecoratorBlock, PartialExpression, PartialBlock, Comment, RawString}
 
 pub element_view-HtmlExpression : (b : Box HelperTemplate Global) → element_view (HtmlExpression b) ≡ html_expression (call_view b.value)
 element_view-HtmlExpression b = search (rules, the_lemmas)
@@ -28,5 +30,67 @@ element_view-PartialExpression b = search (rules, the_lemmas)
 pub element_view-PartialBlock : (b : Box DecoratorTemplate Global) → element_view (PartialBlock b) ≡ partial_block (decorator_view b.value)
 element_view-PartialBlock b = search (rules, the_lemmas)
 
+pub element_view-RawString : (s : String Global) → element_view (RawString s) ≡ raw_string (text s)
+element_view-RawString s = search (rules, the_lemmas)
+
 pub element_view-Comment : (s : String Global) → element_view (Comment s) ≡ comment (text s)
 element_view-Comment s = search (rules, the_lemmas)
+
+-- ---- the parts of a call
+
+pub call_name-view : (h : HelperTemplate) → call_name (call_view h) ≡ param_view (out-HelperTemplate h).name
+call_name-view h = search (rules, the_lemmas)
+
+pub call_params-view : (h : HelperTemplate) → call_params (call_view h) ≡ params_view (out-HelperTemplate h).params.items
+call_params-view h = search (rules, the_lemmas)
+
+pub call_pairs-view : (h : HelperTemplate) → call_pairs (call_view h) ≡ pairs_view (out-HelperTemplate h).hash.entries
+call_pairs-view h = search (rules, the_lemmas)
+
+pub call_binding-view : (h : HelperTemplate) → call_binding (call_view h) ≡ block_param_view (out-HelperTemplate h).block_param
+call_binding-view h = search (rules, the_lemmas)
+
+pub call_body-view : (h : HelperTemplate) → call_body (call_view h) ≡ body_view (out-HelperTemplate h).template
+call_body-view h = search (rules, the_lemmas)
+
+pub call_inverse-view : (h : HelperTemplate) → call_inverse (call_view h) ≡ body_view (out-HelperTemplate h).inverse
+call_inverse-view h = search (rules, the_lemmas)
+
+pub call_marks-view : (h : HelperTemplate) → call_marks (call_view h)
+    ≡ record { block = (out-HelperTemplate h).block; chain = (out-HelperTemplate h).chain; indent_before_write = (out-HelperTemplate h).indent_before_write }
+call_marks-view h = search (rules, the_lemmas)
+
+-- ---- the parts of a decorator or an inclusion
+
+pub decorator_name-view : (t : DecoratorTemplate) → decorator_name (decorator_view t) ≡ param_view (out-DecoratorTemplate t).name
+decorator_name-view t = search (rules, the_lemmas)
+
+pub decorator_params-view : (t : DecoratorTemplate) → decorator_params (decorator_view t) ≡ params_view (out-DecoratorTemplate t).params.items
+decorator_params-view t = search (rules, the_lemmas)
+
+pub decorator_pairs-view : (t : DecoratorTemplate) → decorator_pairs (decorator_view t) ≡ pairs_view (out-DecoratorTemplate t).hash.entries
+decorator_pairs-view t = search (rules, the_lemmas)
+
+pub decorator_body-view : (t : DecoratorTemplate) → decorator_body (decorator_view t) ≡ body_view (out-DecoratorTemplate t).template
+decorator_body-view t = search (rules, the_lemmas)
+
+pub decorator_marks-view : (t : DecoratorTemplate) → decorator_marks (decorator_view t)
+    ≡ record { indent = option_map text (out-DecoratorTemplate t).indent; indent_before_write = (out-DecoratorTemplate t).indent_before_write }
+decorator_marks-view t = search (rules, the_lemmas)
+
+-- ---- values
+
+lacks_params-view : (ps : List Parameter) → lacks_params (params_view ps) ≡ (length ps == 0)
+lacks_params-view [] = refl
+lacks_params-view (p ∷ ps) = sym (ne_eqb (suc (length ps)) 0 (λ e. absurd (omega arith)))
+
+lacks_pairs-view : (hs : List (String Global × Parameter)) → lacks_pairs (pairs_view hs) ≡ (length hs == 0)
+lacks_pairs-view [] = refl
+lacks_pairs-view (h ∷ hs) = sym (ne_eqb (suc (length hs)) 0 (λ e. absurd (omega arith)))
+
+pub is_value-view : (h : HelperTemplate) → is_value (call_view h)
+    ≡ (length (out-HelperTemplate h).params.items == 0) && (length (out-HelperTemplate h).hash.entries == 0)
+is_value-view h =
+    let ps : lacks_params (call_params (call_view h)) ≡ (length (out-HelperTemplate h).params.items == 0) = ap lacks_params (call_params-view h) ∙ lacks_params-view (out-HelperTemplate h).params.items in
+    let hs : lacks_pairs (call_pairs (call_view h)) ≡ (length (out-HelperTemplate h).hash.entries == 0) = ap lacks_pairs (call_pairs-view h) ∙ lacks_pairs-view (out-HelperTemplate h).hash.entries in
+    rw (ps, hs) refl

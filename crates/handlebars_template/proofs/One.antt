@@ -1,120 +1,110 @@
--- At most one cut, and at most one outcome.
+-- OneBeginning most one cut, and at most one outcome.
 use Rattle.std.proofs.Common.{◌≡◌, ◌≢◌, ℕ, zero, suc, ◌-◌, ◌<◌, List, [], ◌∷◌, ◌++◌, length, drop, true, false, cond, refl, sym, ap, ◌∙◌, subst, arith, ◌⊎◌, inl, inr, length-append}
 use Rattle.std.specs.Prelude.{◌==◌, nat_lt, replicate}
 use Rattle.std.proofs.lemmas.List.{append-nil, drop_at}
 use Rattle.std.proofs.lemmas.Bool.{cases_Bool, eqb-true, eqb-false, ne_eqb}
 use borrow.Author.Tests.{ltb-true, ltb-false}
-use Rattle.handlebars_template.specs.Place.{place}
+use Rattle.handlebars_base.specs.Bytes.{Text, backslash, left_brace}
+use Rattle.handlebars_template.specs.Place.{Place, place}
 use Rattle.handlebars_template.specs.Text.{IsText, at_end, at_tag, a_byte, two_escaped, four_escaped, backslashes, braces, before_braces}
-use Rattle.handlebars_template.specs.Tag.{Tag, IsTag, NoTag}
-use Rattle.handlebars_template.specs.Cut.{Slice, text_slice, Reads, starts, goes_on, IsCut}
-use Rattle.handlebars_template.specs.Compile.{compiled, refused, whole, no_tag, unreadable, tree_of, OneCut, OneCompilation}
+use Rattle.handlebars_template.specs.Tag.{NoTag}
+use Rattle.handlebars_template.specs.Cut.{Slice, text_slice, Reads, starts, goes_on, TextAndTag, IsCut}
+use Rattle.handlebars_template.specs.Compile.{compiled, refused, whole, no_tag, IsUnreadable, unreadable, tree_of, OneCut, OneCompilation}
 use Rattle.handlebars_template.proofs.Runs.{backslashes-run, backslashes-braces, before_braces-run}
-use Rattle.handlebars_template.proofs.Tags.{same_tag, tag_braces, right_same}
+use Rattle.handlebars_template.proofs.Tags.{one_tag, braces-tag, append-right_cancel}
 
 -- ---- a text, read by a function
 
-abbrev keep : ℕ → List ℕ × List ℕ → List ℕ × List ℕ
+abbrev keep : ℕ → Text × Text → Text × Text
 keep b q = (b ∷ q.0, q.1)
 
 -- what is kept of the text in front, and what follows it; so many braces in front are text
-pub text_at : ℕ → List ℕ → List ℕ × List ℕ
+pub text_at : ℕ → Text → Text × Text
 text_at n [] = ([], [])
-text_at zero (b ∷ t) = cond (before_braces (b ∷ t)) (cond (backslashes (b ∷ t) == 1) (text_at (cond (braces (drop 2 t)) 4 2) t) (replicate (backslashes (b ∷ t) - 1) 92, drop (backslashes (b ∷ t)) (b ∷ t))) (keep b (text_at zero t))
+text_at zero (b ∷ t) = cond (before_braces (b ∷ t)) (cond (backslashes (b ∷ t) == 1) (text_at (cond (braces (drop 2 t)) 4 2) t) (replicate (backslashes (b ∷ t) - 1) backslash, drop (backslashes (b ∷ t)) (b ∷ t))) (keep b (text_at zero t))
 text_at (suc n) (b ∷ t) = keep b (text_at n t)
 
-at_run : (t : List ℕ) → 0 < length t → before_braces t ≡ true → backslashes t ≢ 1 → text_at 0 t ≡ (replicate (backslashes t - 1) 92, drop (backslashes t) t)
+text_at-before_braces : (t : Text) → 0 < length t → before_braces t ≡ true → backslashes t ≢ 1 → text_at 0 t ≡ (replicate (backslashes t - 1) backslash, drop (backslashes t) t)
 unfolding text_at
-at_run [] lt marks more = absurd (omega arith)
-at_run (b ∷ t) lt marks more = rw (marks, ne_eqb (backslashes (b ∷ t)) 1 more) refl
+text_at-before_braces [] lt marks more = absurd (omega arith)
+text_at-before_braces (b ∷ t) lt marks more = rw (marks, ne_eqb (backslashes (b ∷ t)) 1 more) refl
 
-braces_some : (t : List ℕ) → braces t ≡ true → 0 < length t
-braces_some [] h = absurd cc
-braces_some (b ∷ t) h = omega arith
+braces-some : (t : Text) → braces t ≡ true → 0 < length t
+braces-some [] h = absurd cc
+braces-some (b ∷ t) h = omega arith
 
-run_again : (run : ℕ) (follows : List ℕ) → braces follows ≡ true → run ≢ 1 → text_at 0 (replicate run 92 ++ follows) ≡ (replicate (run - 1) 92, follows)
-run_again run follows marks more =
+text_at-run : (run : ℕ) (follows : Text) → braces follows ≡ true → run ≢ 1 → text_at 0 (replicate run backslash ++ follows) ≡ (replicate (run - 1) backslash, follows)
+text_at-run run follows marks more =
     let stop = backslashes-braces follows marks in
     let len = backslashes-run run follows stop in
-    let long : 0 < length (replicate run 92 ++ follows) = omega (arith, length-append (replicate run 92) follows, braces_some follows marks) in
-    at_run (replicate run 92 ++ follows) long (before_braces-run run follows stop ∙ marks) (λ e. more (sym len ∙ e))
-    ∙ ap (λ (n : ℕ). (replicate (n - 1) 92, drop n (replicate run 92 ++ follows))) len ∙ ap (λ (z : List ℕ). (replicate (run - 1) 92, z)) (dropped run)
+    let long : 0 < length (replicate run backslash ++ follows) = omega (arith, length-append (replicate run backslash) follows, braces-some follows marks) in
+    text_at-before_braces (replicate run backslash ++ follows) long (before_braces-run run follows stop ∙ marks) (λ e. more (sym len ∙ e))
+    ∙ ap (λ (n : ℕ). (replicate (n - 1) backslash, drop n (replicate run backslash ++ follows))) len ∙ ap (λ (z : Text). (replicate (run - 1) backslash, z)) (dropped run)
   where
-    dropped : (run : ℕ) → drop run (replicate run 92 ++ follows) ≡ follows
+    dropped : (run : ℕ) → drop run (replicate run backslash ++ follows) ≡ follows
     dropped zero = refl
     dropped (suc run) = dropped run
 
-pub text_again : {follows slice kept : List ℕ} → IsText follows slice kept → text_at 0 (slice ++ follows) ≡ (kept, follows)
+pub text_at-text : {follows slice kept : Text} → IsText follows slice kept → text_at 0 (slice ++ follows) ≡ (kept, follows)
 unfolding text_at
-text_again {follows} (at_end over) = rw over refl
-text_again {follows} (at_tag run marks more) = run_again run follows marks more
-text_again {follows} (a_byte {slice = slice} b clear h) = rw clear (ap (keep b) (text_again h))
-text_again {follows} (two_escaped clear h) = rw clear (ap (λ (q : List ℕ × List ℕ). keep 123 (keep 123 q)) (text_again h))
-text_again {follows} (four_escaped h) = ap (λ (q : List ℕ × List ℕ). keep 123 (keep 123 (keep 123 (keep 123 q)))) (text_again h)
+text_at-text {follows} (at_end over) = rw over refl
+text_at-text {follows} (at_tag run marks more) = text_at-run run follows marks more
+text_at-text {follows} (a_byte {slice = slice} b clear h) = rw clear (ap (keep b) (text_at-text h))
+text_at-text {follows} (two_escaped clear h) = rw clear (ap (λ (q : Text × Text). keep left_brace (keep left_brace q)) (text_at-text h))
+text_at-text {follows} (four_escaped h) = ap (λ (q : Text × Text). keep left_brace (keep left_brace (keep left_brace (keep left_brace q)))) (text_at-text h)
 
 -- where two texts stand in front of the same, they are one
-pub record SameText (x y k l a b : List ℕ) : Type 0 where
+pub record OneText (x y k l a b : Text) : Type 0 where
   pub slices : x ≡ y
   pub kept : k ≡ l
   pub follows : a ≡ b
 
-pub same_text : (x y k l a b : List ℕ) → IsText a x k → IsText b y l → x ++ a ≡ y ++ b → SameText x y k l a b
-same_text x y k l a b h g e =
-    let both : ◌≡◌ {A = List ℕ × List ℕ} (k, a) (l, b) = sym (text_again h) ∙ ap (text_at 0) e ∙ text_again g in
-    let follows : a ≡ b = ap (λ (q : List ℕ × List ℕ). q.1) both in
-    record { slices = right_same x y a b e follows; kept = ap (λ (q : List ℕ × List ℕ). q.0) both; follows = follows }
+pub one_text : (x y k l a b : Text) → IsText a x k → IsText b y l → x ++ a ≡ y ++ b → OneText x y k l a b
+one_text x y k l a b h g e =
+    let both : ◌≡◌ {A = Text × Text} (k, a) (l, b) = sym (text_at-text h) ∙ ap (text_at 0) e ∙ text_at-text g in
+    let follows : a ≡ b = ap (λ (q : Text × Text). q.1) both in
+    record { slices = append-right_cancel x y a b e follows; kept = ap (λ (q : Text × Text). q.0) both; follows = follows }
 
 -- ---- two beginnings
 
-cancel : (b x y : List ℕ) → b ++ x ≡ b ++ y → x ≡ y
-cancel b x y e = sym (drop_at b x (length b) refl) ∙ ap (drop (length b)) e ∙ drop_at b y (length b) refl
+append-left_cancel : (b x y : Text) → b ++ x ≡ b ++ y → x ≡ y
+append-left_cancel b x y e = sym (drop_at b x (length b) refl) ∙ ap (drop (length b)) e ∙ drop_at b y (length b) refl
 
-same_source : (s b c x y : List ℕ) → b ≡ c → s ≡ b ++ x → s ≡ c ++ y → x ≡ y
-same_source s b c x y e h k = cancel c x y (ap (λ (z : List ℕ). z ++ x) (sym e) ∙ sym h ∙ k)
+append-behind : (s b c x y : Text) → b ≡ c → s ≡ b ++ x → s ≡ c ++ y → x ≡ y
+append-behind s b c x y e h k = append-left_cancel c x y (ap (λ (z : Text). z ++ x) (sym e) ∙ sym h ∙ k)
 
 -- how many tags were read
-pub count : {s b : List ℕ} {ps : List Slice} → Reads s b ps → ℕ
+pub count : {s b : Text} {ps : List Slice} → Reads s b ps → ℕ
 count starts = zero
-count (goes_on r x k t rest tag is words fits) = suc (count r)
+count (goes_on r x) = suc (count r)
 
-pub record At (b c : List ℕ) (ps qs : List Slice) : Type 0 where
+pub record OneBeginning (b c : Text) (ps qs : List Slice) : Type 0 where
   pub here : b ≡ c
   pub slices : ps ≡ qs
 
-suc_same : (n m : ℕ) → suc n ≡ suc m → n ≡ m
-suc_same n m e = omega arith
+suc-cancel : (n m : ℕ) → suc n ≡ suc m → n ≡ m
+suc-cancel n m e = omega arith
 
-pub same_at : {s b c : List ℕ} {ps qs : List Slice} → (r : Reads s b ps) (q : Reads s c qs) → count r ≡ count q → At b c ps qs
+pub one_beginning : {s b c : Text} {ps qs : List Slice} → (r : Reads s b ps) (q : Reads s c qs) → count r ≡ count q → OneBeginning b c ps qs
 unfolding count
-same_at starts starts n = record { here = refl; slices = refl }
-same_at starts (goes_on q y k u rest tag is words fits) n = absurd (omega arith)
-same_at (goes_on r x k t rest tag is words fits) starts n = absurd (omega arith)
-same_at {s} (goes_on {before = b} {ps = ps} r x k t rest tag is words fits) (goes_on {before = c} {ps = qs} q y l u more gat js those kits) n =
-    let a = same_at r q (suc_same (count r) (count q) n) in
-    let left : x ++ (t ++ rest) ≡ y ++ (u ++ more) = same_source s b c (x ++ (t ++ rest)) (y ++ (u ++ more)) a.here is js in
-    let texts = same_text x y k l (t ++ rest) (u ++ more) words those left in
-    let tags = same_tag t u rest more tag gat fits kits texts.follows in
+one_beginning starts starts n = record { here = refl; slices = refl }
+one_beginning starts (goes_on q y) n = absurd (omega arith)
+one_beginning (goes_on r x) starts n = absurd (omega arith)
+one_beginning {s} (goes_on {before = b} {ps = ps} r x) (goes_on {before = c} {ps = qs} q y) n =
+    let a = one_beginning r q (suc-cancel (count r) (count q) n) in
+    let left : x.text ++ (x.slice ++ x.rest) ≡ y.text ++ (y.slice ++ y.rest) = append-behind s b c (x.text ++ (x.slice ++ x.rest)) (y.text ++ (y.slice ++ y.rest)) a.here x.whole y.whole in
+    let texts = one_text x.text y.text x.kept y.kept (x.slice ++ x.rest) (y.slice ++ y.rest) x.is_text y.is_text left in
+    let tags = one_tag x.slice y.slice x.rest y.rest x.tag y.tag x.is_tag y.is_tag texts.follows in
     let bc = a.here in let pq = a.slices in let xy = texts.slices in let kl = texts.kept in let tu = tags.slices in let gs = tags.tags in
     record { here = cc; slices = cc }
 
--- a tag stands behind a beginning
-pub record Goes (s b : List ℕ) : Type 0 where
-  pub text : List ℕ
-  pub kept : List ℕ
-  pub slice : List ℕ
-  pub rest : List ℕ
-  pub tag : Tag
-  pub whole : s ≡ b ++ (text ++ (slice ++ rest))
-  pub fits : IsText (slice ++ rest) text kept
-  pub is : IsTag slice tag
-
 -- a shorter beginning, n tags long, on the way to a longer one
-pub record Back (s : List ℕ) (n : ℕ) : Type 0 where
-  pub before : List ℕ
+pub record Beginning (s : Text) (n : ℕ) : Type 0 where
+  pub before : Text
   pub slices : List Slice
   pub begins : Reads s before slices
   pub long : count begins ≡ n
-  pub goes : Goes s before
+  pub goes : TextAndTag s before
 
 split : (n m : ℕ) → n < suc m → (n ≡ m) ⊎ (n < m)
 split n m lt = elim (cases_Bool (n == m)) [
@@ -122,30 +112,30 @@ split n m lt = elim (cases_Bool (n == m)) [
   | inr other ↦ inr (let apart = eqb-false n m other in omega arith)
 ]
 
-pub back : {s b : List ℕ} {ps : List Slice} → (r : Reads s b ps) (n : ℕ) → n < count r → Back s n
+pub back : {s b : Text} {ps : List Slice} → (r : Reads s b ps) (n : ℕ) → n < count r → Beginning s n
 unfolding count
 back starts n lt = absurd (omega arith)
-back {s} (goes_on {before = b} {ps = ps} r x k t rest tag is words fits) n lt = elim (split n (count r) lt) [
-  | inl here ↦ record { before = b; slices = ps; begins = r; long = sym here; goes = record { text = x; kept = k; slice = t; rest = rest; tag = tag; whole = is; fits = words; is = fits } }
+back {s} (goes_on {before = b} {ps = ps} r x) n lt = elim (split n (count r) lt) [
+  | inl here ↦ record { before = b; slices = ps; begins = r; long = sym here; goes = x }
   | inr less ↦ back r n less
 ]
 
 -- nothing reads behind here
-pub record Ends (s b x k left : List ℕ) : Type 0 where
+pub record Stops (s b x k left : Text) : Type 0 where
   pub whole : s ≡ b ++ (x ++ left)
-  pub fits : IsText left x k
+  pub is_text : IsText left x k
   pub none : NoTag left
 
-no_goes : (s b x k left : List ℕ) → Goes s b → Ends s b x k left → ⊥
-no_goes s b x k left g e =
-    let both = same_text g.text x g.kept k (g.slice ++ g.rest) left g.fits e.fits (cancel b (g.text ++ (g.slice ++ g.rest)) (x ++ left) (sym g.whole ∙ e.whole)) in
-    e.none g.slice g.rest g.tag (sym both.follows) g.is
+stops-tag : (s b x k left : Text) → TextAndTag s b → Stops s b x k left → ⊥
+stops-tag s b x k left g e =
+    let both = one_text g.text x g.kept k (g.slice ++ g.rest) left g.is_text e.is_text (append-left_cancel b (g.text ++ (g.slice ++ g.rest)) (x ++ left) (sym g.whole ∙ e.whole)) in
+    e.none g.slice g.rest g.tag (sym both.follows) g.is_tag
 
-no_longer : {s b c x k left : List ℕ} {ps qs : List Slice} → (r : Reads s b ps) → Ends s b x k left → (q : Reads s c qs) → count r < count q → ⊥
+no_longer : {s b c x k left : Text} {ps qs : List Slice} → (r : Reads s b ps) → Stops s b x k left → (q : Reads s c qs) → count r < count q → ⊥
 no_longer {s} {b} {c} {x} {k} {left} r ends q lt =
     let m = back q (count r) lt in
-    let a = same_at r m.begins (sym m.long) in
-    no_goes s b x k left (subst (λ (z : List ℕ). Goes s z) (sym a.here) m.goes) ends
+    let a = one_beginning r m.begins (sym m.long) in
+    stops-tag s b x k left (subst (λ (z : Text). TextAndTag s z) (sym a.here) m.goes) ends
 
 by_order : (n m : ℕ) → (n ≡ m) ⊎ ((n < m) ⊎ (m < n))
 by_order n m = elim (cases_Bool (n == m)) [
@@ -156,50 +146,56 @@ by_order n m = elim (cases_Bool (n == m)) [
   ]
 ]
 
-pub both_end : {s b c x k y l left more : List ℕ} {ps qs : List Slice} → (r : Reads s b ps) → Ends s b x k left → (q : Reads s c qs) → Ends s c y l more → At b c ps qs
-both_end r h q g = elim (by_order (count r) (count q)) [
-  | inl same ↦ same_at r q same
+pub one_end : {s b c x k y l left more : Text} {ps qs : List Slice} → (r : Reads s b ps) → Stops s b x k left → (q : Reads s c qs) → Stops s c y l more → OneBeginning b c ps qs
+one_end r h q g = elim (by_order (count r) (count q)) [
+  | inl same ↦ one_beginning r q same
   | inr other ↦ elim other [
     | inl less ↦ absurd (no_longer r h q less)
     | inr more ↦ absurd (no_longer q g r more)
   ]
 ]
 
-same_behind : (s b c x k y l left more : List ℕ) → b ≡ c → Ends s b x k left → Ends s c y l more → SameText x y k l left more
-same_behind s b c x k y l left more e h g = same_text x y k l left more h.fits g.fits (same_source s b c (x ++ left) (y ++ more) e h.whole g.whole)
+one_rest : (s b c x k y l left more : Text) → b ≡ c → Stops s b x k left → Stops s c y l more → OneText x y k l left more
+one_rest s b c x k y l left more e h g = one_text x y k l left more h.is_text g.is_text (append-behind s b c (x ++ left) (y ++ more) e h.whole g.whole)
 
 -- ---- where a source ends
 
-nothing_there : NoTag []
-nothing_there slice rest t e h =
-    let never : false ≡ true = ap braces e ∙ tag_braces slice rest t h in
+no_tag-nil : NoTag []
+no_tag-nil slice rest t e h =
+    let never : false ≡ true = ap braces e ∙ braces-tag slice rest t h in
     absurd cc
 
-ends_of : {s : List ℕ} {ps : List Slice} → (c : IsCut s ps) → Ends s c.before c.text c.kept []
-ends_of {s} c = record { whole = c.whole ∙ ap (λ (z : List ℕ). c.before ++ z) (sym (append-nil c.text)); fits = c.fits; none = nothing_there }
+cut_stops : {s : Text} {ps : List Slice} → (c : IsCut s ps) → Stops s c.before c.text c.kept []
+cut_stops {s} c = record { whole = c.whole ∙ ap (λ (z : Text). c.before ++ z) (sym (append-nil c.text)); is_text = c.is_text; none = no_tag-nil }
 
 pub one_cut : OneCut
 one_cut s ps qs a b =
-    let at = both_end a.begins (ends_of a) b.begins (ends_of b) in
-    let texts = same_behind s a.before b.before a.text a.kept b.text b.kept [] [] at.here (ends_of a) (ends_of b) in
+    let at = one_end a.begins (cut_stops a) b.begins (cut_stops b) in
+    let texts = one_rest s a.before b.before a.text a.kept b.text b.kept [] [] at.here (cut_stops a) (cut_stops b) in
     let here = at.here in let slices = at.slices in let text = texts.slices in let kept = texts.kept in
     let all : a.slices ++ text_slice (place a.before) a.text a.kept ∷ [] ≡ b.slices ++ text_slice (place b.before) b.text b.kept ∷ [] = cc in
     a.gives ∙ all ∙ sym b.gives
 
-cut_stuck : {s before text kept left : List ℕ} {ps qs : List Slice} → IsCut s ps → Reads s before qs → Ends s before text kept left → braces left ≡ true → ⊥
-cut_stuck {s} {before} {text} {kept} {left} a q e marks =
-    let at = both_end a.begins (ends_of a) q e in
-    let texts = same_behind s a.before before a.text a.kept text kept [] left at.here (ends_of a) e in
-    let never : false ≡ true = ap braces texts.follows ∙ marks in
+unreadable_stops : {s : Text} {at : Place} → (h : IsUnreadable s at) → Stops s h.before h.text h.kept h.left
+unreadable_stops h = record { whole = h.whole; is_text = h.is_text; none = h.none }
+
+cut_or_unreadable : {s : Text} {ps : List Slice} {at : Place} → IsCut s ps → IsUnreadable s at → ⊥
+cut_or_unreadable {s} a h =
+    let at = one_end a.begins (cut_stops a) h.begins (unreadable_stops h) in
+    let texts = one_rest s a.before h.before a.text a.kept h.text h.kept [] h.left at.here (cut_stops a) (unreadable_stops h) in
+    let never : false ≡ true = ap braces texts.follows ∙ h.marks in
     absurd cc
+
+one_place : {s : Text} {at there : Place} → IsUnreadable s at → IsUnreadable s there → at ≡ there
+one_place {s} h g =
+    let at = one_end h.begins (unreadable_stops h) g.begins (unreadable_stops g) in
+    let texts = one_rest s h.before g.before h.text h.kept g.text g.kept h.left g.left at.here (unreadable_stops h) (unreadable_stops g) in
+    let here = at.here in let text = texts.slices in
+    let same : h.before ++ h.text ≡ g.before ++ g.text = cc in
+    h.there ∙ ap place same ∙ sym g.there
 
 pub one_compilation : OneCompilation
 one_compilation s options _ _ (whole {ps = ps} a) (whole {ps = qs} b) = ap (λ (z : List Slice). compiled (tree_of options z)) (one_cut s ps qs a b)
-one_compilation s options _ _ (whole a) (no_tag q text kept left is words marks none) = absurd (cut_stuck a q (record { whole = is; fits = words; none = none }) marks)
-one_compilation s options _ _ (no_tag q text kept left is words marks none) (whole a) = absurd (cut_stuck a q (record { whole = is; fits = words; none = none }) marks)
-one_compilation s options _ _ (no_tag {before = b} r x k left is words marks none) (no_tag {before = c} q y l more js those kits others) =
-    let h : Ends s b x k left = record { whole = is; fits = words; none = none } in
-    let g : Ends s c y l more = record { whole = js; fits = those; none = others } in
-    let at = both_end r h q g in
-    let texts = same_behind s b c x k y l left more at.here h g in
-    ap (λ (z : List ℕ). refused (unreadable options (place z))) (ap (λ (z : List ℕ). z ++ x) at.here ∙ ap (λ (z : List ℕ). c ++ z) texts.slices)
+one_compilation s options _ _ (whole a) (no_tag h) = absurd (cut_or_unreadable a h)
+one_compilation s options _ _ (no_tag h) (whole a) = absurd (cut_or_unreadable a h)
+one_compilation s options _ _ (no_tag h) (no_tag g) = ap (λ (p : Place). refused (unreadable options p)) (one_place h g)

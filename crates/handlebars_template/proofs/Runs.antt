@@ -1,21 +1,22 @@
 -- Runs of backslashes, and braces.
-use Rattle.std.proofs.Common.{◌≡◌, ℕ, zero, suc, ◌+◌, true, false, List, [], ◌∷◌, ◌++◌, take, drop, refl, sym, ap, subst, ◌∙◌, arith, inl, inr}
+use Rattle.std.proofs.Common.{◌≡◌, ℕ, zero, suc, ◌+◌, true, false, [], ◌∷◌, ◌++◌, take, drop, refl, sym, ap, subst, ◌∙◌, arith, inl, inr}
 use Rattle.std.specs.Prelude.{◌==◌, replicate}
 use Rattle.std.specs.List.{prefix_len}
 use Rattle.std.proofs.lemmas.Bool.{eqb-true, cases_Bool, and_parts}
+use Rattle.handlebars_base.specs.Bytes.{Text, backslash, left_brace}
 use Rattle.handlebars_template.specs.Text.{is_backslash, backslashes, braces, before_braces}
 
-pub run_is : (t : List ℕ) → take (backslashes t) t ≡ replicate (backslashes t) 92
-run_is [] = refl
-run_is (b ∷ t) =
+pub take-backslashes : (t : Text) → take (backslashes t) t ≡ replicate (backslashes t) backslash
+take-backslashes [] = refl
+take-backslashes (b ∷ t) =
     let more : 1 + prefix_len is_backslash t ≡ suc (prefix_len is_backslash t) = omega arith in
     elim (cases_Bool (is_backslash b)) [
-      | inl slash ↦ rw (slash, more) (ap (λ (c : ℕ). c ∷ take (backslashes t) t) (eqb-true b 92 slash) ∙ ap (λ (z : List ℕ). 92 ∷ z) (run_is t))
+      | inl slash ↦ rw (slash, more) (ap (λ (c : ℕ). c ∷ take (backslashes t) t) (eqb-true b backslash slash) ∙ ap (λ (z : Text). backslash ∷ z) (take-backslashes t))
       | inr other ↦ rw other refl
     ]
 
 -- behind a run no backslash stands
-pub backslashes-drop : (t : List ℕ) → backslashes (drop (backslashes t) t) ≡ 0
+pub backslashes-drop : (t : Text) → backslashes (drop (backslashes t) t) ≡ 0
 backslashes-drop [] = refl
 backslashes-drop (b ∷ t) =
     let more : 1 + prefix_len is_backslash t ≡ suc (prefix_len is_backslash t) = omega arith in
@@ -24,43 +25,43 @@ backslashes-drop (b ∷ t) =
       | inr other ↦ rw (other, other) refl
     ]
 
-pub backslashes-run : (run : ℕ) (y : List ℕ) → backslashes y ≡ 0 → backslashes (replicate run 92 ++ y) ≡ run
+pub backslashes-run : (run : ℕ) (y : Text) → backslashes y ≡ 0 → backslashes (replicate run backslash ++ y) ≡ run
 backslashes-run zero y stop = stop
 backslashes-run (suc run) y stop = omega (arith, backslashes-run run y stop)
 
-pub drop-run : (run : ℕ) (y : List ℕ) → drop run (replicate run 92 ++ y) ≡ y
+pub drop-run : (run : ℕ) (y : Text) → drop run (replicate run backslash ++ y) ≡ y
 drop-run zero y = refl
 drop-run (suc run) y = drop-run run y
 
-pub before_braces-run : (run : ℕ) (y : List ℕ) → backslashes y ≡ 0 → before_braces (replicate run 92 ++ y) ≡ braces y
-before_braces-run run y stop = ap (λ (n : ℕ). braces (drop n (replicate run 92 ++ y))) (backslashes-run run y stop) ∙ ap braces (drop-run run y)
+pub before_braces-run : (run : ℕ) (y : Text) → backslashes y ≡ 0 → before_braces (replicate run backslash ++ y) ≡ braces y
+before_braces-run run y stop = ap (λ (n : ℕ). braces (drop n (replicate run backslash ++ y))) (backslashes-run run y stop) ∙ ap braces (drop-run run y)
 
-pub two_braces : (t : List ℕ) → braces t ≡ true → (r : List ℕ) × (t ≡ 123 ∷ 123 ∷ r)
+pub two_braces : (t : Text) → braces t ≡ true → (r : Text) × (t ≡ left_brace ∷ left_brace ∷ r)
 two_braces [] h = absurd cc
 two_braces (a ∷ []) h = absurd cc
 two_braces (a ∷ b ∷ t) h =
-    let p = and_parts (a == 123) (b == 123) h in
-    let first : a ≡ 123 = eqb-true a 123 p.0 in
-    let second : b ≡ 123 = eqb-true b 123 p.1 in
+    let p = and_parts (a == left_brace) (b == left_brace) h in
+    let first : a ≡ left_brace = eqb-true a left_brace p.0 in
+    let second : b ≡ left_brace = eqb-true b left_brace p.1 in
     (t, cc)
 
-pub backslashes-braces : (y : List ℕ) → braces y ≡ true → backslashes y ≡ 0
-backslashes-braces y h = let two = two_braces y h in subst (λ (z : List ℕ). backslashes z ≡ 0) (sym two.1) refl
+pub backslashes-braces : (y : Text) → braces y ≡ true → backslashes y ≡ 0
+backslashes-braces y h = let two = two_braces y h in subst (λ (z : Text). backslashes z ≡ 0) (sym two.1) refl
 
-no_run : (b : ℕ) (t : List ℕ) → is_backslash b ≡ false → backslashes (b ∷ t) ≡ 0
-no_run b t h = rw h refl
+pub backslashes-other : (b : ℕ) (t : Text) → is_backslash b ≡ false → backslashes (b ∷ t) ≡ 0
+backslashes-other b t h = rw h refl
 
 zero_one : (n : ℕ) → n ≡ 0 → n ≡ 1 → ⊥
 zero_one n a b = omega arith
 
 -- a single backslash before braces
-pub escape_at : (t : List ℕ) → before_braces t ≡ true → backslashes t ≡ 1 → (r : List ℕ) × (t ≡ 92 ∷ 123 ∷ 123 ∷ r)
+pub escape_at : (t : Text) → before_braces t ≡ true → backslashes t ≡ 1 → (r : Text) × (t ≡ backslash ∷ left_brace ∷ left_brace ∷ r)
 escape_at [] marks one = absurd cc
 escape_at (b ∷ t) marks one =
     elim (cases_Bool (is_backslash b)) [
       | inl slash ↦
           let here : braces (drop 1 (b ∷ t)) ≡ true = subst (λ (k : ℕ). braces (drop k (b ∷ t)) ≡ true) one marks in
           let two = two_braces t here in
-          (two.0, ap (λ (c : ℕ). c ∷ t) (eqb-true b 92 slash) ∙ ap (λ (z : List ℕ). 92 ∷ z) two.1)
-      | inr other ↦ absurd (zero_one (backslashes (b ∷ t)) (no_run b t other) one)
+          (two.0, ap (λ (c : ℕ). c ∷ t) (eqb-true b backslash slash) ∙ ap (λ (z : Text). backslash ∷ z) two.1)
+      | inr other ↦ absurd (zero_one (backslashes (b ∷ t)) (backslashes-other b t other) one)
     ]

@@ -6,6 +6,7 @@ use Rattle.std.proofs.lemmas.Bool.{cases_Bool}
 use Rattle.std.proofs.lemmas.List.{append-nil, nil_from_length, take_at}
 use Rattle.std.proofs.lemmas.List.Sums.{fold-append}
 use Rattle.std.proofs.lemmas.Str.{chars-append, chars-nil, IsUtf8-append, IsUtf8-nil, IsUtf8-take, IsCharBoundary-at_seam, length-le-encodes, encodes-chars}
+use Rattle.handlebars_base.specs.Bytes.{Text}
 use Rattle.handlebars_template.specs.Place.{Place, origin, behind_char, behind, place}
 use Rattle.handlebars_template.specs.Text.{IsText, at_end, at_tag, a_byte, two_escaped, four_escaped, braces}
 use Rattle.handlebars_template.specs.Tag.{Tag, IsTag, an_expression, NoTag}
@@ -13,7 +14,7 @@ use Rattle.handlebars_template.specs.Tree.{Element, raw_string}
 use Rattle.handlebars_template.specs.Cut.{Slice, text_slice, tag_slice, Reads, starts, goes_on}
 use Rattle.handlebars_template.specs.Compile.{Options, compiled, refused, Compiles, whole, no_tag, unreadable, tree_of, element_of, slice_elements, slice_places}
 
-pub behind-append : (p : Place) (x y : List ℕ) → IsUtf8 x → behind p (x ++ y) ≡ behind (behind p x) y
+pub behind-append : (p : Place) (x y : Text) → IsUtf8 x → behind p (x ++ y) ≡ behind (behind p x) y
 behind-append p x y h = ap (fold behind_char p) (chars-append x y h) ∙ fold-append behind_char p (chars x) (chars y)
 
 pub slice_elements-append : (ps qs : List Slice) → slice_elements (ps ++ qs) ≡ slice_elements ps ++ slice_elements qs
@@ -29,79 +30,100 @@ slice_places-append (text_slice p (b ∷ slice) kept ∷ ps) qs = ap (λ (z : Li
 slice_places-append (tag_slice p slice t ∷ ps) qs = ap (λ (z : List Place). p ∷ z) (slice_places-append ps qs)
 
 -- Behind a beginning of the source stands this text, and behind it what is left. These are the elements so far.
-pub record Scans (source slice kept left : List ℕ) (at : Place) (es : List Element) (places : List Place) : Type 0 where
-  pub before : List ℕ
+pub record Scans (source slice kept left : Text) (at : Place) (es : List Element) (places : List Place) : Type 0 where
+  pub before : Text
   pub slices : List Slice
   pub begins : Reads source before slices
   pub parts : source ≡ before ++ (slice ++ left)
-  pub fits : IsText left slice kept
+  pub is_text : IsText left slice kept
   pub utf8 : IsUtf8 before
   pub there : at ≡ place before
   pub elements : es ≡ slice_elements slices
   pub mapping : places ≡ slice_places slices
 
-pub scan_starts : (source slice kept left : List ℕ) → source ≡ slice ++ left → IsText left slice kept → Scans source slice kept left origin [] []
-scan_starts source slice kept left e h = record { before = []; slices = []; begins = starts; parts = e; fits = h; utf8 = IsUtf8-nil; there = sym (ap (fold behind_char origin) chars-nil); elements = refl; mapping = refl }
+pub Scans-start : (source slice kept left : Text) → source ≡ slice ++ left → IsText left slice kept → Scans source slice kept left origin [] []
+Scans-start source slice kept left e h = record { before = []; slices = []; begins = starts; parts = e; is_text = h; utf8 = IsUtf8-nil; there = sym (ap (fold behind_char origin) chars-nil); elements = refl; mapping = refl }
 
-place_at : {source slice kept left : List ℕ} {at : Place} {es : List Element} {places : List Place} → (h : Scans source slice kept left at es places) → behind at slice ≡ place (h.before ++ slice)
-place_at {slice = slice} h = ap (λ (p : Place). behind p slice) h.there ∙ sym (behind-append origin h.before slice h.utf8)
+behind-place : {source slice kept left : Text} {at : Place} {es : List Element} {places : List Place} → (h : Scans source slice kept left at es places) → behind at slice ≡ place (h.before ++ slice)
+behind-place {slice = slice} h = ap (λ (p : Place). behind p slice) h.there ∙ sym (behind-append origin h.before slice h.utf8)
 
 -- a text and a tag
-abbrev pub pair_of : Place → List ℕ → List ℕ → Place → List ℕ → Tag → List Slice
+abbrev pub pair_of : Place → Text → Text → Place → Text → Tag → List Slice
 pair_of p text kept q slice t = text_slice p text kept ∷ tag_slice q slice t ∷ []
 
-one_tag : (q : Place) (slice : List ℕ) (t : Tag) (p : Place) (text kept : List ℕ) → slice_elements (pair_of p text kept q slice t) ≡ slice_elements (text_slice p text kept ∷ []) ++ element_of t ∷ []
-one_tag q slice t p [] kept = refl
-one_tag q slice t p (b ∷ text) kept = refl
+slice_elements-pair : (q : Place) (slice : Text) (t : Tag) (p : Place) (text kept : Text) → slice_elements (pair_of p text kept q slice t) ≡ slice_elements (text_slice p text kept ∷ []) ++ element_of t ∷ []
+slice_elements-pair q slice t p [] kept = refl
+slice_elements-pair q slice t p (b ∷ text) kept = refl
 
-one_place : (q : Place) (slice : List ℕ) (t : Tag) (p : Place) (text kept : List ℕ) → slice_places (pair_of p text kept q slice t) ≡ slice_places (text_slice p text kept ∷ []) ++ q ∷ []
-one_place q slice t p [] kept = refl
-one_place q slice t p (b ∷ text) kept = refl
+slice_places-pair : (q : Place) (slice : Text) (t : Tag) (p : Place) (text kept : Text) → slice_places (pair_of p text kept q slice t) ≡ slice_places (text_slice p text kept ∷ []) ++ q ∷ []
+slice_places-pair q slice t p [] kept = refl
+slice_places-pair q slice t p (b ∷ text) kept = refl
 
-regroup : (b s t x y : List ℕ) → b ++ (s ++ (t ++ (x ++ y))) ≡ (b ++ (s ++ t)) ++ (x ++ y)
+regroup : (b s t x y : Text) → b ++ (s ++ (t ++ (x ++ y))) ≡ (b ++ (s ++ t)) ++ (x ++ y)
 regroup b s t x y = sym (simp append_assoc)
 
-utf8_three : (b s t : List ℕ) → IsUtf8 b → IsUtf8 s → IsUtf8 t → IsUtf8 (b ++ (s ++ t))
-utf8_three b s t x y z = IsUtf8-append b (s ++ t) x (IsUtf8-append s t y z)
+IsUtf8-three : (b s t : Text) → IsUtf8 b → IsUtf8 s → IsUtf8 t → IsUtf8 (b ++ (s ++ t))
+IsUtf8-three b s t x y z = IsUtf8-append b (s ++ t) x (IsUtf8-append s t y z)
 
 -- one turn: the text, the tag behind it, and the next text
-pub scan_goes : {source slice kept left : List ℕ} {at : Place} {es : List Element} {places : List Place} → (h : Scans source slice kept left at es places)
-    → (t : Tag) (spelled rest x k y : List ℕ) → left ≡ spelled ++ rest → IsTag spelled t → rest ≡ x ++ y → IsText y x k → IsUtf8 slice → IsUtf8 spelled
+pub Scans-tag : {source slice kept left : Text} {at : Place} {es : List Element} {places : List Place} → (h : Scans source slice kept left at es places)
+    → (t : Tag) (spelled rest x k y : Text) → left ≡ spelled ++ rest → IsTag spelled t → rest ≡ x ++ y → IsText y x k → IsUtf8 slice → IsUtf8 spelled
     → (q : Place) → q ≡ behind at slice
     → Scans source x k y (behind q spelled) ((es ++ slice_elements (text_slice at slice kept ∷ [])) ++ element_of t ∷ []) ((places ++ slice_places (text_slice at slice kept ∷ [])) ++ q ∷ [])
-scan_goes {source} {slice} {kept} {left} {at} {es} {places} h t spelled rest x k y is fits cut words u v q qe =
-    let b : List ℕ = h.before in
-    let q2 : q ≡ place (b ++ slice) = qe ∙ place_at h in
+Scans-tag {source} {slice} {kept} {left} {at} {es} {places} h t spelled rest x k y is fits cut words u v q qe =
+    let b : Text = h.before in
+    let q2 : q ≡ place (b ++ slice) = qe ∙ behind-place h in
     let new : List Slice = pair_of (place b) slice kept (place (b ++ slice)) spelled t in
-    let begins : Reads source (b ++ (slice ++ spelled)) (h.slices ++ new) = goes_on h.begins slice kept spelled rest t (h.parts ∙ ap (λ (z : List ℕ). b ++ (slice ++ z)) is) (subst (λ (z : List ℕ). IsText z slice kept) is h.fits) fits in
+    let begins : Reads source (b ++ (slice ++ spelled)) (h.slices ++ new) = goes_on h.begins (record {
+      text = slice;
+      kept = kept;
+      slice = spelled;
+      tag = t;
+      rest = rest;
+      whole = h.parts ∙ ap (λ (z : Text). b ++ (slice ++ z)) is;
+      is_text = subst (λ (z : Text). IsText z slice kept) is h.is_text;
+      is_tag = fits;
+    }) in
     let here : text_slice at slice kept ≡ text_slice (place b) slice kept = ap (λ (p : Place). text_slice p slice kept) h.there in
     record {
       before = b ++ (slice ++ spelled);
       slices = h.slices ++ new;
       begins = begins;
-      parts = h.parts ∙ ap (λ (z : List ℕ). b ++ (slice ++ z)) (is ∙ ap (λ (z : List ℕ). spelled ++ z) cut) ∙ regroup b slice spelled x y;
-      fits = words;
-      utf8 = utf8_three b slice spelled h.utf8 u v;
+      parts = h.parts ∙ ap (λ (z : Text). b ++ (slice ++ z)) (is ∙ ap (λ (z : Text). spelled ++ z) cut) ∙ regroup b slice spelled x y;
+      is_text = words;
+      utf8 = IsUtf8-three b slice spelled h.utf8 u v;
       there = ap (λ (p : Place). behind p spelled) q2 ∙ sym (behind-append origin (b ++ slice) spelled (IsUtf8-append b slice h.utf8 u)) ∙ ap place (append_assoc b slice spelled);
-      elements = append_assoc es _ _ ∙ ap (λ (z : List Element). z ++ (slice_elements (text_slice at slice kept ∷ []) ++ element_of t ∷ [])) h.elements ∙ ap (λ (p : Slice). slice_elements h.slices ++ (slice_elements (p ∷ []) ++ element_of t ∷ [])) here ∙ ap (λ (z : List Element). slice_elements h.slices ++ z) (sym (one_tag (place (b ++ slice)) spelled t (place b) slice kept)) ∙ sym (slice_elements-append h.slices new);
-      mapping = append_assoc places _ _ ∙ ap (λ (z : List Place). z ++ (slice_places (text_slice at slice kept ∷ []) ++ q ∷ [])) h.mapping ∙ ap (λ (p : Slice). slice_places h.slices ++ (slice_places (p ∷ []) ++ q ∷ [])) here ∙ ap (λ (p : Place). slice_places h.slices ++ (slice_places (text_slice (place b) slice kept ∷ []) ++ p ∷ [])) q2 ∙ ap (λ (z : List Place). slice_places h.slices ++ z) (sym (one_place (place (b ++ slice)) spelled t (place b) slice kept)) ∙ sym (slice_places-append h.slices new);
+      elements = append_assoc es _ _ ∙ ap (λ (z : List Element). z ++ (slice_elements (text_slice at slice kept ∷ []) ++ element_of t ∷ [])) h.elements ∙ ap (λ (p : Slice). slice_elements h.slices ++ (slice_elements (p ∷ []) ++ element_of t ∷ [])) here ∙ ap (λ (z : List Element). slice_elements h.slices ++ z) (sym (slice_elements-pair (place (b ++ slice)) spelled t (place b) slice kept)) ∙ sym (slice_elements-append h.slices new);
+      mapping = append_assoc places _ _ ∙ ap (λ (z : List Place). z ++ (slice_places (text_slice at slice kept ∷ []) ++ q ∷ [])) h.mapping ∙ ap (λ (p : Slice). slice_places h.slices ++ (slice_places (p ∷ []) ++ q ∷ [])) here ∙ ap (λ (p : Place). slice_places h.slices ++ (slice_places (text_slice (place b) slice kept ∷ []) ++ p ∷ [])) q2 ∙ ap (λ (z : List Place). slice_places h.slices ++ z) (sym (slice_places-pair (place (b ++ slice)) spelled t (place b) slice kept)) ∙ sym (slice_places-append h.slices new);
     }
 
 -- a text that something follows is followed by braces
-some_left : {left slice kept : List ℕ} → IsText left slice kept → 0 < length left → braces left ≡ true
-some_left (at_end over) lt = absurd (omega (arith, ap length over))
-some_left (at_tag run marks more) lt = marks
-some_left (a_byte b clear h) lt = some_left h lt
-some_left (two_escaped clear h) lt = some_left h lt
-some_left (four_escaped h) lt = some_left h lt
+IsText-some : {left slice kept : Text} → IsText left slice kept → 0 < length left → braces left ≡ true
+IsText-some (at_end over) lt = absurd (omega (arith, ap length over))
+IsText-some (at_tag run marks more) lt = marks
+IsText-some (a_byte b clear h) lt = IsText-some h lt
+IsText-some (two_escaped clear h) lt = IsText-some h lt
+IsText-some (four_escaped h) lt = IsText-some h lt
 
-pub scan_unreadable : {source slice kept left : List ℕ} {at : Place} {es : List Element} {places : List Place} → Scans source slice kept left at es places → 0 < length left → NoTag left
+pub Compiles-unreadable : {source slice kept left : Text} {at : Place} {es : List Element} {places : List Place} → Scans source slice kept left at es places → 0 < length left → NoTag left
     → (options : Options) (q : Place) → q ≡ behind at slice → Compiles source options (refused (unreadable options q))
-scan_unreadable {source} {slice} {kept} {left} h lt none options q qe = subst (λ (p : Place). Compiles source options (refused (unreadable options p))) (sym (qe ∙ place_at h)) (no_tag h.begins slice kept left h.parts h.fits (some_left h.fits lt) none)
+Compiles-unreadable {source} {slice} {kept} {left} h lt none options q qe = subst (λ (p : Place). Compiles source options (refused (unreadable options p))) (sym (qe ∙ behind-place h)) (no_tag (record {
+  before = h.before;
+  slices = h.slices;
+  begins = h.begins;
+  text = slice;
+  kept = kept;
+  left = left;
+  whole = h.parts;
+  is_text = h.is_text;
+  marks = IsText-some h.is_text lt;
+  none = none;
+  there = refl;
+}))
 
-pub scan_ends : {source slice kept left : List ℕ} {at : Place} {es : List Element} {places : List Place} → (h : Scans source slice kept left at es places) → length left ≡ 0
+pub Compiles-end : {source slice kept left : Text} {at : Place} {es : List Element} {places : List Place} → (h : Scans source slice kept left at es places) → length left ≡ 0
     → (options : Options) → Compiles source options (compiled (tree_of options (h.slices ++ text_slice at slice kept ∷ [])))
-scan_ends {source} {slice} {kept} {left} {at} h over options =
+Compiles-end {source} {slice} {kept} {left} {at} h over options =
     let none : left ≡ [] = nil_from_length left over in
     whole (record {
       before = h.before;
@@ -109,48 +131,48 @@ scan_ends {source} {slice} {kept} {left} {at} h over options =
       begins = h.begins;
       text = slice;
       kept = kept;
-      whole = h.parts ∙ ap (λ (z : List ℕ). h.before ++ (slice ++ z)) none ∙ ap (λ (z : List ℕ). h.before ++ z) (append-nil slice);
-      fits = subst (λ (z : List ℕ). IsText z slice kept) none h.fits;
+      whole = h.parts ∙ ap (λ (z : Text). h.before ++ (slice ++ z)) none ∙ ap (λ (z : Text). h.before ++ z) (append-nil slice);
+      is_text = subst (λ (z : Text). IsText z slice kept) none h.is_text;
       gives = ap (λ (p : Place). h.slices ++ text_slice p slice kept ∷ []) h.there;
     })
 
 -- the tree's elements and their places, as the code has them
-pub end_elements : {source slice kept left : List ℕ} {at : Place} {es : List Element} {places : List Place} → (h : Scans source slice kept left at es places) → slice_elements (h.slices ++ text_slice at slice kept ∷ []) ≡ es ++ slice_elements (text_slice at slice kept ∷ [])
-end_elements {slice = slice} {kept = kept} {at = at} h = slice_elements-append h.slices (text_slice at slice kept ∷ []) ∙ ap (λ (z : List Element). z ++ slice_elements (text_slice at slice kept ∷ [])) (sym h.elements)
+pub slice_elements-end : {source slice kept left : Text} {at : Place} {es : List Element} {places : List Place} → (h : Scans source slice kept left at es places) → slice_elements (h.slices ++ text_slice at slice kept ∷ []) ≡ es ++ slice_elements (text_slice at slice kept ∷ [])
+slice_elements-end {slice = slice} {kept = kept} {at = at} h = slice_elements-append h.slices (text_slice at slice kept ∷ []) ∙ ap (λ (z : List Element). z ++ slice_elements (text_slice at slice kept ∷ [])) (sym h.elements)
 
-pub end_places : {source slice kept left : List ℕ} {at : Place} {es : List Element} {places : List Place} → (h : Scans source slice kept left at es places) → slice_places (h.slices ++ text_slice at slice kept ∷ []) ≡ places ++ slice_places (text_slice at slice kept ∷ [])
-end_places {slice = slice} {kept = kept} {at = at} h = slice_places-append h.slices (text_slice at slice kept ∷ []) ∙ ap (λ (z : List Place). z ++ slice_places (text_slice at slice kept ∷ [])) (sym h.mapping)
+pub slice_places-end : {source slice kept left : Text} {at : Place} {es : List Element} {places : List Place} → (h : Scans source slice kept left at es places) → slice_places (h.slices ++ text_slice at slice kept ∷ []) ≡ places ++ slice_places (text_slice at slice kept ∷ [])
+slice_places-end {slice = slice} {kept = kept} {at = at} h = slice_places-append h.slices (text_slice at slice kept ∷ []) ∙ ap (λ (z : List Place). z ++ slice_places (text_slice at slice kept ∷ [])) (sym h.mapping)
 
 -- ---- lines and columns fit
 
-char_bound : (p : Place) (c : ℕ) → ((behind_char p c).line ≤ p.line + 1) × ((behind_char p c).column ≤ p.column + 1)
-char_bound p c = elim (cases_Bool (c == 10)) [
+behind_char-bound : (p : Place) (c : ℕ) → ((behind_char p c).line ≤ p.line + 1) × ((behind_char p c).column ≤ p.column + 1)
+behind_char-bound p c = elim (cases_Bool (c == 10)) [
   | inl is ↦ rw is (omega arith, omega arith)
   | inr isnt ↦ rw isnt (omega arith, omega arith)
 ]
 
-bounded : (cs : List ℕ) (p : Place) → ((fold behind_char p cs).line ≤ p.line + length cs) × ((fold behind_char p cs).column ≤ p.column + 1 + length cs)
-bounded [] p = (omega arith, omega arith)
-bounded (c ∷ cs) p = let r = bounded cs (behind_char p c) in let s = char_bound p c in (omega (arith, r.0, s.0), omega (arith, r.1, s.1))
+fold-bound : (cs : Text) (p : Place) → ((fold behind_char p cs).line ≤ p.line + length cs) × ((fold behind_char p cs).column ≤ p.column + 1 + length cs)
+fold-bound [] p = (omega arith, omega arith)
+fold-bound (c ∷ cs) p = let r = fold-bound cs (behind_char p c) in let s = behind_char-bound p c in (omega (arith, r.0, s.0), omega (arith, r.1, s.1))
 
-place_fits : (before : List ℕ) → IsUtf8 before → ((place before).line ≤ 1 + length before) × ((place before).column ≤ 2 + length before)
-place_fits before h =
+place-bound : (before : Text) → IsUtf8 before → ((place before).line ≤ 1 + length before) × ((place before).column ≤ 2 + length before)
+place-bound before h =
     let short : length (chars before) ≤ length before = omega (arith, length-le-encodes (chars before), ap length (encodes-chars before h)) in
-    let r = bounded (chars before) origin in
+    let r = fold-bound (chars before) origin in
     (omega (arith, r.0), omega (arith, r.1))
 
-pub at_fits : {source slice kept left : List ℕ} {at : Place} {es : List Element} {places : List Place} → Scans source slice kept left at es places → (at.line + length slice ≤ 1 + length source) × (at.column + length slice ≤ 2 + length source)
-at_fits {source} {slice} {kept} {left} {at} h =
-    let r = place_fits h.before h.utf8 in
+pub Scans-fits : {source slice kept left : Text} {at : Place} {es : List Element} {places : List Place} → Scans source slice kept left at es places → (at.line + length slice ≤ 1 + length source) × (at.column + length slice ≤ 2 + length source)
+Scans-fits {source} {slice} {kept} {left} {at} h =
+    let r = place-bound h.before h.utf8 in
     let line : at.line ≡ (place h.before).line = ap (λ (p : Place). p.line) h.there in
     let column : at.column ≡ (place h.before).column = ap (λ (p : Place). p.column) h.there in
     let long : length source ≡ length h.before + (length slice + length left) = omega (arith, ap length h.parts, length-append h.before (slice ++ left), length-append slice left) in
     (omega (arith, r.0), omega (arith, r.1))
 
-pub there_fits : {source slice kept left : List ℕ} {at : Place} {es : List Element} {places : List Place} → Scans source slice kept left at es places → IsUtf8 slice → (q : Place) → q ≡ behind at slice → (k : ℕ) → k ≤ length left → (q.line + k ≤ 1 + length source) × (q.column + k ≤ 2 + length source)
-there_fits {source} {slice} {kept} {left} {at} h u q is k le =
-    let r = place_fits (h.before ++ slice) (IsUtf8-append h.before slice h.utf8 u) in
-    let same : q ≡ place (h.before ++ slice) = is ∙ place_at h in
+pub Scans-fits_behind : {source slice kept left : Text} {at : Place} {es : List Element} {places : List Place} → Scans source slice kept left at es places → IsUtf8 slice → (q : Place) → q ≡ behind at slice → (k : ℕ) → k ≤ length left → (q.line + k ≤ 1 + length source) × (q.column + k ≤ 2 + length source)
+Scans-fits_behind {source} {slice} {kept} {left} {at} h u q is k le =
+    let r = place-bound (h.before ++ slice) (IsUtf8-append h.before slice h.utf8 u) in
+    let same : q ≡ place (h.before ++ slice) = is ∙ behind-place h in
     let line : q.line ≡ (place (h.before ++ slice)).line = ap (λ (p : Place). p.line) same in
     let column : q.column ≡ (place (h.before ++ slice)).column = ap (λ (p : Place). p.column) same in
     let front : length (h.before ++ slice) ≡ length h.before + length slice = length-append h.before slice in
@@ -159,32 +181,32 @@ there_fits {source} {slice} {kept} {left} {at} h u q is k le =
 
 -- ---- the tag's slice, as it is split off
 
-seam : (left s rest : List ℕ) → left ≡ s ++ rest → length left - length rest ≡ length s
-seam left s rest e = omega (arith, ap length e, length-append s rest)
+length-seam : (left s rest : Text) → left ≡ s ++ rest → length left - length rest ≡ length s
+length-seam left s rest e = omega (arith, ap length e, length-append s rest)
 
-pub front_is : (left s rest : List ℕ) → left ≡ s ++ rest → take (length left - length rest) left ≡ s
-front_is left s rest e = rw (seam left s rest e, e) (take_at s rest (length s) refl)
+pub take-seam : (left s rest : Text) → left ≡ s ++ rest → take (length left - length rest) left ≡ s
+take-seam left s rest e = rw (length-seam left s rest e, e) (take_at s rest (length s) refl)
 
-pub seam_boundary : (left s rest : List ℕ) → left ≡ s ++ rest → IsUtf8 rest → IsCharBoundary left (length left - length rest)
-seam_boundary left s rest e u = rw (seam left s rest e) (IsCharBoundary-at_seam left s rest e u)
+pub IsCharBoundary-seam : (left s rest : Text) → left ≡ s ++ rest → IsUtf8 rest → IsCharBoundary left (length left - length rest)
+IsCharBoundary-seam left s rest e u = rw (length-seam left s rest e) (IsCharBoundary-at_seam left s rest e u)
 
-pub front_utf8 : (left s rest : List ℕ) → left ≡ s ++ rest → IsUtf8 left → IsUtf8 rest → IsUtf8 s
-front_utf8 left s rest e u v = subst IsUtf8 (front_is left s rest e) (IsUtf8-take left (length left - length rest) u (seam_boundary left s rest e v))
+pub IsUtf8-front : (left s rest : Text) → left ≡ s ++ rest → IsUtf8 left → IsUtf8 rest → IsUtf8 s
+IsUtf8-front left s rest e u v = subst IsUtf8 (take-seam left s rest e) (IsUtf8-take left (length left - length rest) u (IsCharBoundary-seam left s rest e v))
 
 -- ---- in the code's own values
 
-pub step_at : {source slice kept left : List ℕ} {at : Place} {es : List Element} {places : List Place} → (h : Scans source slice kept left at es places)
-    → (t : Tag) (spelled rest x k y : List ℕ) → left ≡ spelled ++ rest → IsTag spelled t → rest ≡ x ++ y → IsText y x k → IsUtf8 slice → IsUtf8 spelled
-    → (q : Place) → q ≡ behind at slice → (next : Place) (split : List ℕ) → split ≡ spelled → next ≡ behind q split
+pub Scans-step : {source slice kept left : Text} {at : Place} {es : List Element} {places : List Place} → (h : Scans source slice kept left at es places)
+    → (t : Tag) (spelled rest x k y : Text) → left ≡ spelled ++ rest → IsTag spelled t → rest ≡ x ++ y → IsText y x k → IsUtf8 slice → IsUtf8 spelled
+    → (q : Place) → q ≡ behind at slice → (next : Place) (split : Text) → split ≡ spelled → next ≡ behind q split
     → (mid last : List Element) → mid ≡ es ++ slice_elements (text_slice at slice kept ∷ []) → last ≡ mid ++ element_of t ∷ []
     → (here there : List Place) → here ≡ places ++ slice_places (text_slice at slice kept ∷ []) → there ≡ here ++ q ∷ []
     → Scans source x k y next last there
-step_at h t spelled rest x k y is fits cut words u v q qe next split se ne mid last me le here there he te = rw (ne, se, le, me, te, he) (scan_goes h t spelled rest x k y is fits cut words u v q qe)
+Scans-step h t spelled rest x k y is fits cut words u v q qe next split se ne mid last me le here there he te = rw (ne, se, le, me, te, he) (Scans-tag h t spelled rest x k y is fits cut words u v q qe)
 
-tag_long : (slice : List ℕ) (t : Tag) → IsTag slice t → 0 < length slice
-tag_long slice t (an_expression w r v means white path names other white') = omega arith
+length-tag : (slice : Text) (t : Tag) → IsTag slice t → 0 < length slice
+length-tag slice t (an_expression x) = omega (arith, ap length x.spells)
 
-pub shorter : (left spelled rest x y : List ℕ) (t : Tag) → left ≡ spelled ++ rest → IsTag spelled t → rest ≡ x ++ y → length y < length left
-shorter left spelled rest x y t is fits cut =
-    let some = tag_long spelled t fits in
+pub length-rest : (left spelled rest x y : Text) (t : Tag) → left ≡ spelled ++ rest → IsTag spelled t → rest ≡ x ++ y → length y < length left
+length-rest left spelled rest x y t is fits cut =
+    let some = length-tag spelled t fits in
     omega (arith, ap length is, length-append spelled rest, ap length cut, length-append x y)

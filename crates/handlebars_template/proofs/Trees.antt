@@ -1,12 +1,11 @@
 -- A template as the code makes it, and the tree that it stands for.
-use Rattle.std.proofs.Common.{◌≡◌, ◌∙◌, ◌++◌, ◌∷◌, [], List, map, refl, sym, None, option_map, length}
+use Rattle.std.proofs.Common.{◌≡◌, ◌∙◌, ◌++◌, ◌∷◌, [], List, map, refl, sym, rules, None, option_map, length}
 use Rattle.handlebars_template.specs.Place.{Place}
-use Rattle.handlebars_template.specs.Tree.{Tree, tree, Element, Call, Decorator, Param, Binding}
-use Rattle.handlebars_template.specs.TreeView.{text, place_of, element_view, tree_view, elements_view, binding_layer, param_layer, element_layer, decorator_layer, call_layer, subexpression_layer, tree_layer}
-use Rattle.handlebars_template.specs.declared.template.tree.BlockParam.{BlockParam}
+use Rattle.handlebars_template.specs.Tree.{Tree, tree, Element}
+use Rattle.handlebars_template.specs.TreeView.{text, place_of, element_view, tree_view, elements_view}
+use Rattle.handlebars_template.specs.declared.template.tree.BlockParam.{BlockParam, the_lemmas}
 use Rattle.handlebars_template.specs.declared.template.tree.BlockParam.TheOpen.{Template-F}
 use Rattle.handlebars_template.specs.declared.template.tree.BlockParam.TheViews.{roll-Template, out-Template}
-use Rattle.handlebars_template.specs.declared.template.tree.BlockParam.TheFolds.{fold-roll-Template, fold_out-Template}
 use Rattle.handlebars_template.specs.declared.template.tree.HelperTemplate.{HelperTemplate}
 use Rattle.handlebars_template.specs.declared.template.tree.DecoratorTemplate.{DecoratorTemplate}
 use Rattle.handlebars_template.specs.declared.template.tree.Template.{Template}
@@ -15,25 +14,25 @@ use Rattle.handlebars_template.specs.declared.template.tree.Parameter.{Parameter
 use Rattle.handlebars_template.specs.declared.template.tree.Subexpression.{Subexpression}
 use Rattle.handlebars_template.specs.Cut.{Slice, text_slice}
 use Rattle.handlebars_template.specs.Compile.{no_options, Compiles, compiled, tree_of, slice_elements, slice_places}
-use Rattle.handlebars_template.proofs.Scan.{Scans, scan_ends, end_elements, end_places}
+use Rattle.handlebars_template.proofs.Scan.{Scans, Compiles-end, slice_elements-end, slice_places-end}
 use Rattle.std.proofs.Common.{ℕ, subst}
 
 pub tree_view-roll : (x : Template-F BlockParam Parameter TemplateElement DecoratorTemplate HelperTemplate Subexpression Template)
     → tree_view (roll-Template x) ≡ tree (option_map text x.name) (elements_view x.elements.items) (map place_of x.mapping.items)
-tree_view-roll x = fold-roll-Template Binding Param Element Decorator Call Element Tree binding_layer param_layer element_layer decorator_layer call_layer subexpression_layer tree_layer x
+tree_view-roll x = search (rules, the_lemmas)
 
 pub tree_view-out : (t : Template)
     → tree_view t ≡ tree (option_map text (out-Template t).name) (elements_view (out-Template t).elements.items) (map place_of (out-Template t).mapping.items)
-tree_view-out t = fold_out-Template Binding Param Element Decorator Call Element Tree binding_layer param_layer element_layer decorator_layer call_layer subexpression_layer tree_layer t
+tree_view-out t = search (rules, the_lemmas)
 
 -- at the end of the source
-pub tree_at : {source slice kept left : List ℕ} {at : Place} {es : List Element} {places : List Place} → Scans source slice kept left at es places → length left ≡ 0
+pub Compiles-tree : {source slice kept left : List ℕ} {at : Place} {es : List Element} {places : List Place} → Scans source slice kept left at es places → length left ≡ 0
     → (x : Template-F BlockParam Parameter TemplateElement DecoratorTemplate HelperTemplate Subexpression Template) → x.name ≡ None
     → map element_view x.elements.items ≡ es ++ slice_elements (text_slice at slice kept ∷ [])
     → map place_of x.mapping.items ≡ places ++ slice_places (text_slice at slice kept ∷ [])
     → Compiles source no_options (compiled (tree_view (roll-Template x)))
-tree_at {source} {slice} {kept} {left} {at} {es} {places} h over x none elements mapping =
+Compiles-tree {source} {slice} {kept} {left} {at} {es} {places} h over x none elements mapping =
     let ps : List Slice = h.slices ++ text_slice at slice kept ∷ [] in
     let is : tree_view (roll-Template x) ≡ tree_of no_options ps =
-    tree_view-roll x ∙ rw (none, elements ∙ sym (end_elements h), mapping ∙ sym (end_places h)) refl in
-    subst (λ (t : Tree). Compiles source no_options (compiled t)) (sym is) (scan_ends h over no_options)
+    tree_view-roll x ∙ rw (none, elements ∙ sym (slice_elements-end h), mapping ∙ sym (slice_places-end h)) refl in
+    subst (λ (t : Tree). Compiles source no_options (compiled t)) (sym is) (Compiles-end h over no_options)

@@ -1,16 +1,17 @@
 -- What compiling a source answers: its tree, or the first refusal.
-use Rattle.std.specs.Prelude.{◌≡◌, ℕ, Bool, true, false, List, [], ◌∷◌, ◌++◌, Option, None, Some, unwrap_or, codes}
+use Rattle.std.specs.Prelude.{◌≡◌, Bool, true, false, List, [], ◌∷◌, ◌++◌, Option, None, Some, unwrap_or, codes}
+use Rattle.handlebars_base.specs.Bytes.{Text}
 use Rattle.handlebars_base.specs.Reasons.{TemplateRefusal, invalid_syntax}
 use Rattle.handlebars_base.specs.Path.{Reference}
 use Rattle.handlebars_template.specs.Place.{Place, place}
 use Rattle.handlebars_template.specs.Text.{IsText, braces}
 use Rattle.handlebars_template.specs.Tag.{Tag, expression_tag, NoTag}
 use Rattle.handlebars_template.specs.Cut.{Slice, text_slice, tag_slice, Reads, IsCut}
-use Rattle.handlebars_template.specs.Tree.{Tree, tree, elements_of, Element, raw_string, expression, Call, call, path, no_params, no_pairs, no_binding, no_body}
+use Rattle.handlebars_template.specs.Tree.{Tree, tree, elements_of, Element, raw_string, expression, Call, call, args, bodies, path, no_params, no_pairs, no_binding, no_body}
 
 -- the name of the template, if it has one, and whether inclusions add no indentation
 pub record Options : Type 0 where
-  pub name : Option (List ℕ)
+  pub name : Option Text
   pub prevent_indent : Bool
 
 abbrev pub no_options : Options
@@ -18,7 +19,9 @@ no_options = record { name = None; prevent_indent = false }
 
 -- the value that a path leads to: a call with nothing but the path
 abbrev pub value_call : Reference → Call
-value_call means = call (path means) no_params no_pairs no_binding no_body no_body false false false
+value_call means =
+    call (path means) (args no_params no_pairs) no_binding (bodies no_body no_body)
+    (record { block = false; chain = false; indent_before_write = false })
 
 abbrev pub element_of : Tag → Element
 element_of (expression_tag means) = expression (value_call means)
@@ -51,17 +54,30 @@ pub data Compilation : Type 0 where
   compiled : Tree → Compilation
   refused : TemplateRefusal → Compilation
 
-pub data Compiles (source : List ℕ) (options : Options) : Compilation → Type 0 where
+-- At this place, behind texts and tags and one more text, stand braces with which no tag begins.
+pub record IsUnreadable (source : Text) (at : Place) : Type 0 where
+  pub before : Text
+  pub slices : List Slice
+  pub begins : Reads source before slices
+  pub text : Text
+  pub kept : Text
+  pub left : Text
+  pub whole : source ≡ before ++ (text ++ left)
+  pub is_text : IsText left text kept
+  pub marks : braces left ≡ true
+  pub none : NoTag left
+  pub there : at ≡ place (before ++ text)
+
+pub data Compiles (source : Text) (options : Options) : Compilation → Type 0 where
   -- the source is texts and tags to its end
   whole : {ps : List Slice} → IsCut source ps → Compiles source options (compiled (tree_of options ps))
-  -- Behind a beginning of texts and tags and one more text stand braces with which no tag begins.
-  no_tag : {before : List ℕ} {ps : List Slice} → Reads source before ps
-      → (text kept left : List ℕ) → source ≡ before ++ (text ++ left) → IsText left text kept → braces left ≡ true → NoTag left
-      → Compiles source options (refused (unreadable options (place (before ++ text))))
+  no_tag : {at : Place} → IsUnreadable source at → Compiles source options (refused (unreadable options at))
 
 -- A source has at most one cut, and at most one outcome.
 abbrev pub OneCut : Type 0
-OneCut = (source : List ℕ) (ps qs : List Slice) → IsCut source ps → IsCut source qs → ps ≡ qs
+OneCut = (source : Text) (ps qs : List Slice) → IsCut source ps → IsCut source qs → ps ≡ qs
 
 abbrev pub OneCompilation : Type 0
-OneCompilation = (source : List ℕ) (options : Options) (a b : Compilation) → Compiles source options a → Compiles source options b → a ≡ b
+OneCompilation =
+    (source : Text) (options : Options) (a b : Compilation)
+    → Compiles source options a → Compiles source options b → a ≡ b

@@ -1,20 +1,33 @@
 -- A template's tree, as definitions see it: texts are lists of bytes, collections are lists.
-use Rattle.std.specs.Prelude.{ℕ, List, [], ◌∷◌, Bool, Option}
+use Rattle.std.specs.Prelude.{Bool, true, false, ◌&&◌, List, [], ◌∷◌, Option, None, Some}
 use Rattle.serde_json.specs.Data.{Data}
-use Rattle.handlebars_base.specs.Path.{Reference}
+use Rattle.handlebars_base.specs.Bytes.{Text}
+use Rattle.handlebars_base.specs.Path.{Reference, raw_of}
 use Rattle.handlebars_template.specs.Place.{Place}
+
+-- Of a call: whether it is a block, whether that block is chained to the one around it, and whether it stands on a
+-- line of its own, whose indentation is written before what it writes.
+pub record CallMarks : Type 0 where
+  pub block : Bool
+  pub chain : Bool
+  pub indent_before_write : Bool
+
+-- Of a decorator or an inclusion: the indentation of its line, and whether that is written before what it writes.
+pub record DecoratorMarks : Type 0 where
+  pub indent : Option Text
+  pub indent_before_write : Bool
 
 mutual
   -- its name, its elements, and the places of its first elements
   pub data Tree : Type 0 where
-    tree : Option (List ℕ) → Elements → List Place → Tree
+    tree : Option Text → Elements → List Place → Tree
 
   pub data Elements : Type 0 where
     no_elements : Elements
     element : Element → Elements → Elements
 
   pub data Element : Type 0 where
-    raw_string : List ℕ → Element
+    raw_string : Text → Element
     html_expression : Call → Element
     expression : Call → Element
     helper_block : Call → Element
@@ -22,19 +35,21 @@ mutual
     decorator_block : Decorator → Element
     partial_expression : Decorator → Element
     partial_block : Decorator → Element
-    comment : List ℕ → Element
+    comment : Text → Element
 
-  -- name, parameters, pairs, block parameters, body, inverse, whether it is a block, whether it is chained, mark of
-  -- a line of its own
+  -- a value or a call of a helper: its name, its arguments, the names that it binds, and its bodies
   pub data Call : Type 0 where
-    call : Param → Params → Pairs → Binding → Body → Body → Bool → Bool → Bool → Call
+    call : Param → Args → Binding → Bodies → CallMarks → Call
 
-  -- a decorator or an inclusion: name, parameters, pairs, body, indentation, mark of a line of its own
+  -- a decorator or an inclusion: its name, its arguments and its body
   pub data Decorator : Type 0 where
-    decorator : Param → Params → Pairs → Body → Option (List ℕ) → Bool → Decorator
+    decorator : Param → Args → Body → DecoratorMarks → Decorator
+
+  pub data Args : Type 0 where
+    args : Params → Pairs → Args
 
   pub data Param : Type 0 where
-    name : List ℕ → Param
+    name : Text → Param
     path : Reference → Param
     literal : Data → Param
     subexpression : Element → Param
@@ -46,12 +61,16 @@ mutual
   -- in the order of their keys
   pub data Pairs : Type 0 where
     no_pairs : Pairs
-    pair : List ℕ → Param → Pairs → Pairs
+    pair : Text → Param → Pairs → Pairs
 
   pub data Binding : Type 0 where
     no_binding : Binding
     single : Param → Binding
     both : Param → Param → Binding
+
+  -- the body and the inverse
+  pub data Bodies : Type 0 where
+    bodies : Body → Body → Bodies
 
   pub data Body : Type 0 where
     no_body : Body
@@ -64,3 +83,98 @@ elements_of (e ∷ es) = element e (elements_of es)
 abbrev pub params_of : List Param → Params
 params_of [] = no_params
 params_of (p ∷ ps) = param p (params_of ps)
+
+-- ---- the parts of a tree
+
+abbrev pub tree_name : Tree → Option Text
+tree_name (tree n es places) = n
+
+abbrev pub tree_elements : Tree → Elements
+tree_elements (tree n es places) = es
+
+abbrev pub tree_places : Tree → List Place
+tree_places (tree n es places) = places
+
+-- ---- the parts of arguments and bodies
+
+abbrev pub args_params : Args → Params
+args_params (args ps hs) = ps
+
+abbrev pub args_pairs : Args → Pairs
+args_pairs (args ps hs) = hs
+
+abbrev pub bodies_body : Bodies → Body
+bodies_body (bodies b i) = b
+
+abbrev pub bodies_inverse : Bodies → Body
+bodies_inverse (bodies b i) = i
+
+-- ---- the parts of a call
+
+abbrev pub call_name : Call → Param
+call_name (call n xs b t marks) = n
+
+abbrev pub call_args : Call → Args
+call_args (call n xs b t marks) = xs
+
+abbrev pub call_params : Call → Params
+call_params h = args_params (call_args h)
+
+abbrev pub call_pairs : Call → Pairs
+call_pairs h = args_pairs (call_args h)
+
+abbrev pub call_binding : Call → Binding
+call_binding (call n xs b t marks) = b
+
+abbrev pub call_bodies : Call → Bodies
+call_bodies (call n xs b t marks) = t
+
+abbrev pub call_body : Call → Body
+call_body h = bodies_body (call_bodies h)
+
+abbrev pub call_inverse : Call → Body
+call_inverse h = bodies_inverse (call_bodies h)
+
+abbrev pub call_marks : Call → CallMarks
+call_marks (call n xs b t marks) = marks
+
+-- ---- the parts of a decorator or an inclusion
+
+abbrev pub decorator_name : Decorator → Param
+decorator_name (decorator n xs t marks) = n
+
+abbrev pub decorator_args : Decorator → Args
+decorator_args (decorator n xs t marks) = xs
+
+abbrev pub decorator_params : Decorator → Params
+decorator_params t = args_params (decorator_args t)
+
+abbrev pub decorator_pairs : Decorator → Pairs
+decorator_pairs t = args_pairs (decorator_args t)
+
+abbrev pub decorator_body : Decorator → Body
+decorator_body (decorator n xs t marks) = t
+
+abbrev pub decorator_marks : Decorator → DecoratorMarks
+decorator_marks (decorator n xs t marks) = marks
+
+-- ---- names and values
+
+-- the text of a name or a path, as written
+abbrev pub as_name : Param → Option Text
+as_name (name n) = Some n
+as_name (path r) = Some (raw_of r)
+as_name (literal d) = None
+as_name (subexpression e) = None
+
+abbrev pub lacks_params : Params → Bool
+lacks_params no_params = true
+lacks_params (param p ps) = false
+
+abbrev pub lacks_pairs : Pairs → Bool
+lacks_pairs no_pairs = true
+lacks_pairs (pair k p hs) = false
+
+-- Without parameters and pairs it is a value, and otherwise a call.
+abbrev pub is_value : Call → Bool
+is_value h = lacks_params (call_params h) && lacks_pairs (call_pairs h)

@@ -1,10 +1,11 @@
 -- The tree that a `Template` stands for.
-use Rattle.std.specs.Prelude.{ℕ, List, [], ◌∷◌, map, Option, None, Some, option_map, String, string_bytes}
+use Rattle.std.specs.Prelude.{List, [], ◌∷◌, map, Option, None, Some, option_map, String, string_bytes}
 use Rattle.std.specs.declared.alloc.Global.{Global}
 use Rattle.serde_json.specs.View as json
+use Rattle.handlebars_base.specs.Bytes.{Text}
 use Rattle.handlebars_base.specs.PathView.{reference_of}
 use Rattle.handlebars_template.specs.Place.{Place}
-use Rattle.handlebars_template.specs.Tree.{Tree, tree, Elements, elements_of, Element, raw_string, html_expression, expression, helper_block, decorator_expression, decorator_block, partial_expression, partial_block, comment, Call, call, Decorator, decorator, Param, name, path, literal, subexpression, Params, params_of, Pairs, no_pairs, pair, Binding, no_binding, single, both, Body, no_body, body}
+use Rattle.handlebars_template.specs.Tree.{Tree, tree, Elements, elements_of, Element, raw_string, html_expression, expression, helper_block, decorator_expression, decorator_block, partial_expression, partial_block, comment, Call, call, Decorator, decorator, args, bodies, Param, name, path, literal, subexpression, Params, params_of, Pairs, no_pairs, pair, Binding, no_binding, single, both, Body, no_body, body}
 use Rattle.handlebars_template.specs.declared.template.tree.TemplateMapping.{TemplateMapping}
 use Rattle.handlebars_template.specs.declared.template.tree.Template.{Template, fold-Template}
 use Rattle.handlebars_template.specs.declared.template.tree.TemplateElement.{TemplateElement, fold-TemplateElement}
@@ -15,7 +16,7 @@ use Rattle.handlebars_template.specs.declared.template.tree.Parameter.{Parameter
 use Rattle.handlebars_template.specs.declared.template.tree.Subexpression.{Subexpression, fold-Subexpression}
 use Rattle.handlebars_template.specs.declared.template.tree.BlockParam.TheOpen.{BlockParam-F, Parameter-F, TemplateElement-F, DecoratorTemplate-F, HelperTemplate-F, Subexpression-F, Template-F}
 
-abbrev pub text : String Global → List ℕ
+abbrev pub text : String Global → Text
 text s = string_bytes s
 
 abbrev pub place_of : TemplateMapping → Place
@@ -33,18 +34,21 @@ abbrev pub body_of : Option Tree → Body
 body_of None = no_body
 body_of (Some t) = body t
 
--- one level each, with what is inside already seen
-abbrev pub binding_layer : BlockParam-F Binding Param Element Decorator Call Element Tree → Binding
+-- One level of a type, over what stands for the types inside it.
+abbrev pub Layer : (Type 0 → Type 0 → Type 0 → Type 0 → Type 0 → Type 0 → Type 0 → Type 0) → Type 0
+Layer Level = Level Binding Param Element Decorator Call Element Tree
+
+abbrev pub binding_layer : Layer BlockParam-F → Binding
 binding_layer (BlockParam-F.Single p) = single p
 binding_layer (BlockParam-F.Pair p) = both p.0 p.1
 
-abbrev pub param_layer : Parameter-F Binding Param Element Decorator Call Element Tree → Param
+abbrev pub param_layer : Layer Parameter-F → Param
 param_layer (Parameter-F.Name s) = name (text s)
 param_layer (Parameter-F.Path p) = path (reference_of p)
 param_layer (Parameter-F.Literal v) = literal (json.view v)
 param_layer (Parameter-F.Subexpression s) = subexpression s
 
-abbrev pub element_layer : TemplateElement-F Binding Param Element Decorator Call Element Tree → Element
+abbrev pub element_layer : Layer TemplateElement-F → Element
 element_layer (TemplateElement-F.RawString s) = raw_string (text s)
 element_layer (TemplateElement-F.HtmlExpression b) = html_expression b.value
 element_layer (TemplateElement-F.Expression b) = expression b.value
@@ -55,39 +59,54 @@ element_layer (TemplateElement-F.PartialExpression b) = partial_expression b.val
 element_layer (TemplateElement-F.PartialBlock b) = partial_block b.value
 element_layer (TemplateElement-F.Comment s) = comment (text s)
 
-abbrev pub decorator_layer : DecoratorTemplate-F Binding Param Element Decorator Call Element Tree → Decorator
-decorator_layer t = decorator t.name (params_of t.params.items) (pairs_of t.hash.entries) (body_of t.template) (option_map text t.indent) t.indent_before_write
+abbrev pub decorator_layer : Layer DecoratorTemplate-F → Decorator
+decorator_layer t =
+    decorator t.name (args (params_of t.params.items) (pairs_of t.hash.entries)) (body_of t.template)
+    (record { indent = option_map text t.indent; indent_before_write = t.indent_before_write })
 
-abbrev pub call_layer : HelperTemplate-F Binding Param Element Decorator Call Element Tree → Call
-call_layer h = call h.name (params_of h.params.items) (pairs_of h.hash.entries) (binding_of h.block_param) (body_of h.template) (body_of h.inverse) h.block h.chain h.indent_before_write
+abbrev pub call_layer : Layer HelperTemplate-F → Call
+call_layer h =
+    call h.name (args (params_of h.params.items) (pairs_of h.hash.entries)) (binding_of h.block_param)
+    (bodies (body_of h.template) (body_of h.inverse))
+    (record { block = h.block; chain = h.chain; indent_before_write = h.indent_before_write })
 
-abbrev pub subexpression_layer : Subexpression-F Binding Param Element Decorator Call Element Tree → Element
+abbrev pub subexpression_layer : Layer Subexpression-F → Element
 subexpression_layer s = s.element.value
 
-abbrev pub tree_layer : Template-F Binding Param Element Decorator Call Element Tree → Tree
+abbrev pub tree_layer : Layer Template-F → Tree
 tree_layer t = tree (option_map text t.name) (elements_of t.elements.items) (map place_of t.mapping.items)
+
+-- A type's fold takes what each level stands for.
+abbrev pub Fold : Type 0 → Type 0
+Fold View =
+    (Layer BlockParam-F → Binding) → (Layer Parameter-F → Param) → (Layer TemplateElement-F → Element)
+    → (Layer DecoratorTemplate-F → Decorator) → (Layer HelperTemplate-F → Call) → (Layer Subexpression-F → Element)
+    → (Layer Template-F → Tree) → View
+
+abbrev pub by_layers : {View : Type 0} → Fold View → View
+by_layers fold = fold binding_layer param_layer element_layer decorator_layer call_layer subexpression_layer tree_layer
 
 -- what each type stands for
 abbrev pub binding_view : BlockParam → Binding
-binding_view = fold-BlockParam Binding Param Element Decorator Call Element Tree binding_layer param_layer element_layer decorator_layer call_layer subexpression_layer tree_layer
+binding_view = by_layers (fold-BlockParam _ _ _ _ _ _ _)
 
 abbrev pub param_view : Parameter → Param
-param_view = fold-Parameter Binding Param Element Decorator Call Element Tree binding_layer param_layer element_layer decorator_layer call_layer subexpression_layer tree_layer
+param_view = by_layers (fold-Parameter _ _ _ _ _ _ _)
 
 abbrev pub element_view : TemplateElement → Element
-element_view = fold-TemplateElement Binding Param Element Decorator Call Element Tree binding_layer param_layer element_layer decorator_layer call_layer subexpression_layer tree_layer
+element_view = by_layers (fold-TemplateElement _ _ _ _ _ _ _)
 
 abbrev pub decorator_view : DecoratorTemplate → Decorator
-decorator_view = fold-DecoratorTemplate Binding Param Element Decorator Call Element Tree binding_layer param_layer element_layer decorator_layer call_layer subexpression_layer tree_layer
+decorator_view = by_layers (fold-DecoratorTemplate _ _ _ _ _ _ _)
 
 abbrev pub call_view : HelperTemplate → Call
-call_view = fold-HelperTemplate Binding Param Element Decorator Call Element Tree binding_layer param_layer element_layer decorator_layer call_layer subexpression_layer tree_layer
+call_view = by_layers (fold-HelperTemplate _ _ _ _ _ _ _)
 
 abbrev pub subexpression_view : Subexpression → Element
-subexpression_view = fold-Subexpression Binding Param Element Decorator Call Element Tree binding_layer param_layer element_layer decorator_layer call_layer subexpression_layer tree_layer
+subexpression_view = by_layers (fold-Subexpression _ _ _ _ _ _ _)
 
 abbrev pub tree_view : Template → Tree
-tree_view = fold-Template Binding Param Element Decorator Call Element Tree binding_layer param_layer element_layer decorator_layer call_layer subexpression_layer tree_layer
+tree_view = by_layers (fold-Template _ _ _ _ _ _ _)
 
 abbrev pub elements_view : List TemplateElement → Elements
 elements_view es = elements_of (map element_view es)

@@ -1,4 +1,5 @@
 //! Templates: from source text to tree.
 #![tactic(auto)]
 
+pub mod laws;
 pub mod template;

@@ -2,13 +2,10 @@
 
 mod compile;
 mod place;
-mod rows;
 mod tag;
 mod text;
 mod tree;
 
-pub use compile::{one_cut, one_compilation};
-pub use rows::worked_rows;
 pub use tree::{
     BlockParam, DecoratorTemplate, HelperTemplate, Parameter, Subexpression, Template,
     TemplateElement, TemplateMapping,

@@ -30,21 +30,3 @@ impl<R: Files + AllocGlobal> TemplateReader for Disk<'_, R> {
         Err(io::Error::from(ErrorKind::Unsupported))
     }
 }
-
-/// Has no file: a rendering is to reach none.
-#[derive(Drop)]
-pub struct NoFiles;
-
-impl TemplateReader for NoFiles {
-    ghost reads = { λ _ _ _ _. Unit {0} };
-
-    ghost lists = { λ _ _ _ _. Unit {0} };
-
-    fn read(&mut self, _path: &str) -> Result<String, io::Error> {
-        Err(io::Error::from(ErrorKind::Unsupported))
-    }
-
-    fn list(&mut self, _folder: &str) -> Result<Vec<(String, EntryKind)>, io::Error> {
-        Err(io::Error::from(ErrorKind::Unsupported))
-    }
-}

@@ -1,8 +1,7 @@
 //! The text that a run prints.
 
 use crate::failure::Failure;
-use crate::files::NoFiles;
-use handlebars::{Context, JsonValue, Registry, TemplateReader};
+use handlebars::{Context, JsonValue, NoFiles, Registry, TemplateReader};
 use log::sink::Discard;
 use std::alloc::Global;
 

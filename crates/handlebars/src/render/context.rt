@@ -1,18 +1,14 @@
 //! The state of a rendering.
 
 ghost use Rattle.std.specs.Prelude.{◌≡◌, IfOk, OnOk, OnErr, true, false, option_map, string_bytes};
+ghost use Rattle.serde_json.specs.View.{view};
+ghost use Rattle.handlebars.specs.Means.{shown};
 ghost use Rattle.handlebars.specs.State.{first_state};
-ghost use Rattle.handlebars.specs.View.{state_of, root_of, has_failed};
+ghost use Rattle.handlebars.specs.View.{state_of, root_of, has_failed, behind, IsKept};
 
+use handlebars_base::json::value::Json;
+use handlebars_scope::line::Line;
 use std::alloc::{AllocError, Global};
-
-// What is known of the line that is being written.
-#[derive(Clone, Copy)]
-pub struct Line {
-    pub before: bool,
-    pub trailing: bool,
-    pub produced: bool,
-}
 
 /// The state of a rendering: what templates change as they are rendered, beside their data.
 #[derive(Drop)]
@@ -39,11 +35,7 @@ impl RenderContext {
             alloc,
             root_template,
             current_template: None,
-            line: Line {
-                before: false,
-                trailing: false,
-                produced: false,
-            },
+            line: Line::first(),
             failed: false,
         })
     }
@@ -56,36 +48,55 @@ impl RenderContext {
     }
 
     // From now on renderings are refused.
-    pub fn fail(&mut self)
+    pub(super) fn fail(&mut self)
         ensures { self.new ≡ record self.old { failed = true } }
     {
         self.failed = true;
     }
 
-    // Makes a name the current one, or none.
-    pub fn enter(&mut self, name: &Option<String>) -> Result<(), AllocError>
+    // Makes a name the current one, or none. A name that is the current one isn't copied again.
+    pub(super) fn enter(&mut self, name: &Option<String>) -> Result<(), AllocError>
         ensures ok { OnOk result (state_of self.new ≡ record (state_of self.old) { current = option_map string_bytes name.now }) }
-        ensures ready { has_failed self.new ≡ has_failed self.old }
-        ensures kept { OnErr result (state_of self.new ≡ state_of self.old) }
+        ensures err { OnErr result (state_of self.new ≡ state_of self.old) }
+        ensures kept { IsKept self.old self.new }
     {
-        let name = match name {
-            Some(name) => Some(name.clone()?),
-            None => None,
+        match name {
+            Some(name) => self.enter_name(name),
+            None => {
+                self.current_template = None;
+                Ok(())
+            }
+        }
+    }
+
+    fn enter_name(&mut self, name: &String) -> Result<(), AllocError>
+        ensures ok { OnOk result (state_of self.new ≡ record (state_of self.old) { current = Some (string_bytes name.now) }) }
+        ensures err { OnErr result (state_of self.new ≡ state_of self.old) }
+        ensures kept { IsKept self.old self.new }
+    {
+        let is_current = match &self.current_template {
+            Some(current) => current.as_str() == name.as_str(),
+            None => false,
         };
-        self.current_template = name;
+        if !is_current {
+            self.current_template = Some(name.clone()?);
+        }
         Ok(())
     }
 
-    // The line that is being written.
-    pub fn line(&self) -> Line
-        ensures { result ≡ self.now.line }
+    // A text was written.
+    pub(super) fn pass_text(&mut self, text: &str)
+        ensures state { state_of self.new ≡ behind text.now (state_of self.old) }
+        ensures kept { IsKept self.old self.new }
     {
-        self.line
+        self.line = self.line.behind(text);
     }
 
-    pub fn set_line(&mut self, line: Line)
-        ensures { self.new ≡ record self.old { line = line } }
+    // A value was written, rendered and escaped.
+    pub(super) fn pass_value(&mut self, value: &Json)
+        ensures state { state_of self.new ≡ behind (shown (Some (view value.now))) (state_of self.old) }
+        ensures kept { IsKept self.old self.new }
     {
-        self.line = line;
+        self.line = self.line.behind_value(value);
     }
 }

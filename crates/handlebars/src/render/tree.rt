@@ -1,59 +1,67 @@
 //! Rendering a tree.
 
-ghost use Rattle.std.specs.Prelude.{◌≡◌, ◌≢◌, List, option_map, string_bytes};
-ghost use Rattle.serde_json.specs.View.{view};
+ghost use Rattle.std.specs.Prelude.{◌≡◌, ◌≢◌, option_map, string_bytes};
 ghost use Rattle.handlebars_base.specs.Reasons.{out_of_memory};
-ghost use Rattle.handlebars_base.specs.RenderRefusals.{refusal_of, reason_in};
-ghost use Rattle.handlebars_template.specs.Place.{Place};
-ghost use Rattle.handlebars_template.specs.Tree.{tree, Element, Elements};
-ghost use Rattle.handlebars_template.specs.TreeView.{tree_view, place_of};
-ghost use Rattle.handlebars_scope.specs.Put.{Site};
-ghost use Rattle.handlebars.specs.Means.{render_tree, render_whole};
-ghost use Rattle.handlebars.specs.Runs.{mark};
-ghost use Rattle.handlebars.specs.Steps.{run, One, Whole};
-ghost use Rattle.handlebars.specs.View.{state_of, has_failed, held, CarriesOut};
+ghost use Rattle.handlebars_base.specs.RenderRefusals.{reason_in, spot_of, cause_of};
+ghost use Rattle.handlebars_template.specs.TreeView.{tree_view, element_view, place_of};
+ghost use Rattle.handlebars_scope.specs.Sites.{first_tree};
+ghost use Rattle.handlebars.specs.Means.{render_tree, render_whole, render_alone};
+ghost use Rattle.handlebars.specs.Runs.{placed_at, named_as};
+ghost use Rattle.handlebars.specs.Steps.{run};
+ghost use Rattle.handlebars.specs.View.{setting_in, moment, CarriesOut, IsKept};
 
 use crate::render::context::RenderContext;
 use crate::render::element::render_element;
+use crate::render::setting::Setting;
 use handlebars_base::error::RenderError;
-use handlebars_base::json::value::Json;
 use handlebars_scope::output::Output;
-use handlebars_template::template::{Template, TemplateMapping};
-use std::alloc::Global;
+use handlebars_template::template::{Template, TemplateElement, TemplateMapping};
 
 /// Renders a tree; a refusal takes its name, where none is known yet.
 pub fn render_tree<O: Output>(
-    alloc: Global,
+    setting: &Setting,
     template: &Template,
-    data: &Json,
     rc: &mut RenderContext,
     out: &mut O,
 ) -> Result<(), RenderError>
-    ensures renders { CarriesOut (record { given = view data.now }) (render_tree (tree_view template.now)) O.may_give (state_of rc.old)
-        (held (O.text out.old) (O.faults out.old)) result (state_of rc.new) (held (O.text out.new) (O.faults out.new)) }
-    ensures ready { has_failed rc.new ≡ has_failed rc.old }
+    ensures renders { CarriesOut (setting_in setting.now) (render_tree (tree_view template.now))
+        O.may_give (moment rc.old (O.held out.old)) result (moment rc.new (O.held out.new)) }
+    ensures kept { IsKept rc.old rc.new }
 {
-    match render_whole(alloc, template, data, rc, out) {
+    match render_whole(setting, template, rc, out) {
         Ok(()) => Ok(()),
         Err(e) => Err(named(e, &template.name)),
     }
 }
 
-// The name and the elements of a tree.
-fn render_whole<O: Output>(
-    alloc: Global,
-    template: &Template,
-    data: &Json,
+/// Renders an element that stands in no tree.
+pub fn render_alone<O: Output>(
+    setting: &Setting,
+    element: &TemplateElement,
     rc: &mut RenderContext,
     out: &mut O,
 ) -> Result<(), RenderError>
-    ensures renders { CarriesOut (record { given = view data.now }) (run (render_whole (tree_view template.now))) O.may_give (state_of rc.old)
-        (held (O.text out.old) (O.faults out.old)) result (state_of rc.new) (held (O.text out.new) (O.faults out.new)) }
-    ensures ready { has_failed rc.new ≡ has_failed rc.old }
+    ensures renders { CarriesOut (setting_in setting.now) (render_alone (element_view element.now))
+        O.may_give (moment rc.old (O.held out.old)) result (moment rc.new (O.held out.new)) }
+    ensures kept { IsKept rc.old rc.new }
+{
+    render_element(setting, element, rc, out)
+}
+
+// The name and the elements of a tree.
+fn render_whole<O: Output>(
+    setting: &Setting,
+    template: &Template,
+    rc: &mut RenderContext,
+    out: &mut O,
+) -> Result<(), RenderError>
+    ensures renders { CarriesOut (setting_in setting.now) (run (render_whole first_tree (tree_view template.now)))
+        O.may_give (moment rc.old (O.held out.old)) result (moment rc.new (O.held out.new)) }
+    ensures kept { IsKept rc.old rc.new }
 {
     rc.enter(&template.name)?;
     for (index, element) in template.elements.iter().enumerate() {
-        if let Err(e) = render_element(alloc, element, data, rc, out) {
+        if let Err(e) = render_element(setting, element, rc, out) {
             return Err(placed(e, template.mapping.get(index)));
         }
     }
@@ -62,7 +70,8 @@ fn render_whole<O: Output>(
 
 // With the position of an element, where it has one and none is known yet.
 fn placed(error: RenderError, place: Option<&TemplateMapping>) -> RenderError
-    ensures { (site : Site) (e : Element) → refusal_of result ≡ mark (One site (option_map (λ m. place_of m.now) place.entry) e) (refusal_of error) }
+    ensures spot { spot_of result ≡ placed_at (option_map (λ m. place_of m.now) place.entry) (spot_of error) }
+    ensures cause { cause_of result ≡ cause_of error }
 {
     match place {
         Some(place) => error.at(place.0, place.1),
@@ -72,8 +81,8 @@ fn placed(error: RenderError, place: Option<&TemplateMapping>) -> RenderError
 
 // With the name of a template, where it has one and none is known yet.
 fn named(error: RenderError, name: &Option<String>) -> RenderError
-    ensures named { reason_in result ≢ out_of_memory → (es : Elements) (places : List Place)
-        → refusal_of result ≡ mark (Whole (tree (option_map string_bytes name.now) es places)) (refusal_of error) }
+    ensures spot { reason_in result ≢ out_of_memory → spot_of result ≡ named_as (option_map string_bytes name.now) (spot_of error) }
+    ensures cause { reason_in result ≢ out_of_memory → cause_of result ≡ cause_of error }
     ensures memory { reason_in error ≡ out_of_memory → reason_in result ≡ out_of_memory }
 {
     match name {

@@ -11,10 +11,11 @@ use crate::error::{RenderError, RenderErrorReason};
 use std::alloc::{AllocError, Global};
 
 mod front;
-mod reading;
-mod scan;
+mod links;
+mod marks;
+mod start;
 
-pub use front::{reference_len, split_reference};
+pub use front::{PathFront, PathSlice, read_front, split_path};
 
 /// A segment that is no name.
 #[derive(Clone, Copy, Debug, PartialEq, Eq)]
@@ -34,7 +35,7 @@ pub enum PathSeg {
     Ruled(PathRule),
 }
 
-/// A path, with the text as raw_of in the last place.
+/// A path, with its text as written in the last place.
 #[derive(Debug, Drop, PartialEq, Eq)]
 pub enum Path {
     /// The way through the data.
@@ -58,7 +59,7 @@ impl Path {
         }
     }
 
-    /// The text as raw_of.
+    /// The text as written.
     pub fn raw(&self) -> &str
         ensures { result.now ≡ raw_of (reference_of self.now) }
     {
@@ -74,10 +75,14 @@ pub fn read_path(alloc: Global, raw: &str) -> Result<Option<Path>, AllocError>
     ensures found { IfOk result (λ read. IfSome read (λ path. IsPath raw.now (reference_of path))) }
     ensures none { IfOk result (λ read. IsNone read ↔ ((means : Reference) → IsPath raw.now means → ⊥)) }
 {
-    reading::whole(alloc, raw)
+    match read_front(alloc, raw)? {
+        Some(front) => {
+            if front.rest.is_empty() {
+                Ok(Some(front.path))
+            } else {
+                Ok(None)
+            }
+        }
+        None => Ok(None),
+    }
 }
-
-/// No text has two meanings.
-pub fn one_meaning()
-    ensures { (text : List ℕ) (a b : Reference) → IsPath text a → IsPath text b → a ≡ b }
-{}

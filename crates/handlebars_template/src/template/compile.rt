@@ -1,17 +1,17 @@
 //! From a source to its tree.
 
-ghost use Rattle.std.specs.Prelude.{◌≡◌, ◌≢◌, ◌++◌, ◌∷◌, [], IfOk, IfErr, OnOk, IsSome, List, ℕ, map, string_bytes, false};
+ghost use Rattle.std.specs.Prelude.{◌≡◌, ◌≢◌, ◌++◌, ◌∷◌, [], IfOk, IfErr, OnOk, IsSome, map, string_bytes, false};
 ghost use Rattle.handlebars_base.specs.Reasons.{template_out_of_memory};
 ghost use Rattle.handlebars_base.specs.TemplateRefusals.{template_refusal_of, shown_lines};
 ghost use Rattle.handlebars_base.specs.PathView.{reference_of};
 ghost use Rattle.handlebars_template.specs.Tag.{expression_tag};
-ghost use Rattle.handlebars_template.specs.Cut.{text_slice, tag_slice};
-ghost use Rattle.handlebars_template.specs.Compile.{Compiles, compiled, refused, no_options, unreadable, value_call, element_of, slice_elements, slice_places, OneCut, OneCompilation};
-ghost use Rattle.handlebars_template.specs.TreeView.{tree_view, call_view, element_view, place_of, text};
+ghost use Rattle.handlebars_template.specs.Cut.{text_slice};
+ghost use Rattle.handlebars_template.specs.Compile.{Compiles, compiled, refused, no_options, unreadable, value_call, element_of, slice_elements, slice_places};
+ghost use Rattle.handlebars_template.specs.TreeView.{tree_view, call_view, element_view, place_of};
 
 use crate::template::place::advance;
 use crate::template::tag::tag;
-use crate::template::text::text;
+use crate::template::text::{TextFront, text};
 use crate::template::tree::{
     HelperTemplate, Parameter, Template, TemplateElement, TemplateMapping,
 };
@@ -21,31 +21,33 @@ use std::alloc::{AllocError, Global};
 use std::collections::BTreeMap;
 
 impl Template {
-    /// The tree of a source, or the first fault in it: `InvalidSyntax` with its position, in the
-    /// template `Unnamed`. In time linear in the source.
+    /// The tree of a source, or what the first unreadable tag is refused with: `InvalidSyntax` at its position, in
+    /// the template `Unnamed`. In time linear in the source.
     pub fn compile(alloc: Global, source: &str) -> Result<Template, TemplateError>
         ensures ok { IfOk result (λ template. Compiles source.now no_options (compiled (tree_view template))) }
         ensures err { IfErr result (λ e. (template_refusal_of e).reason ≢ template_out_of_memory
             → Compiles source.now no_options (refused (template_refusal_of e))) }
-        ensures shown { IfErr result (λ e. (template_refusal_of e).reason ≢ template_out_of_memory → IsSome (shown_lines e)) }
+        ensures shown { IfErr result (λ e. (template_refusal_of e).reason ≢ template_out_of_memory
+            → IsSome (shown_lines e)) }
     {
         let mut tree = Growing {
             elements: Vec::new(alloc),
             mapping: Vec::new(alloc),
         };
         let mut place = TemplateMapping(1, 1);
-        let (mut kept, mut slice, mut left) = text(alloc, source)?;
-        while !left.is_empty() {
-            let at = advance(place, slice);
-            let Some((path, behind)) = tag(alloc, left)? else {
-                return Err(unreadable(alloc, source, at));
+        let mut front = text(alloc, source)?;
+        'tags: while !front.rest.is_empty() {
+            let left = front.rest;
+            let at = advance(place, front.slice);
+            let Some(found) = tag(alloc, left)? else {
+                return Err(unreadable(alloc, source, at)?);
             };
-            tree.add_text(place, slice, kept)?;
-            tree.add_expression(alloc, at, path)?;
-            place = advance(at, left.split_at(left.len() - behind.len()).0);
-            (kept, slice, left) = text(alloc, behind)?;
+            tree.add_text(place, front)?;
+            tree.add_expression(alloc, at, found.path)?;
+            place = advance(at, left.split_at(left.len() - found.rest.len()).0);
+            front = text(alloc, found.rest)?;
         }
-        tree.add_text(place, slice, kept)?;
+        tree.add_text(place, front)?;
         Ok(Template {
             name: None,
             elements: tree.elements,
@@ -53,16 +55,6 @@ impl Template {
         })
     }
 }
-
-/// A source has at most one cut into texts and tags.
-pub fn one_cut()
-    ensures { OneCut }
-{}
-
-/// A source has at most one outcome: a tree or a refusal, and not both.
-pub fn one_compilation()
-    ensures { OneCompilation }
-{}
 
 // The elements so far, and where each begins.
 #[derive(Drop)]
@@ -73,21 +65,18 @@ struct Growing {
 
 impl Growing {
     // An empty slice has no element.
-    fn add_text(
-        &mut self,
-        place: TemplateMapping,
-        slice: &str,
-        kept: String,
-    ) -> Result<(), AllocError>
-        ensures elements { OnOk result (map element_view self.new.elements.items
-            ≡ map element_view self.old.elements.items ++ slice_elements (text_slice (place_of place) slice.now (string_bytes kept) ∷ [])) }
-        ensures places { OnOk result (map place_of self.new.mapping.items
-            ≡ map place_of self.old.mapping.items ++ slice_places (text_slice (place_of place) slice.now (string_bytes kept) ∷ [])) }
+    fn add_text(&mut self, place: TemplateMapping, front: TextFront) -> Result<(), AllocError>
+        ensures elements { let text = text_slice (place_of place) front.entry.slice.now (string_bytes front.entry.kept) in
+            OnOk result (map element_view self.new.elements.items
+                ≡ map element_view self.old.elements.items ++ slice_elements (text ∷ [])) }
+        ensures places { let text = text_slice (place_of place) front.entry.slice.now (string_bytes front.entry.kept) in
+            OnOk result (map place_of self.new.mapping.items
+                ≡ map place_of self.old.mapping.items ++ slice_places (text ∷ [])) }
     {
-        if slice.is_empty() {
+        if front.slice.is_empty() {
             return Ok(());
         }
-        self.elements.push(TemplateElement::RawString(kept))?;
+        self.elements.push(TemplateElement::RawString(front.kept))?;
         self.mapping.push(place)?;
         Ok(())
     }
@@ -128,25 +117,11 @@ fn value_call(alloc: Global, path: Path) -> HelperTemplate
 }
 
 // The refusal of a tag that doesn't read.
-fn unreadable(alloc: Global, source: &str, at: TemplateMapping) -> TemplateError
-    ensures refusal { (template_refusal_of result).reason ≢ template_out_of_memory
-        → template_refusal_of result ≡ unreadable no_options (place_of at) }
-    ensures shown { (template_refusal_of result).reason ≢ template_out_of_memory → IsSome (shown_lines result) }
-{
-    match unreadable_in(alloc, source, at) {
-        Ok(error) => error,
-        Err(AllocError) => TemplateError::of(TemplateErrorReason::OutOfMemory),
-    }
-}
-
-fn unreadable_in(
-    alloc: Global,
-    source: &str,
-    at: TemplateMapping,
-) -> Result<TemplateError, AllocError>
+fn unreadable(alloc: Global, source: &str, at: TemplateMapping) -> Result<TemplateError, AllocError>
     ensures refusal { IfOk result (λ e. (template_refusal_of e).reason ≢ template_out_of_memory
         → template_refusal_of e ≡ unreadable no_options (place_of at)) }
-    ensures shown { IfOk result (λ e. (template_refusal_of e).reason ≢ template_out_of_memory → IsSome (shown_lines e)) }
+    ensures shown { IfOk result (λ e. (template_refusal_of e).reason ≢ template_out_of_memory
+        → IsSome (shown_lines e)) }
 {
     let reason = TemplateErrorReason::InvalidSyntax(String::from_str(alloc, "unreadable tag")?);
     let name = String::from_str(alloc, "Unnamed")?;

@@ -1,40 +1,46 @@
 //! Tags: how the slice in front of a source is read as one.
 
-ghost use Rattle.std.specs.Prelude.{◌≡◌, ◌++◌, IfOk, MatchOption, IsTrue, ◌↔◌, List, ℕ, take, drop};
-ghost use Rattle.std.specs.List.{prefix_len};
+ghost use Rattle.std.specs.Prelude.{◌≡◌, IfOk, MatchOption, IsTrue, ◌↔◌};
 ghost use Rattle.std.specs.Option.{option_map};
+ghost use Rattle.handlebars_base.specs.Bytes.{is_white};
 ghost use Rattle.handlebars_base.specs.PathView.{reference_of};
-ghost use Rattle.handlebars_template.specs.Text.{braces};
-ghost use Rattle.handlebars_template.specs.Tag.{IsNames, IsTag, NoTag, Tag, expression_tag, is_white};
+ghost use Rattle.handlebars_template.specs.Tag.{IsNames, NoTag, expression_tag};
 ghost use Rattle.handlebars_template.specs.TagReading.{Follows, behind_white, behind_open, behind_close};
 
-use handlebars_base::json::path::{Path, PathSeg, read_path, split_reference};
+use handlebars_base::json::path::{Path, PathSeg, read_front};
 use std::alloc::{AllocError, Global};
 
-/// The tag in front, and what follows it: none where no tag reads.
-pub fn tag<'a>(alloc: Global, left: &'a str) -> Result<Option<(Path, &'a str)>, AllocError>
+/// The tag in front of a source, by its path, and what follows it.
+#[derive(Drop)]
+pub struct TagFront<'a> {
+    pub path: Path,
+    pub rest: &'a str,
+}
+
+/// The tag in front of what is left of a source: none where no tag reads.
+pub fn tag<'a>(alloc: Global, left: &'a str) -> Result<Option<TagFront<'a>>, AllocError>
     ensures { IfOk result (λ read. MatchOption read (NoTag left.now)
-        (λ found. Follows left.now (expression_tag (reference_of found.0)) found.1.now)) }
+        (λ front. Follows left.now (expression_tag (reference_of front.path)) front.rest.now)) }
 {
     let Some(inside) = behind_open(left) else {
         return Ok(None);
     };
-    let (raw, more) = split_reference(behind_white(inside));
-    let Some(rest) = behind_close(behind_white(more)) else {
+    let Some(front) = read_front(alloc, behind_white(inside))? else {
         return Ok(None);
     };
-    if raw == "else" {
+    let Some(rest) = behind_close(behind_white(front.rest)) else {
+        return Ok(None);
+    };
+    if front.path.raw() == "else" {
         return Ok(None);
     }
-    match read_path(alloc, raw)? {
-        Some(path) => {
-            if is_names(&path) {
-                Ok(Some((path, rest)))
-            } else {
-                Ok(None)
-            }
-        }
-        None => Ok(None),
+    if is_names(&front.path) {
+        Ok(Some(TagFront {
+            path: front.path,
+            rest,
+        }))
+    } else {
+        Ok(None)
     }
 }
 

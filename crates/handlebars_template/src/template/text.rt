@@ -1,90 +1,102 @@
 //! Texts: what a source holds up to the next tag, and what is kept of it.
 
-ghost use Rattle.std.specs.Prelude.{◌≡◌, ◌≢◌, ◌+◌, ◌-◌, ◌<◌, ◌≤◌, ◌++◌, IfOk, length, take, drop, slice_index, string_bytes, if◌then◌else◌, true};
-ghost use Rattle.std.specs.List.{prefix_len};
-ghost use Rattle.handlebars_template.specs.Text.{IsText, is_backslash, backslashes, braces, before_braces};
-ghost use Rattle.handlebars_template.specs.TextReading.{is_plain, ReadsChunk};
+ghost use Rattle.std.specs.Prelude.{◌≡◌, ◌≢◌, ◌+◌, ◌-◌, ◌<◌, ◌≤◌, ◌++◌, IfOk, length, take, drop, slice_index, string_bytes, true, false};
+ghost use Rattle.handlebars_template.specs.Text.{IsText, backslashes, braces, before_braces};
+ghost use Rattle.handlebars_template.specs.TextReading.{GoesOn, Ends, clear_len, escaped_len};
 
 use std::alloc::{AllocError, Global};
 
-/// A part of a text: what is kept of it, and what stands behind it. With the last part a tag begins.
-#[derive(Clone, Copy)]
-pub enum Chunk<'a> {
-    On(&'a str, &'a str),
-    Last(&'a str, &'a str),
+/// The text in front of a source: what is kept of it, its slice, and what follows it.
+#[derive(Drop)]
+pub struct TextFront<'a> {
+    pub kept: String,
+    pub slice: &'a str,
+    pub rest: &'a str,
 }
 
-/// The text in front of a source: what is kept of it, its slice, and what follows it. In time
-/// linear in the slice.
-pub fn text<'a>(alloc: Global, source: &'a str) -> Result<(String, &'a str, &'a str), AllocError>
-    ensures whole { IfOk result (λ r. source.now ≡ r.1.now ++ r.2.now) }
-    ensures reads { IfOk result (λ r. IsText r.2.now r.1.now (string_bytes r.0)) }
+// A part of a text: what is kept of it, and what follows it.
+#[derive(Clone, Copy)]
+struct Chunk<'a> {
+    kept: &'a str,
+    rest: &'a str,
+    is_last: bool,
+}
+
+/// The text in front of a source, in time linear in its slice. Where nothing is escaped, it is copied once.
+pub fn text<'a>(alloc: Global, source: &'a str) -> Result<TextFront<'a>, AllocError>
+    ensures whole { IfOk result (λ front. source.now ≡ front.slice.now ++ front.rest.now) }
+    ensures reads { IfOk result (λ front. IsText front.rest.now front.slice.now (string_bytes front.kept)) }
 {
     let mut kept = String::new(alloc);
-    let mut rest = source;
-    while !rest.is_empty() {
-        match next_chunk(rest) {
-            Chunk::On(part, behind) => {
-                kept.push_str(part)?;
-                rest = behind;
-            }
-            Chunk::Last(part, behind) => {
-                kept.push_str(part)?;
-                let (slice, left) = source.split_at(source.len() - behind.len());
-                return Ok((kept, slice, left));
-            }
+    let mut left = source;
+    'chunks: loop {
+        let chunk = next_chunk(left);
+        kept.push_str(chunk.kept)?;
+        left = chunk.rest;
+        if chunk.is_last {
+            let (slice, rest) = source.split_at(source.len() - left.len());
+            return Ok(TextFront { kept, slice, rest });
         }
     }
-    let (slice, left) = source.split_at(source.len());
-    Ok((kept, slice, left))
 }
 
 // The next part of a text.
-fn next_chunk<'a>(rest: &'a str) -> Chunk<'a>
-    requires { 0 < length rest.now }
-    ensures { ReadsChunk rest.now result }
+fn next_chunk<'a>(source: &'a str) -> Chunk<'a>
+    ensures on { result.is_last ≡ false → GoesOn source.now result.kept.now result.rest.now }
+    ensures shorter { result.is_last ≡ false → length result.rest.now < length source.now }
+    ensures last { result.is_last ≡ true → Ends source.now result.kept.now result.rest.now }
 {
-    let plain = plain_len(rest.as_bytes());
-    if plain > 0 {
-        let (part, behind) = rest.split_at(plain);
-        return Chunk::On(part, behind);
-    }
-    let run = backslashes(rest.as_bytes());
-    if braces(tail(rest.as_bytes(), run)) {
-        before_braces(rest, run)
-    } else if run == 0 {
-        let (part, behind) = split_behind(rest, 1);
-        Chunk::On(part, behind)
+    let (clear, marks) = source.split_at(clear_len(source.as_bytes()));
+    let run = backslashes(marks.as_bytes());
+    if run == 0 {
+        Chunk {
+            kept: clear,
+            rest: marks,
+            is_last: true,
+        }
+    } else if clear.is_empty() {
+        escape(marks, run)
     } else {
-        let (part, behind) = split_behind(rest, run);
-        Chunk::On(part, behind)
+        Chunk {
+            kept: clear,
+            rest: marks,
+            is_last: false,
+        }
     }
 }
 
-// The part that begins with a run of backslashes, none or more, before braces.
-fn before_braces<'a>(rest: &'a str, run: usize) -> Chunk<'a>
-    requires run { run ≡ backslashes rest.now }
-    requires marks { before_braces rest.now ≡ true }
-    ensures { ReadsChunk rest.now result }
+// The part that begins with backslashes before braces. One of them is dropped: it makes the braces text, or is the
+// first of several.
+fn escape<'a>(source: &'a str, run: usize) -> Chunk<'a>
+    requires some { run ≢ 0 }
+    requires run { run ≡ backslashes source.now }
+    requires marks { before_braces source.now ≡ true }
+    ensures on { result.is_last ≡ false → GoesOn source.now result.kept.now result.rest.now }
+    ensures shorter { result.is_last ≡ false → length result.rest.now < length source.now }
+    ensures last { result.is_last ≡ true → Ends source.now result.kept.now result.rest.now }
 {
-    if run == 0 {
-        let (part, behind) = rest.split_at(0);
-        return Chunk::Last(part, behind);
-    }
-    // One backslash is dropped: it makes the braces text, or is the first of several.
-    let (_dropped, more) = split_behind(rest, 1);
+    let (_dropped, more) = split_behind(source, 1);
     if run == 1 {
-        let (part, behind) = split_behind(more, escaped_len(more.as_bytes()));
-        return Chunk::On(part, behind);
+        let (kept, rest) = split_behind(more, escaped_len(more.as_bytes()));
+        Chunk {
+            kept,
+            rest,
+            is_last: false,
+        }
+    } else {
+        let (kept, rest) = split_behind(more, run - 1);
+        Chunk {
+            kept,
+            rest,
+            is_last: true,
+        }
     }
-    let (part, behind) = split_behind(more, run - 1);
-    Chunk::Last(part, behind)
 }
 
 // How many of the braces in front one backslash makes text.
 fn escaped_len(text: &[u8]) -> usize
     requires { 2 ≤ length text.now }
-    ensures { result ≡ (if braces (drop 2 text.now) then 4 else 2) }
+    ensures { result ≡ escaped_len text.now }
 {
     if braces(tail(text, 2)) { 4 } else { 2 }
 }
@@ -107,28 +119,29 @@ fn tail(text: &[u8], at: usize) -> &[u8]
     text.split_at(at).1
 }
 
-// The bytes before the next backslash or opening brace.
-fn plain_len(text: &[u8]) -> usize
-    ensures { result ≡ prefix_len is_plain text.now }
+// The bytes before the next braces, and before the backslashes directly before these.
+fn clear_len(text: &[u8]) -> usize
+    ensures { result ≡ clear_len text.now }
 {
-    let mut n = 0;
-    while n < text.len() && is_plain(text[n]) {
-        n += 1;
+    let mut clear = 0;
+    let mut at = 0;
+    'bytes: while at < text.len() {
+        if braces(tail(text, at)) {
+            return clear;
+        }
+        if text[at] != b'\\' {
+            clear = at + 1;
+        }
+        at += 1;
     }
-    n
-}
-
-fn is_plain(byte: u8) -> bool
-    ensures { result ≡ is_plain byte }
-{
-    !(byte == b'\\' || byte == b'{')
+    at
 }
 
 fn backslashes(text: &[u8]) -> usize
     ensures { result ≡ backslashes text.now }
 {
     let mut n = 0;
-    while n < text.len() && text[n] == b'\\' {
+    'run: while n < text.len() && text[n] == b'\\' {
         n += 1;
     }
     n

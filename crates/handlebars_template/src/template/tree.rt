@@ -1,5 +1,9 @@
 //! The tree of a template.
 
+ghost use Rattle.std.specs.Prelude.{◌≡◌, option_map};
+ghost use Rattle.handlebars_template.specs.Tree.{as_name, is_value};
+ghost use Rattle.handlebars_template.specs.TreeView.{param_view, call_view};
+
 use handlebars_base::json::path::Path;
 use handlebars_base::json::value::Json;
 use std::collections::BTreeMap;
@@ -47,6 +51,15 @@ pub struct HelperTemplate {
     pub indent_before_write: bool,
 }
 
+impl HelperTemplate {
+    /// Whether it is a value, and not a call: without parameters and pairs.
+    pub fn is_value(&self) -> bool
+        ensures { result ≡ is_value (call_view self.now) }
+    {
+        self.params.is_empty() && self.hash.is_empty()
+    }
+}
+
 /// A decorator or an inclusion, with its body where it is a block.
 #[derive(Debug, PartialEq, Drop)]
 #[cycle(tree)]
@@ -75,6 +88,20 @@ pub enum Parameter {
     Path(Path),
     Literal(Json),
     Subexpression(Subexpression),
+}
+
+impl Parameter {
+    /// The text of a name or a path, as written.
+    pub fn as_name(&self) -> Option<&str>
+        ensures { option_map (λ text. text.now) result ≡ as_name (param_view self.now) }
+    {
+        match self {
+            Parameter::Name(name) => Some(name.as_str()),
+            Parameter::Path(path) => Some(path.raw()),
+            Parameter::Literal(_) => None,
+            Parameter::Subexpression(_) => None,
+        }
+    }
 }
 
 /// A call in parentheses.

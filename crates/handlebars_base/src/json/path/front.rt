@@ -1,10 +1,75 @@
-//! How far a path may reach at the front of a longer text.
+//! Paths in front of longer texts.
 
-ghost use Rattle.std.specs.Prelude.{◌≡◌, ◌==◌, ◌+◌, ◌<◌, ◌≤◌, IfSome, IsNone, length, take, drop};
+ghost use Rattle.std.specs.Prelude.{◌≡◌, ◌==◌, ◌+◌, ◌<◌, ◌≤◌, IfOk, IfSome, IsNone, length, drop, not};
 ghost use Rattle.std.specs.List.{position};
-ghost use Rattle.handlebars_base.specs.PathReading.{is_reference_byte, reference_len};
+ghost use Rattle.std.specs.Option.{option_map};
+ghost use Rattle.handlebars_base.specs.PathView.{front_of, slice_of};
+ghost use Rattle.handlebars_base.specs.PathReading.{is_reference_byte, reference_len, IsLeft, path_at, slice_at};
 
-use super::scan::is_symbol;
+use super::Path;
+use super::marks::is_symbol;
+use super::start::{behind_start, path_from, start_at, start_segments};
+use std::alloc::{AllocError, Global};
+
+/// The text of a path, and what follows it.
+#[derive(Clone, Copy, Debug, PartialEq, Eq)]
+pub struct PathSlice<'a> {
+    pub raw: &'a str,
+    pub rest: &'a str,
+}
+
+/// A path, and what follows its text.
+#[derive(Debug, Drop, PartialEq, Eq)]
+pub struct PathFront<'a> {
+    pub path: Path,
+    pub rest: &'a str,
+}
+
+/// The path in front of a text, where the longest front of symbols, `.`, `/`, `@` and names in closed brackets is one.
+/// Allocates nothing.
+pub fn split_path(text: &str) -> Option<PathSlice<'_>>
+    ensures { option_map slice_of result ≡ slice_at text.now }
+{
+    let (start, behind) = start_at(text)?;
+    cut(text, behind_start(start, behind))
+}
+
+/// Makes the path that `split_path` finds.
+pub fn read_front(alloc: Global, text: &str) -> Result<Option<PathFront<'_>>, AllocError>
+    ensures { IfOk result (λ read. option_map front_of read ≡ path_at text.now) }
+{
+    let Some((start, behind)) = start_at(text) else {
+        return Ok(None);
+    };
+    let (segs, rest) = start_segments(alloc, start, behind)?;
+    let Some(slice) = cut(text, rest) else {
+        return Ok(None);
+    };
+    let path = path_from(alloc, start, segs, slice.raw)?;
+    Ok(Some(PathFront {
+        path,
+        rest: slice.rest,
+    }))
+}
+
+/// The text up to the rest that its links leave, unless a reference goes on there.
+fn cut<'a>(text: &'a str, rest: &'a str) -> Option<PathSlice<'a>>
+    requires { IsLeft text.now rest.now }
+    ensures { option_map slice_of result ≡ slice_at text.now }
+{
+    if goes_on(rest) {
+        return None;
+    }
+    let (raw, rest) = text.split_at(text.len() - rest.len());
+    Some(PathSlice { raw, rest })
+}
+
+/// Whether a reference goes on here.
+fn goes_on(text: &str) -> bool
+    ensures { result ≡ not (reference_len text.now == 0) }
+{
+    token_len(text.as_bytes()).is_some()
+}
 
 /// Whether a byte may stand in a path outside brackets.
 fn is_reference_byte(byte: u8) -> bool
@@ -37,30 +102,4 @@ fn token_len(bytes: &[u8]) -> Option<usize>
     } else {
         None
     }
-}
-
-fn front_len(bytes: &[u8]) -> usize
-    ensures { result ≡ reference_len bytes.now }
-{
-    let mut end = 0;
-    while let Some(len) = token_len(&bytes[end..]) {
-        end += len;
-    }
-    end
-}
-
-/// The length of the longest front of symbols, `.`, `/`, `@` and names in closed brackets. What follows it is ASCII,
-/// so the text may be split there.
-pub fn reference_len(text: &str) -> usize
-    ensures { result ≡ reference_len text.now }
-{
-    front_len(text.as_bytes())
-}
-
-/// The text up to its `reference_len`, and from there on.
-pub fn split_reference(text: &str) -> (&str, &str)
-    ensures front { result.0.now ≡ take (reference_len text.now) text.now }
-    ensures rest { result.1.now ≡ drop (reference_len text.now) text.now }
-{
-    text.split_at(reference_len(text))
 }

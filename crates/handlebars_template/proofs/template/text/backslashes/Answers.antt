@@ -5,7 +5,7 @@ use Rattle.handlebars_template.specs.Text.{is_backslash}
 use Rattle.handlebars_template.proofs.template.text.backslashes.Goals as goal
 
 pub returns-else-text-n-eq92 : goal.returns-else-text-n-eq92
-returns-else-text-n-eq92 c = sym (prefix_len_is is_backslash c.args.text.now c.loop-n.n 0 c.loop-n.invariant.within c.loop-n.invariant.pass (λ _. ne_eqb _ 92 c.if-text-n-eq92.false))
+returns-else-text-n-eq92 c = sym (prefix_len_is is_backslash c.args.text.now c.run.n 0 c.run.invariant.within c.run.invariant.pass (λ _. ne_eqb _ 92 c.if-text-n-eq92.false))
 
-pub returns-after-loop-n : goal.returns-after-loop-n
-returns-after-loop-n c = sym (prefix_len_is is_backslash c.args.text.now c.loop-n.n 0 c.loop-n.invariant.within c.loop-n.invariant.pass (λ lt. absurd (omega arith)))
+pub returns-after-run : goal.returns-after-run
+returns-after-run c = sym (prefix_len_is is_backslash c.args.text.now c.run.n 0 c.run.invariant.within c.run.invariant.pass (λ lt. absurd (omega arith)))

@@ -1,6 +1,6 @@
 use Rattle.std.proofs.Common.{◌≡◌, ℕ, ◌-◌, List, length, take, drop, sym, arith, length-drop}
 use Rattle.std.proofs.lemmas.List.{take_all}
-use Rattle.handlebars_base.proofs.PathFront.{reference_len-none, reference_len-open, reference_len-closed, reference_len-byte, reference_len-stop}
+use Rattle.handlebars_base.proofs.ReferenceLength.{reference_len-none, reference_len-open, reference_len-closed, reference_len-byte, reference_len-stop}
 use Rattle.handlebars_base.proofs.json.path.front.token_len.Goals as goal
 
 behind_first : (t : List ℕ) → take (length t - 1) (drop 1 t) ≡ drop 1 t

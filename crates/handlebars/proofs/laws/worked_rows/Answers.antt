@@ -1,0 +1,5 @@
+use Rattle.handlebars.proofs.WorkedRows.{empty_row, value_row, markup_row, missing_row, escaped_row, refusal_row, unclosed_row}
+use Rattle.handlebars.proofs.laws.worked_rows.Goals as goal
+
+pub returns : goal.returns
+returns c = record { empty = empty_row; value = value_row; markup = markup_row; missing = missing_row; escaped = escaped_row; refusal = refusal_row; unclosed = unclosed_row }

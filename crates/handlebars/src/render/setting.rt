@@ -1,0 +1,11 @@
+//! What a run reads.
+
+use handlebars_base::json::value::Json;
+use std::alloc::Global;
+
+/// All that stays as it is in a run.
+#[derive(Drop)]
+pub struct Setting<'a> {
+    pub alloc: Global,
+    pub given: &'a Json,
+}

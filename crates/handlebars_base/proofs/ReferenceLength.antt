@@ -1,0 +1,185 @@
+-- How far a reference goes at the front of a text.
+use Rattle.std.proofs.Common.{◌≡◌, ℕ, zero, suc, ◌+◌, ◌<◌, ◌≤◌, Bool, true, false, List, [], ◌∷◌, length, ltb, get_or, drop, Some, None, refl, sym, ap, ◌∙◌, arith, inl, inr}
+use Rattle.std.specs.Prelude.{◌==◌}
+use Rattle.std.specs.List.{position, position_or_len, prefix_len}
+use Rattle.std.specs.Str.{IsCharBoundary}
+use Rattle.std.proofs.lemmas.Bool.{or_parts, eqb-true, ne_eqb, ltb-true, ltb-false, cases_Bool, both_ways}
+use Rattle.std.proofs.lemmas.Option.{cond_some}
+use Rattle.handlebars_base.specs.Path.{is_symbol}
+use Rattle.handlebars_base.specs.PathReading.{after, is_reference_byte, one_more, reference_from, reference_len}
+use Rattle.handlebars_base.proofs.OptionBinds.{cond_none}
+use Rattle.handlebars_base.proofs.PathMarks.{no_symbol_ascii}
+
+-- ---- in brackets
+
+-- One byte earlier all is one more, where brackets are closed.
+inside_rest : (x : ℕ) (xs : List ℕ) (k j n : ℕ) → j ≡ suc k → 0 < k → n ≡ k + reference_len (drop k xs) →
+    one_more n ≡ j + reference_len (drop j (x ∷ xs))
+inside_rest x xs k j zero next some e = absurd (omega arith)
+inside_rest x xs k j (suc n) next some e = rw next (omega (arith, e))
+
+inside_closed : (r : List ℕ) → position_or_len (λ b. b == 93) r < length r →
+    reference_from true r ≡ position_or_len (λ b. b == 93) r + 1 + reference_len (drop (position_or_len (λ b. b == 93) r + 1) r)
+unfolding reference_from
+inside_closed [] lt = absurd (omega arith)
+inside_closed (x ∷ xs) lt =
+    elim (cases_Bool (x == 93)) [
+      | inl closes ↦ rw closes (omega arith)
+      | inr other ↦
+          let behind : position_or_len (λ b. b == 93) xs < length xs = omega (arith, rw other at lt) in
+          let more = inside_closed xs behind in
+          rw other (inside_rest x xs (position_or_len (λ b. b == 93) xs + 1) _ (reference_from true xs) (omega arith) (omega arith) more)
+    ]
+
+inside_open : (r : List ℕ) → length r ≤ position_or_len (λ b. b == 93) r → reference_from true r ≡ 0
+unfolding reference_from
+inside_open [] le = refl
+inside_open (x ∷ xs) le =
+    elim (cases_Bool (x == 93)) [
+      | inl closes ↦ absurd (let none : length xs + 1 ≤ 0 = omega (arith, rw closes at le) in omega arith)
+      | inr other ↦
+          let behind : length xs ≤ position_or_len (λ b. b == 93) xs = omega (arith, rw other at le) in
+          rw other (ap one_more (inside_open xs behind))
+    ]
+
+-- ---- one part, and the rest
+
+pub reference_len-none : (t : List ℕ) → length t ≡ 0 → reference_len t ≡ 0
+unfolding reference_from
+reference_len-none [] e = refl
+reference_len-none (x ∷ xs) e = absurd (omega arith)
+
+pub reference_len-open : (t : List ℕ) → 0 < length t → get_or t 0 0 ≡ 91 → position (λ b. b == 93) (drop 1 t) ≡ None →
+    reference_len t ≡ 0
+unfolding reference_from
+reference_len-open [] some opens none = absurd (omega arith)
+reference_len-open (x ∷ xs) some opens none =
+    let beyond = ltb-false (position_or_len (λ b. b == 93) xs) (length xs) (cond_none _ _ none) in
+    rw opens (ap one_more (inside_open xs beyond))
+
+pub reference_len-closed : (t : List ℕ) (k : ℕ) → 0 < length t → get_or t 0 0 ≡ 91 →
+    position (λ b. b == 93) (drop 1 t) ≡ Some k → reference_len t ≡ k + 2 + reference_len (drop (k + 2) t)
+unfolding reference_from
+reference_len-closed [] k some opens found = absurd (omega arith)
+reference_len-closed (x ∷ xs) k some opens found =
+    let g = cond_some (ltb (position_or_len (λ b. b == 93) xs) (length xs)) (position_or_len (λ b. b == 93) xs) k found in
+    let e = inside_closed xs (ltb-true (position_or_len (λ b. b == 93) xs) (length xs) g.0) in
+    rw opens (inside_rest 91 xs (k + 1) (k + 2) (reference_from true xs) (omega arith) (omega arith) (rw g.1 at e))
+
+pub reference_len-byte : (t : List ℕ) → 0 < length t → (get_or t 0 0 ≡ 91 → ⊥) → is_reference_byte (get_or t 0 0) ≡ true →
+    reference_len t ≡ 1 + reference_len (drop 1 t)
+unfolding reference_from
+reference_len-byte [] some other on = absurd (omega arith)
+reference_len-byte (x ∷ xs) some other on = rw (ne_eqb x 91 other, on) (omega arith)
+
+pub reference_len-stop : (t : List ℕ) → 0 < length t → (get_or t 0 0 ≡ 91 → ⊥) →
+    is_reference_byte (get_or t 0 0) ≡ false → reference_len t ≡ 0
+unfolding reference_from
+reference_len-stop [] some other on = absurd (omega arith)
+reference_len-stop (x ∷ xs) some other on = rw (ne_eqb x 91 other, on) refl
+
+-- ---- where it ends
+
+one_more-le : (k : ℕ) → one_more k ≤ suc k
+one_more-le zero = omega arith
+one_more-le (suc k) = omega arith
+
+from-le : (within : Bool) (t : List ℕ) → reference_from within t ≤ length t
+unfolding reference_from
+from-le within [] = omega arith
+from-le true (x ∷ xs) =
+    elim (cases_Bool (x == 93)) [
+      | inl closes ↦ rw closes (omega (arith, from-le false xs))
+      | inr other ↦ rw other (omega (arith, from-le true xs, one_more-le (reference_from true xs)))
+    ]
+from-le false (x ∷ xs) =
+    elim (cases_Bool (x == 91)) [
+      | inl opens ↦ rw opens (omega (arith, from-le true xs, one_more-le (reference_from true xs)))
+      | inr other ↦ elim (cases_Bool (is_reference_byte x)) [
+        | inl on ↦ rw (other, on) (omega (arith, from-le false xs))
+        | inr stop ↦ rw (other, stop) (omega arith)
+      ]
+    ]
+
+pub reference_len-le : (t : List ℕ) → reference_len t ≤ length t
+reference_len-le t = from-le false t
+
+-- A byte earlier in brackets: what the end is like stays known, where they are closed.
+past : (x : ℕ) (xs : List ℕ) (k : ℕ) → (0 < k → k < length xs → get_or xs k 0 < 128) → 0 < one_more k →
+    one_more k < suc (length xs) → get_or (x ∷ xs) (one_more k) 0 < 128
+past x xs zero below some lt = absurd (omega arith)
+past x xs (suc k) below some lt = below (omega arith) (omega arith)
+
+-- At the opening bracket the end is known either way.
+opens_at : (x : ℕ) (xs : List ℕ) (k : ℕ) → x < 128 → (0 < k → k < length xs → get_or xs k 0 < 128) →
+    one_more k < suc (length xs) → get_or (x ∷ xs) (one_more k) 0 < 128
+opens_at x xs zero small below lt = small
+opens_at x xs (suc k) small below lt = below (omega arith) (omega arith)
+
+no_reference_ascii : (b : ℕ) → is_reference_byte b ≡ false → b < 128
+no_reference_ascii b h = no_symbol_ascii b (or_parts _ _ h).0
+
+-- What a reference ends before is ASCII. In brackets that are never closed nothing is known.
+from_end : (within : Bool) (t : List ℕ) → (within ≡ true → 0 < reference_from within t) →
+    reference_from within t < length t → get_or t (reference_from within t) 0 < 128
+unfolding reference_from
+from_end within [] some lt = absurd (omega arith)
+from_end true (x ∷ xs) some lt =
+    elim (cases_Bool (x == 93)) [
+      | inl closes ↦ rw closes (from_end false xs (λ no. absurd cc) (omega (arith, rw closes at lt)))
+      | inr other ↦
+          let below = λ (pos : 0 < reference_from true xs) (lt : reference_from true xs < length xs). from_end true xs (λ _. pos) lt in
+          rw other (past x xs (reference_from true xs) below (rw other at some refl) (rw other at lt))
+    ]
+from_end false (x ∷ xs) some lt =
+    elim (cases_Bool (x == 91)) [
+      | inl opens ↦
+          let below = λ (pos : 0 < reference_from true xs) (lt : reference_from true xs < length xs). from_end true xs (λ _. pos) lt in
+          let same : x ≡ 91 = eqb-true x 91 opens in
+          rw opens (opens_at x xs (reference_from true xs) (omega arith) below (rw opens at lt))
+      | inr other ↦ elim (cases_Bool (is_reference_byte x)) [
+        | inl on ↦ rw (other, on) (from_end false xs (λ no. absurd cc) (omega (arith, rw (other, on) at lt)))
+        | inr stop ↦ rw (other, stop) (no_reference_ascii x stop)
+      ]
+    ]
+
+-- so a text may be cut there
+pub reference_len_boundary : (t : List ℕ) → IsCharBoundary t (reference_len t)
+reference_len_boundary t = (
+  reference_len-le t,
+  λ lt le.
+      let small : get_or t (reference_len t) 0 < 128 = from_end false t (λ no. absurd cc) lt in
+      absurd (omega arith),
+)
+
+-- ---- where no reference goes on
+
+no_reference : (x : ℕ) (t : List ℕ) → reference_len (x ∷ t) ≡ 0 → (x == 91) ≡ false → is_reference_byte x ≡ false
+unfolding reference_from
+no_reference x t e other =
+    elim (cases_Bool (is_reference_byte x)) [
+      | inl on ↦ absurd (let some : suc (reference_len t) ≡ 0 = rw (other, on) at e in omega arith)
+      | inr stop ↦ stop
+    ]
+
+-- no symbol stands there
+pub prefix_len-end : (t : List ℕ) → reference_len t ≡ 0 → prefix_len is_symbol t ≡ 0
+prefix_len-end [] e = refl
+prefix_len-end (x ∷ t) e =
+    elim (cases_Bool (x == 91)) [
+      | inl opens ↦ let same : x ≡ 91 = eqb-true x 91 opens in rw same refl
+      | inr other ↦ rw ((or_parts (is_symbol x) _ (no_reference x t e other)).0) refl
+    ]
+
+-- and no mark that a reference goes over
+pub after-end : (c : ℕ) (t : List ℕ) → is_reference_byte c ≡ true → (c == 91) ≡ false → reference_len t ≡ 0 → after c t ≡ None
+unfolding after
+after-end c [] on other e = refl
+after-end c (x ∷ t) on other e =
+    elim (cases_Bool (x == c)) [
+      | inl yea ↦
+          let same : x ≡ c = eqb-true x c yea in
+          let no : is_reference_byte c ≡ false = ap is_reference_byte (sym same) ∙ no_reference x t e (ap (λ (b : ℕ). b == 91) same ∙ other) in
+          absurd (both_ways (is_reference_byte c) no on)
+      | inr nay ↦ rw nay refl
+    ]

@@ -1,5 +1,0 @@
-use Rattle.handlebars_base.proofs.References.{one_meaning}
-use Rattle.handlebars_base.proofs.json.path.one_meaning.Goals as goal
-
-pub returns : goal.returns
-returns c = one_meaning

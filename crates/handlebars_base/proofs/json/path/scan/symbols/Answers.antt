@@ -1,5 +1,0 @@
-use Rattle.handlebars_base.proofs.PathScan.{symbols_boundary}
-use Rattle.handlebars_base.proofs.json.path.scan.symbols.Goals as goal
-
-pub split_at-requires : goal.split_at-requires
-split_at-requires c = rw (c.symbols_len.ensures, c.as_bytes.ensures.value) (symbols_boundary c.args.text.now)

@@ -1,9 +1,0 @@
-use Rattle.std.proofs.Common.{length, ◌-◌, ◌≡◌, ◌<◌, ◌≤◌, ℕ, get_or, true}
-use Rattle.handlebars_base.specs.Path.{is_symbol}
-use Rattle.handlebars_base.proofs.json.path.scan.symbols_len.Given as goal
-
-abbrev pub invariant-loop-n : goal.invariant-loop-n
-invariant-loop-n l = record { within : l.n ≤ length l.bytes; pass : (k : ℕ) → k < l.n → is_symbol (get_or l.bytes k 0) ≡ true }
-
-abbrev pub decreases-loop-n : goal.decreases-loop-n
-decreases-loop-n l = length l.bytes - l.n

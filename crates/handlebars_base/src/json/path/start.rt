@@ -1,0 +1,128 @@
+//! What a path starts with, and what it means with the links behind it.
+
+ghost use Rattle.std.specs.Prelude.{◌≡◌, IfOk};
+ghost use Rattle.std.specs.Option.{option_map};
+ghost use Rattle.handlebars_base.specs.PathView.{segments_of, start_of, started_at, reference_of};
+ghost use Rattle.handlebars_base.specs.PathReading.{named_at, unnamed_at, dot_start, start_at, links_behind, start_segments, start_meaning, ups_at};
+
+use super::links::{Part, behind_links, is_up, part_at, push, push_links};
+use super::marks::{after, symbols, ups};
+use super::{Path, PathRule, PathSeg};
+use std::alloc::{AllocError, Global};
+
+/// Where a path starts.
+#[derive(Clone, Copy)]
+pub enum Start<'a> {
+    /// At this value, by `.` alone. No links follow it.
+    Here,
+    Root,
+    Variable(usize, &'a str),
+    Part(Part<'a>),
+}
+
+/// What follows `@`: the root, or a variable of a block.
+#[tactic(auto, unfolding(crate::specs::PathReading::named_at))]
+fn named_at(text: &str) -> Option<(Start<'_>, &str)>
+    ensures { option_map started_at result ≡ named_at (ups_at 0 text.now) }
+{
+    let (level, rest) = ups(text);
+    let (name, rest) = symbols(rest);
+    if name == "" || name == "this" {
+        return None;
+    }
+    if level == 0 && name == "root" {
+        return Some((Start::Root, rest));
+    }
+    Some((Start::Variable(level, name), rest))
+}
+
+/// What follows a `.` that begins no `..`.
+fn dot_start(text: &str) -> Option<(Start<'_>, &str)>
+    ensures { option_map started_at result ≡ dot_start text.now }
+{
+    let Some(rest) = after(b'/', text) else {
+        return Some((Start::Here, text));
+    };
+    let (first, rest) = part_at(rest)?;
+    Some((Start::Part(first), rest))
+}
+
+/// The start of a path with no `@`.
+#[tactic(auto, unfolding(crate::specs::PathReading::unnamed_at))]
+fn unnamed_at(text: &str) -> Option<(Start<'_>, &str)>
+    ensures { option_map started_at result ≡ unnamed_at text.now }
+{
+    if let Some((first, rest)) = part_at(text) {
+        return Some((Start::Part(first), rest));
+    }
+    dot_start(after(b'.', text)?)
+}
+
+/// The start of the path at the front, and what follows it.
+#[tactic(auto, unfolding(crate::specs::PathReading::start_at))]
+pub fn start_at(text: &str) -> Option<(Start<'_>, &str)>
+    ensures { option_map started_at result ≡ start_at text.now }
+{
+    match after(b'@', text) {
+        Some(rest) => named_at(rest),
+        None => unnamed_at(text),
+    }
+}
+
+/// What follows the links behind a start.
+pub fn behind_start<'a>(start: Start<'_>, text: &'a str) -> &'a str
+    ensures { result.now ≡ (links_behind (start_of start.entry) text.now).1 }
+{
+    match start {
+        Start::Here => text,
+        Start::Root | Start::Variable(_, _) => behind_links(false, text),
+        Start::Part(part) => behind_links(is_up(part), text),
+    }
+}
+
+/// The segments of a start and of the links behind it, and what follows these.
+pub fn start_segments<'a>(
+    alloc: Global,
+    start: Start<'_>,
+    text: &'a str,
+) -> Result<(Vec<PathSeg>, &'a str), AllocError>
+    ensures segments { IfOk result (λ read. segments_of read.0.items
+        ≡ start_segments (start_of start.entry) (links_behind (start_of start.entry) text.now).0) }
+    ensures rest { IfOk result (λ read. read.1.now ≡ (links_behind (start_of start.entry) text.now).1) }
+{
+    let mut segs = Vec::new(alloc);
+    match start {
+        Start::Here => Ok((segs, text)),
+        Start::Variable(_, _) => Ok((segs, behind_links(false, text))),
+        Start::Root => {
+            segs.push(PathSeg::Ruled(PathRule::Root))?;
+            let rest = push_links(alloc, &mut segs, false, text)?;
+            Ok((segs, rest))
+        }
+        Start::Part(first) => {
+            push(alloc, &mut segs, first)?;
+            let rest = push_links(alloc, &mut segs, is_up(first), text)?;
+            Ok((segs, rest))
+        }
+    }
+}
+
+/// The path that starts there, and goes on by these segments.
+pub fn path_from(
+    alloc: Global,
+    start: Start<'_>,
+    segs: Vec<PathSeg>,
+    raw: &str,
+) -> Result<Path, AllocError>
+    ensures { IfOk result (λ path. reference_of path
+        ≡ start_meaning raw.now (start_of start.entry) (segments_of segs.items)) }
+{
+    let raw = String::from_str(alloc, raw)?;
+    match start {
+        Start::Variable(level, name) => {
+            let name = String::from_str(alloc, name)?;
+            Ok(Path::Local((level, name, raw)))
+        }
+        Start::Here | Start::Root | Start::Part(_) => Ok(Path::Relative((segs, raw))),
+    }
+}

@@ -1,0 +1,5 @@
+use Rattle.handlebars_template.proofs.One.{one_cut}
+use Rattle.handlebars_template.proofs.laws.one_cut.Goals as goal
+
+pub returns : goal.returns
+returns c = one_cut

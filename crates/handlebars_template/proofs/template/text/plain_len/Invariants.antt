@@ -1,9 +1,0 @@
-use Rattle.std.proofs.Common.{length, ◌-◌, ◌≡◌, ◌<◌, ◌≤◌, ℕ, get_or, true}
-use Rattle.handlebars_template.specs.TextReading.{is_plain}
-use Rattle.handlebars_template.proofs.template.text.plain_len.Given as goal
-
-abbrev pub invariant-loop-n : goal.invariant-loop-n
-invariant-loop-n l = record { within : l.n ≤ length l.text; pass : (k : ℕ) → k < l.n → is_plain (get_or l.text k 0) ≡ true }
-
-abbrev pub decreases-loop-n : goal.decreases-loop-n
-decreases-loop-n l = length l.text - l.n

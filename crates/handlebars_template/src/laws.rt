@@ -1,0 +1,24 @@
+//! What holds of every source, and what some sources compile to, for callers to cite.
+
+ghost use Rattle.handlebars_template.specs.Compile.{OneCut, OneCompilation};
+ghost use Rattle.handlebars_template.specs.Rows.{EmptyRow, ValueRow, EscapedRow, MemberRow, UnclosedRow, PlaceRow};
+
+/// A source has at most one cut into texts and tags.
+pub fn one_cut()
+    ensures { OneCut }
+{}
+
+/// A source has at most one outcome: a tree or a refusal, and not both.
+pub fn one_compilation()
+    ensures { OneCompilation }
+{}
+
+/// What some sources compile to.
+pub fn worked_sources()
+    ensures empty { EmptyRow }
+    ensures value { ValueRow }
+    ensures escaped { EscapedRow }
+    ensures member { MemberRow }
+    ensures unclosed { UnclosedRow }
+    ensures place { PlaceRow }
+{}

@@ -1,0 +1,71 @@
+//! The files that words stand for, and the rows in them.
+
+use crate::failure::Failure;
+use crate::row::Row;
+use handlebars::JsonValue;
+use std::rt::{Env, Files};
+use std::{env, fs};
+
+/// The words of the command line, or, where there is none, the folder `data`.
+pub fn words<R: Env + AllocGlobal>(rt: &R) -> Result<Vec<String>, Failure> {
+    let args = env::args(rt).map_err(Failure::NoWords)?;
+    let mut words: Vec<String> = args.skip(1).collect(rt.alloc())?;
+    if words.is_empty() {
+        words.push(String::from_str(rt.alloc(), "data")?)?;
+    }
+    Ok(words)
+}
+
+/// The paths of the files that a word stands for: of a folder its `.json` files, in byte order of name.
+pub fn file_paths<R: Files + AllocGlobal + Clone + Drop>(
+    rt: &R,
+    word: &str,
+) -> Result<Vec<String>, Failure> {
+    if is_folder(rt, word) {
+        return folder_paths(rt, word);
+    }
+    Ok(vec![in rt.alloc(); String::from_str(rt.alloc(), word)?]?)
+}
+
+// Where nothing is, a file is sought, which tells why there is none.
+fn is_folder(rt: &impl Files, path: &str) -> bool {
+    match fs::metadata(rt, path) {
+        Ok(metadata) => metadata.is_dir(),
+        Err(_) => false,
+    }
+}
+
+fn folder_paths<R: Files + AllocGlobal + Clone + Drop>(
+    rt: &R,
+    folder: &str,
+) -> Result<Vec<String>, Failure> {
+    let mut paths = Vec::new(rt.alloc());
+    for entry in fs::read_dir(rt, folder).map_err(Failure::CannotRead)? {
+        let entry = entry.map_err(Failure::CannotRead)?;
+        let name = entry.file_name();
+        if name.ends_with(".json") {
+            paths.push(format!(in rt.alloc(); "{folder}/{name}")?)?;
+        }
+    }
+    if paths.is_empty() {
+        return Err(Failure::NoFiles);
+    }
+    paths.sort()?;
+    Ok(paths)
+}
+
+/// The rows of a file.
+pub fn rows<R: Files + AllocGlobal>(rt: &R, path: &str) -> Result<Vec<Row>, Failure> {
+    let text = fs::read_to_string(rt, path).map_err(Failure::CannotRead)?;
+    let value = JsonValue::from_str(rt.alloc(), text.as_str()).map_err(Failure::NotJson)?;
+    let JsonValue::Array(values) = value else {
+        return Err(Failure::NoArray);
+    };
+    let mut rows = Vec::new(rt.alloc());
+    for (index, value) in values.into_iter().enumerate() {
+        let number = index.saturating_add(1);
+        let row = Row::try_from(value).map_err(|cause| Failure::NoRow(number, cause))?;
+        rows.push(row)?;
+    }
+    Ok(rows)
+}

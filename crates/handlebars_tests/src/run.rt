@@ -1,0 +1,94 @@
+//! A run of the program.
+
+use crate::answer::Answer;
+use crate::failure::Failure;
+use crate::files::{file_paths, rows, words};
+use crate::row::Row;
+use std::alloc::{AllocError, Global};
+use std::fmt;
+use std::rt::{Env, Files};
+
+/// Runs the files of the words, and answers whether all of their rows come to what is wanted.
+pub fn run<R: Files + Env + Print + Eprint + AllocGlobal + Clone + Drop>(
+    rt: &R,
+) -> Result<bool, Failure> {
+    let mut passed = true;
+    for word in words(rt)? {
+        passed = told(rt, word.as_str(), run_word(rt, word.as_str())) && passed;
+    }
+    Ok(passed)
+}
+
+fn run_word<R: Files + Print + Eprint + AllocGlobal + Clone + Drop>(
+    rt: &R,
+    word: &str,
+) -> Result<bool, Failure> {
+    let mut passed = true;
+    for path in file_paths(rt, word)? {
+        passed = told(rt, path.as_str(), run_file(rt, path.as_str())) && passed;
+    }
+    Ok(passed)
+}
+
+// Tells of a failure, with which nothing has passed. Where that can't be told, the status still does.
+fn told<R: Eprint>(rt: &R, path: &str, passed: Result<bool, Failure>) -> bool {
+    match passed {
+        Ok(passed) => passed,
+        Err(failure) => {
+            let _ = eprintln!(rt; "{path}: {failure}");
+            false
+        }
+    }
+}
+
+fn run_file<R: Files + Print + AllocGlobal>(rt: &R, path: &str) -> Result<bool, Failure> {
+    let rows = rows(rt, path)?;
+    let count = rows.len();
+    let differences = differences(rt.alloc(), rows)?;
+    let differing = differences.len();
+    println!(rt; "{path}: {differing} of {count} rows differ").map_err(Failure::CannotWrite)?;
+    for difference in &differences {
+        println!(rt; "{difference}").map_err(Failure::CannotWrite)?;
+    }
+    Ok(differences.is_empty())
+}
+
+// A row that comes to something else than what is wanted, and its number in its file, from 1.
+#[derive(Drop)]
+struct Difference {
+    number: usize,
+    row: Row,
+    answer: Answer,
+}
+
+fn differences(alloc: Global, rows: Vec<Row>) -> Result<Vec<Difference>, AllocError> {
+    let mut differences = Vec::new(alloc);
+    for (index, row) in rows.into_iter().enumerate() {
+        let answer = Answer::of(alloc, &row)?;
+        if !answer.comes_to(&row.wanted) {
+            let number = index.saturating_add(1);
+            differences.push(Difference {
+                number,
+                row,
+                answer,
+            })?;
+        }
+    }
+    Ok(differences)
+}
+
+impl fmt::Display for Difference {
+    fn fmt<W: fmt::Write>(&self, f: &mut fmt::Formatter<W>) -> fmt::Result {
+        let number = self.number;
+        let source = &self.row.source;
+        let wanted = &self.row.wanted;
+        let template = &self.answer.template;
+        writeln!(f, "  row {number}: {source:?}")?;
+        writeln!(f, "    wanted:   {wanted}")?;
+        match &self.answer.registry {
+            Ok(text) => writeln!(f, "    registry: {text:?}")?,
+            Err(refusal) => writeln!(f, "    registry: {refusal}")?,
+        }
+        write!(f, "    template: {template}")
+    }
+}

@@ -1,0 +1,11 @@
+//! What no row says: calls of one's own, trees by hand, outputs that fail, big sources, printed errors.
+
+mod big;
+mod compiling;
+mod errors;
+mod helpers;
+mod paths;
+mod rendering;
+mod scope;
+mod trees;
+mod values;
