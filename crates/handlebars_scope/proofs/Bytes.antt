@@ -36,13 +36,29 @@ eqb-other b k h = grind (arith, nat_tests)
 
 -- another byte stands for itself
 pub entity_of-other : (b : ℕ) → IsOther b → entity_of b ≡ None
-entity_of-other b o = rw (eqb-other b 60 o.less, eqb-other b 62 o.greater, eqb-other b 34 o.quote, eqb-other b 38 o.ampersand, eqb-other b 39 o.apostrophe, eqb-other b 96 o.back, eqb-other b 61 o.equals)
+entity_of-other b o = rw (
+  eqb-other b 60 o.less,
+  eqb-other b 62 o.greater,
+  eqb-other b 34 o.quote,
+  eqb-other b 38 o.ampersand,
+  eqb-other b 39 o.apostrophe,
+  eqb-other b 96 o.back,
+  eqb-other b 61 o.equals,
+)
 
 pub escaped_byte-other : (b : ℕ) → IsOther b → escaped_byte b ≡ b ∷ []
 escaped_byte-other b o = ap (λ r. unwrap_or r (b ∷ [])) (entity_of-other b o)
 
 entity_of-high : (b : ℕ) → 128 ≤ b → entity_of b ≡ None
-entity_of-high b h = entity_of-other b (record { less = λ e. omega arith; greater = λ e. omega arith; quote = λ e. omega arith; ampersand = λ e. omega arith; apostrophe = λ e. omega arith; back = λ e. omega arith; equals = λ e. omega arith })
+entity_of-high b h = entity_of-other b record {
+  less = λ e. omega arith;
+  greater = λ e. omega arith;
+  quote = λ e. omega arith;
+  ampersand = λ e. omega arith;
+  apostrophe = λ e. omega arith;
+  back = λ e. omega arith;
+  equals = λ e. omega arith;
+}
 
 -- a byte with an entity is a character of its own
 pub entity_is_ascii : (b : ℕ) (entity : Text) → entity_of b ≡ Some entity → b < 128
@@ -51,4 +67,5 @@ entity_is_ascii b entity e = ⊎_elim (λ h. h) (λ h. absurd (let none = entity
 pub escaped-append : (xs ys : Text) → escaped (xs ++ ys) ≡ escaped xs ++ escaped ys
 unfolding escaped
 escaped-append [] ys = refl
-escaped-append (b ∷ bs) ys = ap (λ t. escaped_byte b ++ t) (escaped-append bs ys) ∙ sym (append_assoc (escaped_byte b) (escaped bs) (escaped ys))
+escaped-append (b ∷ bs) ys =
+    ap (λ t. escaped_byte b ++ t) (escaped-append bs ys) ∙ sym (append_assoc (escaped_byte b) (escaped bs) (escaped ys))

@@ -1,10 +1,10 @@
 -- The laws of escaping.
-use Rattle.std.proofs.Common.{◌≡◌, ◌≢◌, ℕ, zero, suc, ◌<◌, ◌==◌, eqb, cond, if◌then◌else◌, true, false, [], ◌∷◌, ◌++◌, drop, get_or, refl, sym, ap, ap₂, ◌∙◌, subst, arith, codes, Some}
+use Rattle.std.proofs.Common.{◌≡◌, ◌≢◌, ℕ, zero, suc, ◌<◌, ◌==◌, eqb, cond, if◌then◌else◌, Bool, true, false, [], ◌∷◌, ◌++◌, drop, get_or, refl, sym, ap, ap₂, ◌∙◌, subst, arith, codes, Some}
 use Rattle.std.proofs.lemmas.Bool.Decides.{nat_tests}
 use Rattle.std.proofs.lemmas.List.Elements.{All-from_recursion}
 use Rattle.std.specs.List.{AllByRecursion}
 use Rattle.handlebars_scope.specs.Escape.{entity_of, escaped_byte, escaped}
-use Rattle.handlebars_scope.specs.EscapeLaws.{IsInjective, marks, IsUnmarked, BeginsEntities}
+use Rattle.handlebars_scope.specs.EscapeLaws.{IsInjective, marks, IsUnmarked, BeginsEntity, BeginsEntities}
 use Rattle.handlebars_scope.proofs.Bytes.{IsOther, by_bytes, escaped_byte-other}
 use Rattle.handlebars_base.specs.Bytes.{Text}
 
@@ -34,12 +34,14 @@ no_ampersand b o = let h = o.ampersand in grind (arith, nat_tests)
 first_of-escaped : (rest : Text) (b : ℕ) → first_of (escaped_byte b ++ rest) ≡ b
 unfolding first_of named
 first_of-escaped rest = by_bytes (λ b. first_of (escaped_byte b ++ rest) ≡ b) refl refl refl refl refl refl refl
-    (λ b o. ap (λ t. first_of (t ++ rest)) (escaped_byte-other b o) ∙ ap (λ x. cond x (named (get_or rest 0 0) (get_or rest 2 0)) b) (no_ampersand b o))
+    (λ b o. ap (λ t. first_of (t ++ rest)) (escaped_byte-other b o)
+    ∙ ap (λ x. cond x (named (get_or rest 0 0) (get_or rest 2 0)) b) (no_ampersand b o))
 
 rest_of-escaped : (rest : Text) (b : ℕ) → rest_of (escaped_byte b ++ rest) ≡ rest
 unfolding rest_of len_of
 rest_of-escaped rest = by_bytes (λ b. rest_of (escaped_byte b ++ rest) ≡ rest) refl refl refl refl refl refl refl
-    (λ b o. ap (λ t. rest_of (t ++ rest)) (escaped_byte-other b o) ∙ ap (λ x. cond x (drop (len_of (get_or rest 0 0)) rest) rest) (no_ampersand b o))
+    (λ b o. ap (λ t. rest_of (t ++ rest)) (escaped_byte-other b o)
+    ∙ ap (λ x. cond x (drop (len_of (get_or rest 0 0)) rest) rest) (no_ampersand b o))
 
 not_empty : (b : ℕ) (rest : Text) → escaped_byte b ++ rest ≢ []
 not_empty b rest = by_bytes (λ b. escaped_byte b ++ rest ≢ []) (λ e. cc) (λ e. cc) (λ e. cc) (λ e. cc) (λ e. cc) (λ e. cc) (λ e. cc)
@@ -68,8 +70,13 @@ record IsNoMark (b : ℕ) : Type 0 where
 no_mark : (b : ℕ) → b ≢ 60 → b ≢ 62 → b ≢ 34 → b ≢ 39 → b ≢ 96 → b ≢ 61 → IsNoMark b
 no_mark b h1 h2 h3 h4 h5 h6 = record { less = h1; greater = h2; quote = h3; apostrophe = h4; back = h5; equals = h6 }
 
-plain : (b : ℕ) → cond (eqb b 60) false (cond (eqb b 62) false (cond (eqb b 34) false (cond (eqb b 39) false (cond (eqb b 96) false (cond (eqb b 61) false true))))) ≡ true → IsNoMark b
-plain b h = no_mark b (λ e. grind (arith, nat_tests)) (λ e. grind (arith, nat_tests)) (λ e. grind (arith, nat_tests)) (λ e. grind (arith, nat_tests)) (λ e. grind (arith, nat_tests)) (λ e. grind (arith, nat_tests))
+abbrev is_plain : ℕ → Bool
+is_plain b = cond (eqb b 60) false (cond (eqb b 62) false (cond (eqb b 34) false (cond (eqb b 39) false (cond (eqb b 96) false
+    (cond (eqb b 61) false true)))))
+
+plain : (b : ℕ) → is_plain b ≡ true → IsNoMark b
+plain b h = no_mark b (λ e. grind (arith, nat_tests)) (λ e. grind (arith, nat_tests)) (λ e. grind (arith, nat_tests))
+    (λ e. grind (arith, nat_tests)) (λ e. grind (arith, nat_tests)) (λ e. grind (arith, nat_tests))
 
 all_append : (xs ys : Text) → AllByRecursion IsNoMark xs → AllByRecursion IsNoMark ys → AllByRecursion IsNoMark (xs ++ ys)
 all_append [] ys h k = k
@@ -84,7 +91,8 @@ byte_unmarked = by_bytes (λ b. AllByRecursion IsNoMark (escaped_byte b))
     (plain _ refl, (plain _ refl, (plain _ refl, (plain _ refl, (plain _ refl, (plain _ refl, tt))))))
     (plain _ refl, (plain _ refl, (plain _ refl, (plain _ refl, (plain _ refl, (plain _ refl, tt))))))
     (plain _ refl, (plain _ refl, (plain _ refl, (plain _ refl, (plain _ refl, (plain _ refl, tt))))))
-    (λ b o. subst (AllByRecursion IsNoMark) (sym (escaped_byte-other b o)) (no_mark b o.less o.greater o.quote o.apostrophe o.back o.equals, tt))
+    (λ b o. subst (AllByRecursion IsNoMark) (sym (escaped_byte-other b o))
+    (no_mark b o.less o.greater o.quote o.apostrophe o.back o.equals, tt))
 
 all_unmarked : (xs : Text) → AllByRecursion IsNoMark (escaped xs)
 unfolding escaped
@@ -107,28 +115,30 @@ escaped_is_unmarked xs mark is there =
 
 -- ---- each `&`
 
-abbrev IsBeginning : Text → Type 0
-IsBeginning rest = (b : ℕ) × (entity : Text) × (after : Text) × (entity_of b ≡ Some entity) × (38 ∷ rest ≡ entity ++ after)
-
 abbrev NoAmpersand : Text → Type 0
 NoAmpersand = AllByRecursion (λ b. b ≢ 38)
 
 -- an `&` after bytes that are none stands in what follows them
-skip : (P : Type 0) (e more front rest : Text) → NoAmpersand e → e ++ more ≡ front ++ 38 ∷ rest → ((front' : Text) → more ≡ front' ++ 38 ∷ rest → P) → P
+skip : (P : Type 0) (e more front rest : Text) → NoAmpersand e → e ++ more ≡ front ++ 38 ∷ rest
+    → ((front' : Text) → more ≡ front' ++ 38 ∷ rest → P) → P
 skip P [] more front rest none e go = go front e
 skip P (b ∷ bs) more [] rest none e go = absurd (none.0 cc)
 skip P (b ∷ bs) more (f ∷ front) rest none e go = skip P bs more front rest none.1 (cc) go
 
 -- an `&` in an entity and what follows is the entity's first byte, or stands in what follows
-in_entity : (b : ℕ) (t more front rest : Text) → entity_of b ≡ Some (38 ∷ t) → NoAmpersand t → (38 ∷ t) ++ more ≡ front ++ 38 ∷ rest → ((front' : Text) → more ≡ front' ++ 38 ∷ rest → IsBeginning rest) → IsBeginning rest
-in_entity b t more [] rest is none e go = (b, 38 ∷ t, more, is, sym e)
-in_entity b t more (f ∷ front) rest is none e go = skip (IsBeginning rest) t more front rest none (cc) go
+in_entity : (b : ℕ) (t more front rest : Text) → entity_of b ≡ Some (38 ∷ t) → NoAmpersand t
+    → (38 ∷ t) ++ more ≡ front ++ 38 ∷ rest → ((front' : Text) → more ≡ front' ++ 38 ∷ rest → BeginsEntity (38 ∷ rest))
+    → BeginsEntity (38 ∷ rest)
+in_entity b t more [] rest is none e go = record { byte = b; entity = 38 ∷ t; rest = more; is_entity = is; is = sym e }
+in_entity b t more (f ∷ front) rest is none e go = skip (BeginsEntity (38 ∷ rest)) t more front rest none (cc) go
 
 byte : (b : ℕ) → eqb b 38 ≡ false → b ≢ 38
 byte b h = grind (arith, nat_tests)
 
 abbrev AtByte : ℕ → Type 0
-AtByte b = (more front rest : Text) → escaped_byte b ++ more ≡ front ++ 38 ∷ rest → ((front' : Text) → more ≡ front' ++ 38 ∷ rest → IsBeginning rest) → IsBeginning rest
+AtByte b = (more front rest : Text) → escaped_byte b ++ more ≡ front ++ 38 ∷ rest
+    → ((front' : Text) → more ≡ front' ++ 38 ∷ rest → BeginsEntity (38 ∷ rest))
+    → BeginsEntity (38 ∷ rest)
 
 at_byte : (b : ℕ) → AtByte b
 at_byte = by_bytes AtByte
@@ -139,7 +149,8 @@ at_byte = by_bytes AtByte
     (λ more front rest. in_entity 39 (codes "#x27;") more front rest refl (byte _ refl, (byte _ refl, (byte _ refl, (byte _ refl, (byte _ refl, tt))))))
     (λ more front rest. in_entity 96 (codes "#x60;") more front rest refl (byte _ refl, (byte _ refl, (byte _ refl, (byte _ refl, (byte _ refl, tt))))))
     (λ more front rest. in_entity 61 (codes "#x3D;") more front rest refl (byte _ refl, (byte _ refl, (byte _ refl, (byte _ refl, (byte _ refl, tt))))))
-    (λ b o more front rest e go. skip (IsBeginning rest) (b ∷ []) more front rest (o.ampersand, tt) (sym (ap (λ t. t ++ more) (escaped_byte-other b o)) ∙ e) go)
+    (λ b o more front rest e go. skip (BeginsEntity (38 ∷ rest)) (b ∷ []) more front rest (o.ampersand, tt)
+    (sym (ap (λ t. t ++ more) (escaped_byte-other b o)) ∙ e) go)
 
 pub escaped_begins_entities : BeginsEntities
 unfolding escaped

@@ -19,7 +19,14 @@ marks = codes "<>\"'`="
 abbrev pub IsUnmarked : Type 0
 IsUnmarked = (xs : Text) (mark : ℕ) → Contains marks mark → ¬ Contains (escaped xs) mark
 
--- where an `&` is, one of the seven entities begins
+-- a text that begins with one of the seven entities
+pub record BeginsEntity (text : Text) : Type 0 where
+  pub byte : ℕ
+  pub entity : Text
+  pub rest : Text
+  pub is_entity : entity_of byte ≡ Some entity
+  pub is : text ≡ entity ++ rest
+
+-- where an `&` is, an entity begins
 abbrev pub BeginsEntities : Type 0
-BeginsEntities = (xs front rest : Text) → escaped xs ≡ front ++ ampersand ∷ rest
-    → (b : ℕ) × (entity : Text) × (after : Text) × (entity_of b ≡ Some entity) × (ampersand ∷ rest ≡ entity ++ after)
+BeginsEntities = (xs front rest : Text) → escaped xs ≡ front ++ ampersand ∷ rest → BeginsEntity (ampersand ∷ rest)

@@ -16,22 +16,22 @@ use std::alloc::AllocError;
 
 /// The value that a path leads to from the data, in the one empty block of scope that a rendering
 /// begins with; none where a name has no value, and for a variable of a block.
-pub fn resolve<'a>(data: &'a Json, path: &Path) -> Result<Option<&'a Json>, RenderError>
+pub fn resolve<'a>(given: &'a Json, path: &Path) -> Result<Option<&'a Json>, RenderError>
     ensures { Answers (option_map (λ v. view v.now)) result
-        (answer_map present_in (resolved (reference_of path.now) (view data.now))) }
+        (answer_map present_in (resolved (reference_of path.now) (view given.now))) }
 {
     match path {
-        Path::Relative((segments, _)) => along(data, segments),
+        Path::Relative((segments, _)) => along(given, segments),
         Path::Local(_) => Ok(None),
     }
 }
 
 // Along the names of a path; the other segments add nothing.
-fn along<'a>(data: &'a Json, segments: &Vec<PathSeg>) -> Result<Option<&'a Json>, RenderError>
+fn along<'a>(given: &'a Json, segments: &Vec<PathSeg>) -> Result<Option<&'a Json>, RenderError>
     ensures { Answers (option_map (λ v. view v.now)) result
-        (value_at (view data.now) (names_of (segments_of segments.now.items))) }
+        (value_at (view given.now) (names_of (segments_of segments.now.items))) }
 {
-    let mut here = data;
+    let mut here = given;
     for segment in segments {
         match segment {
             PathSeg::Named(name) => match member(here, name)? {

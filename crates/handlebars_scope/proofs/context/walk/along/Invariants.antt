@@ -7,4 +7,5 @@ use Rattle.handlebars_scope.proofs.context.walk.along.Given as goal
 -- the names left lead from here to where all of them lead from the start
 abbrev pub invariant-loop-segment : goal.invariant-loop-segment
 invariant-loop-segment l =
-    value_at (view l.here) (names_of (segments_of (drop l.segment-index l.segment-items))) ≡ value_at (view l.data) (names_of (segments_of l.segment-items))
+    value_at (view l.here) (names_of (segments_of (drop l.segment-index l.segment-items)))
+    ≡ value_at (view l.given) (names_of (segments_of l.segment-items))
