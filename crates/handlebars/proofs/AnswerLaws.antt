@@ -61,9 +61,9 @@ module _ (p : Setting) (options : Options) (source : Text) where
       → refusal_of e ≡ plain_refusal (of_template f) → reason_in e ≢ out_of_memory → RefusesWith p options source (refusal_of e)
   refuses_source f e refuses is other =
       let not_memory : f.reason ≢ template_out_of_memory =
-          λ memory. other (ap (λ (z : Refusal). z.reason) is ∙ ap (λ (r : TemplateReason). reason_for f r) memory) in
+      λ memory. other (ap (λ (z : Refusal). z.reason) is ∙ ap (λ (r : TemplateReason). reason_for f r) memory) in
       subst (λ (z : Refusal). RefusesWith p options source z) (sym is)
-        (record { pieces = []; answers = not_compiled (refuses not_memory) })
+      (record { pieces = []; answers = not_compiled (refuses not_memory) })
 
   -- the same of the results of calls
   pub compile_refused : (f : TemplateRefusal) (r : Result (String Global) RenderError)

@@ -1,10 +1,10 @@
 -- What elements and the loop over them carry out.
-use Rattle.std.proofs.Common.{◌≡◌, ◌≢◌, ℕ, ◌+◌, ◌<◌, ◌≤◌, List, [], ◌∷◌, length, drop, get_or, Option, Result, Ok, Err, refl, sym, ap, subst, arith, inl, inr}
+use Rattle.std.proofs.Common.{◌≡◌, ◌≢◌, ℕ, ◌+◌, ◌<◌, ◌≤◌, List, length, drop, get_or, Option, Result, Ok, Err, refl, sym, ap, subst, inl, inr}
 use Rattle.std.specs.Prelude.{slice_get}
 use Rattle.std.proofs.lemmas.List.{drop_more, drop_all}
 use Rattle.std.specs.declared.io.Error.{Error}
 use Rattle.serde_json.specs.Data.{Data}
-use Rattle.handlebars_base.specs.Answers.{Answer, gives, refuses, answer_map, IsRefusal}
+use Rattle.handlebars_base.specs.Answers.{Answer, gives, refuses, answer_map}
 use Rattle.handlebars_base.specs.Bytes.{Text}
 use Rattle.handlebars_base.specs.Reasons.{Refusal, out_of_memory}
 use Rattle.handlebars_base.specs.RenderRefusals.{reason_in, refusal_of}
@@ -73,7 +73,7 @@ module _ (p : Setting) (may : Error → Type 0) where
       let v = found_value (value_of p s c) o is in
       let here = subst (λ (z : Option Data). Puts (shown z) may (at s h) r (at next new)) (sym v.seen) puts in
       c_get p may (subst (λ (z : Answer Found). CarriesOut p (run (answer z >>= write_value site)) may (at s h) r (at next new))
-        (sym v.is) (c_puts p may (of_value site v.found) (shown (present_in v.found)) here))
+      (sym v.is) (c_puts p may (of_value site v.found) (shown (present_in v.found)) here))
 
   refused_so : (site : Site) (a : Answer Found) {s next : State} {h : Held} (e : RenderError)
       → (reason_in e ≢ out_of_memory → answer_map present_in a ≡ refuses (refusal_of e))
@@ -107,7 +107,7 @@ module _ (p : Setting) (may : Error → Type 0) where
   left_goes site es places i d x first now next lt is left a = λ r last c. left r last
       (subst (λ (k : Steps). CarriesOut p k may now r last) (sym (at_index site es places i d lt))
       (subst (λ (z : Element). CarriesOut p (Do (One (element_in site i) (slice_get places i) z) (from_index site es places (i + 1))) may now r last)
-        (sym is) (c_then p may a c)))
+      (sym is) (c_then p may a c)))
 
   pub left_over : (site : TreeSite) (es : List Element) (places : List Place) (i : ℕ) (d x : Element) (first now next : Moment) (e f : RenderError)
       → i < length es → get_or es i d ≡ x → Left site es places i first now → IsMarked (One (element_in site i) (slice_get places i) x) e f
@@ -116,13 +116,13 @@ module _ (p : Setting) (may : Error → Type 0) where
   left_over site es places i d x first now next e f lt is left m a = left (Err f) next
       (subst (λ (k : Steps). CarriesOut p k may now (Err f) next) (sym (at_index site es places i d lt))
       (subst (λ (z : Element). CarriesOut p (Do (One (element_in site i) (slice_get places i) z) (from_index site es places (i + 1))) may now (Err f) next)
-        (sym is) (c_over p may e f m a)))
+      (sym is) (c_over p may e f m a)))
 
   pub left_ends : (site : TreeSite) (es : List Element) (places : List Place) (i : ℕ) (first now : Moment) {u : Unit {0}} → length es ≤ i
       → Left site es places i first now → CarriesOut p (from_index site es places 0) may first (Ok u) now
   left_ends site es places i first now {u = u} over left = left (Ok u) now
       (subst (λ (z : List Element). CarriesOut p (run (render_elements site i (elements_of z) places)) may now (Ok u) now)
-        (sym (drop_all i es over)) (c_done p may))
+      (sym (drop_all i es over)) (c_done p may))
 
   -- a tree: its name, then its elements
   pub whole_with : (site : TreeSite) (n : Option Text) (es : List Element) (places : List Place) {s mid next : State} {h new : Held} {r : Result (Unit {0}) RenderError}

@@ -1,17 +1,16 @@
 -- What the calls that write a text say.
 use Rattle.std.proofs.Common.{◌≡◌, ◌≢◌, [], Ok, Err, refl, sym, ap, ◌∙◌, append-nil}
 use Rattle.std.specs.declared.io.Error.{Error}
-use Rattle.std.specs.declared.io.ErrorKind.{ErrorKind}
 use Rattle.std.specs.declared.io.ErrorKind.TheVariants.{OutOfMemory}
 use Rattle.std.specs.IoError.{error_kind}
 use Rattle.handlebars_base.specs.Bytes.{Text}
-use Rattle.handlebars_base.specs.Reasons.{Refusal, out_of_memory}
-use Rattle.handlebars_base.specs.RenderRefusals.{reason_in, cause_of, refusal_of, plain_refusal}
+use Rattle.handlebars_base.specs.Reasons.{Refusal}
+use Rattle.handlebars_base.specs.RenderRefusals.{cause_of, refusal_of, plain_refusal}
 use Rattle.handlebars_base.specs.declared.error.render_error.RenderError.{RenderError}
 use Rattle.handlebars_base.specs.declared.error.render_error.RenderErrorReason.TheVariants.{IOError}
 use Rattle.handlebars_scope.specs.Outputs.{Held, IsWhole, IsCutOff, write_reason}
 use Rattle.handlebars.specs.State.{State}
-use Rattle.handlebars.specs.View.{TellsFault, Puts, all_put, front_put, behind}
+use Rattle.handlebars.specs.View.{Puts, all_put, front_put, behind}
 use Rattle.handlebars.proofs.Carry.{at}
 
 module _ (may : Error → Type 0) where

@@ -1,7 +1,6 @@
 -- What is written is determined: two whole runs are one, and a run that stopped wrote a beginning of the whole one.
 use Rattle.std.proofs.Common.{◌≡◌, List, [], ◌∷◌, ◌++◌, refl, sym, ap, ◌∙◌, subst, append_assoc, append-nil}
 use Rattle.handlebars_base.specs.Reasons.{Refusal}
-use Rattle.handlebars_base.specs.Bytes.{Text}
 use Rattle.handlebars_scope.specs.Outputs.{IsBeginning}
 use Rattle.handlebars_scope.specs.Put.{Piece, join}
 use Rattle.handlebars.specs.State.{Setting, State}
@@ -107,7 +106,7 @@ beginning (set r) stop h g = absurd (g tt)
 beginning (did {ps = xs} {qs = ys} a b) (did {ps = zs} {qs = ws} c d) h g =
     let e = same a c (λ x. x) (λ x. x) in
     subst (λ (us : List Piece). IsBeginning (join (xs ++ ys)) (join (us ++ ws))) e.0
-        (begins_join xs ys ws (beginning b (at_state (same_state e.1) d) h g))
+    (begins_join xs ys ws (beginning b (at_state (same_state e.1) d) h g))
 beginning (did a b) (did_over {t = t} {o = o} c over) h g =
     absurd (subst IsOver (sym (same a c (λ x. x) (λ i. g (stop_marked t o i))).1) over)
 beginning (did a b) stop h g = absurd (g tt)

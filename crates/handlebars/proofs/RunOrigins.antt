@@ -1,6 +1,5 @@
 -- All that a run writes has an origin.
-use Rattle.std.proofs.Common.{◌≡◌, ℕ, zero, suc, ◌+◌, List, [], ◌∷◌, ◌++◌, refl, sym, ap, ◌∙◌, subst, append_assoc, append-nil, Option, None, Some, arith}
-use Rattle.serde_json.specs.Data.{Data}
+use Rattle.std.proofs.Common.{◌≡◌, ℕ, suc, ◌+◌, List, [], ◌∷◌, ◌++◌, refl, sym, ap, ◌∙◌, append_assoc, append-nil, Option, Some, arith}
 use Rattle.handlebars_base.specs.Answers.{Answer, gives, refuses}
 use Rattle.handlebars_base.specs.Bytes.{Text}
 use Rattle.handlebars_base.specs.Scoped.{Found, present_in}
@@ -8,7 +7,7 @@ use Rattle.handlebars_template.specs.Place.{Place}
 use Rattle.handlebars_template.specs.Tree.{Tree, tree, Elements, no_elements, element, Element, raw_string, html_expression, expression, helper_block, decorator_expression, decorator_block, partial_expression, partial_block, comment, Call}
 use Rattle.handlebars_scope.specs.Outputs.{IsBeginning}
 use Rattle.handlebars_scope.specs.Put.{Origin, of_text, of_value, Piece}
-use Rattle.handlebars_scope.specs.Sites.{TreeSite, first_tree, Site, element_in}
+use Rattle.handlebars_scope.specs.Sites.{TreeSite, Site, element_in}
 use Rattle.handlebars.specs.State.{Setting, State}
 use Rattle.handlebars.specs.Steps.{Task, One, Whole, Steps, Done, Refuse, Write, Get, Set, Do, run, ◌>>=◌, ◌>>◌, answer}
 use Rattle.handlebars.specs.Means.{shown, write_text, write_value, value_of, render_expression, render_element, render_elements, render_whole, render_alone, todo}
@@ -110,9 +109,11 @@ module _ (p : Setting) (u : Tree) where
   elements_good at i no_elements places h = tt
   elements_good at i (element e es) places h =
       let here : element_at u (element_in at i) ≡ Some e =
-          ap (λ (n : ℕ). element_at u (element_in at n)) (omega arith) ∙ sym (h 0) in
-      (here, elements_good at (i + 1) es places
-        (λ k. h (suc k) ∙ ap (λ (n : ℕ). element_at u (element_in at n)) (omega arith)))
+      ap (λ (n : ℕ). element_at u (element_in at n)) (omega arith) ∙ sym (h 0) in (
+        here,
+        elements_good at (i + 1) es places
+            (λ k. h (suc k) ∙ ap (λ (n : ℕ). element_at u (element_in at n)) (omega arith)),
+      )
 
   whole_good : (at : TreeSite) (t : Tree) → tree_at u at ≡ Some t → Good (run (render_whole at t))
   unfolding ◌>>=◌ ◌>>◌ StandFrom

@@ -7,7 +7,7 @@ use Rattle.handlebars_base.specs.Reasons.{helper_not_found, decorator_not_found,
 use Rattle.handlebars_base.specs.Scoped.{Found, value, missing, present_in}
 use Rattle.handlebars_base.specs.Values.{rendered}
 use Rattle.handlebars_template.specs.Place.{Place}
-use Rattle.handlebars_template.specs.Tree.{Tree, tree, Elements, no_elements, element, Element, raw_string, html_expression, expression, helper_block, decorator_expression, decorator_block, partial_expression, partial_block, comment, Call, call_name, Decorator, decorator_name, Param, name, path, literal, subexpression, as_name, is_value}
+use Rattle.handlebars_template.specs.Tree.{Tree, tree, Elements, no_elements, element, Element, raw_string, html_expression, expression, helper_block, decorator_expression, decorator_block, partial_expression, partial_block, comment, Call, call_name, decorator_name, Param, name, path, literal, subexpression, as_name, is_value}
 use Rattle.handlebars_scope.specs.Escape.{escaped}
 use Rattle.handlebars_scope.specs.Put.{Origin, of_text, of_value, put}
 use Rattle.handlebars_scope.specs.Resolve.{resolved}

@@ -1,10 +1,10 @@
 -- Where each piece of a run comes from.
-use Rattle.std.specs.Prelude.{◌≡◌, ℕ, zero, suc, List, [], ◌∷◌, ◌++◌, Option, None, Some}
+use Rattle.std.specs.Prelude.{◌≡◌, ℕ, zero, suc, List, ◌++◌, Option, None, Some}
 use Rattle.std.specs.List.{AllByRecursion}
 use Rattle.handlebars_base.specs.Answers.{gives}
 use Rattle.handlebars_base.specs.Bytes.{Text}
 use Rattle.handlebars_base.specs.Scoped.{Found, present_in}
-use Rattle.handlebars_template.specs.Tree.{Tree, tree, tree_elements, Elements, no_elements, element, Element, raw_string, html_expression, expression, helper_block, decorator_expression, decorator_block, partial_expression, partial_block, comment, Call, call_body, call_inverse, decorator_body, Body, no_body, body}
+use Rattle.handlebars_template.specs.Tree.{Tree, tree_elements, Elements, no_elements, element, Element, raw_string, html_expression, expression, helper_block, decorator_expression, decorator_block, partial_expression, partial_block, comment, Call, call_body, call_inverse, decorator_body, Body, no_body, body}
 use Rattle.handlebars_scope.specs.Put.{Origin, of_text, of_value, Piece}
 use Rattle.handlebars_scope.specs.Sites.{TreeSite, first_tree, body_at, inverse_at, Site, element_in}
 use Rattle.handlebars.specs.State.{Setting, State}

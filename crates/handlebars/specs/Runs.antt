@@ -68,7 +68,8 @@ pub data Front : List Piece → List Piece → Type 0 where
 pub data Runs (p : Setting) : Steps → State → List Piece → Outcome → Type 0 where
   done : {s : State} → Runs p Done s [] (Ended s)
   refused : {s : State} {r : Refusal} → Runs p (Refuse r) s [] (Refused r)
-  wrote : {s : State} {xs ps : List Piece} {k : Steps} {o : Outcome} → Runs p k s ps o → Runs p (Write xs k) s (xs ++ ps) o
+  wrote : {s : State} {xs ps : List Piece} {k : Steps} {o : Outcome}
+      → Runs p k s ps o → Runs p (Write xs k) s (xs ++ ps) o
   got : {s : State} {f : State → Steps} {ps : List Piece} {o : Outcome} → Runs p (f s) s ps o → Runs p (Get f) s ps o
   set : {s next : State} {k : Steps} {ps : List Piece} {o : Outcome} → Runs p k next ps o → Runs p (Set next k) s ps o
   -- a part is done, or is over before its end, and then nothing follows

@@ -66,19 +66,25 @@ pub record TellsFault (cause : Error) (spot : Spot) (e : RenderError) : Type 0 w
   pub kept : reason_in e ≢ out_of_memory → cause_of e ≡ IOError cause
   pub where_it_is : reason_in e ≢ out_of_memory → spot_of e ≡ spot
 
+-- what a call that writes answers: that it did, or an error
+abbrev pub Answered : Type 0
+Answered = Result (Unit {0}) RenderError
+
 -- How the answer of a call goes with the outcome of a run. A write that failed is counted; a refusal has the run's
 -- reason, position and name; want of memory may come anywhere.
-pub data Tells (may : Error → Type 0) (before after : ℕ) : Outcome → Result (Unit {0}) RenderError → State → Type 0 where
+pub data Tells (may : Error → Type 0) (before after : ℕ) : Outcome → Answered → State → Type 0 where
   ended : {s : State} {u : Unit {0}} → after ≡ before → Tells may before after (Ended s) (Ok u) s
   refusal : {s : State} {e : RenderError} → after ≡ before → Tells may before after (Refused (refusal_of e)) (Err e) s
   fault : {s : State} {e : RenderError} (cause : Error) (spot : Spot) → may cause
-      → (before + 1 < 2 ^ 64 → after ≡ before + 1) → TellsFault cause spot e → Tells may before after (Faulted spot) (Err e) s
+      → (before + 1 < 2 ^ 64 → after ≡ before + 1) → TellsFault cause spot e
+      → Tells may before after (Faulted spot) (Err e) s
   no_memory : {s : State} {e : RenderError} → after ≡ before → reason_in e ≡ out_of_memory
       → Tells may before after NoMemory (Err e) s
 
 -- The steps were carried out from one moment to another: the output has gained the text of their pieces, and the result
 -- and the next state tell the outcome.
-pub record CarriesOut (p : Setting) (k : Steps) (may : Error → Type 0) (before : Moment) (r : Result (Unit {0}) RenderError) (after : Moment) : Type 0 where
+pub record CarriesOut (p : Setting) (k : Steps) (may : Error → Type 0) (before : Moment) (r : Answered) (after : Moment)
+    : Type 0 where
   pub pieces : List Piece
   pub outcome : Outcome
   pub runs : Runs p k before.state pieces outcome
@@ -90,7 +96,7 @@ abbrev pub behind : Text → State → State
 behind t s = record s { line = line_behind t s.line }
 
 -- A text was written, whatever the setting, or a beginning of it, and the output failed.
-pub data Puts (t : Text) (may : Error → Type 0) (before : Moment) : Result (Unit {0}) RenderError → Moment → Type 0 where
+pub data Puts (t : Text) (may : Error → Type 0) (before : Moment) : Answered → Moment → Type 0 where
   all_put : {after : Moment} {u : Unit {0}} → after.state ≡ behind t before.state → IsWhole t before.held after.held
       → Puts t may before (Ok u) after
   front_put : {after : Moment} {e : RenderError} (cause : Error) → may cause → IsCutOff t before.held after.held

@@ -90,11 +90,7 @@ fn write_value<O: Output>(
 }
 
 // Writes a text.
-fn write_text<O: Output>(
-    text: &str,
-    rc: &mut RenderContext,
-    out: &mut O,
-) -> Result<(), RenderError>
+fn write_text<O: Output>(text: &str, rc: &mut RenderContext, out: &mut O) -> Result<(), RenderError>
     ensures puts { Puts text.now O.may_give (moment rc.old (O.held out.old)) result (moment rc.new (O.held out.new)) }
     ensures kept { IsKept rc.old rc.new }
 {

@@ -68,10 +68,10 @@ impl Growing {
     fn add_text(&mut self, place: TemplateMapping, front: TextFront) -> Result<(), AllocError>
         ensures elements { let text = text_slice (place_of place) front.entry.slice.now (string_bytes front.entry.kept) in
             OnOk result (map element_view self.new.elements.items
-                ≡ map element_view self.old.elements.items ++ slice_elements (text ∷ [])) }
+            ≡ map element_view self.old.elements.items ++ slice_elements (text ∷ [])) }
         ensures places { let text = text_slice (place_of place) front.entry.slice.now (string_bytes front.entry.kept) in
             OnOk result (map place_of self.new.mapping.items
-                ≡ map place_of self.old.mapping.items ++ slice_places (text ∷ [])) }
+            ≡ map place_of self.old.mapping.items ++ slice_places (text ∷ [])) }
     {
         if front.slice.is_empty() {
             return Ok(());

@@ -242,7 +242,10 @@ fn made_errors(alloc: Global) -> Result<Vec<(RenderError, &'static str)>, AllocE
     let cause = io::Error::other("disk");
     Ok(vec![in alloc;
         (RenderError::new(alloc, "bad"), r#"Other("bad")"#),
-        (RenderError::strict_error(alloc, None), "MissingVariable(None)"),
+        (
+            RenderError::strict_error(alloc, None),
+            "MissingVariable(None)"
+        ),
         (
             RenderError::strict_error(alloc, Some(&name)),
             r#"MissingVariable(Some("a"))"#

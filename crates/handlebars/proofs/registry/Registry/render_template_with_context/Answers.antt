@@ -1,6 +1,5 @@
 use Rattle.std.proofs.lemmas.Result.{IfOk-weaker, IfErr-weaker}
 use Rattle.handlebars_base.specs.TemplateRefusals.{template_refusal_of}
-use Rattle.handlebars.specs.View.{setting_of, options_of}
 use Rattle.handlebars.proofs.AnswerLaws.{has_one_answer, answer_has_origins, compile_refused, gives_text, refuses_with}
 use Rattle.handlebars.proofs.registry.Registry.render_template_with_context.Goals as goal
 

@@ -1,5 +1,4 @@
-use Rattle.std.proofs.Common.{◌∙◌, sym, ap, Option}
-use Rattle.handlebars_base.specs.Bytes.{Text}
+use Rattle.std.proofs.Common.{◌∙◌, sym, ap}
 use Rattle.handlebars_base.specs.RenderRefusals.{spot_of}
 use Rattle.handlebars_template.specs.Tree.{Tree, tree_name}
 use Rattle.handlebars_template.proofs.Trees.{tree_view-out}

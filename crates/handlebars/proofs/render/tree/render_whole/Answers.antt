@@ -1,4 +1,4 @@
-use Rattle.std.proofs.Common.{◌∙◌, refl, sym, ap, map, Option, List}
+use Rattle.std.proofs.Common.{◌∙◌, sym, ap, map, Option, List}
 use Rattle.std.specs.Prelude.{slice_get}
 use Rattle.handlebars_base.specs.RenderRefusals.{spot_of}
 use Rattle.handlebars_template.specs.declared.template.tree.TemplateMapping.{TemplateMapping}
@@ -33,7 +33,7 @@ loop-index-preserved g c = record {
 pub returns-in-Err-clause-renders : goal.returns-in-Err-clause-renders
 returns-in-Err-clause-renders g c =
     let found = looked_up (λ m. m.now) c.deref.result.now c.loop-index.index _ c.get.result c.get.ensures.lookup.1 c.get.ensures.lookup.3
-        ∙ ap (λ (z : List TemplateMapping). slice_get z c.loop-index.index) c.deref.ensures.value in
+    ∙ ap (λ (z : List TemplateMapping). slice_get z c.loop-index.index) c.deref.ensures.value in
     let place = place_there c.args.template.now.mapping.items c.loop-index.index c.get.result found in
     rw (tree_view-out c.args.template.now) (whole_with _ _ first_tree _ _ _ c.in_ok-enter.ensures.ok (rw (sym c.deref-element-items.ensures.value)
     (left_over _ _ first_tree (map element_view c.deref-element-items.result.now) (map place_of c.args.template.now.mapping.items)
