@@ -1,4 +1,5 @@
-//! What a rendering reads and writes: the data, the output, and the escaping of texts.
+//! What a rendering reads and writes: the data, the output, the line that is written, and texts and
+//! values escaped.
 #![tactic(auto)]
 
 pub mod context;
