@@ -1,82 +1,72 @@
 -- How far a reference goes at the front of a text.
-use Rattle.std.proofs.Common.{◌≡◌, ℕ, zero, suc, ◌+◌, ◌<◌, ◌≤◌, Bool, true, false, List, [], ◌∷◌, length, ltb, get_or, drop, Some, None, refl, sym, ap, ◌∙◌, arith, inl, inr}
-use Rattle.std.specs.Prelude.{◌==◌}
+use Rattle.std.proofs.Common.{◌≡◌, ℕ, zero, suc, ◌+◌, ◌<◌, ◌≤◌, Bool, true, false, List, [], ◌∷◌, length, ltb, get_or, drop, None, refl, sym, ap, ◌∙◌, arith, inl, inr}
+use Rattle.std.specs.Prelude.{◌==◌, not, is_some}
 use Rattle.std.specs.List.{position, position_or_len, prefix_len}
 use Rattle.std.specs.Str.{IsCharBoundary}
 use Rattle.std.proofs.lemmas.Bool.{or_parts, eqb-true, ne_eqb, ltb-true, ltb-false, cases_Bool, both_ways}
-use Rattle.std.proofs.lemmas.Option.{cond_some}
 use Rattle.handlebars_base.specs.Path.{is_symbol}
 use Rattle.handlebars_base.specs.PathReading.{after, is_reference_byte, one_more, reference_from, reference_len}
-use Rattle.handlebars_base.proofs.OptionBinds.{cond_none}
 use Rattle.handlebars_base.proofs.PathMarks.{no_symbol_ascii}
 
--- ---- in brackets
+-- ---- whether it goes on
 
--- One byte earlier all is one more, where brackets are closed.
-inside_rest : (x : ℕ) (xs : List ℕ) (k j n : ℕ) → j ≡ suc k → 0 < k → n ≡ k + reference_len (drop k xs) →
-    one_more n ≡ j + reference_len (drop j (x ∷ xs))
-inside_rest x xs k j zero next some e = absurd (omega arith)
-inside_rest x xs k j (suc n) next some e = rw next (omega (arith, e))
+positive : (n : ℕ) → 0 < n → true ≡ not (n == 0)
+positive n some = rw (ne_eqb n 0 (λ none. absurd (omega arith))) refl
 
-inside_closed : (r : List ℕ) → position_or_len (λ b. b == 93) r < length r →
-    reference_from true r ≡ position_or_len (λ b. b == 93) r + 1 + reference_len (drop (position_or_len (λ b. b == 93) r + 1) r)
+more-positive : (n : ℕ) → 0 < n → 0 < one_more n
+more-positive zero some = some
+more-positive (suc n) some = omega arith
+
+closed-positive : (r : List ℕ) → position_or_len (λ b. b == 93) r < length r → 0 < reference_from true r
 unfolding reference_from
-inside_closed [] lt = absurd (omega arith)
-inside_closed (x ∷ xs) lt =
+closed-positive [] lt = absurd (omega arith)
+closed-positive (x ∷ xs) lt =
     elim (cases_Bool (x == 93)) [
       | inl closes ↦ rw closes (omega arith)
       | inr other ↦
           let behind : position_or_len (λ b. b == 93) xs < length xs = omega (arith, rw other at lt) in
-          let more = inside_closed xs behind in
-          rw other (inside_rest x xs (position_or_len (λ b. b == 93) xs + 1) _ (reference_from true xs) (omega arith) (omega arith) more)
+          rw other (more-positive (reference_from true xs) (closed-positive xs behind))
     ]
 
-inside_open : (r : List ℕ) → length r ≤ position_or_len (λ b. b == 93) r → reference_from true r ≡ 0
+open-zero : (r : List ℕ) → length r ≤ position_or_len (λ b. b == 93) r → reference_from true r ≡ 0
 unfolding reference_from
-inside_open [] le = refl
-inside_open (x ∷ xs) le =
+open-zero [] le = refl
+open-zero (x ∷ xs) le =
     elim (cases_Bool (x == 93)) [
       | inl closes ↦ absurd (let none : length xs + 1 ≤ 0 = omega (arith, rw closes at le) in omega arith)
       | inr other ↦
           let behind : length xs ≤ position_or_len (λ b. b == 93) xs = omega (arith, rw other at le) in
-          rw other (ap one_more (inside_open xs behind))
+          rw other (ap one_more (open-zero xs behind))
     ]
 
--- ---- one part, and the rest
-
-pub reference_len-none : (t : List ℕ) → length t ≡ 0 → reference_len t ≡ 0
+pub goes_on-nil : (t : List ℕ) → length t ≡ 0 → false ≡ not (reference_len t == 0)
 unfolding reference_from
-reference_len-none [] e = refl
-reference_len-none (x ∷ xs) e = absurd (omega arith)
+goes_on-nil [] e = refl
+goes_on-nil (x ∷ xs) e = absurd (omega arith)
 
-pub reference_len-open : (t : List ℕ) → 0 < length t → get_or t 0 0 ≡ 91 → position (λ b. b == 93) (drop 1 t) ≡ None →
-    reference_len t ≡ 0
+pub goes_on-bracket : (t : List ℕ) → 0 < length t → get_or t 0 0 ≡ 91 →
+    is_some (position (λ b. b == 93) (drop 1 t)) ≡ not (reference_len t == 0)
 unfolding reference_from
-reference_len-open [] some opens none = absurd (omega arith)
-reference_len-open (x ∷ xs) some opens none =
-    let beyond = ltb-false (position_or_len (λ b. b == 93) xs) (length xs) (cond_none _ _ none) in
-    rw opens (ap one_more (inside_open xs beyond))
+goes_on-bracket [] some opens = absurd (omega arith)
+goes_on-bracket (x ∷ xs) some opens =
+    elim (cases_Bool (ltb (position_or_len (λ b. b == 93) xs) (length xs))) [
+      | inl closed ↦
+          let within = closed-positive xs (ltb-true (position_or_len (λ b. b == 93) xs) (length xs) closed) in
+          rw (opens, closed) (positive (one_more (reference_from true xs)) (more-positive (reference_from true xs) within))
+      | inr never ↦
+          let none = open-zero xs (ltb-false (position_or_len (λ b. b == 93) xs) (length xs) never) in
+          rw (opens, never, none) refl
+    ]
 
-pub reference_len-closed : (t : List ℕ) (k : ℕ) → 0 < length t → get_or t 0 0 ≡ 91 →
-    position (λ b. b == 93) (drop 1 t) ≡ Some k → reference_len t ≡ k + 2 + reference_len (drop (k + 2) t)
+pub goes_on-byte : (t : List ℕ) → 0 < length t → (get_or t 0 0 ≡ 91 → ⊥) →
+    is_reference_byte (get_or t 0 0) ≡ not (reference_len t == 0)
 unfolding reference_from
-reference_len-closed [] k some opens found = absurd (omega arith)
-reference_len-closed (x ∷ xs) k some opens found =
-    let g = cond_some (ltb (position_or_len (λ b. b == 93) xs) (length xs)) (position_or_len (λ b. b == 93) xs) k found in
-    let e = inside_closed xs (ltb-true (position_or_len (λ b. b == 93) xs) (length xs) g.0) in
-    rw opens (inside_rest 91 xs (k + 1) (k + 2) (reference_from true xs) (omega arith) (omega arith) (rw g.1 at e))
-
-pub reference_len-byte : (t : List ℕ) → 0 < length t → (get_or t 0 0 ≡ 91 → ⊥) → is_reference_byte (get_or t 0 0) ≡ true →
-    reference_len t ≡ 1 + reference_len (drop 1 t)
-unfolding reference_from
-reference_len-byte [] some other on = absurd (omega arith)
-reference_len-byte (x ∷ xs) some other on = rw (ne_eqb x 91 other, on) (omega arith)
-
-pub reference_len-stop : (t : List ℕ) → 0 < length t → (get_or t 0 0 ≡ 91 → ⊥) →
-    is_reference_byte (get_or t 0 0) ≡ false → reference_len t ≡ 0
-unfolding reference_from
-reference_len-stop [] some other on = absurd (omega arith)
-reference_len-stop (x ∷ xs) some other on = rw (ne_eqb x 91 other, on) refl
+goes_on-byte [] some other = absurd (omega arith)
+goes_on-byte (x ∷ xs) some other =
+    elim (cases_Bool (is_reference_byte x)) [
+      | inl on ↦ rw (ne_eqb x 91 other, on) (positive (suc (reference_len xs)) (omega arith))
+      | inr stop ↦ rw (ne_eqb x 91 other, stop) refl
+    ]
 
 -- ---- where it ends
 

@@ -81,10 +81,7 @@ impl RenderErrorReason {
         Ok(RenderErrorReason::Other(String::from_str(alloc, text)?))
     }
 
-    fn of_variable(
-        alloc: Global,
-        path: Option<&String>,
-    ) -> Result<RenderErrorReason, AllocError>
+    fn of_variable(alloc: Global, path: Option<&String>) -> Result<RenderErrorReason, AllocError>
         ensures { IfOk result (λ r. reason_of r ≡ missing_variable (option_map (λ s. string_bytes s.now) path.entry)) }
     {
         let path = match path {
@@ -94,10 +91,7 @@ impl RenderErrorReason {
         Ok(RenderErrorReason::MissingVariable(path))
     }
 
-    fn of_cause<E: fmt::Display>(
-        alloc: Global,
-        cause: &E,
-    ) -> Result<RenderErrorReason, AllocError>
+    fn of_cause<E: fmt::Display>(alloc: Global, cause: &E) -> Result<RenderErrorReason, AllocError>
         ensures nested { IfOk result (λ r. (text : Text) × (reason_of r ≡ nested_error text)) }
         ensures text { IfOk result (λ r. IfSome (E.output cause.now) (λ text. reason_of r ≡ nested_error text)) }
     {

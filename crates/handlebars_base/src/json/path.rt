@@ -51,7 +51,8 @@ impl Path {
 
         // Only what is no path is refused, unless memory runs out.
         ensures err { IfErr result (λ e. reason_in e ≢ out_of_memory
-            → (refusal_of e ≡ plain_refusal (invalid_json_path raw.now)) × ((means : Reference) → IsPath raw.now means → ⊥)) }
+            → (refusal_of e ≡ plain_refusal (invalid_json_path raw.now))
+            × ((means : Reference) → IsPath raw.now means → ⊥)) }
     {
         match read_path(alloc, raw)? {
             Some(path) => Ok(path),

@@ -64,11 +64,18 @@ fn cut<'a>(text: &'a str, rest: &'a str) -> Option<PathSlice<'a>>
     Some(PathSlice { raw, rest })
 }
 
-/// Whether a reference goes on here.
+/// Whether a reference goes on here. A bracket counts only where it is closed.
 fn goes_on(text: &str) -> bool
     ensures { result ≡ not (reference_len text.now == 0) }
 {
-    token_len(text.as_bytes()).is_some()
+    let [first, rest @ ..] = text.as_bytes() else {
+        return false;
+    };
+    if *first == b'[' {
+        closing(rest).is_some()
+    } else {
+        is_reference_byte(*first)
+    }
 }
 
 /// Whether a byte may stand in a path outside brackets.
@@ -82,24 +89,4 @@ fn closing(bytes: &[u8]) -> Option<usize>
     ensures { result ≡ position (λ byte. byte == 93) bytes.now }
 {
     bytes.iter().position(|byte| *byte == b']')
-}
-
-/// The length of the byte or of the name in brackets that a reference begins with.
-fn token_len(bytes: &[u8]) -> Option<usize>
-    ensures none { IsNone result → reference_len bytes.now ≡ 0 }
-    ensures some { IfSome result (λ len. 0 < len) }
-    ensures within { IfSome result (λ len. len ≤ length bytes.now) }
-    ensures rest { IfSome result (λ len. reference_len bytes.now ≡ len + reference_len (drop len bytes.now)) }
-{
-    let [first, rest @ ..] = bytes else {
-        return None;
-    };
-    if *first == b'[' {
-        return Some(closing(rest)? + 2);
-    }
-    if is_reference_byte(*first) {
-        Some(1)
-    } else {
-        None
-    }
 }

@@ -92,7 +92,8 @@ pub fn behind_links(up: bool, text: &str) -> &str
 
 /// Adds the segment of a part, if it has one.
 pub fn push(alloc: Global, segs: &mut Vec<PathSeg>, part: Part) -> Result<(), AllocError>
-    ensures { OnOk result (segments_of segs.new.items ≡ segments_of segs.old.items ++ part_segments (part_of part.entry)) }
+    ensures { OnOk result (segments_of segs.new.items
+        ≡ segments_of segs.old.items ++ part_segments (part_of part.entry)) }
 {
     match part {
         Part::Up => segs.push(PathSeg::Ruled(PathRule::Up))?,
