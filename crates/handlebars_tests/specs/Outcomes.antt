@@ -12,7 +12,12 @@ pub record RefusalView : Type 0 where
   pub template : Option (List ℕ)
 
 abbrev pub refusal_view : Refusal → RefusalView
-refusal_view r = record { reason = string_bytes r.reason; line = r.line; column = r.column; template = option_map string_bytes r.template }
+refusal_view r = record {
+  reason = string_bytes r.reason;
+  line = r.line;
+  column = r.column;
+  template = option_map string_bytes r.template;
+}
 
 -- what is written, and the refusal that ends it, if one does
 pub record OutcomeView : Type 0 where
