@@ -126,7 +126,7 @@ fn param_value<'a>(
     ensures { (s : State) → Answers (option_map (λ v. view v.now)) result (answer_map present_in (param_value (setting_in setting.now) s (param_view parameter.now))) }
 {
     match parameter {
-        Parameter::Path(path) => resolve(setting.given, path),
+        Parameter::Path(path) => resolve(setting.alloc, setting.given, path),
         Parameter::Literal(value) => Ok(Some(value)),
         Parameter::Name(_) => Ok(None),
         Parameter::Subexpression(_) => {

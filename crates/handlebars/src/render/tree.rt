@@ -30,7 +30,7 @@ pub fn render_tree<O: Output>(
 {
     match render_whole(setting, template, rc, out) {
         Ok(()) => Ok(()),
-        Err(e) => Err(named(e, &template.name)),
+        Err(e) => Err(named(setting, e, &template.name)),
     }
 }
 
@@ -80,13 +80,13 @@ fn placed(error: RenderError, place: Option<&TemplateMapping>) -> RenderError
 }
 
 // With the name of a template, where it has one and none is known yet.
-fn named(error: RenderError, name: &Option<String>) -> RenderError
+fn named(setting: &Setting, error: RenderError, name: &Option<String>) -> RenderError
     ensures spot { reason_in result ≢ out_of_memory → spot_of result ≡ named_as (option_map string_bytes name.now) (spot_of error) }
     ensures cause { reason_in result ≢ out_of_memory → cause_of result ≡ cause_of error }
     ensures memory { reason_in error ≡ out_of_memory → reason_in result ≡ out_of_memory }
 {
     match name {
-        Some(name) => error.in_template(name),
+        Some(name) => error.in_template(setting.alloc, name),
         None => error,
     }
 }

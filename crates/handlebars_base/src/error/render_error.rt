@@ -166,7 +166,7 @@ impl RenderError {
 
     /// With the name of a template, where none is known yet. Where a copy of it finds no memory,
     /// the reason says so.
-    pub fn in_template(self, name: &String) -> RenderError
+    pub fn in_template(self, alloc: Global, name: &String) -> RenderError
         ensures named { reason_in result ≢ out_of_memory
             → spot_of result ≡ name_if_none (string_bytes name.now) (spot_of self) }
         ensures cause { reason_in result ≢ out_of_memory → cause_of result ≡ cause_of self }
@@ -175,7 +175,7 @@ impl RenderError {
         if self.template_name.is_some() {
             return self;
         }
-        match name.clone() {
+        match String::from_str(alloc, name.as_str()) {
             Ok(name) => RenderError {
                 template_name: Some(name),
                 line_no: self.line_no,

@@ -12,29 +12,37 @@ ghost use Rattle.handlebars_base.specs.Scoped.{present_in};
 use handlebars_base::error::{RenderError, RenderErrorReason};
 use handlebars_base::json::path::{Path, PathSeg};
 use handlebars_base::json::value::Json;
-use std::alloc::AllocError;
+use std::alloc::{AllocError, Global};
 
 /// The value that a path leads to from the data, in the one empty block of scope that a rendering
 /// begins with; none where a name has no value, and for a variable of a block.
-pub fn resolve<'a>(given: &'a Json, path: &Path) -> Result<Option<&'a Json>, RenderError>
+pub fn resolve<'a>(
+    alloc: Global,
+    given: &'a Json,
+    path: &Path,
+) -> Result<Option<&'a Json>, RenderError>
     ensures { Answers (option_map (λ v. view v.now)) result
         (answer_map present_in (resolved (reference_of path.now) (view given.now))) }
 {
     match path {
-        Path::Relative((segments, _)) => along(given, segments),
+        Path::Relative((segments, _)) => along(alloc, given, segments),
         Path::Local(_) => Ok(None),
     }
 }
 
 // Along the names of a path; the other segments add nothing.
-fn along<'a>(given: &'a Json, segments: &Vec<PathSeg>) -> Result<Option<&'a Json>, RenderError>
+fn along<'a>(
+    alloc: Global,
+    given: &'a Json,
+    segments: &Vec<PathSeg>,
+) -> Result<Option<&'a Json>, RenderError>
     ensures { Answers (option_map (λ v. view v.now)) result
         (value_at (view given.now) (names_of (segments_of segments.now.items))) }
 {
     let mut here = given;
     for segment in segments {
         match segment {
-            PathSeg::Named(name) => match member(here, name)? {
+            PathSeg::Named(name) => match member(alloc, here, name)? {
                 Some(next) => here = next,
                 None => return Ok(None),
             },
@@ -45,13 +53,17 @@ fn along<'a>(given: &'a Json, segments: &Vec<PathSeg>) -> Result<Option<&'a Json
 }
 
 // One name further.
-fn member<'a>(value: &'a Json, name: &String) -> Result<Option<&'a Json>, RenderError>
+fn member<'a>(
+    alloc: Global,
+    value: &'a Json,
+    name: &String,
+) -> Result<Option<&'a Json>, RenderError>
     ensures { Answers (option_map (λ v. view v.now)) result (member_at (view value.now) (string_bytes name.now)) }
 {
     match value {
         Json::Array(_) => match index_of(name.as_str()) {
             Some(index) => Ok(value.get(index)),
-            None => Err(wrong_index(name).into()),
+            None => Err(wrong_index(alloc, name.as_str()).into()),
         },
         Json::Object(_) => Ok(value.get(name.as_str())),
         _ => Ok(None),
@@ -65,8 +77,8 @@ fn index_of(text: &str) -> Option<usize>
 }
 
 // Why a name that is no index is refused.
-fn wrong_index(name: &String) -> Result<RenderErrorReason, AllocError>
-    ensures { IfOk result (λ r. reason_of r ≡ invalid_json_index (string_bytes name.now)) }
+fn wrong_index(alloc: Global, name: &str) -> Result<RenderErrorReason, AllocError>
+    ensures { IfOk result (λ r. reason_of r ≡ invalid_json_index name.now) }
 {
-    Ok(RenderErrorReason::InvalidJsonIndex(name.clone()?))
+    Ok(RenderErrorReason::InvalidJsonIndex(String::from_str(alloc, name)?))
 }

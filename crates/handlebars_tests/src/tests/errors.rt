@@ -146,7 +146,7 @@ fn errors_print_their_place(rt: HostRuntime) -> Result<(), Fail> {
     let error = error.at(3, 7);
     let wanted = r#"Error rendering "Unnamed template" line 3, col 7: bad"#;
     prints(&rt, alloc, &error, wanted)?;
-    let error = error.in_template(&name);
+    let error = error.in_template(alloc, &name);
     let wanted = r#"Error rendering "t" line 3, col 7: bad"#;
     prints(&rt, alloc, &error, wanted)
 }
@@ -271,8 +271,8 @@ fn errors_are_made(rt: HostRuntime) -> Result<(), Fail> {
     let error = RenderError::new(alloc, "bad")
         .at(1, 2)
         .at(3, 4)
-        .in_template(&String::from_str(alloc, "inner")?)
-        .in_template(&String::from_str(alloc, "outer")?);
+        .in_template(alloc, &String::from_str(alloc, "inner")?)
+        .in_template(alloc, &String::from_str(alloc, "outer")?);
     refuses(&rt, alloc, &error, r#"Other("bad")"#, (Some(1), Some(2)))?;
     shows(&rt, alloc, &error.template_name, r#"Some("inner")"#)
 }

@@ -51,9 +51,9 @@ fn paths_lead_into_data(rt: HostRuntime) -> Result<(), Fail> {
     let alloc = rt.alloc();
     let context = data_of(alloc, r#"{"x":{"y":1}}"#)?;
     let data = context.data();
-    assert!(rt; resolve(data, &Path::parse(alloc, ".")?)? == Some(data));
-    assert!(rt; resolve(data, &Path::parse(alloc, "x.y")?)? == data.pointer("/x/y"));
-    assert!(rt; resolve(data, &Path::parse(alloc, "@x")?)?.is_none());
+    assert!(rt; resolve(alloc, data, &Path::parse(alloc, ".")?)? == Some(data));
+    assert!(rt; resolve(alloc, data, &Path::parse(alloc, "x.y")?)? == data.pointer("/x/y"));
+    assert!(rt; resolve(alloc, data, &Path::parse(alloc, "@x")?)?.is_none());
     Ok(())
 }
 
