@@ -34,16 +34,18 @@ pub trait TemplateReader {
         ensures { lists self.old folder.now result self.new };
 }
 
-/// Has no file: for renderings that read none.
+/// Has no file: for renderings that read none. Asked all the same, it answers `NotFound`.
 #[derive(Drop)]
 pub struct NoFiles;
 
 impl TemplateReader for NoFiles {
-    ghost use Rattle.std.specs.Prelude.{◌≡◌, IsErr};
+    ghost use Rattle.std.specs.Prelude.{◌≡◌, IsErrAnd};
+    ghost use Rattle.std.specs.IoError.{error_kind};
+    ghost use Rattle.std.specs.declared.io.ErrorKind.TheVariants.{NotFound};
 
-    ghost reads = { λ before path answer after. IsErr answer × (after ≡ before) };
+    ghost reads = { λ before path answer after. IsErrAnd answer (λ e. error_kind e ≡ NotFound) × (after ≡ before) };
 
-    ghost lists = { λ before path answer after. IsErr answer × (after ≡ before) };
+    ghost lists = { λ before path answer after. IsErrAnd answer (λ e. error_kind e ≡ NotFound) × (after ≡ before) };
 
     fn read(&mut self, _path: &str) -> Result<String, io::Error> {
         Err(io::Error::from(ErrorKind::NotFound))
