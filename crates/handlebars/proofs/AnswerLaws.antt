@@ -15,7 +15,7 @@ use Rattle.handlebars.specs.Means.{render_tree}
 use Rattle.handlebars.specs.Runs.{Outcome, Ended, Refused, Means}
 use Rattle.handlebars.specs.View.{GivesString, RefusesString}
 use Rattle.handlebars.specs.Answer.{not_compiled, rendered, GivesText, RefusesWith, HasOneAnswer, AnswerHasOrigins}
-use Rattle.handlebars.proofs.RunLaws.{same}
+use Rattle.handlebars.proofs.RunLaws.{Runs-one}
 use Rattle.handlebars.proofs.RunOrigins.{all_have_origins}
 
 refusal_or : TemplateRefusal → Compilation → TemplateRefusal
@@ -26,40 +26,40 @@ tree_or : Tree → Compilation → Tree
 tree_or d (compiled t) = t
 tree_or d (refused f) = d
 
-same_refusal : {f g : TemplateRefusal} → refused f ≡ refused g → f ≡ g
+refused-injective : {f g : TemplateRefusal} → refused f ≡ refused g → f ≡ g
 unfolding refusal_or
-same_refusal {f = f} e = ap (refusal_or f) e
+refused-injective {f = f} e = ap (refusal_or f) e
 
-same_tree : {t u : Tree} → compiled t ≡ compiled u → t ≡ u
+compiled-injective : {t u : Tree} → compiled t ≡ compiled u → t ≡ u
 unfolding tree_or
-same_tree {t = t} e = ap (tree_or t) e
+compiled-injective {t = t} e = ap (tree_or t) e
 
 differs : {t : Tree} {f : TemplateRefusal} → compiled t ≡ refused f → ⊥
 differs e = cc
 
 module _ (p : Setting) (options : Options) (source : Text) where
-  of_tree : {t u : Tree} {ps : List Piece} {o : Outcome} → t ≡ u → Means p u first_state ps o → Means p t first_state ps o
-  of_tree {ps = ps} {o = o} e r = subst (λ (t : Tree). Means p t first_state ps o) (sym e) r
+  Means-tree : {t u : Tree} {ps : List Piece} {o : Outcome} → t ≡ u → Means p u first_state ps o → Means p t first_state ps o
+  Means-tree {ps = ps} {o = o} e r = subst (λ (t : Tree). Means p t first_state ps o) (sym e) r
 
   one : (a b : Compilation) → Compiles source options a → Compiles source options b → a ≡ b
   one a b c d = one_compilation source options a b c d
 
   pub has_one_answer : HasOneAnswer p options source
   has_one_answer _ _ _ _ (not_compiled {r = f} a) (not_compiled {r = g} b) h i =
-      (refl, ap (λ (z : TemplateRefusal). Refused (plain_refusal (of_template z))) (same_refusal (one (refused f) (refused g) a b)))
+      (refl, ap (λ (z : TemplateRefusal). Refused (plain_refusal (of_template z))) (refused-injective (one (refused f) (refused g) a b)))
   has_one_answer _ _ _ _ (not_compiled {r = f} a) (rendered {t = t} b r) h i = absurd (differs (one (compiled t) (refused f) b a))
   has_one_answer _ _ _ _ (rendered {t = t} b r) (not_compiled {r = f} a) h i = absurd (differs (one (compiled t) (refused f) b a))
   has_one_answer _ _ _ _ (rendered {t = t} a r) (rendered {t = u} b q) h i =
-      same r (of_tree (same_tree (one (compiled t) (compiled u) a b)) q) h i
+      Runs-one r (Means-tree (compiled-injective (one (compiled t) (compiled u) a b)) q) h i
 
   pub answer_has_origins : AnswerHasOrigins p options source
   answer_has_origins t _ _ c (not_compiled {r = f} a) = absurd (differs (one (compiled t) (refused f) c a))
   answer_has_origins t ps o c (rendered {t = u} a r) =
-      all_have_origins p t first_state ps o (of_tree (same_tree (one (compiled t) (compiled u) c a)) r)
+      all_have_origins p t first_state ps o (Means-tree (compiled-injective (one (compiled t) (compiled u) c a)) r)
 
-  pub refuses_source : (f : TemplateRefusal) (e : RenderError) → (f.reason ≢ template_out_of_memory → Compiles source options (refused f))
+  pub not_compiled-refuses : (f : TemplateRefusal) (e : RenderError) → (f.reason ≢ template_out_of_memory → Compiles source options (refused f))
       → refusal_of e ≡ plain_refusal (of_template f) → reason_in e ≢ out_of_memory → RefusesWith p options source (refusal_of e)
-  refuses_source f e refuses is other =
+  not_compiled-refuses f e refuses is other =
       let not_memory : f.reason ≢ template_out_of_memory =
       λ memory. other (ap (λ (z : Refusal). z.reason) is ∙ ap (λ (r : TemplateReason). reason_for f r) memory) in
       subst (λ (z : Refusal). RefusesWith p options source z) (sym is)
@@ -71,7 +71,7 @@ module _ (p : Setting) (options : Options) (source : Text) where
       → IsErrAnd r (λ e. refusal_of e ≡ plain_refusal (of_template f))
       → IfErr r (λ e. reason_in e ≢ out_of_memory → RefusesWith p options source (refusal_of e))
   compile_refused f (Ok text) refuses is = absurd is
-  compile_refused f (Err e) refuses is = λ other. refuses_source f e refuses is other
+  compile_refused f (Err e) refuses is = λ other. not_compiled-refuses f e refuses is other
 
   module _ (t : Tree) (first : State) (compiles : Compiles source options (compiled t)) (is_first : first ≡ first_state) where
     pub gives_text : {next : State} {text : Text} → GivesString p (render_tree t) first next text → GivesText p options source text

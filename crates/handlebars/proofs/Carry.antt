@@ -4,7 +4,7 @@ use Rattle.std.specs.declared.io.Error.{Error}
 use Rattle.std.specs.Result.{IsErrAnd}
 use Rattle.handlebars_base.specs.Answers.{IsRefusal}
 use Rattle.handlebars_base.specs.Bytes.{Text}
-use Rattle.handlebars_base.specs.Reasons.{Reason, Spot, nowhere, Refusal, out_of_memory}
+use Rattle.handlebars_base.specs.Reasons.{Reason, Spot, Refusal, out_of_memory}
 use Rattle.handlebars_base.specs.RenderRefusals.{reason_in, reason_of, spot_of, cause_of, refusal_of, plain_refusal}
 use Rattle.handlebars_base.specs.declared.error.render_error.RenderError.{RenderError}
 use Rattle.handlebars_scope.specs.Outputs.{Held}
@@ -12,9 +12,9 @@ use Rattle.handlebars_scope.specs.Put.{Origin, Piece, join, pieces_of}
 use Rattle.handlebars.specs.State.{Setting, State}
 use Rattle.handlebars.specs.Steps.{Task, Steps, Done, Refuse, Get, Set, Do, run, ◌>>=◌, ◌>>◌}
 use Rattle.handlebars.specs.Means.{write_text, todo}
-use Rattle.handlebars.specs.Runs.{Outcome, Ended, Refused, Faulted, NoMemory, mark, cut_off, Runs, done, refused, wrote, got, set, did, did_over, stop, cut}
+use Rattle.handlebars.specs.Runs.{Fault, plain_fault, Outcome, Ended, Refused, Faulted, NoMemory, mark, cut_off, Runs, done, refused, wrote, got, set, did, did_over, stop, cut}
 use Rattle.handlebars.specs.View.{Moment, TellsFault, Tells, ended, refusal, fault, no_memory, CarriesOut, Puts, all_put, front_put, behind}
-use Rattle.handlebars.proofs.RunLaws.{join-append, stops_short}
+use Rattle.handlebars.proofs.RunLaws.{join-append, Runs-short}
 
 -- want of memory, or another reason
 pub memory_or : (r : Reason) → (r ≡ out_of_memory) ⊎ (r ≢ out_of_memory)
@@ -24,12 +24,12 @@ memory_or _ = inr (λ e. cc)
 abbrev pub at : State → Held → Moment
 at s h = record { state = s; held = h }
 
-go_on : {may : Error → Type 0} {before between after : ℕ} {o : Outcome} {r : Result (Unit {0}) RenderError} {next : State}
+Tells-before : {may : Error → Type 0} {before between after : ℕ} {o : Outcome} {r : Result (Unit {0}) RenderError} {next : State}
     → between ≡ before → Tells may between after o r next → Tells may before after o r next
-go_on {may = may} {after = after} {o = o} {r = r} {next = next} e t = subst (λ (n : ℕ). Tells may n after o r next) e t
+Tells-before {may = may} {after = after} {o = o} {r = r} {next = next} e t = subst (λ (n : ℕ). Tells may n after o r next) e t
 
-both_texts : (T U V : Text) (xs ys : List Piece) → U ≡ T ++ join xs → V ≡ U ++ join ys → V ≡ T ++ join (xs ++ ys)
-both_texts T U V xs ys a b =
+text-append : (T U V : Text) (xs ys : List Piece) → U ≡ T ++ join xs → V ≡ U ++ join ys → V ≡ T ++ join (xs ++ ys)
+text-append T U V xs ys a b =
     b ∙ ap (λ (z : Text). z ++ join ys) a ∙ append_assoc T (join xs) (join ys) ∙ ap (λ (z : Text). T ++ z) (sym (join-append xs ys))
 
 -- the steps came to their end
@@ -58,11 +58,12 @@ marked-refusal t e d m other =
     ap (λ (r : Reason). record { reason = r; spot = spot_of d }) (marked-reason t e d m other)
     ∙ ap (λ (z : Spot). record { reason = reason_in e; spot = z }) (m.spot other)
 
-marked-fault : (t : Task) (e d : RenderError) (cause : Error) (spot : Spot) → IsMarked t e d → TellsFault cause spot e → TellsFault cause (mark t spot) d
-marked-fault t e d cause spot m f = record {
-  reason = λ other. marked-reason t e d m other ∙ f.reason (λ memory. other (m.memory memory));
-  kept = λ other. m.cause other ∙ f.kept (λ memory. other (m.memory memory));
-  where_it_is = λ other. m.spot other ∙ ap (mark t) (f.where_it_is (λ memory. other (m.memory memory)));
+marked-fault : (t : Task) (e d : RenderError) (cause : Error) (f : Fault) → IsMarked t e d → TellsFault cause f e
+    → TellsFault cause (record f { spot = mark t f.spot }) d
+marked-fault t e d cause f m tells = record {
+  reason = λ other. marked-reason t e d m other ∙ tells.reason (λ memory. other (m.memory memory));
+  kept = λ other. m.cause other ∙ tells.kept (λ memory. other (m.memory memory));
+  where_it_is = λ other. m.spot other ∙ ap (mark t) (tells.where_it_is (λ memory. other (m.memory memory)));
 }
 
 join-pieces_of : (o : Origin) (t : Text) → join (pieces_of o t ++ []) ≡ t
@@ -70,13 +71,13 @@ join-pieces_of o [] = refl
 join-pieces_of o (b ∷ t) = append-nil (b ∷ t)
 
 module _ (p : Setting) (may : Error → Type 0) where
-  pub c_done : {s : State} {h : Held} {u : Unit {0}} → CarriesOut p Done may (at s h) (Ok u) (at s h)
-  c_done {s = s} {h = h} =
+  pub carries-done : {s : State} {h : Held} {u : Unit {0}} → CarriesOut p Done may (at s h) (Ok u) (at s h)
+  carries-done {s = s} {h = h} =
       record { pieces = []; outcome = Ended s; runs = done; text = sym (append-nil h.text); tells = ended refl }
 
-  pub c_no_memory : {k : Steps} {s next : State} {h : Held} (e : RenderError) → reason_in e ≡ out_of_memory
+  pub carries-no_memory : {k : Steps} {s next : State} {h : Held} (e : RenderError) → reason_in e ≡ out_of_memory
       → CarriesOut p k may (at s h) (Err e) (at next h)
-  c_no_memory {h = h} e memory =
+  carries-no_memory {h = h} e memory =
       record { pieces = []; outcome = NoMemory; runs = stop; text = sym (append-nil h.text); tells = no_memory refl memory }
 
   refused_so : {r : Refusal} {s next : State} {h : Held} (e : RenderError) → refusal_of e ≡ r
@@ -89,85 +90,85 @@ module _ (p : Setting) (may : Error → Type 0) where
     tells = refusal refl;
   }
 
-  pub c_refuse : {r : Refusal} {s next : State} {h : Held} (e : RenderError) → IsRefusal r e
+  pub carries-refuse : {r : Refusal} {s next : State} {h : Held} (e : RenderError) → IsRefusal r e
       → CarriesOut p (Refuse r) may (at s h) (Err e) (at next h)
-  c_refuse e is = elim (memory_or (reason_in e)) [
-    | inl memory ↦ c_no_memory e memory
+  carries-refuse e is = elim (memory_or (reason_in e)) [
+    | inl memory ↦ carries-no_memory e memory
     | inr other ↦ refused_so e (is other)
   ]
 
   -- the same of a call that only refuses
-  pub c_refuses : {r : Refusal} {s next : State} {h : Held} (x : Result (Unit {0}) RenderError) → IsErrAnd x (IsRefusal r)
+  pub carries-refuses : {r : Refusal} {s next : State} {h : Held} (x : Result (Unit {0}) RenderError) → IsErrAnd x (IsRefusal r)
       → CarriesOut p (Refuse r) may (at s h) x (at next h)
-  c_refuses (Ok u) is = absurd is
-  c_refuses (Err e) is = c_refuse e is
+  carries-refuses (Ok u) is = absurd is
+  carries-refuses (Err e) is = carries-refuse e is
 
-  pub c_get : {f : State → Steps} {s next : State} {h new : Held} {r : Result (Unit {0}) RenderError}
+  pub carries-get : {f : State → Steps} {s next : State} {h new : Held} {r : Result (Unit {0}) RenderError}
       → CarriesOut p (f s) may (at s h) r (at next new) → CarriesOut p (Get f) may (at s h) r (at next new)
-  c_get c = record { pieces = c.pieces; outcome = c.outcome; runs = got c.runs; text = c.text; tells = c.tells }
+  carries-get c = record { pieces = c.pieces; outcome = c.outcome; runs = got c.runs; text = c.text; tells = c.tells }
 
-  pub c_set : {k : Steps} {s mid next : State} {h new : Held} {r : Result (Unit {0}) RenderError}
+  pub carries-set : {k : Steps} {s mid next : State} {h new : Held} {r : Result (Unit {0}) RenderError}
       → CarriesOut p k may (at mid h) r (at next new) → CarriesOut p (Set mid k) may (at s h) r (at next new)
-  c_set c = record { pieces = c.pieces; outcome = c.outcome; runs = set c.runs; text = c.text; tells = c.tells }
+  carries-set c = record { pieces = c.pieces; outcome = c.outcome; runs = set c.runs; text = c.text; tells = c.tells }
 
   -- an error that says so, as `?` hands it on
-  pub c_out_of_memory : {k : Steps} {s next : State} {h : Held} (r : Result (Unit {0}) RenderError)
+  pub carries-out_of_memory : {k : Steps} {s next : State} {h : Held} (r : Result (Unit {0}) RenderError)
       → IsErrAnd r (λ e. refusal_of e ≡ plain_refusal out_of_memory) → CarriesOut p k may (at s h) r (at next h)
-  c_out_of_memory (Ok u) is = absurd is
-  c_out_of_memory (Err e) is = c_no_memory e (ap (λ (f : Refusal). f.reason) is)
+  carries-out_of_memory (Ok u) is = absurd is
+  carries-out_of_memory (Err e) is = carries-no_memory e (ap (λ (f : Refusal). f.reason) is)
 
   -- ---- writing
 
-  pub c_puts : (o : Origin) (t : Text) {s next : State} {h new : Held} {r : Result (Unit {0}) RenderError}
+  pub carries-puts : (o : Origin) (t : Text) {s next : State} {h new : Held} {r : Result (Unit {0}) RenderError}
       → Puts t may (at s h) r (at next new) → CarriesOut p (run (write_text o t)) may (at s h) r (at next new)
   unfolding ◌>>=◌ ◌>>◌
-  c_puts o t {s = s} {next = next} {h = h} (all_put is whole) = record {
+  carries-puts o t {s = s} {next = next} {h = h} (all_put is whole) = record {
     pieces = pieces_of o t ++ [];
     outcome = Ended next;
     runs = got (wrote (set (subst (λ (z : State). Runs p Done (behind t s) [] (Ended z)) (sym is) done)));
     text = whole.text ∙ ap (λ (z : Text). h.text ++ z) (sym (join-pieces_of o t));
     tells = ended whole.faults;
   }
-  c_puts o [] (front_put cause given cut_short tells) = absurd (omega (arith, cut_short.some))
-  c_puts o (b ∷ t) {h = h} (front_put cause given cut_short tells) = record {
+  carries-puts o [] (front_put cause given cut_short tells) = absurd (omega (arith, cut_short.some))
+  carries-puts o (b ∷ t) {h = h} (front_put cause given cut_short tells) = record {
     pieces = record { origin = o; text = cut_short.front } ∷ [];
-    outcome = Faulted nowhere;
+    outcome = Faulted plain_fault;
     runs = got (cut refl (cut_off cut_short.is_front));
     text = cut_short.text ∙ ap (λ (z : Text). h.text ++ z) (sym (append-nil cut_short.front));
-    tells = fault cause nowhere given cut_short.faults tells;
+    tells = fault cause plain_fault given cut_short.faults tells;
   }
 
   -- ---- a part, and what comes next
 
-  ends_as : (o : Outcome) {k : Steps} {s next : State} {old new : Held} {u : Unit {0}} (ps : List Piece) → Runs p k s ps o
+  Tells-ended : (o : Outcome) {k : Steps} {s next : State} {old new : Held} {u : Unit {0}} (ps : List Piece) → Runs p k s ps o
       → new.text ≡ old.text ++ join ps → Tells may old.faults new.faults o (Ok u) next → Ends p k (at s old) (at next new)
-  ends_as _ ps r t (ended same) = record { pieces = ps; runs = r; text = t; faults = same }
+  Tells-ended _ ps r t (ended same) = record { pieces = ps; runs = r; text = t; faults = same }
 
   pub ends : {k : Steps} {s next : State} {old new : Held} {u : Unit {0}}
       → CarriesOut p k may (at s old) (Ok u) (at next new) → Ends p k (at s old) (at next new)
-  ends c = ends_as c.outcome c.pieces c.runs c.text c.tells
+  ends c = Tells-ended c.outcome c.pieces c.runs c.text c.tells
 
-  pub c_then : {t : Task} {k : Steps} {s mid next : State} {h between new : Held} {u : Unit {0}} {r : Result (Unit {0}) RenderError}
+  pub carries-then : {t : Task} {k : Steps} {s mid next : State} {h between new : Held} {u : Unit {0}} {r : Result (Unit {0}) RenderError}
       → CarriesOut p (todo p t) may (at s h) (Ok u) (at mid between) → CarriesOut p k may (at mid between) r (at next new)
       → CarriesOut p (Do t k) may (at s h) r (at next new)
-  c_then {h = h} {between = between} {new = new} a b =
+  carries-then {h = h} {between = between} {new = new} a b =
       let e = ends a in
       record {
         pieces = e.pieces ++ b.pieces;
         outcome = b.outcome;
         runs = did e.runs b.runs;
-        text = both_texts h.text between.text new.text e.pieces b.pieces e.text b.text;
-        tells = go_on e.faults b.tells;
+        text = text-append h.text between.text new.text e.pieces b.pieces e.text b.text;
+        tells = Tells-before e.faults b.tells;
       }
 
-  over_as : (o : Outcome) {t : Task} {k : Steps} {s next : State} {old new : Held} (e d : RenderError) → IsMarked t e d
+  Tells-over : (o : Outcome) {t : Task} {k : Steps} {s next : State} {old new : Held} (e d : RenderError) → IsMarked t e d
       → (ps : List Piece) → Runs p (todo p t) s ps o → new.text ≡ old.text ++ join ps
       → Tells may old.faults new.faults o (Err e) next → CarriesOut p (Do t k) may (at s old) (Err d) (at next new)
-  over_as _ {t = t} {k = k} {s = s} e d m ps r x (refusal same) = elim (memory_or (reason_in d)) [
+  Tells-over _ {t = t} {k = k} {s = s} e d m ps r x (refusal same) = elim (memory_or (reason_in d)) [
     | inl memory ↦ record {
       pieces = ps;
       outcome = NoMemory;
-      runs = did_over (stops_short r refl) tt;
+      runs = did_over (Runs-short r refl) tt;
       text = x;
       tells = no_memory same memory;
     }
@@ -179,27 +180,27 @@ module _ (p : Setting) (may : Error → Type 0) where
       tells = refusal same;
     }
   ]
-  over_as _ {t = t} e d m ps r x (fault cause spot given counted tells) = record {
+  Tells-over _ {t = t} e d m ps r x (fault cause f given counted tells) = record {
     pieces = ps;
-    outcome = Faulted (mark t spot);
+    outcome = Faulted (record f { spot = mark t f.spot });
     runs = did_over r tt;
     text = x;
-    tells = fault cause (mark t spot) given counted (marked-fault t e d cause spot m tells);
+    tells = fault cause (record f { spot = mark t f.spot }) given counted (marked-fault t e d cause f m tells);
   }
-  over_as _ e d m ps r x (no_memory same memory) =
+  Tells-over _ e d m ps r x (no_memory same memory) =
       record { pieces = ps; outcome = NoMemory; runs = did_over r tt; text = x; tells = no_memory same (m.memory memory) }
 
-  pub c_over : {t : Task} {k : Steps} {s next : State} {h new : Held} (e d : RenderError) → IsMarked t e d
+  pub carries-over : {t : Task} {k : Steps} {s next : State} {h new : Held} (e d : RenderError) → IsMarked t e d
       → CarriesOut p (todo p t) may (at s h) (Err e) (at next new) → CarriesOut p (Do t k) may (at s h) (Err d) (at next new)
-  c_over e d m c = over_as c.outcome e d m c.pieces c.runs c.text c.tells
+  carries-over e d m c = Tells-over c.outcome e d m c.pieces c.runs c.text c.tells
 
   -- the last part
-  pub c_last : {t : Task} {s next : State} {h new : Held} {u : Unit {0}}
+  pub carries-last : {t : Task} {s next : State} {h new : Held} {u : Unit {0}}
       → CarriesOut p (todo p t) may (at s h) (Ok u) (at next new) → CarriesOut p (Do t Done) may (at s h) (Ok u) (at next new)
-  c_last c = c_then c c_done
+  carries-last c = carries-then c carries-done
 
   -- a part alone that leaves its errors as they are
-  pub c_only : {t : Task} {s next : State} {h new : Held} (r : Result (Unit {0}) RenderError) → ((spot : Spot) → mark t spot ≡ spot)
+  pub carries-only : {t : Task} {s next : State} {h new : Held} (r : Result (Unit {0}) RenderError) → ((spot : Spot) → mark t spot ≡ spot)
       → CarriesOut p (todo p t) may (at s h) r (at next new) → CarriesOut p (Do t Done) may (at s h) r (at next new)
-  c_only (Ok u) is c = c_last c
-  c_only {t = t} (Err e) is c = c_over e e (unmarked t e (is (spot_of e))) c
+  carries-only (Ok u) is c = carries-last c
+  carries-only {t = t} (Err e) is c = carries-over e e (unmarked t e (is (spot_of e))) c

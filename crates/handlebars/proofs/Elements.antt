@@ -19,7 +19,7 @@ use Rattle.handlebars.specs.State.{Setting, State}
 use Rattle.handlebars.specs.Steps.{One, Steps, Do, run, answer, ◌>>=◌, ◌>>◌}
 use Rattle.handlebars.specs.Means.{shown, write_value, render_expression, value_of, render_elements, render_whole, todo}
 use Rattle.handlebars.specs.View.{Moment, CarriesOut, Puts}
-use Rattle.handlebars.proofs.Carry.{memory_or, at, c_done, c_no_memory, c_refuse, c_get, c_set, c_puts, c_then, c_over, IsMarked}
+use Rattle.handlebars.proofs.Carry.{memory_or, at, carries-done, carries-no_memory, carries-refuse, carries-get, carries-set, carries-puts, carries-then, carries-over, IsMarked}
 
 -- the steps of the elements from an index on
 abbrev pub from_index : TreeSite → List Element → List Place → ℕ → Steps
@@ -41,9 +41,9 @@ gives_or : Option Data → Answer (Option Data) → Option Data
 gives_or d (gives o) = o
 gives_or d (refuses r) = d
 
-same_value : {a b : Option Data} → gives a ≡ gives b → a ≡ b
+gives-injective : {a b : Option Data} → gives a ≡ gives b → a ≡ b
 unfolding gives_or
-same_value {a = a} e = ap (gives_or a) e
+gives-injective {a = a} e = ap (gives_or a) e
 
 refuses_or : Refusal → Answer (Option Data) → Refusal
 refuses_or d (gives o) = d
@@ -53,15 +53,15 @@ refuses_or d (refuses r) = r
 abbrev no_value : Refusal → Answer (Option Data)
 no_value r = refuses r
 
-same_refused : {r q : Refusal} → no_value r ≡ no_value q → r ≡ q
+refuses-injective : {r q : Refusal} → no_value r ≡ no_value q → r ≡ q
 unfolding refuses_or
-same_refused {r = r} e = ap (refuses_or r) e
+refuses-injective {r = r} e = ap (refuses_or r) e
 
 differs : {o : Option Data} {r : Refusal} → gives o ≡ refuses r → ⊥
 differs e = cc
 
 found_value : (a : Answer Found) (o : Option Data) → answer_map present_in a ≡ gives o → IsSeen a o
-found_value (gives v) o is = record { found = v; is = refl; seen = same_value is }
+found_value (gives v) o is = record { found = v; is = refl; seen = gives-injective is }
 found_value (refuses r) o is = absurd (differs (sym is))
 
 module _ (p : Setting) (may : Error → Type 0) where
@@ -72,24 +72,24 @@ module _ (p : Setting) (may : Error → Type 0) where
   express_ok site c o {s = s} {next = next} {h = h} {new = new} {r = r} is puts =
       let v = found_value (value_of p s c) o is in
       let here = subst (λ (z : Option Data). Puts (shown z) may (at s h) r (at next new)) (sym v.seen) puts in
-      c_get p may (subst (λ (z : Answer Found). CarriesOut p (run (answer z >>= write_value site)) may (at s h) r (at next new))
-      (sym v.is) (c_puts p may (of_value site v.found) (shown (present_in v.found)) here))
+      carries-get p may (subst (λ (z : Answer Found). CarriesOut p (run (answer z >>= write_value site)) may (at s h) r (at next new))
+      (sym v.is) (carries-puts p may (of_value site v.found) (shown (present_in v.found)) here))
 
   refused_so : (site : Site) (a : Answer Found) {s next : State} {h : Held} (e : RenderError)
       → (reason_in e ≢ out_of_memory → answer_map present_in a ≡ refuses (refusal_of e))
       → CarriesOut p (run (answer a >>= write_value site)) may (at s h) (Err e) (at next h)
   unfolding ◌>>=◌
   refused_so site (gives v) e is = elim (memory_or (reason_in e)) [
-    | inl memory ↦ c_no_memory p may e memory
+    | inl memory ↦ carries-no_memory p may e memory
     | inr other ↦ absurd (differs (is other))
   ]
-  refused_so site (refuses q) e is = c_refuse p may e (λ other. sym (same_refused (is other)))
+  refused_so site (refuses q) e is = carries-refuse p may e (λ other. sym (refuses-injective (is other)))
 
   pub express_err : (site : Site) (c : Call) {s next : State} {h : Held} (e : RenderError)
       → (reason_in e ≢ out_of_memory → answer_map present_in (value_of p s c) ≡ refuses (refusal_of e))
       → CarriesOut p (run (render_expression p site c)) may (at s h) (Err e) (at next h)
   unfolding ◌>>=◌
-  express_err site c {s = s} e is = c_get p may (refused_so site (value_of p s c) e is)
+  express_err site c {s = s} e is = carries-get p may (refused_so site (value_of p s c) e is)
 
   -- ---- the loop over elements
 
@@ -107,7 +107,7 @@ module _ (p : Setting) (may : Error → Type 0) where
   left_goes site es places i d x first now next lt is left a = λ r last c. left r last
       (subst (λ (k : Steps). CarriesOut p k may now r last) (sym (at_index site es places i d lt))
       (subst (λ (z : Element). CarriesOut p (Do (One (element_in site i) (slice_get places i) z) (from_index site es places (i + 1))) may now r last)
-      (sym is) (c_then p may a c)))
+      (sym is) (carries-then p may a c)))
 
   pub left_over : (site : TreeSite) (es : List Element) (places : List Place) (i : ℕ) (d x : Element) (first now next : Moment) (e f : RenderError)
       → i < length es → get_or es i d ≡ x → Left site es places i first now → IsMarked (One (element_in site i) (slice_get places i) x) e f
@@ -116,13 +116,13 @@ module _ (p : Setting) (may : Error → Type 0) where
   left_over site es places i d x first now next e f lt is left m a = left (Err f) next
       (subst (λ (k : Steps). CarriesOut p k may now (Err f) next) (sym (at_index site es places i d lt))
       (subst (λ (z : Element). CarriesOut p (Do (One (element_in site i) (slice_get places i) z) (from_index site es places (i + 1))) may now (Err f) next)
-      (sym is) (c_over p may e f m a)))
+      (sym is) (carries-over p may e f m a)))
 
   pub left_ends : (site : TreeSite) (es : List Element) (places : List Place) (i : ℕ) (first now : Moment) {u : Unit {0}} → length es ≤ i
       → Left site es places i first now → CarriesOut p (from_index site es places 0) may first (Ok u) now
   left_ends site es places i first now {u = u} over left = left (Ok u) now
       (subst (λ (z : List Element). CarriesOut p (run (render_elements site i (elements_of z) places)) may now (Ok u) now)
-      (sym (drop_all i es over)) (c_done p may))
+      (sym (drop_all i es over)) (carries-done p may))
 
   -- a tree: its name, then its elements
   pub whole_with : (site : TreeSite) (n : Option Text) (es : List Element) (places : List Place) {s mid next : State} {h new : Held} {r : Result (Unit {0}) RenderError}
@@ -130,4 +130,4 @@ module _ (p : Setting) (may : Error → Type 0) where
       → CarriesOut p (run (render_whole site (tree n (elements_of es) places))) may (at s h) r (at next new)
   unfolding ◌>>=◌ ◌>>◌
   whole_with site n es places {s = s} {next = next} {h = h} {new = new} {r = r} is c =
-      c_get p may (c_set p may (subst (λ (z : State). CarriesOut p (from_index site es places 0) may (at z h) r (at next new)) is c))
+      carries-get p may (carries-set p may (subst (λ (z : State). CarriesOut p (from_index site es places 0) may (at z h) r (at next new)) is c))

@@ -23,7 +23,7 @@ refused_so : {may : Error → Type 0} {before after : ℕ} {o : Outcome} {e : Re
     → ((cause : Error) → may cause → error_kind cause ≡ OutOfMemory) → reason_in e ≢ out_of_memory
     → Tells may before after o (Err e) next → o ≡ Refused (refusal_of e)
 refused_so only other (refusal same) = refl
-refused_so only other (fault cause spot given count tells) = absurd (other (tells.reason other ∙ ap write_reason (only cause given)))
+refused_so only other (fault cause f given count tells) = absurd (other (tells.reason other ∙ ap write_reason (only cause given)))
 refused_so only other (no_memory same is) = absurd (other is)
 
 module _ (p : Setting) (k : Steps) (may : Error → Type 0) where

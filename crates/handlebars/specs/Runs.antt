@@ -11,30 +11,37 @@ use Rattle.handlebars.specs.State.{Setting, State}
 use Rattle.handlebars.specs.Steps.{Task, One, Whole, Steps, Done, Refuse, Write, Get, Set, Do}
 use Rattle.handlebars.specs.Means.{todo, render_tree}
 
+-- a write that failed: where, as far as it is known
+pub record Fault : Type 0 where
+  pub spot : Spot
+
+abbrev pub plain_fault : Fault
+plain_fault = record { spot = nowhere }
+
 -- A run ends in a state or is refused. It may also stop on the way, for a fault of the output or for want of memory.
 pub data Outcome : Type 0 where
   Ended : State → Outcome
   Refused : Refusal → Outcome
-  Faulted : Spot → Outcome
+  Faulted : Fault → Outcome
   NoMemory : Outcome
 
 abbrev pub IsOver : Outcome → Type 0
 IsOver (Ended s) = ⊥
 IsOver (Refused r) = Unit {0}
-IsOver (Faulted spot) = Unit {0}
+IsOver (Faulted f) = Unit {0}
 IsOver NoMemory = Unit {0}
 
 abbrev pub IsStop : Outcome → Type 0
 IsStop (Ended s) = ⊥
 IsStop (Refused r) = ⊥
-IsStop (Faulted spot) = Unit {0}
+IsStop (Faulted f) = Unit {0}
 IsStop NoMemory = Unit {0}
 
 -- a stop right here, of which no position and no template is known yet
 abbrev pub StopsHere : Outcome → Type 0
 StopsHere (Ended s) = ⊥
 StopsHere (Refused r) = ⊥
-StopsHere (Faulted spot) = spot ≡ nowhere
+StopsHere (Faulted f) = f ≡ plain_fault
 StopsHere NoMemory = Unit {0}
 
 -- An element gives its place to what is refused or fails within it, and a tree its name, where they have one and none
@@ -54,7 +61,7 @@ mark (Whole at t) spot = named_as (tree_name t) spot
 abbrev pub marked : Task → Outcome → Outcome
 marked t (Ended s) = Ended s
 marked t (Refused r) = Refused (record r { spot = mark t r.spot })
-marked t (Faulted spot) = Faulted (mark t spot)
+marked t (Faulted f) = Faulted (record f { spot = mark t f.spot })
 marked t NoMemory = NoMemory
 
 -- the first of the pieces, the last of them perhaps in part

@@ -4,7 +4,7 @@ use Rattle.std.specs.declared.io.Error.{Error}
 use Rattle.std.specs.IoError.{error_kind}
 use Rattle.serde_json.specs.View.{view}
 use Rattle.handlebars_base.specs.Bytes.{Text}
-use Rattle.handlebars_base.specs.Reasons.{Spot, nowhere, Refusal, out_of_memory}
+use Rattle.handlebars_base.specs.Reasons.{Refusal, out_of_memory}
 use Rattle.handlebars_base.specs.RenderRefusals.{reason_in, spot_of, refusal_of, cause_of}
 use Rattle.handlebars_base.specs.declared.error.render_error.RenderError.{RenderError}
 use Rattle.handlebars_base.specs.declared.error.render_error.RenderErrorReason.TheVariants.{IOError}
@@ -16,7 +16,7 @@ use Rattle.handlebars_scope.specs.Put.{Piece, join, line_behind}
 use Rattle.handlebars_scope.specs.declared.context.Context.{Context}
 use Rattle.handlebars.specs.State.{Setting, State}
 use Rattle.handlebars.specs.Steps.{Steps}
-use Rattle.handlebars.specs.Runs.{Outcome, Ended, Refused, Faulted, NoMemory, Runs}
+use Rattle.handlebars.specs.Runs.{Fault, plain_fault, Outcome, Ended, Refused, Faulted, NoMemory, Runs}
 use Rattle.handlebars.specs.declared.registry.Registry.{Registry}
 use Rattle.handlebars.specs.declared.render.context.RenderContext.{RenderContext}
 use Rattle.handlebars.specs.declared.render.setting.Setting as declared
@@ -61,10 +61,10 @@ moment rc held = record { state = state_of rc; held = held }
 -- ---- what calls say
 
 -- The error tells of a fault of the output: its reason by the kind of its cause, which it keeps, and the place.
-pub record TellsFault (cause : Error) (spot : Spot) (e : RenderError) : Type 0 where
+pub record TellsFault (cause : Error) (f : Fault) (e : RenderError) : Type 0 where
   pub reason : reason_in e ≢ out_of_memory → reason_in e ≡ write_reason (error_kind cause)
   pub kept : reason_in e ≢ out_of_memory → cause_of e ≡ IOError cause
-  pub where_it_is : reason_in e ≢ out_of_memory → spot_of e ≡ spot
+  pub where_it_is : reason_in e ≢ out_of_memory → spot_of e ≡ f.spot
 
 -- what a call that writes answers: that it did, or an error
 abbrev pub Answered : Type 0
@@ -75,9 +75,9 @@ Answered = Result (Unit {0}) RenderError
 pub data Tells (may : Error → Type 0) (before after : ℕ) : Outcome → Answered → State → Type 0 where
   ended : {s : State} {u : Unit {0}} → after ≡ before → Tells may before after (Ended s) (Ok u) s
   refusal : {s : State} {e : RenderError} → after ≡ before → Tells may before after (Refused (refusal_of e)) (Err e) s
-  fault : {s : State} {e : RenderError} (cause : Error) (spot : Spot) → may cause
-      → (before + 1 < 2 ^ 64 → after ≡ before + 1) → TellsFault cause spot e
-      → Tells may before after (Faulted spot) (Err e) s
+  fault : {s : State} {e : RenderError} (cause : Error) (f : Fault) → may cause
+      → (before + 1 < 2 ^ 64 → after ≡ before + 1) → TellsFault cause f e
+      → Tells may before after (Faulted f) (Err e) s
   no_memory : {s : State} {e : RenderError} → after ≡ before → reason_in e ≡ out_of_memory
       → Tells may before after NoMemory (Err e) s
 
@@ -100,7 +100,7 @@ pub data Puts (t : Text) (may : Error → Type 0) (before : Moment) : Answered �
   all_put : {after : Moment} {u : Unit {0}} → after.state ≡ behind t before.state → IsWhole t before.held after.held
       → Puts t may before (Ok u) after
   front_put : {after : Moment} {e : RenderError} (cause : Error) → may cause → IsCutOff t before.held after.held
-      → TellsFault cause nowhere e → Puts t may before (Err e) after
+      → TellsFault cause plain_fault e → Puts t may before (Err e) after
 
 -- The steps end well from this state, and the text is that of their pieces.
 pub record GivesString (p : Setting) (k : Steps) (s next : State) (text : Text) : Type 0 where

@@ -7,14 +7,14 @@ use Rattle.handlebars_template.specs.TreeView.{element_view, place_of}
 use Rattle.handlebars_template.proofs.Trees.{tree_view-out}
 use Rattle.handlebars_scope.specs.Sites.{first_tree, element_in}
 use Rattle.handlebars.specs.Runs.{placed_at}
-use Rattle.handlebars.proofs.Carry.{c_out_of_memory}
+use Rattle.handlebars.proofs.Carry.{carries-out_of_memory}
 use Rattle.handlebars.proofs.Elements.{left_starts, left_goes, left_over, left_ends, whole_with}
 use Rattle.handlebars.proofs.Kept.{kept-refl, kept-trans}
 use Rattle.handlebars.proofs.Lists.{get_or-seen, below-seen, over-seen, place_there, looked_up, placed_marks}
 use Rattle.handlebars.proofs.render.tree.render_whole.Goals as goal
 
 pub returns-in_err-enter-clause-renders : goal.returns-in_err-enter-clause-renders
-returns-in_err-enter-clause-renders g c = c_out_of_memory _ _ c.from_residual.result c.from_residual.ensures.1
+returns-in_err-enter-clause-renders g c = carries-out_of_memory _ _ c.from_residual.result c.from_residual.ensures.1
 
 pub loop-index-init : goal.loop-index-init
 loop-index-init g c = record { left = left_starts _ _ _ _ _ _; kept = kept-refl _ }
