@@ -14,11 +14,12 @@ pub fn advance(place: TemplateMapping, text: &str) -> TemplateMapping
 {
     let mut line = place.0;
     let mut column = place.1;
-    for c in text.chars() {
-        if c == '\n' {
+    let bytes = text.as_bytes();
+    for byte in bytes {
+        if *byte == b'\n' {
             line += 1;
             column = 1;
-        } else {
+        } else if *byte < 128 || *byte > 191 {
             column += 1;
         }
     }
