@@ -5,7 +5,7 @@ ghost use Rattle.handlebars.specs.Rows.{EmptyRow, ValueRow, MarkupRow, MissingRo
 ghost use Rattle.handlebars.specs.View.{setting_of};
 
 use crate::registry::Registry;
-pub use handlebars_base::laws::one_meaning;
+pub use handlebars_base::laws::{one_meaning, paths_in_front};
 use handlebars_scope::context::Context;
 pub use handlebars_scope::laws::escape_laws;
 pub use handlebars_template::laws::{one_compilation, one_cut, worked_sources};

@@ -18,7 +18,7 @@ with_or (Some x) f other = f x
 -- ---- marks and symbols
 
 -- what follows the mark c
-unfoldable pub after : ℕ → Text → Option (Text)
+unfoldable pub after : ℕ → Text → Option Text
 after c [] = None
 after c (x ∷ xs) = if x == c then Some xs else None
 
@@ -32,7 +32,7 @@ abbrev pub is_up_mark : ℕ → ℕ → ℕ → Bool
 is_up_mark a b c = (a == dot) && ((b == dot) && (c == slash))
 
 -- what follows `../`
-unfoldable pub after_up : Text → Option (Text)
+unfoldable pub after_up : Text → Option Text
 after_up (a ∷ b ∷ c ∷ r) = if is_up_mark a b c then Some r else None
 after_up _ = None
 
