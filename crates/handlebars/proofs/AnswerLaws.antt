@@ -1,7 +1,8 @@
--- A source has one answer, whose pieces have their origins.
-use Rattle.std.proofs.Common.{◌≡◌, ◌≢◌, List, [], Result, Ok, Err, refl, sym, ap, ◌∙◌, subst}
+-- A rendering has one answer, whose pieces have their origins.
+use Rattle.std.proofs.Common.{◌≡◌, ◌≢◌, List, [], Option, None, Some, Result, Ok, Err, refl, sym, ap, ◌∙◌, subst}
 use Rattle.std.specs.Prelude.{IfErr, IsErrAnd, String}
 use Rattle.std.specs.Global.{Global}
+use Rattle.handlebars_base.specs.Answers.{IsRefusal}
 use Rattle.handlebars_base.specs.Bytes.{Text}
 use Rattle.handlebars_base.specs.Reasons.{Refusal, TemplateRefusal, TemplateReason, template_out_of_memory, out_of_memory, of_template, reason_for}
 use Rattle.handlebars_base.specs.RenderRefusals.{plain_refusal, refusal_of, reason_in}
@@ -14,9 +15,11 @@ use Rattle.handlebars.specs.State.{Setting, State, first_state}
 use Rattle.handlebars.specs.Means.{render_tree}
 use Rattle.handlebars.specs.Runs.{Outcome, Ended, Refused, Means}
 use Rattle.handlebars.specs.View.{GivesString, RefusesString}
-use Rattle.handlebars.specs.Answer.{not_compiled, rendered, GivesText, RefusesWith, HasOneAnswer, AnswerHasOrigins}
+use Rattle.handlebars.specs.Answer.{Beginning, a_tree, no_tree, FromSource, compiles, does_not, FromName, is_stored, is_not, not_begun, rendered, GivesText, RefusesWith, HasOneAnswer, AnswerHasOrigins}
 use Rattle.handlebars.proofs.RunLaws.{Runs-one}
 use Rattle.handlebars.proofs.RunOrigins.{all_have_origins}
+
+-- ---- at most one beginning
 
 refusal_or : TemplateRefusal → Compilation → TemplateRefusal
 refusal_or d (compiled t) = d
@@ -34,56 +37,114 @@ compiled-injective : {t u : Tree} → compiled t ≡ compiled u → t ≡ u
 unfolding tree_or
 compiled-injective {t = t} e = ap (tree_or t) e
 
-differs : {t : Tree} {f : TemplateRefusal} → compiled t ≡ refused f → ⊥
-differs e = cc
+compiled≢refused : {t : Tree} {f : TemplateRefusal} → compiled t ≡ refused f → ⊥
+compiled≢refused e = cc
 
-module _ (p : Setting) (options : Options) (source : Text) where
+abbrev pub IsOne : (Beginning → Type 0) → Type 0
+IsOne begins = (a b : Beginning) → begins a → begins b → a ≡ b
+
+pub FromSource-one : (options : Options) (source : Text) → IsOne (FromSource options source)
+FromSource-one options source _ _ (compiles {t = t} a) (compiles {t = u} b) =
+    ap a_tree (compiled-injective (one_compilation source options (compiled t) (compiled u) a b))
+FromSource-one options source _ _ (compiles {t = t} a) (does_not {r = f} b) =
+    absurd (compiled≢refused (one_compilation source options (compiled t) (refused f) a b))
+FromSource-one options source _ _ (does_not {r = f} a) (compiles {t = t} b) =
+    absurd (compiled≢refused (one_compilation source options (compiled t) (refused f) b a))
+FromSource-one options source _ _ (does_not {r = f} a) (does_not {r = g} b) =
+    ap (λ (z : TemplateRefusal). no_tree (plain_refusal (of_template z)))
+      (refused-injective (one_compilation source options (refused f) (refused g) a b))
+
+Some-injective : {t u : Tree} → Some t ≡ Some u → t ≡ u
+Some-injective e = cc
+
+Some≢None : {t : Tree} {o : Option Tree} → o ≡ Some t → o ≡ None → ⊥
+Some≢None a b = cc
+
+pub FromName-one : (stored : Text → Option Tree) (name : Text) → IsOne (FromName stored name)
+FromName-one stored name _ _ (is_stored a) (is_stored b) = ap a_tree (Some-injective (sym a ∙ b))
+FromName-one stored name _ _ (is_stored a) (is_not b) = absurd (Some≢None a b)
+FromName-one stored name _ _ (is_not a) (is_stored b) = absurd (Some≢None b a)
+FromName-one stored name _ _ (is_not a) (is_not b) = refl
+
+-- ---- at most one answer
+
+beginning_tree : Tree → Beginning → Tree
+beginning_tree d (a_tree t) = t
+beginning_tree d (no_tree r) = d
+
+beginning_refusal : Refusal → Beginning → Refusal
+beginning_refusal d (a_tree t) = d
+beginning_refusal d (no_tree r) = r
+
+a_tree-injective : {t u : Tree} → a_tree t ≡ a_tree u → t ≡ u
+unfolding beginning_tree
+a_tree-injective {t = t} e = ap (beginning_tree t) e
+
+no_tree-injective : {r q : Refusal} → no_tree r ≡ no_tree q → r ≡ q
+unfolding beginning_refusal
+no_tree-injective {r = r} e = ap (beginning_refusal r) e
+
+a_tree≢no_tree : {t : Tree} {r : Refusal} → a_tree t ≡ no_tree r → ⊥
+a_tree≢no_tree e = cc
+
+module _ (p : Setting) (begins : Beginning → Type 0) (one : IsOne begins) where
   Means-tree : {t u : Tree} {ps : List Piece} {o : Outcome} → t ≡ u → Means p u first_state ps o → Means p t first_state ps o
   Means-tree {ps = ps} {o = o} e r = subst (λ (t : Tree). Means p t first_state ps o) (sym e) r
 
-  one : (a b : Compilation) → Compiles source options a → Compiles source options b → a ≡ b
-  one a b c d = one_compilation source options a b c d
+  pub has_one_answer : HasOneAnswer p begins
+  has_one_answer _ _ _ _ (not_begun {r = r} a) (not_begun {r = q} b) h i =
+      (refl, ap (λ (z : Refusal). Refused z) (no_tree-injective (one (no_tree r) (no_tree q) a b)))
+  has_one_answer _ _ _ _ (not_begun {r = r} a) (rendered {t = t} b x) h i = absurd (a_tree≢no_tree (one (a_tree t) (no_tree r) b a))
+  has_one_answer _ _ _ _ (rendered {t = t} b x) (not_begun {r = r} a) h i = absurd (a_tree≢no_tree (one (a_tree t) (no_tree r) b a))
+  has_one_answer _ _ _ _ (rendered {t = t} a x) (rendered {t = u} b y) h i =
+      Runs-one x (Means-tree (a_tree-injective (one (a_tree t) (a_tree u) a b)) y) h i
 
-  pub has_one_answer : HasOneAnswer p options source
-  has_one_answer _ _ _ _ (not_compiled {r = f} a) (not_compiled {r = g} b) h i =
-      (refl, ap (λ (z : TemplateRefusal). Refused (plain_refusal (of_template z))) (refused-injective (one (refused f) (refused g) a b)))
-  has_one_answer _ _ _ _ (not_compiled {r = f} a) (rendered {t = t} b r) h i = absurd (differs (one (compiled t) (refused f) b a))
-  has_one_answer _ _ _ _ (rendered {t = t} b r) (not_compiled {r = f} a) h i = absurd (differs (one (compiled t) (refused f) b a))
-  has_one_answer _ _ _ _ (rendered {t = t} a r) (rendered {t = u} b q) h i =
-      Runs-one r (Means-tree (compiled-injective (one (compiled t) (compiled u) a b)) q) h i
+  pub answer_has_origins : AnswerHasOrigins p begins
+  answer_has_origins t _ _ c (not_begun {r = r} a) = absurd (a_tree≢no_tree (one (a_tree t) (no_tree r) c a))
+  answer_has_origins t ps o c (rendered {t = u} a x) =
+      all_have_origins p t first_state ps o (Means-tree (a_tree-injective (one (a_tree t) (a_tree u) c a)) x)
 
-  pub answer_has_origins : AnswerHasOrigins p options source
-  answer_has_origins t _ _ c (not_compiled {r = f} a) = absurd (differs (one (compiled t) (refused f) c a))
-  answer_has_origins t ps o c (rendered {t = u} a r) =
-      all_have_origins p t first_state ps o (Means-tree (compiled-injective (one (compiled t) (compiled u) c a)) r)
+-- ---- what calls answer
 
-  pub not_compiled-refuses : (f : TemplateRefusal) (e : RenderError) → (f.reason ≢ template_out_of_memory → Compiles source options (refused f))
-      → refusal_of e ≡ plain_refusal (of_template f) → reason_in e ≢ out_of_memory → RefusesWith p options source (refusal_of e)
-  not_compiled-refuses f e refuses is other =
-      let not_memory : f.reason ≢ template_out_of_memory =
-      λ memory. other (ap (λ (z : Refusal). z.reason) is ∙ ap (λ (r : TemplateReason). reason_for f r) memory) in
-      subst (λ (z : Refusal). RefusesWith p options source z) (sym is)
-      (record { pieces = []; answers = not_compiled (refuses not_memory) })
+module _ (p : Setting) (begins : Beginning → Type 0) where
+  pub refuses_before : (q : Refusal) (e : RenderError) → begins (no_tree q) → refusal_of e ≡ q → RefusesWith p begins (refusal_of e)
+  refuses_before q e b is =
+      subst (λ (z : Refusal). RefusesWith p begins z) (sym is) (record { pieces = []; answers = not_begun b })
 
-  -- the same of the results of calls
-  pub compile_refused : (f : TemplateRefusal) (r : Result (String Global) RenderError)
-      → (f.reason ≢ template_out_of_memory → Compiles source options (refused f))
-      → IsErrAnd r (λ e. refusal_of e ≡ plain_refusal (of_template f))
-      → IfErr r (λ e. reason_in e ≢ out_of_memory → RefusesWith p options source (refusal_of e))
-  compile_refused f (Ok text) refuses is = absurd is
-  compile_refused f (Err e) refuses is = λ other. not_compiled-refuses f e refuses is other
+  -- an error that is the refusal, memory aside
+  pub refuses_at_once : (q : Refusal) (r : Result (String Global) RenderError) → begins (no_tree q) → IsErrAnd r (IsRefusal q)
+      → IfErr r (λ e. reason_in e ≢ out_of_memory → RefusesWith p begins (refusal_of e))
+  refuses_at_once q (Ok text) b is = absurd is
+  refuses_at_once q (Err e) b is = λ other. refuses_before q e b (is other)
 
-  module _ (t : Tree) (first : State) (compiles : Compiles source options (compiled t)) (is_first : first ≡ first_state) where
-    pub gives_text : {next : State} {text : Text} → GivesString p (render_tree t) first next text → GivesText p options source text
+  module _ (t : Tree) (first : State) (begun : begins (a_tree t)) (is_first : first ≡ first_state) where
+    pub gives_text : {next : State} {text : Text} → GivesString p (render_tree t) first next text → GivesText p begins text
     gives_text {next = next} g = record {
       pieces = g.pieces;
       last = next;
-      answers = rendered compiles (subst (λ (s : State). Means p t s g.pieces (Ended next)) is_first g.runs);
+      answers = rendered begun (subst (λ (s : State). Means p t s g.pieces (Ended next)) is_first g.runs);
       is = g.is;
     }
 
-    pub refuses_with : {f : Refusal} → RefusesString p (render_tree t) first f → RefusesWith p options source f
+    pub refuses_with : {f : Refusal} → RefusesString p (render_tree t) first f → RefusesWith p begins f
     refuses_with {f = f} g = record {
       pieces = g.pieces;
-      answers = rendered compiles (subst (λ (s : State). Means p t s g.pieces (Refused f)) is_first g.runs);
+      answers = rendered begun (subst (λ (s : State). Means p t s g.pieces (Refused f)) is_first g.runs);
     }
+
+module _ (p : Setting) (options : Options) (source : Text) where
+  not_compiled : (f : TemplateRefusal) (e : RenderError) → (f.reason ≢ template_out_of_memory → Compiles source options (refused f))
+      → refusal_of e ≡ plain_refusal (of_template f) → reason_in e ≢ out_of_memory
+      → RefusesWith p (FromSource options source) (refusal_of e)
+  not_compiled f e refuses is other =
+      let not_memory : f.reason ≢ template_out_of_memory =
+      λ memory. other (ap (λ (z : Refusal). z.reason) is ∙ ap (λ (r : TemplateReason). reason_for f r) memory) in
+      refuses_before p (FromSource options source) (plain_refusal (of_template f)) e (does_not (refuses not_memory)) is
+
+  -- the same of the result of a call
+  pub compile_refused : (f : TemplateRefusal) (r : Result (String Global) RenderError)
+      → (f.reason ≢ template_out_of_memory → Compiles source options (refused f))
+      → IsErrAnd r (λ e. refusal_of e ≡ plain_refusal (of_template f))
+      → IfErr r (λ e. reason_in e ≢ out_of_memory → RefusesWith p (FromSource options source) (refusal_of e))
+  compile_refused f (Ok text) refuses is = absurd is
+  compile_refused f (Err e) refuses is = λ other. not_compiled f e refuses is other

@@ -6,19 +6,19 @@ use Rattle.handlebars_scope.specs.Escape.{escaped}
 use Rattle.handlebars.specs.State.{first_state}
 use Rattle.handlebars.specs.Steps.{◌>>=◌, ◌>>◌}
 use Rattle.handlebars.specs.Runs.{done, refused, wrote, got, set, did, did_over}
-use Rattle.handlebars.specs.Answer.{not_compiled, rendered}
+use Rattle.handlebars.specs.Answer.{compiles, does_not, not_begun, rendered}
 use Rattle.handlebars.specs.Rows.{EmptyRow, ValueRow, MarkupRow, MissingRow, EscapedRow, RefusalRow, UnclosedRow}
 
 pub empty_row : EmptyRow
 unfolding ◌>>=◌ ◌>>◌
-empty_row given = record { pieces = []; last = first_state; answers = rendered compiling.empty_row (did (got (set done)) done); is = refl }
+empty_row given = record { pieces = []; last = first_state; answers = rendered (compiles compiling.empty_row) (did (got (set done)) done); is = refl }
 
 pub value_row : ValueRow
 unfolding ◌>>=◌ ◌>>◌ escaped
 value_row = record {
   pieces = _;
   last = _;
-  answers = rendered compiling.value_row (did (got (set (did (got (wrote (set done))) (did (got (got (wrote (set done)))) done)))) done);
+  answers = rendered (compiles compiling.value_row) (did (got (set (did (got (wrote (set done))) (did (got (got (wrote (set done)))) done)))) done);
   is = refl;
 }
 
@@ -27,7 +27,7 @@ unfolding ◌>>=◌ ◌>>◌ escaped
 markup_row = record {
   pieces = _;
   last = _;
-  answers = rendered compiling.value_row (did (got (set (did (got (wrote (set done))) (did (got (got (wrote (set done)))) done)))) done);
+  answers = rendered (compiles compiling.value_row) (did (got (set (did (got (wrote (set done))) (did (got (got (wrote (set done)))) done)))) done);
   is = refl;
 }
 
@@ -36,7 +36,7 @@ unfolding ◌>>=◌ ◌>>◌
 missing_row = record {
   pieces = _;
   last = _;
-  answers = rendered compiling.value_row (did (got (set (did (got (wrote (set done))) (did (got (got (wrote (set done)))) done)))) done);
+  answers = rendered (compiles compiling.value_row) (did (got (set (did (got (wrote (set done))) (did (got (got (wrote (set done)))) done)))) done);
   is = refl;
 }
 
@@ -45,13 +45,13 @@ unfolding ◌>>=◌ ◌>>◌ escaped digits
 escaped_row = record {
   pieces = _;
   last = _;
-  answers = rendered compiling.escaped_row (did (got (set (did (got (wrote (set done))) (did (got (got (wrote (set done)))) done)))) done);
+  answers = rendered (compiles compiling.escaped_row) (did (got (set (did (got (wrote (set done))) (did (got (got (wrote (set done)))) done)))) done);
   is = refl;
 }
 
 pub refusal_row : RefusalRow
 unfolding ◌>>=◌ ◌>>◌
-refusal_row = rendered compiling.member_row (did_over (got (set (did (got (wrote (set done))) (did_over (got refused) tt)))) tt)
+refusal_row = rendered (compiles compiling.member_row) (did_over (got (set (did (got (wrote (set done))) (did_over (got refused) tt)))) tt)
 
 pub unclosed_row : UnclosedRow
-unclosed_row given = not_compiled compiling.unclosed_row
+unclosed_row given = not_begun (does_not compiling.unclosed_row)

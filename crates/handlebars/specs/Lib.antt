@@ -5,5 +5,6 @@ pub mod Runs
 pub mod Origins
 pub mod Laws
 pub mod Answer
+pub mod Store
 pub mod View
 pub mod Rows

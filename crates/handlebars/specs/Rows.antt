@@ -10,7 +10,7 @@ use Rattle.handlebars_scope.specs.Put.{of_text}
 use Rattle.handlebars_scope.specs.Sites.{first_tree, element_in}
 use Rattle.handlebars.specs.State.{Setting}
 use Rattle.handlebars.specs.Runs.{Refused}
-use Rattle.handlebars.specs.Answer.{RenderAnswers, GivesText}
+use Rattle.handlebars.specs.Answer.{FromSource, RenderAnswers, GivesText}
 
 -- data with one member
 abbrev pub with : Text → Data → Data
@@ -22,31 +22,31 @@ over given = record { given = given }
 
 -- The empty source gives the empty text, over any data.
 abbrev pub EmptyRow : Type 0
-EmptyRow = (given : Data) → GivesText (over given) no_options [] []
+EmptyRow = (given : Data) → GivesText (over given) (FromSource no_options []) []
 
 abbrev pub foo : Data
 foo = with (codes "name") (string (codes "foo"))
 
 abbrev pub ValueRow : Type 0
-ValueRow = GivesText (over foo) no_options (codes "Hello {{name}}") (codes "Hello foo")
+ValueRow = GivesText (over foo) (FromSource no_options (codes "Hello {{name}}")) (codes "Hello foo")
 
 abbrev pub markup : Data
 markup = with (codes "name") (string (codes "<b>"))
 
 -- A value is escaped.
 abbrev pub MarkupRow : Type 0
-MarkupRow = GivesText (over markup) no_options (codes "Hello {{name}}") (codes "Hello &lt;b&gt;")
+MarkupRow = GivesText (over markup) (FromSource no_options (codes "Hello {{name}}")) (codes "Hello &lt;b&gt;")
 
 -- A value that is missing writes nothing.
 abbrev pub MissingRow : Type 0
-MissingRow = GivesText (over null) no_options (codes "Hello {{name}}") (codes "Hello ")
+MissingRow = GivesText (over null) (FromSource no_options (codes "Hello {{name}}")) (codes "Hello ")
 
 abbrev pub one : Data
 one = with (codes "a") (number (unsigned 1))
 
 -- Braces behind one backslash are text, and of two backslashes one is dropped.
 abbrev pub EscapedRow : Type 0
-EscapedRow = GivesText (over one) no_options escaped_source (codes "{{a}} " ++ (backslash ∷ codes "1"))
+EscapedRow = GivesText (over one) (FromSource no_options escaped_source) (codes "{{a}} " ++ (backslash ∷ codes "1"))
 
 -- a name that is no index, at line 1 and column 2
 abbrev pub wrong_index : Refusal
@@ -60,10 +60,10 @@ ones = with (codes "a") (array (item (number (unsigned 1)) no_items))
 
 -- The text before the refusal is written.
 abbrev pub RefusalRow : Type 0
-RefusalRow = RenderAnswers (over ones) no_options (codes "x{{a.x}}")
+RefusalRow = RenderAnswers (over ones) (FromSource no_options (codes "x{{a.x}}"))
     (record { origin = of_text (element_in first_tree 0); text = codes "x" } ∷ []) (Refused wrong_index)
 
 -- A source that doesn't compile is refused before anything is written, over any data.
 abbrev pub UnclosedRow : Type 0
-UnclosedRow = (given : Data) → RenderAnswers (over given) no_options (codes "ab{{name") []
+UnclosedRow = (given : Data) → RenderAnswers (over given) (FromSource no_options (codes "ab{{name")) []
     (Refused (plain_refusal (of_template (unreadable no_options (at 1 3)))))

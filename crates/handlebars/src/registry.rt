@@ -1,29 +1,80 @@
 //! The registry, and the calls that render.
 
-ghost use Rattle.std.specs.Prelude.{◌≡◌, ◌≢◌, IfOk, IfErr, string_bytes};
-ghost use Rattle.handlebars_base.specs.Reasons.{out_of_memory};
+ghost use Rattle.std.specs.Prelude.{◌≡◌, ◌≢◌, IfOk, IfErr, OnErr, OnOk, option_map, string_bytes, None, is_some};
+ghost use Rattle.handlebars_base.specs.Bytes.{Text};
+ghost use Rattle.handlebars_base.specs.Reasons.{out_of_memory, template_out_of_memory};
 ghost use Rattle.handlebars_base.specs.RenderRefusals.{refusal_of, reason_in};
-ghost use Rattle.handlebars.specs.Answer.{GivesText, RefusesWith, HasOneAnswer, AnswerHasOrigins};
+ghost use Rattle.handlebars_base.specs.TemplateRefusals.{template_refusal_of};
+ghost use Rattle.handlebars_template.specs.Compile.{Compiles, compiled, refused};
+ghost use Rattle.handlebars_template.specs.Tree.{Tree};
+ghost use Rattle.handlebars_template.specs.TreeView.{tree_view};
+ghost use Rattle.handlebars.specs.Answer.{FromSource, FromName, GivesText, RefusesWith, HasOneAnswer, AnswerHasOrigins};
+ghost use Rattle.handlebars.specs.Store.{stored, Stores, IsUnchanged};
 ghost use Rattle.handlebars.specs.View.{setting_of, options_of};
 
 use crate::render::{RenderContext, Renderable};
 use crate::sources::TemplateReader;
-use handlebars_base::error::RenderError;
+use handlebars_base::error::{RenderError, RenderErrorReason};
 use handlebars_scope::context::Context;
 use handlebars_template::template::Template;
 use log::Log;
 use std::alloc::{AllocError, Global};
+use std::collections::BTreeMap;
 
 /// What templates are rendered with.
 #[derive(Drop)]
 pub struct Registry {
     alloc: Global,
+    templates: BTreeMap<String, Template>,
 }
 
 impl Registry {
     /// A registry with nothing registered.
-    pub fn new(alloc: Global) -> Result<Registry, AllocError> {
-        Ok(Registry { alloc })
+    pub fn new(alloc: Global) -> Result<Registry, AllocError>
+        ensures { IfOk result (λ r. (name : Text) → stored r name ≡ None) }
+    {
+        Ok(Registry {
+            alloc,
+            templates: BTreeMap::new(alloc),
+        })
+    }
+
+    /// Whether a template stands under the name.
+    pub fn has_template(&self, name: &str) -> bool
+        ensures { result ≡ is_some (stored self.now name.now) }
+    {
+        self.templates.contains_key(name)
+    }
+
+    /// The template under the name, where one stands there.
+    pub fn get_template(&self, name: &str) -> Option<&Template>
+        ensures { option_map (λ t. tree_view t.now) result ≡ stored self.now name.now }
+    {
+        self.templates.get(name)
+    }
+
+    /// Renders the template under the name over a context; `TemplateNotFound` where none stands
+    /// there. The logger and the reader aren't asked.
+    pub fn render_with_context<L: Log, R: TemplateReader>(
+        &self,
+        name: &str,
+        ctx: &Context,
+        log: &L,
+        _files: &mut R,
+    ) -> Result<String, RenderError>
+        ensures ok { IfOk result (λ text. GivesText (setting_of self.now ctx.now) (FromName (stored self.now) name.now) (string_bytes text)) }
+        ensures err { IfErr result (λ e. reason_in e ≢ out_of_memory
+            → RefusesWith (setting_of self.now ctx.now) (FromName (stored self.now) name.now) (refusal_of e)) }
+        ensures one { HasOneAnswer (setting_of self.now ctx.now) (FromName (stored self.now) name.now) }
+        ensures origins { AnswerHasOrigins (setting_of self.now ctx.now) (FromName (stored self.now) name.now) }
+        ensures unread { _files.new ≡ _files.old }
+    {
+        let Some(template) = self.get_template(name) else {
+            let name = String::from_str(self.alloc, name)?;
+            return Err(RenderErrorReason::TemplateNotFound(name).into());
+        };
+        let mut rc = RenderContext::new(self.alloc, template.name.as_ref())?;
+        template.renders(self.alloc, self, ctx, &mut rc, log)
     }
 
     /// Renders a source over a context. The logger and the reader aren't asked.
@@ -35,15 +86,15 @@ impl Registry {
         _files: &mut R,
     ) -> Result<String, RenderError>
         // The text is the join of the pieces of the one answer that the language's definition gives.
-        ensures ok { IfOk result (λ text. GivesText (setting_of self.now ctx.now) (options_of self.now) source.now (string_bytes text)) }
+        ensures ok { IfOk result (λ text. GivesText (setting_of self.now ctx.now) (FromSource (options_of self.now) source.now) (string_bytes text)) }
 
         // A refusal, but for want of memory, is the definition's: its reason, its position and its name.
         ensures err { IfErr result (λ e. reason_in e ≢ out_of_memory
-            → RefusesWith (setting_of self.now ctx.now) (options_of self.now) source.now (refusal_of e)) }
+            → RefusesWith (setting_of self.now ctx.now) (FromSource (options_of self.now) source.now) (refusal_of e)) }
 
         // There is at most one such answer, and each of its pieces comes from the source's tree and the data.
-        ensures one { HasOneAnswer (setting_of self.now ctx.now) (options_of self.now) source.now }
-        ensures origins { AnswerHasOrigins (setting_of self.now ctx.now) (options_of self.now) source.now }
+        ensures one { HasOneAnswer (setting_of self.now ctx.now) (FromSource (options_of self.now) source.now) }
+        ensures origins { AnswerHasOrigins (setting_of self.now ctx.now) (FromSource (options_of self.now) source.now) }
         ensures unread { _files.new ≡ _files.old }
     {
         let template = Template::compile(self.alloc, source)?;

@@ -4,9 +4,10 @@ ghost use Rattle.std.specs.Prelude.{◌≡◌, IsTrue};
 ghost use Rattle.handlebars_tests.specs.Outcomes.{outcome_view, handed_of, handed_out};
 
 use crate::outcome::{Outcome, Refusal};
-use crate::row::Row;
+use crate::row::{Rendered, Row};
 use handlebars::{
-    Context, NoFiles, Registry, RenderContext, RenderError, Renderable, StringOutput, Template,
+    Context, NoFiles, Registry, RenderContext, RenderError, RenderErrorReason, Renderable,
+    StringOutput, Template,
 };
 use log::sink::Discard;
 use std::alloc::{AllocError, Global};
@@ -59,16 +60,55 @@ fn hands_out(handed: &Result<String, Refusal>, wanted: &Outcome) -> bool
     }
 }
 
+// What the row registers, in byte order of name; a template that doesn't compile refuses the row.
+fn registry_of(alloc: Global, row: &Row) -> Result<Registry, RenderError> {
+    let mut registry = Registry::new(alloc)?;
+    if let Some(templates) = &row.templates {
+        for (name, source) in templates.iter() {
+            registry.register_template_string(name.as_str(), source.as_str().unwrap_or(""))?;
+        }
+    }
+    Ok(registry)
+}
+
 fn registry_text(alloc: Global, row: &Row) -> Result<String, RenderError> {
-    let registry = Registry::new(alloc)?;
+    let registry = registry_of(alloc, row)?;
     let data = Context::try_from(row.data.clone()?)?;
-    registry.render_template_with_context(row.source.as_str(), &data, &Discard, &mut NoFiles)
+    match &row.rendered {
+        Rendered::Source(source) => registry.render_template_with_context(
+            source.as_str(),
+            &data,
+            &Discard,
+            &mut NoFiles,
+        ),
+        Rendered::Name(name) => {
+            registry.render_with_context(name.as_str(), &data, &Discard, &mut NoFiles)
+        }
+    }
 }
 
 fn write_template(alloc: Global, row: &Row, out: &mut StringOutput) -> Result<(), RenderError> {
-    let registry = Registry::new(alloc)?;
+    let registry = registry_of(alloc, row)?;
     let data = Context::try_from(row.data.clone()?)?;
-    let template = Template::compile(alloc, row.source.as_str())?;
-    let mut rc = RenderContext::new(alloc, None)?;
-    template.render(alloc, &registry, &data, &mut rc, out, &Discard)
+    match &row.rendered {
+        Rendered::Source(source) => {
+            let template = Template::compile(alloc, source.as_str())?;
+            write_tree(alloc, &registry, &template, &data, out)
+        }
+        Rendered::Name(name) => match registry.get_template(name.as_str()) {
+            Some(template) => write_tree(alloc, &registry, template, &data, out),
+            None => Err(RenderErrorReason::TemplateNotFound(name.clone()?).into()),
+        },
+    }
+}
+
+fn write_tree(
+    alloc: Global,
+    registry: &Registry,
+    template: &Template,
+    data: &Context,
+    out: &mut StringOutput,
+) -> Result<(), RenderError> {
+    let mut rc = RenderContext::new(alloc, template.name.as_ref())?;
+    template.render(alloc, registry, data, &mut rc, out, &Discard)
 }

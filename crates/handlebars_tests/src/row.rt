@@ -2,14 +2,35 @@
 
 use crate::outcome::{Outcome, Refusal};
 use handlebars::JsonValue;
+use serde_json::Map;
+use std::fmt;
 use thiserror::Error;
 
 /// What is rendered over what, and what is wanted of it.
 #[derive(Drop)]
 pub struct Row {
-    pub source: String,
+    /// Names and sources, which are texts.
+    pub templates: Option<Map<String, JsonValue>>,
+    pub rendered: Rendered,
     pub data: JsonValue,
     pub wanted: Outcome,
+}
+
+/// What a row renders.
+#[derive(Drop)]
+pub enum Rendered {
+    Source(String),
+    /// The registered template of that name.
+    Name(String),
+}
+
+impl fmt::Display for Rendered {
+    fn fmt<W: fmt::Write>(&self, f: &mut fmt::Formatter<W>) -> fmt::Result {
+        match self {
+            Rendered::Source(source) => write!(f, "{source:?}"),
+            Rendered::Name(name) => write!(f, "template {name:?}"),
+        }
+    }
 }
 
 /// Why a value is no row.
@@ -23,8 +44,12 @@ pub enum RowFailure {
     NoText(String),
     #[error("{0:?} is no number from 0 on")]
     NoNumber(String),
+    #[error("{0:?} is no object of texts")]
+    NoTexts(String),
     #[error("{0:?} is missing")]
     Missing(&'static str),
+    #[error("either a source or a name is wanted")]
+    NoTemplate,
     #[error("a line, a column or a template without a reason")]
     NoReason,
 }
@@ -47,7 +72,9 @@ impl TryFrom<JsonValue> for Row {
 // The fields that a row's object has.
 #[derive(Default, Drop)]
 struct Fields {
+    templates: Option<Map<String, JsonValue>>,
     source: Option<String>,
+    name: Option<String>,
     data: JsonValue,
     text: Option<String>,
     reason: Option<String>,
@@ -59,7 +86,9 @@ struct Fields {
 impl Fields {
     fn take(&mut self, name: String, value: JsonValue) -> Result<(), RowFailure> {
         match name.as_str() {
+            "templates" => self.templates = Some(texts(name, value)?),
             "source" => self.source = Some(text(name, value)?),
+            "name" => self.name = Some(text(name, value)?),
             "data" => self.data = value,
             "text" => self.text = Some(text(name, value)?),
             "reason" => self.reason = Some(text(name, value)?),
@@ -79,6 +108,18 @@ fn text(name: String, value: JsonValue) -> Result<String, RowFailure> {
     }
 }
 
+fn texts(name: String, value: JsonValue) -> Result<Map<String, JsonValue>, RowFailure> {
+    let JsonValue::Object(members) = value else {
+        return Err(RowFailure::NoTexts(name));
+    };
+    for (_key, member) in members.iter() {
+        if !member.is_string() {
+            return Err(RowFailure::NoTexts(name));
+        }
+    }
+    Ok(members)
+}
+
 fn number(name: String, value: &JsonValue) -> Result<usize, RowFailure> {
     match value.as_u64() {
         Some(number) => Ok(number as usize),
@@ -91,7 +132,9 @@ impl TryFrom<Fields> for Row {
 
     fn try_from(fields: Fields) -> Result<Row, RowFailure> {
         let Fields {
+            templates,
             source,
+            name,
             data,
             text,
             reason,
@@ -113,11 +156,16 @@ impl TryFrom<Fields> for Row {
                 None
             }
         };
-        let source = source.ok_or(RowFailure::Missing("source"))?;
+        let rendered = match (source, name) {
+            (Some(source), None) => Rendered::Source(source),
+            (None, Some(name)) => Rendered::Name(name),
+            _ => return Err(RowFailure::NoTemplate),
+        };
         let text = text.ok_or(RowFailure::Missing("text"))?;
         let wanted = Outcome { text, refusal };
         Ok(Row {
-            source,
+            templates,
+            rendered,
             data,
             wanted,
         })

@@ -80,10 +80,10 @@ fn differences(alloc: Global, rows: Vec<Row>) -> Result<Vec<Difference>, AllocEr
 impl fmt::Display for Difference {
     fn fmt<W: fmt::Write>(&self, f: &mut fmt::Formatter<W>) -> fmt::Result {
         let number = self.number;
-        let source = &self.row.source;
+        let rendered = &self.row.rendered;
         let wanted = &self.row.wanted;
         let template = &self.answer.template;
-        writeln!(f, "  row {number}: {source:?}")?;
+        writeln!(f, "  row {number}: {rendered}")?;
         writeln!(f, "    wanted:   {wanted}")?;
         match &self.answer.registry {
             Ok(text) => writeln!(f, "    registry: {text:?}")?,

@@ -2,7 +2,7 @@
 
 ghost use Rattle.std.specs.Prelude.{◌≡◌, ◌<◌, ◌≤◌};
 
-use handlebars::{RenderError, RenderErrorReason};
+use handlebars::RenderError;
 use std::alloc::AllocError;
 use std::io::ErrorKind;
 use std::{fmt, io};
@@ -62,23 +62,9 @@ impl fmt::Display for Failure<'_> {
             Failure::Usage => write!(f, "usage: hbs [--strict] TEMPLATE DATA [FOLDER]"),
             Failure::CannotRead(path) => write!(f, "hbs: cannot read {path}"),
             Failure::NotJson(path) => write!(f, "hbs: not JSON: {path}"),
-            Failure::Refused(cause) => write_reason(cause.reason(), f),
+            Failure::Refused(cause) => write!(f, "{cause}"),
             Failure::OutOfMemory => write!(f, "Out of memory"),
             Failure::CannotWrite => write!(f, "hbs: cannot write"),
         }
-    }
-}
-
-// A reason alone: a template's has no lines of its source.
-fn write_reason<W: fmt::Write>(
-    reason: &RenderErrorReason,
-    f: &mut fmt::Formatter<W>,
-) -> fmt::Result {
-    match reason {
-        RenderErrorReason::TemplateError(cause) => {
-            let cause = cause.reason();
-            write!(f, "Failed to parse template {cause}")
-        }
-        _ => write!(f, "{reason}"),
     }
 }

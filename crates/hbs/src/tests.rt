@@ -130,6 +130,16 @@ fn renders_templates_over_data(rt: HostRuntime) -> Result<(), Fail> {
     Ok(())
 }
 
+const UNREADABLE: &str = r#"Failed to parse template Template error: invalid handlebars syntax: unreadable tag
+    --> Template error in "Unnamed":1:3
+     |
+   0 | ab{{name
+     |---^----
+     |
+     = reason: invalid handlebars syntax: unreadable tag
+
+"#;
+
 #[test]
 fn refuses_texts(rt: HostRuntime) -> Result<(), Fail> {
     let alloc = rt.alloc();
@@ -141,13 +151,13 @@ fn refuses_texts(rt: HostRuntime) -> Result<(), Fail> {
             "x{{a.x}}",
             "{\"a\":[1]}",
             1,
-            "Cannot access array/vector with string index, x\n",
+            "Error rendering \"Unnamed template\" line 1, col 2: Cannot access array/vector with string index, x\n",
         ),
         (
             "ab{{name",
             "null",
             1,
-            "Failed to parse template invalid handlebars syntax: unreadable tag\n",
+            UNREADABLE,
         ),
     ];
     for (template, data, status, err) in table {
