@@ -22,21 +22,33 @@ loop-at-preserved c =
     let was : Place = record { line = c.loop-at.line; column = c.loop-at.column + (c.loop-at.at - c.loop-at.from) } in
     let now : Place = record { line = c.if-byte-lt11.line; column = c.if-byte-lt11.column + (c.loop-at.at + 1 - c.if-byte-lt11.from) } in
     let next : (now ≡ behind_byte was b) × (c.if-byte-lt11.from ≤ c.loop-at.at + 1) × (now.line ≤ was.line + 1) × (now.column ≤ was.column + 1) = elim c.if-byte-lt11.branch [
-      | then-byte-lt11+then-byte-eq10 w ↦
-        (same_place now (record { line = was.line + 1; column = 1 }) w.line-is (omega (arith, w.column-is, w.from-is)) ∙ sym (newline_byte was b w.if-byte-eq10.true),
-         omega (arith, w.from-is), omega (arith, w.line-is), omega (arith, w.column-is, w.from-is))
-      | then-byte-lt11+else-byte-eq10+then-byte-gt127-2+then-byte-lt192 w ↦
-        (same_place now was w.line-is (omega (arith, w.column-is, w.from-is)) ∙ sym (goes_on was b (omega (arith, w.if-byte-gt127-2.true)) w.if-byte-lt192.true),
-         omega (arith, w.from-is), omega (arith, w.line-is), omega (arith, w.column-is, w.from-is))
-      | then-byte-lt11+else-byte-eq10+else-byte-gt127-2 w ↦
-        (same_place now (one_more was) w.line-is (omega (arith, w.column-is, w.from-is)) ∙ elim w.else-byte-gt127-2.branch [
+      | then-byte-lt11+then-byte-eq10 w ↦ (
+        same_place now (record { line = was.line + 1; column = 1 }) w.line-is (omega (arith, w.column-is, w.from-is)) ∙ sym (newline_byte was b w.if-byte-eq10.true),
+        omega (arith, w.from-is),
+        omega (arith, w.line-is),
+        omega (arith, w.column-is, w.from-is),
+      )
+      | then-byte-lt11+else-byte-eq10+then-byte-gt127-2+then-byte-lt192 w ↦ (
+        same_place now was w.line-is (omega (arith, w.column-is, w.from-is)) ∙ sym (goes_on was b (omega (arith, w.if-byte-gt127-2.true)) w.if-byte-lt192.true),
+        omega (arith, w.from-is),
+        omega (arith, w.line-is),
+        omega (arith, w.column-is, w.from-is),
+      )
+      | then-byte-lt11+else-byte-eq10+else-byte-gt127-2 w ↦ (
+        same_place now (one_more was) w.line-is (omega (arith, w.column-is, w.from-is)) ∙ elim w.else-byte-gt127-2.branch [
           | else-byte-gt127-2-via-then-byte-gt127-2+else-byte-lt192 v ↦ sym (leads was b v.if-byte-lt192.false)
           | else-byte-gt127-2-via-else-byte-gt127-2 v ↦ sym (ascii_byte was b w.if-byte-eq10.false (omega (arith, v.if-byte-gt127-2.false)))
         ],
-         omega (arith, w.from-is), omega (arith, w.line-is), omega (arith, w.column-is, w.from-is))
-      | else-byte-lt11+else-byte-gt127 w ↦
-        (same_place now (one_more was) w.line-is (omega (arith, w.column-is, w.from-is)) ∙ sym (ascii_byte was b (λ e. absurd (omega (arith, e, w.if-byte-lt11.false))) (omega (arith, w.if-byte-gt127.false))),
-         omega (arith, w.from-is), omega (arith, w.line-is), omega (arith, w.column-is, w.from-is))
+        omega (arith, w.from-is),
+        omega (arith, w.line-is),
+        omega (arith, w.column-is, w.from-is),
+      )
+      | else-byte-lt11+else-byte-gt127 w ↦ (
+        same_place now (one_more was) w.line-is (omega (arith, w.column-is, w.from-is)) ∙ sym (ascii_byte was b (λ e. absurd (omega (arith, e, w.if-byte-lt11.false))) (omega (arith, w.if-byte-gt127.false))),
+        omega (arith, w.from-is),
+        omega (arith, w.line-is),
+        omega (arith, w.column-is, w.from-is),
+      )
     ] in
     record {
       value = next.0 ∙ ap (λ (p : Place). behind_byte p b) c.loop-at.invariant.value ∙ sym (fold_more behind_byte (place_of c.args.place) c.as_bytes-bytes.result.now c.loop-at.at 0 c.loop-at-test.true);
