@@ -14,14 +14,20 @@ pub fn advance(place: TemplateMapping, text: &str) -> TemplateMapping
 {
     let mut line = place.0;
     let mut column = place.1;
+
+    // From here each byte has been a column. Most bytes are one, so they change nothing.
+    let mut from = 0;
     let bytes = text.as_bytes();
-    for byte in bytes {
-        if *byte == b'\n' {
-            line += 1;
-            column = 1;
-        } else if *byte < 128 || *byte > 191 {
-            column += 1;
+    for (at, byte) in bytes.iter().enumerate() {
+        if *byte < 11 || *byte > 127 {
+            if *byte == b'\n' {
+                line += 1;
+                column = 1;
+                from = at + 1;
+            } else if *byte > 127 && *byte < 192 {
+                from += 1;
+            }
         }
     }
-    TemplateMapping(line, column)
+    TemplateMapping(line, column + (bytes.len() - from))
 }
