@@ -6,5 +6,6 @@ pub mod Elements
 pub mod Kept
 pub mod Lists
 pub mod AnswerLaws
+pub mod Stored
 pub mod Texts
 pub mod WorkedRows
