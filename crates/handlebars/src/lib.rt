@@ -18,7 +18,7 @@ pub use handlebars_base::error::{
     RenderError, RenderErrorReason, TemplateError, TemplateErrorReason,
 };
 pub use handlebars_base::json::path::{Path, PathRule, PathSeg};
-pub use handlebars_base::json::value::{JsonRender, ScopedJson};
+pub use handlebars_base::json::value::{JsonRender, PathAndJson, ScopedJson};
 pub use handlebars_scope::context::Context;
 pub use handlebars_scope::output::{Output, StringOutput};
 pub use handlebars_scope::support::{escape_html, html_escape, no_escape};

@@ -5,6 +5,7 @@ pub mod RenderRefusals
 pub mod Answers
 pub mod Values
 pub mod Scoped
+pub mod PathAndData
 pub mod Path
 pub mod PathView
 pub mod PathReading

@@ -1,5 +1,5 @@
 -- A value with where it came from.
-use Rattle.std.specs.Prelude.{List, map, string_bytes, Option, Some, None}
+use Rattle.std.specs.Prelude.{Bool, true, false, List, map, string_bytes, Option, Some, None}
 use Rattle.handlebars_base.specs.Bytes.{Text}
 use Rattle.serde_json.specs.Data.{Data, null}
 use Rattle.serde_json.specs.View.{view}
@@ -39,3 +39,8 @@ path_in missing = None
 abbrev pub derived_in : ScopedJson → Option Data
 derived_in (Derived v) = Some (view v)
 derived_in s = None
+
+-- whether it refers to a value of the template
+abbrev pub is_constant : ScopedJson → Bool
+is_constant (Constant v) = true
+is_constant s = false

@@ -6,6 +6,9 @@ ghost use Rattle.serde_json.specs.View.{view, number_view, items_view};
 ghost use Rattle.handlebars_base.specs.Values.{rendered, rendered_items, rendered_number};
 ghost use Rattle.handlebars_base.specs.Scoped.{found_of, data_in, present_in, path_in, derived_in, missing, value};
 
+mod path_and_json;
+
+pub use path_and_json::PathAndJson;
 use serde_json::{Number, Value};
 use std::alloc::{AllocError, Global};
 use std::fmt::Write;

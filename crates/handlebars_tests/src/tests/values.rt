@@ -1,6 +1,6 @@
 //! Values with where they came from.
 
-use handlebars_base::json::value::{Json, JsonRender, ScopedJson};
+use handlebars_base::json::value::{Json, JsonRender, PathAndJson, ScopedJson};
 use std::test::Fail;
 
 // Of a number outside the range, which no data has, nothing is rendered.
@@ -38,5 +38,50 @@ fn values_lose_their_place(rt: HostRuntime) -> Result<(), Fail> {
     let derived = missing.into_derived(alloc)?;
     assert!(rt; !derived.is_missing());
     assert!(rt; derived.as_json().is_some_and(|value| value.is_null()));
+    Ok(())
+}
+
+// Only what the template holds is a constant, and a missing value is null.
+#[test]
+fn values_keep_the_path_as_written(rt: HostRuntime) -> Result<(), Fail> {
+    let alloc = rt.alloc();
+    let value = Json::from_str(alloc, "[1]")?;
+    let path = vec![in alloc; String::from_str(alloc, "a")?]?;
+    let cases = [
+        (ScopedJson::Constant(&value), "[1]", None, true, false),
+        (
+            ScopedJson::from(Json::Bool(true)),
+            "true",
+            None,
+            false,
+            false,
+        ),
+        (
+            ScopedJson::Context(&value, path),
+            "[1]",
+            Some(1),
+            false,
+            false,
+        ),
+        (ScopedJson::Missing, "", None, false, true),
+    ];
+    for (scoped, text, path_len, constant, missing) in cases {
+        let given = PathAndJson::new(Some(String::from_str(alloc, "./a")?), scoped);
+        assert_eq!(rt;
+            given.relative_path().map(|path| path.as_str()),
+            Some("./a")
+        );
+        assert_eq!(rt; given.context_path().map(|path| path.len()), path_len);
+        assert_eq!(rt; given.try_get_constant_value() == Some(&value), constant);
+        assert_eq!(rt; given.is_value_missing(), missing);
+        assert_eq!(rt; given.value().is_null(), missing);
+        assert_eq!(rt; given.value().render(alloc)?.as_str(), text);
+        assert_eq!(rt; given.render(alloc)?.as_str(), text);
+    }
+    assert!(rt;
+        PathAndJson::new(None, ScopedJson::Missing)
+            .relative_path()
+            .is_none()
+    );
     Ok(())
 }
