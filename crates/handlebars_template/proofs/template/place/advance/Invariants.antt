@@ -1,4 +1,4 @@
-use Rattle.std.proofs.Common.{length, ◌≡◌, ◌≤◌, ◌+◌, take}
+use Rattle.std.proofs.Common.{◌≡◌, ◌≤◌, ◌+◌, take}
 use Rattle.std.specs.Prelude.{fold}
 use Rattle.handlebars_template.specs.TreeView.{place_of}
 use Rattle.handlebars_template.proofs.Columns.{behind_byte}
