@@ -5,7 +5,7 @@ ghost use Rattle.handlebars_base.specs.Bytes.{Text};
 ghost use Rattle.handlebars_base.specs.Reasons.{out_of_memory, template_out_of_memory};
 ghost use Rattle.handlebars_base.specs.RenderRefusals.{refusal_of, reason_in};
 ghost use Rattle.handlebars_base.specs.TemplateRefusals.{template_refusal_of};
-ghost use Rattle.handlebars_template.specs.Compile.{Compiles, compiled, refused};
+ghost use Rattle.handlebars_template.specs.Compile.{Compiles, compiled, refused, named_options};
 ghost use Rattle.handlebars_template.specs.Tree.{Tree};
 ghost use Rattle.handlebars_template.specs.TreeView.{tree_view};
 ghost use Rattle.handlebars.specs.Answer.{FromSource, FromName, GivesText, RefusesWith, HasOneAnswer, AnswerHasOrigins};
@@ -14,7 +14,7 @@ ghost use Rattle.handlebars.specs.View.{setting_of, options_of};
 
 use crate::render::{RenderContext, Renderable};
 use crate::sources::TemplateReader;
-use handlebars_base::error::{RenderError, RenderErrorReason};
+use handlebars_base::error::{RenderError, RenderErrorReason, TemplateError};
 use handlebars_scope::context::Context;
 use handlebars_template::template::Template;
 use log::Log;
@@ -37,6 +37,27 @@ impl Registry {
             alloc,
             templates: BTreeMap::new(alloc),
         })
+    }
+
+    /// Compiles a source and registers its tree under the name, in place of one that stood there.
+    /// Where it is refused, nothing is changed.
+    pub fn register_template_string(
+        &mut self,
+        name: &str,
+        source: &str,
+    ) -> Result<(), TemplateError>
+        ensures ok { OnOk result ((t : Tree) × Compiles source.now (named_options name.now) (compiled t) × Stores self.old self.new name.now t) }
+        ensures err { IfErr result (λ e. (template_refusal_of e).reason ≢ template_out_of_memory
+            → Compiles source.now (named_options name.now) (refused (template_refusal_of e))) }
+        ensures kept { OnErr result (IsUnchanged self.old self.new) }
+    {
+        let key = String::from_str(self.alloc, name)?;
+        let template =
+            Template::compile_with_name(self.alloc, source, String::from_str(self.alloc, name)?)?;
+        match self.templates.insert(key, template) {
+            Ok(_) => Ok(()),
+            Err(_) => Err(AllocError.into()),
+        }
     }
 
     /// Whether a template stands under the name.

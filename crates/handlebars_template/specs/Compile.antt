@@ -17,6 +17,10 @@ pub record Options : Type 0 where
 abbrev pub no_options : Options
 no_options = record { name = None; prevent_indent = false }
 
+-- nothing but a name
+abbrev pub named_options : Text → Options
+named_options name = record no_options { name = Some name }
+
 -- the value that a path leads to: a call with nothing but the path
 abbrev pub value_call : Reference → Call
 value_call means =

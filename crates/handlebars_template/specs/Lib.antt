@@ -7,4 +7,5 @@ pub mod Cut
 pub mod Tree
 pub mod TreeView
 pub mod Compile
+pub mod OptionsView
 pub mod Rows

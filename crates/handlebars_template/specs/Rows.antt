@@ -3,7 +3,7 @@ use Rattle.std.specs.Prelude.{ℕ, List, [], ◌∷◌, ◌++◌, None, codes}
 use Rattle.handlebars_base.specs.Bytes.{Text, backslash, newline}
 use Rattle.handlebars_base.specs.Path.{Segment, named, relative}
 use Rattle.handlebars_template.specs.Place.{Place}
-use Rattle.handlebars_template.specs.Tree.{Tree, tree, Element, no_elements, element, raw_string, expression}
+use Rattle.handlebars_template.specs.Tree.{Tree, tree, empty_tree, Element, no_elements, element, raw_string, expression}
 use Rattle.handlebars_template.specs.Compile.{Compiles, compiled, refused, no_options, unreadable, value_call}
 
 abbrev pub at : ℕ → ℕ → Place
@@ -20,7 +20,7 @@ value_at names written = expression (value_call (relative names written))
 
 -- The empty source has no elements.
 abbrev pub EmptyRow : Type 0
-EmptyRow = Compiles [] no_options (compiled (tree None no_elements []))
+EmptyRow = Compiles [] no_options (compiled empty_tree)
 
 abbrev pub ValueRow : Type 0
 ValueRow =

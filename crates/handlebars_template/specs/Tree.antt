@@ -84,6 +84,10 @@ abbrev pub params_of : List Param → Params
 params_of [] = no_params
 params_of (p ∷ ps) = param p (params_of ps)
 
+-- no name and no elements
+abbrev pub empty_tree : Tree
+empty_tree = tree None no_elements []
+
 -- ---- the parts of a tree
 
 abbrev pub tree_name : Tree → Option Text

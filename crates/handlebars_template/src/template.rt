@@ -6,6 +6,7 @@ mod tag;
 mod text;
 mod tree;
 
+pub use compile::TemplateOptions;
 pub use tree::{
     BlockParam, DecoratorTemplate, HelperTemplate, Parameter, Subexpression, Template,
     TemplateElement, TemplateMapping,

@@ -6,7 +6,8 @@ ghost use Rattle.handlebars_base.specs.TemplateRefusals.{template_refusal_of, sh
 ghost use Rattle.handlebars_base.specs.PathView.{reference_of};
 ghost use Rattle.handlebars_template.specs.Tag.{expression_tag};
 ghost use Rattle.handlebars_template.specs.Cut.{text_slice};
-ghost use Rattle.handlebars_template.specs.Compile.{Compiles, compiled, refused, no_options, unreadable, value_call, element_of, slice_elements, slice_places};
+ghost use Rattle.handlebars_template.specs.Compile.{Compiles, compiled, refused, no_options, named_options, unreadable, value_call, element_of, slice_elements, slice_places};
+ghost use Rattle.handlebars_template.specs.OptionsView.{options_view};
 ghost use Rattle.handlebars_template.specs.TreeView.{tree_view, call_view, element_view, place_of};
 
 use crate::template::place::advance;
@@ -20,13 +21,57 @@ use handlebars_base::json::path::Path;
 use std::alloc::{AllocError, Global};
 use std::collections::BTreeMap;
 
+/// How a source is compiled: the name of its template, and whether its inclusions add no indentation. No source has
+/// inclusions yet, so the second changes nothing.
+#[derive(Debug, Default, PartialEq, Drop)]
+pub struct TemplateOptions {
+    pub name: Option<String>,
+    pub prevent_indent: bool,
+}
+
 impl Template {
-    /// The tree of a source, or what the first unreadable tag is refused with: `InvalidSyntax` at its position, in
-    /// the template `Unnamed`. In time linear in the source.
+    /// The tree of a source, or its refusal: `compile2` with no options.
     pub fn compile(alloc: Global, source: &str) -> Result<Template, TemplateError>
         ensures ok { IfOk result (λ template. Compiles source.now no_options (compiled (tree_view template))) }
         ensures err { IfErr result (λ e. (template_refusal_of e).reason ≢ template_out_of_memory
             → Compiles source.now no_options (refused (template_refusal_of e))) }
+        ensures shown { IfErr result (λ e. (template_refusal_of e).reason ≢ template_out_of_memory
+            → IsSome (shown_lines e)) }
+    {
+        Template::compile2(alloc, source, TemplateOptions::default())
+    }
+
+    /// The tree of a source under this name, or its refusal: `compile2` with nothing but the name.
+    pub fn compile_with_name(
+        alloc: Global,
+        source: &str,
+        name: String,
+    ) -> Result<Template, TemplateError>
+        ensures ok { IfOk result (λ template.
+            Compiles source.now (named_options (string_bytes name)) (compiled (tree_view template))) }
+        ensures err { IfErr result (λ e. (template_refusal_of e).reason ≢ template_out_of_memory
+            → Compiles source.now (named_options (string_bytes name)) (refused (template_refusal_of e))) }
+        ensures shown { IfErr result (λ e. (template_refusal_of e).reason ≢ template_out_of_memory
+            → IsSome (shown_lines e)) }
+    {
+        let options = TemplateOptions {
+            name: Some(name),
+            prevent_indent: false,
+        };
+        Template::compile2(alloc, source, options)
+    }
+
+    /// The tree of a source, or what the first unreadable tag is refused with: `InvalidSyntax` at its position, in
+    /// the template of the name that is given, or `Unnamed`. In time linear in the source.
+    pub fn compile2(
+        alloc: Global,
+        source: &str,
+        options: TemplateOptions,
+    ) -> Result<Template, TemplateError>
+        ensures ok { IfOk result (λ template.
+            Compiles source.now (options_view options) (compiled (tree_view template))) }
+        ensures err { IfErr result (λ e. (template_refusal_of e).reason ≢ template_out_of_memory
+            → Compiles source.now (options_view options) (refused (template_refusal_of e))) }
         ensures shown { IfErr result (λ e. (template_refusal_of e).reason ≢ template_out_of_memory
             → IsSome (shown_lines e)) }
     {
@@ -40,7 +85,7 @@ impl Template {
             let left = front.rest;
             let at = advance(place, front.slice);
             let Some(found) = tag(alloc, left)? else {
-                return Err(unreadable(alloc, source, at)?);
+                return Err(unreadable(alloc, source, options, at)?);
             };
             tree.add_text(place, front)?;
             tree.add_expression(alloc, at, found.path)?;
@@ -49,7 +94,7 @@ impl Template {
         }
         tree.add_text(place, front)?;
         Ok(Template {
-            name: None,
+            name: options.name,
             elements: tree.elements,
             mapping: tree.mapping,
         })
@@ -117,14 +162,22 @@ fn value_call(alloc: Global, path: Path) -> HelperTemplate
 }
 
 // The refusal of a tag that doesn't read.
-fn unreadable(alloc: Global, source: &str, at: TemplateMapping) -> Result<TemplateError, AllocError>
+fn unreadable(
+    alloc: Global,
+    source: &str,
+    options: TemplateOptions,
+    at: TemplateMapping,
+) -> Result<TemplateError, AllocError>
     ensures refusal { IfOk result (λ e. (template_refusal_of e).reason ≢ template_out_of_memory
-        → template_refusal_of e ≡ unreadable no_options (place_of at)) }
+        → template_refusal_of e ≡ unreadable (options_view options) (place_of at)) }
     ensures shown { IfOk result (λ e. (template_refusal_of e).reason ≢ template_out_of_memory
         → IsSome (shown_lines e)) }
 {
     let reason = TemplateErrorReason::InvalidSyntax(String::from_str(alloc, "unreadable tag")?);
-    let name = String::from_str(alloc, "Unnamed")?;
+    let name = match options.name {
+        Some(name) => name,
+        None => String::from_str(alloc, "Unnamed")?,
+    };
     Ok(
         TemplateError::of(reason)
             .at(alloc, source, at.0, at.1)

@@ -1,11 +1,12 @@
 //! The tree of a template.
 
 ghost use Rattle.std.specs.Prelude.{◌≡◌, option_map};
-ghost use Rattle.handlebars_template.specs.Tree.{as_name, is_value};
-ghost use Rattle.handlebars_template.specs.TreeView.{param_view, call_view};
+ghost use Rattle.handlebars_template.specs.Tree.{empty_tree, as_name, is_value};
+ghost use Rattle.handlebars_template.specs.TreeView.{tree_view, param_view, call_view};
 
 use handlebars_base::json::path::Path;
 use handlebars_base::json::value::Json;
+use std::alloc::Global;
 use std::collections::BTreeMap;
 
 /// Where an element begins: line and column from 1, the column in characters.
@@ -19,6 +20,19 @@ pub struct Template {
     pub name: Option<String>,
     pub elements: Vec<TemplateElement>,
     pub mapping: Vec<TemplateMapping>,
+}
+
+impl Template {
+    /// A template with no name and no element.
+    pub fn new(alloc: Global) -> Template
+        ensures { tree_view result ≡ empty_tree }
+    {
+        Template {
+            name: None,
+            elements: Vec::new(alloc),
+            mapping: Vec::new(alloc),
+        }
+    }
 }
 
 /// A part of a template.

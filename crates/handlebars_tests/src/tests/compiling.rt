@@ -1,8 +1,11 @@
 //! The trees of sources.
 
 use crate::tests::compiling::Part::{Text, Value};
-use handlebars::template::{HelperTemplate, Parameter, Template, TemplateElement, TemplateMapping};
-use handlebars::{Path, PathSeg};
+use crate::tests::helpers::refusal;
+use handlebars::template::{
+    HelperTemplate, Parameter, Template, TemplateElement, TemplateMapping, TemplateOptions,
+};
+use handlebars::{Path, PathSeg, TemplateError};
 use std::alloc::Global;
 use std::collections::BTreeMap;
 use std::test::Fail;
@@ -85,5 +88,44 @@ fn compiles_sources_to_trees(rt: HostRuntime) -> Result<(), Fail> {
             "at {source}"
         );
     }
+    Ok(())
+}
+
+// A source under a name, by both calls that take one.
+fn by_name(
+    alloc: Global,
+    source: &str,
+    name: &str,
+) -> Result<[Result<Template, TemplateError>; 2], Fail> {
+    let options = TemplateOptions {
+        name: Some(String::from_str(alloc, name)?),
+        prevent_indent: true,
+    };
+    Ok([
+        Template::compile_with_name(alloc, source, String::from_str(alloc, name)?),
+        Template::compile2(alloc, source, options),
+    ])
+}
+
+#[test]
+fn compiles_under_a_name(rt: HostRuntime) -> Result<(), Fail> {
+    let alloc = rt.alloc();
+    let mut wanted = tree(alloc, &[(Text("x"), 1, 1), (Value("a"), 1, 2)])?;
+    wanted.name = Some(String::from_str(alloc, "t")?);
+    for compiled in by_name(alloc, "x{{a}}", "t")? {
+        assert!(rt; compiled? == wanted);
+    }
+    for compiled in by_name(alloc, "ab{{a", "t")? {
+        let error = refusal(compiled)?;
+        assert_eq!(rt; error.name().map(|name| name.as_str()), Some("t"));
+        assert_eq!(rt; error.pos(), Some((1, 3)));
+    }
+    Ok(())
+}
+
+#[test]
+fn new_template_is_empty(rt: HostRuntime) -> Result<(), Fail> {
+    let alloc = rt.alloc();
+    assert!(rt; Template::new(alloc) == tree(alloc, &[])?);
     Ok(())
 }

@@ -3,7 +3,7 @@ use denote.Text.{Utf8}
 use denote.Shadow.{shadow}
 use Rattle.handlebars_template.specs.TreeView.{element_view, place_of}
 use Rattle.handlebars_template.proofs.Scan.{Scans}
-use Rattle.handlebars_template.proofs.template.tree.Template.compile.Given as goal
+use Rattle.handlebars_template.proofs.template.tree.Template.compile2.Given as goal
 
 abbrev pub invariant-tags : goal.invariant-tags
 invariant-tags l = record {

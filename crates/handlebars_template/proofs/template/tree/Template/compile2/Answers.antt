@@ -4,10 +4,10 @@ use Rattle.handlebars_base.proofs.OptionBinds.{empty, nonempty}
 use Rattle.handlebars_base.specs.PathView.{reference_of}
 use Rattle.handlebars_template.specs.Tag.{expression_tag}
 use Rattle.handlebars_template.specs.TreeView.{place_of}
-use Rattle.handlebars_template.specs.Compile.{no_options}
+use Rattle.handlebars_template.specs.OptionsView.{options_view}
 use Rattle.handlebars_template.proofs.Scan.{Scans-start, Compiles-unreadable, Scans-fits, Scans-fits_behind, IsCharBoundary-seam, take-seam, IsUtf8-front, Scans-step, length-rest}
 use Rattle.handlebars_template.proofs.Trees.{Compiles-tree}
-use Rattle.handlebars_template.proofs.template.tree.Template.compile.Goals as goal
+use Rattle.handlebars_template.proofs.template.tree.Template.compile2.Goals as goal
 
 pub tags-init : goal.tags-init
 tags-init c =
@@ -26,7 +26,7 @@ advance-at-requires-clause-column c = omega (arith, Scans-fits c.tags.invariant.
 
 pub returns-in_default-clause-err : goal.returns-in_default-clause-err
 returns-in_default-clause-err c = λ memory.
-    rw (c.in_ok-unreadable.ensures.refusal memory) (Compiles-unreadable c.tags.invariant.scans (nonempty c.tags.front.rest.now c.tags-test.ensures) (rw c.in_default.is at c.in_ok-found.ensures) no_options (place_of c.advance-at.result) c.advance-at.ensures)
+    rw (c.in_ok-unreadable.ensures.refusal memory) (Compiles-unreadable c.tags.invariant.scans (nonempty c.tags.front.rest.now c.tags-test.ensures) (rw c.in_default.is at c.in_ok-found.ensures) (options_view c.args.options) (place_of c.advance-at.result) c.advance-at.ensures)
 
 pub split_at-requires : goal.split_at-requires
 split_at-requires c =
@@ -66,4 +66,4 @@ tags-preserved c =
     }
 
 pub returns-clause-ok : goal.returns-clause-ok
-returns-clause-ok c = Compiles-tree c.tags.invariant.scans (empty c.tags.front.rest.now c.tags-test.ensures) _ refl c.in_ok-add_text-2.ensures.elements c.in_ok-add_text-2.ensures.places
+returns-clause-ok c = Compiles-tree c.tags.invariant.scans (empty c.tags.front.rest.now c.tags-test.ensures) _ (options_view c.args.options) refl c.in_ok-add_text-2.ensures.elements c.in_ok-add_text-2.ensures.places

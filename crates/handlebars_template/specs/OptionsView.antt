@@ -1,0 +1,10 @@
+-- The options that a `TemplateOptions` stands for.
+use Rattle.std.specs.Prelude.{option_map, string_bytes}
+use Rattle.handlebars_template.specs.Compile.{Options}
+use Rattle.handlebars_template.specs.declared.template.compile.TemplateOptions.{TemplateOptions}
+
+abbrev pub options_view : TemplateOptions → Options
+options_view options = record {
+  name = option_map string_bytes options.name;
+  prevent_indent = options.prevent_indent;
+}
