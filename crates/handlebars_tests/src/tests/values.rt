@@ -47,41 +47,26 @@ fn values_keep_the_path_as_written(rt: HostRuntime) -> Result<(), Fail> {
     let alloc = rt.alloc();
     let value = Json::from_str(alloc, "[1]")?;
     let path = vec![in alloc; String::from_str(alloc, "a")?]?;
+    let derived = ScopedJson::from(Json::Bool(true));
+    let found = ScopedJson::Context(&value, path);
     let cases = [
-        (ScopedJson::Constant(&value), "[1]", None, true, false),
-        (
-            ScopedJson::from(Json::Bool(true)),
-            "true",
-            None,
-            false,
-            false,
-        ),
-        (
-            ScopedJson::Context(&value, path),
-            "[1]",
-            Some(1),
-            false,
-            false,
-        ),
-        (ScopedJson::Missing, "", None, false, true),
+        (ScopedJson::Constant(&value), "[1]", None, true),
+        (derived, "true", None, false),
+        (found, "[1]", Some(1), false),
+        (ScopedJson::Missing, "", None, false),
     ];
-    for (scoped, text, path_len, constant, missing) in cases {
+    for (scoped, text, path_len, constant) in cases {
         let given = PathAndJson::new(Some(String::from_str(alloc, "./a")?), scoped);
-        assert_eq!(rt;
-            given.relative_path().map(|path| path.as_str()),
-            Some("./a")
-        );
+        let written = given.relative_path();
+        assert!(rt; written.is_some_and(|path| path.as_str() == "./a"));
         assert_eq!(rt; given.context_path().map(|path| path.len()), path_len);
         assert_eq!(rt; given.try_get_constant_value() == Some(&value), constant);
-        assert_eq!(rt; given.is_value_missing(), missing);
-        assert_eq!(rt; given.value().is_null(), missing);
+        assert_eq!(rt; given.is_value_missing(), text.is_empty());
+        assert_eq!(rt; given.value().is_null(), text.is_empty());
         assert_eq!(rt; given.value().render(alloc)?.as_str(), text);
         assert_eq!(rt; given.render(alloc)?.as_str(), text);
     }
-    assert!(rt;
-        PathAndJson::new(None, ScopedJson::Missing)
-            .relative_path()
-            .is_none()
-    );
+    let unnamed = PathAndJson::new(None, ScopedJson::Missing);
+    assert!(rt; unnamed.relative_path().is_none());
     Ok(())
 }
