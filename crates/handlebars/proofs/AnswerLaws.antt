@@ -52,7 +52,7 @@ FromSource-one options source _ _ (does_not {r = f} a) (compiles {t = t} b) =
     absurd (compiled≢refused (one_compilation source options (compiled t) (refused f) b a))
 FromSource-one options source _ _ (does_not {r = f} a) (does_not {r = g} b) =
     ap (λ (z : TemplateRefusal). no_tree (plain_refusal (of_template z)))
-      (refused-injective (one_compilation source options (refused f) (refused g) a b))
+    (refused-injective (one_compilation source options (refused f) (refused g) a b))
 
 Some-injective : {t u : Tree} → Some t ≡ Some u → t ≡ u
 Some-injective e = cc

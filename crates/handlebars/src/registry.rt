@@ -52,8 +52,11 @@ impl Registry {
         ensures kept { OnErr result (IsUnchanged self.old self.new) }
     {
         let key = String::from_str(self.alloc, name)?;
-        let template =
-            Template::compile_with_name(self.alloc, source, String::from_str(self.alloc, name)?)?;
+        let template = Template::compile_with_name(
+            self.alloc,
+            source,
+            String::from_str(self.alloc, name)?,
+        )?;
         match self.templates.insert(key, template) {
             Ok(_) => Ok(()),
             Err(_) => Err(AllocError.into()),

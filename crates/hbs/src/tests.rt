@@ -130,7 +130,8 @@ fn renders_templates_over_data(rt: HostRuntime) -> Result<(), Fail> {
     Ok(())
 }
 
-const UNREADABLE: &str = r#"Failed to parse template Template error: invalid handlebars syntax: unreadable tag
+const UNREADABLE: &str =
+    r#"Failed to parse template Template error: invalid handlebars syntax: unreadable tag
     --> Template error in "Unnamed":1:3
      |
    0 | ab{{name
@@ -153,12 +154,7 @@ fn refuses_texts(rt: HostRuntime) -> Result<(), Fail> {
             1,
             "Error rendering \"Unnamed template\" line 1, col 2: Cannot access array/vector with string index, x\n",
         ),
-        (
-            "ab{{name",
-            "null",
-            1,
-            UNREADABLE,
-        ),
+        ("ab{{name", "null", 1, UNREADABLE),
     ];
     for (template, data, status, err) in table {
         let seen = seen_of(

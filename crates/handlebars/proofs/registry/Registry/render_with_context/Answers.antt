@@ -31,7 +31,7 @@ returns-clause-ok g c = IfOk-weaker c.renders.result _ _
 pub returns-clause-err : goal.returns-clause-err
 returns-clause-err g c = IfErr-weaker c.renders.result _ _
     (λ e is other. refuses_with _ _ _ _ (is_stored (sym (rw c.in-Some.is at c.get_template.ensures))) c.in_ok-rc.ensures.state
-      (is c.in_ok-rc.ensures.ready other))
+    (is c.in_ok-rc.ensures.ready other))
     c.renders.ensures.err
 
 pub returns-clause-one : goal.returns-clause-one
