@@ -1,5 +1,5 @@
 -- What is spelled as a literal is read, and a text has at most one literal in front.
-use Rattle.std.proofs.Common.{◌≡◌, ℕ, suc, ◌+◌, ◌-◌, ◌≤◌, Bool, true, false, ◌||◌, List, [], ◌∷◌, ◌++◌, length, take, Some, None, refl, sym, ap, subst, ◌∙◌, append_assoc, arith, inl, inr, length-append, max}
+use Rattle.std.proofs.Common.{is_some, ◌≡◌, ℕ, suc, ◌+◌, ◌-◌, ◌≤◌, Bool, true, false, ◌||◌, List, [], ◌∷◌, ◌++◌, length, take, Some, None, refl, sym, ap, subst, ◌∙◌, append_assoc, arith, inl, inr, length-append, max}
 use Rattle.std.specs.Prelude.{◌==◌}
 use Rattle.std.proofs.lemmas.Bool.{ne_eqb, cases_Bool}
 use Rattle.std.proofs.lemmas.List.{take_at}
@@ -8,8 +8,8 @@ use Rattle.handlebars_base.specs.Bytes.{is_white}
 use Rattle.handlebars_base.specs.PathReading.{after}
 use Rattle.handlebars_base.proofs.OptionBinds.{bind_some, guard_some}
 use Rattle.handlebars_lines.specs.Runs.{goes, run}
-use Rattle.handlebars_lines.specs.Literal.{IsWhite, is_inner, is_number, is_word, Bracket, array, object, opener, closer, Lead, unnamed, keyed, spelled_lead, IsLead, Literal, quoted, single_quoted, number, word, empty, filled, Entries, closing, another, spelled_literal, spelled_entries, IsLiteral, AreEntries, literal_depth, entries_depth, goes_on, starts}
-use Rattle.handlebars_lines.specs.LiteralReading.{behind_white, behind_quote, plain_at, atom_at, key_at, behind_lead, Token, atom, hollow, opening, next, shutting, finished, misfit, bracket_token, value_token, entry_token, Place, ahead, behind, taken, literal_step, most, Slice, slice_in, literal_at}
+use Rattle.handlebars_lines.specs.Literal.{IsWhite, is_inner, is_number, is_word, Bracket, array, object, opener, closer, Lead, unnamed, keyed, spelled_lead, IsLead, Literal, quoted, single_quoted, number, word, empty, filled, Entries, closing, another, spelled_literal, spelled_entries, is_element, IsLiteral, AreEntries, literal_depth, entries_depth, goes_on, starts}
+use Rattle.handlebars_lines.specs.LiteralReading.{behind_white, behind_quote, plain_at, undoubled_at, atom_at, key_at, behind_lead, Token, atom, hollow, opening, next, shutting, finished, misfit, bracket_token, value_token, entry_token, Place, ahead, behind, innermost, taken, literal_step, most, Slice, slice_in, literal_at}
 use Rattle.handlebars_lines.specs.Laws.{HasLiteral, NoLiteral}
 use Rattle.handlebars_lines.proofs.Fronts.{behind_white-append, starts-other, starts-append, after-not, after-same, run_of-append, behind_run-append, behind_quote-append}
 use Rattle.handlebars_lines.proofs.Stepping.{Runs, last, onward, Shortens, run-runs, run-some}
@@ -29,7 +29,7 @@ taken_left ks finished x s' t' is = absurd cc
 taken_left ks misfit x s' t' is = absurd cc
 
 pub step_shorter : (s : Place) (t : List ℕ) (x : ℕ) (s' : Place) (t' : List ℕ) → literal_step s t ≡ goes x s' t' → Shorter t t'
-step_shorter (ahead ks) t x s' t' is = value_shorter t t' (value_token t) (value_tells t) (taken_left ks (value_token t) x s' t' is)
+step_shorter (ahead ks) t x s' t' is = value_shorter (is_some (innermost ks)) t t' (value_token (is_some (innermost ks)) t) (value_tells (is_some (innermost ks)) t) (taken_left ks (value_token (is_some (innermost ks)) t) x s' t' is)
 step_shorter (behind []) t x s' t' is = absurd cc
 step_shorter (behind (k ∷ ks)) t x s' t' is = entry_shorter k t t' (entry_token k (behind_white t)) (entry_tells k t) (taken_left (k ∷ ks) (entry_token k (behind_white t)) x s' t' is)
 
@@ -96,32 +96,36 @@ entries_begin k (another lead l w more) rest = refl
 no_mark : (c : ℕ) (t : List ℕ) → goes_on c ≡ false → starts goes_on t ≡ true → after c t ≡ None
 no_mark c t never h = after-not c t (starts-other goes_on (λ b. b == c) t (goes_other c never) h)
 
-atom_plain : (n rest : List ℕ) → (is_number n || is_word n) ≡ true → starts goes_on rest ≡ false → value_token (n ++ rest) ≡ atom rest
-unfolding value_token atom_at plain_at
-atom_plain n rest fits stop =
+atom_plain : (inside : Bool) (n rest : List ℕ) → (is_number n || is_word n) ≡ true → starts goes_on rest ≡ false → value_token inside (n ++ rest) ≡ atom rest
+unfolding value_token atom_at undoubled_at plain_at
+atom_plain true n rest fits stop =
+    let goes_so = plain_goes_on n fits in
+    let first = starts-append goes_on n rest (plain_begins n goes_so) in
+    rw (no_mark 91 (n ++ rest) refl first, no_mark 123 (n ++ rest) refl first, no_mark 34 (n ++ rest) refl first, run_of-append n rest goes_so.all stop, behind_run-append n rest goes_so.all stop, fits) refl
+atom_plain false n rest fits stop =
     let goes_so = plain_goes_on n fits in
     let first = starts-append goes_on n rest (plain_begins n goes_so) in
     rw (no_mark 91 (n ++ rest) refl first, no_mark 123 (n ++ rest) refl first, no_mark 34 (n ++ rest) refl first, no_mark 39 (n ++ rest) refl first, run_of-append n rest goes_so.all stop, behind_run-append n rest goes_so.all stop, fits) refl
 
-atom_quoted : (s rest : List ℕ) → is_inner 34 false s ≡ true → value_token (34 ∷ ((s ++ 34 ∷ []) ++ rest)) ≡ atom rest
+atom_quoted : (inside : Bool) (s rest : List ℕ) → is_inner 34 false s ≡ true → value_token inside (34 ∷ ((s ++ 34 ∷ []) ++ rest)) ≡ atom rest
 unfolding value_token atom_at
-atom_quoted s rest fits =
+atom_quoted inside s rest fits =
     let behind_it : behind_quote 34 false ((s ++ 34 ∷ []) ++ rest) ≡ Some rest = ap (behind_quote 34 false) (append_assoc s (34 ∷ []) rest) ∙ behind_quote-append 34 false s rest fits in
     let text : List ℕ = 34 ∷ ((s ++ 34 ∷ []) ++ rest) in
     rw (after-not 91 (34 ∷ ((s ++ 34 ∷ []) ++ rest)) refl, after-not 123 (34 ∷ ((s ++ 34 ∷ []) ++ rest)) refl, after-same 34 ((s ++ 34 ∷ []) ++ rest), behind_it) refl
 
-atom_single : (s rest : List ℕ) → is_inner 39 false s ≡ true → value_token (39 ∷ ((s ++ 39 ∷ []) ++ rest)) ≡ atom rest
-unfolding value_token atom_at
+atom_single : (s rest : List ℕ) → is_inner 39 false s ≡ true → value_token false (39 ∷ ((s ++ 39 ∷ []) ++ rest)) ≡ atom rest
+unfolding value_token atom_at undoubled_at
 atom_single s rest fits =
     let behind_it : behind_quote 39 false ((s ++ 39 ∷ []) ++ rest) ≡ Some rest = ap (behind_quote 39 false) (append_assoc s (39 ∷ []) rest) ∙ behind_quote-append 39 false s rest fits in
     rw (after-not 91 (39 ∷ ((s ++ 39 ∷ []) ++ rest)) refl, after-not 123 (39 ∷ ((s ++ 39 ∷ []) ++ rest)) refl, after-not 34 (39 ∷ ((s ++ 39 ∷ []) ++ rest)) refl, after-same 39 ((s ++ 39 ∷ []) ++ rest), behind_it) refl
 
 -- ---- tokens: brackets
 
-value_bracket : (k : Bracket) (t : List ℕ) → value_token (opener k ∷ t) ≡ bracket_token k (behind_white t)
+value_bracket : (inside : Bool) (k : Bracket) (t : List ℕ) → value_token inside (opener k ∷ t) ≡ bracket_token k (behind_white t)
 unfolding value_token
-value_bracket array t = rw (after-same 91 t) refl
-value_bracket object t = rw (after-not 91 (123 ∷ t) refl, after-same 123 t) refl
+value_bracket inside array t = rw (after-same 91 t) refl
+value_bracket inside object t = rw (after-not 91 (123 ∷ t) refl, after-same 123 t) refl
 
 token_hollow : (k : Bracket) (w rest : List ℕ) → IsWhite w → bracket_token k (behind_white ((w ++ closer k ∷ []) ++ rest)) ≡ hollow rest
 unfolding bracket_token
@@ -175,6 +179,11 @@ unfolding entry_token
 token_shutting array v rest white = rw (behind_white-append v (93 ∷ rest) white refl, after-not 44 (93 ∷ rest) refl, after-same 93 rest) refl
 token_shutting object v rest white = rw (behind_white-append v (125 ∷ rest) white refl, after-not 44 (125 ∷ rest) refl, after-same 125 rest) refl
 
+-- outside brackets
+atom_single_in : (ks : List Bracket) (s rest : List ℕ) → is_inner 39 false s ≡ true → (is_some (innermost ks) ≡ true → false ≡ true) → value_token (is_some (innermost ks)) (39 ∷ ((s ++ 39 ∷ []) ++ rest)) ≡ atom rest
+atom_single_in [] s rest fits element = atom_single s rest fits
+atom_single_in (k ∷ ks) s rest fits element = let never : false ≡ true = element refl in absurd cc
+
 -- ---- whole literals
 
 or_true : (b : Bool) → (b || true) ≡ true
@@ -182,18 +191,18 @@ or_true true = refl
 or_true false = refl
 
 mutual
-  literal_runs : (l : Literal) (ks : List Bracket) (rest xs e : List ℕ) → IsLiteral l → starts goes_on rest ≡ false → Runs literal_step (behind ks) rest xs e → Runs literal_step (ahead ks) (spelled_literal l ++ rest) (heights (length ks) l ++ xs) e
-  literal_runs (quoted s) ks rest xs e fits stop h = onward 0 (behind ks) rest (ap (taken ks) (atom_quoted s rest fits)) h
-  literal_runs (single_quoted s) ks rest xs e fits stop h = onward 0 (behind ks) rest (ap (taken ks) (atom_single s rest fits)) h
-  literal_runs (number t) ks rest xs e fits stop h = onward 0 (behind ks) rest (ap (taken ks) (atom_plain t rest (rw fits refl) stop)) h
-  literal_runs (word t) ks rest xs e fits stop h = onward 0 (behind ks) rest (ap (taken ks) (atom_plain t rest (rw fits (or_true (is_number t))) stop)) h
-  literal_runs (empty k w) ks rest xs e fits stop h = onward (suc (length ks)) (behind ks) rest (ap (taken ks) (value_bracket k ((w ++ closer k ∷ []) ++ rest) ∙ token_hollow k w rest fits)) h
-  literal_runs (filled k lead l v more) ks rest xs e fits stop h =
+  literal_runs : (l : Literal) (ks : List Bracket) (rest xs e : List ℕ) → IsLiteral l → (is_some (innermost ks) ≡ true → is_element l ≡ true) → starts goes_on rest ≡ false → Runs literal_step (behind ks) rest xs e → Runs literal_step (ahead ks) (spelled_literal l ++ rest) (heights (length ks) l ++ xs) e
+  literal_runs (quoted s) ks rest xs e fits element stop h = onward 0 (behind ks) rest (ap (taken ks) (atom_quoted (is_some (innermost ks)) s rest fits)) h
+  literal_runs (single_quoted s) ks rest xs e fits element stop h = onward 0 (behind ks) rest (ap (taken ks) (atom_single_in ks s rest fits element)) h
+  literal_runs (number t) ks rest xs e fits element stop h = onward 0 (behind ks) rest (ap (taken ks) (atom_plain (is_some (innermost ks)) t rest (rw fits refl) stop)) h
+  literal_runs (word t) ks rest xs e fits element stop h = onward 0 (behind ks) rest (ap (taken ks) (atom_plain (is_some (innermost ks)) t rest (rw fits (or_true (is_number t))) stop)) h
+  literal_runs (empty k w) ks rest xs e fits element stop h = onward (suc (length ks)) (behind ks) rest (ap (taken ks) (value_bracket (is_some (innermost ks)) k ((w ++ closer k ∷ []) ++ rest) ∙ token_hollow k w rest fits)) h
+  literal_runs (filled k lead l v more) ks rest xs e fits element stop h =
       let follow = v ++ (spelled_entries k more ++ rest) in
-      let behind_first = entries_run more k ks v rest xs e fits.2 fits.3 h in
-      let first = literal_runs l (k ∷ ks) follow (entry_heights (suc (length ks)) more ++ xs) e fits.1 (white_then v (spelled_entries k more ++ rest) fits.2 (entries_begin k more rest)) behind_first in
+      let behind_first = entries_run more k ks v rest xs e fits.3 fits.4 h in
+      let first = literal_runs l (k ∷ ks) follow (entry_heights (suc (length ks)) more ++ xs) e fits.2 (λ inner. fits.1) (white_then v (spelled_entries k more ++ rest) fits.3 (entries_begin k more rest)) behind_first in
       let begin : literal_step (ahead ks) (opener k ∷ (spelled_lead lead ++ (spelled_literal l ++ follow))) ≡ goes (suc (length ks)) (ahead (k ∷ ks)) (spelled_literal l ++ follow) =
-      ap (taken ks) (value_bracket k (spelled_lead lead ++ (spelled_literal l ++ follow)) ∙ token_opening k lead (spelled_literal l ++ follow) fits.0 (literal_starts l follow fits.1)) in
+      ap (taken ks) (value_bracket (is_some (innermost ks)) k (spelled_lead lead ++ (spelled_literal l ++ follow)) ∙ token_opening k lead (spelled_literal l ++ follow) fits.0 (literal_starts l follow fits.2)) in
       let whole = onward (suc (length ks)) (ahead (k ∷ ks)) (spelled_literal l ++ follow) begin first in
       subst (λ (z : List ℕ). Runs literal_step (ahead ks) z (heights (length ks) (filled k lead l v more) ++ xs) e) (ap (λ (z : List ℕ). opener k ∷ z) (regroup (spelled_lead lead) (spelled_literal l) v (spelled_entries k more) rest))
       (subst (λ (z : List ℕ). Runs literal_step (ahead ks) (opener k ∷ (spelled_lead lead ++ (spelled_literal l ++ follow))) (suc (length ks) ∷ z) e) (sym (append_assoc (heights (suc (length ks)) l) (entry_heights (suc (length ks)) more) xs)) whole)
@@ -202,9 +211,9 @@ mutual
   entries_run closing k ks v rest xs e white fits h = onward 0 (behind ks) rest (ap (taken (k ∷ ks)) (token_shutting k v rest white)) h
   entries_run (another lead l u es) k ks v rest xs e white fits h =
       let follow = u ++ (spelled_entries k es ++ rest) in
-      let behind_first = entries_run es k ks u rest xs e fits.2 fits.3 h in
-      let first = literal_runs l (k ∷ ks) follow (entry_heights (suc (length ks)) es ++ xs) e fits.1 (white_then u (spelled_entries k es ++ rest) fits.2 (entries_begin k es rest)) behind_first in
-      let whole = onward 0 (ahead (k ∷ ks)) (spelled_literal l ++ follow) (ap (taken (k ∷ ks)) (token_next k v lead (spelled_literal l ++ follow) white fits.0 (literal_starts l follow fits.1))) first in
+      let behind_first = entries_run es k ks u rest xs e fits.3 fits.4 h in
+      let first = literal_runs l (k ∷ ks) follow (entry_heights (suc (length ks)) es ++ xs) e fits.2 (λ inner. fits.1) (white_then u (spelled_entries k es ++ rest) fits.3 (entries_begin k es rest)) behind_first in
+      let whole = onward 0 (ahead (k ∷ ks)) (spelled_literal l ++ follow) (ap (taken (k ∷ ks)) (token_next k v lead (spelled_literal l ++ follow) white fits.0 (literal_starts l follow fits.2))) first in
       subst (λ (z : List ℕ). Runs literal_step (behind (k ∷ ks)) (v ++ 44 ∷ z) (entry_heights (suc (length ks)) (another lead l u es) ++ xs) e) (regroup (spelled_lead lead) (spelled_literal l) u (spelled_entries k es) rest)
       (subst (λ (z : List ℕ). Runs literal_step (behind (k ∷ ks)) (v ++ 44 ∷ (spelled_lead lead ++ (spelled_literal l ++ follow))) (0 ∷ z) e) (sym (append_assoc (heights (suc (length ks)) l) (entry_heights (suc (length ks)) es) xs)) whole)
 
@@ -265,7 +274,7 @@ literal_at-some t f e =
 pub literal_at-is : (t : List ℕ) (f : Slice) → HasLiteral t f → literal_at t ≡ Some f
 unfolding literal_at
 literal_at-is t f h =
-    let runs : Runs literal_step (ahead []) (spelled_literal h.literal ++ f.rest) (heights 0 h.literal ++ []) f.rest = literal_runs h.literal [] f.rest [] f.rest h.is.fits h.is.stops (last refl) in
+    let runs : Runs literal_step (ahead []) (spelled_literal h.literal ++ f.rest) (heights 0 h.literal ++ []) f.rest = literal_runs h.literal [] f.rest [] f.rest h.is.fits (λ never. absurd cc) h.is.stops (last refl) in
     let goes_so = run-some literal_step shortens (length t + 1) (ahead []) t (heights 0 h.literal ++ []) f.rest (omega arith) (subst (λ (z : List ℕ). Runs literal_step (ahead []) z (heights 0 h.literal ++ []) f.rest) (sym h.is.whole) runs) in
     let depth : most 0 (heights 0 h.literal ++ []) ≡ f.depth = most-whole h.literal ∙ sym h.depth in
     let raw : take (length t - length f.rest) t ≡ f.raw = take-front t (spelled_literal h.literal) f.rest h.is.whole ∙ sym h.raw in

@@ -1,8 +1,8 @@
 -- What the steps read is spelled as a literal.
-use Rattle.std.proofs.Common.{◌≡◌, ℕ, suc, true, List, [], ◌∷◌, ◌++◌, length, refl, sym, ap, subst, ◌∙◌, append_assoc}
+use Rattle.std.proofs.Common.{is_some, ◌≡◌, ℕ, suc, true, List, [], ◌∷◌, ◌++◌, length, refl, sym, ap, subst, ◌∙◌, append_assoc}
 use Rattle.handlebars_lines.specs.Runs.{goes, ends}
-use Rattle.handlebars_lines.specs.Literal.{IsWhite, Bracket, opener, closer, spelled_lead, Literal, quoted, single_quoted, number, word, empty, filled, Entries, closing, another, spelled_literal, spelled_entries, IsLiteral, AreEntries}
-use Rattle.handlebars_lines.specs.LiteralReading.{behind_white, Token, atom, hollow, opening, next, shutting, finished, misfit, value_token, entry_token, Place, ahead, behind, taken, literal_step}
+use Rattle.handlebars_lines.specs.Literal.{IsWhite, Bracket, opener, closer, spelled_lead, Literal, quoted, single_quoted, number, word, empty, filled, Entries, closing, another, spelled_literal, spelled_entries, IsLiteral, is_element, AreEntries}
+use Rattle.handlebars_lines.specs.LiteralReading.{behind_white, Token, atom, hollow, opening, next, shutting, finished, misfit, value_token, entry_token, Place, ahead, behind, innermost, taken, literal_step}
 use Rattle.handlebars_lines.proofs.Stepping.{goes-parts, Runs, last, onward}
 use Rattle.handlebars_lines.proofs.Tokens.{is_flat, ValueTells, value_tells, EntryTells, entry_tells}
 
@@ -42,6 +42,7 @@ pub record LiteralThen (ks : List Bracket) (t xs e : List ℕ) : Type 0 where
   pub rest : List ℕ
   pub others : List ℕ
   pub fits : IsLiteral literal
+  pub element : is_some (innermost ks) ≡ true → is_element literal ≡ true
   pub whole : t ≡ spelled_literal literal ++ rest
   pub found : xs ≡ heights (length ks) literal ++ others
   pub closes : Closes ks rest others e
@@ -64,7 +65,7 @@ found_back x y s r q t u v xs e is h = subst (λ (z : ℕ). Spelled q v (z ∷ x
 
 -- ---- a step
 
-value_then : (ks : List Bracket) (t : List ℕ) (token : Token) (x : ℕ) (s' : Place) (t' xs e : List ℕ) → ValueTells t token → taken ks token ≡ goes x s' t' → Spelled s' t' xs e → LiteralThen ks t (x ∷ xs) e
+value_then : (ks : List Bracket) (t : List ℕ) (token : Token) (x : ℕ) (s' : Place) (t' xs e : List ℕ) → ValueTells (is_some (innermost ks)) t token → taken ks token ≡ goes x s' t' → Spelled s' t' xs e → LiteralThen ks t (x ∷ xs) e
 value_then ks t (atom r) x s' t' xs e h is after =
     let c : Closes ks r xs e = spelled_back 0 x (behind ks) s' r t' xs e is after in
     found_back 0 x (behind ks) s' (ahead ks) r t' t xs e is (record {
@@ -72,6 +73,7 @@ value_then ks t (atom r) x s' t' xs e h is after =
       rest = r;
       others = xs;
       fits = h.fits;
+      element = h.element;
       whole = h.whole;
       found = ap (λ (z : List ℕ). z ++ xs) (sym (flat_heights (length ks) h.atom h.flat));
       closes = c;
@@ -83,6 +85,7 @@ value_then ks t (hollow r) x s' t' xs e h is after =
       rest = r;
       others = xs;
       fits = h.is;
+      element = λ inner. refl;
       whole = h.whole ∙ ap (λ (z : List ℕ). opener h.kind ∷ z) (sym (append_assoc h.white (closer h.kind ∷ []) r));
       found = refl;
       closes = c;
@@ -95,7 +98,8 @@ value_then ks t (opening k r) x s' t' xs e h is after =
       literal = filled k h.lead inner.literal c.0 c.1;
       rest = c.2;
       others = c.3;
-      fits = (h.fits, inner.fits, c.4, c.5);
+      fits = (h.fits, inner.element refl, inner.fits, c.4, c.5);
+      element = λ inner. refl;
       whole = h.whole ∙ ap (λ (z : List ℕ). opener k ∷ z) (ap (λ (z : List ℕ). spelled_lead h.lead ++ z) (inner.whole ∙ ap (λ (z : List ℕ). spelled_literal inner.literal ++ z) c.6) ∙ regroup (spelled_lead h.lead) (spelled_literal inner.literal) c.0 (spelled_entries k c.1) c.2);
       found = ap (λ (z : List ℕ). suc (length ks) ∷ z) (inner.found ∙ ap (λ (z : List ℕ). heights (suc (length ks)) inner.literal ++ z) c.7 ∙ sym (append_assoc (heights (suc (length ks)) inner.literal) (entry_heights (suc (length ks)) c.1) c.3));
       closes = c.8;
@@ -120,7 +124,7 @@ entry_then k ks t (next r) x s' t' xs e h is after =
       c.2,
       c.3,
       h.is,
-      (h.fits, inner.fits, c.4, c.5),
+      (h.fits, inner.element refl, inner.fits, c.4, c.5),
       inside ∙ ap (λ (z : List ℕ). h.white ++ (44 ∷ z)) (regroup (spelled_lead h.lead) (spelled_literal inner.literal) c.0 (spelled_entries k c.1) c.2),
       ap (λ (z : List ℕ). 0 ∷ z) (inner.found ∙ ap (λ (z : List ℕ). heights (suc (length ks)) inner.literal ++ z) c.7 ∙ sym (append_assoc (heights (suc (length ks)) inner.literal) (entry_heights (suc (length ks)) c.1) c.3)),
       c.8,
@@ -132,13 +136,13 @@ entry_then k ks t finished x s' t' xs e h is after = absurd h
 entry_then k ks t misfit x s' t' xs e h is after = absurd cc
 
 step_then : (s : Place) (t : List ℕ) (x : ℕ) (s' : Place) (t' xs e : List ℕ) → literal_step s t ≡ goes x s' t' → Spelled s' t' xs e → Spelled s t (x ∷ xs) e
-step_then (ahead ks) t x s' t' xs e is after = value_then ks t (value_token t) x s' t' xs e (value_tells t) is after
+step_then (ahead ks) t x s' t' xs e is after = value_then ks t (value_token (is_some (innermost ks)) t) x s' t' xs e (value_tells (is_some (innermost ks)) t) is after
 step_then (behind []) t x s' t' xs e is after = absurd cc
 step_then (behind (k ∷ ks)) t x s' t' xs e is after = entry_then k ks t (entry_token k (behind_white t)) x s' t' xs e (entry_tells k t) is after
 
 -- ---- the end
 
-value_ends : (ks : List Bracket) (t : List ℕ) (token : Token) → ValueTells t token → taken ks token ≡ ends → ⊥
+value_ends : (ks : List Bracket) (t : List ℕ) (token : Token) → ValueTells (is_some (innermost ks)) t token → taken ks token ≡ ends → ⊥
 value_ends ks t (atom r) h is = absurd cc
 value_ends ks t (hollow r) h is = absurd cc
 value_ends ks t (opening k r) h is = absurd cc
@@ -157,7 +161,7 @@ entry_ends k ks t finished h is = h
 entry_ends k ks t misfit h is = absurd cc
 
 end_then : (s : Place) (t : List ℕ) → literal_step s t ≡ ends → Spelled s t [] t
-end_then (ahead ks) t is = absurd (value_ends ks t (value_token t) (value_tells t) is)
+end_then (ahead ks) t is = absurd (value_ends ks t (value_token (is_some (innermost ks)) t) (value_tells (is_some (innermost ks)) t) is)
 end_then (behind []) t is = (refl, refl)
 end_then (behind (k ∷ ks)) t is = absurd (entry_ends k (k ∷ ks) t (entry_token k (behind_white t)) (entry_tells k t) is)
 

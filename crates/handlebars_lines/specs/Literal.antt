@@ -123,6 +123,15 @@ abbrev mutual
   spelled_entries k (another lead l w more) =
       comma ∷ (spelled_lead lead ++ (spelled_literal l ++ (w ++ spelled_entries k more)))
 
+-- a text inside brackets stands in double quotes
+abbrev pub is_element : Literal → Bool
+is_element (quoted t) = true
+is_element (single_quoted t) = false
+is_element (number t) = true
+is_element (word t) = true
+is_element (empty k w) = true
+is_element (filled k lead l w more) = true
+
 abbrev mutual
   pub IsLiteral : Literal → Type 0
   IsLiteral (quoted t) = is_inner double_quote false t ≡ true
@@ -130,11 +139,13 @@ abbrev mutual
   IsLiteral (number t) = is_number t ≡ true
   IsLiteral (word t) = is_word t ≡ true
   IsLiteral (empty k w) = IsWhite w
-  IsLiteral (filled k lead l w more) = IsLead k lead × IsLiteral l × IsWhite w × AreEntries k more
+  IsLiteral (filled k lead l w more) =
+      IsLead k lead × (is_element l ≡ true) × IsLiteral l × IsWhite w × AreEntries k more
 
   pub AreEntries : Bracket → Entries → Type 0
   AreEntries k closing = Unit {0}
-  AreEntries k (another lead l w more) = IsLead k lead × IsLiteral l × IsWhite w × AreEntries k more
+  AreEntries k (another lead l w more) =
+      IsLead k lead × (is_element l ≡ true) × IsLiteral l × IsWhite w × AreEntries k more
 
 -- the most brackets open at once
 abbrev mutual

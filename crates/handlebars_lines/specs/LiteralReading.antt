@@ -1,5 +1,5 @@
 -- Reading a literal from left to right, with the kinds of its open brackets, as functions on lists.
-use Rattle.std.specs.Prelude.{ℕ, suc, ◌+◌, ◌-◌, Bool, true, false, ◌||◌, ◌==◌, if◌then◌else◌, max, List, [], ◌∷◌, length, take, drop, Option, Some, None}
+use Rattle.std.specs.Prelude.{ℕ, suc, ◌+◌, ◌-◌, Bool, true, false, ◌||◌, ◌==◌, if◌then◌else◌, max, List, [], ◌∷◌, length, take, drop, Option, Some, None, is_some}
 use Rattle.std.specs.List.{prefix_len}
 use Rattle.handlebars_base.specs.Bytes.{Text, double_quote, single_quote, colon, backslash, left_bracket, left_brace, is_white}
 use Rattle.handlebars_base.specs.PathReading.{◌>>=◌, with_or, after}
@@ -31,11 +31,14 @@ behind_run t = drop (prefix_len goes_on t) t
 unfoldable pub plain_at : Text → Option Text
 plain_at t = if is_number (run_of t) || is_word (run_of t) then Some (behind_run t) else None
 
--- what follows a text in quotes, a number or a word
-unfoldable pub atom_at : Text → Option Text
-atom_at t =
-    with_or (after double_quote t) (behind_quote double_quote false)
-    (with_or (after single_quote t) (behind_quote single_quote false) (plain_at t))
+-- what follows a number or a word, or outside brackets a text in single quotes
+unfoldable pub undoubled_at : Bool → Text → Option Text
+undoubled_at true t = plain_at t
+undoubled_at false t = with_or (after single_quote t) (behind_quote single_quote false) (plain_at t)
+
+-- what follows a text in quotes, a number or a word, inside brackets or not
+unfoldable pub atom_at : Bool → Text → Option Text
+atom_at inside t = with_or (after double_quote t) (behind_quote double_quote false) (undoubled_at inside t)
 
 -- what follows a key's colon and white
 abbrev pub behind_colon : Text → Option Text
@@ -65,11 +68,11 @@ pub data Token : Type 0 where
 unfoldable pub bracket_token : Bracket → Text → Token
 bracket_token k t = with_or (after (closer k) t) hollow (with_or (behind_lead k t) (opening k) misfit)
 
--- where a literal is to stand
-unfoldable pub value_token : Text → Token
-value_token t =
+-- where a literal is to stand, inside brackets or not
+unfoldable pub value_token : Bool → Text → Token
+value_token inside t =
     with_or (after left_bracket t) (λ r. bracket_token array (behind_white r))
-    (with_or (after left_brace t) (λ r. bracket_token object (behind_white r)) (with_or (atom_at t) atom misfit))
+    (with_or (after left_brace t) (λ r. bracket_token object (behind_white r)) (with_or (atom_at inside t) atom misfit))
 
 -- behind a comma
 abbrev pub comma_token : Bracket → Text → Token
@@ -85,7 +88,7 @@ behind_token None t = finished
 behind_token (Some k) t = entry_token k (behind_white t)
 
 unfoldable pub token_at : Bool → Option Bracket → Text → Token
-token_at true inner t = value_token t
+token_at true inner t = value_token (is_some inner) t
 token_at false inner t = behind_token inner t
 
 -- ---- steps
@@ -114,7 +117,7 @@ taken ks finished = ends
 taken ks misfit = stuck
 
 abbrev pub literal_step : Place → Text → Next ℕ Place
-literal_step (ahead ks) t = taken ks (value_token t)
+literal_step (ahead ks) t = taken ks (value_token (is_some (innermost ks)) t)
 literal_step (behind ks) t = taken ks (behind_token (innermost ks) t)
 
 -- the most of these

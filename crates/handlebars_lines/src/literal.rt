@@ -5,7 +5,7 @@ ghost use Rattle.std.specs.List.{list_all};
 ghost use Rattle.std.specs.Char.{is_ascii_digit};
 ghost use Rattle.std.specs.Option.{option_map};
 ghost use Rattle.handlebars_lines.specs.Literal.{is_digits, is_integer, is_decimal, is_number, is_word, closer};
-ghost use Rattle.handlebars_lines.specs.LiteralReading.{plain_at, atom_at, behind_colon, key_at, behind_lead, bracket_token, value_token, comma_token, entry_token, token_at, literal_at};
+ghost use Rattle.handlebars_lines.specs.LiteralReading.{plain_at, undoubled_at, atom_at, behind_colon, key_at, behind_lead, bracket_token, value_token, comma_token, entry_token, token_at, literal_at};
 ghost use Rattle.handlebars_lines.specs.LiteralView.{bracket_of, token_of, slice_of};
 ghost use Rattle.handlebars_lines.specs.Laws.{HasLiteral, NoLiteral};
 
@@ -113,17 +113,28 @@ fn plain_at(text: &str) -> Option<&str>
     }
 }
 
-#[tactic(auto, unfolding(crate::specs::LiteralReading::atom_at))]
-fn atom_at(text: &str) -> Option<&str>
-    ensures { option_map (λ rest. rest.now) result ≡ atom_at text.now }
+/// Inside brackets texts stand in double quotes alone.
+#[tactic(auto, unfolding(crate::specs::LiteralReading::undoubled_at))]
+fn undoubled_at(inside: bool, text: &str) -> Option<&str>
+    ensures { option_map (λ rest. rest.now) result ≡ undoubled_at inside text.now }
 {
-    if let Some(rest) = after(b'"', text) {
-        return behind_quote(b'"', rest);
+    if inside {
+        return plain_at(text);
     }
-    if let Some(rest) = after(b'\'', text) {
-        return behind_quote(b'\'', rest);
+    match after(b'\'', text) {
+        Some(rest) => behind_quote(b'\'', rest),
+        None => plain_at(text),
     }
-    plain_at(text)
+}
+
+#[tactic(auto, unfolding(crate::specs::LiteralReading::atom_at))]
+fn atom_at(inside: bool, text: &str) -> Option<&str>
+    ensures { option_map (λ rest. rest.now) result ≡ atom_at inside text.now }
+{
+    match after(b'"', text) {
+        Some(rest) => behind_quote(b'"', rest),
+        None => undoubled_at(inside, text),
+    }
 }
 
 fn behind_colon(text: &str) -> Option<&str>
@@ -174,10 +185,10 @@ fn bracket_token(bracket: Bracket, text: &str) -> Token<'_>
     }
 }
 
-/// Where a literal is to stand.
+/// Where a literal is to stand, inside brackets or not.
 #[tactic(auto, unfolding(crate::specs::LiteralReading::value_token))]
-fn value_token(text: &str) -> Token<'_>
-    ensures { token_of result ≡ value_token text.now }
+fn value_token(inside: bool, text: &str) -> Token<'_>
+    ensures { token_of result ≡ value_token inside text.now }
 {
     if let Some(rest) = after(b'[', text) {
         return bracket_token(Bracket::Array, behind_white(rest));
@@ -185,7 +196,7 @@ fn value_token(text: &str) -> Token<'_>
     if let Some(rest) = after(b'{', text) {
         return bracket_token(Bracket::Object, behind_white(rest));
     }
-    match atom_at(text) {
+    match atom_at(inside, text) {
         Some(rest) => Token::Atom(rest),
         None => Token::Misfit,
     }
@@ -220,7 +231,7 @@ fn token_at(ahead: bool, innermost: Option<Bracket>, text: &str) -> Token<'_>
     ensures { token_of result ≡ token_at ahead (option_map bracket_of innermost) text.now }
 {
     if ahead {
-        return value_token(text);
+        return value_token(innermost.is_some(), text);
     }
     match innermost {
         Some(bracket) => entry_token(bracket, behind_white(text)),
