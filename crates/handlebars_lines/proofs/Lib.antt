@@ -1,0 +1,7 @@
+pub mod Fronts
+pub mod Stepping
+pub mod Plain
+pub mod Tokens
+pub mod LiteralsRead
+pub mod LiteralsFound
+pub mod LiteralLoop

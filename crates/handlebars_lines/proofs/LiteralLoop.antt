@@ -1,0 +1,140 @@
+-- What the loop that reads a literal keeps.
+use Rattle.std.proofs.Common.{◌≡◌, ℕ, zero, suc, ◌+◌, ◌-◌, ◌<◌, ◌≤◌, Bool, true, false, List, [], ◌∷◌, ◌++◌, length, get_or, take, drop, map, reverse, Option, Some, None, refl, sym, ap, ◌∙◌, append_assoc, arith, ◌⊎◌, inl, inr, length-append, max}
+use Rattle.std.specs.List.{slice_get}
+use Rattle.std.specs.Option.{option_map, MatchOption}
+use Rattle.std.proofs.Common.{Result, Ok, Err, IfOk}
+use Rattle.std.specs.Str.{IsCharBoundary}
+use Rattle.std.proofs.lemmas.List.{take_at, drop_at, get_or-drop, reverse-append, length-reverse, length-map}
+use Rattle.handlebars_lines.specs.Runs.{goes, ends, stuck}
+use Rattle.handlebars_lines.specs.Literal.{Bracket, goes_on, starts}
+use Rattle.handlebars_lines.specs.LiteralReading.{Token, token_at, Place, ahead, innermost, outer, taken, literal_step, most, literal_at}
+use Rattle.handlebars_lines.specs.LiteralView.{bracket_of, stack_of, place_of, slice_of}
+use Rattle.handlebars_lines.specs.Laws.{HasLiteral, NoLiteral}
+use Rattle.handlebars_lines.specs.declared.literal.Bracket.{Bracket as ReadBracket}
+use Rattle.handlebars_lines.specs.declared.literal.LiteralSlice.{LiteralSlice}
+use Rattle.handlebars_lines.proofs.Fronts.{goes_on-ascii}
+use Rattle.handlebars_lines.proofs.Stepping.{last, none, run-some, run-none, Still, still-goes}
+use Rattle.handlebars_lines.proofs.LiteralsFound.{step_shorter, shortens, literal_at-some, literal_at-none}
+
+-- ---- open brackets
+
+pub stack-push : (items : List ReadBracket) (k : ReadBracket) → stack_of (items ++ k ∷ []) ≡ bracket_of k ∷ stack_of items
+stack-push items k = ap (map bracket_of) (reverse-append items (k ∷ []))
+
+pub stack-length : (items : List ReadBracket) → length (stack_of items) ≡ length items
+stack-length items = length-map (reverse items) bracket_of ∙ length-reverse items
+
+snoc : (items : List ReadBracket) → (items ≡ []) ⊎ ((front : List ReadBracket) × (k : ReadBracket) × (items ≡ front ++ k ∷ []))
+snoc [] = inl refl
+snoc (k ∷ items) = elim (snoc items) [
+  | inl bare ↦ inr ([], k, ap (λ (z : List ReadBracket). k ∷ z) bare)
+  | inr some ↦ inr (k ∷ some.0, some.1, ap (λ (z : List ReadBracket). k ∷ z) some.2)
+]
+
+slice_get-last : (front : List ReadBracket) (k : ReadBracket) (n : ℕ) → n ≡ length front → slice_get (front ++ k ∷ []) n ≡ Some k
+slice_get-last [] k zero e = refl
+slice_get-last [] k (suc n) e = absurd (omega (arith, e))
+slice_get-last (j ∷ front) k zero e = absurd (omega (arith, e))
+slice_get-last (j ∷ front) k (suc n) e = slice_get-last front k n (omega (arith, e))
+
+stack-innermost : (items : List ReadBracket) → option_map bracket_of (slice_get items (length items - 1)) ≡ innermost (stack_of items)
+stack-innermost items = elim (snoc items) [
+  | inl bare ↦ rw bare refl
+  | inr some ↦
+      let last : slice_get (some.0 ++ some.1 ∷ []) (length (some.0 ++ some.1 ∷ []) - 1) ≡ Some some.1 =
+      slice_get-last some.0 some.1 (length (some.0 ++ some.1 ∷ []) - 1) (omega (arith, length-append some.0 (some.1 ∷ []))) in
+      rw some.2 (ap (option_map bracket_of) last ∙ sym (ap innermost (stack-push some.0 some.1)))
+]
+
+pub stack-pop : (items : List ReadBracket) → stack_of (take (length items - 1) items) ≡ outer (stack_of items)
+stack-pop items = elim (snoc items) [
+  | inl bare ↦ rw bare refl
+  | inr some ↦
+      let front : take (length (some.0 ++ some.1 ∷ []) - 1) (some.0 ++ some.1 ∷ []) ≡ some.0 =
+      take_at some.0 (some.1 ∷ []) (length (some.0 ++ some.1 ∷ []) - 1) (omega (arith, length-append some.0 (some.1 ∷ []))) in
+      rw some.2 (ap stack_of front ∙ sym (ap outer (stack-push some.0 some.1)))
+]
+
+-- ---- a turn of the loop
+
+step_at : (b : Bool) (items : List ReadBracket) (t : List ℕ) → literal_step (place_of b items) t ≡ taken (stack_of items) (token_at b (innermost (stack_of items)) t)
+unfolding token_at
+step_at true items t = refl
+step_at false items t = refl
+
+pub loop_step : (b : Bool) (items slice : List ReadBracket) (o : Option ReadBracket) (t : List ℕ) (token : Token) → token ≡ token_at b (option_map bracket_of o) t
+    → o ≡ slice_get slice (length slice - 1) → slice ≡ items → literal_step (place_of b items) t ≡ taken (stack_of items) token
+loop_step b items slice o t token is top same =
+    let at_items : slice_get slice (length slice - 1) ≡ slice_get items (length items - 1) = ap (λ (z : List ReadBracket). slice_get z (length z - 1)) same in
+    let inner : option_map bracket_of o ≡ innermost (stack_of items) = ap (option_map bracket_of) (top ∙ at_items) ∙ stack-innermost items in
+    step_at b items t ∙ sym (ap (taken (stack_of items)) (is ∙ ap (λ (z : Option Bracket). token_at b z t) inner))
+
+-- what is kept, with so many brackets open
+pub record Holds (t0 : List ℕ) (s : Place) (n : ℕ) (t : List ℕ) (depth : ℕ) : Type 0 where
+  pub still : Still literal_step (ahead []) t0 (most 0) s t (most depth)
+  pub within : n + length t ≤ length t0
+  pub deep : depth + length t ≤ length t0
+  pub whole : (front : List ℕ) × (t0 ≡ front ++ t)
+
+pub loop_goes : (t0 : List ℕ) (s : Place) (n : ℕ) (t : List ℕ) (depth x : ℕ) (s' : Place) (n' : ℕ) (t' : List ℕ) (depth' : ℕ) → literal_step s t ≡ goes x s' t'
+    → depth' ≡ max depth x → n' ≤ n + 1 → x ≤ n + 1 → Holds t0 s n t depth → Holds t0 s' n' t' depth'
+loop_goes t0 s n t depth x s' n' t' depth' is more up deep h =
+    let step = step_shorter s t x s' t' is in
+    let less : length t' < length t = step.shorter in
+    record {
+      still = still-goes literal_step (ahead []) t0 (most 0) s t (most depth) x s' t' (most depth') is (λ xs. ap (λ (z : ℕ). most z xs) (sym more)) h.still;
+      within = omega (arith, h.within);
+      deep = omega (arith, h.within, h.deep);
+      whole = (h.whole.0 ++ step.front, h.whole.1 ∙ ap (λ (z : List ℕ). h.whole.0 ++ z) step.whole ∙ sym (append_assoc h.whole.0 step.front t'));
+    }
+
+-- ---- the end of the loop
+
+-- where nothing goes on, the text may be cut
+end_ascii : (rest : List ℕ) → starts goes_on rest ≡ false → 0 < length rest → get_or rest 0 0 < 128
+end_ascii [] h some = absurd (omega arith)
+end_ascii (b ∷ rest) h some = goes_on-ascii b h
+
+pub end_boundary : (t rest : List ℕ) → ((front : List ℕ) × (t ≡ front ++ rest)) → starts goes_on rest ≡ false → IsCharBoundary t (length t - length rest)
+end_boundary t rest h stop =
+    let k = length t - length rest in
+    let long : length t ≡ length h.0 + length rest = ap length h.1 ∙ length-append h.0 rest in
+    let left : drop k t ≡ rest = ap (drop k) h.1 ∙ drop_at h.0 rest k (omega arith) in
+    let at : get_or (drop k t) 0 0 ≡ get_or t (k + 0) 0 = get_or-drop k t 0 0 in
+    let same : get_or t (k + 0) 0 ≡ get_or t k 0 = ap (λ (z : ℕ). get_or t z 0) (omega arith) in (
+      omega arith,
+      λ lt le.
+          let small : get_or rest 0 0 < 128 = end_ascii rest stop (omega arith) in
+          let first : get_or t k 0 ≡ get_or rest 0 0 = sym same ∙ sym at ∙ ap (λ (z : List ℕ). get_or z 0 0) left in
+          absurd (omega arith),
+    )
+
+pub loop_found : (t rest : List ℕ) (s : Place) (depth : ℕ) → Still literal_step (ahead []) t (most 0) s rest (most depth) → literal_step s rest ≡ ends → starts goes_on rest ≡ false
+    → literal_at t ≡ Some (record { raw = take (length t - length rest) t; rest = rest; depth = depth })
+unfolding literal_at
+loop_found t rest s depth still is stop =
+    let h = still.ran [] rest (last is) in
+    let goes_so = run-some literal_step shortens (length t + 1) (ahead []) t h.0 rest (omega arith) h.1 in
+    rw (goes_so, stop, h.2) refl
+
+pub loop_goes_on : (t rest : List ℕ) (s : Place) (depth : ℕ) → Still literal_step (ahead []) t (most 0) s rest (most depth) → literal_step s rest ≡ ends → starts goes_on rest ≡ true → literal_at t ≡ None
+unfolding literal_at
+loop_goes_on t rest s depth still is stop =
+    let h = still.ran [] rest (last is) in
+    let goes_so = run-some literal_step shortens (length t + 1) (ahead []) t h.0 rest (omega arith) h.1 in
+    rw (goes_so, stop) refl
+
+pub loop_misfit : (t rest : List ℕ) (s : Place) (depth : ℕ) → Still literal_step (ahead []) t (most 0) s rest (most depth) → literal_step s rest ≡ stuck → literal_at t ≡ None
+unfolding literal_at
+loop_misfit t rest s depth still is = rw (run-none literal_step (length t + 1) (ahead []) t (still.failed (none is))) refl
+
+-- ---- what the reading tells of the relation
+
+reading_tells : (t : List ℕ) (read : Option LiteralSlice) → option_map slice_of read ≡ literal_at t → MatchOption read (NoLiteral t) (λ slice. HasLiteral t (slice_of slice))
+reading_tells t None e = literal_at-none t (sym e)
+reading_tells t (Some slice) e = literal_at-some t (slice_of slice) (sym e)
+
+pub result_tells : {E : Type 0} (t : List ℕ) (r : Result (Option LiteralSlice) E) → IfOk r (λ read. option_map slice_of read ≡ literal_at t)
+    → IfOk r (λ read. MatchOption read (NoLiteral t) (λ slice. HasLiteral t (slice_of slice)))
+result_tells t (Ok read) h = reading_tells t read h
+result_tells t (Err e) h = tt

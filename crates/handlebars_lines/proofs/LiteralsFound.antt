@@ -1,0 +1,287 @@
+-- What is spelled as a literal is read, and a text has at most one literal in front.
+use Rattle.std.proofs.Common.{is_some, ◌≡◌, ℕ, suc, ◌+◌, ◌-◌, ◌≤◌, Bool, true, false, ◌||◌, List, [], ◌∷◌, ◌++◌, length, take, Some, None, refl, sym, ap, subst, ◌∙◌, append_assoc, arith, inl, inr, length-append, max}
+use Rattle.std.specs.Prelude.{◌==◌}
+use Rattle.std.proofs.lemmas.Bool.{ne_eqb, cases_Bool}
+use Rattle.std.proofs.lemmas.List.{take_at}
+use Rattle.std.proofs.lemmas.Option.{same_Some}
+use Rattle.handlebars_base.specs.Bytes.{is_white}
+use Rattle.handlebars_base.specs.PathReading.{after}
+use Rattle.handlebars_base.proofs.OptionBinds.{bind_some, guard_some}
+use Rattle.handlebars_lines.specs.Runs.{goes, run}
+use Rattle.handlebars_lines.specs.Literal.{IsWhite, is_inner, is_number, is_word, Bracket, array, object, opener, closer, Lead, unnamed, keyed, spelled_lead, IsLead, Literal, quoted, single_quoted, number, word, empty, filled, Entries, closing, another, spelled_literal, spelled_entries, is_element, IsLiteral, AreEntries, literal_depth, entries_depth, goes_on, starts}
+use Rattle.handlebars_lines.specs.LiteralReading.{behind_white, behind_quote, plain_at, undoubled_at, atom_at, key_at, behind_lead, Token, atom, hollow, opening, next, shutting, finished, misfit, bracket_token, value_token, entry_token, Place, ahead, behind, innermost, taken, literal_step, most, Slice, slice_in, literal_at}
+use Rattle.handlebars_lines.specs.Laws.{HasLiteral, NoLiteral}
+use Rattle.handlebars_lines.proofs.Fronts.{behind_white-append, starts-other, starts-append, after-not, after-same, run_of-append, behind_run-append, behind_quote-append}
+use Rattle.handlebars_lines.proofs.Stepping.{Runs, last, onward, Shortens, run-runs, run-some}
+use Rattle.handlebars_lines.proofs.Plain.{GoesOn, plain_goes_on, number_goes_on, word_goes_on}
+use Rattle.handlebars_lines.proofs.Tokens.{lead_regroup, Shorter, value_shorter, value_tells, entry_shorter, entry_tells, left_of}
+use Rattle.handlebars_lines.proofs.LiteralsRead.{heights, entry_heights, regroup, runs-spelled}
+
+-- ---- a step takes a byte at least
+
+taken_left : (ks : List Bracket) (token : Token) (x : ℕ) (s' : Place) (t' : List ℕ) → taken ks token ≡ goes x s' t' → left_of token ≡ Some t'
+taken_left ks (atom r) x s' t' is = cc
+taken_left ks (hollow r) x s' t' is = cc
+taken_left ks (opening k r) x s' t' is = cc
+taken_left ks (next r) x s' t' is = cc
+taken_left ks (shutting r) x s' t' is = cc
+taken_left ks finished x s' t' is = absurd cc
+taken_left ks misfit x s' t' is = absurd cc
+
+pub step_shorter : (s : Place) (t : List ℕ) (x : ℕ) (s' : Place) (t' : List ℕ) → literal_step s t ≡ goes x s' t' → Shorter t t'
+step_shorter (ahead ks) t x s' t' is = value_shorter (is_some (innermost ks)) t t' (value_token (is_some (innermost ks)) t) (value_tells (is_some (innermost ks)) t) (taken_left ks (value_token (is_some (innermost ks)) t) x s' t' is)
+step_shorter (behind []) t x s' t' is = absurd cc
+step_shorter (behind (k ∷ ks)) t x s' t' is = entry_shorter k t t' (entry_token k (behind_white t)) (entry_tells k t) (taken_left (k ∷ ks) (entry_token k (behind_white t)) x s' t' is)
+
+pub shortens : Shortens literal_step
+shortens s t x s' t' is = (step_shorter s t x s' t' is).shorter
+
+-- ---- first bytes
+
+-- a literal's first byte
+abbrev begins_literal : ℕ → Bool
+begins_literal b = goes_on b || (b == 34 || (b == 39 || (b == 91 || b == 123)))
+
+plain_begins : (n : List ℕ) → GoesOn n → starts goes_on n ≡ true
+plain_begins [] h = absurd (omega (arith, h.some))
+plain_begins (b ∷ n) h = h.all.0
+
+goes_begins : (n : List ℕ) → starts goes_on n ≡ true → starts begins_literal n ≡ true
+goes_begins [] h = absurd cc
+goes_begins (b ∷ n) h = rw h refl
+
+literal_begins : (l : Literal) → IsLiteral l → starts begins_literal (spelled_literal l) ≡ true
+literal_begins (quoted t) fits = refl
+literal_begins (single_quoted t) fits = refl
+literal_begins (number t) fits = goes_begins t (plain_begins t (number_goes_on t fits))
+literal_begins (word t) fits = goes_begins t (plain_begins t (word_goes_on t fits))
+literal_begins (empty array w) fits = refl
+literal_begins (empty object w) fits = refl
+literal_begins (filled array lead l w more) fits = refl
+literal_begins (filled object lead l w more) fits = refl
+
+literal_starts : (l : Literal) (rest : List ℕ) → IsLiteral l → starts begins_literal (spelled_literal l ++ rest) ≡ true
+literal_starts l rest fits = starts-append begins_literal (spelled_literal l) rest (literal_begins l fits)
+
+-- a byte with which a literal begins is none of the others
+begins_other : (c : ℕ) → begins_literal c ≡ false → (b : ℕ) → begins_literal b ≡ true → (b == c) ≡ false
+begins_other c never b begins = ne_eqb b c (λ e. let same : begins_literal b ≡ begins_literal c = ap begins_literal e in absurd cc)
+
+begins_dark : (b : ℕ) → begins_literal b ≡ true → is_white b ≡ false
+begins_dark b h = rw (begins_other 32 refl b h, begins_other 9 refl b h, begins_other 10 refl b h, begins_other 13 refl b h) refl
+
+goes_other : (c : ℕ) → goes_on c ≡ false → (b : ℕ) → goes_on b ≡ true → (b == c) ≡ false
+goes_other c never b is = ne_eqb b c (λ e. let same : goes_on b ≡ goes_on c = ap goes_on e in absurd cc)
+
+white_stops : (b : ℕ) → is_white b ≡ true → goes_on b ≡ false
+white_stops b h = elim (cases_Bool (goes_on b)) [
+  | inl is ↦
+      let dark : is_white b ≡ false = rw (goes_other 32 refl b is, goes_other 9 refl b is, goes_other 10 refl b is, goes_other 13 refl b is) refl in
+      absurd cc
+  | inr other ↦ other
+]
+
+-- nothing goes on behind white where nothing does before what follows
+white_then : (v t : List ℕ) → IsWhite v → starts goes_on t ≡ false → starts goes_on (v ++ t) ≡ false
+white_then [] t white h = h
+white_then (b ∷ v) t white h = white_stops b white.0
+
+entries_begin : (k : Bracket) (es : Entries) (rest : List ℕ) → starts goes_on (spelled_entries k es ++ rest) ≡ false
+entries_begin array closing rest = refl
+entries_begin object closing rest = refl
+entries_begin k (another lead l w more) rest = refl
+
+-- ---- tokens: a literal with no brackets
+
+no_mark : (c : ℕ) (t : List ℕ) → goes_on c ≡ false → starts goes_on t ≡ true → after c t ≡ None
+no_mark c t never h = after-not c t (starts-other goes_on (λ b. b == c) t (goes_other c never) h)
+
+atom_plain : (inside : Bool) (n rest : List ℕ) → (is_number n || is_word n) ≡ true → starts goes_on rest ≡ false → value_token inside (n ++ rest) ≡ atom rest
+unfolding value_token atom_at undoubled_at plain_at
+atom_plain true n rest fits stop =
+    let goes_so = plain_goes_on n fits in
+    let first = starts-append goes_on n rest (plain_begins n goes_so) in
+    rw (no_mark 91 (n ++ rest) refl first, no_mark 123 (n ++ rest) refl first, no_mark 34 (n ++ rest) refl first, run_of-append n rest goes_so.all stop, behind_run-append n rest goes_so.all stop, fits) refl
+atom_plain false n rest fits stop =
+    let goes_so = plain_goes_on n fits in
+    let first = starts-append goes_on n rest (plain_begins n goes_so) in
+    rw (no_mark 91 (n ++ rest) refl first, no_mark 123 (n ++ rest) refl first, no_mark 34 (n ++ rest) refl first, no_mark 39 (n ++ rest) refl first, run_of-append n rest goes_so.all stop, behind_run-append n rest goes_so.all stop, fits) refl
+
+atom_quoted : (inside : Bool) (s rest : List ℕ) → is_inner 34 false s ≡ true → value_token inside (34 ∷ ((s ++ 34 ∷ []) ++ rest)) ≡ atom rest
+unfolding value_token atom_at
+atom_quoted inside s rest fits =
+    let behind_it : behind_quote 34 false ((s ++ 34 ∷ []) ++ rest) ≡ Some rest = ap (behind_quote 34 false) (append_assoc s (34 ∷ []) rest) ∙ behind_quote-append 34 false s rest fits in
+    let text : List ℕ = 34 ∷ ((s ++ 34 ∷ []) ++ rest) in
+    rw (after-not 91 (34 ∷ ((s ++ 34 ∷ []) ++ rest)) refl, after-not 123 (34 ∷ ((s ++ 34 ∷ []) ++ rest)) refl, after-same 34 ((s ++ 34 ∷ []) ++ rest), behind_it) refl
+
+atom_single : (s rest : List ℕ) → is_inner 39 false s ≡ true → value_token false (39 ∷ ((s ++ 39 ∷ []) ++ rest)) ≡ atom rest
+unfolding value_token atom_at undoubled_at
+atom_single s rest fits =
+    let behind_it : behind_quote 39 false ((s ++ 39 ∷ []) ++ rest) ≡ Some rest = ap (behind_quote 39 false) (append_assoc s (39 ∷ []) rest) ∙ behind_quote-append 39 false s rest fits in
+    rw (after-not 91 (39 ∷ ((s ++ 39 ∷ []) ++ rest)) refl, after-not 123 (39 ∷ ((s ++ 39 ∷ []) ++ rest)) refl, after-not 34 (39 ∷ ((s ++ 39 ∷ []) ++ rest)) refl, after-same 39 ((s ++ 39 ∷ []) ++ rest), behind_it) refl
+
+-- ---- tokens: brackets
+
+value_bracket : (inside : Bool) (k : Bracket) (t : List ℕ) → value_token inside (opener k ∷ t) ≡ bracket_token k (behind_white t)
+unfolding value_token
+value_bracket inside array t = rw (after-same 91 t) refl
+value_bracket inside object t = rw (after-not 91 (123 ∷ t) refl, after-same 123 t) refl
+
+token_hollow : (k : Bracket) (w rest : List ℕ) → IsWhite w → bracket_token k (behind_white ((w ++ closer k ∷ []) ++ rest)) ≡ hollow rest
+unfolding bracket_token
+token_hollow array w rest white =
+    let dark : behind_white ((w ++ 93 ∷ []) ++ rest) ≡ 93 ∷ rest = ap behind_white (append_assoc w (93 ∷ []) rest) ∙ behind_white-append w (93 ∷ rest) white refl in
+    rw (dark, after-same 93 rest) refl
+token_hollow object w rest white =
+    let dark : behind_white ((w ++ 125 ∷ []) ++ rest) ≡ 125 ∷ rest = ap behind_white (append_assoc w (125 ∷ []) rest) ∙ behind_white-append w (125 ∷ rest) white refl in
+    rw (dark, after-same 125 rest) refl
+
+-- what leads to an entry is read, and no closing bracket stands there
+record ReadsLead (k : Bracket) (u t : List ℕ) : Type 0 where
+  leads : behind_lead k u ≡ Some t
+  no_closer : after (closer k) u ≡ None
+
+reads_key : (key u v t : List ℕ) → is_inner 34 false key ≡ true → IsWhite u → IsWhite v → starts is_white t ≡ false → key_at (34 ∷ (key ++ 34 ∷ (u ++ 58 ∷ (v ++ t)))) ≡ Some t
+unfolding key_at
+reads_key key u v t fits white white' dark =
+    rw (after-same 34 (key ++ 34 ∷ (u ++ 58 ∷ (v ++ t))), behind_quote-append 34 false key (u ++ 58 ∷ (v ++ t)) fits, behind_white-append u (58 ∷ (v ++ t)) white refl, after-same 58 (v ++ t), behind_white-append v t white' dark) refl
+
+reads_lead : (k : Bracket) (lead : Lead) (t : List ℕ) → IsLead k lead → starts begins_literal t ≡ true → ReadsLead k (behind_white (spelled_lead lead ++ t)) t
+reads_lead array (unnamed w) t fits begins =
+    let dark = behind_white-append w t fits (starts-other begins_literal is_white t begins_dark begins) in
+    let no_shut = after-not 93 t (starts-other begins_literal (λ b. b == 93) t (begins_other 93 refl) begins) in
+    record { leads = ap (λ (z : List ℕ). Some z) dark; no_closer = ap (after 93) dark ∙ no_shut }
+reads_lead array (keyed w key u v) t fits begins = absurd fits
+reads_lead object (unnamed w) t fits begins = absurd fits
+reads_lead object (keyed w key u v) t fits begins =
+    let inner : List ℕ = 34 ∷ (key ++ 34 ∷ (u ++ 58 ∷ (v ++ t))) in
+    let dark : behind_white ((w ++ 34 ∷ (key ++ 34 ∷ (u ++ 58 ∷ v))) ++ t) ≡ 34 ∷ (key ++ 34 ∷ (u ++ 58 ∷ (v ++ t))) =
+    ap behind_white (sym (lead_regroup w key u v t)) ∙ behind_white-append w (34 ∷ (key ++ 34 ∷ (u ++ 58 ∷ (v ++ t)))) fits.0 refl in
+    record {
+      leads = ap key_at dark ∙ reads_key key u v t fits.1 fits.2 fits.3 (starts-other begins_literal is_white t begins_dark begins);
+      no_closer = ap (after 125) dark ∙ after-not 125 (34 ∷ (key ++ 34 ∷ (u ++ 58 ∷ (v ++ t)))) refl;
+    }
+
+token_opening : (k : Bracket) (lead : Lead) (t : List ℕ) → IsLead k lead → starts begins_literal t ≡ true → bracket_token k (behind_white (spelled_lead lead ++ t)) ≡ opening k t
+unfolding bracket_token
+token_opening k lead t fits begins =
+    let h = reads_lead k lead t fits begins in
+    rw (h.no_closer, h.leads) refl
+
+token_next : (k : Bracket) (v : List ℕ) (lead : Lead) (t : List ℕ) → IsWhite v → IsLead k lead → starts begins_literal t ≡ true → entry_token k (behind_white (v ++ 44 ∷ (spelled_lead lead ++ t))) ≡ next t
+unfolding entry_token
+token_next k v lead t white fits begins =
+    let h = reads_lead k lead t fits begins in
+    rw (behind_white-append v (44 ∷ (spelled_lead lead ++ t)) white refl, after-same 44 (spelled_lead lead ++ t), h.leads) refl
+
+token_shutting : (k : Bracket) (v rest : List ℕ) → IsWhite v → entry_token k (behind_white (v ++ closer k ∷ rest)) ≡ shutting rest
+unfolding entry_token
+token_shutting array v rest white = rw (behind_white-append v (93 ∷ rest) white refl, after-not 44 (93 ∷ rest) refl, after-same 93 rest) refl
+token_shutting object v rest white = rw (behind_white-append v (125 ∷ rest) white refl, after-not 44 (125 ∷ rest) refl, after-same 125 rest) refl
+
+-- outside brackets
+atom_single_in : (ks : List Bracket) (s rest : List ℕ) → is_inner 39 false s ≡ true → (is_some (innermost ks) ≡ true → false ≡ true) → value_token (is_some (innermost ks)) (39 ∷ ((s ++ 39 ∷ []) ++ rest)) ≡ atom rest
+atom_single_in [] s rest fits element = atom_single s rest fits
+atom_single_in (k ∷ ks) s rest fits element = let never : false ≡ true = element refl in absurd cc
+
+-- ---- whole literals
+
+or_true : (b : Bool) → (b || true) ≡ true
+or_true true = refl
+or_true false = refl
+
+mutual
+  literal_runs : (l : Literal) (ks : List Bracket) (rest xs e : List ℕ) → IsLiteral l → (is_some (innermost ks) ≡ true → is_element l ≡ true) → starts goes_on rest ≡ false → Runs literal_step (behind ks) rest xs e → Runs literal_step (ahead ks) (spelled_literal l ++ rest) (heights (length ks) l ++ xs) e
+  literal_runs (quoted s) ks rest xs e fits element stop h = onward 0 (behind ks) rest (ap (taken ks) (atom_quoted (is_some (innermost ks)) s rest fits)) h
+  literal_runs (single_quoted s) ks rest xs e fits element stop h = onward 0 (behind ks) rest (ap (taken ks) (atom_single_in ks s rest fits element)) h
+  literal_runs (number t) ks rest xs e fits element stop h = onward 0 (behind ks) rest (ap (taken ks) (atom_plain (is_some (innermost ks)) t rest (rw fits refl) stop)) h
+  literal_runs (word t) ks rest xs e fits element stop h = onward 0 (behind ks) rest (ap (taken ks) (atom_plain (is_some (innermost ks)) t rest (rw fits (or_true (is_number t))) stop)) h
+  literal_runs (empty k w) ks rest xs e fits element stop h = onward (suc (length ks)) (behind ks) rest (ap (taken ks) (value_bracket (is_some (innermost ks)) k ((w ++ closer k ∷ []) ++ rest) ∙ token_hollow k w rest fits)) h
+  literal_runs (filled k lead l v more) ks rest xs e fits element stop h =
+      let follow = v ++ (spelled_entries k more ++ rest) in
+      let behind_first = entries_run more k ks v rest xs e fits.3 fits.4 h in
+      let first = literal_runs l (k ∷ ks) follow (entry_heights (suc (length ks)) more ++ xs) e fits.2 (λ inner. fits.1) (white_then v (spelled_entries k more ++ rest) fits.3 (entries_begin k more rest)) behind_first in
+      let begin : literal_step (ahead ks) (opener k ∷ (spelled_lead lead ++ (spelled_literal l ++ follow))) ≡ goes (suc (length ks)) (ahead (k ∷ ks)) (spelled_literal l ++ follow) =
+      ap (taken ks) (value_bracket (is_some (innermost ks)) k (spelled_lead lead ++ (spelled_literal l ++ follow)) ∙ token_opening k lead (spelled_literal l ++ follow) fits.0 (literal_starts l follow fits.2)) in
+      let whole = onward (suc (length ks)) (ahead (k ∷ ks)) (spelled_literal l ++ follow) begin first in
+      subst (λ (z : List ℕ). Runs literal_step (ahead ks) z (heights (length ks) (filled k lead l v more) ++ xs) e) (ap (λ (z : List ℕ). opener k ∷ z) (regroup (spelled_lead lead) (spelled_literal l) v (spelled_entries k more) rest))
+      (subst (λ (z : List ℕ). Runs literal_step (ahead ks) (opener k ∷ (spelled_lead lead ++ (spelled_literal l ++ follow))) (suc (length ks) ∷ z) e) (sym (append_assoc (heights (suc (length ks)) l) (entry_heights (suc (length ks)) more) xs)) whole)
+
+  entries_run : (es : Entries) (k : Bracket) (ks : List Bracket) (v rest xs e : List ℕ) → IsWhite v → AreEntries k es → Runs literal_step (behind ks) rest xs e → Runs literal_step (behind (k ∷ ks)) (v ++ (spelled_entries k es ++ rest)) (entry_heights (suc (length ks)) es ++ xs) e
+  entries_run closing k ks v rest xs e white fits h = onward 0 (behind ks) rest (ap (taken (k ∷ ks)) (token_shutting k v rest white)) h
+  entries_run (another lead l u es) k ks v rest xs e white fits h =
+      let follow = u ++ (spelled_entries k es ++ rest) in
+      let behind_first = entries_run es k ks u rest xs e fits.3 fits.4 h in
+      let first = literal_runs l (k ∷ ks) follow (entry_heights (suc (length ks)) es ++ xs) e fits.2 (λ inner. fits.1) (white_then u (spelled_entries k es ++ rest) fits.3 (entries_begin k es rest)) behind_first in
+      let whole = onward 0 (ahead (k ∷ ks)) (spelled_literal l ++ follow) (ap (taken (k ∷ ks)) (token_next k v lead (spelled_literal l ++ follow) white fits.0 (literal_starts l follow fits.2))) first in
+      subst (λ (z : List ℕ). Runs literal_step (behind (k ∷ ks)) (v ++ 44 ∷ z) (entry_heights (suc (length ks)) (another lead l u es) ++ xs) e) (regroup (spelled_lead lead) (spelled_literal l) u (spelled_entries k es) rest)
+      (subst (λ (z : List ℕ). Runs literal_step (behind (k ∷ ks)) (v ++ 44 ∷ (spelled_lead lead ++ (spelled_literal l ++ follow))) (0 ∷ z) e) (sym (append_assoc (heights (suc (length ks)) l) (entry_heights (suc (length ks)) es) xs)) whole)
+
+-- ---- how deep it is
+
+mutual
+  most-literal : (l : Literal) (n m : ℕ) (xs : List ℕ) → n ≤ m → most m (heights n l ++ xs) ≡ most (max m (n + literal_depth l)) xs
+  most-literal (quoted t) n m xs le = ap (λ (z : ℕ). most z xs) (let e : max m 0 ≡ max m (n + 0) = omega arith in e)
+  most-literal (single_quoted t) n m xs le = ap (λ (z : ℕ). most z xs) (let e : max m 0 ≡ max m (n + 0) = omega arith in e)
+  most-literal (number t) n m xs le = ap (λ (z : ℕ). most z xs) (let e : max m 0 ≡ max m (n + 0) = omega arith in e)
+  most-literal (word t) n m xs le = ap (λ (z : ℕ). most z xs) (let e : max m 0 ≡ max m (n + 0) = omega arith in e)
+  most-literal (empty k w) n m xs le = ap (λ (z : ℕ). most (max m z) xs) (let e : suc n ≡ n + 1 = omega arith in e)
+  most-literal (filled k lead l v more) n m xs le =
+      let e : max (max (max m (suc n)) (suc n + literal_depth l)) (suc n + entries_depth more) ≡ max m (n + suc (max (literal_depth l) (entries_depth more))) = omega arith in
+      ap (most (max m (suc n))) (append_assoc (heights (suc n) l) (entry_heights (suc n) more) xs)
+      ∙ most-literal l (suc n) (max m (suc n)) (entry_heights (suc n) more ++ xs) (omega arith)
+      ∙ most-entries more (suc n) (max (max m (suc n)) (suc n + literal_depth l)) xs (omega arith)
+      ∙ ap (λ (z : ℕ). most z xs) e
+
+  most-entries : (es : Entries) (n m : ℕ) (xs : List ℕ) → n ≤ m → most m (entry_heights n es ++ xs) ≡ most (max m (n + entries_depth es)) xs
+  most-entries closing n m xs le = ap (λ (z : ℕ). most z xs) (let e : max m 0 ≡ max m (n + 0) = omega arith in e)
+  most-entries (another lead l v es) n m xs le =
+      let e : max (max m (n + literal_depth l)) (n + entries_depth es) ≡ max m (n + max (literal_depth l) (entries_depth es)) = omega arith in
+      let kept : max m 0 ≡ m = omega arith in
+      ap (λ (z : List ℕ). most (max m 0) z) (append_assoc (heights n l) (entry_heights n es) xs)
+      ∙ ap (λ (z : ℕ). most z (heights n l ++ (entry_heights n es ++ xs))) kept
+      ∙ most-literal l n m (entry_heights n es ++ xs) le
+      ∙ most-entries es n (max m (n + literal_depth l)) xs (omega arith)
+      ∙ ap (λ (z : ℕ). most z xs) e
+
+most-whole : (l : Literal) → most 0 (heights 0 l ++ []) ≡ literal_depth l
+most-whole l = most-literal l 0 0 [] (omega arith) ∙ (let e : max 0 (0 + literal_depth l) ≡ literal_depth l = omega arith in e)
+
+-- ---- the literal in front
+
+take-front : (t a rest : List ℕ) → t ≡ a ++ rest → take (length t - length rest) t ≡ a
+take-front t a rest whole =
+    ap (λ (z : List ℕ). take (length t - length rest) z) whole
+    ∙ take_at a rest (length t - length rest) (omega (arith, ap length whole, length-append a rest))
+
+pub literal_at-some : (t : List ℕ) (f : Slice) → literal_at t ≡ Some f → HasLiteral t f
+unfolding literal_at
+literal_at-some t f e =
+    let b = bind_some (run literal_step (length t + 1) (ahead []) t) (slice_in t) f e in
+    let h = runs-spelled (ahead []) t b.0.0 b.0.1 (run-runs literal_step (length t + 1) (ahead []) t b.0 b.1) in
+    let made : Slice = record { raw = take (length t - length b.0.1) t; rest = b.0.1; depth = most 0 b.0.0 } in
+    let g = guard_some (starts goes_on b.0.1) made f b.2 in
+    let whole : t ≡ spelled_literal h.literal ++ b.0.1 = h.whole ∙ ap (λ (z : List ℕ). spelled_literal h.literal ++ z) h.closes.0 in
+    let depth : most 0 b.0.0 ≡ literal_depth h.literal =
+    ap (most 0) (h.found ∙ ap (λ (z : List ℕ). heights 0 h.literal ++ z) h.closes.1) ∙ most-whole h.literal in
+    subst (HasLiteral t) g.1 (record {
+      literal = h.literal;
+      is = record { whole = whole; fits = h.fits; stops = g.0 };
+      raw = take-front t (spelled_literal h.literal) b.0.1 whole;
+      depth = depth;
+    })
+
+pub literal_at-is : (t : List ℕ) (f : Slice) → HasLiteral t f → literal_at t ≡ Some f
+unfolding literal_at
+literal_at-is t f h =
+    let runs : Runs literal_step (ahead []) (spelled_literal h.literal ++ f.rest) (heights 0 h.literal ++ []) f.rest = literal_runs h.literal [] f.rest [] f.rest h.is.fits (λ never. absurd cc) h.is.stops (last refl) in
+    let goes_so = run-some literal_step shortens (length t + 1) (ahead []) t (heights 0 h.literal ++ []) f.rest (omega arith) (subst (λ (z : List ℕ). Runs literal_step (ahead []) z (heights 0 h.literal ++ []) f.rest) (sym h.is.whole) runs) in
+    let depth : most 0 (heights 0 h.literal ++ []) ≡ f.depth = most-whole h.literal ∙ sym h.depth in
+    let raw : take (length t - length f.rest) t ≡ f.raw = take-front t (spelled_literal h.literal) f.rest h.is.whole ∙ sym h.raw in
+    rw (goes_so, h.is.stops, raw, depth) refl
+
+pub literal_at-none : (t : List ℕ) → literal_at t ≡ None → NoLiteral t
+literal_at-none t e f h = let no : None ≡ Some f = sym e ∙ literal_at-is t f h in absurd cc
+
+pub one_literal : (t : List ℕ) (a b : Slice) → HasLiteral t a → HasLiteral t b → a ≡ b
+one_literal t a b h g = same_Some a b (sym (literal_at-is t a h) ∙ literal_at-is t b g)

@@ -1,0 +1,105 @@
+-- Each byte of a number or a word goes on with it.
+use Rattle.std.proofs.Common.{◌≡◌, ℕ, ◌<◌, Bool, true, false, cond, ◌&&◌, ◌||◌, List, [], ◌∷◌, ◌++◌, length, get_or, refl, sym, ap, subst, ◌∙◌, arith, inl, inr, length-append}
+use Rattle.std.specs.Prelude.{◌==◌, codes}
+use Rattle.std.specs.Char.{is_ascii_digit, is_ascii_alphanumeric}
+use Rattle.std.specs.List.{AllByRecursion, list_all, position_or_len}
+use Rattle.std.specs.Str.{bytes_eq}
+use Rattle.std.proofs.lemmas.Bool.{eqb-true, ltb-true, or_cases, and_parts}
+use Rattle.std.proofs.lemmas.Slice.Eq.{bytes_eq-Decides}
+use Rattle.std.proofs.lemmas.List.Sums.{split_at_first, passes_at_first}
+use Rattle.handlebars_base.specs.Path.{is_symbol}
+use Rattle.handlebars_lines.specs.Literal.{is_digits, is_integer, has, up_to, behind_first, is_decimal, is_number, is_word, goes_on}
+
+-- each byte goes on, and there is one
+pub record GoesOn (t : List ℕ) : Type 0 where
+  pub all : AllByRecursion (λ b. goes_on b ≡ true) t
+  pub some : 0 < length t
+
+or-left : (a b : Bool) → a ≡ true → (a || b) ≡ true
+or-left a b h = rw h refl
+
+or-right : (a b : Bool) → b ≡ true → (a || b) ≡ true
+or-right true b h = refl
+or-right false b h = h
+
+digit_goes_on : (b : ℕ) → is_ascii_digit b ≡ true → goes_on b ≡ true
+digit_goes_on b h =
+    let letter : is_ascii_alphanumeric b ≡ true = or-left _ _ (or-left (is_ascii_digit b) _ h) in
+    or-left (is_symbol b) _ (or-right _ _ (or-left (is_ascii_alphanumeric b) _ letter))
+
+all_digits_go_on : (t : List ℕ) → list_all is_ascii_digit t ≡ true → AllByRecursion (λ b. goes_on b ≡ true) t
+all_digits_go_on [] h = tt
+all_digits_go_on (b ∷ t) h =
+    let both = and_parts (is_ascii_digit b) (list_all is_ascii_digit t) h in
+    (digit_goes_on b both.0, all_digits_go_on t both.1)
+
+all_append : (a b : List ℕ) → AllByRecursion (λ b. goes_on b ≡ true) a → AllByRecursion (λ b. goes_on b ≡ true) b → AllByRecursion (λ b. goes_on b ≡ true) (a ++ b)
+all_append [] b h g = g
+all_append (x ∷ a) b h g = (h.0, all_append a b h.1 g)
+
+digits_go_on : (t : List ℕ) → is_digits t ≡ true → GoesOn t
+digits_go_on [] h = absurd cc
+digits_go_on (b ∷ t) h = record { all = all_digits_go_on (b ∷ t) h; some = omega arith }
+
+integer_goes_on : (t : List ℕ) → is_integer t ≡ true → GoesOn t
+integer_goes_on [] h = absurd cc
+integer_goes_on (b ∷ t) h = on (b == 45) refl h
+  where
+    on : (c : Bool) → (b == 45) ≡ c → cond c (is_digits t) (is_digits (b ∷ t)) ≡ true → GoesOn (b ∷ t)
+    on true is h =
+        let e : b ≡ 45 = eqb-true b 45 is in
+        let first : goes_on b ≡ true = ap goes_on e in
+        record { all = (first, (digits_go_on t h).all); some = omega arith }
+    on false is h = digits_go_on (b ∷ t) h
+
+-- a text around the first of a mark
+around : (mark : ℕ) (t : List ℕ) → has mark t ≡ true → t ≡ up_to mark t ++ mark ∷ behind_first mark t
+around mark t h =
+    let lt : position_or_len (λ b. b == mark) t < length t = ltb-true (position_or_len (λ b. b == mark) t) (length t) h in
+    let is : get_or t (position_or_len (λ b. b == mark) t) 0 ≡ mark = eqb-true _ mark (passes_at_first (λ b. b == mark) t 0 lt) in
+    split_at_first (λ b. b == mark) t 0 lt ∙ ap (λ (z : ℕ). up_to mark t ++ z ∷ behind_first mark t) is
+
+around_goes_on : (mark : ℕ) (t : List ℕ) → goes_on mark ≡ true → has mark t ≡ true → GoesOn (up_to mark t) → GoesOn (behind_first mark t) → GoesOn t
+around_goes_on mark t is h a b =
+    let whole : up_to mark t ++ mark ∷ behind_first mark t ≡ t = sym (around mark t h) in
+    let both : GoesOn (up_to mark t ++ mark ∷ behind_first mark t) = record {
+      all = all_append (up_to mark t) (mark ∷ behind_first mark t) a.all (is, b.all);
+      some = omega (arith, length-append (up_to mark t) (mark ∷ behind_first mark t));
+    } in
+    subst GoesOn whole both
+
+decimal_goes_on : (t : List ℕ) → is_decimal t ≡ true → GoesOn t
+decimal_goes_on t h = on (has 46 t) refl h
+  where
+    on : (c : Bool) → has 46 t ≡ c → cond c (is_integer (up_to 46 t) && is_digits (behind_first 46 t)) (is_integer t) ≡ true → GoesOn t
+    on true is h =
+        let both = and_parts (is_integer (up_to 46 t)) (is_digits (behind_first 46 t)) h in
+        around_goes_on 46 t refl is (integer_goes_on (up_to 46 t) both.0) (digits_go_on (behind_first 46 t) both.1)
+    on false is h = integer_goes_on t h
+
+pub number_goes_on : (t : List ℕ) → is_number t ≡ true → GoesOn t
+number_goes_on t h = on (has 69 t) refl h
+  where
+    on : (c : Bool) → has 69 t ≡ c → cond c (is_decimal (up_to 69 t) && is_integer (behind_first 69 t)) (is_decimal t) ≡ true → GoesOn t
+    on true is h =
+        let both = and_parts (is_decimal (up_to 69 t)) (is_integer (behind_first 69 t)) h in
+        around_goes_on 69 t refl is (decimal_goes_on (up_to 69 t) both.0) (integer_goes_on (behind_first 69 t) both.1)
+    on false is h = decimal_goes_on t h
+
+same_bytes : (a b : List ℕ) → bytes_eq a b ≡ true → a ≡ b
+same_bytes a b h = (bytes_eq-Decides a b).0 h
+
+pub word_goes_on : (t : List ℕ) → is_word t ≡ true → GoesOn t
+word_goes_on t h = elim (or_cases (bytes_eq t (codes "null")) _ h) [
+  | inl is ↦ subst GoesOn (sym (same_bytes t (codes "null") is)) (record { all = (refl, (refl, (refl, (refl, tt)))); some = omega arith })
+  | inr more ↦ elim (or_cases (bytes_eq t (codes "true")) _ more) [
+    | inl is ↦ subst GoesOn (sym (same_bytes t (codes "true") is)) (record { all = (refl, (refl, (refl, (refl, tt)))); some = omega arith })
+    | inr is ↦ subst GoesOn (sym (same_bytes t (codes "false") is)) (record { all = (refl, (refl, (refl, (refl, (refl, tt))))); some = omega arith })
+  ]
+]
+
+pub plain_goes_on : (t : List ℕ) → (is_number t || is_word t) ≡ true → GoesOn t
+plain_goes_on t h = elim (or_cases (is_number t) (is_word t) h) [
+  | inl is ↦ number_goes_on t is
+  | inr is ↦ word_goes_on t is
+]

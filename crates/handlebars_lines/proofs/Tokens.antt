@@ -1,0 +1,287 @@
+-- What each token tells of the text in front of which it is found.
+use Rattle.std.proofs.Common.{◌≡◌, ℕ, suc, ◌+◌, ◌<◌, Bool, true, false, cond, ◌||◌, List, [], ◌∷◌, ◌++◌, length, Option, Some, None, refl, sym, ap, subst, ◌∙◌, append_assoc, arith, inl, inr, length-append}
+use Rattle.std.specs.List.{prefix_len}
+use Rattle.std.proofs.lemmas.Bool.{or_cases}
+use Rattle.std.proofs.lemmas.List.{take-append-drop}
+use Rattle.std.proofs.lemmas.Option.{same_Some}
+use Rattle.handlebars_base.specs.PathReading.{◌>>=◌, with_or, after}
+use Rattle.handlebars_base.proofs.PathMarks.{after_takes}
+use Rattle.handlebars_base.proofs.OptionBinds.{bind_some, with_or_is}
+use Rattle.handlebars_lines.specs.Literal.{IsWhite, is_number, is_word, Bracket, array, object, opener, closer, Lead, unnamed, keyed, spelled_lead, IsLead, Literal, quoted, single_quoted, number, word, empty, filled, spelled_literal, is_element, IsLiteral, goes_on}
+use Rattle.handlebars_lines.specs.LiteralReading.{behind_white, behind_quote, run_of, behind_run, plain_at, undoubled_at, atom_at, behind_colon, key_at, behind_lead, Token, atom, hollow, opening, next, shutting, finished, misfit, bracket_token, value_token, comma_token, entry_token}
+use Rattle.handlebars_lines.proofs.Fronts.{behind_white-skips, behind_quote-takes}
+use Rattle.handlebars_lines.proofs.Plain.{plain_goes_on}
+
+-- ---- a literal with no brackets
+
+abbrev pub is_flat : Literal → Bool
+is_flat (quoted t) = true
+is_flat (single_quoted t) = true
+is_flat (number t) = true
+is_flat (word t) = true
+is_flat (empty k w) = false
+is_flat (filled k lead l w more) = false
+
+pub record TakesAtom (inside : Bool) (t r : List ℕ) : Type 0 where
+  pub atom : Literal
+  pub whole : t ≡ spelled_literal atom ++ r
+  pub fits : IsLiteral atom
+  pub flat : is_flat atom ≡ true
+  pub element : inside ≡ true → is_element atom ≡ true
+  pub shorter : length r < length t
+
+plain_takes : (inside : Bool) (t r : List ℕ) → plain_at t ≡ Some r → TakesAtom inside t r
+unfolding plain_at
+plain_takes inside t r e = on (is_number (run_of t) || is_word (run_of t)) refl e
+  where
+    on : (c : Bool) → (is_number (run_of t) || is_word (run_of t)) ≡ c → cond c (Some (behind_run t)) None ≡ Some r → TakesAtom inside t r
+    on false is e = absurd cc
+    on true is e =
+        let rest : behind_run t ≡ r = same_Some (behind_run t) r e in
+        let whole : t ≡ run_of t ++ r = sym (take-append-drop (prefix_len goes_on t) t) ∙ ap (λ (z : List ℕ). run_of t ++ z) rest in
+        let shorter : length r < length t = omega (arith, ap length whole, length-append (run_of t) r, (plain_goes_on (run_of t) is).some) in
+        elim (or_cases (is_number (run_of t)) (is_word (run_of t)) is) [
+          | inl fits ↦ record { atom = number (run_of t); whole = whole; fits = fits; flat = refl; element = λ inner. refl; shorter = shorter }
+          | inr fits ↦ record { atom = word (run_of t); whole = whole; fits = fits; flat = refl; element = λ inner. refl; shorter = shorter }
+        ]
+
+-- a text in quotes, from its opening one on
+quote_whole : (quote : ℕ) (t u inner r : List ℕ) → t ≡ quote ∷ u → u ≡ inner ++ quote ∷ r → t ≡ (quote ∷ (inner ++ quote ∷ [])) ++ r
+quote_whole quote t u inner r first whole = first ∙ ap (λ (z : List ℕ). quote ∷ z) (whole ∙ sym (append_assoc inner (quote ∷ []) r))
+
+undoubled_takes : (inside : Bool) (t r : List ℕ) → undoubled_at inside t ≡ Some r → TakesAtom inside t r
+unfolding undoubled_at
+undoubled_takes true t r e = plain_takes true t r e
+undoubled_takes false t r e =
+    elim (with_or_is (after 39 t) (behind_quote 39 false) (plain_at t) (Some r) e) [
+      | inl text ↦
+          let q = behind_quote-takes 39 false text.0 r text.2 in
+          let whole = quote_whole 39 t text.0 q.inner r (after_takes 39 t text.0 text.1) q.whole in
+          record {
+            atom = single_quoted q.inner;
+            whole = whole;
+            fits = q.is;
+            flat = refl;
+            element = λ never. absurd cc;
+            shorter = omega (arith, ap length whole, length-append (39 ∷ (q.inner ++ 39 ∷ [])) r);
+          }
+      | inr plain ↦ plain_takes false t r plain.1
+    ]
+
+atom_takes : (inside : Bool) (t r : List ℕ) → atom_at inside t ≡ Some r → TakesAtom inside t r
+unfolding atom_at
+atom_takes inside t r e =
+    elim (with_or_is (after 34 t) (behind_quote 34 false) (undoubled_at inside t) (Some r) e) [
+      | inl text ↦
+          let q = behind_quote-takes 34 false text.0 r text.2 in
+          let whole = quote_whole 34 t text.0 q.inner r (after_takes 34 t text.0 text.1) q.whole in
+          record {
+            atom = quoted q.inner;
+            whole = whole;
+            fits = q.is;
+            flat = refl;
+            element = λ inner. refl;
+            shorter = omega (arith, ap length whole, length-append (34 ∷ (q.inner ++ 34 ∷ [])) r);
+          }
+      | inr other ↦ undoubled_takes inside t r other.1
+    ]
+
+-- ---- what leads to an entry
+
+pub record TakesLead (k : Bracket) (t r : List ℕ) : Type 0 where
+  pub lead : Lead
+  pub fits : IsLead k lead
+  pub whole : t ≡ spelled_lead lead ++ r
+
+pub lead_regroup : (w key u v r : List ℕ) → w ++ 34 ∷ (key ++ 34 ∷ (u ++ 58 ∷ (v ++ r))) ≡ (w ++ 34 ∷ (key ++ 34 ∷ (u ++ 58 ∷ v))) ++ r
+lead_regroup w key u v r = simp append_assoc
+
+lead_takes : (k : Bracket) (t r : List ℕ) → behind_lead k (behind_white t) ≡ Some r → TakesLead k t r
+unfolding key_at
+lead_takes array t r e =
+    let white = behind_white-skips t in
+    let rest : behind_white t ≡ r = same_Some (behind_white t) r e in
+    record {
+      lead = unnamed white.white;
+      fits = white.is;
+      whole = white.whole ∙ ap (λ (z : List ℕ). white.white ++ z) rest;
+    }
+lead_takes object t r e =
+    let a = bind_some (after 34 (behind_white t) >>= behind_quote 34 false) behind_colon r e in
+    let b = bind_some (after 34 (behind_white t)) (behind_quote 34 false) a.0 a.1 in
+    let c = bind_some (after 58 (behind_white a.0)) (λ r. Some (behind_white r)) r a.2 in
+    let before = behind_white-skips t in
+    let q = behind_quote-takes 34 false b.0 a.0 b.2 in
+    let between = behind_white-skips a.0 in
+    let last = behind_white-skips c.0 in
+    let rest : behind_white c.0 ≡ r = same_Some (behind_white c.0) r c.2 in
+    let first = after_takes 34 (behind_white t) b.0 b.1 in
+    let colon = after_takes 58 (behind_white a.0) c.0 c.1 in
+    record {
+      lead = keyed before.white q.inner between.white last.white;
+      fits = (before.is, q.is, between.is, last.is);
+      whole = before.whole
+          ∙ ap (λ (z : List ℕ). before.white ++ z) (first
+          ∙ ap (λ (z : List ℕ). 34 ∷ z) (q.whole
+          ∙ ap (λ (z : List ℕ). q.inner ++ 34 ∷ z) (between.whole
+          ∙ ap (λ (z : List ℕ). between.white ++ z) (colon
+          ∙ ap (λ (z : List ℕ). 58 ∷ z) (last.whole ∙ ap (λ (z : List ℕ). last.white ++ z) rest)))))
+          ∙ lead_regroup before.white q.inner between.white last.white r;
+    }
+
+-- ---- where a literal is to stand
+
+pub record TakesHollow (t r : List ℕ) : Type 0 where
+  pub kind : Bracket
+  pub white : List ℕ
+  pub is : IsWhite white
+  pub whole : t ≡ opener kind ∷ (white ++ closer kind ∷ r)
+
+pub record TakesOpening (k : Bracket) (t r : List ℕ) : Type 0 where
+  pub lead : Lead
+  pub fits : IsLead k lead
+  pub whole : t ≡ opener k ∷ (spelled_lead lead ++ r)
+
+abbrev pub ValueTells : Bool → List ℕ → Token → Type 0
+ValueTells inside t (atom r) = TakesAtom inside t r
+ValueTells inside t (hollow r) = TakesHollow t r
+ValueTells inside t (opening k r) = TakesOpening k t r
+ValueTells inside t (next r) = ⊥
+ValueTells inside t (shutting r) = ⊥
+ValueTells inside t finished = ⊥
+ValueTells inside t misfit = Unit {0}
+
+bracket_tells : (inside : Bool) (k : Bracket) (t u : List ℕ) → t ≡ opener k ∷ u → ValueTells inside t (bracket_token k (behind_white u))
+unfolding bracket_token
+bracket_tells inside k t u first = on (after (closer k) (behind_white u)) refl (behind_lead k (behind_white u)) refl
+  where
+    on : (o : Option (List ℕ)) → after (closer k) (behind_white u) ≡ o → (p : Option (List ℕ)) → behind_lead k (behind_white u) ≡ p → ValueTells inside t (with_or o hollow (with_or p (opening k) misfit))
+    on (Some r) e p f =
+        let white = behind_white-skips u in
+        let shut = after_takes (closer k) (behind_white u) r e in
+        record {
+          kind = k;
+          white = white.white;
+          is = white.is;
+          whole = first ∙ ap (λ (z : List ℕ). opener k ∷ z) (white.whole ∙ ap (λ (z : List ℕ). white.white ++ z) shut);
+        }
+    on None e (Some r) f =
+        let lead = lead_takes k u r f in
+        record { lead = lead.lead; fits = lead.fits; whole = first ∙ ap (λ (z : List ℕ). opener k ∷ z) lead.whole }
+    on None e None f = tt
+
+pub value_tells : (inside : Bool) (t : List ℕ) → ValueTells inside t (value_token inside t)
+unfolding value_token
+value_tells inside t = on (after 91 t) refl (after 123 t) refl (atom_at inside t) refl
+  where
+    on : (o : Option (List ℕ)) → after 91 t ≡ o → (p : Option (List ℕ)) → after 123 t ≡ p → (q : Option (List ℕ)) → atom_at inside t ≡ q
+        → ValueTells inside t (with_or o (λ r. bracket_token array (behind_white r)) (with_or p (λ r. bracket_token object (behind_white r)) (with_or q atom misfit)))
+    on (Some r) e p f q g = bracket_tells inside array t r (after_takes 91 t r e)
+    on None e (Some r) f q g = bracket_tells inside object t r (after_takes 123 t r f)
+    on None e None f (Some r) g = atom_takes inside t r g
+    on None e None f None g = tt
+
+-- ---- behind an entry
+
+pub record TakesNext (k : Bracket) (t r : List ℕ) : Type 0 where
+  pub white : List ℕ
+  pub is : IsWhite white
+  pub lead : Lead
+  pub fits : IsLead k lead
+  pub whole : t ≡ white ++ 44 ∷ (spelled_lead lead ++ r)
+
+pub record TakesShutting (k : Bracket) (t r : List ℕ) : Type 0 where
+  pub white : List ℕ
+  pub is : IsWhite white
+  pub whole : t ≡ white ++ closer k ∷ r
+
+abbrev pub EntryTells : Bracket → List ℕ → Token → Type 0
+EntryTells k t (atom r) = ⊥
+EntryTells k t (hollow r) = ⊥
+EntryTells k t (opening j r) = ⊥
+EntryTells k t (next r) = TakesNext k t r
+EntryTells k t (shutting r) = TakesShutting k t r
+EntryTells k t finished = ⊥
+EntryTells k t misfit = Unit {0}
+
+comma_tells : (k : Bracket) (t u : List ℕ) → behind_white t ≡ 44 ∷ u → EntryTells k t (comma_token k u)
+comma_tells k t u first = on (behind_lead k (behind_white u)) refl
+  where
+    on : (o : Option (List ℕ)) → behind_lead k (behind_white u) ≡ o → EntryTells k t (with_or o next misfit)
+    on (Some r) e =
+        let white = behind_white-skips t in
+        let lead = lead_takes k u r e in
+        record {
+          white = white.white;
+          is = white.is;
+          lead = lead.lead;
+          fits = lead.fits;
+          whole = white.whole ∙ ap (λ (z : List ℕ). white.white ++ z) (first ∙ ap (λ (z : List ℕ). 44 ∷ z) lead.whole);
+        }
+    on None e = tt
+
+pub entry_tells : (k : Bracket) (t : List ℕ) → EntryTells k t (entry_token k (behind_white t))
+unfolding entry_token
+entry_tells k t = on (after 44 (behind_white t)) refl (after (closer k) (behind_white t)) refl
+  where
+    on : (o : Option (List ℕ)) → after 44 (behind_white t) ≡ o → (p : Option (List ℕ)) → after (closer k) (behind_white t) ≡ p → EntryTells k t (with_or o (comma_token k) (with_or p shutting misfit))
+    on (Some r) e p f = comma_tells k t r (after_takes 44 (behind_white t) r e)
+    on None e (Some r) f =
+        let white = behind_white-skips t in
+        let shut = after_takes (closer k) (behind_white t) r f in
+        record { white = white.white; is = white.is; whole = white.whole ∙ ap (λ (z : List ℕ). white.white ++ z) shut }
+    on None e None f = tt
+
+-- ---- how far a token goes
+
+abbrev pub left_of : Token → Option (List ℕ)
+left_of (atom r) = Some r
+left_of (hollow r) = Some r
+left_of (opening k r) = Some r
+left_of (next r) = Some r
+left_of (shutting r) = Some r
+left_of finished = None
+left_of misfit = None
+
+pub record Shorter (t r : List ℕ) : Type 0 where
+  pub front : List ℕ
+  pub whole : t ≡ front ++ r
+  pub shorter : length r < length t
+
+pub value_shorter : (inside : Bool) (t r : List ℕ) (token : Token) → ValueTells inside t token → left_of token ≡ Some r → Shorter t r
+value_shorter inside t r (atom q) h e = subst (Shorter t) (same_Some q r e) (record { front = spelled_literal h.atom; whole = h.whole; shorter = h.shorter })
+value_shorter inside t r (hollow q) h e =
+    let long : length t ≡ suc (length h.white + suc (length q)) = ap length h.whole ∙ omega (arith, length-append h.white (closer h.kind ∷ q)) in
+    subst (Shorter t) (same_Some q r e) (record {
+      front = opener h.kind ∷ (h.white ++ closer h.kind ∷ []);
+      whole = h.whole ∙ ap (λ (z : List ℕ). opener h.kind ∷ z) (sym (append_assoc h.white (closer h.kind ∷ []) q));
+      shorter = omega arith;
+    })
+value_shorter inside t r (opening k q) h e =
+    let long : length t ≡ suc (length (spelled_lead h.lead) + length q) = ap length h.whole ∙ omega (arith, length-append (spelled_lead h.lead) q) in
+    subst (Shorter t) (same_Some q r e) (record { front = opener k ∷ spelled_lead h.lead; whole = h.whole; shorter = omega arith })
+value_shorter inside t r (next q) h e = absurd h
+value_shorter inside t r (shutting q) h e = absurd h
+value_shorter inside t r finished h e = absurd h
+value_shorter inside t r misfit h e = absurd cc
+
+pub entry_shorter : (k : Bracket) (t r : List ℕ) (token : Token) → EntryTells k t token → left_of token ≡ Some r → Shorter t r
+entry_shorter k t r (atom q) h e = absurd h
+entry_shorter k t r (hollow q) h e = absurd h
+entry_shorter k t r (opening j q) h e = absurd h
+entry_shorter k t r (next q) h e =
+    let long : length t ≡ length h.white + suc (length (spelled_lead h.lead) + length q) = ap length h.whole ∙ omega (arith, length-append h.white (44 ∷ (spelled_lead h.lead ++ q)), length-append (spelled_lead h.lead) q) in
+    subst (Shorter t) (same_Some q r e) (record {
+      front = h.white ++ 44 ∷ spelled_lead h.lead;
+      whole = h.whole ∙ sym (append_assoc h.white (44 ∷ spelled_lead h.lead) q);
+      shorter = omega arith;
+    })
+entry_shorter k t r (shutting q) h e =
+    let long : length t ≡ length h.white + suc (length q) = ap length h.whole ∙ omega (arith, length-append h.white (closer k ∷ q)) in
+    subst (Shorter t) (same_Some q r e) (record {
+      front = h.white ++ closer k ∷ [];
+      whole = h.whole ∙ sym (append_assoc h.white (closer k ∷ []) q);
+      shorter = omega arith;
+    })
+entry_shorter k t r finished h e = absurd h
+entry_shorter k t r misfit h e = absurd cc

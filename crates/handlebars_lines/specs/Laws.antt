@@ -1,0 +1,20 @@
+-- Laws of literals.
+use Rattle.std.specs.Prelude.{◌≡◌}
+use Rattle.handlebars_base.specs.Bytes.{Text}
+use Rattle.handlebars_lines.specs.Literal.{Literal, spelled_literal, literal_depth, IsLiteralAt}
+use Rattle.handlebars_lines.specs.LiteralReading.{Slice}
+
+-- The slice is that of a literal in front of the text.
+pub record HasLiteral (text : Text) (slice : Slice) : Type 0 where
+  pub literal : Literal
+  pub is : IsLiteralAt text literal slice.rest
+  pub raw : slice.raw ≡ spelled_literal literal
+  pub depth : slice.depth ≡ literal_depth literal
+
+-- no literal stands in front
+abbrev pub NoLiteral : Text → Type 0
+NoLiteral text = (slice : Slice) → HasLiteral text slice → ⊥
+
+-- a text has at most one literal in front
+abbrev pub OneLiteral : Type 0
+OneLiteral = (text : Text) (a b : Slice) → HasLiteral text a → HasLiteral text b → a ≡ b

@@ -1,0 +1,5 @@
+pub mod Runs
+pub mod Literal
+pub mod LiteralReading
+pub mod LiteralView
+pub mod Laws

@@ -1,0 +1,179 @@
+-- The literals of tags: what each spells, when it fits, and how deep its brackets nest.
+use Rattle.std.specs.Prelude.{◌≡◌, ℕ, suc, Bool, true, false, not, ◌&&◌, ◌||◌, ◌==◌, nat_lt, if◌then◌else◌, max, [], ◌∷◌, ◌++◌, length, codes}
+use Rattle.std.specs.Char.{is_ascii_digit}
+use Rattle.std.specs.List.{AllByRecursion, list_all, position_or_len, before_first, after_first}
+use Rattle.std.specs.Str.{bytes_eq}
+use Rattle.handlebars_base.specs.Bytes.{Text, double_quote, single_quote, hyphen, dot, slash, colon, left_bracket, backslash, right_bracket, left_brace, right_brace, is_white}
+use Rattle.handlebars_base.specs.Path.{is_symbol}
+
+abbrev pub comma : ℕ
+comma = 44
+
+abbrev pub capital_e : ℕ
+capital_e = 69
+
+abbrev pub IsWhite : Text → Type 0
+IsWhite w = AllByRecursion (λ b. is_white b ≡ true) w
+
+-- ---- texts in quotes
+
+-- What may stand between quotes of a kind, behind a backslash or not: such a quote only behind a backslash, and no
+-- lone backslash last.
+abbrev pub is_inner : ℕ → Bool → Text → Bool
+is_inner quote true [] = false
+is_inner quote false [] = true
+is_inner quote true (b ∷ t) = is_inner quote false t
+is_inner quote false (b ∷ t) = not (b == quote) && is_inner quote (b == backslash) t
+
+-- ---- numbers and words
+
+-- digits, at least one
+abbrev pub is_digits : Text → Bool
+is_digits [] = false
+is_digits (b ∷ t) = list_all is_ascii_digit (b ∷ t)
+
+-- digits with a minus in front or not
+abbrev pub is_integer : Text → Bool
+is_integer [] = false
+is_integer (b ∷ t) = if b == hyphen then is_digits t else is_digits (b ∷ t)
+
+abbrev pub has : ℕ → Text → Bool
+has mark t = nat_lt (position_or_len (λ b. b == mark) t) (length t)
+
+abbrev pub up_to : ℕ → Text → Text
+up_to mark t = before_first (λ b. b == mark) t
+
+abbrev pub behind_first : ℕ → Text → Text
+behind_first mark t = after_first (λ b. b == mark) t
+
+-- an integer, and behind a dot digits or no dot
+abbrev pub is_decimal : Text → Bool
+is_decimal t = if has dot t then is_integer (up_to dot t) && is_digits (behind_first dot t) else is_integer t
+
+-- a decimal, and behind an `E` an integer or no `E`
+abbrev pub is_number : Text → Bool
+is_number t =
+    if has capital_e t
+    then is_decimal (up_to capital_e t) && is_integer (behind_first capital_e t)
+    else is_decimal t
+
+abbrev pub is_word : Text → Bool
+is_word t = bytes_eq t (codes "null") || (bytes_eq t (codes "true") || bytes_eq t (codes "false"))
+
+-- ---- brackets
+
+-- arrays stand in square brackets, and objects in braces
+pub data Bracket : Type 0 where
+  array : Bracket
+  object : Bracket
+
+abbrev pub opener : Bracket → ℕ
+opener array = left_bracket
+opener object = left_brace
+
+abbrev pub closer : Bracket → ℕ
+closer array = right_bracket
+closer object = right_brace
+
+-- What leads to an entry: white; or a key in double quotes and a colon, with white before, between and behind.
+pub data Lead : Type 0 where
+  unnamed : Text → Lead
+  keyed : Text → Text → Text → Text → Lead
+
+abbrev pub spelled_lead : Lead → Text
+spelled_lead (unnamed w) = w
+spelled_lead (keyed w key u v) = w ++ double_quote ∷ (key ++ double_quote ∷ (u ++ colon ∷ v))
+
+-- entries of objects have keys, and those of arrays have none
+abbrev pub IsLead : Bracket → Lead → Type 0
+IsLead array (unnamed w) = IsWhite w
+IsLead array (keyed w key u v) = ⊥
+IsLead object (unnamed w) = ⊥
+IsLead object (keyed w key u v) = IsWhite w × (is_inner double_quote false key ≡ true) × IsWhite u × IsWhite v
+
+-- ---- literals
+
+-- A text in quotes; a number or a word; brackets with white alone; or brackets with entries.
+mutual
+  pub data Literal : Type 0 where
+    quoted : Text → Literal
+    single_quoted : Text → Literal
+    number : Text → Literal
+    word : Text → Literal
+    empty : Bracket → Text → Literal
+    filled : Bracket → Lead → Literal → Text → Entries → Literal
+
+  -- what follows an entry and white: the closing bracket, or a comma, another entry and white
+  pub data Entries : Type 0 where
+    closing : Entries
+    another : Lead → Literal → Text → Entries → Entries
+
+abbrev mutual
+  pub spelled_literal : Literal → Text
+  spelled_literal (quoted t) = double_quote ∷ (t ++ double_quote ∷ [])
+  spelled_literal (single_quoted t) = single_quote ∷ (t ++ single_quote ∷ [])
+  spelled_literal (number t) = t
+  spelled_literal (word t) = t
+  spelled_literal (empty k w) = opener k ∷ (w ++ closer k ∷ [])
+  spelled_literal (filled k lead l w more) =
+      opener k ∷ (spelled_lead lead ++ (spelled_literal l ++ (w ++ spelled_entries k more)))
+
+  pub spelled_entries : Bracket → Entries → Text
+  spelled_entries k closing = closer k ∷ []
+  spelled_entries k (another lead l w more) =
+      comma ∷ (spelled_lead lead ++ (spelled_literal l ++ (w ++ spelled_entries k more)))
+
+-- a text inside brackets stands in double quotes
+abbrev pub is_element : Literal → Bool
+is_element (quoted t) = true
+is_element (single_quoted t) = false
+is_element (number t) = true
+is_element (word t) = true
+is_element (empty k w) = true
+is_element (filled k lead l w more) = true
+
+abbrev mutual
+  pub IsLiteral : Literal → Type 0
+  IsLiteral (quoted t) = is_inner double_quote false t ≡ true
+  IsLiteral (single_quoted t) = is_inner single_quote false t ≡ true
+  IsLiteral (number t) = is_number t ≡ true
+  IsLiteral (word t) = is_word t ≡ true
+  IsLiteral (empty k w) = IsWhite w
+  IsLiteral (filled k lead l w more) =
+      IsLead k lead × (is_element l ≡ true) × IsLiteral l × IsWhite w × AreEntries k more
+
+  pub AreEntries : Bracket → Entries → Type 0
+  AreEntries k closing = Unit {0}
+  AreEntries k (another lead l w more) =
+      IsLead k lead × (is_element l ≡ true) × IsLiteral l × IsWhite w × AreEntries k more
+
+-- the most brackets open at once
+abbrev mutual
+  pub literal_depth : Literal → ℕ
+  literal_depth (quoted t) = 0
+  literal_depth (single_quoted t) = 0
+  literal_depth (number t) = 0
+  literal_depth (word t) = 0
+  literal_depth (empty k w) = 1
+  literal_depth (filled k lead l w more) = suc (max (literal_depth l) (entries_depth more))
+
+  pub entries_depth : Entries → ℕ
+  entries_depth closing = 0
+  entries_depth (another lead l w more) = max (literal_depth l) (entries_depth more)
+
+-- ---- in front of a text
+
+-- a byte that no literal stands in front of: a symbol, `.` or `/`
+abbrev pub goes_on : ℕ → Bool
+goes_on b = is_symbol b || (b == dot || b == slash)
+
+-- a byte of that kind stands in front
+abbrev pub starts : (ℕ → Bool) → Text → Bool
+starts p [] = false
+starts p (b ∷ t) = p b
+
+-- The text is that of a literal, and then a rest in which nothing goes on with it.
+pub record IsLiteralAt (text : Text) (l : Literal) (rest : Text) : Type 0 where
+  pub whole : text ≡ spelled_literal l ++ rest
+  pub fits : IsLiteral l
+  pub stops : starts goes_on rest ≡ false

@@ -1,0 +1,143 @@
+-- Reading a literal from left to right, with the kinds of its open brackets, as functions on lists.
+use Rattle.std.specs.Prelude.{ℕ, suc, ◌+◌, ◌-◌, Bool, true, false, ◌||◌, ◌==◌, if◌then◌else◌, max, List, [], ◌∷◌, length, take, drop, Option, Some, None, is_some}
+use Rattle.std.specs.List.{prefix_len}
+use Rattle.handlebars_base.specs.Bytes.{Text, double_quote, single_quote, colon, backslash, left_bracket, left_brace, is_white}
+use Rattle.handlebars_base.specs.PathReading.{◌>>=◌, with_or, after}
+use Rattle.handlebars_lines.specs.Runs.{Next, goes, ends, stuck, run}
+use Rattle.handlebars_lines.specs.Literal.{comma, is_number, is_word, Bracket, array, object, closer, goes_on, starts}
+
+-- ---- marks and runs
+
+abbrev pub behind_white : Text → Text
+behind_white [] = []
+behind_white (b ∷ t) = if is_white b then behind_white t else b ∷ t
+
+-- what follows the quote that closes a text, behind a backslash or not
+abbrev pub behind_quote : ℕ → Bool → Text → Option Text
+behind_quote quote escaped [] = None
+behind_quote quote true (b ∷ t) = behind_quote quote false t
+behind_quote quote false (b ∷ t) = if b == quote then Some t else behind_quote quote (b == backslash) t
+
+-- the longest front in which each byte goes on
+abbrev pub run_of : Text → Text
+run_of t = take (prefix_len goes_on t) t
+
+abbrev pub behind_run : Text → Text
+behind_run t = drop (prefix_len goes_on t) t
+
+-- ---- what stands next
+
+-- what follows a number or a word
+unfoldable pub plain_at : Text → Option Text
+plain_at t = if is_number (run_of t) || is_word (run_of t) then Some (behind_run t) else None
+
+-- what follows a number or a word, or outside brackets a text in single quotes
+unfoldable pub undoubled_at : Bool → Text → Option Text
+undoubled_at true t = plain_at t
+undoubled_at false t = with_or (after single_quote t) (behind_quote single_quote false) (plain_at t)
+
+-- what follows a text in quotes, a number or a word, inside brackets or not
+unfoldable pub atom_at : Bool → Text → Option Text
+atom_at inside t = with_or (after double_quote t) (behind_quote double_quote false) (undoubled_at inside t)
+
+-- what follows a key's colon and white
+abbrev pub behind_colon : Text → Option Text
+behind_colon t = after colon (behind_white t) >>= λ r. Some (behind_white r)
+
+-- what follows a key, its colon and white
+unfoldable pub key_at : Text → Option Text
+key_at t = after double_quote t >>= behind_quote double_quote false >>= behind_colon
+
+-- where an entry's literal stands
+abbrev pub behind_lead : Bracket → Text → Option Text
+behind_lead array t = Some t
+behind_lead object t = key_at t
+
+-- what stands next, and what follows it: a literal with no brackets; empty brackets; an opening bracket and what
+-- leads to its first entry; a comma and what leads to another; or a closing bracket
+pub data Token : Type 0 where
+  atom : Text → Token
+  hollow : Text → Token
+  opening : Bracket → Text → Token
+  next : Text → Token
+  shutting : Text → Token
+  finished : Token
+  misfit : Token
+
+-- behind an opening bracket and white
+unfoldable pub bracket_token : Bracket → Text → Token
+bracket_token k t = with_or (after (closer k) t) hollow (with_or (behind_lead k t) (opening k) misfit)
+
+-- where a literal is to stand, inside brackets or not
+unfoldable pub value_token : Bool → Text → Token
+value_token inside t =
+    with_or (after left_bracket t) (λ r. bracket_token array (behind_white r))
+    (with_or (after left_brace t) (λ r. bracket_token object (behind_white r)) (with_or (atom_at inside t) atom misfit))
+
+-- behind a comma
+abbrev pub comma_token : Bracket → Text → Token
+comma_token k t = with_or (behind_lead k (behind_white t)) next misfit
+
+-- behind an entry and white
+unfoldable pub entry_token : Bracket → Text → Token
+entry_token k t = with_or (after comma t) (comma_token k) (with_or (after (closer k) t) shutting misfit)
+
+-- behind a literal, in brackets or not
+abbrev pub behind_token : Option Bracket → Text → Token
+behind_token None t = finished
+behind_token (Some k) t = entry_token k (behind_white t)
+
+unfoldable pub token_at : Bool → Option Bracket → Text → Token
+token_at true inner t = value_token (is_some inner) t
+token_at false inner t = behind_token inner t
+
+-- ---- steps
+
+-- A literal is to stand here, or stands before; in these brackets, the innermost first.
+pub data Place : Type 0 where
+  ahead : List Bracket → Place
+  behind : List Bracket → Place
+
+abbrev pub innermost : List Bracket → Option Bracket
+innermost [] = None
+innermost (k ∷ ks) = Some k
+
+abbrev pub outer : List Bracket → List Bracket
+outer [] = []
+outer (k ∷ ks) = ks
+
+-- A step finds how many brackets it has opened inside each other, or 0 if it opens none.
+abbrev pub taken : List Bracket → Token → Next ℕ Place
+taken ks (atom r) = goes 0 (behind ks) r
+taken ks (hollow r) = goes (suc (length ks)) (behind ks) r
+taken ks (opening k r) = goes (suc (length ks)) (ahead (k ∷ ks)) r
+taken ks (next r) = goes 0 (ahead ks) r
+taken ks (shutting r) = goes 0 (behind (outer ks)) r
+taken ks finished = ends
+taken ks misfit = stuck
+
+abbrev pub literal_step : Place → Text → Next ℕ Place
+literal_step (ahead ks) t = taken ks (value_token (is_some (innermost ks)) t)
+literal_step (behind ks) t = taken ks (behind_token (innermost ks) t)
+
+-- the most of these
+abbrev pub most : ℕ → List ℕ → ℕ
+most m [] = m
+most m (x ∷ xs) = most (max m x) xs
+
+-- ---- the literal in front
+
+-- a literal's text, what follows it, and how deep it is
+pub record Slice : Type 0 where
+  pub raw : Text
+  pub rest : Text
+  pub depth : ℕ
+
+abbrev pub slice_in : Text → List ℕ × Text → Option Slice
+slice_in t r =
+    if starts goes_on r.1
+    then None
+    else Some (record { raw = take (length t - length r.1) t; rest = r.1; depth = most 0 r.0 })
+
+unfoldable pub literal_at : Text → Option Slice
+literal_at t = run literal_step (length t + 1) (ahead []) t >>= slice_in t

@@ -1,0 +1,6 @@
+//! What stands in tags, read from the front of a text.
+#![tactic(auto)]
+
+pub mod laws;
+pub mod literal;
+mod marks;

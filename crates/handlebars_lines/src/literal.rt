@@ -1,0 +1,293 @@
+//! Literals, without recursion: one token after the other, and the kinds of the open brackets.
+
+ghost use Rattle.std.specs.Prelude.{◌≡◌, ◌<◌, ◌≤◌, length, max, IfOk, IfSome, MatchOption};
+ghost use Rattle.std.specs.List.{list_all};
+ghost use Rattle.std.specs.Char.{is_ascii_digit};
+ghost use Rattle.std.specs.Option.{option_map};
+ghost use Rattle.handlebars_lines.specs.Literal.{is_digits, is_integer, is_decimal, is_number, is_word, closer};
+ghost use Rattle.handlebars_lines.specs.LiteralReading.{plain_at, undoubled_at, atom_at, behind_colon, key_at, behind_lead, bracket_token, value_token, comma_token, entry_token, token_at, literal_at};
+ghost use Rattle.handlebars_lines.specs.LiteralView.{bracket_of, token_of, slice_of};
+ghost use Rattle.handlebars_lines.specs.Laws.{HasLiteral, NoLiteral};
+
+use crate::marks::{after, behind_quote, behind_white, run, starts_run};
+use std::alloc::{AllocError, Global};
+
+/// A literal's text, what follows it, and how many of its brackets are open at once at most.
+#[derive(Clone, Copy, Debug, PartialEq, Eq)]
+pub struct LiteralSlice<'a> {
+    pub raw: &'a str,
+    pub rest: &'a str,
+    pub depth: usize,
+}
+
+/// The literal in front of a text.
+pub fn split_literal(alloc: Global, text: &str) -> Result<Option<LiteralSlice<'_>>, AllocError>
+    ensures reads { IfOk result (λ read. MatchOption read (NoLiteral text.now)
+        (λ slice. HasLiteral text.now (slice_of slice))) }
+    ensures depth { IfOk result (λ read. IfSome read (λ slice. slice.depth ≤ length text.now)) }
+{
+    literal_at(alloc, text)
+}
+
+/// What opens an array or an object.
+#[derive(Clone, Copy, Debug, PartialEq, Eq)]
+enum Bracket {
+    Array,
+    Object,
+}
+
+/// What stands next, with what follows it.
+#[derive(Clone, Copy)]
+enum Token<'a> {
+    /// A literal with no brackets.
+    Atom(&'a str),
+    /// Brackets with white alone.
+    Hollow(&'a str),
+    /// An opening bracket and what leads to its first entry.
+    Opening(Bracket, &'a str),
+    /// A comma and what leads to another entry.
+    Next(&'a str),
+    /// A closing bracket.
+    Shutting(&'a str),
+    Finished,
+    Misfit,
+}
+
+fn all_digits(bytes: &[u8]) -> bool
+    ensures { result ≡ list_all is_ascii_digit bytes.now }
+{
+    bytes.iter().all(|byte| byte.is_ascii_digit())
+}
+
+fn is_digits(bytes: &[u8]) -> bool
+    ensures { result ≡ is_digits bytes.now }
+{
+    match bytes {
+        [_, ..] => all_digits(bytes),
+        [] => false,
+    }
+}
+
+fn is_integer(bytes: &[u8]) -> bool
+    ensures { result ≡ is_integer bytes.now }
+{
+    match bytes {
+        [b'-', rest @ ..] => is_digits(rest),
+        _ => is_digits(bytes),
+    }
+}
+
+fn is_decimal(text: &str) -> bool
+    ensures { result ≡ is_decimal text.now }
+{
+    match text.split_once('.') {
+        Some((whole, fraction)) => is_integer(whole.as_bytes()) && is_digits(fraction.as_bytes()),
+        None => is_integer(text.as_bytes()),
+    }
+}
+
+fn is_number(text: &str) -> bool
+    ensures { result ≡ is_number text.now }
+{
+    match text.split_once('E') {
+        Some((front, exponent)) => is_decimal(front) && is_integer(exponent.as_bytes()),
+        None => is_decimal(text),
+    }
+}
+
+fn is_word(text: &str) -> bool
+    ensures { result ≡ is_word text.now }
+{
+    text == "null" || text == "true" || text == "false"
+}
+
+#[tactic(auto, unfolding(crate::specs::LiteralReading::plain_at))]
+fn plain_at(text: &str) -> Option<&str>
+    ensures { option_map (λ rest. rest.now) result ≡ plain_at text.now }
+{
+    let (front, rest) = run(text);
+    if is_number(front) || is_word(front) {
+        Some(rest)
+    } else {
+        None
+    }
+}
+
+/// Inside brackets texts stand in double quotes alone.
+#[tactic(auto, unfolding(crate::specs::LiteralReading::undoubled_at))]
+fn undoubled_at(inside: bool, text: &str) -> Option<&str>
+    ensures { option_map (λ rest. rest.now) result ≡ undoubled_at inside text.now }
+{
+    if inside {
+        return plain_at(text);
+    }
+    match after(b'\'', text) {
+        Some(rest) => behind_quote(b'\'', rest),
+        None => plain_at(text),
+    }
+}
+
+#[tactic(auto, unfolding(crate::specs::LiteralReading::atom_at))]
+fn atom_at(inside: bool, text: &str) -> Option<&str>
+    ensures { option_map (λ rest. rest.now) result ≡ atom_at inside text.now }
+{
+    match after(b'"', text) {
+        Some(rest) => behind_quote(b'"', rest),
+        None => undoubled_at(inside, text),
+    }
+}
+
+fn behind_colon(text: &str) -> Option<&str>
+    ensures { option_map (λ rest. rest.now) result ≡ behind_colon text.now }
+{
+    let rest = after(b':', behind_white(text))?;
+    Some(behind_white(rest))
+}
+
+#[tactic(auto, unfolding(crate::specs::LiteralReading::key_at))]
+fn key_at(text: &str) -> Option<&str>
+    ensures { option_map (λ rest. rest.now) result ≡ key_at text.now }
+{
+    let rest = behind_quote(b'"', after(b'"', text)?)?;
+    behind_colon(rest)
+}
+
+fn behind_lead(bracket: Bracket, text: &str) -> Option<&str>
+    ensures { option_map (λ rest. rest.now) result ≡ behind_lead (bracket_of bracket) text.now }
+{
+    match bracket {
+        Bracket::Array => Some(text),
+        Bracket::Object => key_at(text),
+    }
+}
+
+fn closer(bracket: Bracket) -> u8
+    ensures within { result < 128 }
+    ensures is { result ≡ closer (bracket_of bracket) }
+{
+    match bracket {
+        Bracket::Array => b']',
+        Bracket::Object => b'}',
+    }
+}
+
+/// Behind an opening bracket and white.
+#[tactic(auto, unfolding(crate::specs::LiteralReading::bracket_token))]
+fn bracket_token(bracket: Bracket, text: &str) -> Token<'_>
+    ensures { token_of result ≡ bracket_token (bracket_of bracket) text.now }
+{
+    if let Some(rest) = after(closer(bracket), text) {
+        return Token::Hollow(rest);
+    }
+    match behind_lead(bracket, text) {
+        Some(rest) => Token::Opening(bracket, rest),
+        None => Token::Misfit,
+    }
+}
+
+/// Where a literal is to stand, inside brackets or not.
+#[tactic(auto, unfolding(crate::specs::LiteralReading::value_token))]
+fn value_token(inside: bool, text: &str) -> Token<'_>
+    ensures { token_of result ≡ value_token inside text.now }
+{
+    if let Some(rest) = after(b'[', text) {
+        return bracket_token(Bracket::Array, behind_white(rest));
+    }
+    if let Some(rest) = after(b'{', text) {
+        return bracket_token(Bracket::Object, behind_white(rest));
+    }
+    match atom_at(inside, text) {
+        Some(rest) => Token::Atom(rest),
+        None => Token::Misfit,
+    }
+}
+
+fn comma_token(bracket: Bracket, text: &str) -> Token<'_>
+    ensures { token_of result ≡ comma_token (bracket_of bracket) text.now }
+{
+    match behind_lead(bracket, behind_white(text)) {
+        Some(rest) => Token::Next(rest),
+        None => Token::Misfit,
+    }
+}
+
+/// Behind an entry and white.
+#[tactic(auto, unfolding(crate::specs::LiteralReading::entry_token))]
+fn entry_token(bracket: Bracket, text: &str) -> Token<'_>
+    ensures { token_of result ≡ entry_token (bracket_of bracket) text.now }
+{
+    if let Some(rest) = after(b',', text) {
+        return comma_token(bracket, rest);
+    }
+    match after(closer(bracket), text) {
+        Some(rest) => Token::Shutting(rest),
+        None => Token::Misfit,
+    }
+}
+
+/// What stands next: ahead of a literal or behind one, inside this bracket.
+#[tactic(auto, unfolding(crate::specs::LiteralReading::token_at))]
+fn token_at(ahead: bool, innermost: Option<Bracket>, text: &str) -> Token<'_>
+    ensures { token_of result ≡ token_at ahead (option_map bracket_of innermost) text.now }
+{
+    if ahead {
+        return value_token(innermost.is_some(), text);
+    }
+    match innermost {
+        Some(bracket) => entry_token(bracket, behind_white(text)),
+        None => Token::Finished,
+    }
+}
+
+fn larger(a: usize, b: usize) -> usize
+    ensures { result ≡ max a b }
+{
+    if a < b { b } else { a }
+}
+
+/// The literal in front, by its tokens.
+fn literal_at(alloc: Global, text: &str) -> Result<Option<LiteralSlice<'_>>, AllocError>
+    ensures reads { IfOk result (λ read. option_map slice_of read ≡ literal_at text.now) }
+    ensures depth { IfOk result (λ read. IfSome read (λ slice. slice.depth ≤ length text.now)) }
+{
+    let mut around: Vec<Bracket> = Vec::new(alloc);
+    let mut ahead = true;
+    let mut rest = text;
+    let mut depth = 0;
+    'reading: loop {
+        match token_at(ahead, around.last().copied(), rest) {
+            Token::Atom(behind) => {
+                ahead = false;
+                rest = behind;
+            }
+            Token::Hollow(behind) => {
+                depth = larger(depth, around.len() + 1);
+                ahead = false;
+                rest = behind;
+            }
+            Token::Opening(bracket, behind) => {
+                around.push(bracket)?;
+                depth = larger(depth, around.len());
+                ahead = true;
+                rest = behind;
+            }
+            Token::Next(behind) => {
+                ahead = true;
+                rest = behind;
+            }
+            Token::Shutting(behind) => {
+                around.pop();
+                ahead = false;
+                rest = behind;
+            }
+            Token::Finished => {
+                if starts_run(rest) {
+                    return Ok(None);
+                }
+                let raw = text.split_at(text.len() - rest.len()).0;
+                return Ok(Some(LiteralSlice { raw, rest, depth }));
+            }
+            Token::Misfit => return Ok(None),
+        }
+    }
+}
