@@ -3,3 +3,7 @@ pub mod Literal
 pub mod LiteralReading
 pub mod LiteralView
 pub mod Laws
+pub mod Parameter
+pub mod Line
+pub mod LineReading
+pub mod Worth

@@ -5,6 +5,7 @@ pub mod Tag
 pub mod TagReading
 pub mod Cut
 pub mod Tree
+pub mod Calls
 pub mod TreeView
 pub mod Compile
 pub mod OptionsView
