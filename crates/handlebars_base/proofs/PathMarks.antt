@@ -3,9 +3,10 @@ use Rattle.std.proofs.Common.{◌≡◌, ℕ, zero, suc, ◌+◌, ◌<◌, Bool,
 use Rattle.std.specs.Prelude.{◌==◌}
 use Rattle.std.specs.List.{prefix_len, AllByRecursion}
 use Rattle.std.specs.Str.{IsCharBoundary}
-use Rattle.std.proofs.lemmas.Bool.{or_parts, leb-false, eqb-true, ne_eqb, cases_Bool}
+use Rattle.std.proofs.lemmas.Bool.{or_cases, or_parts, leb-false, eqb-true, ne_eqb, cases_Bool}
 use Rattle.std.proofs.lemmas.List.Sums.{prefix_len-le-length, prefix_len_stops}
 use Rattle.std.proofs.lemmas.Option.{cond_some}
+use Rattle.handlebars_base.specs.Bytes.{is_white}
 use Rattle.handlebars_base.specs.Path.{is_symbol, ups}
 use Rattle.handlebars_base.specs.PathReading.{after, is_up_mark, after_up, ups_at}
 use Rattle.handlebars_base.proofs.OptionBinds.{cond_none}
@@ -44,6 +45,20 @@ not_symbol x c yea nay = ne_eqb x c (λ e. let same : is_symbol x ≡ is_symbol 
 pub after_other : (c x : ℕ) (t : List ℕ) → (x == c) ≡ false → after c (x ∷ t) ≡ None
 unfolding after
 after_other c x t h = rw h refl
+
+-- ---- white
+
+pub is_white-ascii : (b : ℕ) → is_white b ≡ true → b < 128
+is_white-ascii b h = elim (or_cases (b == 32) _ h) [
+  | inl is ↦ let e = eqb-true b 32 is in omega arith
+  | inr more ↦ elim (or_cases (b == 9) _ more) [
+    | inl is ↦ let e = eqb-true b 9 is in omega arith
+    | inr last ↦ elim (or_cases (b == 10) (b == 13) last) [
+      | inl is ↦ let e = eqb-true b 10 is in omega arith
+      | inr is ↦ let e = eqb-true b 13 is in omega arith
+    ]
+  ]
+]
 
 -- ---- symbols
 

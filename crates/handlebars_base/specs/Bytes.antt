@@ -1,5 +1,5 @@
 -- Texts as definitions see them, as lists of bytes in UTF-8, and the names of bytes.
-use Rattle.std.specs.Prelude.{ℕ, Bool, ◌||◌, ◌==◌, List}
+use Rattle.std.specs.Prelude.{ℕ, Bool, ◌||◌, ◌==◌, if◌then◌else◌, List, [], ◌∷◌}
 
 abbrev pub Text : Type 0
 Text = List ℕ
@@ -76,3 +76,8 @@ right_brace = 125
 -- space, tab, newline and carriage return
 abbrev pub is_white : ℕ → Bool
 is_white b = (b == space) || ((b == tab) || ((b == newline) || (b == carriage_return)))
+
+-- what follows the white in front
+abbrev pub behind_white : Text → Text
+behind_white [] = []
+behind_white (b ∷ t) = if is_white b then behind_white t else b ∷ t

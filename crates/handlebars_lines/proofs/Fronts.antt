@@ -3,7 +3,7 @@ use Rattle.std.proofs.Common.{◌≡◌, ℕ, ◌<◌, Bool, true, false, cond, 
 use Rattle.std.specs.Prelude.{◌==◌}
 use Rattle.std.specs.List.{prefix_len, AllByRecursion}
 use Rattle.std.specs.Str.{IsCharBoundary}
-use Rattle.std.proofs.lemmas.Bool.{eqb-true, eqb-false, or_cases, or_parts, cases_Bool, not-true, and_parts}
+use Rattle.std.proofs.lemmas.Bool.{eqb-true, eqb-false, or_parts, cases_Bool, not-true, and_parts}
 use Rattle.std.proofs.lemmas.List.{take_at, drop_at}
 use Rattle.std.proofs.lemmas.List.Sums.{prefix_len-le-length, prefix_len_stops}
 use Rattle.std.proofs.lemmas.Option.{same_Some}
@@ -15,18 +15,6 @@ use Rattle.handlebars_lines.specs.Literal.{IsWhite, is_inner, goes_on, starts}
 use Rattle.handlebars_lines.specs.LiteralReading.{behind_white, behind_quote, run_of, behind_run}
 
 -- ---- white
-
-pub is_white-ascii : (b : ℕ) → is_white b ≡ true → b < 128
-is_white-ascii b h = elim (or_cases (b == 32) _ h) [
-  | inl is ↦ let e = eqb-true b 32 is in omega arith
-  | inr more ↦ elim (or_cases (b == 9) _ more) [
-    | inl is ↦ let e = eqb-true b 9 is in omega arith
-    | inr last ↦ elim (or_cases (b == 10) (b == 13) last) [
-      | inl is ↦ let e = eqb-true b 10 is in omega arith
-      | inr is ↦ let e = eqb-true b 13 is in omega arith
-    ]
-  ]
-]
 
 -- white, and what is behind it
 pub record Skips (t : List ℕ) : Type 0 where

@@ -1,5 +1,5 @@
 -- What the loop that reads a literal keeps.
-use Rattle.std.proofs.Common.{◌≡◌, ℕ, zero, suc, ◌+◌, ◌-◌, ◌<◌, ◌≤◌, Bool, true, false, List, [], ◌∷◌, ◌++◌, length, get_or, take, drop, map, reverse, Option, Some, None, refl, sym, ap, ◌∙◌, append_assoc, arith, ◌⊎◌, inl, inr, length-append, max}
+use Rattle.std.proofs.Common.{◌≡◌, ℕ, zero, suc, ◌+◌, ◌-◌, ◌<◌, ◌≤◌, Bool, true, false, ◌&&◌, List, [], ◌∷◌, ◌++◌, length, get_or, take, drop, map, reverse, Option, Some, None, refl, sym, ap, ◌∙◌, append_assoc, arith, ◌⊎◌, inl, inr, length-append, max}
 use Rattle.std.specs.List.{slice_get}
 use Rattle.std.specs.Option.{option_map, MatchOption}
 use Rattle.std.proofs.Common.{Result, Ok, Err, IfOk}
@@ -7,7 +7,7 @@ use Rattle.std.specs.Str.{IsCharBoundary}
 use Rattle.std.proofs.lemmas.List.{take_at, drop_at, get_or-drop, reverse-append, length-reverse, length-map}
 use Rattle.handlebars_lines.specs.Runs.{goes, ends, stuck}
 use Rattle.handlebars_lines.specs.Literal.{Bracket, goes_on, starts}
-use Rattle.handlebars_lines.specs.LiteralReading.{Token, token_at, Place, ahead, innermost, outer, taken, literal_step, most, literal_at}
+use Rattle.handlebars_lines.specs.LiteralReading.{Token, token_at, Place, ahead, innermost, outer, Find, taken, literal_step, most, all_kept, cut_to, literal_at}
 use Rattle.handlebars_lines.specs.LiteralView.{bracket_of, stack_of, place_of, slice_of}
 use Rattle.handlebars_lines.specs.Laws.{HasLiteral, NoLiteral}
 use Rattle.handlebars_lines.specs.declared.literal.Bracket.{Bracket as ReadBracket}
@@ -69,20 +69,27 @@ loop_step b items slice o t token is top same =
     let inner : option_map bracket_of o ≡ innermost (stack_of items) = ap (option_map bracket_of) (top ∙ at_items) ∙ stack-innermost items in
     step_at b items t ∙ sym (ap (taken (stack_of items)) (is ∙ ap (λ (z : Option Bracket). token_at b z t) inner))
 
--- what is kept, with so many brackets open
-pub record Holds (t0 : List ℕ) (s : Place) (n : ℕ) (t : List ℕ) (depth : ℕ) : Type 0 where
-  pub still : Still literal_step (ahead []) t0 (most 0) s t (most depth)
+-- what these tell on top of what is known
+abbrev pub tally : ℕ → Bool → List Find → ℕ × Bool
+tally depth kept xs = (most depth xs, all_kept kept xs)
+
+tally-more : (depth depth' : ℕ) (kept kept' : Bool) (x : Find) (xs : List Find) → depth' ≡ max depth x.height → kept' ≡ (kept && x.keeps) → tally depth kept (x ∷ xs) ≡ tally depth' kept' xs
+tally-more depth depth' kept kept' x xs more keeps = sym (ap (λ (z : ℕ). tally z kept' xs) more ∙ ap (λ (z : Bool). tally (max depth x.height) z xs) keeps)
+
+-- what holds at each turn, with so many brackets open
+pub record Holds (t0 : List ℕ) (s : Place) (n : ℕ) (t : List ℕ) (depth : ℕ) (kept : Bool) : Type 0 where
+  pub still : Still literal_step (ahead []) t0 (tally 0 true) s t (tally depth kept)
   pub within : n + length t ≤ length t0
   pub deep : depth + length t ≤ length t0
   pub whole : (front : List ℕ) × (t0 ≡ front ++ t)
 
-pub loop_goes : (t0 : List ℕ) (s : Place) (n : ℕ) (t : List ℕ) (depth x : ℕ) (s' : Place) (n' : ℕ) (t' : List ℕ) (depth' : ℕ) → literal_step s t ≡ goes x s' t'
-    → depth' ≡ max depth x → n' ≤ n + 1 → x ≤ n + 1 → Holds t0 s n t depth → Holds t0 s' n' t' depth'
-loop_goes t0 s n t depth x s' n' t' depth' is more up deep h =
+pub loop_goes : (t0 : List ℕ) (s : Place) (n : ℕ) (t : List ℕ) (depth : ℕ) (kept : Bool) (x : Find) (s' : Place) (n' : ℕ) (t' : List ℕ) (depth' : ℕ) (kept' : Bool) → literal_step s t ≡ goes x s' t'
+    → depth' ≡ max depth x.height → kept' ≡ (kept && x.keeps) → n' ≤ n + 1 → x.height ≤ n + 1 → Holds t0 s n t depth kept → Holds t0 s' n' t' depth' kept'
+loop_goes t0 s n t depth kept x s' n' t' depth' kept' is more keeps up deep h =
     let step = step_shorter s t x s' t' is in
     let less : length t' < length t = step.shorter in
     record {
-      still = still-goes literal_step (ahead []) t0 (most 0) s t (most depth) x s' t' (most depth') is (λ xs. ap (λ (z : ℕ). most z xs) (sym more)) h.still;
+      still = still-goes literal_step (ahead []) t0 (tally 0 true) s t (tally depth kept) x s' t' (tally depth' kept') is (λ xs. tally-more depth depth' kept kept' x xs more keeps) h.still;
       within = omega (arith, h.within);
       deep = omega (arith, h.within, h.deep);
       whole = (h.whole.0 ++ step.front, h.whole.1 ∙ ap (λ (z : List ℕ). h.whole.0 ++ z) step.whole ∙ sym (append_assoc h.whole.0 step.front t'));
@@ -109,24 +116,26 @@ end_boundary t rest h stop =
           absurd (omega arith),
     )
 
-pub loop_found : (t rest : List ℕ) (s : Place) (depth : ℕ) → Still literal_step (ahead []) t (most 0) s rest (most depth) → literal_step s rest ≡ ends → starts goes_on rest ≡ false
-    → literal_at t ≡ Some (record { raw = take (length t - length rest) t; rest = rest; depth = depth })
+pub loop_found : (t rest : List ℕ) (s : Place) (depth : ℕ) (kept : Bool) → Still literal_step (ahead []) t (tally 0 true) s rest (tally depth kept) → literal_step s rest ≡ ends → starts goes_on rest ≡ false
+    → literal_at t ≡ Some (cut_to t rest depth kept)
 unfolding literal_at
-loop_found t rest s depth still is stop =
+loop_found t rest s depth kept still is stop =
     let h = still.ran [] rest (last is) in
     let goes_so = run-some literal_step shortens (length t + 1) (ahead []) t h.0 rest (omega arith) h.1 in
-    rw (goes_so, stop, h.2) refl
+    let depth_is : most 0 h.0 ≡ depth = ap (λ (z : ℕ × Bool). z.0) h.2 in
+    let kept_is : all_kept true h.0 ≡ kept = ap (λ (z : ℕ × Bool). z.1) h.2 in
+    rw (goes_so, stop, depth_is, kept_is) refl
 
-pub loop_goes_on : (t rest : List ℕ) (s : Place) (depth : ℕ) → Still literal_step (ahead []) t (most 0) s rest (most depth) → literal_step s rest ≡ ends → starts goes_on rest ≡ true → literal_at t ≡ None
+pub loop_goes_on : (t rest : List ℕ) (s : Place) (depth : ℕ) (kept : Bool) → Still literal_step (ahead []) t (tally 0 true) s rest (tally depth kept) → literal_step s rest ≡ ends → starts goes_on rest ≡ true → literal_at t ≡ None
 unfolding literal_at
-loop_goes_on t rest s depth still is stop =
+loop_goes_on t rest s depth kept still is stop =
     let h = still.ran [] rest (last is) in
     let goes_so = run-some literal_step shortens (length t + 1) (ahead []) t h.0 rest (omega arith) h.1 in
     rw (goes_so, stop) refl
 
-pub loop_misfit : (t rest : List ℕ) (s : Place) (depth : ℕ) → Still literal_step (ahead []) t (most 0) s rest (most depth) → literal_step s rest ≡ stuck → literal_at t ≡ None
+pub loop_misfit : (t rest : List ℕ) (s : Place) (depth : ℕ) (kept : Bool) → Still literal_step (ahead []) t (tally 0 true) s rest (tally depth kept) → literal_step s rest ≡ stuck → literal_at t ≡ None
 unfolding literal_at
-loop_misfit t rest s depth still is = rw (run-none literal_step (length t + 1) (ahead []) t (still.failed (none is))) refl
+loop_misfit t rest s depth kept still is = rw (run-none literal_step (length t + 1) (ahead []) t (still.failed (none is))) refl
 
 -- ---- what the reading tells of the relation
 

@@ -1,5 +1,5 @@
 -- What is spelled as a literal is read, and a text has at most one literal in front.
-use Rattle.std.proofs.Common.{is_some, ◌≡◌, ℕ, suc, ◌+◌, ◌-◌, ◌≤◌, Bool, true, false, ◌||◌, List, [], ◌∷◌, ◌++◌, length, take, Some, None, refl, sym, ap, subst, ◌∙◌, append_assoc, arith, inl, inr, length-append, max}
+use Rattle.std.proofs.Common.{is_some, ◌≡◌, ℕ, suc, ◌+◌, ◌-◌, ◌≤◌, Bool, true, false, not, ◌&&◌, ◌||◌, List, [], ◌∷◌, ◌++◌, length, take, Some, None, refl, sym, ap, subst, ◌∙◌, append_assoc, arith, inl, inr, length-append, max}
 use Rattle.std.specs.Prelude.{◌==◌}
 use Rattle.std.proofs.lemmas.Bool.{ne_eqb, cases_Bool}
 use Rattle.std.proofs.lemmas.List.{take_at}
@@ -8,19 +8,19 @@ use Rattle.handlebars_base.specs.Bytes.{is_white}
 use Rattle.handlebars_base.specs.PathReading.{after}
 use Rattle.handlebars_base.proofs.OptionBinds.{bind_some, guard_some}
 use Rattle.handlebars_lines.specs.Runs.{goes, run}
-use Rattle.handlebars_lines.specs.Literal.{IsWhite, is_inner, is_number, is_word, Bracket, array, object, opener, closer, Lead, unnamed, keyed, spelled_lead, IsLead, Literal, quoted, single_quoted, number, word, empty, filled, Entries, closing, another, spelled_literal, spelled_entries, is_element, IsLiteral, AreEntries, literal_depth, entries_depth, goes_on, starts}
-use Rattle.handlebars_lines.specs.LiteralReading.{behind_white, behind_quote, plain_at, undoubled_at, atom_at, key_at, behind_lead, Token, atom, hollow, opening, next, shutting, finished, misfit, bracket_token, value_token, entry_token, Place, ahead, behind, innermost, taken, literal_step, most, Slice, slice_in, literal_at}
+use Rattle.handlebars_lines.specs.Literal.{IsWhite, is_inner, is_number, is_kept, is_word, Bracket, array, object, opener, closer, Lead, unnamed, keyed, spelled_lead, IsLead, Literal, quoted, single_quoted, number, word, empty, filled, Entries, closing, another, spelled_literal, spelled_entries, is_element, IsLiteral, AreEntries, literal_depth, entries_depth, keeps_numbers, keeps_numbers_in, goes_on, starts}
+use Rattle.handlebars_lines.specs.LiteralReading.{behind_white, behind_quote, plain_at, undoubled_at, atom_at, keeps_at, key_at, behind_lead, Token, atom, hollow, opening, next, shutting, finished, misfit, bracket_token, value_token, entry_token, Place, ahead, behind, innermost, Find, opens, reads, taken, literal_step, most, all_kept, Slice, cut_to, slice_in, literal_at}
 use Rattle.handlebars_lines.specs.Laws.{HasLiteral, NoLiteral}
 use Rattle.handlebars_lines.proofs.Fronts.{behind_white-append, starts-other, starts-append, after-not, after-same, run_of-append, behind_run-append, behind_quote-append}
 use Rattle.handlebars_lines.proofs.Stepping.{Runs, last, onward, Shortens, run-runs, run-some}
-use Rattle.handlebars_lines.proofs.Plain.{GoesOn, plain_goes_on, number_goes_on, word_goes_on}
-use Rattle.handlebars_lines.proofs.Tokens.{lead_regroup, Shorter, value_shorter, value_tells, entry_shorter, entry_tells, left_of}
+use Rattle.handlebars_lines.proofs.Plain.{GoesOn, plain_goes_on, number_goes_on, word_goes_on, word_no_number}
+use Rattle.handlebars_lines.proofs.Tokens.{keeps_at-quote, lead_regroup, Shorter, value_shorter, value_tells, entry_shorter, entry_tells, left_of}
 use Rattle.handlebars_lines.proofs.LiteralsRead.{heights, entry_heights, regroup, runs-spelled}
 
 -- ---- a step takes a byte at least
 
-taken_left : (ks : List Bracket) (token : Token) (x : ℕ) (s' : Place) (t' : List ℕ) → taken ks token ≡ goes x s' t' → left_of token ≡ Some t'
-taken_left ks (atom r) x s' t' is = cc
+taken_left : (ks : List Bracket) (token : Token) (x : Find) (s' : Place) (t' : List ℕ) → taken ks token ≡ goes x s' t' → left_of token ≡ Some t'
+taken_left ks (atom kept r) x s' t' is = cc
 taken_left ks (hollow r) x s' t' is = cc
 taken_left ks (opening k r) x s' t' is = cc
 taken_left ks (next r) x s' t' is = cc
@@ -28,7 +28,7 @@ taken_left ks (shutting r) x s' t' is = cc
 taken_left ks finished x s' t' is = absurd cc
 taken_left ks misfit x s' t' is = absurd cc
 
-pub step_shorter : (s : Place) (t : List ℕ) (x : ℕ) (s' : Place) (t' : List ℕ) → literal_step s t ≡ goes x s' t' → Shorter t t'
+pub step_shorter : (s : Place) (t : List ℕ) (x : Find) (s' : Place) (t' : List ℕ) → literal_step s t ≡ goes x s' t' → Shorter t t'
 step_shorter (ahead ks) t x s' t' is = value_shorter (is_some (innermost ks)) t t' (value_token (is_some (innermost ks)) t) (value_tells (is_some (innermost ks)) t) (taken_left ks (value_token (is_some (innermost ks)) t) x s' t' is)
 step_shorter (behind []) t x s' t' is = absurd cc
 step_shorter (behind (k ∷ ks)) t x s' t' is = entry_shorter k t t' (entry_token k (behind_white t)) (entry_tells k t) (taken_left (k ∷ ks) (entry_token k (behind_white t)) x s' t' is)
@@ -96,29 +96,29 @@ entries_begin k (another lead l w more) rest = refl
 no_mark : (c : ℕ) (t : List ℕ) → goes_on c ≡ false → starts goes_on t ≡ true → after c t ≡ None
 no_mark c t never h = after-not c t (starts-other goes_on (λ b. b == c) t (goes_other c never) h)
 
-atom_plain : (inside : Bool) (n rest : List ℕ) → (is_number n || is_word n) ≡ true → starts goes_on rest ≡ false → value_token inside (n ++ rest) ≡ atom rest
-unfolding value_token atom_at undoubled_at plain_at
-atom_plain true n rest fits stop =
+atom_plain : (inside kept : Bool) (n rest : List ℕ) → (is_number n || is_word n) ≡ true → (not (is_number n) || is_kept n) ≡ kept → starts goes_on rest ≡ false → value_token inside (n ++ rest) ≡ atom kept rest
+unfolding value_token atom_at undoubled_at plain_at keeps_at
+atom_plain true kept n rest fits keeps stop =
     let goes_so = plain_goes_on n fits in
     let first = starts-append goes_on n rest (plain_begins n goes_so) in
-    rw (no_mark 91 (n ++ rest) refl first, no_mark 123 (n ++ rest) refl first, no_mark 34 (n ++ rest) refl first, run_of-append n rest goes_so.all stop, behind_run-append n rest goes_so.all stop, fits) refl
-atom_plain false n rest fits stop =
+    rw (no_mark 91 (n ++ rest) refl first, no_mark 123 (n ++ rest) refl first, no_mark 34 (n ++ rest) refl first, run_of-append n rest goes_so.all stop, behind_run-append n rest goes_so.all stop, fits, keeps) refl
+atom_plain false kept n rest fits keeps stop =
     let goes_so = plain_goes_on n fits in
     let first = starts-append goes_on n rest (plain_begins n goes_so) in
-    rw (no_mark 91 (n ++ rest) refl first, no_mark 123 (n ++ rest) refl first, no_mark 34 (n ++ rest) refl first, no_mark 39 (n ++ rest) refl first, run_of-append n rest goes_so.all stop, behind_run-append n rest goes_so.all stop, fits) refl
+    rw (no_mark 91 (n ++ rest) refl first, no_mark 123 (n ++ rest) refl first, no_mark 34 (n ++ rest) refl first, no_mark 39 (n ++ rest) refl first, run_of-append n rest goes_so.all stop, behind_run-append n rest goes_so.all stop, fits, keeps) refl
 
-atom_quoted : (inside : Bool) (s rest : List ℕ) → is_inner 34 false s ≡ true → value_token inside (34 ∷ ((s ++ 34 ∷ []) ++ rest)) ≡ atom rest
+atom_quoted : (inside : Bool) (s rest : List ℕ) → is_inner 34 false s ≡ true → value_token inside (34 ∷ ((s ++ 34 ∷ []) ++ rest)) ≡ atom true rest
 unfolding value_token atom_at
 atom_quoted inside s rest fits =
     let behind_it : behind_quote 34 false ((s ++ 34 ∷ []) ++ rest) ≡ Some rest = ap (behind_quote 34 false) (append_assoc s (34 ∷ []) rest) ∙ behind_quote-append 34 false s rest fits in
     let text : List ℕ = 34 ∷ ((s ++ 34 ∷ []) ++ rest) in
-    rw (after-not 91 (34 ∷ ((s ++ 34 ∷ []) ++ rest)) refl, after-not 123 (34 ∷ ((s ++ 34 ∷ []) ++ rest)) refl, after-same 34 ((s ++ 34 ∷ []) ++ rest), behind_it) refl
+    rw (after-not 91 (34 ∷ ((s ++ 34 ∷ []) ++ rest)) refl, after-not 123 (34 ∷ ((s ++ 34 ∷ []) ++ rest)) refl, after-same 34 ((s ++ 34 ∷ []) ++ rest), behind_it, sym (keeps_at-quote 34 ((s ++ 34 ∷ []) ++ rest) (34 ∷ ((s ++ 34 ∷ []) ++ rest)) refl refl)) refl
 
-atom_single : (s rest : List ℕ) → is_inner 39 false s ≡ true → value_token false (39 ∷ ((s ++ 39 ∷ []) ++ rest)) ≡ atom rest
+atom_single : (s rest : List ℕ) → is_inner 39 false s ≡ true → value_token false (39 ∷ ((s ++ 39 ∷ []) ++ rest)) ≡ atom true rest
 unfolding value_token atom_at undoubled_at
 atom_single s rest fits =
     let behind_it : behind_quote 39 false ((s ++ 39 ∷ []) ++ rest) ≡ Some rest = ap (behind_quote 39 false) (append_assoc s (39 ∷ []) rest) ∙ behind_quote-append 39 false s rest fits in
-    rw (after-not 91 (39 ∷ ((s ++ 39 ∷ []) ++ rest)) refl, after-not 123 (39 ∷ ((s ++ 39 ∷ []) ++ rest)) refl, after-not 34 (39 ∷ ((s ++ 39 ∷ []) ++ rest)) refl, after-same 39 ((s ++ 39 ∷ []) ++ rest), behind_it) refl
+    rw (after-not 91 (39 ∷ ((s ++ 39 ∷ []) ++ rest)) refl, after-not 123 (39 ∷ ((s ++ 39 ∷ []) ++ rest)) refl, after-not 34 (39 ∷ ((s ++ 39 ∷ []) ++ rest)) refl, after-same 39 ((s ++ 39 ∷ []) ++ rest), behind_it, sym (keeps_at-quote 39 ((s ++ 39 ∷ []) ++ rest) (39 ∷ ((s ++ 39 ∷ []) ++ rest)) refl refl)) refl
 
 -- ---- tokens: brackets
 
@@ -180,7 +180,7 @@ token_shutting array v rest white = rw (behind_white-append v (93 ∷ rest) whit
 token_shutting object v rest white = rw (behind_white-append v (125 ∷ rest) white refl, after-not 44 (125 ∷ rest) refl, after-same 125 rest) refl
 
 -- outside brackets
-atom_single_in : (ks : List Bracket) (s rest : List ℕ) → is_inner 39 false s ≡ true → (is_some (innermost ks) ≡ true → false ≡ true) → value_token (is_some (innermost ks)) (39 ∷ ((s ++ 39 ∷ []) ++ rest)) ≡ atom rest
+atom_single_in : (ks : List Bracket) (s rest : List ℕ) → is_inner 39 false s ≡ true → (is_some (innermost ks) ≡ true → false ≡ true) → value_token (is_some (innermost ks)) (39 ∷ ((s ++ 39 ∷ []) ++ rest)) ≡ atom true rest
 atom_single_in [] s rest fits element = atom_single s rest fits
 atom_single_in (k ∷ ks) s rest fits element = let never : false ≡ true = element refl in absurd cc
 
@@ -191,36 +191,36 @@ or_true true = refl
 or_true false = refl
 
 mutual
-  literal_runs : (l : Literal) (ks : List Bracket) (rest xs e : List ℕ) → IsLiteral l → (is_some (innermost ks) ≡ true → is_element l ≡ true) → starts goes_on rest ≡ false → Runs literal_step (behind ks) rest xs e → Runs literal_step (ahead ks) (spelled_literal l ++ rest) (heights (length ks) l ++ xs) e
-  literal_runs (quoted s) ks rest xs e fits element stop h = onward 0 (behind ks) rest (ap (taken ks) (atom_quoted (is_some (innermost ks)) s rest fits)) h
-  literal_runs (single_quoted s) ks rest xs e fits element stop h = onward 0 (behind ks) rest (ap (taken ks) (atom_single_in ks s rest fits element)) h
-  literal_runs (number t) ks rest xs e fits element stop h = onward 0 (behind ks) rest (ap (taken ks) (atom_plain (is_some (innermost ks)) t rest (rw fits refl) stop)) h
-  literal_runs (word t) ks rest xs e fits element stop h = onward 0 (behind ks) rest (ap (taken ks) (atom_plain (is_some (innermost ks)) t rest (rw fits (or_true (is_number t))) stop)) h
-  literal_runs (empty k w) ks rest xs e fits element stop h = onward (suc (length ks)) (behind ks) rest (ap (taken ks) (value_bracket (is_some (innermost ks)) k ((w ++ closer k ∷ []) ++ rest) ∙ token_hollow k w rest fits)) h
+  literal_runs : (l : Literal) (ks : List Bracket) (rest : List ℕ) (xs : List Find) (e : List ℕ) → IsLiteral l → (is_some (innermost ks) ≡ true → is_element l ≡ true) → starts goes_on rest ≡ false → Runs literal_step (behind ks) rest xs e → Runs literal_step (ahead ks) (spelled_literal l ++ rest) (heights (length ks) l ++ xs) e
+  literal_runs (quoted s) ks rest xs e fits element stop h = onward (opens 0) (behind ks) rest (ap (taken ks) (atom_quoted (is_some (innermost ks)) s rest fits)) h
+  literal_runs (single_quoted s) ks rest xs e fits element stop h = onward (opens 0) (behind ks) rest (ap (taken ks) (atom_single_in ks s rest fits element)) h
+  literal_runs (number t) ks rest xs e fits element stop h = onward (reads (is_kept t)) (behind ks) rest (ap (taken ks) (atom_plain (is_some (innermost ks)) (is_kept t) t rest (rw fits refl) (rw fits refl) stop)) h
+  literal_runs (word t) ks rest xs e fits element stop h = onward (opens 0) (behind ks) rest (ap (taken ks) (atom_plain (is_some (innermost ks)) true t rest (rw fits (or_true (is_number t))) (rw (word_no_number t fits) refl) stop)) h
+  literal_runs (empty k w) ks rest xs e fits element stop h = onward (opens (suc (length ks))) (behind ks) rest (ap (taken ks) (value_bracket (is_some (innermost ks)) k ((w ++ closer k ∷ []) ++ rest) ∙ token_hollow k w rest fits)) h
   literal_runs (filled k lead l v more) ks rest xs e fits element stop h =
       let follow = v ++ (spelled_entries k more ++ rest) in
       let behind_first = entries_run more k ks v rest xs e fits.3 fits.4 h in
       let first = literal_runs l (k ∷ ks) follow (entry_heights (suc (length ks)) more ++ xs) e fits.2 (λ inner. fits.1) (white_then v (spelled_entries k more ++ rest) fits.3 (entries_begin k more rest)) behind_first in
-      let begin : literal_step (ahead ks) (opener k ∷ (spelled_lead lead ++ (spelled_literal l ++ follow))) ≡ goes (suc (length ks)) (ahead (k ∷ ks)) (spelled_literal l ++ follow) =
+      let begin : literal_step (ahead ks) (opener k ∷ (spelled_lead lead ++ (spelled_literal l ++ follow))) ≡ goes (opens (suc (length ks))) (ahead (k ∷ ks)) (spelled_literal l ++ follow) =
       ap (taken ks) (value_bracket (is_some (innermost ks)) k (spelled_lead lead ++ (spelled_literal l ++ follow)) ∙ token_opening k lead (spelled_literal l ++ follow) fits.0 (literal_starts l follow fits.2)) in
-      let whole = onward (suc (length ks)) (ahead (k ∷ ks)) (spelled_literal l ++ follow) begin first in
+      let whole = onward (opens (suc (length ks))) (ahead (k ∷ ks)) (spelled_literal l ++ follow) begin first in
       subst (λ (z : List ℕ). Runs literal_step (ahead ks) z (heights (length ks) (filled k lead l v more) ++ xs) e) (ap (λ (z : List ℕ). opener k ∷ z) (regroup (spelled_lead lead) (spelled_literal l) v (spelled_entries k more) rest))
-      (subst (λ (z : List ℕ). Runs literal_step (ahead ks) (opener k ∷ (spelled_lead lead ++ (spelled_literal l ++ follow))) (suc (length ks) ∷ z) e) (sym (append_assoc (heights (suc (length ks)) l) (entry_heights (suc (length ks)) more) xs)) whole)
+      (subst (λ (z : List Find). Runs literal_step (ahead ks) (opener k ∷ (spelled_lead lead ++ (spelled_literal l ++ follow))) (opens (suc (length ks)) ∷ z) e) (sym (append_assoc (heights (suc (length ks)) l) (entry_heights (suc (length ks)) more) xs)) whole)
 
-  entries_run : (es : Entries) (k : Bracket) (ks : List Bracket) (v rest xs e : List ℕ) → IsWhite v → AreEntries k es → Runs literal_step (behind ks) rest xs e → Runs literal_step (behind (k ∷ ks)) (v ++ (spelled_entries k es ++ rest)) (entry_heights (suc (length ks)) es ++ xs) e
-  entries_run closing k ks v rest xs e white fits h = onward 0 (behind ks) rest (ap (taken (k ∷ ks)) (token_shutting k v rest white)) h
+  entries_run : (es : Entries) (k : Bracket) (ks : List Bracket) (v rest : List ℕ) (xs : List Find) (e : List ℕ) → IsWhite v → AreEntries k es → Runs literal_step (behind ks) rest xs e → Runs literal_step (behind (k ∷ ks)) (v ++ (spelled_entries k es ++ rest)) (entry_heights (suc (length ks)) es ++ xs) e
+  entries_run closing k ks v rest xs e white fits h = onward (opens 0) (behind ks) rest (ap (taken (k ∷ ks)) (token_shutting k v rest white)) h
   entries_run (another lead l u es) k ks v rest xs e white fits h =
       let follow = u ++ (spelled_entries k es ++ rest) in
       let behind_first = entries_run es k ks u rest xs e fits.3 fits.4 h in
       let first = literal_runs l (k ∷ ks) follow (entry_heights (suc (length ks)) es ++ xs) e fits.2 (λ inner. fits.1) (white_then u (spelled_entries k es ++ rest) fits.3 (entries_begin k es rest)) behind_first in
-      let whole = onward 0 (ahead (k ∷ ks)) (spelled_literal l ++ follow) (ap (taken (k ∷ ks)) (token_next k v lead (spelled_literal l ++ follow) white fits.0 (literal_starts l follow fits.2))) first in
+      let whole = onward (opens 0) (ahead (k ∷ ks)) (spelled_literal l ++ follow) (ap (taken (k ∷ ks)) (token_next k v lead (spelled_literal l ++ follow) white fits.0 (literal_starts l follow fits.2))) first in
       subst (λ (z : List ℕ). Runs literal_step (behind (k ∷ ks)) (v ++ 44 ∷ z) (entry_heights (suc (length ks)) (another lead l u es) ++ xs) e) (regroup (spelled_lead lead) (spelled_literal l) u (spelled_entries k es) rest)
-      (subst (λ (z : List ℕ). Runs literal_step (behind (k ∷ ks)) (v ++ 44 ∷ (spelled_lead lead ++ (spelled_literal l ++ follow))) (0 ∷ z) e) (sym (append_assoc (heights (suc (length ks)) l) (entry_heights (suc (length ks)) es) xs)) whole)
+      (subst (λ (z : List Find). Runs literal_step (behind (k ∷ ks)) (v ++ 44 ∷ (spelled_lead lead ++ (spelled_literal l ++ follow))) (opens 0 ∷ z) e) (sym (append_assoc (heights (suc (length ks)) l) (entry_heights (suc (length ks)) es) xs)) whole)
 
 -- ---- how deep it is
 
 mutual
-  most-literal : (l : Literal) (n m : ℕ) (xs : List ℕ) → n ≤ m → most m (heights n l ++ xs) ≡ most (max m (n + literal_depth l)) xs
+  most-literal : (l : Literal) (n m : ℕ) (xs : List Find) → n ≤ m → most m (heights n l ++ xs) ≡ most (max m (n + literal_depth l)) xs
   most-literal (quoted t) n m xs le = ap (λ (z : ℕ). most z xs) (let e : max m 0 ≡ max m (n + 0) = omega arith in e)
   most-literal (single_quoted t) n m xs le = ap (λ (z : ℕ). most z xs) (let e : max m 0 ≡ max m (n + 0) = omega arith in e)
   most-literal (number t) n m xs le = ap (λ (z : ℕ). most z xs) (let e : max m 0 ≡ max m (n + 0) = omega arith in e)
@@ -233,12 +233,12 @@ mutual
       ∙ most-entries more (suc n) (max (max m (suc n)) (suc n + literal_depth l)) xs (omega arith)
       ∙ ap (λ (z : ℕ). most z xs) e
 
-  most-entries : (es : Entries) (n m : ℕ) (xs : List ℕ) → n ≤ m → most m (entry_heights n es ++ xs) ≡ most (max m (n + entries_depth es)) xs
+  most-entries : (es : Entries) (n m : ℕ) (xs : List Find) → n ≤ m → most m (entry_heights n es ++ xs) ≡ most (max m (n + entries_depth es)) xs
   most-entries closing n m xs le = ap (λ (z : ℕ). most z xs) (let e : max m 0 ≡ max m (n + 0) = omega arith in e)
   most-entries (another lead l v es) n m xs le =
       let e : max (max m (n + literal_depth l)) (n + entries_depth es) ≡ max m (n + max (literal_depth l) (entries_depth es)) = omega arith in
       let kept : max m 0 ≡ m = omega arith in
-      ap (λ (z : List ℕ). most (max m 0) z) (append_assoc (heights n l) (entry_heights n es) xs)
+      ap (λ (z : List Find). most (max m 0) z) (append_assoc (heights n l) (entry_heights n es) xs)
       ∙ ap (λ (z : ℕ). most z (heights n l ++ (entry_heights n es ++ xs))) kept
       ∙ most-literal l n m (entry_heights n es ++ xs) le
       ∙ most-entries es n (max m (n + literal_depth l)) xs (omega arith)
@@ -246,6 +246,43 @@ mutual
 
 most-whole : (l : Literal) → most 0 (heights 0 l ++ []) ≡ literal_depth l
 most-whole l = most-literal l 0 0 [] (omega arith) ∙ (let e : max 0 (0 + literal_depth l) ≡ literal_depth l = omega arith in e)
+
+-- ---- whether its numbers are kept
+
+and_assoc : (a b c : Bool) → ((a && b) && c) ≡ (a && (b && c))
+and_assoc true b c = refl
+and_assoc false b c = refl
+
+pub and_true : (a : Bool) → (a && true) ≡ a
+and_true true = refl
+and_true false = refl
+
+regroup_kept : (b c d : Bool) → (((b && true) && c) && d) ≡ (b && (c && d))
+regroup_kept b c d = rw (and_true b, and_assoc b c d) refl
+
+mutual
+  kept-literal : (l : Literal) (n : ℕ) (b : Bool) (xs : List Find) → all_kept b (heights n l ++ xs) ≡ all_kept (b && keeps_numbers l) xs
+  kept-literal (quoted t) n b xs = refl
+  kept-literal (single_quoted t) n b xs = refl
+  kept-literal (number t) n b xs = refl
+  kept-literal (word t) n b xs = refl
+  kept-literal (empty k w) n b xs = refl
+  kept-literal (filled k lead l w more) n b xs =
+      ap (all_kept (b && true)) (append_assoc (heights (suc n) l) (entry_heights (suc n) more) xs)
+      ∙ kept-literal l (suc n) (b && true) (entry_heights (suc n) more ++ xs)
+      ∙ kept-entries more (suc n) ((b && true) && keeps_numbers l) xs
+      ∙ ap (λ (z : Bool). all_kept z xs) (regroup_kept b (keeps_numbers l) (keeps_numbers_in more))
+
+  kept-entries : (es : Entries) (n : ℕ) (b : Bool) (xs : List Find) → all_kept b (entry_heights n es ++ xs) ≡ all_kept (b && keeps_numbers_in es) xs
+  kept-entries closing n b xs = refl
+  kept-entries (another lead l v es) n b xs =
+      ap (all_kept (b && true)) (append_assoc (heights n l) (entry_heights n es) xs)
+      ∙ kept-literal l n (b && true) (entry_heights n es ++ xs)
+      ∙ kept-entries es n ((b && true) && keeps_numbers l) xs
+      ∙ ap (λ (z : Bool). all_kept z xs) (regroup_kept b (keeps_numbers l) (keeps_numbers_in es))
+
+kept-whole : (l : Literal) → all_kept true (heights 0 l ++ []) ≡ keeps_numbers l
+kept-whole l = kept-literal l 0 true []
 
 -- ---- the literal in front
 
@@ -259,16 +296,18 @@ unfolding literal_at
 literal_at-some t f e =
     let b = bind_some (run literal_step (length t + 1) (ahead []) t) (slice_in t) f e in
     let h = runs-spelled (ahead []) t b.0.0 b.0.1 (run-runs literal_step (length t + 1) (ahead []) t b.0 b.1) in
-    let made : Slice = record { raw = take (length t - length b.0.1) t; rest = b.0.1; depth = most 0 b.0.0 } in
+    let made : Slice = cut_to t b.0.1 (most 0 b.0.0) (all_kept true b.0.0) in
     let g = guard_some (starts goes_on b.0.1) made f b.2 in
     let whole : t ≡ spelled_literal h.literal ++ b.0.1 = h.whole ∙ ap (λ (z : List ℕ). spelled_literal h.literal ++ z) h.closes.0 in
-    let depth : most 0 b.0.0 ≡ literal_depth h.literal =
-    ap (most 0) (h.found ∙ ap (λ (z : List ℕ). heights 0 h.literal ++ z) h.closes.1) ∙ most-whole h.literal in
+    let found : b.0.0 ≡ heights 0 h.literal ++ [] = h.found ∙ ap (λ (z : List Find). heights 0 h.literal ++ z) h.closes.1 in
+    let depth : most 0 b.0.0 ≡ literal_depth h.literal = ap (most 0) found ∙ most-whole h.literal in
+    let kept : all_kept true b.0.0 ≡ keeps_numbers h.literal = ap (all_kept true) found ∙ kept-whole h.literal in
     subst (HasLiteral t) g.1 (record {
       literal = h.literal;
       is = record { whole = whole; fits = h.fits; stops = g.0 };
       raw = take-front t (spelled_literal h.literal) b.0.1 whole;
       depth = depth;
+      kept = kept;
     })
 
 pub literal_at-is : (t : List ℕ) (f : Slice) → HasLiteral t f → literal_at t ≡ Some f
@@ -277,8 +316,9 @@ literal_at-is t f h =
     let runs : Runs literal_step (ahead []) (spelled_literal h.literal ++ f.rest) (heights 0 h.literal ++ []) f.rest = literal_runs h.literal [] f.rest [] f.rest h.is.fits (λ never. absurd cc) h.is.stops (last refl) in
     let goes_so = run-some literal_step shortens (length t + 1) (ahead []) t (heights 0 h.literal ++ []) f.rest (omega arith) (subst (λ (z : List ℕ). Runs literal_step (ahead []) z (heights 0 h.literal ++ []) f.rest) (sym h.is.whole) runs) in
     let depth : most 0 (heights 0 h.literal ++ []) ≡ f.depth = most-whole h.literal ∙ sym h.depth in
+    let kept : all_kept true (heights 0 h.literal ++ []) ≡ f.kept = kept-whole h.literal ∙ sym h.kept in
     let raw : take (length t - length f.rest) t ≡ f.raw = take-front t (spelled_literal h.literal) f.rest h.is.whole ∙ sym h.raw in
-    rw (goes_so, h.is.stops, raw, depth) refl
+    rw (goes_so, h.is.stops, raw, depth, kept) refl
 
 pub literal_at-none : (t : List ℕ) → literal_at t ≡ None → NoLiteral t
 literal_at-none t e f h = let no : None ≡ Some f = sym e ∙ literal_at-is t f h in absurd cc

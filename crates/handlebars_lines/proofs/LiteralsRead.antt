@@ -1,27 +1,27 @@
 -- What the steps read is spelled as a literal.
-use Rattle.std.proofs.Common.{is_some, ◌≡◌, ℕ, suc, true, List, [], ◌∷◌, ◌++◌, length, refl, sym, ap, subst, ◌∙◌, append_assoc}
+use Rattle.std.proofs.Common.{is_some, ◌≡◌, ℕ, suc, Bool, true, List, [], ◌∷◌, ◌++◌, length, refl, sym, ap, subst, ◌∙◌, append_assoc}
 use Rattle.handlebars_lines.specs.Runs.{goes, ends}
-use Rattle.handlebars_lines.specs.Literal.{IsWhite, Bracket, opener, closer, spelled_lead, Literal, quoted, single_quoted, number, word, empty, filled, Entries, closing, another, spelled_literal, spelled_entries, IsLiteral, is_element, AreEntries}
-use Rattle.handlebars_lines.specs.LiteralReading.{behind_white, Token, atom, hollow, opening, next, shutting, finished, misfit, value_token, entry_token, Place, ahead, behind, innermost, taken, literal_step}
+use Rattle.handlebars_lines.specs.Literal.{IsWhite, Bracket, opener, closer, spelled_lead, Literal, quoted, single_quoted, number, word, empty, filled, Entries, closing, another, spelled_literal, spelled_entries, IsLiteral, is_element, AreEntries, is_kept, keeps_numbers}
+use Rattle.handlebars_lines.specs.LiteralReading.{behind_white, Token, atom, hollow, opening, next, shutting, finished, misfit, value_token, entry_token, Place, ahead, behind, innermost, Find, opens, reads, taken, literal_step}
 use Rattle.handlebars_lines.proofs.Stepping.{goes-parts, Runs, last, onward}
 use Rattle.handlebars_lines.proofs.Tokens.{is_flat, ValueTells, value_tells, EntryTells, entry_tells}
 
 -- ---- what the steps find of a literal
 
 abbrev mutual
-  pub heights : ℕ → Literal → List ℕ
-  heights n (quoted t) = 0 ∷ []
-  heights n (single_quoted t) = 0 ∷ []
-  heights n (number t) = 0 ∷ []
-  heights n (word t) = 0 ∷ []
-  heights n (empty k w) = suc n ∷ []
-  heights n (filled k lead l w more) = suc n ∷ (heights (suc n) l ++ entry_heights (suc n) more)
+  pub heights : ℕ → Literal → List Find
+  heights n (quoted t) = opens 0 ∷ []
+  heights n (single_quoted t) = opens 0 ∷ []
+  heights n (number t) = reads (is_kept t) ∷ []
+  heights n (word t) = opens 0 ∷ []
+  heights n (empty k w) = opens (suc n) ∷ []
+  heights n (filled k lead l w more) = opens (suc n) ∷ (heights (suc n) l ++ entry_heights (suc n) more)
 
-  pub entry_heights : ℕ → Entries → List ℕ
-  entry_heights n closing = 0 ∷ []
-  entry_heights n (another lead l w more) = 0 ∷ (heights n l ++ entry_heights n more)
+  pub entry_heights : ℕ → Entries → List Find
+  entry_heights n closing = opens 0 ∷ []
+  entry_heights n (another lead l w more) = opens 0 ∷ (heights n l ++ entry_heights n more)
 
-flat_heights : (n : ℕ) (l : Literal) → is_flat l ≡ true → heights n l ≡ 0 ∷ []
+flat_heights : (n : ℕ) (l : Literal) → is_flat l ≡ true → heights n l ≡ reads (keeps_numbers l) ∷ []
 flat_heights n (quoted t) flat = refl
 flat_heights n (single_quoted t) flat = refl
 flat_heights n (number t) flat = refl
@@ -32,22 +32,22 @@ flat_heights n (filled k lead l w more) flat = absurd cc
 -- ---- what is left to be read
 
 -- these brackets are still to be closed, each behind white and more entries
-abbrev pub Closes : List Bracket → List ℕ → List ℕ → List ℕ → Type 0
+abbrev pub Closes : List Bracket → List ℕ → List Find → List ℕ → Type 0
 Closes [] t xs e = (t ≡ e) × (xs ≡ [])
-Closes (k ∷ ks) t xs e = (w : List ℕ) × (more : Entries) × (t' : List ℕ) × (ys : List ℕ) × IsWhite w × AreEntries k more
+Closes (k ∷ ks) t xs e = (w : List ℕ) × (more : Entries) × (t' : List ℕ) × (ys : List Find) × IsWhite w × AreEntries k more
     × (t ≡ w ++ (spelled_entries k more ++ t')) × (xs ≡ entry_heights (suc (length ks)) more ++ ys) × Closes ks t' ys e
 
-pub record LiteralThen (ks : List Bracket) (t xs e : List ℕ) : Type 0 where
+pub record LiteralThen (ks : List Bracket) (t : List ℕ) (xs : List Find) (e : List ℕ) : Type 0 where
   pub literal : Literal
   pub rest : List ℕ
-  pub others : List ℕ
+  pub others : List Find
   pub fits : IsLiteral literal
   pub element : is_some (innermost ks) ≡ true → is_element literal ≡ true
   pub whole : t ≡ spelled_literal literal ++ rest
   pub found : xs ≡ heights (length ks) literal ++ others
   pub closes : Closes ks rest others e
 
-abbrev pub Spelled : Place → List ℕ → List ℕ → List ℕ → Type 0
+abbrev pub Spelled : Place → List ℕ → List Find → List ℕ → Type 0
 Spelled (ahead ks) t xs e = LiteralThen ks t xs e
 Spelled (behind ks) t xs e = Closes ks t xs e
 
@@ -55,32 +55,32 @@ pub regroup : (w a v b r : List ℕ) → w ++ (a ++ (v ++ (b ++ r))) ≡ (w ++ (
 regroup w a v b r = simp append_assoc
 
 -- what follows a step, from what follows where it leads
-spelled_back : (x y : ℕ) (s r : Place) (t u xs e : List ℕ) → goes x s t ≡ goes y r u → Spelled r u xs e → Spelled s t xs e
+spelled_back : (x y : Find) (s r : Place) (t u : List ℕ) (xs : List Find) (e : List ℕ) → goes x s t ≡ goes y r u → Spelled r u xs e → Spelled s t xs e
 spelled_back x y s r t u xs e is h =
     let same = goes-parts x y s r t u is in
     subst (λ (z : Place). Spelled z t xs e) (sym same.states) (subst (λ (z : List ℕ). Spelled r z xs e) (sym same.lefts) h)
 
-found_back : (x y : ℕ) (s r q : Place) (t u v xs e : List ℕ) → goes x s t ≡ goes y r u → Spelled q v (x ∷ xs) e → Spelled q v (y ∷ xs) e
-found_back x y s r q t u v xs e is h = subst (λ (z : ℕ). Spelled q v (z ∷ xs) e) (goes-parts x y s r t u is).events h
+found_back : (x y : Find) (s r q : Place) (t u v : List ℕ) (xs : List Find) (e : List ℕ) → goes x s t ≡ goes y r u → Spelled q v (x ∷ xs) e → Spelled q v (y ∷ xs) e
+found_back x y s r q t u v xs e is h = subst (λ (z : Find). Spelled q v (z ∷ xs) e) (goes-parts x y s r t u is).events h
 
 -- ---- a step
 
-value_then : (ks : List Bracket) (t : List ℕ) (token : Token) (x : ℕ) (s' : Place) (t' xs e : List ℕ) → ValueTells (is_some (innermost ks)) t token → taken ks token ≡ goes x s' t' → Spelled s' t' xs e → LiteralThen ks t (x ∷ xs) e
-value_then ks t (atom r) x s' t' xs e h is after =
-    let c : Closes ks r xs e = spelled_back 0 x (behind ks) s' r t' xs e is after in
-    found_back 0 x (behind ks) s' (ahead ks) r t' t xs e is (record {
+value_then : (ks : List Bracket) (t : List ℕ) (token : Token) (x : Find) (s' : Place) (t' : List ℕ) (xs : List Find) (e : List ℕ) → ValueTells (is_some (innermost ks)) t token → taken ks token ≡ goes x s' t' → Spelled s' t' xs e → LiteralThen ks t (x ∷ xs) e
+value_then ks t (atom kept r) x s' t' xs e h is after =
+    let c : Closes ks r xs e = spelled_back (reads kept) x (behind ks) s' r t' xs e is after in
+    found_back (reads kept) x (behind ks) s' (ahead ks) r t' t xs e is (record {
       literal = h.atom;
       rest = r;
       others = xs;
       fits = h.fits;
       element = h.element;
       whole = h.whole;
-      found = ap (λ (z : List ℕ). z ++ xs) (sym (flat_heights (length ks) h.atom h.flat));
+      found = ap (λ (z : List Find). z ++ xs) (ap (λ (z : Bool). reads z ∷ []) (sym h.keeps) ∙ sym (flat_heights (length ks) h.atom h.flat));
       closes = c;
     })
 value_then ks t (hollow r) x s' t' xs e h is after =
-    let c : Closes ks r xs e = spelled_back (suc (length ks)) x (behind ks) s' r t' xs e is after in
-    found_back (suc (length ks)) x (behind ks) s' (ahead ks) r t' t xs e is (record {
+    let c : Closes ks r xs e = spelled_back (opens (suc (length ks))) x (behind ks) s' r t' xs e is after in
+    found_back (opens (suc (length ks))) x (behind ks) s' (ahead ks) r t' t xs e is (record {
       literal = empty h.kind h.white;
       rest = r;
       others = xs;
@@ -92,16 +92,16 @@ value_then ks t (hollow r) x s' t' xs e h is after =
     })
 value_then ks t (opening k r) x s' t' xs e h is after =
     let n : ℕ = suc (length ks) in
-    let inner : LiteralThen (k ∷ ks) r xs e = spelled_back (suc (length ks)) x (ahead (k ∷ ks)) s' r t' xs e is after in
+    let inner : LiteralThen (k ∷ ks) r xs e = spelled_back (opens (suc (length ks))) x (ahead (k ∷ ks)) s' r t' xs e is after in
     let c = inner.closes in
-    found_back (suc (length ks)) x (ahead (k ∷ ks)) s' (ahead ks) r t' t xs e is (record {
+    found_back (opens (suc (length ks))) x (ahead (k ∷ ks)) s' (ahead ks) r t' t xs e is (record {
       literal = filled k h.lead inner.literal c.0 c.1;
       rest = c.2;
       others = c.3;
       fits = (h.fits, inner.element refl, inner.fits, c.4, c.5);
       element = λ inner. refl;
       whole = h.whole ∙ ap (λ (z : List ℕ). opener k ∷ z) (ap (λ (z : List ℕ). spelled_lead h.lead ++ z) (inner.whole ∙ ap (λ (z : List ℕ). spelled_literal inner.literal ++ z) c.6) ∙ regroup (spelled_lead h.lead) (spelled_literal inner.literal) c.0 (spelled_entries k c.1) c.2);
-      found = ap (λ (z : List ℕ). suc (length ks) ∷ z) (inner.found ∙ ap (λ (z : List ℕ). heights (suc (length ks)) inner.literal ++ z) c.7 ∙ sym (append_assoc (heights (suc (length ks)) inner.literal) (entry_heights (suc (length ks)) c.1) c.3));
+      found = ap (λ (z : List Find). opens (suc (length ks)) ∷ z) (inner.found ∙ ap (λ (z : List Find). heights (suc (length ks)) inner.literal ++ z) c.7 ∙ sym (append_assoc (heights (suc (length ks)) inner.literal) (entry_heights (suc (length ks)) c.1) c.3));
       closes = c.8;
     })
 value_then ks t (next r) x s' t' xs e h is after = absurd h
@@ -109,16 +109,16 @@ value_then ks t (shutting r) x s' t' xs e h is after = absurd h
 value_then ks t finished x s' t' xs e h is after = absurd h
 value_then ks t misfit x s' t' xs e h is after = absurd cc
 
-entry_then : (k : Bracket) (ks : List Bracket) (t : List ℕ) (token : Token) (x : ℕ) (s' : Place) (t' xs e : List ℕ) → EntryTells k t token → taken (k ∷ ks) token ≡ goes x s' t' → Spelled s' t' xs e → Closes (k ∷ ks) t (x ∷ xs) e
-entry_then k ks t (atom r) x s' t' xs e h is after = absurd h
+entry_then : (k : Bracket) (ks : List Bracket) (t : List ℕ) (token : Token) (x : Find) (s' : Place) (t' : List ℕ) (xs : List Find) (e : List ℕ) → EntryTells k t token → taken (k ∷ ks) token ≡ goes x s' t' → Spelled s' t' xs e → Closes (k ∷ ks) t (x ∷ xs) e
+entry_then k ks t (atom kept r) x s' t' xs e h is after = absurd h
 entry_then k ks t (hollow r) x s' t' xs e h is after = absurd h
 entry_then k ks t (opening j r) x s' t' xs e h is after = absurd h
 entry_then k ks t (next r) x s' t' xs e h is after =
-    let inner : LiteralThen (k ∷ ks) r xs e = spelled_back 0 x (ahead (k ∷ ks)) s' r t' xs e is after in
+    let inner : LiteralThen (k ∷ ks) r xs e = spelled_back (opens 0) x (ahead (k ∷ ks)) s' r t' xs e is after in
     let c = inner.closes in
     let inside : t ≡ h.white ++ (44 ∷ (spelled_lead h.lead ++ (spelled_literal inner.literal ++ (c.0 ++ (spelled_entries k c.1 ++ c.2))))) =
     h.whole ∙ ap (λ (z : List ℕ). h.white ++ (44 ∷ (spelled_lead h.lead ++ z))) (inner.whole ∙ ap (λ (z : List ℕ). spelled_literal inner.literal ++ z) c.6) in
-    found_back 0 x (ahead (k ∷ ks)) s' (behind (k ∷ ks)) r t' t xs e is (
+    found_back (opens 0) x (ahead (k ∷ ks)) s' (behind (k ∷ ks)) r t' t xs e is (
       h.white,
       another h.lead inner.literal c.0 c.1,
       c.2,
@@ -126,16 +126,16 @@ entry_then k ks t (next r) x s' t' xs e h is after =
       h.is,
       (h.fits, inner.element refl, inner.fits, c.4, c.5),
       inside ∙ ap (λ (z : List ℕ). h.white ++ (44 ∷ z)) (regroup (spelled_lead h.lead) (spelled_literal inner.literal) c.0 (spelled_entries k c.1) c.2),
-      ap (λ (z : List ℕ). 0 ∷ z) (inner.found ∙ ap (λ (z : List ℕ). heights (suc (length ks)) inner.literal ++ z) c.7 ∙ sym (append_assoc (heights (suc (length ks)) inner.literal) (entry_heights (suc (length ks)) c.1) c.3)),
+      ap (λ (z : List Find). opens 0 ∷ z) (inner.found ∙ ap (λ (z : List Find). heights (suc (length ks)) inner.literal ++ z) c.7 ∙ sym (append_assoc (heights (suc (length ks)) inner.literal) (entry_heights (suc (length ks)) c.1) c.3)),
       c.8,
     )
 entry_then k ks t (shutting r) x s' t' xs e h is after =
-    let c : Closes ks r xs e = spelled_back 0 x (behind ks) s' r t' xs e is after in
-    found_back 0 x (behind ks) s' (behind (k ∷ ks)) r t' t xs e is (h.white, closing, r, xs, h.is, tt, h.whole, refl, c)
+    let c : Closes ks r xs e = spelled_back (opens 0) x (behind ks) s' r t' xs e is after in
+    found_back (opens 0) x (behind ks) s' (behind (k ∷ ks)) r t' t xs e is (h.white, closing, r, xs, h.is, tt, h.whole, refl, c)
 entry_then k ks t finished x s' t' xs e h is after = absurd h
 entry_then k ks t misfit x s' t' xs e h is after = absurd cc
 
-step_then : (s : Place) (t : List ℕ) (x : ℕ) (s' : Place) (t' xs e : List ℕ) → literal_step s t ≡ goes x s' t' → Spelled s' t' xs e → Spelled s t (x ∷ xs) e
+step_then : (s : Place) (t : List ℕ) (x : Find) (s' : Place) (t' : List ℕ) (xs : List Find) (e : List ℕ) → literal_step s t ≡ goes x s' t' → Spelled s' t' xs e → Spelled s t (x ∷ xs) e
 step_then (ahead ks) t x s' t' xs e is after = value_then ks t (value_token (is_some (innermost ks)) t) x s' t' xs e (value_tells (is_some (innermost ks)) t) is after
 step_then (behind []) t x s' t' xs e is after = absurd cc
 step_then (behind (k ∷ ks)) t x s' t' xs e is after = entry_then k ks t (entry_token k (behind_white t)) x s' t' xs e (entry_tells k t) is after
@@ -143,7 +143,7 @@ step_then (behind (k ∷ ks)) t x s' t' xs e is after = entry_then k ks t (entry
 -- ---- the end
 
 value_ends : (ks : List Bracket) (t : List ℕ) (token : Token) → ValueTells (is_some (innermost ks)) t token → taken ks token ≡ ends → ⊥
-value_ends ks t (atom r) h is = absurd cc
+value_ends ks t (atom kept r) h is = absurd cc
 value_ends ks t (hollow r) h is = absurd cc
 value_ends ks t (opening k r) h is = absurd cc
 value_ends ks t (next r) h is = h
@@ -152,7 +152,7 @@ value_ends ks t finished h is = h
 value_ends ks t misfit h is = absurd cc
 
 entry_ends : (k : Bracket) (ks : List Bracket) (t : List ℕ) (token : Token) → EntryTells k t token → taken ks token ≡ ends → ⊥
-entry_ends k ks t (atom r) h is = h
+entry_ends k ks t (atom kept r) h is = h
 entry_ends k ks t (hollow r) h is = h
 entry_ends k ks t (opening j r) h is = h
 entry_ends k ks t (next r) h is = absurd cc
@@ -165,6 +165,6 @@ end_then (ahead ks) t is = absurd (value_ends ks t (value_token (is_some (innerm
 end_then (behind []) t is = (refl, refl)
 end_then (behind (k ∷ ks)) t is = absurd (entry_ends k (k ∷ ks) t (entry_token k (behind_white t)) (entry_tells k t) is)
 
-pub runs-spelled : (s : Place) (t xs e : List ℕ) → Runs literal_step s t xs e → Spelled s t xs e
+pub runs-spelled : (s : Place) (t : List ℕ) (xs : List Find) (e : List ℕ) → Runs literal_step s t xs e → Spelled s t xs e
 runs-spelled s t _ _ (last is) = end_then s t is
 runs-spelled s t _ _ (onward x s' t' {xs} {e} is h) = step_then s t x s' t' xs e is (runs-spelled s' t' xs e h)

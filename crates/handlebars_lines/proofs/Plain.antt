@@ -103,3 +103,12 @@ plain_goes_on t h = elim (or_cases (is_number t) (is_word t) h) [
   | inl is ↦ number_goes_on t is
   | inr is ↦ word_goes_on t is
 ]
+
+pub word_no_number : (t : List ℕ) → is_word t ≡ true → is_number t ≡ false
+word_no_number t h = elim (or_cases (bytes_eq t (codes "null")) _ h) [
+  | inl is ↦ ap is_number (same_bytes t (codes "null") is)
+  | inr more ↦ elim (or_cases (bytes_eq t (codes "true")) _ more) [
+    | inl is ↦ ap is_number (same_bytes t (codes "true") is)
+    | inr is ↦ ap is_number (same_bytes t (codes "false") is)
+  ]
+]

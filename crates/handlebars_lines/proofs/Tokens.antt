@@ -7,10 +7,10 @@ use Rattle.std.proofs.lemmas.Option.{same_Some}
 use Rattle.handlebars_base.specs.PathReading.{◌>>=◌, with_or, after}
 use Rattle.handlebars_base.proofs.PathMarks.{after_takes}
 use Rattle.handlebars_base.proofs.OptionBinds.{bind_some, with_or_is}
-use Rattle.handlebars_lines.specs.Literal.{IsWhite, is_number, is_word, Bracket, array, object, opener, closer, Lead, unnamed, keyed, spelled_lead, IsLead, Literal, quoted, single_quoted, number, word, empty, filled, spelled_literal, is_element, IsLiteral, goes_on}
-use Rattle.handlebars_lines.specs.LiteralReading.{behind_white, behind_quote, run_of, behind_run, plain_at, undoubled_at, atom_at, behind_colon, key_at, behind_lead, Token, atom, hollow, opening, next, shutting, finished, misfit, bracket_token, value_token, comma_token, entry_token}
-use Rattle.handlebars_lines.proofs.Fronts.{behind_white-skips, behind_quote-takes}
-use Rattle.handlebars_lines.proofs.Plain.{plain_goes_on}
+use Rattle.handlebars_lines.specs.Literal.{IsWhite, is_number, is_word, Bracket, array, object, opener, closer, Lead, unnamed, keyed, spelled_lead, IsLead, Literal, quoted, single_quoted, number, word, empty, filled, spelled_literal, is_element, IsLiteral, is_kept, keeps_numbers, goes_on}
+use Rattle.handlebars_lines.specs.LiteralReading.{behind_white, behind_quote, run_of, behind_run, plain_at, undoubled_at, atom_at, keeps_at, behind_colon, key_at, behind_lead, Token, atom, hollow, opening, next, shutting, finished, misfit, bracket_token, value_token, comma_token, entry_token}
+use Rattle.handlebars_lines.proofs.Fronts.{behind_white-skips, behind_quote-takes, run_of-append}
+use Rattle.handlebars_lines.proofs.Plain.{plain_goes_on, word_no_number}
 
 -- ---- a literal with no brackets
 
@@ -22,34 +22,49 @@ is_flat (word t) = true
 is_flat (empty k w) = false
 is_flat (filled k lead l w more) = false
 
-pub record TakesAtom (inside : Bool) (t r : List ℕ) : Type 0 where
+pub record TakesAtom (inside kept : Bool) (t r : List ℕ) : Type 0 where
   pub atom : Literal
   pub whole : t ≡ spelled_literal atom ++ r
   pub fits : IsLiteral atom
   pub flat : is_flat atom ≡ true
   pub element : inside ≡ true → is_element atom ≡ true
+  pub keeps : keeps_numbers atom ≡ kept
   pub shorter : length r < length t
 
-plain_takes : (inside : Bool) (t r : List ℕ) → plain_at t ≡ Some r → TakesAtom inside t r
+keeps_at-number : (t : List ℕ) → is_number (run_of t) ≡ true → is_kept (run_of t) ≡ keeps_at t
+unfolding keeps_at
+keeps_at-number t is = rw is refl
+
+keeps_at-word : (t : List ℕ) → is_word (run_of t) ≡ true → true ≡ keeps_at t
+unfolding keeps_at
+keeps_at-word t is = rw (word_no_number (run_of t) is) refl
+
+pub keeps_at-quote : (quote : ℕ) (u t : List ℕ) → t ≡ quote ∷ u → goes_on quote ≡ false → true ≡ keeps_at t
+unfolding keeps_at
+keeps_at-quote quote u t first stops =
+    let none : run_of t ≡ [] = ap run_of first ∙ run_of-append [] (quote ∷ u) tt stops in
+    rw none refl
+
+plain_takes : (inside : Bool) (t r : List ℕ) → plain_at t ≡ Some r → TakesAtom inside (keeps_at t) t r
 unfolding plain_at
 plain_takes inside t r e = on (is_number (run_of t) || is_word (run_of t)) refl e
   where
-    on : (c : Bool) → (is_number (run_of t) || is_word (run_of t)) ≡ c → cond c (Some (behind_run t)) None ≡ Some r → TakesAtom inside t r
+    on : (c : Bool) → (is_number (run_of t) || is_word (run_of t)) ≡ c → cond c (Some (behind_run t)) None ≡ Some r → TakesAtom inside (keeps_at t) t r
     on false is e = absurd cc
     on true is e =
         let rest : behind_run t ≡ r = same_Some (behind_run t) r e in
         let whole : t ≡ run_of t ++ r = sym (take-append-drop (prefix_len goes_on t) t) ∙ ap (λ (z : List ℕ). run_of t ++ z) rest in
         let shorter : length r < length t = omega (arith, ap length whole, length-append (run_of t) r, (plain_goes_on (run_of t) is).some) in
         elim (or_cases (is_number (run_of t)) (is_word (run_of t)) is) [
-          | inl fits ↦ record { atom = number (run_of t); whole = whole; fits = fits; flat = refl; element = λ inner. refl; shorter = shorter }
-          | inr fits ↦ record { atom = word (run_of t); whole = whole; fits = fits; flat = refl; element = λ inner. refl; shorter = shorter }
+          | inl fits ↦ record { atom = number (run_of t); whole = whole; fits = fits; flat = refl; element = λ inner. refl; keeps = keeps_at-number t fits; shorter = shorter }
+          | inr fits ↦ record { atom = word (run_of t); whole = whole; fits = fits; flat = refl; element = λ inner. refl; keeps = keeps_at-word t fits; shorter = shorter }
         ]
 
 -- a text in quotes, from its opening one on
 quote_whole : (quote : ℕ) (t u inner r : List ℕ) → t ≡ quote ∷ u → u ≡ inner ++ quote ∷ r → t ≡ (quote ∷ (inner ++ quote ∷ [])) ++ r
 quote_whole quote t u inner r first whole = first ∙ ap (λ (z : List ℕ). quote ∷ z) (whole ∙ sym (append_assoc inner (quote ∷ []) r))
 
-undoubled_takes : (inside : Bool) (t r : List ℕ) → undoubled_at inside t ≡ Some r → TakesAtom inside t r
+undoubled_takes : (inside : Bool) (t r : List ℕ) → undoubled_at inside t ≡ Some r → TakesAtom inside (keeps_at t) t r
 unfolding undoubled_at
 undoubled_takes true t r e = plain_takes true t r e
 undoubled_takes false t r e =
@@ -63,12 +78,13 @@ undoubled_takes false t r e =
             fits = q.is;
             flat = refl;
             element = λ never. absurd cc;
+            keeps = keeps_at-quote 39 text.0 t (after_takes 39 t text.0 text.1) refl;
             shorter = omega (arith, ap length whole, length-append (39 ∷ (q.inner ++ 39 ∷ [])) r);
           }
       | inr plain ↦ plain_takes false t r plain.1
     ]
 
-atom_takes : (inside : Bool) (t r : List ℕ) → atom_at inside t ≡ Some r → TakesAtom inside t r
+atom_takes : (inside : Bool) (t r : List ℕ) → atom_at inside t ≡ Some r → TakesAtom inside (keeps_at t) t r
 unfolding atom_at
 atom_takes inside t r e =
     elim (with_or_is (after 34 t) (behind_quote 34 false) (undoubled_at inside t) (Some r) e) [
@@ -81,6 +97,7 @@ atom_takes inside t r e =
             fits = q.is;
             flat = refl;
             element = λ inner. refl;
+            keeps = keeps_at-quote 34 text.0 t (after_takes 34 t text.0 text.1) refl;
             shorter = omega (arith, ap length whole, length-append (34 ∷ (q.inner ++ 34 ∷ [])) r);
           }
       | inr other ↦ undoubled_takes inside t r other.1
@@ -143,7 +160,7 @@ pub record TakesOpening (k : Bracket) (t r : List ℕ) : Type 0 where
   pub whole : t ≡ opener k ∷ (spelled_lead lead ++ r)
 
 abbrev pub ValueTells : Bool → List ℕ → Token → Type 0
-ValueTells inside t (atom r) = TakesAtom inside t r
+ValueTells inside t (atom kept r) = TakesAtom inside kept t r
 ValueTells inside t (hollow r) = TakesHollow t r
 ValueTells inside t (opening k r) = TakesOpening k t r
 ValueTells inside t (next r) = ⊥
@@ -175,7 +192,7 @@ unfolding value_token
 value_tells inside t = on (after 91 t) refl (after 123 t) refl (atom_at inside t) refl
   where
     on : (o : Option (List ℕ)) → after 91 t ≡ o → (p : Option (List ℕ)) → after 123 t ≡ p → (q : Option (List ℕ)) → atom_at inside t ≡ q
-        → ValueTells inside t (with_or o (λ r. bracket_token array (behind_white r)) (with_or p (λ r. bracket_token object (behind_white r)) (with_or q atom misfit)))
+        → ValueTells inside t (with_or o (λ r. bracket_token array (behind_white r)) (with_or p (λ r. bracket_token object (behind_white r)) (with_or q (atom (keeps_at t)) misfit)))
     on (Some r) e p f q g = bracket_tells inside array t r (after_takes 91 t r e)
     on None e (Some r) f q g = bracket_tells inside object t r (after_takes 123 t r f)
     on None e None f (Some r) g = atom_takes inside t r g
@@ -196,7 +213,7 @@ pub record TakesShutting (k : Bracket) (t r : List ℕ) : Type 0 where
   pub whole : t ≡ white ++ closer k ∷ r
 
 abbrev pub EntryTells : Bracket → List ℕ → Token → Type 0
-EntryTells k t (atom r) = ⊥
+EntryTells k t (atom kept r) = ⊥
 EntryTells k t (hollow r) = ⊥
 EntryTells k t (opening j r) = ⊥
 EntryTells k t (next r) = TakesNext k t r
@@ -235,7 +252,7 @@ entry_tells k t = on (after 44 (behind_white t)) refl (after (closer k) (behind_
 -- ---- how far a token goes
 
 abbrev pub left_of : Token → Option (List ℕ)
-left_of (atom r) = Some r
+left_of (atom kept r) = Some r
 left_of (hollow r) = Some r
 left_of (opening k r) = Some r
 left_of (next r) = Some r
@@ -249,7 +266,7 @@ pub record Shorter (t r : List ℕ) : Type 0 where
   pub shorter : length r < length t
 
 pub value_shorter : (inside : Bool) (t r : List ℕ) (token : Token) → ValueTells inside t token → left_of token ≡ Some r → Shorter t r
-value_shorter inside t r (atom q) h e = subst (Shorter t) (same_Some q r e) (record { front = spelled_literal h.atom; whole = h.whole; shorter = h.shorter })
+value_shorter inside t r (atom kept q) h e = subst (Shorter t) (same_Some q r e) (record { front = spelled_literal h.atom; whole = h.whole; shorter = h.shorter })
 value_shorter inside t r (hollow q) h e =
     let long : length t ≡ suc (length h.white + suc (length q)) = ap length h.whole ∙ omega (arith, length-append h.white (closer h.kind ∷ q)) in
     subst (Shorter t) (same_Some q r e) (record {
@@ -266,7 +283,7 @@ value_shorter inside t r finished h e = absurd h
 value_shorter inside t r misfit h e = absurd cc
 
 pub entry_shorter : (k : Bracket) (t r : List ℕ) (token : Token) → EntryTells k t token → left_of token ≡ Some r → Shorter t r
-entry_shorter k t r (atom q) h e = absurd h
+entry_shorter k t r (atom kept q) h e = absurd h
 entry_shorter k t r (hollow q) h e = absurd h
 entry_shorter k t r (opening j q) h e = absurd h
 entry_shorter k t r (next q) h e =

@@ -1,7 +1,7 @@
 -- Laws of literals.
 use Rattle.std.specs.Prelude.{◌≡◌}
 use Rattle.handlebars_base.specs.Bytes.{Text}
-use Rattle.handlebars_lines.specs.Literal.{Literal, spelled_literal, literal_depth, IsLiteralAt}
+use Rattle.handlebars_lines.specs.Literal.{Literal, spelled_literal, literal_depth, keeps_numbers, IsLiteralAt}
 use Rattle.handlebars_lines.specs.LiteralReading.{Slice}
 
 -- The slice is that of a literal in front of the text.
@@ -10,6 +10,7 @@ pub record HasLiteral (text : Text) (slice : Slice) : Type 0 where
   pub is : IsLiteralAt text literal slice.rest
   pub raw : slice.raw ≡ spelled_literal literal
   pub depth : slice.depth ≡ literal_depth literal
+  pub kept : slice.kept ≡ keeps_numbers literal
 
 -- no literal stands in front
 abbrev pub NoLiteral : Text → Type 0

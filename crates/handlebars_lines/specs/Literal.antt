@@ -1,10 +1,12 @@
--- The literals of tags: what each spells, when it fits, and how deep its brackets nest.
-use Rattle.std.specs.Prelude.{◌≡◌, ℕ, suc, Bool, true, false, not, ◌&&◌, ◌||◌, ◌==◌, nat_lt, if◌then◌else◌, max, [], ◌∷◌, ◌++◌, length, codes}
+-- The literals of tags: what each spells, when it fits, how deep its brackets nest, and whether its numbers are kept.
+use Rattle.std.specs.Prelude.{◌≡◌, ℕ, suc, ◌^◌, Bool, true, false, not, ◌&&◌, ◌||◌, ◌==◌, nat_lt, nat_le, if◌then◌else◌, max, [], ◌∷◌, ◌++◌, length, Option, Some, None, is_some, codes}
 use Rattle.std.specs.Char.{is_ascii_digit}
 use Rattle.std.specs.List.{AllByRecursion, list_all, position_or_len, before_first, after_first}
 use Rattle.std.specs.Str.{bytes_eq}
+use Rattle.std.specs.Str.Parse.{digits_value}
 use Rattle.handlebars_base.specs.Bytes.{Text, double_quote, single_quote, hyphen, dot, slash, colon, left_bracket, backslash, right_bracket, left_brace, right_brace, is_white}
 use Rattle.handlebars_base.specs.Path.{is_symbol}
+use Rattle.handlebars_base.specs.PathReading.{with_or, after}
 
 abbrev pub comma : ℕ
 comma = 44
@@ -56,6 +58,18 @@ is_number t =
     if has capital_e t
     then is_decimal (up_to capital_e t) && is_integer (behind_first capital_e t)
     else is_decimal t
+
+-- the number that digits spell, if it is below 2^64
+unfoldable pub number_of : Text → Option ℕ
+number_of t = if is_digits t && nat_lt (digits_value 10 t) (2 ^ 64) then Some (digits_value 10 t) else None
+
+-- what may stand behind a minus: 1 to 2^63
+abbrev pub is_kept_below : ℕ → Bool
+is_kept_below n = nat_lt 0 n && nat_le n (2 ^ 63)
+
+-- Whether a number is kept: an integer from -2^63 to 2^64 - 1, and not `-0`.
+unfoldable pub is_kept : Text → Bool
+is_kept t = with_or (after hyphen t) (λ d. with_or (number_of d) is_kept_below false) (is_some (number_of t))
 
 abbrev pub is_word : Text → Bool
 is_word t = bytes_eq t (codes "null") || (bytes_eq t (codes "true") || bytes_eq t (codes "false"))
@@ -160,6 +174,20 @@ abbrev mutual
   pub entries_depth : Entries → ℕ
   entries_depth closing = 0
   entries_depth (another lead l w more) = max (literal_depth l) (entries_depth more)
+
+-- each number in it is kept, that of a key that comes again too
+abbrev mutual
+  pub keeps_numbers : Literal → Bool
+  keeps_numbers (quoted t) = true
+  keeps_numbers (single_quoted t) = true
+  keeps_numbers (number t) = is_kept t
+  keeps_numbers (word t) = true
+  keeps_numbers (empty k w) = true
+  keeps_numbers (filled k lead l w more) = keeps_numbers l && keeps_numbers_in more
+
+  pub keeps_numbers_in : Entries → Bool
+  keeps_numbers_in closing = true
+  keeps_numbers_in (another lead l w more) = keeps_numbers l && keeps_numbers_in more
 
 -- ---- in front of a text
 

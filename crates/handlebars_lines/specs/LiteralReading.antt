@@ -1,16 +1,13 @@
 -- Reading a literal from left to right, with the kinds of its open brackets, as functions on lists.
-use Rattle.std.specs.Prelude.{ℕ, suc, ◌+◌, ◌-◌, Bool, true, false, ◌||◌, ◌==◌, if◌then◌else◌, max, List, [], ◌∷◌, length, take, drop, Option, Some, None, is_some}
+use Rattle.std.specs.Prelude.{ℕ, suc, ◌+◌, ◌-◌, Bool, true, false, not, ◌&&◌, ◌||◌, ◌==◌, if◌then◌else◌, max, List, [], ◌∷◌, length, take, drop, Option, Some, None, is_some}
 use Rattle.std.specs.List.{prefix_len}
-use Rattle.handlebars_base.specs.Bytes.{Text, double_quote, single_quote, colon, backslash, left_bracket, left_brace, is_white}
+use Rattle.handlebars_base.specs.Bytes.{Text, double_quote, single_quote, colon, backslash, left_bracket, left_brace}
+pub use Rattle.handlebars_base.specs.Bytes.{behind_white}
 use Rattle.handlebars_base.specs.PathReading.{◌>>=◌, with_or, after}
 use Rattle.handlebars_lines.specs.Runs.{Next, goes, ends, stuck, run}
-use Rattle.handlebars_lines.specs.Literal.{comma, is_number, is_word, Bracket, array, object, closer, goes_on, starts}
+use Rattle.handlebars_lines.specs.Literal.{comma, is_number, is_kept, is_word, Bracket, array, object, closer, goes_on, starts}
 
 -- ---- marks and runs
-
-abbrev pub behind_white : Text → Text
-behind_white [] = []
-behind_white (b ∷ t) = if is_white b then behind_white t else b ∷ t
 
 -- what follows the quote that closes a text, behind a backslash or not
 abbrev pub behind_quote : ℕ → Bool → Text → Option Text
@@ -40,6 +37,10 @@ undoubled_at false t = with_or (after single_quote t) (behind_quote single_quote
 unfoldable pub atom_at : Bool → Text → Option Text
 atom_at inside t = with_or (after double_quote t) (behind_quote double_quote false) (undoubled_at inside t)
 
+-- Whether the number in front is kept. Where another literal stands in front there is none to lose.
+unfoldable pub keeps_at : Text → Bool
+keeps_at t = not (is_number (run_of t)) || is_kept (run_of t)
+
 -- what follows a key's colon and white
 abbrev pub behind_colon : Text → Option Text
 behind_colon t = after colon (behind_white t) >>= λ r. Some (behind_white r)
@@ -53,10 +54,10 @@ abbrev pub behind_lead : Bracket → Text → Option Text
 behind_lead array t = Some t
 behind_lead object t = key_at t
 
--- what stands next, and what follows it: a literal with no brackets; empty brackets; an opening bracket and what
+-- what stands next, and what follows it: a literal with no brackets, its number kept or not; empty brackets; an opening bracket and what
 -- leads to its first entry; a comma and what leads to another; or a closing bracket
 pub data Token : Type 0 where
-  atom : Text → Token
+  atom : Bool → Text → Token
   hollow : Text → Token
   opening : Bracket → Text → Token
   next : Text → Token
@@ -72,7 +73,7 @@ bracket_token k t = with_or (after (closer k) t) hollow (with_or (behind_lead k 
 unfoldable pub value_token : Bool → Text → Token
 value_token inside t =
     with_or (after left_bracket t) (λ r. bracket_token array (behind_white r))
-    (with_or (after left_brace t) (λ r. bracket_token object (behind_white r)) (with_or (atom_at inside t) atom misfit))
+    (with_or (after left_brace t) (λ r. bracket_token object (behind_white r)) (with_or (atom_at inside t) (atom (keeps_at t)) misfit))
 
 -- behind a comma
 abbrev pub comma_token : Bracket → Text → Token
@@ -106,38 +107,55 @@ abbrev pub outer : List Bracket → List Bracket
 outer [] = []
 outer (k ∷ ks) = ks
 
--- A step finds how many brackets it has opened inside each other, or 0 if it opens none.
-abbrev pub taken : List Bracket → Token → Next ℕ Place
-taken ks (atom r) = goes 0 (behind ks) r
-taken ks (hollow r) = goes (suc (length ks)) (behind ks) r
-taken ks (opening k r) = goes (suc (length ks)) (ahead (k ∷ ks)) r
-taken ks (next r) = goes 0 (ahead ks) r
-taken ks (shutting r) = goes 0 (behind (outer ks)) r
+-- what a step finds: how many brackets it has opened inside each other, or 0 if it opens none; and that it reads no
+-- number, or one that is kept
+pub record Find : Type 0 where
+  pub height : ℕ
+  pub keeps : Bool
+
+abbrev pub opens : ℕ → Find
+opens n = record { height = n; keeps = true }
+
+abbrev pub reads : Bool → Find
+reads kept = record { height = 0; keeps = kept }
+
+abbrev pub taken : List Bracket → Token → Next Find Place
+taken ks (atom kept r) = goes (reads kept) (behind ks) r
+taken ks (hollow r) = goes (opens (suc (length ks))) (behind ks) r
+taken ks (opening k r) = goes (opens (suc (length ks))) (ahead (k ∷ ks)) r
+taken ks (next r) = goes (opens 0) (ahead ks) r
+taken ks (shutting r) = goes (opens 0) (behind (outer ks)) r
 taken ks finished = ends
 taken ks misfit = stuck
 
-abbrev pub literal_step : Place → Text → Next ℕ Place
+abbrev pub literal_step : Place → Text → Next Find Place
 literal_step (ahead ks) t = taken ks (value_token (is_some (innermost ks)) t)
 literal_step (behind ks) t = taken ks (behind_token (innermost ks) t)
 
--- the most of these
-abbrev pub most : ℕ → List ℕ → ℕ
+-- the most of these heights and m
+abbrev pub most : ℕ → List Find → ℕ
 most m [] = m
-most m (x ∷ xs) = most (max m x) xs
+most m (x ∷ xs) = most (max m x.height) xs
+
+-- each of these numbers is kept, and b holds
+abbrev pub all_kept : Bool → List Find → Bool
+all_kept b [] = b
+all_kept b (x ∷ xs) = all_kept (b && x.keeps) xs
 
 -- ---- the literal in front
 
--- a literal's text, what follows it, and how deep it is
+-- a literal's text, what follows it, how deep it is, and whether its numbers are kept
 pub record Slice : Type 0 where
   pub raw : Text
   pub rest : Text
   pub depth : ℕ
+  pub kept : Bool
 
-abbrev pub slice_in : Text → List ℕ × Text → Option Slice
-slice_in t r =
-    if starts goes_on r.1
-    then None
-    else Some (record { raw = take (length t - length r.1) t; rest = r.1; depth = most 0 r.0 })
+abbrev pub cut_to : Text → Text → ℕ → Bool → Slice
+cut_to t rest depth kept = record { raw = take (length t - length rest) t; rest = rest; depth = depth; kept = kept }
+
+abbrev pub slice_in : Text → List Find × Text → Option Slice
+slice_in t r = if starts goes_on r.1 then None else Some (cut_to t r.1 (most 0 r.0) (all_kept true r.0))
 
 unfoldable pub literal_at : Text → Option Slice
 literal_at t = run literal_step (length t + 1) (ahead []) t >>= slice_in t

@@ -21,7 +21,7 @@ place_of true ks = ahead (stack_of ks)
 place_of false ks = behind (stack_of ks)
 
 abbrev pub token_of : ReadToken → Token
-token_of (token.Atom rest) = atom rest.now
+token_of (token.Atom kept rest) = atom kept rest.now
 token_of (token.Hollow rest) = hollow rest.now
 token_of (token.Opening k rest) = opening (bracket_of k) rest.now
 token_of (token.Next rest) = next rest.now
@@ -30,4 +30,4 @@ token_of token.Finished = finished
 token_of token.Misfit = misfit
 
 abbrev pub slice_of : LiteralSlice → Slice
-slice_of slice = record { raw = slice.raw.now; rest = slice.rest.now; depth = slice.depth }
+slice_of slice = record { raw = slice.raw.now; rest = slice.rest.now; depth = slice.depth; kept = slice.kept }

@@ -4,20 +4,23 @@ ghost use Rattle.std.specs.Prelude.{◌≡◌, ◌<◌, ◌≤◌, length, max, 
 ghost use Rattle.std.specs.List.{list_all};
 ghost use Rattle.std.specs.Char.{is_ascii_digit};
 ghost use Rattle.std.specs.Option.{option_map};
-ghost use Rattle.handlebars_lines.specs.Literal.{is_digits, is_integer, is_decimal, is_number, is_word, closer};
-ghost use Rattle.handlebars_lines.specs.LiteralReading.{plain_at, undoubled_at, atom_at, behind_colon, key_at, behind_lead, bracket_token, value_token, comma_token, entry_token, token_at, literal_at};
+ghost use Rattle.handlebars_lines.specs.Literal.{is_digits, is_integer, is_decimal, is_number, number_of, is_kept_below, is_kept, is_word, closer};
+ghost use Rattle.handlebars_lines.specs.LiteralReading.{plain_at, undoubled_at, atom_at, keeps_at, behind_colon, key_at, behind_lead, bracket_token, value_token, comma_token, entry_token, token_at, literal_at};
 ghost use Rattle.handlebars_lines.specs.LiteralView.{bracket_of, token_of, slice_of};
 ghost use Rattle.handlebars_lines.specs.Laws.{HasLiteral, NoLiteral};
 
-use crate::marks::{after, behind_quote, behind_white, run, starts_run};
+use crate::marks::{behind_quote, run, starts_run};
+use handlebars_base::json::path::marks::{after, behind_white};
 use std::alloc::{AllocError, Global};
 
-/// A literal's text, what follows it, and how many of its brackets are open at once at most.
+/// A literal's text, what follows it, how many of its brackets are open at once at most, and whether its numbers are
+/// kept: integers from -2^63 to 2^64 - 1, and no `-0`.
 #[derive(Clone, Copy, Debug, PartialEq, Eq)]
 pub struct LiteralSlice<'a> {
     pub raw: &'a str,
     pub rest: &'a str,
     pub depth: usize,
+    pub kept: bool,
 }
 
 /// The literal in front of a text.
@@ -39,8 +42,8 @@ enum Bracket {
 /// What stands next, with what follows it.
 #[derive(Clone, Copy)]
 enum Token<'a> {
-    /// A literal with no brackets.
-    Atom(&'a str),
+    /// A literal with no brackets, its number kept or not.
+    Atom(bool, &'a str),
     /// Brackets with white alone.
     Hollow(&'a str),
     /// An opening bracket and what leads to its first entry.
@@ -95,6 +98,36 @@ fn is_number(text: &str) -> bool
     }
 }
 
+/// The number that digits spell, if it is below 2^64.
+fn number_of(text: &str) -> Option<u64>
+    ensures { result ≡ number_of text.now }
+{
+    if is_digits(text.as_bytes()) {
+        text.parse().ok()
+    } else {
+        None
+    }
+}
+
+fn is_kept_below(number: u64) -> bool
+    ensures { result ≡ is_kept_below number }
+{
+    0 < number && number <= 9_223_372_036_854_775_808
+}
+
+#[tactic(auto, unfolding(crate::specs::Literal::is_kept))]
+fn is_kept(text: &str) -> bool
+    ensures { result ≡ is_kept text.now }
+{
+    match after(b'-', text) {
+        Some(digits) => match number_of(digits) {
+            Some(number) => is_kept_below(number),
+            None => false,
+        },
+        None => number_of(text).is_some(),
+    }
+}
+
 fn is_word(text: &str) -> bool
     ensures { result ≡ is_word text.now }
 {
@@ -135,6 +168,15 @@ fn atom_at(inside: bool, text: &str) -> Option<&str>
         Some(rest) => behind_quote(b'"', rest),
         None => undoubled_at(inside, text),
     }
+}
+
+/// Whether the number in front is kept, if one stands there.
+#[tactic(auto, unfolding(crate::specs::LiteralReading::keeps_at))]
+fn keeps_at(text: &str) -> bool
+    ensures { result ≡ keeps_at text.now }
+{
+    let front = run(text).0;
+    !is_number(front) || is_kept(front)
 }
 
 fn behind_colon(text: &str) -> Option<&str>
@@ -197,7 +239,7 @@ fn value_token(inside: bool, text: &str) -> Token<'_>
         return bracket_token(Bracket::Object, behind_white(rest));
     }
     match atom_at(inside, text) {
-        Some(rest) => Token::Atom(rest),
+        Some(rest) => Token::Atom(keeps_at(text), rest),
         None => Token::Misfit,
     }
 }
@@ -254,9 +296,11 @@ fn literal_at(alloc: Global, text: &str) -> Result<Option<LiteralSlice<'_>>, All
     let mut ahead = true;
     let mut rest = text;
     let mut depth = 0;
+    let mut kept = true;
     'reading: loop {
         match token_at(ahead, around.last().copied(), rest) {
-            Token::Atom(behind) => {
+            Token::Atom(keeps, behind) => {
+                kept &= keeps;
                 ahead = false;
                 rest = behind;
             }
@@ -285,7 +329,12 @@ fn literal_at(alloc: Global, text: &str) -> Result<Option<LiteralSlice<'_>>, All
                     return Ok(None);
                 }
                 let raw = text.split_at(text.len() - rest.len()).0;
-                return Ok(Some(LiteralSlice { raw, rest, depth }));
+                return Ok(Some(LiteralSlice {
+                    raw,
+                    rest,
+                    depth,
+                    kept,
+                }));
             }
             Token::Misfit => return Ok(None),
         }

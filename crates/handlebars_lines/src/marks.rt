@@ -1,30 +1,12 @@
-//! White, marks, runs and quotes at the front of a text.
+//! Runs and quotes at the front of a text.
 
 ghost use Rattle.std.specs.Prelude.{◌≡◌, ◌<◌, false};
 ghost use Rattle.std.specs.List.{prefix_len};
 ghost use Rattle.std.specs.Option.{option_map};
-ghost use Rattle.handlebars_base.specs.Bytes.{is_white};
-ghost use Rattle.handlebars_base.specs.Path.{is_symbol};
-ghost use Rattle.handlebars_base.specs.PathReading.{after};
 ghost use Rattle.handlebars_lines.specs.Literal.{goes_on, starts};
-ghost use Rattle.handlebars_lines.specs.LiteralReading.{behind_white, behind_quote, run_of, behind_run};
+ghost use Rattle.handlebars_lines.specs.LiteralReading.{behind_quote, run_of, behind_run};
 
-fn is_symbol(byte: u8) -> bool
-    ensures { result ≡ is_symbol byte }
-{
-    byte >= 128
-        || byte.is_ascii_alphanumeric()
-        || byte == b'_'
-        || byte == b'-'
-        || byte == b'$'
-        || byte == b':'
-}
-
-fn is_white(byte: u8) -> bool
-    ensures { result ≡ is_white byte }
-{
-    byte == b' ' || byte == b'\t' || byte == b'\n' || byte == b'\r'
-}
+use handlebars_base::json::path::marks::is_symbol;
 
 /// Whether no literal stands in front of this byte.
 fn goes_on(byte: u8) -> bool
@@ -40,30 +22,6 @@ pub fn starts_run(text: &str) -> bool
     match text.as_bytes() {
         [first, ..] => goes_on(*first),
         [] => false,
-    }
-}
-
-pub fn behind_white(text: &str) -> &str
-    ensures { result.now ≡ behind_white text.now }
-{
-    let mut rest = text;
-    while let [first, ..] = rest.as_bytes()
-        && is_white(*first)
-    {
-        rest = rest.split_at(1).1;
-    }
-    rest
-}
-
-/// What follows a mark, where it stands in front.
-#[tactic(auto, unfolding(handlebars_base::specs::PathReading::after))]
-pub fn after(mark: u8, text: &str) -> Option<&str>
-    requires { mark < 128 }
-    ensures { option_map (λ rest. rest.now) result ≡ after mark text.now }
-{
-    match text.as_bytes() {
-        [first, ..] if *first == mark => Some(&text[1..]),
-        _ => None,
     }
 }
 

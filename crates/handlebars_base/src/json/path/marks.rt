@@ -1,8 +1,9 @@
-//! Symbols and single marks at the front of a text.
+//! Symbols, white and single marks at the front of a text.
 
 ghost use Rattle.std.specs.Prelude.{◌≡◌, ◌<◌};
 ghost use Rattle.std.specs.List.{prefix_len};
 ghost use Rattle.std.specs.Option.{option_map};
+ghost use Rattle.handlebars_base.specs.Bytes.{is_white, behind_white};
 ghost use Rattle.handlebars_base.specs.Path.{is_symbol};
 ghost use Rattle.handlebars_base.specs.PathReading.{after, symbols_of, behind_symbols, after_up, ups_at};
 
@@ -34,6 +35,24 @@ pub fn symbols(text: &str) -> (&str, &str)
     ensures rest { result.1.now ≡ behind_symbols text.now }
 {
     text.split_at(symbols_len(text.as_bytes()))
+}
+
+pub fn is_white(byte: u8) -> bool
+    ensures { result ≡ is_white byte }
+{
+    byte == b' ' || byte == b'\t' || byte == b'\n' || byte == b'\r'
+}
+
+pub fn behind_white(text: &str) -> &str
+    ensures { result.now ≡ behind_white text.now }
+{
+    let mut rest = text;
+    while let [first, ..] = rest.as_bytes()
+        && is_white(*first)
+    {
+        rest = rest.split_at(1).1;
+    }
+    rest
 }
 
 /// What follows a mark, where it stands at the front.

@@ -1,8 +1,8 @@
 use Rattle.std.proofs.Common.{◌≡◌, length}
 use denote.Text.{Utf8}
 use denote.Shadow.{shadow}
-use Rattle.handlebars_lines.specs.LiteralReading.{behind_white}
-use Rattle.handlebars_lines.proofs.marks.behind_white.Given as goal
+use Rattle.handlebars_base.specs.Bytes.{behind_white}
+use Rattle.handlebars_base.proofs.json.path.marks.behind_white.Given as goal
 
 abbrev pub invariant-loop-first : goal.invariant-loop-first
 invariant-loop-first l = record {
