@@ -12,7 +12,7 @@ use std::alloc::{AllocError, Global};
 
 mod front;
 mod links;
-mod marks;
+pub mod marks;
 mod start;
 
 pub use front::{PathFront, PathSlice, read_front, split_path};
