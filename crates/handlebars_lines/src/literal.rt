@@ -288,7 +288,7 @@ fn larger(a: usize, b: usize) -> usize
 }
 
 /// The literal in front, by its tokens.
-fn literal_at(alloc: Global, text: &str) -> Result<Option<LiteralSlice<'_>>, AllocError>
+pub(crate) fn literal_at(alloc: Global, text: &str) -> Result<Option<LiteralSlice<'_>>, AllocError>
     ensures reads { IfOk result (λ read. option_map slice_of read ≡ literal_at text.now) }
     ensures depth { IfOk result (λ read. IfSome read (λ slice. slice.depth ≤ length text.now)) }
 {

@@ -1,0 +1,265 @@
+//! One step through a line: what stands next.
+
+ghost use Rattle.std.specs.Prelude.{◌≡◌, ◌<◌, ◌^◌, IfOk};
+ghost use Rattle.handlebars_lines.specs.Parameter.{is_reserved};
+ghost use Rattle.handlebars_lines.specs.LineReading.{behind_name, open_step, name_step, is_excluded, path_step, parameter_step, item_step, may_follow, next_step, outer_step, inner_step, behind_step, is_at_name, line_step};
+ghost use Rattle.handlebars_lines.specs.LineView.{enclosure_of, key_of, stand_of, state_of, step_of};
+
+use super::marks::{all_symbols, behind_end, key_at, starts_white};
+use crate::literal::literal_at;
+use crate::marks::{after, behind_white};
+use handlebars_base::json::path::split_path;
+use std::alloc::{AllocError, Global};
+
+/// Where a line stands: its end is `}}` in a tag, and `)` in parentheses.
+#[derive(Clone, Copy, Debug, PartialEq, Eq)]
+pub enum Enclosure {
+    Tag,
+    Parentheses,
+}
+
+/// How a line may go on.
+#[derive(Clone, Copy, Debug, PartialEq, Eq)]
+pub enum Stand {
+    /// With its name.
+    Name,
+    /// With items, or at its end.
+    Items,
+    /// At its end alone.
+    End,
+}
+
+/// Where the reading stands, and how many parentheses are open.
+#[derive(Clone, Copy, Debug, PartialEq, Eq)]
+pub struct State {
+    pub stand: Stand,
+    pub level: usize,
+}
+
+/// What a step takes: the text of a literal or a path, or a parenthesis. Each may stand behind a key. The numbers say
+/// how many parentheses and brackets are then open at once.
+#[derive(Clone, Copy, Debug, PartialEq, Eq)]
+pub enum Event<'a> {
+    Opened(Option<&'a str>, usize),
+    Literal(Option<&'a str>, &'a str, usize),
+    Path(Option<&'a str>, &'a str, usize),
+    Closed,
+}
+
+#[derive(Clone, Copy, Debug, PartialEq, Eq)]
+pub enum Step<'a> {
+    /// What is taken, where that leads, and what follows it.
+    Goes(Event<'a>, State, &'a str),
+    Ends,
+    Stuck,
+}
+
+/// Only an identifier takes items.
+fn behind_name(raw: &str) -> Stand
+    ensures { stand_of result ≡ behind_name raw.now }
+{
+    if all_symbols(raw) {
+        Stand::Items
+    } else {
+        Stand::End
+    }
+}
+
+/// Behind an opening parenthesis.
+fn open_step<'a>(key: Option<&'a str>, level: usize, rest: &'a str) -> Step<'a>
+    requires { level < 2 ^ 63 }
+    ensures { step_of result ≡ open_step (key_of key.entry) level rest.now }
+{
+    let state = State {
+        stand: Stand::Name,
+        level: level + 1,
+    };
+    Step::Goes(Event::Opened(key, level + 1), state, behind_white(rest))
+}
+
+#[tactic(auto, unfolding(crate::specs::LineReading::name_step))]
+fn name_step(level: usize, text: &str) -> Step<'_>
+    requires { level < 2 ^ 63 }
+    ensures { step_of result ≡ name_step level text.now }
+{
+    if let Some(rest) = after(b'(', text) {
+        return open_step(None, level, rest);
+    }
+    match split_path(text) {
+        Some(slice) => {
+            let stand = behind_name(slice.raw);
+            let event = Event::Path(None, slice.raw, level);
+            Step::Goes(event, State { stand, level }, slice.rest)
+        }
+        None => Step::Stuck,
+    }
+}
+
+fn is_reserved(raw: &str) -> bool
+    ensures { result ≡ is_reserved raw.now }
+{
+    raw == "as" || raw == "else"
+}
+
+/// Behind a key a reserved word is a path.
+fn is_excluded(key: Option<&str>, raw: &str) -> bool
+    ensures { result ≡ is_excluded (key_of key.entry) raw.now }
+{
+    match key {
+        Some(_) => false,
+        None => is_reserved(raw),
+    }
+}
+
+fn path_step<'a>(key: Option<&'a str>, level: usize, text: &'a str) -> Step<'a>
+    ensures { step_of result ≡ path_step (key_of key.entry) level text.now }
+{
+    let Some(slice) = split_path(text) else {
+        return Step::Stuck;
+    };
+    if is_excluded(key, slice.raw) {
+        return Step::Stuck;
+    }
+    let state = State {
+        stand: Stand::Items,
+        level,
+    };
+    Step::Goes(Event::Path(key, slice.raw, level), state, slice.rest)
+}
+
+#[tactic(auto, unfolding(crate::specs::LineReading::parameter_step))]
+fn parameter_step<'a>(
+    alloc: Global,
+    key: Option<&'a str>,
+    level: usize,
+    text: &'a str,
+) -> Result<Step<'a>, AllocError>
+    requires { level < 2 ^ 63 }
+    ensures { IfOk result (λ step. step_of step ≡ parameter_step (key_of key.entry) level text.now) }
+{
+    if let Some(rest) = after(b'(', text) {
+        return Ok(open_step(key, level, rest));
+    }
+    match literal_at(alloc, text)? {
+        Some(slice) => {
+            let state = State {
+                stand: Stand::Items,
+                level,
+            };
+            let event = Event::Literal(key, slice.raw, level + slice.depth);
+            Ok(Step::Goes(event, state, slice.rest))
+        }
+        None => Ok(path_step(key, level, text)),
+    }
+}
+
+#[tactic(auto, unfolding(crate::specs::LineReading::item_step))]
+fn item_step(alloc: Global, level: usize, text: &str) -> Result<Step<'_>, AllocError>
+    requires { level < 2 ^ 63 }
+    ensures { IfOk result (λ step. step_of step ≡ item_step level text.now) }
+{
+    match key_at(text) {
+        Some((key, rest)) => parameter_step(alloc, Some(key), level, rest),
+        None => parameter_step(alloc, None, level, text),
+    }
+}
+
+fn may_follow(stand: Stand) -> bool
+    ensures { result ≡ may_follow (stand_of stand) }
+{
+    match stand {
+        Stand::Name | Stand::End => false,
+        Stand::Items => true,
+    }
+}
+
+/// An item stands behind white, where items may follow.
+fn next_step(alloc: Global, stand: Stand, level: usize, text: &str) -> Result<Step<'_>, AllocError>
+    requires { level < 2 ^ 63 }
+    ensures { IfOk result (λ step. step_of step ≡ next_step (stand_of stand) level text.now) }
+{
+    if may_follow(stand) && starts_white(text) {
+        item_step(alloc, level, behind_white(text))
+    } else {
+        Ok(Step::Stuck)
+    }
+}
+
+/// Where no parenthesis is open.
+fn outer_step(
+    alloc: Global,
+    around: Enclosure,
+    stand: Stand,
+    text: &str,
+) -> Result<Step<'_>, AllocError>
+    ensures { IfOk result (λ step. step_of step ≡ outer_step (enclosure_of around) (stand_of stand) text.now) }
+{
+    if behind_end(around, behind_white(text)).is_some() {
+        Ok(Step::Ends)
+    } else {
+        next_step(alloc, stand, 0, text)
+    }
+}
+
+/// Where a parenthesis is open.
+fn inner_step(alloc: Global, stand: Stand, level: usize, text: &str) -> Result<Step<'_>, AllocError>
+    requires inside { 0 < level }
+    requires bounded { level < 2 ^ 63 }
+    ensures { IfOk result (λ step. step_of step ≡ inner_step (stand_of stand) level text.now) }
+{
+    match after(b')', behind_white(text)) {
+        Some(rest) => {
+            let state = State {
+                stand: Stand::Items,
+                level: level - 1,
+            };
+            Ok(Step::Goes(Event::Closed, state, rest))
+        }
+        None => next_step(alloc, stand, level, text),
+    }
+}
+
+#[tactic(auto, unfolding(crate::specs::LineReading::behind_step))]
+fn behind_step(
+    alloc: Global,
+    around: Enclosure,
+    stand: Stand,
+    level: usize,
+    text: &str,
+) -> Result<Step<'_>, AllocError>
+    requires { level < 2 ^ 63 }
+    ensures { IfOk result (λ step. step_of step ≡ behind_step (enclosure_of around) (stand_of stand) level text.now) }
+{
+    if level == 0 {
+        outer_step(alloc, around, stand, text)
+    } else {
+        inner_step(alloc, stand, level, text)
+    }
+}
+
+fn is_at_name(stand: Stand) -> bool
+    ensures { result ≡ is_at_name (stand_of stand) }
+{
+    match stand {
+        Stand::Name => true,
+        Stand::Items | Stand::End => false,
+    }
+}
+
+/// What stands next.
+#[tactic(auto, unfolding(crate::specs::LineReading::line_step))]
+pub fn take_step(
+    alloc: Global,
+    around: Enclosure,
+    state: State,
+    text: &str,
+) -> Result<Step<'_>, AllocError>
+    requires { state.level < 2 ^ 63 }
+    ensures { IfOk result (λ step. step_of step ≡ line_step (enclosure_of around) (state_of state) text.now) }
+{
+    if is_at_name(state.stand) {
+        Ok(name_step(state.level, text))
+    } else {
+        behind_step(alloc, around, state.stand, state.level, text)
+    }
+}
