@@ -3,12 +3,14 @@ use Rattle.std.proofs.Common.{◌≡◌, ℕ, suc, ◌+◌, ◌<◌, ◌≤◌, 
 use Rattle.std.proofs.lemmas.List.{drop_all}
 use Rattle.std.specs.Prelude.{decimal}
 use Rattle.std.specs.Fmt.{signed_decimal}
-use Rattle.serde_json.specs.Data.{Num, unsigned, negative, float, Data, null, boolean, string, array, object, Items, item}
+use Rattle.serde_json.specs.Data.{Num, unsigned, negative, float, Data, null, boolean, number, string, array, object, Items, item}
 use Rattle.serde_json.specs.Find.{as_u64, as_i64}
-use Rattle.serde_json.specs.View.{view, items_view, members_view}
-use Rattle.serde_json.specs.declared.value.Value.{Value, Null, Bool as BoolOf, String as StringOf, Array, Object, the_lemmas}
+use Rattle.serde_json.specs.View.{view, items_view, members_view, number_view}
+use Rattle.serde_json.specs.declared.value.Value.{Value, Null, Bool as BoolOf, Number as NumberOf, String as StringOf, Array, Object, the_lemmas}
+use Rattle.serde_json.specs.declared.number.Number.{Number}
 use Rattle.handlebars_base.specs.Values.{rendered, rendered_items, rendered_number, word, separator}
 use Rattle.handlebars_scope.specs.Escape.{escaped}
+use Rattle.handlebars_scope.specs.Shown.{escaped_if, shown}
 use Rattle.handlebars_scope.proofs.Bytes.{escaped-append}
 use Rattle.handlebars_scope.proofs.Numbers.{escaped-numeric, numeric-decimal, numeric-signed_decimal}
 
@@ -21,6 +23,9 @@ view-Bool b = search (rules, the_lemmas)
 
 view-Object : (m : BTreeMap (String Global) Value) → view (Object m) ≡ object (members_view m.entries)
 view-Object m = search (rules, the_lemmas)
+
+pub view-Number : (n : Number) → view (NumberOf n) ≡ number (number_view n)
+view-Number n = search (rules, the_lemmas)
 
 view-String : (s : String Global) → view (StringOf s) ≡ string (string_bytes s)
 view-String s = search (rules, the_lemmas)
@@ -97,3 +102,63 @@ unfolding escaped
 escaped-float (unsigned m) n e = cc
 escaped-float (negative y) n e = cc
 escaped-float (float f) n e = refl
+
+-- ---- the same, where escaping is on or off
+
+pub shown-null : (escapes : Bool) (v : Value) → v ≡ Null → shown escapes (view v) ≡ []
+shown-null true v e = escaped-null v e
+shown-null false v e = ap rendered (ap view e ∙ view-Null)
+
+pub shown-bool : (escapes : Bool) (v : Value) (b is : Bool) → v ≡ BoolOf b → b ≡ is → shown escapes (view v) ≡ word is
+shown-bool true v b is e f = escaped-bool v b is e f
+shown-bool false v b is e f = ap rendered (ap view e ∙ view-Bool b ∙ ap boolean f)
+
+pub shown-number : (escapes : Bool) (v : Value) (n : Number) → v ≡ NumberOf n
+    → shown escapes (view v) ≡ escaped_if escapes (rendered_number (number_view n))
+shown-number escapes v n e = ap (λ d. shown escapes d) (ap view e ∙ view-Number n)
+
+pub shown-string : (escapes : Bool) (v : Value) (s : String Global) → v ≡ StringOf s
+    → shown escapes (view v) ≡ escaped_if escapes (string_bytes s)
+shown-string escapes v s e = ap (escaped_if escapes) (rendered-string v s e)
+
+pub shown-object : (escapes : Bool) (v : Value) (m : BTreeMap (String Global) Value) → v ≡ Object m → shown escapes (view v) ≡ codes "[object]"
+shown-object true v m e = escaped-object v m e
+shown-object false v m e = ap rendered (ap view e ∙ view-Object m)
+
+pub shown-array : (escapes : Bool) (ds : Items)
+    → shown escapes (array ds) ≡ codes "[" ++ (escaped_if escapes (rendered_items true ds) ++ codes "]")
+shown-array true ds = escaped-array ds
+shown-array false ds = refl
+
+pub shown-items_from : (escapes first : Bool) (vs : List Value) (i : ℕ) (v : Value) → i < length vs → v ≡ get_or vs i v
+    → escaped_if escapes (rendered_items first (items_view (drop i vs)))
+    ≡ separator first ++ (shown escapes (view v) ++ escaped_if escapes (rendered_items false (items_view (drop (i + 1) vs))))
+shown-items_from true first vs i v l e = escaped-items_from first vs i v l e
+shown-items_from false first vs i v l e =
+    ap (λ ws. rendered_items first (items_view ws)) (drop-cons vs i v l)
+    ∙ ap₂ (λ w j. separator first ++ (rendered (view w) ++ rendered_items false (items_view (drop j vs)))) (sym e) (sym (add-one i))
+
+pub shown-items_end : (escapes first : Bool) (vs : List Value) (i : ℕ) → length vs ≤ i
+    → escaped_if escapes (rendered_items first (items_view (drop i vs))) ≡ []
+shown-items_end true first vs i l = escaped-items_end first vs i l
+shown-items_end false first vs i l = ap (λ ws. rendered_items first (items_view ws)) (drop_all i vs l)
+
+-- digits need no escape
+pub shown-unsigned : (escapes : Bool) (x : Num) (n : ℕ) → Some n ≡ as_u64 x → escaped_if escapes (rendered_number x) ≡ decimal n
+shown-unsigned true x n e = escaped-unsigned x n e
+shown-unsigned false (unsigned m) n e = let is : m ≡ n = cc in ap decimal is
+shown-unsigned false (negative z) n e = cc
+shown-unsigned false (float f) n e = cc
+
+pub shown-negative : (escapes : Bool) (x : Num) (z : ℤ) → None ≡ as_u64 x → Some z ≡ as_i64 x
+    → escaped_if escapes (rendered_number x) ≡ signed_decimal z
+shown-negative true x z n e = escaped-negative x z n e
+shown-negative false (unsigned m) z n e = cc
+shown-negative false (negative y) z n e = let is : y ≡ z = cc in ap signed_decimal is
+shown-negative false (float f) z n e = cc
+
+pub shown-float : (escapes : Bool) (x : Num) → None ≡ as_u64 x → None ≡ as_i64 x → escaped_if escapes (rendered_number x) ≡ []
+shown-float true x n e = escaped-float x n e
+shown-float false (unsigned m) n e = cc
+shown-float false (negative y) n e = cc
+shown-float false (float f) n e = refl

@@ -3,6 +3,7 @@ pub mod Wraps
 pub mod Resolve
 pub mod Escape
 pub mod EscapeLaws
+pub mod Shown
 pub mod Outputs
 pub mod Sites
 pub mod Put

@@ -1,11 +1,12 @@
 //! The line that is being written.
 
-ghost use Rattle.std.specs.Prelude.{◌≡◌};
+ghost use Rattle.std.specs.Prelude.{◌≡◌, Bool};
 ghost use Rattle.serde_json.specs.View.{view, number_view};
-ghost use Rattle.handlebars_base.specs.Values.{rendered, rendered_number};
+ghost use Rattle.handlebars_base.specs.Values.{rendered_number};
 ghost use Rattle.handlebars_scope.specs.Escape.{escaped};
 ghost use Rattle.handlebars_scope.specs.LineView.{line_of};
 ghost use Rattle.handlebars_scope.specs.Put.{first_line, line_after, line_behind, ends_line};
+ghost use Rattle.handlebars_scope.specs.Shown.{shown};
 
 use handlebars_base::json::value::Json;
 use serde_json::Number;
@@ -42,9 +43,9 @@ impl Line {
         }
     }
 
-    /// The line behind a value that is written here, rendered and escaped.
+    /// The line behind a value that is written here, whether escaping is on or not.
     pub fn behind_value(self, value: &Json) -> Line
-        ensures { line_of result ≡ line_behind (escaped (rendered (view value.now))) (line_of self) }
+        ensures { (escapes : Bool) → line_of result ≡ line_behind (shown escapes (view value.now)) (line_of self) }
     {
         match value {
             Json::Null => self,

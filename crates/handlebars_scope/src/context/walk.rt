@@ -1,17 +1,17 @@
 //! Walking into data along names.
 
-ghost use Rattle.std.specs.Prelude.{◌≡◌, IfOk, option_map, string_bytes};
+ghost use Rattle.std.specs.Prelude.{◌≡◌, IfOk, map, option_map, string_bytes};
 ghost use Rattle.serde_json.specs.View.{view};
 ghost use Rattle.handlebars_base.specs.Answers.{Answers, answer_map};
 ghost use Rattle.handlebars_base.specs.Reasons.{invalid_json_index};
 ghost use Rattle.handlebars_base.specs.RenderRefusals.{reason_of};
 ghost use Rattle.handlebars_scope.specs.Resolve.{index_of, member_at, names_of, resolved, value_at};
 ghost use Rattle.handlebars_base.specs.PathView.{reference_of, segments_of};
-ghost use Rattle.handlebars_base.specs.Scoped.{present_in};
+ghost use Rattle.handlebars_base.specs.Scoped.{found_of, present_in};
 
 use handlebars_base::error::{RenderError, RenderErrorReason};
 use handlebars_base::json::path::{Path, PathSeg};
-use handlebars_base::json::value::Json;
+use handlebars_base::json::value::{Json, ScopedJson};
 use std::alloc::{AllocError, Global};
 
 /// The value that a path leads to from the data, in the one empty block of scope that a rendering
@@ -28,6 +28,33 @@ pub fn resolve<'a>(
         Path::Relative((segments, _)) => along(alloc, given, segments),
         Path::Local(_) => Ok(None),
     }
+}
+
+/// The same, with the names as the full path of the value.
+pub fn find<'a>(alloc: Global, given: &'a Json, path: &Path) -> Result<ScopedJson<'a>, RenderError>
+    ensures { Answers found_of result (resolved (reference_of path.now) (view given.now)) }
+{
+    match path {
+        Path::Relative((segments, _)) => match along(alloc, given, segments)? {
+            Some(value) => Ok(ScopedJson::Context(value, names_of(alloc, segments)?)),
+            None => Ok(ScopedJson::Missing),
+        },
+        Path::Local(_) => Ok(ScopedJson::Missing),
+    }
+}
+
+// The names of a path.
+fn names_of(alloc: Global, segments: &Vec<PathSeg>) -> Result<Vec<String>, AllocError>
+    ensures { IfOk result (λ names. map string_bytes names.items ≡ names_of (segments_of segments.now.items)) }
+{
+    let mut names = Vec::new(alloc);
+    for segment in segments {
+        match segment {
+            PathSeg::Named(name) => names.push(name.clone()?)?,
+            PathSeg::Ruled(_) => {}
+        }
+    }
+    Ok(names)
 }
 
 // Along the names of a path; the other segments add nothing.
