@@ -4,4 +4,6 @@
 pub mod laws;
 pub mod literal;
 mod marks;
+#[cfg(test)]
+mod tests;
 pub mod worth;
