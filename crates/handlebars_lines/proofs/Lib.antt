@@ -1,6 +1,7 @@
 pub mod Fronts
 pub mod Stepping
 pub mod Plain
+pub mod Quotes
 pub mod Numbers
 pub mod Tokens
 pub mod LiteralsRead

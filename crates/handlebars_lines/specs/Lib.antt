@@ -2,9 +2,9 @@ pub mod Runs
 pub mod Literal
 pub mod LiteralReading
 pub mod LiteralView
+pub mod Worth
 pub mod Laws
 pub mod Parameter
 pub mod Line
 pub mod LineReading
 pub mod LineView
-pub mod Worth

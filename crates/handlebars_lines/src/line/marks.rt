@@ -10,14 +10,7 @@ ghost use Rattle.handlebars_lines.specs.LineReading.{behind_end, key_at};
 ghost use Rattle.handlebars_lines.specs.LineView.{enclosure_of, texts_of};
 
 use super::step::Enclosure;
-use crate::marks::{after, behind_white};
-use handlebars_base::json::path::marks::{is_symbol, symbols};
-
-fn is_white(byte: u8) -> bool
-    ensures { result ≡ is_white byte }
-{
-    byte == b' ' || byte == b'\t' || byte == b'\n' || byte == b'\r'
-}
+use handlebars_base::json::path::marks::{after, behind_white, is_symbol, is_white, symbols};
 
 pub fn all_symbols(text: &str) -> bool
     ensures { result ≡ list_all is_symbol text.now }

@@ -7,7 +7,7 @@ ghost use Rattle.handlebars_lines.specs.LineView.{enclosure_of, key_of, stand_of
 
 use super::marks::{all_symbols, behind_end, key_at, starts_white};
 use crate::literal::literal_at;
-use crate::marks::{after, behind_white};
+use handlebars_base::json::path::marks::{after, behind_white};
 use handlebars_base::json::path::split_path;
 use std::alloc::{AllocError, Global};
 

@@ -1,0 +1,129 @@
+//! What literals are worth, by JSON.
+
+ghost use Rattle.std.specs.Prelude.{◌≡◌, ◌==◌, ◌<◌, ◌++◌, IfOk, OnOk, string_bytes};
+ghost use Rattle.std.specs.Option.{option_map};
+ghost use Rattle.serde_json.specs.Read.{read as read_text};
+ghost use Rattle.serde_json.specs.View.{view};
+ghost use Rattle.handlebars_base.specs.Bytes.{single_quote};
+ghost use Rattle.handlebars_lines.specs.Literal.{starts};
+ghost use Rattle.handlebars_lines.specs.LiteralView.{slice_of};
+ghost use Rattle.handlebars_lines.specs.Worth.{plain_singles, escaped_doubles, double_quoted, before, unquoted, worth, worth_of};
+
+use crate::literal::{LiteralSlice, literal_at};
+use handlebars_base::json::path::marks::after;
+use handlebars_base::json::value::Json;
+use std::alloc::{AllocError, Global};
+
+/// The value of the literal that a text is, or none where one of its numbers is not kept or JSON refuses it.
+#[tactic(auto, unfolding(crate::specs::Worth::worth_of))]
+pub fn literal_value(alloc: Global, raw: &str) -> Result<Option<Json>, AllocError>
+    ensures { IfOk result (λ read. option_map view read ≡ worth_of raw.now) }
+{
+    match literal_at(alloc, raw)? {
+        Some(slice) => slice_value(alloc, slice),
+        None => Ok(None),
+    }
+}
+
+fn slice_value(alloc: Global, slice: LiteralSlice<'_>) -> Result<Option<Json>, AllocError>
+    ensures { IfOk result (λ read. option_map view read ≡ worth (slice_of slice.entry)) }
+{
+    if !slice.kept {
+        return Ok(None);
+    }
+    match unquoted(slice.raw) {
+        Some(inner) => read_quoted(alloc, inner),
+        None => read_json(alloc, slice.raw),
+    }
+}
+
+fn read_json(alloc: Global, text: &str) -> Result<Option<Json>, AllocError>
+    ensures { IfOk result (λ read. option_map view read ≡ read_text text.now) }
+{
+    match Json::from_str(alloc, text) {
+        Ok(value) => Ok(Some(value)),
+        Err(cause) => {
+            if cause.is_memory() {
+                Err(AllocError)
+            } else {
+                Ok(None)
+            }
+        }
+    }
+}
+
+fn read_quoted(alloc: Global, inner: &str) -> Result<Option<Json>, AllocError>
+    ensures { IfOk result (λ read. option_map view read ≡ read_text (double_quoted inner.now)) }
+{
+    let text = double_quoted(alloc, inner)?;
+    read_json(alloc, text.as_str())
+}
+
+/// What stands in front of a mark, where the mark ends the text.
+#[tactic(auto, unfolding(crate::specs::Worth::before))]
+fn before(mark: u8, text: &str) -> Option<&str>
+    requires { mark < 128 }
+    ensures { option_map (λ front. front.now) result ≡ before mark text.now }
+{
+    match text.as_bytes() {
+        [.., last] if *last == mark => Some(&text[..text.len() - 1]),
+        _ => None,
+    }
+}
+
+fn unquoted(text: &str) -> Option<&str>
+    ensures { option_map (λ inner. inner.now) result ≡ unquoted text.now }
+{
+    before(b'\'', after(b'\'', text)?)
+}
+
+fn starts_single(text: &str) -> bool
+    ensures { result ≡ starts (λ byte. byte == single_quote) text.now }
+{
+    match text.as_bytes() {
+        [first, ..] => *first == b'\'',
+        [] => false,
+    }
+}
+
+/// Drops the backslash in front of each single quote.
+fn plain_singles(alloc: Global, text: &str) -> Result<String, AllocError>
+    ensures { IfOk result (λ plain. string_bytes plain ≡ plain_singles text.now) }
+{
+    let mut plain = String::new(alloc);
+    let mut rest = text;
+    'pieces: while let Some((front, behind)) = rest.split_once('\\') {
+        plain.push_str(front)?;
+        if !starts_single(behind) {
+            plain.push_str("\\")?;
+        }
+        rest = behind;
+    }
+    plain.push_str(rest)?;
+    Ok(plain)
+}
+
+/// Puts a backslash in front of each double quote.
+fn push_escaped(text: &str, out: &mut String) -> Result<(), AllocError>
+    ensures { OnOk result (string_bytes out.new ≡ string_bytes out.old ++ escaped_doubles text.now) }
+{
+    let mut rest = text;
+    'pieces: while let Some((front, behind)) = rest.split_once('"') {
+        out.push_str(front)?;
+        out.push_str("\\\"")?;
+        rest = behind;
+    }
+    out.push_str(rest)?;
+    Ok(())
+}
+
+fn double_quoted(alloc: Global, inner: &str) -> Result<String, AllocError>
+    ensures { IfOk result (λ text. string_bytes text ≡ double_quoted inner.now) }
+{
+    let plain = plain_singles(alloc, inner)?;
+    let mut text = String::new(alloc);
+    text.push_str("\"")?;
+    push_escaped(plain.as_str(), &mut text)?;
+    text.push_str("\"")?;
+    Ok(text)
+}
