@@ -6,4 +6,5 @@ pub mod Numbers
 pub mod Tokens
 pub mod LiteralsRead
 pub mod LiteralsFound
+pub mod JsonOf
 pub mod LiteralLoop

@@ -42,7 +42,7 @@ shortens s t x s' t' is = (step_shorter s t x s' t' is).shorter
 abbrev begins_literal : ℕ → Bool
 begins_literal b = goes_on b || (b == 34 || (b == 39 || (b == 91 || b == 123)))
 
-plain_begins : (n : List ℕ) → GoesOn n → starts goes_on n ≡ true
+pub plain_begins : (n : List ℕ) → GoesOn n → starts goes_on n ≡ true
 plain_begins [] h = absurd (omega (arith, h.some))
 plain_begins (b ∷ n) h = h.all.0
 
@@ -93,7 +93,7 @@ entries_begin k (another lead l w more) rest = refl
 
 -- ---- tokens: a literal with no brackets
 
-no_mark : (c : ℕ) (t : List ℕ) → goes_on c ≡ false → starts goes_on t ≡ true → after c t ≡ None
+pub no_mark : (c : ℕ) (t : List ℕ) → goes_on c ≡ false → starts goes_on t ≡ true → after c t ≡ None
 no_mark c t never h = after-not c t (starts-other goes_on (λ b. b == c) t (goes_other c never) h)
 
 atom_plain : (inside kept : Bool) (n rest : List ℕ) → (is_number n || is_word n) ≡ true → (not (is_number n) || is_kept n) ≡ kept → starts goes_on rest ≡ false → value_token inside (n ++ rest) ≡ atom kept rest

@@ -1,8 +1,9 @@
 -- Laws of literals.
 use Rattle.std.specs.Prelude.{◌≡◌}
 use Rattle.handlebars_base.specs.Bytes.{Text}
-use Rattle.handlebars_lines.specs.Literal.{Literal, spelled_literal, literal_depth, keeps_numbers, IsLiteralAt}
+use Rattle.handlebars_lines.specs.Literal.{Literal, spelled_literal, literal_depth, keeps_numbers, IsLiteral, IsLiteralAt}
 use Rattle.handlebars_lines.specs.LiteralReading.{Slice}
+use Rattle.handlebars_lines.specs.Worth.{json_text, json_of}
 
 -- The slice is that of a literal in front of the text.
 pub record HasLiteral (text : Text) (slice : Slice) : Type 0 where
@@ -19,3 +20,7 @@ NoLiteral text = (slice : Slice) → HasLiteral text slice → ⊥
 -- a text has at most one literal in front
 abbrev pub OneLiteral : Type 0
 OneLiteral = (text : Text) (a b : Slice) → HasLiteral text a → HasLiteral text b → a ≡ b
+
+-- what is read as JSON is the literal's JSON
+abbrev pub JsonOfLiteral : Type 0
+JsonOfLiteral = (l : Literal) → IsLiteral l → json_text (spelled_literal l) ≡ json_of l

@@ -1,8 +1,13 @@
 //! Laws that callers may cite. Each is a function that does nothing: its contract is the law.
 
-ghost use Rattle.handlebars_lines.specs.Laws.{OneLiteral};
+ghost use Rattle.handlebars_lines.specs.Laws.{OneLiteral, JsonOfLiteral};
 
 /// A text has at most one literal in front.
 pub fn one_literal()
     ensures { OneLiteral }
+{}
+
+/// What is read as JSON is the literal's JSON: a text in single quotes is turned, and any other literal stays.
+pub fn json_of_literal()
+    ensures { JsonOfLiteral }
 {}
