@@ -5,3 +5,6 @@ pub mod Tokens
 pub mod LiteralsRead
 pub mod LiteralsFound
 pub mod LiteralLoop
+pub mod Endings
+pub mod LineMarks
+pub mod LineFronts
