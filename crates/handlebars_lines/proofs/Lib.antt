@@ -8,3 +8,4 @@ pub mod LiteralLoop
 pub mod Endings
 pub mod LineMarks
 pub mod LineFronts
+pub mod LineSteps

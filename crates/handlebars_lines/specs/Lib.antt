@@ -6,4 +6,5 @@ pub mod Laws
 pub mod Parameter
 pub mod Line
 pub mod LineReading
+pub mod LineLaws
 pub mod Worth
