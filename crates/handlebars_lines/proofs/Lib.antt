@@ -9,3 +9,5 @@ pub mod Endings
 pub mod LineMarks
 pub mod LineFronts
 pub mod LineSteps
+pub mod LineBounds
+pub mod LinesRead
