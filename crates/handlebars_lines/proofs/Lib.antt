@@ -11,3 +11,4 @@ pub mod LineFronts
 pub mod LineSteps
 pub mod LineBounds
 pub mod LinesRead
+pub mod LinesFound
