@@ -12,3 +12,5 @@ pub mod LineSteps
 pub mod LineBounds
 pub mod LinesRead
 pub mod LinesFound
+pub mod LineEvents
+pub mod Lines
