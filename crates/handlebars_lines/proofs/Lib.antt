@@ -8,3 +8,12 @@ pub mod LiteralsRead
 pub mod LiteralsFound
 pub mod JsonOf
 pub mod LiteralLoop
+pub mod Endings
+pub mod LineMarks
+pub mod LineFronts
+pub mod LineSteps
+pub mod LineBounds
+pub mod LinesRead
+pub mod LinesFound
+pub mod LineEvents
+pub mod Lines

@@ -8,3 +8,4 @@ pub mod Parameter
 pub mod Line
 pub mod LineReading
 pub mod LineView
+pub mod LineLaws
