@@ -1,26 +1,23 @@
 -- Paths, keys and the ends of lines in front of a text, and with which bytes parameters begin.
-use Rattle.std.proofs.Common.{◌≡◌, ◌≢◌, ℕ, suc, ◌+◌, Bool, true, false, ◌||◌, List, [], ◌∷◌, ◌++◌, length, drop, Option, Some, None, refl, sym, ap, subst, ◌∙◌, append-nil, arith, inl, inr}
+use Rattle.std.proofs.Common.{◌≡◌, ◌≢◌, ℕ, suc, ◌+◌, Bool, true, false, List, [], ◌∷◌, ◌++◌, Option, Some, None, refl, sym, ap, subst, ◌∙◌, arith, inl, inr}
 use Rattle.std.specs.Prelude.{◌==◌, is_some}
 use Rattle.std.specs.List.{prefix_len, AllByRecursion}
 use Rattle.std.specs.Option.{option_map}
-use Rattle.std.proofs.lemmas.Bool.{eqb-true, ne_eqb, cases_Bool, both_ways, or_parts, not-false}
+use Rattle.std.proofs.lemmas.Bool.{ne_eqb, cases_Bool, both_ways}
 use Rattle.std.proofs.lemmas.List.{take-append-drop, take_at, drop_at, append_cancel_right}
 use Rattle.std.proofs.lemmas.Option.{same_Some}
 use Rattle.handlebars_base.specs.Bytes.{is_white}
 use Rattle.handlebars_base.specs.Path.{is_symbol, IsIdentifier, Reference, raw_of, IsPath}
-use Rattle.handlebars_base.specs.PathReading.{◌>>=◌, after, symbols_of, behind_symbols, slice_at, path_at, is_reference_byte, starts_reference, stops, reference_from, reference_len}
+use Rattle.handlebars_base.specs.PathReading.{◌>>=◌, after, symbols_of, behind_symbols, slice_at, path_at, stops}
 use Rattle.handlebars_base.proofs.OptionBinds.{bind_some, map_some, guard_bind}
 use Rattle.handlebars_base.proofs.PathMarks.{after_takes, prefix_pass, prefix_again}
 use Rattle.handlebars_base.proofs.PathsInFront.{path_at-some, path_at-stops}
-use Rattle.handlebars_base.proofs.References.{stops-path, reference_len-append}
-use Rattle.handlebars_lines.specs.Literal.{IsWhite, Literal, quoted, single_quoted, number, word, empty, filled, array, object, spelled_literal, IsLiteral, literal_depth, goes_on, starts, IsLiteralAt}
+use Rattle.handlebars_lines.specs.Literal.{IsWhite, Literal, spelled_literal, literal_depth, starts, IsLiteralAt}
 use Rattle.handlebars_lines.specs.LiteralReading.{behind_white, Slice, literal_at}
 use Rattle.handlebars_lines.specs.Laws.{HasLiteral}
-use Rattle.handlebars_lines.specs.Parameter.{Shape, literal_shape, path_shape, nested_shape, Items, no_items, parameter_item, pair_item, spelled_shape, spelled_items, Fits, AreItems}
 use Rattle.handlebars_lines.specs.Line.{Enclosure, in_tag, in_parentheses, end_of, Closes}
 use Rattle.handlebars_lines.specs.LineReading.{behind_end, key_at}
-use Rattle.handlebars_lines.proofs.Fronts.{behind_white-skips, behind_white-dark, behind_white-append, starts-other, starts-append, after-not, after-same}
-use Rattle.handlebars_lines.proofs.Plain.{GoesOn, number_goes_on, word_goes_on}
+use Rattle.handlebars_lines.proofs.Fronts.{behind_white-skips, behind_white-append, after-not, after-same}
 use Rattle.handlebars_lines.proofs.LiteralsFound.{literal_at-is, literal_at-some}
 
 -- ---- paths

@@ -1,5 +1,5 @@
 -- What each step of a line takes from the text, and how far it goes.
-use Rattle.std.proofs.Common.{◌≡◌, ◌≢◌, ℕ, zero, suc, ◌+◌, ◌-◌, ◌<◌, ◌≤◌, Bool, true, false, cond, List, [], ◌∷◌, ◌++◌, length, Option, Some, None, refl, sym, ap, subst, ◌∙◌, append_assoc, arith, inl, inr, length-append}
+use Rattle.std.proofs.Common.{◌≡◌, ◌≢◌, ℕ, zero, suc, ◌+◌, ◌-◌, Bool, true, false, cond, List, [], ◌∷◌, ◌++◌, Option, Some, None, refl, sym, ap, subst, ◌∙◌, arith, inl, inr}
 use Rattle.std.specs.Prelude.{◌==◌, is_some}
 use Rattle.std.proofs.lemmas.Bool.{ne_eqb}
 use Rattle.handlebars_base.specs.Bytes.{is_white}
@@ -8,16 +8,15 @@ use Rattle.handlebars_base.specs.PathReading.{with_or, after, slice_at}
 use Rattle.handlebars_base.proofs.PathMarks.{after_takes}
 use Rattle.handlebars_base.proofs.OptionBinds.{with_or_is, cond_is}
 use Rattle.handlebars_lines.specs.Runs.{Next, goes, ends, stuck}
-use Rattle.handlebars_lines.specs.Literal.{IsWhite, Literal, spelled_literal, IsLiteral, literal_depth, starts, IsLiteralAt}
+use Rattle.handlebars_lines.specs.Literal.{IsWhite, Literal, spelled_literal, literal_depth, starts, IsLiteralAt}
 use Rattle.handlebars_lines.specs.LiteralReading.{behind_white, Slice, literal_at}
 use Rattle.handlebars_lines.specs.Line.{Enclosure, Closes}
-use Rattle.handlebars_lines.specs.LineReading.{Event, opened, literal_event, path_event, closed, Stand, at_name, at_items, at_end, State, state, behind_end, key_at, behind_name, open_step, name_step, is_excluded, path_step, parameter_step, item_step, next_step, outer_step, inner_step, behind_step, line_step, height}
-use Rattle.handlebars_lines.proofs.Fronts.{behind_white-skips, starts-length}
-use Rattle.handlebars_lines.proofs.Stepping.{goes-parts, Shortens}
+use Rattle.handlebars_lines.specs.LineReading.{Event, opened, literal_event, path_event, closed, Stand, at_name, at_items, at_end, State, state, behind_end, key_at, behind_name, open_step, name_step, is_excluded, path_step, parameter_step, item_step, next_step, outer_step, inner_step, behind_step, line_step}
+use Rattle.handlebars_lines.proofs.Fronts.{behind_white-skips}
+use Rattle.handlebars_lines.proofs.Stepping.{goes-parts}
 use Rattle.handlebars_lines.proofs.Endings.{goes-not_stuck, goes-not_ends}
 use Rattle.handlebars_lines.proofs.LiteralsFound.{literal_at-some}
 use Rattle.handlebars_lines.proofs.LineMarks.{slice_at-some, key_at-some, end_closes}
-use Rattle.handlebars_lines.proofs.LineFronts.{path_begins, literal_begins}
 
 -- ---- what a step takes
 

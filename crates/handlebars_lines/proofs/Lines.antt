@@ -1,13 +1,13 @@
 -- A line stands in front just where the steps come to an end, and there is one at most; and what loops over the steps
 -- keep.
-use Rattle.std.proofs.Common.{◌≡◌, ℕ, ◌+◌, ◌<◌, ◌≤◌, List, [], ◌∷◌, ◌++◌, length, Option, Some, None, refl, sym, ap, subst, ◌∙◌, arith, max}
+use Rattle.std.proofs.Common.{◌≡◌, ℕ, ◌+◌, ◌≤◌, List, [], ◌++◌, length, Option, Some, None, refl, sym, ap, subst, ◌∙◌, arith, max}
 use Rattle.std.proofs.lemmas.Option.{same_Some, none-some}
 use Rattle.std.specs.Option.{option_map}
 use Rattle.handlebars_base.specs.PathReading.{◌>>=◌}
 use Rattle.handlebars_lines.specs.Runs.{goes, ends, stuck}
 use Rattle.handlebars_lines.specs.Parameter.{Term, Terms, Shape, Items, term_of, terms_of, depth_of, items_depth}
 use Rattle.handlebars_lines.specs.Line.{Enclosure, Line, IsLine, NoLine}
-use Rattle.handlebars_lines.specs.LineReading.{Event, at_name, State, state, line_step, height, most_open, Frames, first_frames, build, build_all, line_in, line_from}
+use Rattle.handlebars_lines.specs.LineReading.{Event, at_name, State, state, line_step, height, most_open, Frames, first_frames, build, build_all, line_from}
 use Rattle.handlebars_lines.specs.LineLaws.{HasLine, OneLine}
 use Rattle.handlebars_lines.proofs.Stepping.{Runs, last, none, Still, still-starts, still-goes}
 use Rattle.handlebars_lines.proofs.Endings.{one_end, not_both, runs-goes, runs-ends, runs-stuck, Through, through-starts, through-goes}

@@ -7,7 +7,6 @@ use Rattle.handlebars_base.specs.Path.{is_symbol, IsIdentifier, Reference, IsPat
 use Rattle.handlebars_base.specs.PathReading.{after}
 use Rattle.handlebars_lines.specs.Runs.{goes, ends}
 use Rattle.handlebars_lines.specs.Literal.{IsWhite, Literal, spelled_literal, IsLiteral, literal_depth, goes_on, starts}
-use Rattle.handlebars_lines.specs.LiteralReading.{behind_white}
 use Rattle.handlebars_lines.specs.Parameter.{Shape, literal_shape, path_shape, nested_shape, Items, no_items, parameter_item, pair_item, spelled_shape, spelled_items, is_name, IsChosen, Fits, AreItems}
 use Rattle.handlebars_lines.specs.Line.{Enclosure, in_parentheses, Closes}
 use Rattle.handlebars_lines.specs.LineReading.{Event, opened, literal_event, path_event, closed, Stand, at_name, at_items, at_end, State, state, behind_name, name_step, is_excluded, parameter_step, item_step, behind_step, line_step}

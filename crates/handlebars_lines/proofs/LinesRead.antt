@@ -4,11 +4,11 @@ use Rattle.std.specs.List.{list_all}
 use Rattle.std.proofs.lemmas.Option.{none-some}
 use Rattle.handlebars_base.specs.Path.{is_symbol, IsIdentifier, Reference, IsPath}
 use Rattle.handlebars_lines.specs.Runs.{ends}
-use Rattle.handlebars_lines.specs.Literal.{IsWhite, Literal, spelled_literal, literal_depth, goes_on, starts, IsLiteralAt}
+use Rattle.handlebars_lines.specs.Literal.{IsWhite, Literal, spelled_literal, literal_depth, goes_on, starts}
 use Rattle.handlebars_lines.specs.LiteralReading.{literal_at}
 use Rattle.handlebars_lines.specs.Parameter.{Shape, literal_shape, path_shape, nested_shape, Items, no_items, parameter_item, pair_item, spelled_shape, spelled_items, is_name, IsFree, IsChosen, Fits, AreItems}
 use Rattle.handlebars_lines.specs.Line.{Enclosure, Closes}
-use Rattle.handlebars_lines.specs.LineReading.{Event, opened, literal_event, path_event, closed, Stand, at_name, at_items, at_end, State, state, behind_name, is_excluded, line_step}
+use Rattle.handlebars_lines.specs.LineReading.{Event, opened, literal_event, path_event, closed, Stand, at_name, at_items, at_end, State, behind_name, is_excluded, line_step}
 use Rattle.handlebars_lines.proofs.Stepping.{Runs, last, onward}
 use Rattle.handlebars_lines.proofs.LineMarks.{literal_at-finds}
 use Rattle.handlebars_lines.proofs.LineSteps.{ParameterStepped, to_nested, to_literal, to_path, LineStepped, to_inner, to_name, to_parameter, to_pair, to_closed, line_stepped, line_ends}
