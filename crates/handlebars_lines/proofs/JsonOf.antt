@@ -1,14 +1,17 @@
--- What is read as JSON is the literal's JSON.
-use Rattle.std.proofs.Common.{◌≡◌, ℕ, suc, ◌-◌, true, List, [], ◌∷◌, ◌++◌, length, get_or, Some, None, refl, ◌∙◌, arith, length-append}
+-- What is read as JSON is the literal's JSON, and that is what the literal is worth.
+use Rattle.std.proofs.Common.{◌≡◌, ℕ, suc, ◌-◌, true, cond, List, [], ◌∷◌, ◌++◌, length, get_or, Some, None, refl, sym, ap, ◌∙◌, append-nil, arith, length-append}
 use Rattle.std.specs.Prelude.{◌==◌, nat_lt}
 use Rattle.std.proofs.lemmas.Bool.{lt-ltb, eq-eqb}
 use Rattle.std.proofs.lemmas.List.{take_at}
 use Rattle.handlebars_base.specs.PathReading.{after}
-use Rattle.handlebars_lines.specs.Literal.{array, object, Literal, quoted, single_quoted, number, word, empty, filled, spelled_literal, IsLiteral}
-use Rattle.handlebars_lines.specs.Worth.{before, json_text, json_of}
+use Rattle.handlebars_lines.specs.Literal.{array, object, Literal, quoted, single_quoted, number, word, empty, filled, spelled_literal, literal_depth, keeps_numbers, IsLiteral}
+use Rattle.handlebars_lines.specs.Worth.{before, json_text, json_of, worth, worth_of}
+use Rattle.serde_json.specs.Read.{read as read_text}
+use Rattle.handlebars_lines.specs.Laws.{HasLiteral, WorthOfLiteral}
+use Rattle.handlebars_lines.specs.LiteralReading.{Slice, literal_at}
 use Rattle.handlebars_lines.proofs.Fronts.{after-not, after-same}
 use Rattle.handlebars_lines.proofs.Plain.{number_goes_on, word_goes_on}
-use Rattle.handlebars_lines.proofs.LiteralsFound.{plain_begins, no_mark}
+use Rattle.handlebars_lines.proofs.LiteralsFound.{plain_begins, no_mark, literal_at-is}
 
 get_or-last : (t : List ℕ) (c : ℕ) → get_or (t ++ c ∷ []) (length t) 0 ≡ c
 get_or-last [] c = refl
@@ -27,12 +30,30 @@ before-last c t =
 as_written : (t : List ℕ) → after 39 t ≡ None → json_text t ≡ t
 as_written t h = rw h refl
 
-pub json_of_literal : (l : Literal) → IsLiteral l → json_text (spelled_literal l) ≡ json_of l
-json_of_literal (quoted t) fits = as_written (spelled_literal (quoted t)) (after-not 39 (spelled_literal (quoted t)) refl)
-json_of_literal (single_quoted t) fits = rw (after-same 39 (t ++ 39 ∷ []), before-last 39 t) refl
-json_of_literal (number t) fits = as_written t (no_mark 39 t refl (plain_begins t (number_goes_on t fits)))
-json_of_literal (word t) fits = as_written t (no_mark 39 t refl (plain_begins t (word_goes_on t fits)))
-json_of_literal (empty array w) fits = as_written (spelled_literal (empty array w)) (after-not 39 (spelled_literal (empty array w)) refl)
-json_of_literal (empty object w) fits = as_written (spelled_literal (empty object w)) (after-not 39 (spelled_literal (empty object w)) refl)
-json_of_literal (filled array lead l w more) fits = as_written (spelled_literal (filled array lead l w more)) (after-not 39 (spelled_literal (filled array lead l w more)) refl)
-json_of_literal (filled object lead l w more) fits = as_written (spelled_literal (filled object lead l w more)) (after-not 39 (spelled_literal (filled object lead l w more)) refl)
+json_text-literal : (l : Literal) → IsLiteral l → json_text (spelled_literal l) ≡ json_of l
+json_text-literal (quoted t) fits = as_written (spelled_literal (quoted t)) (after-not 39 (spelled_literal (quoted t)) refl)
+json_text-literal (single_quoted t) fits = rw (after-same 39 (t ++ 39 ∷ []), before-last 39 t) refl
+json_text-literal (number t) fits = as_written t (no_mark 39 t refl (plain_begins t (number_goes_on t fits)))
+json_text-literal (word t) fits = as_written t (no_mark 39 t refl (plain_begins t (word_goes_on t fits)))
+json_text-literal (empty array w) fits = as_written (spelled_literal (empty array w)) (after-not 39 (spelled_literal (empty array w)) refl)
+json_text-literal (empty object w) fits = as_written (spelled_literal (empty object w)) (after-not 39 (spelled_literal (empty object w)) refl)
+json_text-literal (filled array lead l w more) fits = as_written (spelled_literal (filled array lead l w more)) (after-not 39 (spelled_literal (filled array lead l w more)) refl)
+json_text-literal (filled object lead l w more) fits = as_written (spelled_literal (filled object lead l w more)) (after-not 39 (spelled_literal (filled object lead l w more)) refl)
+
+abbrev slice_alone : Literal → Slice
+slice_alone l = record { raw = spelled_literal l; rest = []; depth = literal_depth l; kept = keeps_numbers l }
+
+has_literal-alone : (l : Literal) → IsLiteral l → HasLiteral (spelled_literal l) (slice_alone l)
+has_literal-alone l fits = record {
+  literal = l;
+  is = record { whole = sym (append-nil (spelled_literal l)); fits = fits; stops = refl };
+  raw = refl;
+  depth = refl;
+  kept = refl;
+}
+
+pub worth_of_literal : WorthOfLiteral
+unfolding worth_of
+worth_of_literal l fits =
+    rw (literal_at-is (spelled_literal l) (slice_alone l) (has_literal-alone l fits))
+    (ap (λ z. cond (keeps_numbers l) (read_text z) None) (json_text-literal l fits))

@@ -1,6 +1,6 @@
 //! Laws that callers may cite. Each is a function that does nothing: its contract is the law.
 
-ghost use Rattle.handlebars_lines.specs.Laws.{OneLiteral, JsonOfLiteral};
+ghost use Rattle.handlebars_lines.specs.Laws.{OneLiteral, WorthOfLiteral};
 ghost use Rattle.handlebars_lines.specs.LineLaws.{OneLine, OneParameter};
 
 /// A text has at most one literal in front.
@@ -8,9 +8,9 @@ pub fn one_literal()
     ensures { OneLiteral }
 {}
 
-/// What is read as JSON is the literal's JSON: a text in single quotes is turned, and any other literal stays.
-pub fn json_of_literal()
-    ensures { JsonOfLiteral }
+/// What a literal is worth, by its shape: its JSON is itself, but for a text in single quotes, whose quotes are turned.
+pub fn worth_of_literal()
+    ensures { WorthOfLiteral }
 {}
 
 /// A text has at most one line in front.
