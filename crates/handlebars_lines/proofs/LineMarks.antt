@@ -92,8 +92,8 @@ pub record TakesKey (t key rest : List ℕ) : Type 0 where
   pub behind : List ℕ
   pub whole : t ≡ key ++ (before ++ 61 ∷ (behind ++ rest))
   pub is : IsIdentifier key
-  pub white : IsWhite before
-  pub white' : IsWhite behind
+  pub white_before : IsWhite before
+  pub white_behind : IsWhite behind
 
 symbols_some : (t : List ℕ) → (prefix_len is_symbol t == 0) ≡ false → symbols_of t ≢ []
 symbols_some [] h = absurd cc
@@ -121,8 +121,8 @@ key_at-some t k e =
       behind = behind.white;
       whole = sym (take-append-drop (prefix_len is_symbol t) t) ∙ ap (λ (z : List ℕ). symbols_of t ++ z) (before.whole ∙ ap (λ (z : List ℕ). before.white ++ z) (sign ∙ ap (λ (z : List ℕ). 61 ∷ z) behind.whole));
       is = (symbols_some t g.0, prefix_pass is_symbol t);
-      white = before.is;
-      white' = behind.is;
+      white_before = before.is;
+      white_behind = behind.is;
     })
 
 pub key_at-none : (t : List ℕ) → starts (λ b. b == 61) (behind_white (behind_symbols t)) ≡ false → key_at t ≡ None

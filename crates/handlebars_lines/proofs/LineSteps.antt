@@ -112,7 +112,7 @@ item_stepped n t x s' t' white e =
     elim (with_or_is (key_at (behind_white t)) (λ k. parameter_step (Some k.0) n k.1) (parameter_step None n (behind_white t)) (goes x s' t') e) [
       | inl pair ↦
           let key = key_at-some (behind_white t) pair.0 pair.1 in
-          to_pair n front.white pair.0.0 key.before key.behind pair.0.1 refl front.is some key.is key.white key.white'
+          to_pair n front.white pair.0.0 key.before key.behind pair.0.1 refl front.is some key.is key.white_before key.white_behind
           (front.whole ∙ ap (λ (z : List ℕ). front.white ++ z) key.whole)
           (parameter_stepped (Some pair.0.0) n pair.0.1 x s' t' pair.2)
       | inr alone ↦ to_parameter n front.white (behind_white t) refl front.is some front.whole (parameter_stepped None n (behind_white t) x s' t' alone.1)
