@@ -12,7 +12,7 @@ use Rattle.handlebars_base.specs.PathReading.{◌>>=◌, after, symbols_of, behi
 use Rattle.handlebars_base.proofs.OptionBinds.{bind_some, map_some, guard_bind}
 use Rattle.handlebars_base.proofs.PathMarks.{after_takes, prefix_pass, prefix_again}
 use Rattle.handlebars_base.proofs.PathsInFront.{path_at-some, path_at-stops}
-use Rattle.handlebars_lines.specs.Literal.{IsWhite, Literal, spelled_literal, literal_depth, starts, IsLiteralAt}
+use Rattle.handlebars_lines.specs.Literal.{IsWhite, Literal, spelled_literal, literal_depth, keeps_numbers, starts, IsLiteralAt}
 use Rattle.handlebars_lines.specs.LiteralReading.{behind_white, Slice, literal_at}
 use Rattle.handlebars_lines.specs.Laws.{HasLiteral}
 use Rattle.handlebars_lines.specs.Line.{Enclosure, in_tag, in_parentheses, end_of, Closes}
@@ -51,8 +51,8 @@ pub record FindsLiteral (t : List ℕ) (l : Literal) (behind : List ℕ) : Type 
 
 pub literal_at-finds : (t : List ℕ) (l : Literal) (rest : List ℕ) → IsLiteralAt t l rest → FindsLiteral t l rest
 literal_at-finds t l rest h =
-    let f : Slice = record { raw = spelled_literal l; rest = rest; depth = literal_depth l } in
-    let is : HasLiteral t f = record { literal = l; is = h; raw = refl; depth = refl } in
+    let f : Slice = record { raw = spelled_literal l; rest = rest; depth = literal_depth l; kept = keeps_numbers l } in
+    let is : HasLiteral t f = record { literal = l; is = h; raw = refl; depth = refl; kept = refl } in
     record { slice = f; found = literal_at-is t f is; raw = refl; rest = refl; depth = refl }
 
 pub literal_at-missing : (t : List ℕ) → ((l : Literal) (behind : List ℕ) → IsLiteralAt t l behind → ⊥) → literal_at t ≡ None
