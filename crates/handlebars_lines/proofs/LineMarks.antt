@@ -64,6 +64,7 @@ literal_at-missing t none = on (literal_at t) refl
 
 -- ---- keys
 
+-- a byte of a kind is none that is not of it
 pub other_byte : (p : ℕ → Bool) (c : ℕ) → p c ≡ false → (b : ℕ) → p b ≡ true → (b == c) ≡ false
 other_byte p c never b is = ne_eqb b c (λ e. let same : p b ≡ p c = ap p e in absurd cc)
 
