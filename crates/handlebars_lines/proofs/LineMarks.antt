@@ -64,23 +64,24 @@ literal_at-missing t none = on (literal_at t) refl
 
 -- ---- keys
 
+-- a byte of a kind is none that is not of it
 pub other_byte : (p : ℕ → Bool) (c : ℕ) → p c ≡ false → (b : ℕ) → p b ≡ true → (b == c) ≡ false
 other_byte p c never b is = ne_eqb b c (λ e. let same : p b ≡ p c = ap p e in absurd cc)
 
-pub symbol_dark : (b : ℕ) → is_symbol b ≡ true → is_white b ≡ false
+symbol_dark : (b : ℕ) → is_symbol b ≡ true → is_white b ≡ false
 symbol_dark b h =
     rw (other_byte is_symbol 32 refl b h, other_byte is_symbol 9 refl b h, other_byte is_symbol 10 refl b h, other_byte is_symbol 13 refl b h) refl
 
-pub white_symbol : (b : ℕ) → is_white b ≡ true → is_symbol b ≡ false
+white_symbol : (b : ℕ) → is_white b ≡ true → is_symbol b ≡ false
 white_symbol b h = elim (cases_Bool (is_symbol b)) [
   | inl is ↦ absurd (both_ways (is_white b) (symbol_dark b is) h)
   | inr other ↦ other
 ]
 
-pub symbols_of-append : (n rest : List ℕ) → AllByRecursion (λ b. is_symbol b ≡ true) n → prefix_len is_symbol rest ≡ 0 → symbols_of (n ++ rest) ≡ n
+symbols_of-append : (n rest : List ℕ) → AllByRecursion (λ b. is_symbol b ≡ true) n → prefix_len is_symbol rest ≡ 0 → symbols_of (n ++ rest) ≡ n
 symbols_of-append n rest all stop = take_at n rest _ (sym (prefix_again is_symbol n rest all stop))
 
-pub behind_symbols-append : (n rest : List ℕ) → AllByRecursion (λ b. is_symbol b ≡ true) n → prefix_len is_symbol rest ≡ 0 → behind_symbols (n ++ rest) ≡ rest
+behind_symbols-append : (n rest : List ℕ) → AllByRecursion (λ b. is_symbol b ≡ true) n → prefix_len is_symbol rest ≡ 0 → behind_symbols (n ++ rest) ≡ rest
 behind_symbols-append n rest all stop = drop_at n rest _ (sym (prefix_again is_symbol n rest all stop))
 
 pub no_symbols : (t : List ℕ) → starts is_symbol t ≡ false → prefix_len is_symbol t ≡ 0

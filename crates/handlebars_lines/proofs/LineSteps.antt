@@ -1,7 +1,7 @@
 -- What each step of a line takes from the text, and how far it goes.
 use Rattle.std.proofs.Common.{◌≡◌, ◌≢◌, ℕ, zero, suc, ◌+◌, ◌-◌, Bool, true, false, cond, List, [], ◌∷◌, ◌++◌, Option, Some, None, refl, sym, ap, subst, ◌∙◌, arith, inl, inr}
-use Rattle.std.specs.Prelude.{◌==◌, is_some}
-use Rattle.std.proofs.lemmas.Bool.{ne_eqb}
+use Rattle.std.specs.Prelude.{is_some}
+use Rattle.std.proofs.Math.Dec.{eqb-suc-zero}
 use Rattle.handlebars_base.specs.Bytes.{is_white}
 use Rattle.handlebars_base.specs.Path.{IsIdentifier, Reference, IsPath}
 use Rattle.handlebars_base.specs.PathReading.{with_or, after, slice_at}
@@ -129,9 +129,6 @@ next_stepped at_items n t x s' t' e = on (starts is_white t) refl e
 
 -- ---- behind a name or an item
 
-pub some_open : (n : ℕ) → (suc n == 0) ≡ false
-some_open n = ne_eqb (suc n) 0 (λ e. absurd (omega (arith, e)))
-
 outer_stepped : (around : Enclosure) (st : Stand) (t : List ℕ) (x : Event) (s' : State) (t' : List ℕ) → outer_step around st t ≡ goes x s' t' → LineStepped (state st 0) t x s' t'
 outer_stepped around st t x s' t' e = elim (cond_is (is_some (behind_end around (behind_white t))) ends (next_step st 0 t) (goes x s' t') e) [
   | inl over ↦ goes-not_ends (goes x s' t') x s' t' refl (sym over.1)
@@ -152,7 +149,7 @@ inner_stepped st n t x s' t' other e = elim (with_or_is (after 41 (behind_white 
 behind_stepped : (around : Enclosure) (st : Stand) (n : ℕ) (t : List ℕ) (x : Event) (s' : State) (t' : List ℕ) → (st ≡ at_name → ⊥) → behind_step around st n t ≡ goes x s' t' → LineStepped (state st n) t x s' t'
 unfolding behind_step
 behind_stepped around st zero t x s' t' other e = outer_stepped around st t x s' t' e
-behind_stepped around st (suc n) t x s' t' other e = inner_stepped st n t x s' t' other (rw (some_open n) at e)
+behind_stepped around st (suc n) t x s' t' other e = inner_stepped st n t x s' t' other (rw (eqb-suc-zero n) at e)
 
 pub line_stepped : (around : Enclosure) (s : State) (t : List ℕ) (x : Event) (s' : State) (t' : List ℕ) → line_step around s t ≡ goes x s' t' → LineStepped s t x s' t'
 unfolding line_step
@@ -230,7 +227,7 @@ outer_ends around st t e = elim (cond_is (is_some (behind_end around (behind_whi
 behind_ends : (around : Enclosure) (st : Stand) (n : ℕ) (t : List ℕ) → behind_step around st n t ≡ ends → Closes around t × (n ≡ 0)
 unfolding behind_step
 behind_ends around st zero t e = (outer_ends around st t e, refl)
-behind_ends around st (suc n) t e = never_ends (inner_step st (suc n) t) (rw (some_open n) at e) (inner_ends st (suc n) t)
+behind_ends around st (suc n) t e = never_ends (inner_step st (suc n) t) (rw (eqb-suc-zero n) at e) (inner_ends st (suc n) t)
 
 -- At the end no parenthesis is open, no name is awaited, and what is left closes.
 pub record LineEnds (around : Enclosure) (s : State) (t : List ℕ) : Type 0 where

@@ -1,6 +1,7 @@
 -- Lines: from what the steps take to what stands in front.
-use Rattle.std.proofs.Common.{◌≡◌, ◌≢◌, ℕ, zero, suc, ◌+◌, Bool, true, false, cond, ◌||◌, List, [], ◌∷◌, ◌++◌, Option, Some, None, refl, sym, ap, subst, ◌∙◌, append_assoc}
+use Rattle.std.proofs.Common.{◌≡◌, ◌≢◌, ℕ, zero, suc, ◌+◌, Bool, true, false, cond, List, [], ◌∷◌, ◌++◌, Option, Some, None, refl, sym, ap, subst, ◌∙◌, append_assoc}
 use Rattle.std.specs.List.{list_all}
+use Rattle.std.proofs.Math.Bool.{or-true}
 use Rattle.std.proofs.lemmas.Option.{none-some}
 use Rattle.handlebars_base.specs.Path.{is_symbol, IsIdentifier, Reference, IsPath}
 use Rattle.handlebars_lines.specs.Runs.{ends}
@@ -196,10 +197,6 @@ parameter_then around key n t x s' t' xs e (to_path raw means is ev whole h none
 
 -- ---- one step back: a name
 
-or_true : (b : Bool) → (b || true) ≡ true
-or_true true = refl
-or_true false = refl
-
 name_then : (around : Enclosure) (n : ℕ) (raw t t' : List ℕ) (means : Reference) (xs : List Event) (e : List ℕ) → t ≡ raw ++ t' → IsPath raw means → Reads around (behind_name raw) n t' xs e → LineThen around n t (path_event None raw n ∷ xs) e
 name_then around n raw t t' means xs e whole h after = on (list_all is_symbol raw) refl after
   where
@@ -221,7 +218,7 @@ name_then around n raw t t' means xs e whole h after = on (list_all is_symbol ra
       items = no_items;
       rest = t';
       others = xs;
-      is_name = or_true (list_all is_symbol raw);
+      is_name = or-true (list_all is_symbol raw);
       fits = h;
       are_items = tt;
       whole = whole;

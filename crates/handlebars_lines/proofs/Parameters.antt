@@ -43,6 +43,11 @@ nested-is text r line left opens h closes =
       deep = ap (λ (z : Line). suc z.depth) h.gives;
     }
 
+-- by how deep the line is
+pub nested-has : (text r : List ℕ) (depth : ℕ) (left : List ℕ) → after 40 text ≡ Some r → (h : HasLine in_parentheses (behind_white r) depth left) → after 41 (behind_white left) ≡ Some [] → IsParameter text (call_term h.line.name h.line.terms) (suc depth)
+nested-has text r depth left opens h closes =
+    subst (λ (z : ℕ). IsParameter text (call_term h.line.name h.line.terms) (suc z)) h.deep (nested-is text r h.line left opens h.is closes)
+
 pub nested-read : (text r : List ℕ) (means : Term) (depth : ℕ) → after 40 text ≡ Some r → IsParameter text means depth → NestedParameter r means depth
 nested-read text r means depth opens h = on h.shape h.spells h.fits h.gives h.deep
   where
