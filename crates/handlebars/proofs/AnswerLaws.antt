@@ -102,7 +102,7 @@ module _ (p : Setting) (begins : Beginning → Type 0) (one : IsOne begins) wher
   pub answer_has_origins : AnswerHasOrigins p begins
   answer_has_origins t _ _ c (not_begun {r = r} a) = absurd (a_tree≢no_tree (one (a_tree t) (no_tree r) c a))
   answer_has_origins t ps o c (rendered {t = u} a x) =
-      all_have_origins p t first_state ps o (Means-tree (a_tree-injective (one (a_tree t) (a_tree u) c a)) x)
+      all_have_origins p t first_state ps o refl (Means-tree (a_tree-injective (one (a_tree t) (a_tree u) c a)) x)
 
 -- ---- what calls answer
 

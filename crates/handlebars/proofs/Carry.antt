@@ -1,5 +1,5 @@
 -- How the answers of calls compose, for the proofs of the rendering functions.
-use Rattle.std.proofs.Common.{◌≡◌, ◌≢◌, ℕ, List, [], ◌∷◌, ◌++◌, Result, Ok, Err, refl, sym, ap, ◌∙◌, subst, append_assoc, append-nil, ◌⊎◌, inl, inr, arith}
+use Rattle.std.proofs.Common.{◌≡◌, ◌≢◌, ℕ, Bool, true, false, not, List, [], ◌∷◌, ◌++◌, Result, Ok, Err, refl, sym, ap, ◌∙◌, subst, append_assoc, append-nil, ◌⊎◌, inl, inr, arith}
 use Rattle.std.specs.declared.io.Error.{Error}
 use Rattle.std.specs.Result.{IsErrAnd}
 use Rattle.handlebars_base.specs.Answers.{IsRefusal}
@@ -10,10 +10,10 @@ use Rattle.handlebars_base.specs.declared.error.render_error.RenderError.{Render
 use Rattle.handlebars_scope.specs.Outputs.{Held}
 use Rattle.handlebars_scope.specs.Put.{Origin, Piece, join, pieces_of}
 use Rattle.handlebars.specs.State.{Setting, State}
-use Rattle.handlebars.specs.Steps.{Task, Steps, Done, Refuse, Get, Set, Do, run, ◌>>=◌, ◌>>◌}
-use Rattle.handlebars.specs.Means.{write_text, todo}
+use Rattle.handlebars.specs.Steps.{Task, Steps, Done, Refuse, Get, Set, Do, Prog, run, state, ◌>>=◌, ◌>>◌}
+use Rattle.handlebars.specs.Means.{write_text, unescaped, todo}
 use Rattle.handlebars.specs.Runs.{Fault, plain_fault, Outcome, Ended, Refused, Faulted, NoMemory, mark, cut_off, Runs, done, refused, wrote, got, set, did, did_over, stop, cut}
-use Rattle.handlebars.specs.View.{Moment, TellsFault, Tells, ended, refusal, fault, no_memory, CarriesOut, Puts, all_put, front_put, behind}
+use Rattle.handlebars.specs.View.{Moment, TellsFault, Answered, Tells, ended, refusal, fault, no_memory, CarriesOut, CarriesOn, goes_on, is_over, Puts, all_put, front_put}
 use Rattle.handlebars.proofs.RunLaws.{join-append, Runs-short}
 
 -- want of memory, or another reason
@@ -66,9 +66,17 @@ marked-fault t e d cause f m tells = record {
   where_it_is = λ other. m.spot other ∙ ap (mark t) (tells.where_it_is (λ memory. other (m.memory memory)));
 }
 
-join-pieces_of : (o : Origin) (t : Text) → join (pieces_of o t ++ []) ≡ t
+join-pieces_of : (o : Origin) (t : Text) → join (pieces_of o t) ≡ t
 join-pieces_of o [] = refl
 join-pieces_of o (b ∷ t) = append-nil (b ∷ t)
+
+not-not : (b : Bool) → not (not b) ≡ b
+not-not true = refl
+not-not false = refl
+
+-- what was turned off is as before
+pub restored : (s : State) (b off : Bool) → off ≡ not b → record s { escapes = not off } ≡ record s { escapes = b }
+restored s b off is = ap (λ (z : Bool). record s { escapes = z }) (ap not is ∙ not-not b)
 
 module _ (p : Setting) (may : Error → Type 0) where
   pub carries-done : {s : State} {h : Held} {u : Unit {0}} → CarriesOut p Done may (at s h) (Ok u) (at s h)
@@ -103,12 +111,12 @@ module _ (p : Setting) (may : Error → Type 0) where
   carries-refuses (Ok u) is = absurd is
   carries-refuses (Err e) is = carries-refuse e is
 
-  pub carries-get : {f : State → Steps} {s next : State} {h new : Held} {r : Result (Unit {0}) RenderError}
-      → CarriesOut p (f s) may (at s h) r (at next new) → CarriesOut p (Get f) may (at s h) r (at next new)
+  pub carries-get : {f : State → Steps} {s : State} {h : Held} {last : Moment} {r : Answered}
+      → CarriesOut p (f s) may (at s h) r last → CarriesOut p (Get f) may (at s h) r last
   carries-get c = record { pieces = c.pieces; outcome = c.outcome; runs = got c.runs; text = c.text; tells = c.tells }
 
-  pub carries-set : {k : Steps} {s mid next : State} {h new : Held} {r : Result (Unit {0}) RenderError}
-      → CarriesOut p k may (at mid h) r (at next new) → CarriesOut p (Set mid k) may (at s h) r (at next new)
+  pub carries-set : {k : Steps} {s mid : State} {h : Held} {last : Moment} {r : Answered}
+      → CarriesOut p k may (at mid h) r last → CarriesOut p (Set mid k) may (at s h) r last
   carries-set c = record { pieces = c.pieces; outcome = c.outcome; runs = set c.runs; text = c.text; tells = c.tells }
 
   -- an error that says so, as `?` hands it on
@@ -119,24 +127,70 @@ module _ (p : Setting) (may : Error → Type 0) where
 
   -- ---- writing
 
-  pub carries-puts : (o : Origin) (t : Text) {s next : State} {h new : Held} {r : Result (Unit {0}) RenderError}
-      → Puts t may (at s h) r (at next new) → CarriesOut p (run (write_text o t)) may (at s h) r (at next new)
+  -- what was carried out alone
+  pub carries-run : {m : Prog (Unit {0})} {before after : Moment} {r : Answered} → CarriesOn p m may before r after
+      → CarriesOut p (run m) may before r after
+  carries-run (goes_on {u = u} {after = after} c) = c (λ v. Done) (Ok u) after carries-done
+  carries-run (is_over c) = c (λ v. Done)
+
+  pub carries_on-get : (f : State → Prog (Unit {0})) {s : State} {h : Held} {after : Moment} {r : Answered}
+      → CarriesOn p (f s) may (at s h) r after → CarriesOn p (state >>= f) may (at s h) r after
+  unfolding ◌>>=◌
+  carries_on-get f (goes_on c) = goes_on (λ next r last d. carries-get (c next r last d))
+  carries_on-get f (is_over c) = is_over (λ next. carries-get (c next))
+
+  pub carries_on-puts : (o : Origin) (t : Text) {s next : State} {h new : Held} {r : Answered}
+      → Puts t may (at s h) r (at next new) → CarriesOn p (write_text o t) may (at s h) r (at next new)
   unfolding ◌>>=◌ ◌>>◌
-  carries-puts o t {s = s} {next = next} {h = h} (all_put is whole) = record {
-    pieces = pieces_of o t ++ [];
-    outcome = Ended next;
-    runs = got (wrote (set (subst (λ (z : State). Runs p Done (behind t s) [] (Ended z)) (sym is) done)));
-    text = whole.text ∙ ap (λ (z : Text). h.text ++ z) (sym (join-pieces_of o t));
-    tells = ended whole.faults;
-  }
-  carries-puts o [] (front_put cause given cut_short tells) = absurd (omega (arith, cut_short.some))
-  carries-puts o (b ∷ t) {h = h} (front_put cause given cut_short tells) = record {
+  carries_on-puts o t {s = s} {h = h} {new = new} (all_put is whole) = goes_on (λ k r last c. record {
+    pieces = pieces_of o t ++ c.pieces;
+    outcome = c.outcome;
+    runs = got (wrote (set (subst (λ (z : State). Runs p (k tt) z c.pieces c.outcome) is c.runs)));
+    text = text-append h.text new.text last.held.text (pieces_of o t) c.pieces
+        (whole.text ∙ ap (λ (z : Text). h.text ++ z) (sym (join-pieces_of o t))) c.text;
+    tells = Tells-before whole.faults c.tells;
+  })
+  carries_on-puts o [] (front_put cause given cut_short tells) = absurd (omega (arith, cut_short.some))
+  carries_on-puts o (b ∷ t) {h = h} (front_put cause given cut_short tells) = is_over (λ k. record {
     pieces = record { origin = o; text = cut_short.front } ∷ [];
     outcome = Faulted plain_fault;
     runs = got (cut refl (cut_off cut_short.is_front));
     text = cut_short.text ∙ ap (λ (z : Text). h.text ++ z) (sym (append-nil cut_short.front));
     tells = fault cause plain_fault given cut_short.faults tells;
-  }
+  })
+
+  pub carries-puts : (o : Origin) (t : Text) {s next : State} {h new : Held} {r : Answered}
+      → Puts t may (at s h) r (at next new) → CarriesOut p (run (write_text o t)) may (at s h) r (at next new)
+  carries-puts o t puts = carries-run (carries_on-puts o t puts)
+
+  -- ---- escaping off, and then as before
+
+  -- behind an error the state may be any
+  Tells-elsewhere : {before after : ℕ} {o : Outcome} {e : RenderError} {s next : State}
+      → Tells may before after o (Err e) s → Tells may before after o (Err e) next
+  Tells-elsewhere (refusal same) = refusal same
+  Tells-elsewhere (fault cause f given counted tells) = fault cause f given counted tells
+  Tells-elsewhere (no_memory same is) = no_memory same is
+
+  pub carries-elsewhere : {k : Steps} {before : Moment} {e : RenderError} {next other : State} {new : Held}
+      → CarriesOut p k may before (Err e) (at next new) → CarriesOut p k may before (Err e) (at other new)
+  carries-elsewhere c =
+      record { pieces = c.pieces; outcome = c.outcome; runs = c.runs; text = c.text; tells = Tells-elsewhere c.tells }
+
+  pub carries-unescaped : {m : Prog (Unit {0})} {s off next last : State} {h new : Held} {r : Answered}
+      → off ≡ record s { escapes = false } → last ≡ record next { escapes = s.escapes }
+      → CarriesOn p m may (at off h) r (at next new) → CarriesOut p (run (unescaped m)) may (at s h) r (at last new)
+  unfolding ◌>>=◌ ◌>>◌
+  carries-unescaped {m = m} {s = s} {last = last} {h = h} {new = new} starts ends (goes_on {u = u} c) =
+      let restore : Unit {0} → Steps = λ v. Get (λ z. Set (record z { escapes = s.escapes }) Done) in
+      let over : CarriesOut p Done may (at last new) (Ok u) (at last new) = carries-done in
+      let restored = carries-get (carries-set (subst (λ (z : State). CarriesOut p Done may (at z new) (Ok u) (at last new)) ends over)) in
+      carries-get (carries-set (subst (λ (z : State). CarriesOut p (m restore) may (at z h) (Ok u) (at last new)) starts
+      (c restore (Ok u) (at last new) restored)))
+  carries-unescaped {m = m} {s = s} {last = last} {h = h} {new = new} starts ends (is_over {e = e} c) =
+      let restore : Unit {0} → Steps = λ v. Get (λ z. Set (record z { escapes = s.escapes }) Done) in
+      carries-get (carries-set (subst (λ (z : State). CarriesOut p (m restore) may (at z h) (Err e) (at last new)) starts
+      (carries-elsewhere (c restore))))
 
   -- ---- a part, and what comes next
 

@@ -9,3 +9,4 @@ pub mod AnswerLaws
 pub mod Stored
 pub mod Texts
 pub mod WorkedRows
+mod Values

@@ -6,8 +6,8 @@ use Rattle.handlebars_scope.specs.Escape.{escaped}
 use Rattle.handlebars.specs.State.{first_state}
 use Rattle.handlebars.specs.Steps.{◌>>=◌, ◌>>◌}
 use Rattle.handlebars.specs.Runs.{done, refused, wrote, got, set, did, did_over}
-use Rattle.handlebars.specs.Answer.{compiles, does_not, not_begun, rendered}
-use Rattle.handlebars.specs.Rows.{EmptyRow, ValueRow, MarkupRow, MissingRow, EscapedRow, RefusalRow, UnclosedRow}
+use Rattle.handlebars.specs.Answer.{compiles, does_not, is_stored, not_begun, rendered}
+use Rattle.handlebars.specs.Rows.{EmptyRow, ValueRow, MarkupRow, MissingRow, EscapedRow, RefusalRow, UnclosedRow, RawRow, CallRow, InnerRow, NameRow, LiteralRow}
 
 pub empty_row : EmptyRow
 unfolding ◌>>=◌ ◌>>◌
@@ -18,7 +18,7 @@ unfolding ◌>>=◌ ◌>>◌ escaped
 value_row = record {
   pieces = _;
   last = _;
-  answers = rendered (compiles compiling.value_row) (did (got (set (did (got (wrote (set done))) (did (got (got (wrote (set done)))) done)))) done);
+  answers = rendered (compiles compiling.value_row) (did (got (set (did (got (wrote (set done))) (did (got (got (got (wrote (set done))))) done)))) done);
   is = refl;
 }
 
@@ -27,7 +27,7 @@ unfolding ◌>>=◌ ◌>>◌ escaped
 markup_row = record {
   pieces = _;
   last = _;
-  answers = rendered (compiles compiling.value_row) (did (got (set (did (got (wrote (set done))) (did (got (got (wrote (set done)))) done)))) done);
+  answers = rendered (compiles compiling.value_row) (did (got (set (did (got (wrote (set done))) (did (got (got (got (wrote (set done))))) done)))) done);
   is = refl;
 }
 
@@ -36,7 +36,7 @@ unfolding ◌>>=◌ ◌>>◌
 missing_row = record {
   pieces = _;
   last = _;
-  answers = rendered (compiles compiling.value_row) (did (got (set (did (got (wrote (set done))) (did (got (got (wrote (set done)))) done)))) done);
+  answers = rendered (compiles compiling.value_row) (did (got (set (did (got (wrote (set done))) (did (got (got (got (wrote (set done))))) done)))) done);
   is = refl;
 }
 
@@ -45,7 +45,7 @@ unfolding ◌>>=◌ ◌>>◌ escaped digits
 escaped_row = record {
   pieces = _;
   last = _;
-  answers = rendered (compiles compiling.escaped_row) (did (got (set (did (got (wrote (set done))) (did (got (got (wrote (set done)))) done)))) done);
+  answers = rendered (compiles compiling.escaped_row) (did (got (set (did (got (wrote (set done))) (did (got (got (got (wrote (set done))))) done)))) done);
   is = refl;
 }
 
@@ -55,3 +55,31 @@ refusal_row = rendered (compiles compiling.member_row) (did_over (got (set (did 
 
 pub unclosed_row : UnclosedRow
 unclosed_row given = not_begun (does_not compiling.unclosed_row)
+
+-- ---- trees by hand
+
+pub raw_row : RawRow
+unfolding ◌>>=◌ ◌>>◌ escaped
+raw_row = record {
+  pieces = _;
+  last = _;
+  answers = rendered (is_stored refl)
+      (did (got (set (did (got (set (got (got (got (wrote (set (got (set done))))))))) (did (got (got (got (wrote (set done))))) done)))) done);
+  is = refl;
+}
+
+pub call_row : CallRow
+unfolding ◌>>=◌ ◌>>◌
+call_row given = rendered (is_stored refl) (did_over (got (set (did_over (got refused) tt))) tt)
+
+pub inner_row : InnerRow
+unfolding ◌>>=◌ ◌>>◌
+inner_row given = rendered (is_stored refl) (did_over (got (set (did_over (got refused) tt))) tt)
+
+pub name_row : NameRow
+unfolding ◌>>=◌ ◌>>◌
+name_row given = rendered (is_stored refl) (did_over (got (set (did_over (got refused) tt))) tt)
+
+pub literal_row : LiteralRow
+unfolding ◌>>=◌ ◌>>◌ digits
+literal_row given = rendered (is_stored refl) (did_over (got (set (did_over (got refused) tt))) tt)

@@ -1,5 +1,5 @@
 -- Laws of every run at one setting.
-use Rattle.std.specs.Prelude.{◌≡◌, List, [], None}
+use Rattle.std.specs.Prelude.{◌≡◌, true, List, [], None}
 use Rattle.handlebars_template.specs.Tree.{Tree, tree, no_elements, element, Element}
 use Rattle.handlebars_scope.specs.Outputs.{IsBeginning}
 use Rattle.handlebars_scope.specs.Put.{Piece, join}
@@ -19,15 +19,16 @@ abbrev pub StopsInBeginning : Setting → Type 0
 StopsInBeginning p = (k : Steps) (s : State) (ps qs : List Piece) (o q : Outcome)
     → Runs p k s ps o → Runs p k s qs q → IsStop o → (IsStop q → ⊥) → IsBeginning (join ps) (join qs)
 
--- all that a tree's run writes has an origin in the tree
+-- all that a tree's run writes has an origin in the tree, where escaping is on at its start
 abbrev pub AllHaveOrigins : Setting → Type 0
-AllHaveOrigins p = (t : Tree) (s : State) (ps : List Piece) (o : Outcome) → Means p t s ps o → HaveOrigins p t ps
+AllHaveOrigins p = (t : Tree) (s : State) (ps : List Piece) (o : Outcome)
+    → s.escapes ≡ true → Means p t s ps o → HaveOrigins p t ps
 
 -- an element alone, as a tree of its own
 abbrev pub alone : Element → Tree
 alone e = tree None (element e no_elements) []
 
--- all that an element's run writes has an origin in the element
+-- all that an element's run writes has an origin in the element, where escaping is on at its start
 abbrev pub ElementHasOrigins : Setting → Type 0
 ElementHasOrigins p = (e : Element) (s : State) (ps : List Piece) (o : Outcome)
-    → Runs p (render_alone e) s ps o → HaveOrigins p (alone e) ps
+    → s.escapes ≡ true → Runs p (render_alone e) s ps o → HaveOrigins p (alone e) ps

@@ -1,4 +1,5 @@
 pub mod State
+pub mod Expand
 pub mod Steps
 pub mod Means
 pub mod Runs

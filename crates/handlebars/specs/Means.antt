@@ -1,19 +1,17 @@
 -- What a template means: what each of its elements does, step by step.
-use Rattle.std.specs.Prelude.{ℕ, ◌+◌, if◌then◌else◌, [], List, Option, None, Some, unwrap_or, slice_get}
+use Rattle.std.specs.Prelude.{ℕ, ◌+◌, Bool, true, false, [], List, Option, None, Some, slice_get}
 use Rattle.serde_json.specs.Data.{Data}
-use Rattle.handlebars_base.specs.Answers.{Answer, gives, refuses_for}
 use Rattle.handlebars_base.specs.Bytes.{Text}
 use Rattle.handlebars_base.specs.Reasons.{helper_not_found, decorator_not_found, partial_not_found}
-use Rattle.handlebars_base.specs.Scoped.{Found, value, missing, present_in}
-use Rattle.handlebars_base.specs.Values.{rendered}
+use Rattle.handlebars_base.specs.Scoped.{Found, present_in}
 use Rattle.handlebars_template.specs.Place.{Place}
-use Rattle.handlebars_template.specs.Tree.{Tree, tree, Elements, no_elements, element, Element, raw_string, html_expression, expression, helper_block, decorator_expression, decorator_block, partial_expression, partial_block, comment, Call, call_name, decorator_name, Param, name, path, literal, subexpression, as_name, is_value}
-use Rattle.handlebars_scope.specs.Escape.{escaped}
-use Rattle.handlebars_scope.specs.Put.{Origin, of_text, of_value, put}
-use Rattle.handlebars_scope.specs.Resolve.{resolved}
+use Rattle.handlebars_template.specs.Tree.{Tree, tree, Elements, no_elements, element, Element, raw_string, html_expression, expression, helper_block, decorator_expression, decorator_block, partial_expression, partial_block, comment, Call, Decorator}
+use Rattle.handlebars_scope.specs.Put.{Origin, of_text, of_value, of_raw, put}
+use Rattle.handlebars_scope.specs.Shown.{shown}
 use Rattle.handlebars_scope.specs.Sites.{TreeSite, first_tree, Site, element_in}
-use Rattle.handlebars.specs.State.{Setting, State, data_at}
-use Rattle.handlebars.specs.Steps.{Task, One, Whole, Steps, Done, Do, Prog, return, ◌>>=◌, ◌>>◌, run, refuse_for, answer, write, state, become, perform}
+use Rattle.handlebars.specs.State.{Setting}
+use Rattle.handlebars.specs.Expand.{value_of, view_of_call, view_of_tag, not_found}
+use Rattle.handlebars.specs.Steps.{Task, One, Whole, Steps, Done, Do, Prog, return, ◌>>=◌, ◌>>◌, run, refuse, answer, write, state, become, perform}
 
 -- ---- writing
 
@@ -24,31 +22,29 @@ write_text o t = do
   write (put o t s.line).0
   become (record s { line = (put o t s.line).1 })
 
--- A value is rendered and escaped; where there is none, nothing is.
-abbrev pub shown : Option Data → Text
-shown None = []
-shown (Some d) = escaped (rendered d)
+-- A value is rendered, and escaped where escaping is on. Where there is none, nothing is written.
+abbrev pub shown_if_any : Bool → Option Data → Text
+shown_if_any escapes None = []
+shown_if_any escapes (Some d) = shown escapes d
+
+-- where a value that is written comes from
+abbrev pub value_origin : Bool → Site → Found → Origin
+value_origin true site v = of_value site v
+value_origin false site v = of_raw site v
 
 abbrev pub write_value : Site → Found → Prog (Unit {0})
-write_value site v = write_text (of_value site v) (shown (present_in v))
+write_value site v = do
+  s ← state
+  write_text (value_origin s.escapes site v) (shown_if_any s.escapes (present_in v))
 
--- ---- values
-
--- A path leads into the data. A name alone has no value, and a nested call finds no helper.
-abbrev pub param_value : Setting → State → Param → Answer Found
-param_value p s (name n) = gives missing
-param_value p s (path r) = resolved r (data_at p s)
-param_value p s (literal d) = gives (value d)
-param_value p s (subexpression e) = refuses_for (helper_not_found [])
-
--- the name as written, which is empty for a literal and for a nested call
-abbrev pub name_text : Param → Text
-name_text n = unwrap_or (as_name n) []
-
--- An expression with neither parameters nor pairs is a value. With some it is a call, and finds no helper.
-abbrev pub value_of : Setting → State → Call → Answer Found
-value_of p s c =
-    if is_value c then param_value p s (call_name c) else refuses_for (helper_not_found (name_text (call_name c)))
+-- with escaping off, which is then as before
+abbrev pub unescaped : Prog (Unit {0}) → Prog (Unit {0})
+unescaped steps = do
+  before ← state
+  become (record before { escapes = false })
+  steps
+  after ← state
+  become (record after { escapes = before.escapes })
 
 -- ---- elements
 
@@ -58,16 +54,32 @@ render_expression p site c = do
   v ← answer (value_of p s c)
   write_value site v
 
+-- A block calls a helper, and finds none.
+abbrev pub render_block : Setting → Call → Prog (Unit {0})
+render_block p c = do
+  s ← state
+  refuse (not_found helper_not_found (view_of_call p s c))
+
+abbrev pub render_decorator : Setting → Decorator → Prog (Unit {0})
+render_decorator p t = do
+  s ← state
+  refuse (not_found decorator_not_found (view_of_tag p s t))
+
+abbrev pub render_partial : Setting → Decorator → Prog (Unit {0})
+render_partial p t = do
+  s ← state
+  refuse (not_found partial_not_found (view_of_tag p s t))
+
 -- A text and an expression write, a comment does not. Blocks, decorators and inclusions find nothing registered.
 abbrev pub render_element : Setting → Site → Element → Prog (Unit {0})
 render_element p site (raw_string t) = write_text (of_text site) t
-render_element p site (html_expression c) = refuse_for (helper_not_found (name_text (call_name c)))
+render_element p site (html_expression c) = unescaped (render_expression p site c)
 render_element p site (expression c) = render_expression p site c
-render_element p site (helper_block c) = refuse_for (helper_not_found (name_text (call_name c)))
-render_element p site (decorator_expression t) = refuse_for (decorator_not_found (name_text (decorator_name t)))
-render_element p site (decorator_block t) = refuse_for (decorator_not_found (name_text (decorator_name t)))
-render_element p site (partial_expression t) = refuse_for (partial_not_found (name_text (decorator_name t)))
-render_element p site (partial_block t) = refuse_for (partial_not_found (name_text (decorator_name t)))
+render_element p site (helper_block c) = render_block p c
+render_element p site (decorator_expression t) = render_decorator p t
+render_element p site (decorator_block t) = render_decorator p t
+render_element p site (partial_expression t) = render_partial p t
+render_element p site (partial_block t) = render_partial p t
 render_element p site (comment t) = return tt
 
 -- elements in order, from an index on; some have a place

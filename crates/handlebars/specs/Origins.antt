@@ -1,14 +1,15 @@
 -- Where each piece of a run comes from.
-use Rattle.std.specs.Prelude.{◌≡◌, ℕ, zero, suc, List, ◌++◌, Option, None, Some}
+use Rattle.std.specs.Prelude.{◌≡◌, ℕ, zero, suc, true, false, List, ◌++◌, Option, None, Some}
 use Rattle.std.specs.List.{AllByRecursion}
 use Rattle.handlebars_base.specs.Answers.{gives}
 use Rattle.handlebars_base.specs.Bytes.{Text}
 use Rattle.handlebars_base.specs.Scoped.{Found, present_in}
 use Rattle.handlebars_template.specs.Tree.{Tree, tree_elements, Elements, no_elements, element, Element, raw_string, html_expression, expression, helper_block, decorator_expression, decorator_block, partial_expression, partial_block, comment, Call, call_body, call_inverse, decorator_body, Body, no_body, body}
-use Rattle.handlebars_scope.specs.Put.{Origin, of_text, of_value, Piece}
+use Rattle.handlebars_scope.specs.Put.{Origin, of_text, of_value, of_raw, Piece}
 use Rattle.handlebars_scope.specs.Sites.{TreeSite, first_tree, body_at, inverse_at, Site, element_in}
 use Rattle.handlebars.specs.State.{Setting, State}
-use Rattle.handlebars.specs.Means.{shown, value_of}
+use Rattle.handlebars.specs.Expand.{value_of}
+use Rattle.handlebars.specs.Means.{shown_if_any}
 
 -- ---- what stands at a site
 
@@ -81,11 +82,20 @@ pub record IsOfValue (p : Setting) (u : Tree) (site : Site) (found : Found) (t :
   pub stands : element_at u site ≡ Some (expression helper)
   pub state : State
   pub has : value_of p state helper ≡ gives found
-  pub is : IsWithin t (shown (present_in found))
+  pub is : IsWithin t (shown_if_any true (present_in found))
+
+-- a part of the value that the html expression at the site has in a state, rendered and not escaped
+pub record IsOfRaw (p : Setting) (u : Tree) (site : Site) (found : Found) (t : Text) : Type 0 where
+  pub helper : Call
+  pub stands : element_at u site ≡ Some (html_expression helper)
+  pub state : State
+  pub has : value_of p state helper ≡ gives found
+  pub is : IsWithin t (shown_if_any false (present_in found))
 
 abbrev pub ComesFrom : Setting → Tree → Origin → Text → Type 0
 ComesFrom p u (of_text site) t = IsOfText u site t
 ComesFrom p u (of_value site found) t = IsOfValue p u site found t
+ComesFrom p u (of_raw site found) t = IsOfRaw p u site found t
 
 abbrev pub HasOrigin : Setting → Tree → Piece → Type 0
 HasOrigin p u piece = ComesFrom p u piece.origin piece.text

@@ -1,16 +1,19 @@
 -- Worked sources, each with its answer over data.
-use Rattle.std.specs.Prelude.{[], ◌∷◌, ◌++◌, Some, None, codes}
+use Rattle.std.specs.Prelude.{List, [], ◌∷◌, ◌++◌, Some, None, false, codes}
 use Rattle.serde_json.specs.Data.{unsigned, Data, null, number, string, array, object, no_members, member, no_items, item}
 use Rattle.handlebars_base.specs.Bytes.{Text, backslash}
-use Rattle.handlebars_base.specs.Reasons.{Refusal, invalid_json_index, of_template}
+use Rattle.handlebars_base.specs.Path.{named, relative}
+use Rattle.handlebars_base.specs.Reasons.{Reason, Refusal, invalid_json_index, helper_not_found, of_template}
 use Rattle.handlebars_base.specs.RenderRefusals.{plain_refusal}
 use Rattle.handlebars_template.specs.Compile.{no_options, unreadable}
 use Rattle.handlebars_template.specs.Rows.{at, escaped_source}
+use Rattle.handlebars_template.specs.Tree.{Tree, tree, elements_of, Element, html_expression, expression, Call, call, args, bodies, no_body, no_binding, no_pairs, params_of, Param, path, literal, subexpression}
 use Rattle.handlebars_scope.specs.Put.{of_text}
 use Rattle.handlebars_scope.specs.Sites.{first_tree, element_in}
 use Rattle.handlebars.specs.State.{Setting}
 use Rattle.handlebars.specs.Runs.{Refused}
-use Rattle.handlebars.specs.Answer.{FromSource, RenderAnswers, GivesText}
+use Rattle.handlebars.specs.Answer.{Beginning, FromSource, FromName, RenderAnswers, GivesText}
+use Rattle.handlebars.specs.Laws.{alone}
 
 -- data with one member
 abbrev pub with : Text → Data → Data
@@ -67,3 +70,51 @@ RefusalRow = RenderAnswers (over ones) (FromSource no_options (codes "x{{a.x}}")
 abbrev pub UnclosedRow : Type 0
 UnclosedRow = (given : Data) → RenderAnswers (over given) (FromSource no_options (codes "ab{{name")) []
     (Refused (plain_refusal (of_template (unreadable no_options (at 1 3)))))
+
+-- ---- trees by hand
+
+-- a registry that keeps this tree
+abbrev pub keeping : Tree → Beginning → Type 0
+keeping t = FromName (λ name. Some t) []
+
+-- a path of one name
+abbrev pub path_of : Text → Param
+path_of n = path (relative (named n ∷ []) n)
+
+-- what stands in braces or in parentheses: a name and parameters
+abbrev pub call_of : Param → List Param → Call
+call_of n ps = call n (args (params_of ps) no_pairs) no_binding (bodies no_body no_body)
+    (record { block = false; chain = false; indent_before_write = false })
+
+-- a call in parentheses, with no parameters
+abbrev pub nested : Text → Param
+nested n = subexpression (expression (call_of (path_of n) []))
+
+-- A value in three braces is written as it is, and the next one is escaped again: {{{name}}}{{name}}.
+abbrev pub RawRow : Type 0
+RawRow = GivesText (over markup)
+    (keeping (tree None (elements_of (html_expression (call_of (path_of (codes "name")) [])
+    ∷ expression (call_of (path_of (codes "name")) []) ∷ [])) [])) (codes "<b>&lt;b&gt;")
+
+-- What is refused before anything is written, for this reason.
+abbrev pub IsRefusedFor : Data → Element → Reason → Type 0
+IsRefusedFor given e r = RenderAnswers (over given) (keeping (alone e)) [] (Refused (plain_refusal r))
+
+-- In parentheses stands a call: {{(a)}}.
+abbrev pub CallRow : Type 0
+CallRow = (given : Data) → IsRefusedFor given (expression (call_of (nested (codes "a")) [])) (helper_not_found (codes "a"))
+
+-- A call's parameters come before its helper is sought: {{a (b)}}.
+abbrev pub InnerRow : Type 0
+InnerRow = (given : Data)
+    → IsRefusedFor given (expression (call_of (path_of (codes "a")) (nested (codes "b") ∷ []))) (helper_not_found (codes "b"))
+
+-- Its name comes before its parameters: {{(a) (b)}}.
+abbrev pub NameRow : Type 0
+NameRow = (given : Data)
+    → IsRefusedFor given (expression (call_of (nested (codes "a")) (nested (codes "b") ∷ []))) (helper_not_found (codes "a"))
+
+-- A literal is called by its text: {{1 null}}.
+abbrev pub LiteralRow : Type 0
+LiteralRow = (given : Data) → IsRefusedFor given
+    (expression (call_of (literal (number (unsigned 1))) (literal null ∷ []))) (helper_not_found (codes "1"))

@@ -1,5 +1,5 @@
 -- What a run reads and what it changes.
-use Rattle.std.specs.Prelude.{Option, None}
+use Rattle.std.specs.Prelude.{Bool, true, Option, None}
 use Rattle.serde_json.specs.Data.{Data}
 use Rattle.handlebars_base.specs.Bytes.{Text}
 use Rattle.handlebars_scope.specs.Put.{LineState, first_line}
@@ -8,13 +8,15 @@ use Rattle.handlebars_scope.specs.Put.{LineState, first_line}
 pub record Setting : Type 0 where
   pub given : Data
 
--- what a run changes: the name of the template that is being rendered, if it has one, and the line that is written
+-- what a run changes: the name of the template that is being rendered, if it has one, the line that is written, and
+-- whether escaping is on
 pub record State : Type 0 where
   pub current : Option Text
   pub line : LineState
+  pub escapes : Bool
 
 abbrev pub first_state : State
-first_state = record { current = None; line = first_line }
+first_state = record { current = None; line = first_line; escapes = true }
 
 -- the data that paths lead into
 abbrev pub data_at : Setting → State → Data

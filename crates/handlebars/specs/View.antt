@@ -3,6 +3,7 @@ use Rattle.std.specs.Prelude.{◌≡◌, ◌≢◌, ℕ, Option, ◌+◌, ◌^�
 use Rattle.std.specs.declared.io.Error.{Error}
 use Rattle.std.specs.IoError.{error_kind}
 use Rattle.serde_json.specs.View.{view}
+use Rattle.handlebars_base.specs.Answers.{Answer, answer_map}
 use Rattle.handlebars_base.specs.Bytes.{Text}
 use Rattle.handlebars_base.specs.Reasons.{Refusal, out_of_memory}
 use Rattle.handlebars_base.specs.RenderRefusals.{reason_in, spot_of, refusal_of, cause_of}
@@ -15,7 +16,7 @@ use Rattle.handlebars_scope.specs.Outputs.{Held, IsWhole, IsCutOff, write_reason
 use Rattle.handlebars_scope.specs.Put.{Piece, join, line_behind}
 use Rattle.handlebars_scope.specs.declared.context.Context.{Context}
 use Rattle.handlebars.specs.State.{Setting, State}
-use Rattle.handlebars.specs.Steps.{Steps}
+use Rattle.handlebars.specs.Steps.{Steps, Prog}
 use Rattle.handlebars.specs.Runs.{Fault, plain_fault, Outcome, Ended, Refused, Faulted, NoMemory, Runs}
 use Rattle.handlebars.specs.declared.registry.Registry.{Registry}
 use Rattle.handlebars.specs.declared.render.context.RenderContext.{RenderContext}
@@ -36,7 +37,11 @@ abbrev pub options_of : Registry → Options
 options_of r = no_options
 
 abbrev pub state_of : RenderContext → State
-state_of rc = record { current = option_map string_bytes rc.current_template; line = line_of rc.line }
+state_of rc = record {
+  current = option_map string_bytes rc.current_template;
+  line = line_of rc.line;
+  escapes = rc.escapes;
+}
 
 -- the name of the template that the run began with, if it has one
 abbrev pub root_of : RenderContext → Option Text
@@ -45,9 +50,11 @@ root_of rc = option_map string_bytes rc.root_template
 abbrev pub has_failed : RenderContext → Bool
 has_failed rc = rc.failed
 
--- what no rendering changes: the first template's name, and, until the run is over, whether the context has failed
+-- what no rendering changes: the first template's name, whether escaping is on, and, until the run is over, whether the
+-- context has failed
 pub record IsKept (before after : RenderContext) : Type 0 where
   pub root : root_of after ≡ root_of before
+  pub escapes : (state_of after).escapes ≡ (state_of before).escapes
   pub failed : has_failed after ≡ has_failed before
 
 -- the state of a run and what its output holds, at one moment
@@ -90,6 +97,21 @@ pub record CarriesOut (p : Setting) (k : Steps) (may : Error → Type 0) (before
   pub runs : Runs p k before.state pieces outcome
   pub text : after.held.text ≡ before.held.text ++ join pieces
   pub tells : Tells may before.held.faults after.held.faults outcome r after.state
+
+-- The program was carried out: what comes next is carried out from the moment behind it, or never.
+pub data CarriesOn (p : Setting) (m : Prog (Unit {0})) (may : Error → Type 0) (before : Moment)
+    : Answered → Moment → Type 0 where
+  goes_on : {u : Unit {0}} {after : Moment}
+      → ((next : Unit {0} → Steps) (r : Answered) (last : Moment)
+      → CarriesOut p (next tt) may after r last → CarriesOut p (m next) may before r last)
+      → CarriesOn p m may before (Ok u) after
+  is_over : {e : RenderError} {after : Moment}
+      → ((next : Unit {0} → Steps) → CarriesOut p (m next) may before (Err e) after)
+      → CarriesOn p m may before (Err e) after
+
+-- the answer without its value
+abbrev pub without_value : {A : Type 0} → Answer A → Answer (Unit {0})
+without_value a = answer_map (λ x. tt) a
 
 -- the state behind a text
 abbrev pub behind : Text → State → State

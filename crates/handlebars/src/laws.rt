@@ -1,7 +1,7 @@
 //! Laws that callers may cite. Each is a function that does nothing: its contract is the law.
 
 ghost use Rattle.handlebars.specs.Laws.{OneRun, StopsInBeginning, AllHaveOrigins, ElementHasOrigins};
-ghost use Rattle.handlebars.specs.Rows.{EmptyRow, ValueRow, MarkupRow, MissingRow, EscapedRow, RefusalRow, UnclosedRow};
+ghost use Rattle.handlebars.specs.Rows.{EmptyRow, ValueRow, MarkupRow, MissingRow, EscapedRow, RefusalRow, UnclosedRow, RawRow, CallRow, InnerRow, NameRow, LiteralRow};
 ghost use Rattle.handlebars.specs.View.{setting_of};
 
 use crate::registry::Registry;
@@ -12,7 +12,7 @@ pub use handlebars_template::laws::{one_compilation, one_cut, worked_sources};
 
 /// Two runs of the same steps from the same state are one, unless they stop on the way; a run that
 /// stops on the way has written a beginning of the whole one's text; and all that the run of a tree
-/// or of an element alone writes has an origin in it.
+/// or of an element alone writes has an origin in it, where escaping is on at its start.
 pub fn laws_of_runs(registry: &Registry, context: &Context)
     ensures one { OneRun (setting_of registry.now context.now) }
     ensures beginning { StopsInBeginning (setting_of registry.now context.now) }
@@ -20,7 +20,7 @@ pub fn laws_of_runs(registry: &Registry, context: &Context)
     ensures element { ElementHasOrigins (setting_of registry.now context.now) }
 {}
 
-/// What some sources answer over some data.
+/// What some sources and some trees answer over some data.
 pub fn worked_rows()
     ensures empty { EmptyRow }
     ensures value { ValueRow }
@@ -29,4 +29,9 @@ pub fn worked_rows()
     ensures escaped { EscapedRow }
     ensures refusal { RefusalRow }
     ensures unclosed { UnclosedRow }
+    ensures raw { RawRow }
+    ensures call { CallRow }
+    ensures inner { InnerRow }
+    ensures name { NameRow }
+    ensures literal { LiteralRow }
 {}

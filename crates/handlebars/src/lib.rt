@@ -25,6 +25,6 @@ pub use handlebars_scope::support::{escape_html, html_escape, no_escape};
 pub use handlebars_template::template;
 pub use handlebars_template::template::Template;
 pub use registry::{Registry, Registry as Handlebars};
-pub use render::{RenderContext, Renderable};
+pub use render::{Expand, RenderContext, Renderable};
 pub use serde_json::Value as JsonValue;
 pub use sources::{EntryKind, NoFiles, TemplateReader};

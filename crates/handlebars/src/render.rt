@@ -10,13 +10,16 @@ ghost use Rattle.handlebars.specs.View.{setting_of, state_of, root_of, has_faile
 
 mod context;
 mod element;
+mod expand;
 mod setting;
 mod tree;
+mod value;
 
 use crate::registry::Registry;
 use crate::render::setting::Setting;
 use crate::render::tree::{render_alone, render_tree};
 pub use context::RenderContext;
+pub use expand::Expand;
 use handlebars_base::error::{RenderError, RenderErrorReason};
 use handlebars_scope::context::Context;
 use handlebars_scope::output::{Output, StringOutput};
@@ -114,7 +117,7 @@ fn ready(rc: &RenderContext) -> Result<(), RenderError>
 }
 
 // After a refusal the context has failed.
-fn fail_after(rc: &mut RenderContext, answer: Result<(), RenderError>) -> Result<(), RenderError>
+fn fail_after<T>(rc: &mut RenderContext, answer: Result<T, RenderError>) -> Result<T, RenderError>
     ensures answer { result ≡ answer }
     ensures ok { OnOk result (rc.new ≡ rc.old) }
     ensures err { OnErr result (rc.new ≡ record rc.old { failed = true }) }

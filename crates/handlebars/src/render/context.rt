@@ -1,12 +1,22 @@
 //! The state of a rendering.
 
-ghost use Rattle.std.specs.Prelude.{◌≡◌, IfOk, OnOk, OnErr, true, false, option_map, string_bytes};
+ghost use Rattle.std.specs.Prelude.{◌≡◌, ◌≢◌, Bool, not, IfOk, IfErr, OnOk, OnErr, true, false, option_map, string_bytes};
 ghost use Rattle.serde_json.specs.View.{view};
-ghost use Rattle.handlebars.specs.Means.{shown};
+ghost use Rattle.handlebars_base.specs.Answers.{gives, refuses};
+ghost use Rattle.handlebars_base.specs.Reasons.{out_of_memory};
+ghost use Rattle.handlebars_base.specs.RenderRefusals.{reason_in, refusal_of};
+ghost use Rattle.handlebars_base.specs.Scoped.{found_of};
+ghost use Rattle.handlebars_scope.specs.Contexts.{data_of};
+ghost use Rattle.handlebars_scope.specs.Shown.{shown};
+ghost use Rattle.handlebars.specs.Expand.{Evaluates};
 ghost use Rattle.handlebars.specs.State.{first_state};
 ghost use Rattle.handlebars.specs.View.{state_of, root_of, has_failed, behind, IsKept};
 
-use handlebars_base::json::value::Json;
+use handlebars_base::error::RenderError;
+use handlebars_base::json::path::Path;
+use handlebars_base::json::value::{Json, ScopedJson};
+use handlebars_scope::context::Context;
+use handlebars_scope::context::walk::find;
 use handlebars_scope::line::Line;
 use std::alloc::{AllocError, Global};
 
@@ -17,6 +27,7 @@ pub struct RenderContext {
     root_template: Option<String>,
     current_template: Option<String>,
     line: Line,
+    escapes: bool,
     failed: bool,
 }
 
@@ -36,6 +47,7 @@ impl RenderContext {
             root_template,
             current_template: None,
             line: Line::first(),
+            escapes: true,
             failed: false,
         })
     }
@@ -45,6 +57,43 @@ impl RenderContext {
         ensures { result ≡ has_failed self.now }
     {
         self.failed
+    }
+
+    /// Whether values are written as they are, and not escaped.
+    pub fn is_disable_escape(&self) -> bool
+        ensures { result ≡ not (state_of self.now).escapes }
+    {
+        !self.escapes
+    }
+
+    /// From now on values are written as they are, or escaped.
+    pub fn set_disable_escape(&mut self, disable: bool)
+        ensures state { state_of self.new ≡ record (state_of self.old) { escapes = not disable } }
+        ensures root { root_of self.new ≡ root_of self.old }
+        ensures failed { has_failed self.new ≡ has_failed self.old }
+    {
+        self.escapes = !disable;
+    }
+
+    // Whether values are escaped.
+    pub(super) fn escapes(&self) -> bool
+        ensures { result ≡ (state_of self.now).escapes }
+    {
+        self.escapes
+    }
+
+    /// What a text leads to in the data, as a path. A refusal changes nothing here.
+    pub fn evaluate<'rc>(
+        &self,
+        context: &'rc Context,
+        path: &str,
+    ) -> Result<ScopedJson<'rc>, RenderError>
+        ensures ok { IfOk result (λ found. Evaluates (data_of context.now) path.now (gives (found_of found))) }
+        ensures err { IfErr result (λ e. reason_in e ≢ out_of_memory
+            → Evaluates (data_of context.now) path.now (refuses (refusal_of e))) }
+    {
+        let reference = Path::parse(self.alloc, path)?;
+        find(self.alloc, context.data(), &reference)
     }
 
     // From now on renderings are refused.
@@ -92,9 +141,9 @@ impl RenderContext {
         self.line = self.line.behind(text);
     }
 
-    // A value was written, rendered and escaped.
+    // A value was written, whether escaping is on or not.
     pub(super) fn pass_value(&mut self, value: &Json)
-        ensures state { state_of self.new ≡ behind (shown (Some (view value.now))) (state_of self.old) }
+        ensures state { (escapes : Bool) → state_of self.new ≡ behind (shown escapes (view value.now)) (state_of self.old) }
         ensures kept { IsKept self.old self.new }
     {
         self.line = self.line.behind_value(value);

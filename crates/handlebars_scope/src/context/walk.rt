@@ -1,13 +1,13 @@
 //! Walking into data along names.
 
-ghost use Rattle.std.specs.Prelude.{◌≡◌, IfOk, map, option_map, string_bytes};
+ghost use Rattle.std.specs.Prelude.{◌≡◌, false, IfOk, map, option_map, string_bytes};
 ghost use Rattle.serde_json.specs.View.{view};
 ghost use Rattle.handlebars_base.specs.Answers.{Answers, answer_map};
 ghost use Rattle.handlebars_base.specs.Reasons.{invalid_json_index};
 ghost use Rattle.handlebars_base.specs.RenderRefusals.{reason_of};
 ghost use Rattle.handlebars_scope.specs.Resolve.{index_of, member_at, names_of, resolved, value_at};
 ghost use Rattle.handlebars_base.specs.PathView.{reference_of, segments_of};
-ghost use Rattle.handlebars_base.specs.Scoped.{found_of, present_in};
+ghost use Rattle.handlebars_base.specs.Scoped.{found_of, is_constant, present_in};
 
 use handlebars_base::error::{RenderError, RenderErrorReason};
 use handlebars_base::json::path::{Path, PathSeg};
@@ -32,7 +32,8 @@ pub fn resolve<'a>(
 
 /// The same, with the names as the full path of the value.
 pub fn find<'a>(alloc: Global, given: &'a Json, path: &Path) -> Result<ScopedJson<'a>, RenderError>
-    ensures { Answers found_of result (resolved (reference_of path.now) (view given.now)) }
+    ensures found { Answers found_of result (resolved (reference_of path.now) (view given.now)) }
+    ensures plain { IfOk result (λ found. is_constant found ≡ false) }
 {
     match path {
         Path::Relative((segments, _)) => match along(alloc, given, segments)? {

@@ -1,5 +1,18 @@
-use Rattle.handlebars.proofs.WorkedRows.{empty_row, value_row, markup_row, missing_row, escaped_row, refusal_row, unclosed_row}
+use Rattle.handlebars.proofs.WorkedRows.{empty_row, value_row, markup_row, missing_row, escaped_row, refusal_row, unclosed_row, raw_row, call_row, inner_row, name_row, literal_row}
 use Rattle.handlebars.proofs.laws.worked_rows.Goals as goal
 
 pub returns : goal.returns
-returns c = record { empty = empty_row; value = value_row; markup = markup_row; missing = missing_row; escaped = escaped_row; refusal = refusal_row; unclosed = unclosed_row }
+returns c = record {
+  empty = empty_row;
+  value = value_row;
+  markup = markup_row;
+  missing = missing_row;
+  escaped = escaped_row;
+  refusal = refusal_row;
+  unclosed = unclosed_row;
+  raw = raw_row;
+  call = call_row;
+  inner = inner_row;
+  name = name_row;
+  literal = literal_row;
+}

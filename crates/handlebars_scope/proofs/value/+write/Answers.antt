@@ -1,6 +1,6 @@
 use Rattle.std.proofs.Common.{sym, false, true, rules}
 use Rattle.serde_json.specs.View.{items_view}
-use Rattle.handlebars_scope.proofs.Values.{shown-null, shown-bool, shown-number, shown-string, shown-object, shown-array, shown-items_from, shown-items_end}
+use Rattle.handlebars_scope.proofs.Values.{shown-null, shown-bool, shown-object, shown-array, shown-items_from, shown-items_end}
 use Rattle.handlebars_scope.proofs.Writes.{whole-nil, written_is, begins, left_is, goes_on, fails, ends, ends_here}
 use Rattle.handlebars_scope.proofs.value.+write.Goals as goal
 

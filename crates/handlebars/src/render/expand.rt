@@ -1,0 +1,96 @@
+//! Values of parameters, for callers.
+
+ghost use Rattle.std.specs.Prelude.{◌≡◌, IsErrAnd, OnErr, OnOk, true, false};
+ghost use Rattle.std.specs.Cow.{cow_str_bytes};
+ghost use Rattle.handlebars_base.specs.Answers.{Answers};
+ghost use Rattle.handlebars_base.specs.PathAndData.{path_and_data};
+ghost use Rattle.handlebars_base.specs.Reasons.{failed};
+ghost use Rattle.handlebars_base.specs.RenderRefusals.{refusal_of, plain_refusal};
+ghost use Rattle.handlebars_template.specs.Tree.{Param};
+ghost use Rattle.handlebars_template.specs.TreeView.{param_view};
+ghost use Rattle.handlebars.specs.Expand.{expand, expand_as_name};
+ghost use Rattle.handlebars.specs.View.{setting_of, state_of, root_of, has_failed};
+
+use crate::registry::Registry;
+use crate::render::context::RenderContext;
+use crate::render::setting::Setting;
+use crate::render::{fail_after, ready, value};
+use handlebars_base::error::RenderError;
+use handlebars_base::json::value::PathAndJson;
+use handlebars_scope::context::Context;
+use handlebars_template::template::Parameter;
+use log::Log;
+use std::alloc::Global;
+use std::borrow::CowStr;
+
+/// What has a value in a rendering. After a refusal the render context has failed: it answers
+/// `Failed` from then on. Nothing else of it is changed.
+pub trait Expand {
+    // What it is, as definitions see it.
+    ghost param: { Self → Param };
+
+    /// The value, with its path as the template writes it, where it writes one. What the data or the
+    /// template owns is borrowed.
+    fn expand<'rc, L: Log>(
+        &'rc self,
+        alloc: Global,
+        registry: &Registry,
+        data: &'rc Context,
+        rc: &mut RenderContext,
+        log: &L,
+    ) -> Result<PathAndJson<'rc>, RenderError>
+        ensures expands { has_failed rc.old ≡ false → Answers path_and_data result (expand (setting_of registry.now «data».now) (state_of rc.old) (param self.now)) }
+        ensures failed { has_failed rc.old ≡ true → IsErrAnd result (λ e. refusal_of e ≡ plain_refusal failed) × (rc.new ≡ rc.old) }
+        ensures state { state_of rc.new ≡ state_of rc.old }
+        ensures root { root_of rc.new ≡ root_of rc.old }
+        ensures ok { OnOk result (has_failed rc.new ≡ false) }
+        ensures err { OnErr result (has_failed rc.new ≡ true) };
+
+    /// The text that a helper, a decorator or a partial is called by: as written, or of the value.
+    fn expand_as_name<'rc, L: Log>(
+        &'rc self,
+        alloc: Global,
+        registry: &Registry,
+        data: &'rc Context,
+        rc: &mut RenderContext,
+        log: &L,
+    ) -> Result<CowStr<'rc>, RenderError>
+        ensures expands { has_failed rc.old ≡ false → Answers cow_str_bytes result (expand_as_name (setting_of registry.now «data».now) (state_of rc.old) (param self.now)) }
+        ensures failed { has_failed rc.old ≡ true → IsErrAnd result (λ e. refusal_of e ≡ plain_refusal failed) × (rc.new ≡ rc.old) }
+        ensures state { state_of rc.new ≡ state_of rc.old }
+        ensures root { root_of rc.new ≡ root_of rc.old }
+        ensures ok { OnOk result (has_failed rc.new ≡ false) }
+        ensures err { OnErr result (has_failed rc.new ≡ true) };
+}
+
+impl Expand for Parameter {
+    ghost param = { param_view };
+
+    fn expand<'rc, L: Log>(
+        &'rc self,
+        alloc: Global,
+        _registry: &Registry,
+        data: &'rc Context,
+        rc: &mut RenderContext,
+        _log: &L,
+    ) -> Result<PathAndJson<'rc>, RenderError> {
+        ready(rc)?;
+        let given = data.data();
+        let answer = value::expand(&Setting { alloc, given }, self);
+        fail_after(rc, answer)
+    }
+
+    fn expand_as_name<'rc, L: Log>(
+        &'rc self,
+        alloc: Global,
+        _registry: &Registry,
+        data: &'rc Context,
+        rc: &mut RenderContext,
+        _log: &L,
+    ) -> Result<CowStr<'rc>, RenderError> {
+        ready(rc)?;
+        let given = data.data();
+        let answer = value::expand_as_name(&Setting { alloc, given }, self);
+        fail_after(rc, answer)
+    }
+}
