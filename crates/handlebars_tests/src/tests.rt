@@ -3,7 +3,9 @@
 mod big;
 mod compiling;
 mod errors;
+mod expands;
 mod helpers;
+mod parameters;
 mod paths;
 mod rendering;
 mod scope;
