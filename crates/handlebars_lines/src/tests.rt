@@ -52,41 +52,50 @@ fn finds_literals(rt: HostRuntime) -> Result<(), Fail> {
     Ok(())
 }
 
+/// The value of a text's literal, written as JSON.
+fn written(alloc: Global, text: &str) -> Result<Option<String>, Fail> {
+    let slice = split_literal(alloc, text)?.ok_or("no literal")?;
+    match literal_value(alloc, slice.raw)? {
+        Some(value) => Ok(Some(value.to_string(alloc)?)),
+        None => Ok(None),
+    }
+}
+
 #[test]
 fn reads_values(rt: HostRuntime) -> Result<(), Fail> {
     let alloc = rt.alloc();
-    let deep = brackets(alloc, 127, 127)?;
-    let deeper = brackets(alloc, 128, 128)?;
     let table = [
-        (r"'it\'s'", Some(r#""it's""#)),
-        (r#"'a"b'"#, Some(r#""a\"b""#)),
-        (r#"'a\"b'"#, None),
-        (r"'\\'", Some(r#""\\""#)),
-        (r#""it's""#, Some(r#""it's""#)),
-        (r#""\q""#, None),
-        ("0", Some("0")),
-        ("-0", None),
-        ("01", None),
-        ("1.5", None),
-        ("1E5", None),
-        ("18446744073709551615", Some("18446744073709551615")),
-        ("18446744073709551616", None),
-        ("-9223372036854775808", Some("-9223372036854775808")),
-        ("-9223372036854775809", None),
-        (deep.as_str(), Some(deep.as_str())),
-        (deeper.as_str(), None),
-        (
-            r#"{"b":[ true],"a":2,"a":1}"#,
-            Some(r#"{"a":1,"b":[true]}"#),
-        ),
-        (r#"{"a":1.5,"a":1}"#, None),
+        (r"'it\'s'", r#""it's""#),
+        (r#"'a"b'"#, r#""a\"b""#),
+        (r"'\\'", r#""\\""#),
+        (r#""it's""#, r#""it's""#),
+        ("0", "0"),
+        ("18446744073709551615", "18446744073709551615"),
+        ("-9223372036854775808", "-9223372036854775808"),
+        (r#"{"b":[ true],"a":2,"a":1}"#, r#"{"a":1,"b":[true]}"#),
     ];
     for (text, wanted) in table {
-        let slice = split_literal(alloc, text)?.ok_or("no literal")?;
-        match literal_value(alloc, slice.raw)? {
-            Some(value) => assert_eq!(rt; Some(value.to_string(alloc)?.as_str()), wanted),
-            None => assert!(rt; wanted.is_none(), "no value of {text}"),
-        }
+        let value = written(alloc, text)?.ok_or("no value")?;
+        assert_eq!(rt; value.as_str(), wanted);
     }
+    let others = [
+        r#"'a\"b'"#,
+        r#""\q""#,
+        "-0",
+        "01",
+        "1.5",
+        "1E5",
+        "18446744073709551616",
+        "-9223372036854775809",
+        r#"{"a":1.5,"a":1}"#,
+    ];
+    for text in others {
+        assert!(rt; written(alloc, text)?.is_none(), "a value of {text}");
+    }
+    let deep = brackets(alloc, 127, 127)?;
+    let value = written(alloc, deep.as_str())?.ok_or("no value")?;
+    assert_eq!(rt; value.as_str(), deep.as_str());
+    let deeper = brackets(alloc, 128, 128)?;
+    assert!(rt; written(alloc, deeper.as_str())?.is_none());
     Ok(())
 }
