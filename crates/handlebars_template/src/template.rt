@@ -8,6 +8,6 @@ mod tree;
 
 pub use compile::TemplateOptions;
 pub use tree::{
-    BlockParam, DecoratorTemplate, HelperTemplate, Parameter, Subexpression, Template,
-    TemplateElement, TemplateMapping,
+    BlockParam, DecoratorTemplate, ExpressionSpec, HelperTemplate, Parameter, Subexpression,
+    Template, TemplateElement, TemplateMapping,
 };
