@@ -7,3 +7,4 @@ pub mod One
 pub mod Trees
 pub mod Levels
 pub mod Rows
+pub mod LinesBuilt
