@@ -8,3 +8,5 @@ pub mod Trees
 pub mod Levels
 pub mod Rows
 pub mod LinesBuilt
+pub mod LineImages
+pub mod LineCalls
