@@ -50,8 +50,8 @@ fn new_call(alloc: Global, key: Option<String>) -> OpenCall
     }
 }
 
-/// One open call, with nothing in it.
-pub fn first_calls<'a>(alloc: Global) -> OpenCalls<'a>
+/// One open call, with nothing in it. What is refused later is lent from the text.
+pub fn first_calls<'a>(alloc: Global, _text: &'a str) -> OpenCalls<'a>
     ensures { calls_view result ≡ first_calls }
 {
     OpenCalls {

@@ -35,19 +35,19 @@ pub fn build_line<'a>(
         level: 0,
     };
     let mut rest = text;
-    let mut calls = first_calls(alloc);
+    let mut calls = first_calls(alloc, text);
     'building: loop {
-        match take_step(alloc, around, state, rest)? {
-            Step::Goes(event, next, behind) => {
-                let Some(more) = take(alloc, calls, event)? else {
-                    return Ok(None);
-                };
-                calls = more;
-                state = next;
-                rest = behind;
-            }
-            Step::Ends => return Ok(finish(calls)),
+        let (event, next, behind) = match take_step(alloc, around, state, rest)? {
+            Step::Goes(event, next, behind) => (event, next, behind),
+            Step::Ends => break,
             Step::Stuck => return Ok(None),
-        }
+        };
+        let Some(more) = take(alloc, calls, event)? else {
+            return Ok(None);
+        };
+        calls = more;
+        state = next;
+        rest = behind;
     }
+    Ok(finish(calls))
 }
