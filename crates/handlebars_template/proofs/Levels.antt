@@ -2,8 +2,10 @@
 use Rattle.std.proofs.Common.{◌≡◌, ◌&&◌, suc, ◌==◌, List, [], ◌∷◌, length, option_map, refl, sym, ap, ◌∙◌, rules, arith, Box, Global, String}
 use Rattle.std.proofs.lemmas.Bool.{ne_eqb}
 use Rattle.handlebars_template.specs.Tree.{call_name, call_params, call_pairs, call_binding, call_body, call_inverse, call_marks, decorator_name, decorator_params, decorator_pairs, decorator_body, decorator_marks, lacks_params, lacks_pairs, is_value, html_expression, expression, helper_block, decorator_expression, decorator_block, partial_expression, partial_block, comment, raw_string}
-use Rattle.handlebars_template.specs.TreeView.{text, element_view, call_view, decorator_view, param_view, params_view, pairs_view, body_view, block_param_view}
+use Rattle.handlebars_template.specs.TreeView.{text, element_view, call_view, decorator_view, param_view, params_view, pairs_view, body_view, block_param_view, subexpression_view}
 use Rattle.handlebars_template.specs.declared.template.tree.BlockParam.{the_lemmas}
+use Rattle.handlebars_template.specs.declared.template.tree.BlockParam.TheViews.{roll-Subexpression}
+use Rattle.handlebars_template.specs.declared.template.tree.TemplateElement.{TemplateElement}
 use Rattle.handlebars_template.specs.declared.template.tree.HelperTemplate.{HelperTemplate, out-HelperTemplate}
 use Rattle.handlebars_template.specs.declared.template.tree.DecoratorTemplate.{DecoratorTemplate, out-DecoratorTemplate}
 use Rattle.handlebars_template.specs.declared.template.tree.Parameter.{Parameter}
@@ -60,6 +62,11 @@ pub call_marks-view : (h : HelperTemplate) → call_marks (call_view h)
     ≡ record { block = (out-HelperTemplate h).block; chain = (out-HelperTemplate h).chain; indent_before_write = (out-HelperTemplate h).indent_before_write }
 call_marks-view h = search (rules, the_lemmas)
 
+-- ---- an expression in parentheses
+
+pub subexpression_view-roll : (b : Box TemplateElement Global) → subexpression_view (roll-Subexpression (record { element = b })) ≡ element_view b.value
+subexpression_view-roll b = search (rules, the_lemmas)
+
 -- ---- the parts of a decorator or an inclusion
 
 pub decorator_name-view : (t : DecoratorTemplate) → decorator_name (decorator_view t) ≡ param_view (out-DecoratorTemplate t).name
@@ -80,11 +87,11 @@ decorator_marks-view t = search (rules, the_lemmas)
 
 -- ---- values
 
-lacks_params-view : (ps : List Parameter) → lacks_params (params_view ps) ≡ (length ps == 0)
+pub lacks_params-view : (ps : List Parameter) → lacks_params (params_view ps) ≡ (length ps == 0)
 lacks_params-view [] = refl
 lacks_params-view (p ∷ ps) = sym (ne_eqb (suc (length ps)) 0 (λ e. absurd (omega arith)))
 
-lacks_pairs-view : (hs : List (String Global × Parameter)) → lacks_pairs (pairs_view hs) ≡ (length hs == 0)
+pub lacks_pairs-view : (hs : List (String Global × Parameter)) → lacks_pairs (pairs_view hs) ≡ (length hs == 0)
 lacks_pairs-view [] = refl
 lacks_pairs-view (h ∷ hs) = sym (ne_eqb (suc (length hs)) 0 (λ e. absurd (omega arith)))
 

@@ -1,5 +1,5 @@
 -- The call that a line is, and the first of its literals that is refused.
-use Rattle.std.specs.Prelude.{Bool, true, false, if◌then◌else◌, List, [], ◌∷◌, ◌++◌, Option, Some, None, unwrap_or, is_some}
+use Rattle.std.specs.Prelude.{ℕ, Bool, true, false, if◌then◌else◌, List, [], ◌∷◌, ◌++◌, Option, Some, None, unwrap_or, is_some}
 use Rattle.std.specs.Cmp.Lexicographic.{slice_cmp}
 use Rattle.std.specs.Ordering.{match_ordering, nat_cmp}
 use Rattle.serde_json.specs.Data.{null}
@@ -13,6 +13,14 @@ use Rattle.handlebars_template.specs.Tree.{CallMarks, expression, Call, call, ar
 -- no block, not chained, and not on a line of its own
 abbrev pub plain_marks : CallMarks
 plain_marks = record { block = false; chain = false; indent_before_write = false }
+
+-- an expression of this name and these arguments
+abbrev pub plain_call : Param → Params → Pairs → Call
+plain_call n params pairs = call n (args params pairs) no_binding (bodies no_body no_body) plain_marks
+
+-- the most blocks, parentheses and brackets of literals that may be open at once
+abbrev pub max_nesting : ℕ
+max_nesting = 200
 
 -- ---- parameters and pairs
 
@@ -41,15 +49,13 @@ abbrev mutual
   param_of (literal_term raw) = literal_param raw
   param_of (path_term r) = path r
   param_of (call_term t terms) =
-      subexpression (expression (call (name_of t terms) (args (params_in terms) (pairs_in no_pairs terms)) no_binding
-      (bodies no_body no_body) plain_marks))
+      subexpression (expression (plain_call (name_of t terms) (params_in terms) (pairs_in no_pairs terms)))
 
   pub name_of : Term → Terms → Param
   name_of (literal_term raw) terms = literal_param raw
   name_of (path_term r) terms = path_name r terms
   name_of (call_term t inner) terms =
-      subexpression (expression (call (name_of t inner) (args (params_in inner) (pairs_in no_pairs inner)) no_binding
-      (bodies no_body no_body) plain_marks))
+      subexpression (expression (plain_call (name_of t inner) (params_in inner) (pairs_in no_pairs inner)))
 
   pub params_in : Terms → Params
   params_in no_terms = no_params
@@ -63,8 +69,7 @@ abbrev mutual
   pairs_in pairs (term (Some key) t more) = pairs_in (put_pair key (param_of t) pairs) more
 
 abbrev pub call_of : Term → Terms → Call
-call_of t terms =
-    call (name_of t terms) (args (params_in terms) (pairs_in no_pairs terms)) no_binding (bodies no_body no_body) plain_marks
+call_of t terms = plain_call (name_of t terms) (params_in terms) (pairs_in no_pairs terms)
 
 -- ---- literals
 

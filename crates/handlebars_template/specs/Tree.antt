@@ -1,8 +1,9 @@
 -- A template's tree, as definitions see it: texts are lists of bytes, collections are lists.
-use Rattle.std.specs.Prelude.{Bool, true, false, ◌&&◌, List, [], ◌∷◌, Option, None, Some}
+use Rattle.std.specs.Prelude.{Bool, true, false, not, ◌&&◌, List, [], ◌∷◌, Option, None, Some}
 use Rattle.serde_json.specs.Data.{Data}
 use Rattle.handlebars_base.specs.Bytes.{Text}
 use Rattle.handlebars_base.specs.Path.{Reference, raw_of}
+use Rattle.handlebars_base.specs.PathReading.{◌>>=◌, with_or}
 use Rattle.handlebars_template.specs.Place.{Place}
 
 -- Of a call: whether it is a block, whether that block is chained to the one around it, and whether it stands on a
@@ -182,3 +183,23 @@ lacks_pairs (pair k p hs) = false
 -- Without parameters and pairs it is a value, and otherwise a call.
 abbrev pub is_value : Call → Bool
 is_value h = lacks_params (call_params h) && lacks_pairs (call_pairs h)
+
+-- the call of an expression; no other element has one here
+abbrev pub expression_call : Element → Option Call
+expression_call (raw_string t) = None
+expression_call (html_expression h) = None
+expression_call (expression h) = Some h
+expression_call (helper_block h) = None
+expression_call (decorator_expression d) = None
+expression_call (decorator_block d) = None
+expression_call (partial_expression d) = None
+expression_call (partial_block d) = None
+expression_call (comment t) = None
+
+-- the text of an expression's name, as written
+abbrev pub element_name : Element → Option Text
+element_name e = expression_call e >>= λ h. as_name (call_name h)
+
+-- an expression that is no value
+abbrev pub is_helper : Element → Bool
+is_helper e = with_or (expression_call e) (λ h. not (is_value h)) false

@@ -1,6 +1,8 @@
 //! A template's tree, and how a source is compiled to it.
 
+mod build;
 mod compile;
+mod line;
 mod place;
 mod tag;
 mod text;
@@ -8,6 +10,6 @@ mod tree;
 
 pub use compile::TemplateOptions;
 pub use tree::{
-    BlockParam, DecoratorTemplate, HelperTemplate, Parameter, Subexpression, Template,
-    TemplateElement, TemplateMapping,
+    BlockParam, DecoratorTemplate, ExpressionSpec, HelperTemplate, Parameter, Subexpression,
+    Template, TemplateElement, TemplateMapping,
 };

@@ -1,12 +1,13 @@
 //! The tree of a template.
 
-ghost use Rattle.std.specs.Prelude.{◌≡◌, option_map};
-ghost use Rattle.handlebars_template.specs.Tree.{empty_tree, as_name, is_value};
-ghost use Rattle.handlebars_template.specs.TreeView.{tree_view, param_view, call_view};
+ghost use Rattle.std.specs.Prelude.{◌≡◌, IfOk, option_map};
+ghost use Rattle.handlebars_template.specs.Tree.{empty_tree, as_name, is_value, expression, expression_call, is_helper, element_name, call_params, call_pairs};
+ghost use Rattle.handlebars_template.specs.Calls.{plain_call};
+ghost use Rattle.handlebars_template.specs.TreeView.{tree_view, param_view, params_view, pairs_view, call_view, element_view, subexpression_view};
 
 use handlebars_base::json::path::Path;
 use handlebars_base::json::value::Json;
-use std::alloc::Global;
+use std::alloc::{AllocError, Global};
 use std::collections::BTreeMap;
 
 /// Where an element begins: line and column from 1, the column in characters.
@@ -123,4 +124,110 @@ impl Parameter {
 #[cycle(tree)]
 pub struct Subexpression {
     pub element: Box<TemplateElement>,
+}
+
+impl Subexpression {
+    /// An expression with this name and these arguments.
+    pub fn new(
+        alloc: Global,
+        name: Parameter,
+        params: Vec<Parameter>,
+        hash: BTreeMap<String, Parameter>,
+    ) -> Result<Subexpression, AllocError>
+        ensures { IfOk result (λ call. subexpression_view call
+            ≡ expression (plain_call (param_view name) (params_view params.items) (pairs_view hash.entries))) }
+    {
+        let call = HelperTemplate {
+            name,
+            params,
+            hash,
+            block_param: None,
+            template: None,
+            inverse: None,
+            block: false,
+            chain: false,
+            indent_before_write: false,
+        };
+        let expression = TemplateElement::Expression(Box::new(alloc, call)?);
+        let element = Box::new(alloc, expression)?;
+        Ok(Subexpression { element })
+    }
+
+    /// The element that it is.
+    pub fn as_element(&self) -> &TemplateElement
+        ensures { element_view result.now ≡ subexpression_view self.now }
+    {
+        &self.element
+    }
+
+    /// Whether it calls a helper: an expression with parameters or pairs.
+    pub fn is_helper(&self) -> bool
+        ensures { result ≡ is_helper (subexpression_view self.now) }
+    {
+        match self.expression() {
+            Some(call) => !call.is_value(),
+            None => false,
+        }
+    }
+
+    /// The text of its name, where that is a name or a path.
+    pub fn name(&self) -> Option<&str>
+        ensures { option_map (λ text. text.now) result ≡ element_name (subexpression_view self.now) }
+    {
+        match self.expression() {
+            Some(call) => call.name.as_name(),
+            None => None,
+        }
+    }
+
+    /// Its parameters, where it is an expression.
+    pub fn params(&self) -> Option<&Vec<Parameter>>
+        ensures { option_map (λ params. params_view params.now.items) result
+            ≡ option_map call_params (expression_call (subexpression_view self.now)) }
+    {
+        match self.expression() {
+            Some(call) => Some(&call.params),
+            None => None,
+        }
+    }
+
+    /// Its pairs, where it is an expression.
+    pub fn hash(&self) -> Option<&BTreeMap<String, Parameter>>
+        ensures { option_map (λ hash. pairs_view hash.now.entries) result
+            ≡ option_map call_pairs (expression_call (subexpression_view self.now)) }
+    {
+        match self.expression() {
+            Some(call) => Some(&call.hash),
+            None => None,
+        }
+    }
+
+    fn expression(&self) -> Option<&HelperTemplate>
+        ensures { option_map (λ call. call_view call.now) result ≡ expression_call (subexpression_view self.now) }
+    {
+        match self.as_element() {
+            TemplateElement::Expression(call) => Some(call),
+            TemplateElement::RawString(_) => None,
+            TemplateElement::HtmlExpression(_) => None,
+            TemplateElement::HelperBlock(_) => None,
+            TemplateElement::DecoratorExpression(_) => None,
+            TemplateElement::DecoratorBlock(_) => None,
+            TemplateElement::PartialExpression(_) => None,
+            TemplateElement::PartialBlock(_) => None,
+            TemplateElement::Comment(_) => None,
+        }
+    }
+}
+
+/// What stands in a tag between its marks.
+#[derive(Debug, PartialEq, Drop)]
+pub struct ExpressionSpec {
+    pub name: Parameter,
+    pub params: Vec<Parameter>,
+    pub hash: BTreeMap<String, Parameter>,
+    pub block_param: Option<BlockParam>,
+    /// Whether a `~` in front takes the white before the tag.
+    pub omit_pre_ws: bool,
+    /// Whether a `~` at the end takes the white behind the tag.
+    pub omit_pro_ws: bool,
 }
