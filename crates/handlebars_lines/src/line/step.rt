@@ -37,6 +37,7 @@ pub struct State {
 }
 
 impl State {
+    /// At the beginning of a line, outside parentheses.
     pub fn first() -> State
         ensures { state_of result ≡ state at_name 0 }
     {
@@ -47,8 +48,8 @@ impl State {
     }
 }
 
-/// What a step takes: the text of a literal or a path, or a parenthesis. Each may stand behind a key. The numbers say
-/// how many parentheses and brackets are then open at once.
+/// What a step takes: an opening parenthesis, or a literal or a path by its text, each behind a key or not; or a closing
+/// parenthesis. The numbers say how many parentheses and brackets are then open at once.
 #[derive(Clone, Copy, Debug, PartialEq, Eq)]
 pub enum Event<'a> {
     Opened(Option<&'a str>, usize),
@@ -71,11 +72,14 @@ impl Event<'_> {
     }
 }
 
+/// What stands next.
 #[derive(Clone, Copy, Debug, PartialEq, Eq)]
 pub enum Step<'a> {
     /// What is taken, where that leads, and what follows it.
     Goes(Event<'a>, State, &'a str),
+    /// White or none, and the end of the line.
     Ends,
+    /// Nothing that a line may go on with.
     Stuck,
 }
 
@@ -271,7 +275,7 @@ fn is_at_name(stand: Stand) -> bool
     }
 }
 
-/// What stands next.
+/// The step from a state.
 #[tactic(auto, unfolding(crate::specs::LineReading::line_step))]
 pub fn take_step(
     alloc: Global,

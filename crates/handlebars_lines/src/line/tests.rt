@@ -89,7 +89,7 @@ fn depth_of(
 fn depth_is_what_is_open_at_once(rt: HostRuntime) -> Result<(), Fail> {
     assert!(rt; depth_of(&rt, 200, "(", "a", ")")? == Some(200));
     assert!(rt; depth_of(&rt, 201, "(", "a", ")")? == Some(201));
-    // More than a stack would hold, and each step takes time for its own bytes alone.
+    // Far deeper than a stack would bear, and long enough that a time which grows with the square would show.
     assert!(rt; depth_of(&rt, 100000, "(", "a", ")")? == Some(100000));
     assert!(rt; depth_of(&rt, 100000, "(", "a", "")?.is_none());
     assert!(rt; depth_of(&rt, 50000, "(a b=", "[1]", ")")? == Some(50001));

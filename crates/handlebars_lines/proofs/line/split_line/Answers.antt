@@ -1,4 +1,4 @@
-use Rattle.std.proofs.Common.{rules, arith, ◌≡◌, ap, ◌∙◌, max}
+use Rattle.std.proofs.Common.{rules, ◌≡◌, ap, ◌∙◌, max}
 use Rattle.handlebars_lines.specs.Runs.{goes}
 use Rattle.handlebars_lines.specs.LineReading.{line_step, height}
 use Rattle.handlebars_lines.specs.LineView.{enclosure_of, state_of, event_of}
