@@ -4,5 +4,5 @@
 pub mod laws;
 pub mod line;
 pub mod literal;
-mod marks;
+pub mod marks;
 pub mod worth;
