@@ -1,11 +1,17 @@
 -- The views, one level at a time.
 use Rattle.std.proofs.Common.{◌≡◌, ◌&&◌, suc, ◌==◌, List, [], ◌∷◌, length, option_map, refl, sym, ap, ◌∙◌, rules, arith, Box, Global, String}
 use Rattle.std.proofs.lemmas.Bool.{ne_eqb}
-use Rattle.handlebars_template.specs.Tree.{call_name, call_params, call_pairs, call_binding, call_body, call_inverse, call_marks, decorator_name, decorator_params, decorator_pairs, decorator_body, decorator_marks, lacks_params, lacks_pairs, is_value, html_expression, expression, helper_block, decorator_expression, decorator_block, partial_expression, partial_block, comment, raw_string}
+use Rattle.handlebars_template.specs.Tree.{call_name, call_params, call_pairs, call_binding, call_body, call_inverse, call_marks, decorator_name, decorator_params, decorator_pairs, decorator_body, decorator_marks, lacks_params, lacks_pairs, is_value, html_expression, expression, helper_block, decorator_expression, decorator_block, partial_expression, partial_block, comment, raw_string, path, literal, subexpression}
 use Rattle.handlebars_template.specs.TreeView.{text, element_view, call_view, decorator_view, param_view, params_view, pairs_view, body_view, block_param_view, subexpression_view}
 use Rattle.handlebars_template.specs.declared.template.tree.BlockParam.{the_lemmas}
 use Rattle.handlebars_template.specs.declared.template.tree.BlockParam.TheViews.{roll-Subexpression}
 use Rattle.handlebars_template.specs.declared.template.tree.TemplateElement.{TemplateElement}
+use Rattle.handlebars_template.specs.declared.template.tree.Subexpression.{Subexpression}
+use Rattle.handlebars_template.specs.declared.template.tree.Parameter.TheVariants as parameter
+use Rattle.handlebars_base.specs.declared.json.path.Path.{Path}
+use Rattle.handlebars_base.specs.PathView.{reference_of}
+use Rattle.serde_json.specs.View as json
+use Rattle.serde_json.specs.declared.value.Value.{Value}
 use Rattle.handlebars_template.specs.declared.template.tree.HelperTemplate.{HelperTemplate, out-HelperTemplate}
 use Rattle.handlebars_template.specs.declared.template.tree.DecoratorTemplate.{DecoratorTemplate, out-DecoratorTemplate}
 use Rattle.handlebars_template.specs.declared.template.tree.Parameter.{Parameter}
@@ -61,6 +67,17 @@ call_inverse-view h = search (rules, the_lemmas)
 pub call_marks-view : (h : HelperTemplate) → call_marks (call_view h)
     ≡ record { block = (out-HelperTemplate h).block; chain = (out-HelperTemplate h).chain; indent_before_write = (out-HelperTemplate h).indent_before_write }
 call_marks-view h = search (rules, the_lemmas)
+
+-- ---- parameters
+
+pub param_view-Path : (p : Path) → param_view (parameter.Path p) ≡ path (reference_of p)
+param_view-Path p = search (rules, the_lemmas)
+
+pub param_view-Literal : (v : Value) → param_view (parameter.Literal v) ≡ literal (json.view v)
+param_view-Literal v = search (rules, the_lemmas)
+
+pub param_view-Subexpression : (s : Subexpression) → param_view (parameter.Subexpression s) ≡ subexpression (subexpression_view s)
+param_view-Subexpression s = search (rules, the_lemmas)
 
 -- ---- an expression in parentheses
 

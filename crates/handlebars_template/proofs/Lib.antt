@@ -10,3 +10,4 @@ pub mod Rows
 pub mod LinesBuilt
 pub mod LineImages
 pub mod LineCalls
+pub mod ParametersParsed

@@ -7,8 +7,10 @@ pub mod Cut
 pub mod Tree
 pub mod Calls
 pub mod LineBuilding
+pub mod ParameterParsing
 pub mod TreeView
 pub mod LineBuildingView
+pub mod ParameterParsingView
 pub mod Compile
 pub mod OptionsView
 pub mod Rows

@@ -1,6 +1,7 @@
 //! What holds of every source, and what some sources compile to, for callers to cite.
 
 ghost use Rattle.handlebars_template.specs.Compile.{OneCut, OneCompilation};
+ghost use Rattle.handlebars_template.specs.ParameterParsing.{OneParsing};
 ghost use Rattle.handlebars_template.specs.Rows.{EmptyRow, ValueRow, EscapedRow, MemberRow, UnclosedRow, PlaceRow};
 
 /// A source has at most one cut into texts and tags.
@@ -11,6 +12,11 @@ pub fn one_cut()
 /// A source has at most one outcome: a tree or a refusal, and not both.
 pub fn one_compilation()
     ensures { OneCompilation }
+{}
+
+/// A text is parsed as a parameter, or refused, and not both.
+pub fn one_parsing()
+    ensures { OneParsing }
 {}
 
 /// What some sources compile to.

@@ -3,6 +3,7 @@
 mod build;
 mod compile;
 mod line;
+mod parameter;
 mod place;
 mod tag;
 mod text;

@@ -282,7 +282,8 @@ fn add_literal<'a>(
     })
 }
 
-fn path_of(alloc: Global, raw: &str) -> Result<Option<Path>, AllocError>
+/// The path that the whole text is.
+pub fn path_of(alloc: Global, raw: &str) -> Result<Option<Path>, AllocError>
     ensures { IfOk result (λ read. option_map reference_of read ≡ path_of raw.now) }
 {
     match read_path(alloc, raw)? {

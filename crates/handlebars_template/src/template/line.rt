@@ -8,9 +8,12 @@ ghost use Rattle.handlebars_template.specs.LineBuildingView.{IsBuilt};
 
 use crate::template::build::{finish, first_calls, take};
 use crate::template::tree::Parameter;
-use handlebars_lines::line::{Enclosure, Stand, State, Step, take_step};
+use handlebars_lines::line::{Enclosure, State, Step, take_step};
 use std::alloc::{AllocError, Global};
 use std::collections::BTreeMap;
+
+/// The most blocks, parentheses and brackets of literals that may be open at once.
+pub const MAX_NESTING: usize = 200;
 
 /// A line's name, parameters and pairs, and the first of its literals that is refused, by its text.
 #[derive(Debug, PartialEq, Drop)]
@@ -30,10 +33,7 @@ pub fn build_line<'a>(
     ensures { IfOk result (λ read. (line : Line) (left : Text)
         → IsLine (enclosure_of around) text.now line left → IsBuilt line read) }
 {
-    let mut state = State {
-        stand: Stand::Name,
-        level: 0,
-    };
+    let mut state = State::first();
     let mut rest = text;
     let mut calls = first_calls(alloc, text);
     'building: loop {

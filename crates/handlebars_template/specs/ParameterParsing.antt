@@ -1,0 +1,29 @@
+-- What parsing a text as a parameter answers: the parameter, or a refusal.
+use Rattle.std.specs.Prelude.{◌≡◌, ℕ, ◌<◌, ◌≤◌, Option, Some, None}
+use Rattle.handlebars_base.specs.Bytes.{Text}
+use Rattle.handlebars_base.specs.PathReading.{with_or}
+use Rattle.handlebars_base.specs.Reasons.{TemplateRefusal, invalid_param}
+use Rattle.handlebars_lines.specs.Parameter.{Term, IsParameter, NoParameter}
+use Rattle.handlebars_template.specs.Tree.{Param}
+use Rattle.handlebars_template.specs.Calls.{max_nesting, param_of, literals_of, first_refused}
+
+pub data Parsing : Type 0 where
+  parsed : Param → Parsing
+  refused : TemplateRefusal → Parsing
+
+-- the refusal of a text, with no name and no place
+abbrev pub invalid : Text → TemplateRefusal
+invalid t = record { reason = invalid_param t; name = None; position = None }
+
+-- The first literal that is worth nothing is refused.
+abbrev pub parsing_of : Term → Parsing
+parsing_of means = with_or (first_refused (literals_of means)) (λ raw. refused (invalid raw)) (parsed (param_of means))
+
+pub data Parses (text : Text) : Parsing → Type 0 where
+  reads : (means : Term) (depth : ℕ) → IsParameter text means depth → depth ≤ max_nesting → Parses text (parsing_of means)
+  too_deep : (means : Term) (depth : ℕ) → IsParameter text means depth → max_nesting < depth → Parses text (refused (invalid text))
+  unreadable : NoParameter text → Parses text (refused (invalid text))
+
+-- A text is parsed to at most one answer.
+abbrev pub OneParsing : Type 0
+OneParsing = (text : Text) (a b : Parsing) → Parses text a → Parses text b → a ≡ b

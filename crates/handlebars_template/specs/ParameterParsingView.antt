@@ -1,0 +1,25 @@
+-- What the code reads a parameter as, and which texts it takes for a line in parentheses.
+use Rattle.std.specs.Prelude.{◌≡◌, ℕ, [], Some}
+use Rattle.handlebars_base.specs.Bytes.{Text}
+use Rattle.handlebars_base.specs.PathReading.{after}
+use Rattle.handlebars_lines.specs.LiteralReading.{behind_white}
+use Rattle.handlebars_lines.specs.Parameter.{left_parenthesis, right_parenthesis, NoParameter}
+use Rattle.handlebars_lines.specs.Line.{in_parentheses}
+use Rattle.handlebars_lines.specs.LineLaws.{HasLine}
+use Rattle.handlebars_template.specs.TreeView.{param_view}
+use Rattle.handlebars_template.specs.ParameterParsing.{Parsing, parsed, refused, invalid}
+use Rattle.handlebars_template.specs.declared.template.parameter.Reading.{Reading}
+use Rattle.handlebars_template.specs.declared.template.parameter.Reading.TheVariants.{Reads, Refuses}
+
+abbrev pub reading_view : Reading → Parsing
+reading_view (Reads p) = parsed (param_view p)
+reading_view (Refuses raw) = refused (invalid raw.now)
+
+-- Behind an opening parenthesis stand a line, so deep, and the parenthesis that closes it, and nothing else.
+pub record HasNested (inside : Text) (depth : ℕ) : Type 0 where
+  pub left : Text
+  pub line : HasLine in_parentheses (behind_white inside) depth left
+  pub closes : after right_parenthesis (behind_white left) ≡ Some []
+
+abbrev pub NoNested : Text → Type 0
+NoNested inside = (text : Text) → after left_parenthesis text ≡ Some inside → NoParameter text
