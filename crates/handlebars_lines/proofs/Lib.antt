@@ -5,3 +5,12 @@ pub mod Tokens
 pub mod LiteralsRead
 pub mod LiteralsFound
 pub mod LiteralLoop
+pub mod Endings
+pub mod LineMarks
+pub mod LineFronts
+pub mod LineSteps
+pub mod LineBounds
+pub mod LinesRead
+pub mod LinesFound
+pub mod LineEvents
+pub mod Lines

@@ -7,4 +7,5 @@ pub mod Parameter
 pub mod Line
 pub mod LineReading
 pub mod LineView
+pub mod LineLaws
 pub mod Worth

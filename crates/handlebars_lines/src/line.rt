@@ -1,6 +1,48 @@
 //! Lines of tags, without recursion: one step after the other, and a count of the open parentheses.
 
+ghost use Rattle.std.specs.Prelude.{IfOk, MatchOption};
+ghost use Rattle.handlebars_lines.specs.Line.{NoLine};
+ghost use Rattle.handlebars_lines.specs.LineLaws.{HasLine};
+ghost use Rattle.handlebars_lines.specs.LineView.{enclosure_of};
+
+use crate::literal::larger;
+use std::alloc::{AllocError, Global};
+
 mod marks;
 mod step;
+#[cfg(test)]
+mod tests;
 
 pub use step::{Enclosure, Event, Stand, State, Step, take_step};
+
+/// How many parentheses and brackets of a line are open at once at most, and what follows it.
+#[derive(Clone, Copy, Debug, PartialEq, Eq)]
+pub struct LineSlice<'a> {
+    pub depth: usize,
+    pub rest: &'a str,
+}
+
+/// The line in front of a text, up to what ends it.
+pub fn split_line<'a>(
+    alloc: Global,
+    around: Enclosure,
+    text: &'a str,
+) -> Result<Option<LineSlice<'a>>, AllocError>
+    ensures { IfOk result (λ read. MatchOption read (NoLine (enclosure_of around) text.now)
+        (λ slice. HasLine (enclosure_of around) text.now slice.depth slice.rest.now)) }
+{
+    let mut state = State::first();
+    let mut rest = text;
+    let mut depth = 0;
+    'reading: loop {
+        match take_step(alloc, around, state, rest)? {
+            Step::Goes(event, next, behind) => {
+                depth = larger(depth, event.height());
+                state = next;
+                rest = behind;
+            }
+            Step::Ends => return Ok(Some(LineSlice { depth, rest })),
+            Step::Stuck => return Ok(None),
+        }
+    }
+}

@@ -239,7 +239,7 @@ fn token_at(ahead: bool, innermost: Option<Bracket>, text: &str) -> Token<'_>
     }
 }
 
-fn larger(a: usize, b: usize) -> usize
+pub(crate) fn larger(a: usize, b: usize) -> usize
     ensures { result ≡ max a b }
 {
     if a < b { b } else { a }

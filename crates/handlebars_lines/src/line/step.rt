@@ -2,8 +2,8 @@
 
 ghost use Rattle.std.specs.Prelude.{◌≡◌, ◌<◌, ◌^◌, IfOk};
 ghost use Rattle.handlebars_lines.specs.Parameter.{is_reserved};
-ghost use Rattle.handlebars_lines.specs.LineReading.{behind_name, open_step, name_step, is_excluded, path_step, parameter_step, item_step, may_follow, next_step, outer_step, inner_step, behind_step, is_at_name, line_step};
-ghost use Rattle.handlebars_lines.specs.LineView.{enclosure_of, key_of, stand_of, state_of, step_of};
+ghost use Rattle.handlebars_lines.specs.LineReading.{at_name, state, behind_name, open_step, name_step, is_excluded, path_step, parameter_step, item_step, may_follow, next_step, outer_step, inner_step, behind_step, is_at_name, line_step};
+ghost use Rattle.handlebars_lines.specs.LineView.{enclosure_of, key_of, stand_of, state_of, step_of, height_of};
 
 use super::marks::{all_symbols, behind_end, key_at, starts_white};
 use crate::literal::literal_at;
@@ -36,6 +36,17 @@ pub struct State {
     pub level: usize,
 }
 
+impl State {
+    pub fn first() -> State
+        ensures { state_of result ≡ state at_name 0 }
+    {
+        State {
+            stand: Stand::Name,
+            level: 0,
+        }
+    }
+}
+
 /// What a step takes: the text of a literal or a path, or a parenthesis. Each may stand behind a key. The numbers say
 /// how many parentheses and brackets are then open at once.
 #[derive(Clone, Copy, Debug, PartialEq, Eq)]
@@ -44,6 +55,20 @@ pub enum Event<'a> {
     Literal(Option<&'a str>, &'a str, usize),
     Path(Option<&'a str>, &'a str, usize),
     Closed,
+}
+
+impl Event<'_> {
+    /// How many parentheses and brackets are then open at once.
+    pub fn height(self) -> usize
+        ensures { result ≡ height_of self.entry }
+    {
+        match self {
+            Event::Opened(_, height) => height,
+            Event::Literal(_, _, height) => height,
+            Event::Path(_, _, height) => height,
+            Event::Closed => 0,
+        }
+    }
 }
 
 #[derive(Clone, Copy, Debug, PartialEq, Eq)]

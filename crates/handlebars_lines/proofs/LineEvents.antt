@@ -1,0 +1,98 @@
+-- What the steps find of a line tells how deep it is, and what it means.
+use Rattle.std.proofs.Common.{◌≡◌, ℕ, suc, ◌+◌, ◌≤◌, List, [], ◌∷◌, ◌++◌, Option, Some, None, refl, sym, ap, ◌∙◌, append_assoc, arith, max}
+use Rattle.handlebars_base.proofs.PathShapes.{path_known}
+use Rattle.handlebars_lines.specs.Parameter.{Term, Terms, no_terms, term, Shape, literal_shape, path_shape, nested_shape, Items, no_items, parameter_item, pair_item, Fits, AreItems, term_of, terms_of, depth_of, items_depth}
+use Rattle.handlebars_lines.specs.LineReading.{Event, closed, most_open, Frame, joined, new_frame, add_term, Frames, first_frames, build_all}
+use Rattle.handlebars_lines.proofs.LinesRead.{events, item_events}
+
+-- ---- what is found of a line in parentheses, in front of more
+
+nested_events : (n : ℕ) (name : Shape) (items : Items) (xs : List Event) →
+    (events (suc n) None name ++ (item_events (suc n) items ++ closed ∷ [])) ++ xs ≡ events (suc n) None name ++ (item_events (suc n) items ++ closed ∷ xs)
+nested_events n name items xs =
+    append_assoc (events (suc n) None name) (item_events (suc n) items ++ closed ∷ []) xs
+    ∙ ap (λ (z : List Event). events (suc n) None name ++ z) (append_assoc (item_events (suc n) items) (closed ∷ []) xs)
+
+-- ---- how deep it is
+
+mutual
+  most_open-shape : (p : Shape) (key : Option (List ℕ)) (n m : ℕ) (xs : List Event) → most_open m (events n key p ++ xs) ≡ most_open (max m (n + depth_of p)) xs
+  most_open-shape (literal_shape l) key n m xs = refl
+  most_open-shape (path_shape t means) key n m xs = ap (λ (z : ℕ). most_open (max m z) xs) (let e : n ≡ n + 0 = omega arith in e)
+  most_open-shape (nested_shape w name items v) key n m xs =
+      let e : max (max (max (max m (suc n)) (suc n + depth_of name)) (suc n + items_depth items)) 0 ≡ max m (n + suc (max (depth_of name) (items_depth items))) = omega arith in
+      ap (most_open (max m (suc n))) (nested_events n name items xs)
+      ∙ most_open-shape name None (suc n) (max m (suc n)) (item_events (suc n) items ++ closed ∷ xs)
+      ∙ most_open-items items (suc n) (max (max m (suc n)) (suc n + depth_of name)) (closed ∷ xs) (omega arith)
+      ∙ ap (λ (z : ℕ). most_open z xs) e
+
+  most_open-items : (items : Items) (n m : ℕ) (xs : List Event) → n ≤ m → most_open m (item_events n items ++ xs) ≡ most_open (max m (n + items_depth items)) xs
+  most_open-items no_items n m xs le = ap (λ (z : ℕ). most_open z xs) (let e : m ≡ max m (n + 0) = omega arith in e)
+  most_open-items (parameter_item w p more) n m xs le =
+      let e : max (max m (n + depth_of p)) (n + items_depth more) ≡ max m (n + max (depth_of p) (items_depth more)) = omega arith in
+      ap (most_open m) (append_assoc (events n None p) (item_events n more) xs)
+      ∙ most_open-shape p None n m (item_events n more ++ xs)
+      ∙ most_open-items more n (max m (n + depth_of p)) xs (omega arith)
+      ∙ ap (λ (z : ℕ). most_open z xs) e
+  most_open-items (pair_item w key u v p more) n m xs le =
+      let e : max (max m (n + depth_of p)) (n + items_depth more) ≡ max m (n + max (depth_of p) (items_depth more)) = omega arith in
+      ap (most_open m) (append_assoc (events n (Some key) p) (item_events n more) xs)
+      ∙ most_open-shape p (Some key) n m (item_events n more ++ xs)
+      ∙ most_open-items more n (max m (n + depth_of p)) xs (omega arith)
+      ∙ ap (λ (z : ℕ). most_open z xs) e
+
+pub most_open-line : (name : Shape) (items : Items) → most_open 0 (events 0 None name ++ (item_events 0 items ++ [])) ≡ max (depth_of name) (items_depth items)
+most_open-line name items =
+    let e : max (max 0 (0 + depth_of name)) (0 + items_depth items) ≡ max (depth_of name) (items_depth items) = omega arith in
+    most_open-shape name None 0 0 (item_events 0 items ++ [])
+    ∙ most_open-items items 0 (max 0 (0 + depth_of name)) [] (omega arith)
+    ∙ e
+
+-- ---- what it means
+
+abbrev framed : Frame → List Frame → Frames
+framed f fs = record { top = f; around = fs }
+
+-- a call with its name and these terms
+abbrev pub named_frame : Option (List ℕ) → Term → Terms → Frame
+named_frame key name terms = record { key = key; name = Some name; terms = terms }
+
+-- the frames of a whole line
+abbrev pub whole_frames : Term → Terms → Frames
+whole_frames name terms = framed (named_frame None name terms) []
+
+joined-assoc : (a b c : Terms) → joined (joined a b) c ≡ joined a (joined b c)
+joined-assoc no_terms b c = refl
+joined-assoc (term key t a) b c = ap (term key t) (joined-assoc a b c)
+
+joined-none : (a : Terms) → joined a no_terms ≡ a
+joined-none no_terms = refl
+joined-none (term key t a) = ap (term key t) (joined-none a)
+
+mutual
+  build-shape : (p : Shape) (rest : List ℕ) → Fits p rest → (key : Option (List ℕ)) (n : ℕ) (f : Frame) (fs : List Frame) (xs : List Event) → build_all (framed f fs) (events n key p ++ xs) ≡ build_all (framed (add_term key (term_of p) f) fs) xs
+  build-shape (literal_shape l) rest fits key n f fs xs = refl
+  build-shape (path_shape t means) rest fits key n f fs xs = rw (path_known t means fits) refl
+  build-shape (nested_shape w name items v) rest fits key n f fs xs =
+      ap (build_all (framed (new_frame key) (f ∷ fs))) (nested_events n name items xs)
+      ∙ build-shape name _ fits.2 None (suc n) (new_frame key) (f ∷ fs) (item_events (suc n) items ++ closed ∷ xs)
+      ∙ build-items items _ fits.3 (suc n) key (term_of name) no_terms (f ∷ fs) (closed ∷ xs)
+
+  build-items : (items : Items) (rest : List ℕ) → AreItems items rest → (n : ℕ) (key : Option (List ℕ)) (name : Term) (terms : Terms) (fs : List Frame) (xs : List Event)
+      → build_all (framed (named_frame key name terms) fs) (item_events n items ++ xs) ≡ build_all (framed (named_frame key name (joined terms (terms_of items))) fs) xs
+  build-items no_items rest fits n key name terms fs xs = ap (λ (z : Terms). build_all (framed (named_frame key name z) fs) xs) (sym (joined-none terms))
+  build-items (parameter_item w p more) rest fits n key name terms fs xs =
+      ap (build_all (framed (named_frame key name terms) fs)) (append_assoc (events n None p) (item_events n more) xs)
+      ∙ build-shape p _ fits.4 None n (named_frame key name terms) fs (item_events n more ++ xs)
+      ∙ build-items more rest fits.5 n key name (joined terms (term None (term_of p) no_terms)) fs xs
+      ∙ ap (λ (z : Terms). build_all (framed (named_frame key name z) fs) xs) (joined-assoc terms (term None (term_of p) no_terms) (terms_of more))
+  build-items (pair_item w k u v p more) rest fits n key name terms fs xs =
+      ap (build_all (framed (named_frame key name terms) fs)) (append_assoc (events n (Some k) p) (item_events n more) xs)
+      ∙ build-shape p _ fits.6 (Some k) n (named_frame key name terms) fs (item_events n more ++ xs)
+      ∙ build-items more rest fits.7 n key name (joined terms (term (Some k) (term_of p) no_terms)) fs xs
+      ∙ ap (λ (z : Terms). build_all (framed (named_frame key name z) fs) xs) (joined-assoc terms (term (Some k) (term_of p) no_terms) (terms_of more))
+
+pub build-line : (name : Shape) (items : Items) (t left : List ℕ) → Fits name t → AreItems items left → build_all first_frames (events 0 None name ++ (item_events 0 items ++ [])) ≡ Some (whole_frames (term_of name) (terms_of items))
+build-line name items t left fits are_items =
+    build-shape name t fits None 0 (new_frame None) [] (item_events 0 items ++ [])
+    ∙ build-items items left are_items 0 None (term_of name) no_terms [] []

@@ -1,0 +1,198 @@
+-- Paths, keys and the ends of lines in front of a text, and with which bytes parameters begin.
+use Rattle.std.proofs.Common.{◌≡◌, ◌≢◌, ℕ, suc, ◌+◌, Bool, true, false, ◌||◌, List, [], ◌∷◌, ◌++◌, length, drop, Option, Some, None, refl, sym, ap, subst, ◌∙◌, append-nil, arith, inl, inr}
+use Rattle.std.specs.Prelude.{◌==◌, is_some}
+use Rattle.std.specs.List.{prefix_len, AllByRecursion}
+use Rattle.std.specs.Option.{option_map}
+use Rattle.std.proofs.lemmas.Bool.{eqb-true, ne_eqb, cases_Bool, both_ways, or_parts, not-false}
+use Rattle.std.proofs.lemmas.List.{take-append-drop, take_at, drop_at, append_cancel_right}
+use Rattle.std.proofs.lemmas.Option.{same_Some}
+use Rattle.handlebars_base.specs.Bytes.{is_white}
+use Rattle.handlebars_base.specs.Path.{is_symbol, IsIdentifier, Reference, raw_of, IsPath}
+use Rattle.handlebars_base.specs.PathReading.{◌>>=◌, after, symbols_of, behind_symbols, slice_at, path_at, is_reference_byte, starts_reference, stops, reference_from, reference_len}
+use Rattle.handlebars_base.proofs.OptionBinds.{bind_some, map_some, guard_bind}
+use Rattle.handlebars_base.proofs.PathMarks.{after_takes, prefix_pass, prefix_again}
+use Rattle.handlebars_base.proofs.PathsInFront.{path_at-some, path_at-stops}
+use Rattle.handlebars_base.proofs.References.{stops-path, reference_len-append}
+use Rattle.handlebars_lines.specs.Literal.{IsWhite, Literal, quoted, single_quoted, number, word, empty, filled, array, object, spelled_literal, IsLiteral, literal_depth, goes_on, starts, IsLiteralAt}
+use Rattle.handlebars_lines.specs.LiteralReading.{behind_white, Slice, literal_at}
+use Rattle.handlebars_lines.specs.Laws.{HasLiteral}
+use Rattle.handlebars_lines.specs.Parameter.{Shape, literal_shape, path_shape, nested_shape, Items, no_items, parameter_item, pair_item, spelled_shape, spelled_items, Fits, AreItems}
+use Rattle.handlebars_lines.specs.Line.{Enclosure, in_tag, in_parentheses, end_of, Closes}
+use Rattle.handlebars_lines.specs.LineReading.{behind_end, key_at}
+use Rattle.handlebars_lines.proofs.Fronts.{behind_white-skips, behind_white-dark, behind_white-append, starts-other, starts-append, after-not, after-same}
+use Rattle.handlebars_lines.proofs.Plain.{GoesOn, number_goes_on, word_goes_on}
+use Rattle.handlebars_lines.proofs.LiteralsFound.{literal_at-is, literal_at-some}
+
+-- ---- paths
+
+pub record TakesPath (t raw rest : List ℕ) : Type 0 where
+  pub means : Reference
+  pub whole : t ≡ raw ++ rest
+  pub is : IsPath raw means
+
+pub slice_at-some : (t : List ℕ) (p : List ℕ × List ℕ) → slice_at t ≡ Some p → TakesPath t p.0 p.1
+slice_at-some t p e =
+    let m = map_some (λ (q : Reference × List ℕ). (raw_of q.0, q.1)) (path_at t) p e in
+    let h = path_at-some t m.0 m.1 in
+    subst (λ (z : List ℕ × List ℕ). TakesPath t z.0 z.1) m.2 (record { means = m.0.0; whole = h.whole; is = h.path })
+
+pub slice_at-stops : (raw rest : List ℕ) (means : Reference) → IsPath raw means → stops rest ≡ true → slice_at (raw ++ rest) ≡ Some (raw, rest)
+slice_at-stops raw rest means h stop =
+    let found = path_at-stops raw rest means h stop in
+    let front = path_at-some (raw ++ rest) (means, rest) found in
+    let same : raw_of means ≡ raw = sym (append_cancel_right raw (raw_of means) rest front.whole) in
+    ap (option_map (λ (q : Reference × List ℕ). (raw_of q.0, q.1))) found ∙ ap (λ (z : List ℕ). Some (z, rest)) same
+
+-- ---- literals
+
+pub record FindsLiteral (t : List ℕ) (l : Literal) (behind : List ℕ) : Type 0 where
+  pub slice : Slice
+  pub found : literal_at t ≡ Some slice
+  pub raw : slice.raw ≡ spelled_literal l
+  pub rest : slice.rest ≡ behind
+  pub depth : slice.depth ≡ literal_depth l
+
+pub literal_at-finds : (t : List ℕ) (l : Literal) (rest : List ℕ) → IsLiteralAt t l rest → FindsLiteral t l rest
+literal_at-finds t l rest h =
+    let f : Slice = record { raw = spelled_literal l; rest = rest; depth = literal_depth l } in
+    let is : HasLiteral t f = record { literal = l; is = h; raw = refl; depth = refl } in
+    record { slice = f; found = literal_at-is t f is; raw = refl; rest = refl; depth = refl }
+
+pub literal_at-missing : (t : List ℕ) → ((l : Literal) (behind : List ℕ) → IsLiteralAt t l behind → ⊥) → literal_at t ≡ None
+literal_at-missing t none = on (literal_at t) refl
+  where
+    on : (o : Option Slice) → literal_at t ≡ o → literal_at t ≡ None
+    on None e = e
+    on (Some f) e = let h = literal_at-some t f e in absurd (none h.literal f.rest h.is)
+
+-- ---- keys
+
+pub other_byte : (p : ℕ → Bool) (c : ℕ) → p c ≡ false → (b : ℕ) → p b ≡ true → (b == c) ≡ false
+other_byte p c never b is = ne_eqb b c (λ e. let same : p b ≡ p c = ap p e in absurd cc)
+
+pub symbol_dark : (b : ℕ) → is_symbol b ≡ true → is_white b ≡ false
+symbol_dark b h =
+    rw (other_byte is_symbol 32 refl b h, other_byte is_symbol 9 refl b h, other_byte is_symbol 10 refl b h, other_byte is_symbol 13 refl b h) refl
+
+pub white_symbol : (b : ℕ) → is_white b ≡ true → is_symbol b ≡ false
+white_symbol b h = elim (cases_Bool (is_symbol b)) [
+  | inl is ↦ absurd (both_ways (is_white b) (symbol_dark b is) h)
+  | inr other ↦ other
+]
+
+pub symbols_of-append : (n rest : List ℕ) → AllByRecursion (λ b. is_symbol b ≡ true) n → prefix_len is_symbol rest ≡ 0 → symbols_of (n ++ rest) ≡ n
+symbols_of-append n rest all stop = take_at n rest _ (sym (prefix_again is_symbol n rest all stop))
+
+pub behind_symbols-append : (n rest : List ℕ) → AllByRecursion (λ b. is_symbol b ≡ true) n → prefix_len is_symbol rest ≡ 0 → behind_symbols (n ++ rest) ≡ rest
+behind_symbols-append n rest all stop = drop_at n rest _ (sym (prefix_again is_symbol n rest all stop))
+
+pub no_symbols : (t : List ℕ) → starts is_symbol t ≡ false → prefix_len is_symbol t ≡ 0
+no_symbols [] h = refl
+no_symbols (b ∷ t) h = rw h refl
+
+pub record TakesKey (t key rest : List ℕ) : Type 0 where
+  pub before : List ℕ
+  pub behind : List ℕ
+  pub whole : t ≡ key ++ (before ++ 61 ∷ (behind ++ rest))
+  pub is : IsIdentifier key
+  pub white : IsWhite before
+  pub white' : IsWhite behind
+
+symbols_some : (t : List ℕ) → (prefix_len is_symbol t == 0) ≡ false → symbols_of t ≢ []
+symbols_some [] h = absurd cc
+symbols_some (b ∷ t) h = on (is_symbol b) refl
+  where
+    on : (c : Bool) → is_symbol b ≡ c → symbols_of (b ∷ t) ≢ []
+    on true is none =
+        let long : 1 + prefix_len is_symbol t ≡ suc (prefix_len is_symbol t) = omega arith in
+        let first : symbols_of (b ∷ t) ≡ b ∷ symbols_of t = rw (is, long) refl in
+        let e : b ∷ symbols_of t ≡ [] = sym first ∙ none in
+        absurd cc
+    on false is none = let no : (0 == 0) ≡ false = rw is at h in absurd cc
+
+pub key_at-some : (t : List ℕ) (k : List ℕ × List ℕ) → key_at t ≡ Some k → TakesKey t k.0 k.1
+unfolding key_at
+key_at-some t k e =
+    let g = guard_bind (prefix_len is_symbol t == 0) (after 61 (behind_white (behind_symbols t)) >>= λ r. Some (symbols_of t, behind_white r)) k e in
+    let b = bind_some (after 61 (behind_white (behind_symbols t))) (λ r. Some (symbols_of t, behind_white r)) k g.1 in
+    let before = behind_white-skips (behind_symbols t) in
+    let behind = behind_white-skips b.0 in
+    let same : (symbols_of t, behind_white b.0) ≡ k = same_Some (symbols_of t, behind_white b.0) k b.2 in
+    let sign : behind_white (behind_symbols t) ≡ 61 ∷ b.0 = after_takes 61 (behind_white (behind_symbols t)) b.0 b.1 in
+    subst (λ (z : List ℕ × List ℕ). TakesKey t z.0 z.1) same (record {
+      before = before.white;
+      behind = behind.white;
+      whole = sym (take-append-drop (prefix_len is_symbol t) t) ∙ ap (λ (z : List ℕ). symbols_of t ++ z) (before.whole ∙ ap (λ (z : List ℕ). before.white ++ z) (sign ∙ ap (λ (z : List ℕ). 61 ∷ z) behind.whole));
+      is = (symbols_some t g.0, prefix_pass is_symbol t);
+      white = before.is;
+      white' = behind.is;
+    })
+
+pub key_at-none : (t : List ℕ) → starts (λ b. b == 61) (behind_white (behind_symbols t)) ≡ false → key_at t ≡ None
+unfolding key_at
+key_at-none t h = elim (cases_Bool (prefix_len is_symbol t == 0)) [
+  | inl none ↦ rw none refl
+  | inr some ↦ rw (some, after-not 61 (behind_white (behind_symbols t)) h) refl
+]
+
+pub key_at-dark : (t : List ℕ) → starts is_symbol t ≡ false → key_at t ≡ None
+unfolding key_at
+key_at-dark t h = rw (no_symbols t h) refl
+
+pub key_at-append : (key u v t : List ℕ) → IsIdentifier key → IsWhite u → IsWhite v → starts is_white t ≡ false → key_at (key ++ (u ++ 61 ∷ (v ++ t))) ≡ Some (key, t)
+unfolding key_at
+key_at-append key u v t id white-u white-v dark_t =
+    let sign_at : List ℕ = u ++ 61 ∷ (v ++ t) in
+    let stop : prefix_len is_symbol sign_at ≡ 0 = no_symbols sign_at (ends_key u white-u) in
+    let take_it = symbols_of-append key sign_at id.1 stop in
+    let drop_it = behind_symbols-append key sign_at id.1 stop in
+    let some : (prefix_len is_symbol (key ++ sign_at) == 0) ≡ false = not_none key id in
+    let sign = behind_white-append u (61 ∷ (v ++ t)) white-u refl in
+    let dark = behind_white-append v t white-v dark_t in
+    rw (some, drop_it, sign, after-same 61 (v ++ t), take_it, dark) refl
+  where
+    ends_key : (u : List ℕ) → IsWhite u → starts is_symbol (u ++ 61 ∷ (v ++ t)) ≡ false
+    ends_key [] white = refl
+    ends_key (c ∷ u) white = white_symbol c white.0
+
+    not_none : (key : List ℕ) → IsIdentifier key → (prefix_len is_symbol (key ++ (u ++ 61 ∷ (v ++ t))) == 0) ≡ false
+    not_none [] id = absurd (id.0 refl)
+    not_none (c ∷ key) id = rw id.1.0 (ne_eqb (1 + prefix_len is_symbol (key ++ (u ++ 61 ∷ (v ++ t)))) 0 (λ e. absurd (omega (arith, e))))
+
+-- ---- ends
+
+end_takes : (around : Enclosure) (t r : List ℕ) → behind_end around t ≡ Some r → t ≡ end_of around ++ r
+unfolding behind_end
+end_takes in_tag t r e =
+    let b = bind_some (after 125 t) (after 125) r e in
+    after_takes 125 t b.0 b.1 ∙ ap (λ (z : List ℕ). 125 ∷ z) (after_takes 125 b.0 r b.2)
+end_takes in_parentheses t r e = after_takes 41 t r e
+
+some_is : {A : Type 0} (o : Option A) → is_some o ≡ true → (x : A) × (o ≡ Some x)
+some_is None e = absurd cc
+some_is (Some x) e = (x, refl)
+
+pub end_closes : (around : Enclosure) (t : List ℕ) → is_some (behind_end around (behind_white t)) ≡ true → Closes around t
+end_closes around t e =
+    let r = some_is (behind_end around (behind_white t)) e in
+    let white = behind_white-skips t in
+    record {
+      white = white.white;
+      rest = r.0;
+      is_white = white.is;
+      whole = white.whole ∙ ap (λ (z : List ℕ). white.white ++ z) (end_takes around (behind_white t) r.0 r.1);
+    }
+
+pub closes_end : (around : Enclosure) (t : List ℕ) → Closes around t → is_some (behind_end around (behind_white t)) ≡ true
+unfolding behind_end
+closes_end in_tag t h =
+    let dark : behind_white t ≡ 125 ∷ 125 ∷ h.rest = ap behind_white h.whole ∙ behind_white-append h.white (125 ∷ 125 ∷ h.rest) h.is_white refl in
+    rw (dark, after-same 125 (125 ∷ h.rest), after-same 125 h.rest) refl
+closes_end in_parentheses t h =
+    let dark : behind_white t ≡ 41 ∷ h.rest = ap behind_white h.whole ∙ behind_white-append h.white (41 ∷ h.rest) h.is_white refl in
+    rw (dark, after-same 41 h.rest) refl
+
+pub no_end : (around : Enclosure) (t : List ℕ) → starts (λ b. b == 125) t ≡ false → starts (λ b. b == 41) t ≡ false → behind_end around t ≡ None
+unfolding behind_end
+no_end in_tag t brace shut = rw (after-not 125 t brace) refl
+no_end in_parentheses t brace shut = after-not 41 t shut

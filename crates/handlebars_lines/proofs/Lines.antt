@@ -1,0 +1,194 @@
+-- A line stands in front just where the steps come to an end, and there is one at most; and what loops over the steps
+-- keep.
+use Rattle.std.proofs.Common.{◌≡◌, ℕ, ◌+◌, ◌<◌, ◌≤◌, List, [], ◌∷◌, ◌++◌, length, Option, Some, None, refl, sym, ap, subst, ◌∙◌, arith, max}
+use Rattle.std.proofs.lemmas.Option.{same_Some, none-some}
+use Rattle.std.specs.Option.{option_map}
+use Rattle.handlebars_base.specs.PathReading.{◌>>=◌}
+use Rattle.handlebars_lines.specs.Runs.{goes, ends, stuck}
+use Rattle.handlebars_lines.specs.Parameter.{Term, Terms, Shape, Items, term_of, terms_of, depth_of, items_depth}
+use Rattle.handlebars_lines.specs.Line.{Enclosure, Line, IsLine, NoLine}
+use Rattle.handlebars_lines.specs.LineReading.{Event, at_name, State, state, line_step, height, most_open, Frames, first_frames, build, build_all, line_in, line_from}
+use Rattle.handlebars_lines.specs.LineLaws.{HasLine, OneLine}
+use Rattle.handlebars_lines.proofs.Stepping.{Runs, last, none, Still, still-starts, still-goes}
+use Rattle.handlebars_lines.proofs.Endings.{one_end, not_both, runs-goes, runs-ends, runs-stuck, Through, through-starts, through-goes}
+use Rattle.handlebars_lines.proofs.LinesRead.{events, item_events, runs_read}
+use Rattle.handlebars_lines.proofs.LinesFound.{line_runs}
+use Rattle.handlebars_lines.proofs.LineEvents.{most_open-line, whole_frames, build-line}
+use Rattle.handlebars_lines.proofs.LineBounds.{line_bounds, line_shortens}
+
+-- ---- a line is what the steps find
+
+abbrev pub line_events : Shape → Items → List Event
+line_events name items = events 0 None name ++ (item_events 0 items ++ [])
+
+-- what is built, with how deep it is
+from_built : (xs : List Event) (name : Term) (terms : Terms) (depth : ℕ) → build_all first_frames xs ≡ Some (whole_frames name terms) → most_open 0 xs ≡ depth → line_from xs ≡ Some (record { name = name; terms = terms; depth = depth })
+from_built xs name terms depth built deep = rw (built, deep) refl
+
+pub record FindsLine (around : Enclosure) (t : List ℕ) (line : Line) (left : List ℕ) : Type 0 where
+  pub events : List Event
+  pub runs : Runs (line_step around) (state at_name 0) t events left
+  pub deep : most_open 0 events ≡ line.depth
+  pub built : build_all first_frames events ≡ Some (whole_frames line.name line.terms)
+  pub from : line_from events ≡ Some line
+
+pub line_found : (around : Enclosure) (t : List ℕ) (line : Line) (left : List ℕ) → IsLine around t line left → FindsLine around t line left
+line_found around t line left h =
+    let xs : List Event = line_events h.name h.items in
+    let deep = most_open-line h.name h.items in
+    let built = build-line h.name h.items (_) left h.fits h.are_items in
+    record {
+      events = xs;
+      runs = subst (λ (z : List ℕ). Runs (line_step around) (state at_name 0) z xs left) (sym h.whole) (line_runs around h.name h.items left h.is_name h.fits h.are_items h.closes);
+      deep = deep ∙ ap (λ (z : Line). z.depth) (sym h.gives);
+      built = built ∙ ap (λ (z : Line). Some (whole_frames z.name z.terms)) (sym h.gives);
+      from = from_built xs (term_of h.name) (terms_of h.items) (max (depth_of h.name) (items_depth h.items)) built deep ∙ ap (λ (z : Line). Some z) (sym h.gives);
+    }
+
+pub record MakesLine (around : Enclosure) (t : List ℕ) (xs : List Event) (left : List ℕ) : Type 0 where
+  pub line : Line
+  pub is : IsLine around t line left
+  pub deep : line.depth ≡ most_open 0 xs
+  pub built : build_all first_frames xs ≡ Some (whole_frames line.name line.terms)
+  pub from : line_from xs ≡ Some line
+
+pub line_made : (around : Enclosure) (t : List ℕ) (xs : List Event) (left : List ℕ) → Runs (line_step around) (state at_name 0) t xs left → MakesLine around t xs left
+line_made around t xs left runs =
+    let h = runs_read around (state at_name 0) t xs left runs in
+    let c = h.shuts in
+    let all : xs ≡ line_events h.name h.items = h.found ∙ ap (λ (z : List Event). events 0 None h.name ++ (item_events 0 h.items ++ z)) c.2 in
+    let deep : most_open 0 xs ≡ max (depth_of h.name) (items_depth h.items) = ap (most_open 0) all ∙ most_open-line h.name h.items in
+    let built : build_all first_frames xs ≡ Some (whole_frames (term_of h.name) (terms_of h.items)) = ap (build_all first_frames) all ∙ build-line h.name h.items (_) h.rest h.fits h.are_items in
+    subst (λ (z : List ℕ). MakesLine around t xs z) c.1 (record {
+      line = record { name = term_of h.name; terms = terms_of h.items; depth = max (depth_of h.name) (items_depth h.items) };
+      is = record {
+        name = h.name;
+        items = h.items;
+        whole = h.whole;
+        is_name = h.is_name;
+        fits = h.fits;
+        are_items = h.are_items;
+        closes = c.0;
+        gives = refl;
+      };
+      deep = sym deep;
+      built = built;
+      from = from_built xs (term_of h.name) (terms_of h.items) (max (depth_of h.name) (items_depth h.items)) built deep;
+    })
+
+pub one_line : OneLine
+one_line around t a b left left' h g =
+    let x = line_found around t a left h in
+    let y = line_found around t b left' g in
+    let one = one_end (line_step around) (line_shortens around) (state at_name 0) t x.events y.events left left' x.runs y.runs in
+    (same_Some a b (sym x.from ∙ ap line_from one.events ∙ y.from), one.lefts)
+
+-- ---- the loop that measures
+
+-- what it keeps: the steps so far, and the greatest height of them
+pub record Measures (around : Enclosure) (t : List ℕ) (s : State) (rest : List ℕ) (depth : ℕ) : Type 0 where
+  pub still : Still (line_step around) (state at_name 0) t (most_open 0) s rest (most_open depth)
+  pub level_within : s.level + length rest ≤ length t
+  pub depth_within : depth + length rest ≤ length t
+
+pub measure-starts : (around : Enclosure) (t : List ℕ) → Measures around t (state at_name 0) t 0
+measure-starts around t = record {
+  still = still-starts (line_step around) (state at_name 0) t (most_open 0);
+  level_within = omega arith;
+  depth_within = omega arith;
+}
+
+pub measure-goes : (around : Enclosure) (t : List ℕ) (s : State) (rest : List ℕ) (depth : ℕ) (x : Event) (s' : State) (rest' : List ℕ) (depth' : ℕ) → goes x s' rest' ≡ line_step around s rest → depth' ≡ max depth (height x)
+    → Measures around t s rest depth → Measures around t s' rest' depth'
+measure-goes around t s rest depth x s' rest' depth' is more h =
+    let bounds = line_bounds around s rest x s' rest' is in
+    record {
+      still = still-goes (line_step around) (state at_name 0) t (most_open 0) s rest (most_open depth) x s' rest' (most_open depth') (sym is) (λ xs. ap (λ (z : ℕ). most_open z xs) (sym more)) h.still;
+      level_within = omega (arith, bounds.level_within, h.level_within);
+      depth_within = omega (arith, more, bounds.shorter, bounds.height_within, h.level_within, h.depth_within);
+    }
+
+pub measure-ends : (around : Enclosure) (t : List ℕ) (s : State) (rest : List ℕ) (depth : ℕ) → ends ≡ line_step around s rest → Measures around t s rest depth → HasLine around t depth rest
+measure-ends around t s rest depth is h =
+    let back = h.still.ran [] rest (last (sym is)) in
+    let made = line_made around t back.0 rest back.1 in
+    record { line = made.line; is = made.is; deep = made.deep ∙ back.2 }
+
+pub measure-stuck : (around : Enclosure) (t : List ℕ) (s : State) (rest : List ℕ) (depth : ℕ) → stuck ≡ line_step around s rest → Measures around t s rest depth → NoLine around t
+measure-stuck around t s rest depth is h line left l =
+    let f = line_found around t line left l in
+    not_both (line_step around) (line_shortens around) (state at_name 0) t f.events left f.runs (h.still.failed (none (sym is)))
+
+-- ---- the loop that builds
+
+-- what it keeps: what is built of all the steps is built of those from here on
+abbrev pub Builds : Enclosure → List ℕ → State → List ℕ → Frames → Type 0
+Builds around t s rest fs = Through (line_step around) (state at_name 0) t (build_all first_frames) s rest (build_all fs)
+
+pub build-starts : (around : Enclosure) (t : List ℕ) → Builds around t (state at_name 0) t first_frames
+build-starts around t = through-starts (line_step around) (state at_name 0) t (build_all first_frames)
+
+pub build-goes : (around : Enclosure) (t : List ℕ) (s : State) (rest : List ℕ) (fs : Frames) (x : Event) (s' : State) (rest' : List ℕ) (fs' : Frames) → goes x s' rest' ≡ line_step around s rest → Some fs' ≡ build fs x
+    → Builds around t s rest fs → Builds around t s' rest' fs'
+build-goes around t s rest fs x s' rest' fs' is made h =
+    through-goes (line_step around) (state at_name 0) t (build_all first_frames) s rest (build_all fs) x s' rest' (build_all fs') (sym is) (λ xs. ap (λ (z : Option Frames). z >>= λ gs. build_all gs xs) (sym made)) h
+
+-- what the loop answers where a line stands: its frames
+abbrev pub IsBuilt : Enclosure → List ℕ → Option Frames → Type 0
+IsBuilt around t o = (line : Line) (left : List ℕ) → IsLine around t line left → o ≡ Some (whole_frames line.name line.terms)
+
+pub build-ends : (around : Enclosure) (t : List ℕ) (s : State) (rest : List ℕ) (fs : Frames) → ends ≡ line_step around s rest → Builds around t s rest fs → IsBuilt around t (Some fs)
+build-ends around t s rest fs is h line left l =
+    let f = line_found around t line left l in
+    let p = h.passes f.events left f.runs in
+    let over = runs-ends (line_step around) s rest p.0 left p.1 (sym is) in
+    ap (build_all fs) (sym over.0) ∙ sym p.2 ∙ f.built
+
+pub build-stuck : {A : Type 0} (around : Enclosure) (t : List ℕ) (s : State) (rest : List ℕ) (fs : Frames) (line : Line) (left : List ℕ) → stuck ≡ line_step around s rest → Builds around t s rest fs → IsLine around t line left → A
+build-stuck around t s rest fs line left is h l =
+    let f = line_found around t line left l in
+    let p = h.passes f.events left f.runs in
+    runs-stuck (line_step around) s rest p.0 left p.1 (sym is)
+
+pub build-lost : {A : Type 0} (around : Enclosure) (t : List ℕ) (s : State) (rest : List ℕ) (fs : Frames) (x : Event) (s' : State) (rest' : List ℕ) (line : Line) (left : List ℕ) → goes x s' rest' ≡ line_step around s rest → None ≡ build fs x
+    → Builds around t s rest fs → IsLine around t line left → A
+build-lost around t s rest fs x s' rest' line left is lost h l =
+    let f = line_found around t line left l in
+    let p = h.passes f.events left f.runs in
+    let r = runs-goes (line_step around) s rest p.0 left x s' rest' p.1 (sym is) in
+    let nothing : build_all fs p.0 ≡ None = ap (build_all fs) r.1 ∙ ap (λ (z : Option Frames). z >>= λ gs. build_all gs r.0) (sym lost) in
+    absurd (none-some (whole_frames line.name line.terms) (sym nothing ∙ sym p.2 ∙ f.built))
+
+-- ---- the line of what is built
+
+-- the name and the terms of the outermost call
+abbrev pub call_in : Frames → Option (Term × Terms)
+call_in fs = option_map (λ name. (name, fs.top.terms)) fs.top.name
+
+-- what the loop answers where a line stands: its name and its terms
+abbrev pub IsMeant : Enclosure → List ℕ → Option (Term × Terms) → Type 0
+IsMeant around t o = (line : Line) (left : List ℕ) → IsLine around t line left → o ≡ Some (line.name, line.terms)
+
+pub meant-ends : (around : Enclosure) (t : List ℕ) (s : State) (rest : List ℕ) (fs : Frames) → ends ≡ line_step around s rest → Builds around t s rest fs → IsMeant around t (call_in fs)
+meant-ends around t s rest fs is h line left l =
+    ap call_in (same_Some fs (whole_frames line.name line.terms) (build-ends around t s rest fs is h line left l))
+
+pub meant-stuck : (around : Enclosure) (t : List ℕ) (s : State) (rest : List ℕ) (fs : Frames) (o : Option (Term × Terms)) → stuck ≡ line_step around s rest → Builds around t s rest fs → IsMeant around t o
+meant-stuck around t s rest fs o is h line left l = build-stuck around t s rest fs line left is h l
+
+pub meant-lost : (around : Enclosure) (t : List ℕ) (s : State) (rest : List ℕ) (fs : Frames) (x : Event) (s' : State) (rest' : List ℕ) (o : Option (Term × Terms)) → goes x s' rest' ≡ line_step around s rest → None ≡ build fs x
+    → Builds around t s rest fs → IsMeant around t o
+meant-lost around t s rest fs x s' rest' o is lost h line left l = build-lost around t s rest fs x s' rest' line left is lost h l
+
+-- ---- both
+
+-- where a line stands, so deep, what is meant is it
+pub answers_line : (around : Enclosure) (t left : List ℕ) (depth : ℕ) (name : Term) (terms : Terms) → HasLine around t depth left → IsMeant around t (Some (name, terms)) → IsLine around t (record { name = name; terms = terms; depth = depth }) left
+answers_line around t left depth name terms h meant =
+    let same : (name, terms) ≡ (h.line.name, h.line.terms) = same_Some (name, terms) (h.line.name, h.line.terms) (meant h.line left h.is) in
+    let made : IsLine around t (record { name = h.line.name; terms = h.line.terms; depth = depth }) left = subst (λ (z : ℕ). IsLine around t (record { name = h.line.name; terms = h.line.terms; depth = z }) left) h.deep h.is in
+    subst (λ (z : Term × Terms). IsLine around t (record { name = z.0; terms = z.1; depth = depth }) left) (sym same) made
+
+-- and something is
+pub answers_none : {A : Type 0} (around : Enclosure) (t left : List ℕ) (depth : ℕ) → HasLine around t depth left → IsMeant around t None → A
+answers_none around t left depth h meant = absurd (none-some (h.line.name, h.line.terms) (meant h.line left h.is))

@@ -1,0 +1,320 @@
+-- Lines: from what the steps take to what stands in front.
+use Rattle.std.proofs.Common.{◌≡◌, ◌≢◌, ℕ, zero, suc, ◌+◌, Bool, true, false, cond, ◌||◌, List, [], ◌∷◌, ◌++◌, Option, Some, None, refl, sym, ap, subst, ◌∙◌, append_assoc}
+use Rattle.std.specs.List.{list_all}
+use Rattle.std.proofs.lemmas.Option.{none-some}
+use Rattle.handlebars_base.specs.Path.{is_symbol, IsIdentifier, Reference, IsPath}
+use Rattle.handlebars_lines.specs.Runs.{ends}
+use Rattle.handlebars_lines.specs.Literal.{IsWhite, Literal, spelled_literal, literal_depth, goes_on, starts, IsLiteralAt}
+use Rattle.handlebars_lines.specs.LiteralReading.{literal_at}
+use Rattle.handlebars_lines.specs.Parameter.{Shape, literal_shape, path_shape, nested_shape, Items, no_items, parameter_item, pair_item, spelled_shape, spelled_items, is_name, IsFree, IsChosen, Fits, AreItems}
+use Rattle.handlebars_lines.specs.Line.{Enclosure, Closes}
+use Rattle.handlebars_lines.specs.LineReading.{Event, opened, literal_event, path_event, closed, Stand, at_name, at_items, at_end, State, state, behind_name, is_excluded, line_step}
+use Rattle.handlebars_lines.proofs.Stepping.{Runs, last, onward}
+use Rattle.handlebars_lines.proofs.LineMarks.{literal_at-finds}
+use Rattle.handlebars_lines.proofs.LineSteps.{ParameterStepped, to_nested, to_literal, to_path, LineStepped, to_inner, to_name, to_parameter, to_pair, to_closed, line_stepped, line_ends}
+
+-- ---- what the steps find of a line
+
+abbrev mutual
+  pub events : ℕ → Option (List ℕ) → Shape → List Event
+  events n key (literal_shape l) = literal_event key (spelled_literal l) (n + literal_depth l) ∷ []
+  events n key (path_shape t means) = path_event key t n ∷ []
+  events n key (nested_shape w name items v) =
+      opened key (suc n) ∷ (events (suc n) None name ++ (item_events (suc n) items ++ closed ∷ []))
+
+  pub item_events : ℕ → Items → List Event
+  item_events n no_items = []
+  item_events n (parameter_item w p more) = events n None p ++ item_events n more
+  item_events n (pair_item w key u v p more) = events n (Some key) p ++ item_events n more
+
+-- ---- what is left to be read
+
+-- What is left closes so many parentheses, each behind more items, and then what the line stands in.
+abbrev pub Shuts : Enclosure → ℕ → List ℕ → List Event → List ℕ → Type 0
+Shuts around zero t xs e = Closes around t × (t ≡ e) × (xs ≡ [])
+Shuts around (suc n) t xs e = (v : List ℕ) × (items : Items) × (t' : List ℕ) × (ys : List Event) × IsWhite v × AreItems items t'
+    × (t ≡ v ++ 41 ∷ (spelled_items items ++ t')) × (xs ≡ closed ∷ (item_events n items ++ ys)) × Shuts around n t' ys e
+
+pub record ItemsThen (around : Enclosure) (n : ℕ) (t : List ℕ) (xs : List Event) (e : List ℕ) : Type 0 where
+  pub items : Items
+  pub rest : List ℕ
+  pub others : List Event
+  pub are_items : AreItems items rest
+  pub whole : t ≡ spelled_items items ++ rest
+  pub found : xs ≡ item_events n items ++ others
+  pub shuts : Shuts around n rest others e
+
+pub record LineThen (around : Enclosure) (n : ℕ) (t : List ℕ) (xs : List Event) (e : List ℕ) : Type 0 where
+  pub name : Shape
+  pub items : Items
+  pub rest : List ℕ
+  pub others : List Event
+  pub is_name : is_name name items ≡ true
+  pub fits : Fits name (spelled_items items ++ rest)
+  pub are_items : AreItems items rest
+  pub whole : t ≡ spelled_shape name ++ (spelled_items items ++ rest)
+  pub found : xs ≡ events n None name ++ (item_events n items ++ others)
+  pub shuts : Shuts around n rest others e
+
+abbrev pub Reads : Enclosure → Stand → ℕ → List ℕ → List Event → List ℕ → Type 0
+Reads around at_name n t xs e = LineThen around n t xs e
+Reads around at_items n t xs e = ItemsThen around n t xs e
+Reads around at_end n t xs e = Shuts around n t xs e
+
+abbrev pub ReadsAt : Enclosure → State → List ℕ → List Event → List ℕ → Type 0
+ReadsAt around s t xs e = Reads around s.stand s.level t xs e
+
+-- a reserved word only behind a key
+abbrev pub IsAllowed : Option (List ℕ) → Shape → Type 0
+IsAllowed None p = IsFree p
+IsAllowed (Some key) p = Unit {0}
+
+-- a parameter, the items behind it, and what closes
+pub record ParameterThen (around : Enclosure) (key : Option (List ℕ)) (n : ℕ) (t : List ℕ) (xs : List Event) (e : List ℕ) : Type 0 where
+  pub first : Shape
+  pub items : Items
+  pub rest : List ℕ
+  pub others : List Event
+  pub chosen : IsChosen first (spelled_items items ++ rest)
+  pub allowed : IsAllowed key first
+  pub fits : Fits first (spelled_items items ++ rest)
+  pub are_items : AreItems items rest
+  pub whole : t ≡ spelled_shape first ++ (spelled_items items ++ rest)
+  pub found : xs ≡ events n key first ++ (item_events n items ++ others)
+  pub shuts : Shuts around n rest others e
+
+-- ---- one step back: a line in parentheses
+
+pub record NestedThen (around : Enclosure) (key : Option (List ℕ)) (n : ℕ) (t : List ℕ) (xs : List Event) (e : List ℕ) : Type 0 where
+  pub white : List ℕ
+  pub name : Shape
+  pub inner : Items
+  pub behind : List ℕ
+  pub items : Items
+  pub rest : List ℕ
+  pub others : List Event
+  pub fits : Fits (nested_shape white name inner behind) (spelled_items items ++ rest)
+  pub are_items : AreItems items rest
+  pub whole : t ≡ spelled_shape (nested_shape white name inner behind) ++ (spelled_items items ++ rest)
+  pub found : xs ≡ events n key (nested_shape white name inner behind) ++ (item_events n items ++ others)
+  pub shuts : Shuts around n rest others e
+
+pub nested_group : (w name items v r : List ℕ) → w ++ (name ++ (items ++ (v ++ 41 ∷ r))) ≡ (w ++ (name ++ (items ++ (v ++ 41 ∷ [])))) ++ r
+nested_group w name items v r = simp append_assoc
+
+pub events_group : (a b c : List Event) → a ++ (b ++ closed ∷ c) ≡ (a ++ (b ++ closed ∷ [])) ++ c
+events_group a b c = simp append_assoc
+
+nested_then : (around : Enclosure) (key : Option (List ℕ)) (n : ℕ) (w t t' : List ℕ) (xs : List Event) (e : List ℕ) → IsWhite w → t ≡ 40 ∷ (w ++ t') → LineThen around (suc n) t' xs e → NestedThen around key n t (opened key (suc n) ∷ xs) e
+nested_then around key n w t t' xs e white whole line =
+    let c = line.shuts in
+    let behind : line.rest ≡ c.0 ++ 41 ∷ (spelled_items c.1 ++ c.2) = c.6 in
+    record {
+      white = w;
+      name = line.name;
+      inner = line.items;
+      behind = c.0;
+      items = c.1;
+      rest = c.2;
+      others = c.3;
+      fits = (white, line.is_name, subst (λ (z : List ℕ). Fits line.name (spelled_items line.items ++ z)) behind line.fits, subst (AreItems line.items) behind line.are_items, c.4);
+      are_items = c.5;
+      whole = whole
+          ∙ ap (λ (z : List ℕ). 40 ∷ (w ++ z)) (line.whole ∙ ap (λ (z : List ℕ). spelled_shape line.name ++ (spelled_items line.items ++ z)) behind)
+          ∙ ap (λ (z : List ℕ). 40 ∷ z) (nested_group w (spelled_shape line.name) (spelled_items line.items) c.0 (spelled_items c.1 ++ c.2));
+      found = ap (λ (z : List Event). opened key (suc n) ∷ z) (line.found
+          ∙ ap (λ (z : List Event). events (suc n) None line.name ++ (item_events (suc n) line.items ++ z)) c.7
+          ∙ events_group (events (suc n) None line.name) (item_events (suc n) line.items) (item_events n c.1 ++ c.3));
+      shuts = c.8;
+    }
+
+-- ---- one step back: a parameter
+
+allowed_path : (key : Option (List ℕ)) (raw : List ℕ) (means : Reference) → is_excluded key raw ≡ false → IsAllowed key (path_shape raw means)
+allowed_path None raw means e = e
+allowed_path (Some key) raw means e = tt
+
+allowed_literal : (key : Option (List ℕ)) (l : Literal) → IsAllowed key (literal_shape l)
+allowed_literal None l = tt
+allowed_literal (Some key) l = tt
+
+allowed_nested : (key : Option (List ℕ)) (w : List ℕ) (name : Shape) (items : Items) (v : List ℕ) → IsAllowed key (nested_shape w name items v)
+allowed_nested None w name items v = tt
+allowed_nested (Some key) w name items v = tt
+
+pub path_chosen : (raw rest : List ℕ) (means : Reference) → literal_at (raw ++ rest) ≡ None → IsChosen (path_shape raw means) rest
+path_chosen raw rest means none l behind at = none-some _ (sym none ∙ (literal_at-finds (raw ++ rest) l behind at).found)
+
+parameter_then : (around : Enclosure) (key : Option (List ℕ)) (n : ℕ) (t : List ℕ) (x : Event) (s' : State) (t' : List ℕ) (xs : List Event) (e : List ℕ) → ParameterStepped key n t x s' t' → ReadsAt around s' t' xs e → ParameterThen around key n t (x ∷ xs) e
+parameter_then around key n t x s' t' xs e (to_nested w is ev white whole) after =
+    let line : LineThen around (suc n) t' xs e = subst (λ (z : State). ReadsAt around z t' xs e) is after in
+    let h = nested_then around key n w t t' xs e white whole line in
+    record {
+      first = nested_shape h.white h.name h.inner h.behind;
+      items = h.items;
+      rest = h.rest;
+      others = h.others;
+      chosen = tt;
+      allowed = allowed_nested key h.white h.name h.inner h.behind;
+      fits = h.fits;
+      are_items = h.are_items;
+      whole = h.whole;
+      found = ap (λ (z : Event). z ∷ xs) ev ∙ h.found;
+      shuts = h.shuts;
+    }
+parameter_then around key n t x s' t' xs e (to_literal l is ev at) after =
+    let then : ItemsThen around n t' xs e = subst (λ (z : State). ReadsAt around z t' xs e) is after in
+    record {
+      first = literal_shape l;
+      items = then.items;
+      rest = then.rest;
+      others = then.others;
+      chosen = ap (starts goes_on) (sym then.whole) ∙ at.stops;
+      allowed = allowed_literal key l;
+      fits = at.fits;
+      are_items = then.are_items;
+      whole = at.whole ∙ ap (λ (z : List ℕ). spelled_literal l ++ z) then.whole;
+      found = ap (λ (z : Event). z ∷ xs) ev ∙ ap (λ (z : List Event). literal_event key (spelled_literal l) (n + literal_depth l) ∷ z) then.found;
+      shuts = then.shuts;
+    }
+parameter_then around key n t x s' t' xs e (to_path raw means is ev whole h none fine) after =
+    let then : ItemsThen around n t' xs e = subst (λ (z : State). ReadsAt around z t' xs e) is after in
+    let all : t ≡ raw ++ (spelled_items then.items ++ then.rest) = whole ∙ ap (λ (z : List ℕ). raw ++ z) then.whole in
+    record {
+      first = path_shape raw means;
+      items = then.items;
+      rest = then.rest;
+      others = then.others;
+      chosen = path_chosen raw (spelled_items then.items ++ then.rest) means (ap literal_at (sym all) ∙ none);
+      allowed = allowed_path key raw means fine;
+      fits = h;
+      are_items = then.are_items;
+      whole = all;
+      found = ap (λ (z : Event). z ∷ xs) ev ∙ ap (λ (z : List Event). path_event key raw n ∷ z) then.found;
+      shuts = then.shuts;
+    }
+
+-- ---- one step back: a name
+
+or_true : (b : Bool) → (b || true) ≡ true
+or_true true = refl
+or_true false = refl
+
+name_then : (around : Enclosure) (n : ℕ) (raw t t' : List ℕ) (means : Reference) (xs : List Event) (e : List ℕ) → t ≡ raw ++ t' → IsPath raw means → Reads around (behind_name raw) n t' xs e → LineThen around n t (path_event None raw n ∷ xs) e
+name_then around n raw t t' means xs e whole h after = on (list_all is_symbol raw) refl after
+  where
+    on : (c : Bool) → list_all is_symbol raw ≡ c → Reads around (cond c at_items at_end) n t' xs e → LineThen around n t (path_event None raw n ∷ xs) e
+    on true is then = record {
+      name = path_shape raw means;
+      items = then.items;
+      rest = then.rest;
+      others = then.others;
+      is_name = rw is refl;
+      fits = h;
+      are_items = then.are_items;
+      whole = whole ∙ ap (λ (z : List ℕ). raw ++ z) then.whole;
+      found = ap (λ (z : List Event). path_event None raw n ∷ z) then.found;
+      shuts = then.shuts;
+    }
+    on false is then = record {
+      name = path_shape raw means;
+      items = no_items;
+      rest = t';
+      others = xs;
+      is_name = or_true (list_all is_symbol raw);
+      fits = h;
+      are_items = tt;
+      whole = whole;
+      found = refl;
+      shuts = then;
+    }
+
+-- ---- one step back: an item
+
+pub parameter_group : (w p items rest : List ℕ) → w ++ (p ++ (items ++ rest)) ≡ (w ++ (p ++ items)) ++ rest
+parameter_group w p items rest = simp append_assoc
+
+pub pair_group : (w key u v p items rest : List ℕ) → w ++ (key ++ (u ++ 61 ∷ (v ++ (p ++ (items ++ rest))))) ≡ (w ++ (key ++ (u ++ 61 ∷ (v ++ (p ++ items))))) ++ rest
+pair_group w key u v p items rest = simp append_assoc
+
+parameter_item_then : (around : Enclosure) (n : ℕ) (w r t : List ℕ) (xs : List Event) (e : List ℕ) → IsWhite w → w ≢ [] → t ≡ w ++ r → ParameterThen around None n r xs e → ItemsThen around n t xs e
+parameter_item_then around n w r t xs e white some whole p = record {
+  items = parameter_item w p.first p.items;
+  rest = p.rest;
+  others = p.others;
+  are_items = (white, some, p.allowed, p.chosen, p.fits, p.are_items);
+  whole = whole ∙ ap (λ (z : List ℕ). w ++ z) p.whole ∙ parameter_group w (spelled_shape p.first) (spelled_items p.items) p.rest;
+  found = p.found ∙ sym (append_assoc (events n None p.first) (item_events n p.items) p.others);
+  shuts = p.shuts;
+}
+
+pair_item_then : (around : Enclosure) (n : ℕ) (w key u v r t : List ℕ) (xs : List Event) (e : List ℕ) → IsWhite w → w ≢ [] → IsIdentifier key → IsWhite u → IsWhite v → t ≡ w ++ (key ++ (u ++ 61 ∷ (v ++ r))) → ParameterThen around (Some key) n r xs e → ItemsThen around n t xs e
+pair_item_then around n w key u v r t xs e white some id white-u white-v whole p = record {
+  items = pair_item w key u v p.first p.items;
+  rest = p.rest;
+  others = p.others;
+  are_items = (white, some, id, white-u, white-v, p.chosen, p.fits, p.are_items);
+  whole = whole ∙ ap (λ (z : List ℕ). w ++ (key ++ (u ++ 61 ∷ (v ++ z)))) p.whole ∙ pair_group w key u v (spelled_shape p.first) (spelled_items p.items) p.rest;
+  found = p.found ∙ sym (append_assoc (events n (Some key) p.first) (item_events n p.items) p.others);
+  shuts = p.shuts;
+}
+
+-- ---- one step back: any
+
+closed_then : (around : Enclosure) (n : ℕ) (w t t' : List ℕ) (xs : List Event) (e : List ℕ) → IsWhite w → t ≡ w ++ 41 ∷ t' → ItemsThen around n t' xs e → Shuts around (suc n) t (closed ∷ xs) e
+closed_then around n w t t' xs e white whole i = (
+  w,
+  i.items,
+  i.rest,
+  i.others,
+  white,
+  i.are_items,
+  whole ∙ ap (λ (z : List ℕ). w ++ 41 ∷ z) i.whole,
+  ap (λ (z : List Event). closed ∷ z) i.found,
+  i.shuts,
+)
+
+shuts_read : (around : Enclosure) (st : Stand) (n : ℕ) (t : List ℕ) (xs : List Event) (e : List ℕ) → (st ≡ at_name → ⊥) → Shuts around n t xs e → Reads around st n t xs e
+shuts_read around at_name n t xs e other h = absurd (other refl)
+shuts_read around at_items n t xs e other h = record { items = no_items; rest = t; others = xs; are_items = tt; whole = refl; found = refl; shuts = h }
+shuts_read around at_end n t xs e other h = h
+
+step_read : (around : Enclosure) (s : State) (t : List ℕ) (x : Event) (s' : State) (t' : List ℕ) (xs : List Event) (e : List ℕ) → LineStepped s t x s' t' → ReadsAt around s' t' xs e → ReadsAt around s t (x ∷ xs) e
+step_read around s t x s' t' xs e (to_inner n w is is' ev white whole) after =
+    let line : LineThen around (suc n) t' xs e = subst (λ (z : State). ReadsAt around z t' xs e) is' after in
+    let h = nested_then around None n w t t' xs e white whole line in
+    subst (λ (z : State). ReadsAt around z t (x ∷ xs) e) (sym is) (record {
+      name = nested_shape h.white h.name h.inner h.behind;
+      items = h.items;
+      rest = h.rest;
+      others = h.others;
+      is_name = refl;
+      fits = h.fits;
+      are_items = h.are_items;
+      whole = h.whole;
+      found = ap (λ (z : Event). z ∷ xs) ev ∙ h.found;
+      shuts = h.shuts;
+    })
+step_read around s t x s' t' xs e (to_name n raw means is is' ev whole h) after =
+    let then : Reads around (behind_name raw) n t' xs e = subst (λ (z : State). ReadsAt around z t' xs e) is' after in
+    let line = name_then around n raw t t' means xs e whole h then in
+    subst (λ (z : State). ReadsAt around z t (x ∷ xs) e) (sym is) (subst (λ (z : Event). LineThen around n t (z ∷ xs) e) (sym ev) line)
+step_read around s t x s' t' xs e (to_parameter n w r is white some whole p) after =
+    subst (λ (z : State). ReadsAt around z t (x ∷ xs) e) (sym is)
+    (parameter_item_then around n w r t (x ∷ xs) e white some whole (parameter_then around None n r x s' t' xs e p after))
+step_read around s t x s' t' xs e (to_pair n w key u v r is white some id white-u white-v whole p) after =
+    subst (λ (z : State). ReadsAt around z t (x ∷ xs) e) (sym is)
+    (pair_item_then around n w key u v r t (x ∷ xs) e white some id white-u white-v whole (parameter_then around (Some key) n r x s' t' xs e p after))
+step_read around s t x s' t' xs e (to_closed n st w is other is' ev white whole) after =
+    let then : ItemsThen around n t' xs e = subst (λ (z : State). ReadsAt around z t' xs e) is' after in
+    let h = shuts_read around st (suc n) t (closed ∷ xs) e other (closed_then around n w t t' xs e white whole then) in
+    subst (λ (z : State). ReadsAt around z t (x ∷ xs) e) (sym is) (subst (λ (z : Event). Reads around st (suc n) t (z ∷ xs) e) (sym ev) h)
+
+end_read : (around : Enclosure) (s : State) (t : List ℕ) → line_step around s t ≡ ends → ReadsAt around s t [] t
+end_read around s t e =
+    let h = line_ends around s t e in
+    shuts_read around s.stand s.level t [] t h.other (subst (λ (z : ℕ). Shuts around z t [] t) (sym h.level) (h.closes, refl, refl))
+
+pub runs_read : (around : Enclosure) (s : State) (t : List ℕ) (xs : List Event) (e : List ℕ) → Runs (line_step around) s t xs e → ReadsAt around s t xs e
+runs_read around s t _ _ (last is) = end_read around s t is
+runs_read around s t _ _ (onward x s' t' {xs} {e} is h) = step_read around s t x s' t' xs e (line_stepped around s t x s' t' is) (runs_read around s' t' xs e h)
