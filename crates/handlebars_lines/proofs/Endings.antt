@@ -1,7 +1,7 @@
 -- Where steps end: at one end, with the same found on the way; and what a loop over them keeps.
-use Rattle.std.proofs.Common.{◌≡◌, ℕ, ◌+◌, List, [], ◌∷◌, length, Option, refl, sym, ap, subst, ◌∙◌, arith}
+use Rattle.std.proofs.Common.{◌≡◌, ℕ, ◌+◌, List, [], ◌∷◌, length, refl, sym, ap, subst, ◌∙◌, arith}
 use Rattle.std.proofs.lemmas.Option.{same_Some, none-some}
-use Rattle.handlebars_lines.specs.Runs.{Next, goes, ends, stuck, on_next}
+use Rattle.handlebars_lines.specs.Runs.{Next, goes, ends, stuck}
 use Rattle.handlebars_lines.proofs.Stepping.{Runs, last, onward, Fails, goes-parts, Shortens, run-some, run-none}
 
 -- ---- a step is one of three

@@ -14,3 +14,4 @@ pub mod LinesRead
 pub mod LinesFound
 pub mod LineEvents
 pub mod Lines
+pub mod Parameters

@@ -2,7 +2,7 @@
 use Rattle.std.proofs.Common.{◌≡◌, ◌≢◌, ℕ, suc, ◌+◌, Bool, true, false, ◌||◌, List, [], ◌∷◌, ◌++◌, length, drop, None, refl, sym, ap, subst, ◌∙◌, append_assoc, append-nil, arith, inl, inr}
 use Rattle.std.specs.Prelude.{◌==◌}
 use Rattle.std.specs.List.{prefix_len, AllByRecursion}
-use Rattle.std.proofs.lemmas.Bool.{eqb-true, ne_eqb, cases_Bool, or_parts, not-false}
+use Rattle.std.proofs.lemmas.Bool.{eqb-true, cases_Bool, or_parts, not-false}
 use Rattle.handlebars_base.specs.Bytes.{is_white}
 use Rattle.handlebars_base.specs.Path.{is_symbol, IsIdentifier, Reference, IsPath}
 use Rattle.handlebars_base.specs.PathReading.{after, behind_symbols, is_reference_byte, starts_reference, stops, reference_from, reference_len}
@@ -26,11 +26,8 @@ begins_single b = starts_reference b || (b == 34 || (b == 39 || b == 123))
 abbrev pub begins : ℕ → Bool
 begins b = begins_single b || b == 40
 
-pub begins_other : (c : ℕ) → begins c ≡ false → (b : ℕ) → begins b ≡ true → (b == c) ≡ false
-begins_other c never b is = other_byte begins c never b is
-
 pub begins_dark : (b : ℕ) → begins b ≡ true → is_white b ≡ false
-begins_dark b h = rw (begins_other 32 refl b h, begins_other 9 refl b h, begins_other 10 refl b h, begins_other 13 refl b h) refl
+begins_dark b h = rw (other_byte begins 32 refl b h, other_byte begins 9 refl b h, other_byte begins 10 refl b h, other_byte begins 13 refl b h) refl
 
 reference_single : (b : ℕ) → starts_reference b ≡ true → begins_single b ≡ true
 reference_single b h = rw h refl
@@ -139,7 +136,7 @@ item_follows w t white some start =
     let dark = behind_white-append w t white (begins_no_white t start) in
     record {
       first = white_starts w t white some;
-      no_equals = rw dark (starts-other begins (λ b. b == 61) t (begins_other 61 refl) start);
+      no_equals = rw dark (starts-other begins (λ b. b == 61) t (other_byte begins 61 refl) start);
     }
 
 pub items_follow : (around : Enclosure) (items : Items) (rest : List ℕ) → AreItems items rest → Closes around rest → Follows (spelled_items items ++ rest)
@@ -190,7 +187,7 @@ on_mark x t h = rw h refl
 
 no_equals_here : (t : List ℕ) → starts begins t ≡ true → starts (λ b. b == 61) (behind_white t) ≡ false
 no_equals_here t h =
-    rw (behind_white-dark t (begins_no_white t h)) (starts-other begins (λ b. b == 61) t (begins_other 61 refl) h)
+    rw (behind_white-dark t (begins_no_white t h)) (starts-other begins (λ b. b == 61) t (other_byte begins 61 refl) h)
 
 no_equals_behind : (t : List ℕ) → Follows t → starts (λ b. b == 61) (behind_white (behind_symbols t)) ≡ false
 no_equals_behind t f =

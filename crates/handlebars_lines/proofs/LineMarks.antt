@@ -1,26 +1,23 @@
 -- Paths, keys and the ends of lines in front of a text, and with which bytes parameters begin.
-use Rattle.std.proofs.Common.{◌≡◌, ◌≢◌, ℕ, suc, ◌+◌, Bool, true, false, ◌||◌, List, [], ◌∷◌, ◌++◌, length, drop, Option, Some, None, refl, sym, ap, subst, ◌∙◌, append-nil, arith, inl, inr}
+use Rattle.std.proofs.Common.{◌≡◌, ◌≢◌, ℕ, suc, ◌+◌, Bool, true, false, List, [], ◌∷◌, ◌++◌, Option, Some, None, refl, sym, ap, subst, ◌∙◌, arith, inl, inr}
 use Rattle.std.specs.Prelude.{◌==◌, is_some}
 use Rattle.std.specs.List.{prefix_len, AllByRecursion}
 use Rattle.std.specs.Option.{option_map}
-use Rattle.std.proofs.lemmas.Bool.{eqb-true, ne_eqb, cases_Bool, both_ways, or_parts, not-false}
+use Rattle.std.proofs.lemmas.Bool.{ne_eqb, cases_Bool, both_ways}
 use Rattle.std.proofs.lemmas.List.{take-append-drop, take_at, drop_at, append_cancel_right}
 use Rattle.std.proofs.lemmas.Option.{same_Some}
 use Rattle.handlebars_base.specs.Bytes.{is_white}
 use Rattle.handlebars_base.specs.Path.{is_symbol, IsIdentifier, Reference, raw_of, IsPath}
-use Rattle.handlebars_base.specs.PathReading.{◌>>=◌, after, symbols_of, behind_symbols, slice_at, path_at, is_reference_byte, starts_reference, stops, reference_from, reference_len}
+use Rattle.handlebars_base.specs.PathReading.{◌>>=◌, after, symbols_of, behind_symbols, slice_at, path_at, stops}
 use Rattle.handlebars_base.proofs.OptionBinds.{bind_some, map_some, guard_bind}
 use Rattle.handlebars_base.proofs.PathMarks.{after_takes, prefix_pass, prefix_again}
 use Rattle.handlebars_base.proofs.PathsInFront.{path_at-some, path_at-stops}
-use Rattle.handlebars_base.proofs.References.{stops-path, reference_len-append}
-use Rattle.handlebars_lines.specs.Literal.{IsWhite, Literal, quoted, single_quoted, number, word, empty, filled, array, object, spelled_literal, IsLiteral, literal_depth, goes_on, starts, IsLiteralAt}
+use Rattle.handlebars_lines.specs.Literal.{IsWhite, Literal, spelled_literal, literal_depth, starts, IsLiteralAt}
 use Rattle.handlebars_lines.specs.LiteralReading.{behind_white, Slice, literal_at}
 use Rattle.handlebars_lines.specs.Laws.{HasLiteral}
-use Rattle.handlebars_lines.specs.Parameter.{Shape, literal_shape, path_shape, nested_shape, Items, no_items, parameter_item, pair_item, spelled_shape, spelled_items, Fits, AreItems}
 use Rattle.handlebars_lines.specs.Line.{Enclosure, in_tag, in_parentheses, end_of, Closes}
 use Rattle.handlebars_lines.specs.LineReading.{behind_end, key_at}
-use Rattle.handlebars_lines.proofs.Fronts.{behind_white-skips, behind_white-dark, behind_white-append, starts-other, starts-append, after-not, after-same}
-use Rattle.handlebars_lines.proofs.Plain.{GoesOn, number_goes_on, word_goes_on}
+use Rattle.handlebars_lines.proofs.Fronts.{behind_white-skips, behind_white-append, after-not, after-same}
 use Rattle.handlebars_lines.proofs.LiteralsFound.{literal_at-is, literal_at-some}
 
 -- ---- paths
@@ -67,23 +64,24 @@ literal_at-missing t none = on (literal_at t) refl
 
 -- ---- keys
 
+-- a byte of a kind is none that is not of it
 pub other_byte : (p : ℕ → Bool) (c : ℕ) → p c ≡ false → (b : ℕ) → p b ≡ true → (b == c) ≡ false
 other_byte p c never b is = ne_eqb b c (λ e. let same : p b ≡ p c = ap p e in absurd cc)
 
-pub symbol_dark : (b : ℕ) → is_symbol b ≡ true → is_white b ≡ false
+symbol_dark : (b : ℕ) → is_symbol b ≡ true → is_white b ≡ false
 symbol_dark b h =
     rw (other_byte is_symbol 32 refl b h, other_byte is_symbol 9 refl b h, other_byte is_symbol 10 refl b h, other_byte is_symbol 13 refl b h) refl
 
-pub white_symbol : (b : ℕ) → is_white b ≡ true → is_symbol b ≡ false
+white_symbol : (b : ℕ) → is_white b ≡ true → is_symbol b ≡ false
 white_symbol b h = elim (cases_Bool (is_symbol b)) [
   | inl is ↦ absurd (both_ways (is_white b) (symbol_dark b is) h)
   | inr other ↦ other
 ]
 
-pub symbols_of-append : (n rest : List ℕ) → AllByRecursion (λ b. is_symbol b ≡ true) n → prefix_len is_symbol rest ≡ 0 → symbols_of (n ++ rest) ≡ n
+symbols_of-append : (n rest : List ℕ) → AllByRecursion (λ b. is_symbol b ≡ true) n → prefix_len is_symbol rest ≡ 0 → symbols_of (n ++ rest) ≡ n
 symbols_of-append n rest all stop = take_at n rest _ (sym (prefix_again is_symbol n rest all stop))
 
-pub behind_symbols-append : (n rest : List ℕ) → AllByRecursion (λ b. is_symbol b ≡ true) n → prefix_len is_symbol rest ≡ 0 → behind_symbols (n ++ rest) ≡ rest
+behind_symbols-append : (n rest : List ℕ) → AllByRecursion (λ b. is_symbol b ≡ true) n → prefix_len is_symbol rest ≡ 0 → behind_symbols (n ++ rest) ≡ rest
 behind_symbols-append n rest all stop = drop_at n rest _ (sym (prefix_again is_symbol n rest all stop))
 
 pub no_symbols : (t : List ℕ) → starts is_symbol t ≡ false → prefix_len is_symbol t ≡ 0
@@ -95,8 +93,8 @@ pub record TakesKey (t key rest : List ℕ) : Type 0 where
   pub behind : List ℕ
   pub whole : t ≡ key ++ (before ++ 61 ∷ (behind ++ rest))
   pub is : IsIdentifier key
-  pub white : IsWhite before
-  pub white' : IsWhite behind
+  pub white_before : IsWhite before
+  pub white_behind : IsWhite behind
 
 symbols_some : (t : List ℕ) → (prefix_len is_symbol t == 0) ≡ false → symbols_of t ≢ []
 symbols_some [] h = absurd cc
@@ -124,8 +122,8 @@ key_at-some t k e =
       behind = behind.white;
       whole = sym (take-append-drop (prefix_len is_symbol t) t) ∙ ap (λ (z : List ℕ). symbols_of t ++ z) (before.whole ∙ ap (λ (z : List ℕ). before.white ++ z) (sign ∙ ap (λ (z : List ℕ). 61 ∷ z) behind.whole));
       is = (symbols_some t g.0, prefix_pass is_symbol t);
-      white = before.is;
-      white' = behind.is;
+      white_before = before.is;
+      white_behind = behind.is;
     })
 
 pub key_at-none : (t : List ℕ) → starts (λ b. b == 61) (behind_white (behind_symbols t)) ≡ false → key_at t ≡ None

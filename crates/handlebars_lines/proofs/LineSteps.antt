@@ -1,23 +1,22 @@
 -- What each step of a line takes from the text, and how far it goes.
-use Rattle.std.proofs.Common.{◌≡◌, ◌≢◌, ℕ, zero, suc, ◌+◌, ◌-◌, ◌<◌, ◌≤◌, Bool, true, false, cond, List, [], ◌∷◌, ◌++◌, length, Option, Some, None, refl, sym, ap, subst, ◌∙◌, append_assoc, arith, inl, inr, length-append}
-use Rattle.std.specs.Prelude.{◌==◌, is_some}
-use Rattle.std.proofs.lemmas.Bool.{ne_eqb}
+use Rattle.std.proofs.Common.{◌≡◌, ◌≢◌, ℕ, zero, suc, ◌+◌, ◌-◌, Bool, true, false, cond, List, [], ◌∷◌, ◌++◌, Option, Some, None, refl, sym, ap, subst, ◌∙◌, arith, inl, inr}
+use Rattle.std.specs.Prelude.{is_some}
+use Rattle.std.proofs.Math.Dec.{eqb-suc-zero}
 use Rattle.handlebars_base.specs.Bytes.{is_white}
 use Rattle.handlebars_base.specs.Path.{IsIdentifier, Reference, IsPath}
 use Rattle.handlebars_base.specs.PathReading.{with_or, after, slice_at}
 use Rattle.handlebars_base.proofs.PathMarks.{after_takes}
 use Rattle.handlebars_base.proofs.OptionBinds.{with_or_is, cond_is}
 use Rattle.handlebars_lines.specs.Runs.{Next, goes, ends, stuck}
-use Rattle.handlebars_lines.specs.Literal.{IsWhite, Literal, spelled_literal, IsLiteral, literal_depth, starts, IsLiteralAt}
+use Rattle.handlebars_lines.specs.Literal.{IsWhite, Literal, spelled_literal, literal_depth, starts, IsLiteralAt}
 use Rattle.handlebars_lines.specs.LiteralReading.{behind_white, Slice, literal_at}
 use Rattle.handlebars_lines.specs.Line.{Enclosure, Closes}
-use Rattle.handlebars_lines.specs.LineReading.{Event, opened, literal_event, path_event, closed, Stand, at_name, at_items, at_end, State, state, behind_end, key_at, behind_name, open_step, name_step, is_excluded, path_step, parameter_step, item_step, next_step, outer_step, inner_step, behind_step, line_step, height}
-use Rattle.handlebars_lines.proofs.Fronts.{behind_white-skips, starts-length}
-use Rattle.handlebars_lines.proofs.Stepping.{goes-parts, Shortens}
+use Rattle.handlebars_lines.specs.LineReading.{Event, opened, literal_event, path_event, closed, Stand, at_name, at_items, at_end, State, state, behind_end, key_at, behind_name, open_step, name_step, is_excluded, path_step, parameter_step, item_step, next_step, outer_step, inner_step, behind_step, line_step}
+use Rattle.handlebars_lines.proofs.Fronts.{behind_white-skips}
+use Rattle.handlebars_lines.proofs.Stepping.{goes-parts}
 use Rattle.handlebars_lines.proofs.Endings.{goes-not_stuck, goes-not_ends}
 use Rattle.handlebars_lines.proofs.LiteralsFound.{literal_at-some}
 use Rattle.handlebars_lines.proofs.LineMarks.{slice_at-some, key_at-some, end_closes}
-use Rattle.handlebars_lines.proofs.LineFronts.{path_begins, literal_begins}
 
 -- ---- what a step takes
 
@@ -113,7 +112,7 @@ item_stepped n t x s' t' white e =
     elim (with_or_is (key_at (behind_white t)) (λ k. parameter_step (Some k.0) n k.1) (parameter_step None n (behind_white t)) (goes x s' t') e) [
       | inl pair ↦
           let key = key_at-some (behind_white t) pair.0 pair.1 in
-          to_pair n front.white pair.0.0 key.before key.behind pair.0.1 refl front.is some key.is key.white key.white'
+          to_pair n front.white pair.0.0 key.before key.behind pair.0.1 refl front.is some key.is key.white_before key.white_behind
           (front.whole ∙ ap (λ (z : List ℕ). front.white ++ z) key.whole)
           (parameter_stepped (Some pair.0.0) n pair.0.1 x s' t' pair.2)
       | inr alone ↦ to_parameter n front.white (behind_white t) refl front.is some front.whole (parameter_stepped None n (behind_white t) x s' t' alone.1)
@@ -129,9 +128,6 @@ next_stepped at_items n t x s' t' e = on (starts is_white t) refl e
     on false is e = goes-not_stuck (goes x s' t') x s' t' refl (sym e)
 
 -- ---- behind a name or an item
-
-pub some_open : (n : ℕ) → (suc n == 0) ≡ false
-some_open n = ne_eqb (suc n) 0 (λ e. absurd (omega (arith, e)))
 
 outer_stepped : (around : Enclosure) (st : Stand) (t : List ℕ) (x : Event) (s' : State) (t' : List ℕ) → outer_step around st t ≡ goes x s' t' → LineStepped (state st 0) t x s' t'
 outer_stepped around st t x s' t' e = elim (cond_is (is_some (behind_end around (behind_white t))) ends (next_step st 0 t) (goes x s' t') e) [
@@ -153,7 +149,7 @@ inner_stepped st n t x s' t' other e = elim (with_or_is (after 41 (behind_white 
 behind_stepped : (around : Enclosure) (st : Stand) (n : ℕ) (t : List ℕ) (x : Event) (s' : State) (t' : List ℕ) → (st ≡ at_name → ⊥) → behind_step around st n t ≡ goes x s' t' → LineStepped (state st n) t x s' t'
 unfolding behind_step
 behind_stepped around st zero t x s' t' other e = outer_stepped around st t x s' t' e
-behind_stepped around st (suc n) t x s' t' other e = inner_stepped st n t x s' t' other (rw (some_open n) at e)
+behind_stepped around st (suc n) t x s' t' other e = inner_stepped st n t x s' t' other (rw (eqb-suc-zero n) at e)
 
 pub line_stepped : (around : Enclosure) (s : State) (t : List ℕ) (x : Event) (s' : State) (t' : List ℕ) → line_step around s t ≡ goes x s' t' → LineStepped s t x s' t'
 unfolding line_step
@@ -231,7 +227,7 @@ outer_ends around st t e = elim (cond_is (is_some (behind_end around (behind_whi
 behind_ends : (around : Enclosure) (st : Stand) (n : ℕ) (t : List ℕ) → behind_step around st n t ≡ ends → Closes around t × (n ≡ 0)
 unfolding behind_step
 behind_ends around st zero t e = (outer_ends around st t e, refl)
-behind_ends around st (suc n) t e = never_ends (inner_step st (suc n) t) (rw (some_open n) at e) (inner_ends st (suc n) t)
+behind_ends around st (suc n) t e = never_ends (inner_step st (suc n) t) (rw (eqb-suc-zero n) at e) (inner_ends st (suc n) t)
 
 -- At the end no parenthesis is open, no name is awaited, and what is left closes.
 pub record LineEnds (around : Enclosure) (s : State) (t : List ℕ) : Type 0 where

@@ -1,13 +1,13 @@
 -- A line stands in front just where the steps come to an end, and there is one at most; and what loops over the steps
 -- keep.
-use Rattle.std.proofs.Common.{◌≡◌, ℕ, ◌+◌, ◌<◌, ◌≤◌, List, [], ◌∷◌, ◌++◌, length, Option, Some, None, refl, sym, ap, subst, ◌∙◌, arith, max}
+use Rattle.std.proofs.Common.{◌≡◌, ℕ, ◌+◌, ◌≤◌, List, [], ◌++◌, length, Option, Some, None, refl, sym, ap, subst, ◌∙◌, arith, max}
 use Rattle.std.proofs.lemmas.Option.{same_Some, none-some}
 use Rattle.std.specs.Option.{option_map}
 use Rattle.handlebars_base.specs.PathReading.{◌>>=◌}
 use Rattle.handlebars_lines.specs.Runs.{goes, ends, stuck}
 use Rattle.handlebars_lines.specs.Parameter.{Term, Terms, Shape, Items, term_of, terms_of, depth_of, items_depth}
 use Rattle.handlebars_lines.specs.Line.{Enclosure, Line, IsLine, NoLine}
-use Rattle.handlebars_lines.specs.LineReading.{Event, at_name, State, state, line_step, height, most_open, Frames, first_frames, build, build_all, line_in, line_from}
+use Rattle.handlebars_lines.specs.LineReading.{Event, at_name, State, state, line_step, height, most_open, Frames, first_frames, build, build_all, line_from}
 use Rattle.handlebars_lines.specs.LineLaws.{HasLine, OneLine}
 use Rattle.handlebars_lines.proofs.Stepping.{Runs, last, none, Still, still-starts, still-goes}
 use Rattle.handlebars_lines.proofs.Endings.{one_end, not_both, runs-goes, runs-ends, runs-stuck, Through, through-starts, through-goes}
@@ -122,16 +122,24 @@ measure-stuck around t s rest depth is h line left l =
 -- ---- the loop that builds
 
 -- what it keeps: what is built of all the steps is built of those from here on
-abbrev pub Builds : Enclosure → List ℕ → State → List ℕ → Frames → Type 0
-Builds around t s rest fs = Through (line_step around) (state at_name 0) t (build_all first_frames) s rest (build_all fs)
+pub record Builds (around : Enclosure) (t : List ℕ) (s : State) (rest : List ℕ) (fs : Frames) : Type 0 where
+  pub through : Through (line_step around) (state at_name 0) t (build_all first_frames) s rest (build_all fs)
+  pub level_within : s.level + length rest ≤ length t
 
 pub build-starts : (around : Enclosure) (t : List ℕ) → Builds around t (state at_name 0) t first_frames
-build-starts around t = through-starts (line_step around) (state at_name 0) t (build_all first_frames)
+build-starts around t = record {
+  through = through-starts (line_step around) (state at_name 0) t (build_all first_frames);
+  level_within = omega arith;
+}
 
 pub build-goes : (around : Enclosure) (t : List ℕ) (s : State) (rest : List ℕ) (fs : Frames) (x : Event) (s' : State) (rest' : List ℕ) (fs' : Frames) → goes x s' rest' ≡ line_step around s rest → Some fs' ≡ build fs x
     → Builds around t s rest fs → Builds around t s' rest' fs'
 build-goes around t s rest fs x s' rest' fs' is made h =
-    through-goes (line_step around) (state at_name 0) t (build_all first_frames) s rest (build_all fs) x s' rest' (build_all fs') (sym is) (λ xs. ap (λ (z : Option Frames). z >>= λ gs. build_all gs xs) (sym made)) h
+    let bounds = line_bounds around s rest x s' rest' is in
+    record {
+      through = through-goes (line_step around) (state at_name 0) t (build_all first_frames) s rest (build_all fs) x s' rest' (build_all fs') (sym is) (λ xs. ap (λ (z : Option Frames). z >>= λ gs. build_all gs xs) (sym made)) h.through;
+      level_within = omega (arith, bounds.level_within, h.level_within);
+    }
 
 -- what the loop answers where a line stands: its frames
 abbrev pub IsBuilt : Enclosure → List ℕ → Option Frames → Type 0
@@ -140,21 +148,21 @@ IsBuilt around t o = (line : Line) (left : List ℕ) → IsLine around t line le
 pub build-ends : (around : Enclosure) (t : List ℕ) (s : State) (rest : List ℕ) (fs : Frames) → ends ≡ line_step around s rest → Builds around t s rest fs → IsBuilt around t (Some fs)
 build-ends around t s rest fs is h line left l =
     let f = line_found around t line left l in
-    let p = h.passes f.events left f.runs in
+    let p = h.through.passes f.events left f.runs in
     let over = runs-ends (line_step around) s rest p.0 left p.1 (sym is) in
     ap (build_all fs) (sym over.0) ∙ sym p.2 ∙ f.built
 
 pub build-stuck : {A : Type 0} (around : Enclosure) (t : List ℕ) (s : State) (rest : List ℕ) (fs : Frames) (line : Line) (left : List ℕ) → stuck ≡ line_step around s rest → Builds around t s rest fs → IsLine around t line left → A
 build-stuck around t s rest fs line left is h l =
     let f = line_found around t line left l in
-    let p = h.passes f.events left f.runs in
+    let p = h.through.passes f.events left f.runs in
     runs-stuck (line_step around) s rest p.0 left p.1 (sym is)
 
 pub build-lost : {A : Type 0} (around : Enclosure) (t : List ℕ) (s : State) (rest : List ℕ) (fs : Frames) (x : Event) (s' : State) (rest' : List ℕ) (line : Line) (left : List ℕ) → goes x s' rest' ≡ line_step around s rest → None ≡ build fs x
     → Builds around t s rest fs → IsLine around t line left → A
 build-lost around t s rest fs x s' rest' line left is lost h l =
     let f = line_found around t line left l in
-    let p = h.passes f.events left f.runs in
+    let p = h.through.passes f.events left f.runs in
     let r = runs-goes (line_step around) s rest p.0 left x s' rest' p.1 (sym is) in
     let nothing : build_all fs p.0 ≡ None = ap (build_all fs) r.1 ∙ ap (λ (z : Option Frames). z >>= λ gs. build_all gs r.0) (sym lost) in
     absurd (none-some (whole_frames line.name line.terms) (sym nothing ∙ sym p.2 ∙ f.built))

@@ -2,20 +2,19 @@
 use Rattle.std.proofs.Common.{◌≡◌, ◌≢◌, ℕ, zero, suc, ◌+◌, ◌-◌, Bool, true, false, List, [], ◌∷◌, ◌++◌, Option, Some, None, refl, sym, ap, subst, ◌∙◌, append_assoc, arith}
 use Rattle.std.specs.Prelude.{◌==◌}
 use Rattle.std.specs.List.{list_all}
+use Rattle.std.proofs.Math.Dec.{eqb-suc-zero}
 use Rattle.handlebars_base.specs.Bytes.{is_white}
 use Rattle.handlebars_base.specs.Path.{is_symbol, IsIdentifier, Reference, IsPath}
 use Rattle.handlebars_base.specs.PathReading.{after}
 use Rattle.handlebars_lines.specs.Runs.{goes, ends}
 use Rattle.handlebars_lines.specs.Literal.{IsWhite, Literal, spelled_literal, IsLiteral, literal_depth, goes_on, starts}
-use Rattle.handlebars_lines.specs.LiteralReading.{behind_white}
 use Rattle.handlebars_lines.specs.Parameter.{Shape, literal_shape, path_shape, nested_shape, Items, no_items, parameter_item, pair_item, spelled_shape, spelled_items, is_name, IsChosen, Fits, AreItems}
 use Rattle.handlebars_lines.specs.Line.{Enclosure, in_parentheses, Closes}
 use Rattle.handlebars_lines.specs.LineReading.{Event, opened, literal_event, path_event, closed, Stand, at_name, at_items, at_end, State, state, behind_name, name_step, is_excluded, parameter_step, item_step, behind_step, line_step}
 use Rattle.handlebars_lines.proofs.Fronts.{behind_white-append, starts-other, starts-append, after-not, after-same}
 use Rattle.handlebars_lines.proofs.Stepping.{Runs, last, onward}
-use Rattle.handlebars_lines.proofs.LineMarks.{slice_at-stops, literal_at-finds, literal_at-missing, key_at-append, closes_end, no_end}
-use Rattle.handlebars_lines.proofs.LineFronts.{begins, begins_single, begins_other, begins_no_white, path_begins, literal_begins, shape_starts, key_starts, single_no_parenthesis, Follows, follows_stops, items_follow, no_key}
-use Rattle.handlebars_lines.proofs.LineSteps.{some_open}
+use Rattle.handlebars_lines.proofs.LineMarks.{other_byte, slice_at-stops, literal_at-finds, literal_at-missing, key_at-append, closes_end, no_end}
+use Rattle.handlebars_lines.proofs.LineFronts.{begins, begins_single, begins_no_white, path_begins, literal_begins, shape_starts, key_starts, single_no_parenthesis, Follows, follows_stops, items_follow, no_key}
 use Rattle.handlebars_lines.proofs.LinesRead.{events, item_events, IsAllowed, nested_group, events_group, parameter_group, pair_group}
 
 -- ---- steps: a parenthesis, a literal, a path
@@ -68,13 +67,13 @@ item_at : (around : Enclosure) (n : ℕ) (w t : List ℕ) → IsWhite w → w �
 unfolding line_step behind_step
 item_at around zero w t white some start =
     let dark = behind_white-append w t white (begins_no_white t start) in
-    let no_shut = starts-other begins (λ b. b == 41) t (begins_other 41 refl) start in
-    let no_brace = starts-other begins (λ b. b == 125) t (begins_other 125 refl) start in
+    let no_shut = starts-other begins (λ b. b == 41) t (other_byte begins 41 refl) start in
+    let no_brace = starts-other begins (λ b. b == 125) t (other_byte begins 125 refl) start in
     rw (dark, no_end around t no_brace no_shut, white_first w t white some) refl
 item_at around (suc n) w t white some start =
     let dark = behind_white-append w t white (begins_no_white t start) in
-    let no_shut = after-not 41 t (starts-other begins (λ b. b == 41) t (begins_other 41 refl) start) in
-    rw (some_open n, dark, no_shut, white_first w t white some) refl
+    let no_shut = after-not 41 t (starts-other begins (λ b. b == 41) t (other_byte begins 41 refl) start) in
+    rw (eqb-suc-zero n, dark, no_shut, white_first w t white some) refl
 
 parameter_at : (around : Enclosure) (n : ℕ) (w : List ℕ) (p : Shape) (rest : List ℕ) → IsWhite w → w ≢ [] → Fits p rest → Follows rest → line_step around (state at_items n) (w ++ (spelled_shape p ++ rest)) ≡ parameter_step None n (spelled_shape p ++ rest)
 unfolding item_step
@@ -97,10 +96,10 @@ unfolding line_step behind_step
 closed_at around at_name n v r other white = absurd (other refl)
 closed_at around at_items n v r other white =
     let less : suc n - 1 ≡ n = omega arith in
-    rw (some_open n, behind_white-append v (41 ∷ r) white refl, after-same 41 r, less) refl
+    rw (eqb-suc-zero n, behind_white-append v (41 ∷ r) white refl, after-same 41 r, less) refl
 closed_at around at_end n v r other white =
     let less : suc n - 1 ≡ n = omega arith in
-    rw (some_open n, behind_white-append v (41 ∷ r) white refl, after-same 41 r, less) refl
+    rw (eqb-suc-zero n, behind_white-append v (41 ∷ r) white refl, after-same 41 r, less) refl
 
 end_at : (around : Enclosure) (t : List ℕ) → Closes around t → line_step around (state at_items 0) t ≡ ends
 unfolding line_step behind_step

@@ -1,14 +1,15 @@
 -- Lines: from what the steps take to what stands in front.
-use Rattle.std.proofs.Common.{◌≡◌, ◌≢◌, ℕ, zero, suc, ◌+◌, Bool, true, false, cond, ◌||◌, List, [], ◌∷◌, ◌++◌, Option, Some, None, refl, sym, ap, subst, ◌∙◌, append_assoc}
+use Rattle.std.proofs.Common.{◌≡◌, ◌≢◌, ℕ, zero, suc, ◌+◌, Bool, true, false, cond, List, [], ◌∷◌, ◌++◌, Option, Some, None, refl, sym, ap, subst, ◌∙◌, append_assoc}
 use Rattle.std.specs.List.{list_all}
+use Rattle.std.proofs.Math.Bool.{or-true}
 use Rattle.std.proofs.lemmas.Option.{none-some}
 use Rattle.handlebars_base.specs.Path.{is_symbol, IsIdentifier, Reference, IsPath}
 use Rattle.handlebars_lines.specs.Runs.{ends}
-use Rattle.handlebars_lines.specs.Literal.{IsWhite, Literal, spelled_literal, literal_depth, goes_on, starts, IsLiteralAt}
+use Rattle.handlebars_lines.specs.Literal.{IsWhite, Literal, spelled_literal, literal_depth, goes_on, starts}
 use Rattle.handlebars_lines.specs.LiteralReading.{literal_at}
 use Rattle.handlebars_lines.specs.Parameter.{Shape, literal_shape, path_shape, nested_shape, Items, no_items, parameter_item, pair_item, spelled_shape, spelled_items, is_name, IsFree, IsChosen, Fits, AreItems}
 use Rattle.handlebars_lines.specs.Line.{Enclosure, Closes}
-use Rattle.handlebars_lines.specs.LineReading.{Event, opened, literal_event, path_event, closed, Stand, at_name, at_items, at_end, State, state, behind_name, is_excluded, line_step}
+use Rattle.handlebars_lines.specs.LineReading.{Event, opened, literal_event, path_event, closed, Stand, at_name, at_items, at_end, State, behind_name, is_excluded, line_step}
 use Rattle.handlebars_lines.proofs.Stepping.{Runs, last, onward}
 use Rattle.handlebars_lines.proofs.LineMarks.{literal_at-finds}
 use Rattle.handlebars_lines.proofs.LineSteps.{ParameterStepped, to_nested, to_literal, to_path, LineStepped, to_inner, to_name, to_parameter, to_pair, to_closed, line_stepped, line_ends}
@@ -196,10 +197,6 @@ parameter_then around key n t x s' t' xs e (to_path raw means is ev whole h none
 
 -- ---- one step back: a name
 
-or_true : (b : Bool) → (b || true) ≡ true
-or_true true = refl
-or_true false = refl
-
 name_then : (around : Enclosure) (n : ℕ) (raw t t' : List ℕ) (means : Reference) (xs : List Event) (e : List ℕ) → t ≡ raw ++ t' → IsPath raw means → Reads around (behind_name raw) n t' xs e → LineThen around n t (path_event None raw n ∷ xs) e
 name_then around n raw t t' means xs e whole h after = on (list_all is_symbol raw) refl after
   where
@@ -221,7 +218,7 @@ name_then around n raw t t' means xs e whole h after = on (list_all is_symbol ra
       items = no_items;
       rest = t';
       others = xs;
-      is_name = or_true (list_all is_symbol raw);
+      is_name = or-true (list_all is_symbol raw);
       fits = h;
       are_items = tt;
       whole = whole;

@@ -5,3 +5,4 @@ pub mod laws;
 pub mod line;
 pub mod literal;
 mod marks;
+pub mod worth;

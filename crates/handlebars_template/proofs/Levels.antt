@@ -87,11 +87,11 @@ decorator_marks-view t = search (rules, the_lemmas)
 
 -- ---- values
 
-lacks_params-view : (ps : List Parameter) → lacks_params (params_view ps) ≡ (length ps == 0)
+pub lacks_params-view : (ps : List Parameter) → lacks_params (params_view ps) ≡ (length ps == 0)
 lacks_params-view [] = refl
 lacks_params-view (p ∷ ps) = sym (ne_eqb (suc (length ps)) 0 (λ e. absurd (omega arith)))
 
-lacks_pairs-view : (hs : List (String Global × Parameter)) → lacks_pairs (pairs_view hs) ≡ (length hs == 0)
+pub lacks_pairs-view : (hs : List (String Global × Parameter)) → lacks_pairs (pairs_view hs) ≡ (length hs == 0)
 lacks_pairs-view [] = refl
 lacks_pairs-view (h ∷ hs) = sym (ne_eqb (suc (length hs)) 0 (λ e. absurd (omega arith)))
 

@@ -7,3 +7,6 @@ pub mod One
 pub mod Trees
 pub mod Levels
 pub mod Rows
+pub mod LinesBuilt
+pub mod LineImages
+pub mod LineCalls

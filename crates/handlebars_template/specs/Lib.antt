@@ -6,7 +6,9 @@ pub mod TagReading
 pub mod Cut
 pub mod Tree
 pub mod Calls
+pub mod LineBuilding
 pub mod TreeView
+pub mod LineBuildingView
 pub mod Compile
 pub mod OptionsView
 pub mod Rows

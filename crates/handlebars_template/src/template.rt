@@ -1,6 +1,8 @@
 //! A template's tree, and how a source is compiled to it.
 
+mod build;
 mod compile;
+mod line;
 mod place;
 mod tag;
 mod text;

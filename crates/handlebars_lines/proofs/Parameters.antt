@@ -1,0 +1,178 @@
+-- A parameter alone: a line in parentheses, a literal, or a path where no literal stands in front.
+use Rattle.std.proofs.Common.{◌≡◌, ℕ, suc, List, [], ◌∷◌, ◌++◌, Option, Some, None, refl, sym, ap, subst, ◌∙◌, append-nil, max}
+use Rattle.std.proofs.lemmas.Option.{same_Some, none-some}
+use Rattle.handlebars_base.specs.Path.{Reference}
+use Rattle.handlebars_base.specs.PathReading.{after, path_of}
+use Rattle.handlebars_base.proofs.PathMarks.{after_takes}
+use Rattle.handlebars_base.proofs.PathShapes.{path_known, path_is}
+use Rattle.handlebars_lines.specs.Literal.{spelled_literal, IsLiteralAt}
+use Rattle.handlebars_lines.specs.LiteralReading.{behind_white, Slice, literal_at}
+use Rattle.handlebars_lines.specs.Parameter.{Term, literal_term, path_term, call_term, Shape, literal_shape, path_shape, nested_shape, spelled_shape, spelled_items, IsChosen, Fits, AreItems, term_of, terms_of, depth_of, items_depth, IsParameter, NoParameter}
+use Rattle.handlebars_lines.specs.Line.{in_parentheses, Line, IsLine, NoLine}
+use Rattle.handlebars_lines.specs.LineLaws.{HasLine, OneParameter}
+use Rattle.handlebars_lines.proofs.Fronts.{behind_white-skips, behind_white-append, after-same}
+use Rattle.handlebars_lines.proofs.LiteralsFound.{literal_at-some}
+use Rattle.handlebars_lines.proofs.LineMarks.{literal_at-finds, literal_at-missing}
+use Rattle.handlebars_lines.proofs.LineFronts.{begins_no_white, path_begins, literal_begins, shape_starts, single_no_parenthesis}
+use Rattle.handlebars_lines.proofs.LinesRead.{path_chosen}
+use Rattle.handlebars_lines.proofs.Lines.{one_line}
+
+-- ---- a line in parentheses
+
+-- behind the opening parenthesis
+pub record NestedParameter (r : List ℕ) (means : Term) (depth : ℕ) : Type 0 where
+  pub line : Line
+  pub left : List ℕ
+  pub is : IsLine in_parentheses (behind_white r) line left
+  pub closes : after 41 (behind_white left) ≡ Some []
+  pub gives : means ≡ call_term line.name line.terms
+  pub deep : depth ≡ suc line.depth
+
+pub nested-is : (text r : List ℕ) (line : Line) (left : List ℕ) → after 40 text ≡ Some r → IsLine in_parentheses (behind_white r) line left → after 41 (behind_white left) ≡ Some [] → IsParameter text (call_term line.name line.terms) (suc line.depth)
+nested-is text r line left opens h closes =
+    let before = behind_white-skips r in
+    let last = behind_white-skips left in
+    let end : left ≡ last.white ++ 41 ∷ [] = last.whole ∙ ap (λ (z : List ℕ). last.white ++ z) (after_takes 41 (behind_white left) [] closes) in
+    let inside : behind_white r ≡ spelled_shape h.name ++ (spelled_items h.items ++ (last.white ++ 41 ∷ [])) = h.whole ∙ ap (λ (z : List ℕ). spelled_shape h.name ++ (spelled_items h.items ++ z)) end in
+    record {
+      shape = nested_shape before.white h.name h.items last.white;
+      spells = after_takes 40 text r opens ∙ ap (λ (z : List ℕ). 40 ∷ z) (before.whole ∙ ap (λ (z : List ℕ). before.white ++ z) inside);
+      chosen = tt;
+      fits = (before.is, h.is_name, subst (λ (z : List ℕ). Fits h.name (spelled_items h.items ++ z)) end h.fits, subst (AreItems h.items) end h.are_items, last.is);
+      gives = ap (λ (z : Line). call_term z.name z.terms) h.gives;
+      deep = ap (λ (z : Line). suc z.depth) h.gives;
+    }
+
+-- by how deep the line is
+pub nested-has : (text r : List ℕ) (depth : ℕ) (left : List ℕ) → after 40 text ≡ Some r → (h : HasLine in_parentheses (behind_white r) depth left) → after 41 (behind_white left) ≡ Some [] → IsParameter text (call_term h.line.name h.line.terms) (suc depth)
+nested-has text r depth left opens h closes =
+    subst (λ (z : ℕ). IsParameter text (call_term h.line.name h.line.terms) (suc z)) h.deep (nested-is text r h.line left opens h.is closes)
+
+pub nested-read : (text r : List ℕ) (means : Term) (depth : ℕ) → after 40 text ≡ Some r → IsParameter text means depth → NestedParameter r means depth
+nested-read text r means depth opens h = on h.shape h.spells h.fits h.gives h.deep
+  where
+    never : (t : List ℕ) → text ≡ t → after 40 t ≡ None → NestedParameter r means depth
+    never t same none = absurd (none-some r (sym none ∙ ap (after 40) (sym same) ∙ opens))
+
+    on : (p : Shape) → text ≡ spelled_shape p → Fits p [] → means ≡ term_of p → depth ≡ depth_of p → NestedParameter r means depth
+    on (literal_shape l) spells fits gives deep = never (spelled_literal l) spells (single_no_parenthesis (spelled_literal l) (literal_begins l fits))
+    on (path_shape t m) spells fits gives deep = never t spells (single_no_parenthesis t (path_begins t m fits))
+    on (nested_shape w name items v) spells fits gives deep =
+        let end : List ℕ = v ++ 41 ∷ [] in
+        let inside : List ℕ = spelled_shape name ++ (spelled_items items ++ end) in
+        let behind : r ≡ w ++ inside = same_Some r (w ++ inside) (sym opens ∙ ap (after 40) spells ∙ after-same 40 (w ++ inside)) in
+        let dark = begins_no_white inside (shape_starts name (spelled_items items ++ end) (spelled_items items ++ end) fits.2) in
+        let white : behind_white end ≡ 41 ∷ [] = behind_white-append v (41 ∷ []) fits.4 refl in
+        record {
+          line = record { name = term_of name; terms = terms_of items; depth = max (depth_of name) (items_depth items) };
+          left = end;
+          is = record {
+            name = name;
+            items = items;
+            whole = ap behind_white behind ∙ behind_white-append w inside fits.0 dark;
+            is_name = fits.1;
+            fits = fits.2;
+            are_items = fits.3;
+            closes = record { white = v; rest = []; is_white = fits.4; whole = refl };
+            gives = refl;
+          };
+          closes = ap (after 41) white ∙ after-same 41 [];
+          gives = gives;
+          deep = deep;
+        }
+
+pub nested-no_line : (text r : List ℕ) → after 40 text ≡ Some r → NoLine in_parentheses (behind_white r) → NoParameter text
+nested-no_line text r opens none means depth h =
+    let n = nested-read text r means depth opens h in
+    none n.line n.left n.is
+
+-- more than a closing parenthesis is left
+pub nested-goes_on : (text r : List ℕ) (depth : ℕ) (left : List ℕ) → after 40 text ≡ Some r → HasLine in_parentheses (behind_white r) depth left → (after 41 (behind_white left) ≡ Some [] → ⊥) → NoParameter text
+nested-goes_on text r depth left opens line more means deep h =
+    let n = nested-read text r means deep opens h in
+    let one = one_line in_parentheses (behind_white r) n.line line.line n.left left n.is line.is in
+    more (subst (λ (z : List ℕ). after 41 (behind_white z) ≡ Some []) one.1 n.closes)
+
+-- ---- a literal, or a path
+
+pub literal-is : (text : List ℕ) (f : Slice) → literal_at text ≡ Some f → f.rest ≡ [] → IsParameter text (literal_term f.raw) f.depth
+literal-is text f e whole =
+    let h = literal_at-some text f e in
+    record {
+      shape = literal_shape h.literal;
+      spells = h.is.whole ∙ ap (λ (z : List ℕ). spelled_literal h.literal ++ z) whole ∙ append-nil (spelled_literal h.literal);
+      chosen = refl;
+      fits = h.is.fits;
+      gives = ap literal_term h.raw;
+      deep = h.depth;
+    }
+
+pub path-is : (text : List ℕ) (means : Reference) → literal_at text ≡ None → path_of text ≡ Some means → IsParameter text (path_term means) 0
+path-is text means none e = record {
+  shape = path_shape text means;
+  spells = refl;
+  chosen = path_chosen text [] means (ap literal_at (append-nil text) ∙ none);
+  fits = path_is text means e;
+  gives = refl;
+  deep = refl;
+}
+
+-- what begins with no parenthesis
+pub data SingleParameter (text : List ℕ) (means : Term) (depth : ℕ) : Type 0 where
+  single_literal : (f : Slice) → literal_at text ≡ Some f → f.rest ≡ [] → means ≡ literal_term f.raw → depth ≡ f.depth → SingleParameter text means depth
+  single_path : (m : Reference) → literal_at text ≡ None → path_of text ≡ Some m → means ≡ path_term m → depth ≡ 0 → SingleParameter text means depth
+
+pub single-read : (text : List ℕ) (means : Term) (depth : ℕ) → after 40 text ≡ None → IsParameter text means depth → SingleParameter text means depth
+single-read text means depth closed h = on h.shape h.spells h.chosen h.fits h.gives h.deep
+  where
+    on : (p : Shape) → text ≡ spelled_shape p → IsChosen p [] → Fits p [] → means ≡ term_of p → depth ≡ depth_of p → SingleParameter text means depth
+    on (literal_shape l) spells chosen fits gives deep =
+        let at : IsLiteralAt text l [] = record { whole = spells ∙ sym (append-nil (spelled_literal l)); fits = fits; stops = chosen } in
+        let f = literal_at-finds text l [] at in
+        single_literal f.slice f.found f.rest (gives ∙ ap literal_term (sym f.raw)) (deep ∙ sym f.depth)
+    on (path_shape t m) spells chosen fits gives deep =
+        let none : literal_at text ≡ None = ap literal_at (spells ∙ sym (append-nil t)) ∙ literal_at-missing (t ++ []) chosen in
+        single_path m none (ap path_of spells ∙ path_known t m fits) gives deep
+    on (nested_shape w name items v) spells chosen fits gives deep =
+        absurd (none-some _ (sym closed ∙ ap (after 40) spells ∙ after-same 40 _))
+
+-- a literal in front is not the whole
+pub single-goes_on : (text : List ℕ) (f : Slice) → after 40 text ≡ None → literal_at text ≡ Some f → (f.rest ≡ [] → ⊥) → NoParameter text
+single-goes_on text f closed e more means depth h = on (single-read text means depth closed h)
+  where
+    on : SingleParameter text means depth → ⊥
+    on (single_literal g is whole gives deep) = more (ap (λ (z : Slice). z.rest) (same_Some f g (sym e ∙ is)) ∙ whole)
+    on (single_path m none is gives deep) = none-some f (sym none ∙ e)
+
+-- and neither a literal nor a path
+pub single-no_path : (text : List ℕ) → after 40 text ≡ None → literal_at text ≡ None → path_of text ≡ None → NoParameter text
+single-no_path text closed e no_path means depth h = on (single-read text means depth closed h)
+  where
+    on : SingleParameter text means depth → ⊥
+    on (single_literal g is whole gives deep) = none-some g (sym e ∙ is)
+    on (single_path m none is gives deep) = none-some m (sym no_path ∙ is)
+
+-- ---- one meaning
+
+nested-one : (text r : List ℕ) (a b : Term) (depth depth' : ℕ) → after 40 text ≡ Some r → IsParameter text a depth → IsParameter text b depth' → (a ≡ b) × (depth ≡ depth')
+nested-one text r a b depth depth' opens h g =
+    let x = nested-read text r a depth opens h in
+    let y = nested-read text r b depth' opens g in
+    let one = one_line in_parentheses (behind_white r) x.line y.line x.left y.left x.is y.is in
+    (x.gives ∙ ap (λ (z : Line). call_term z.name z.terms) one.0 ∙ sym y.gives, x.deep ∙ ap (λ (z : Line). suc z.depth) one.0 ∙ sym y.deep)
+
+single-one : (text : List ℕ) (a b : Term) (depth depth' : ℕ) → SingleParameter text a depth → SingleParameter text b depth' → (a ≡ b) × (depth ≡ depth')
+single-one text a b depth depth' (single_literal f e whole gives deep) (single_literal g e' whole' gives' deep') =
+    let same = same_Some f g (sym e ∙ e') in
+    (gives ∙ ap (λ (z : Slice). literal_term z.raw) same ∙ sym gives', deep ∙ ap (λ (z : Slice). z.depth) same ∙ sym deep')
+single-one text a b depth depth' (single_literal f e whole gives deep) (single_path m none is gives' deep') = absurd (none-some f (sym none ∙ e))
+single-one text a b depth depth' (single_path m none is gives deep) (single_literal g e whole gives' deep') = absurd (none-some g (sym none ∙ e))
+single-one text a b depth depth' (single_path m none is gives deep) (single_path m' none' is' gives' deep') =
+    (gives ∙ ap path_term (same_Some m m' (sym is ∙ is')) ∙ sym gives', deep ∙ sym deep')
+
+pub one_parameter : OneParameter
+one_parameter text a b depth depth' h g = on (after 40 text) refl
+  where
+    on : (o : Option (List ℕ)) → after 40 text ≡ o → (a ≡ b) × (depth ≡ depth')
+    on (Some r) opens = nested-one text r a b depth depth' opens h g
+    on None closed = single-one text a b depth depth' (single-read text a depth closed h) (single-read text b depth' closed g)

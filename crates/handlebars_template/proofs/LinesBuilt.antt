@@ -1,0 +1,58 @@
+-- What the code builds of a line, and what it stands for.
+use Rattle.std.proofs.Common.{◌≡◌, ◌∙◌, ◌&&◌, ◌==◌, ℕ, Bool, Option, None, Some, length, option_map, sym, List, [], ◌∷◌, ◌++◌, map, reverse, refl, ap, String, Global}
+use Rattle.std.proofs.lemmas.List.{reverse-append, map-append}
+use Rattle.std.specs.Prelude.{string_cmp}
+use Rattle.std.specs.declared.cmp.Ordering.{Ordering}
+use Rattle.std.specs.declared.cmp.Ordering.TheVariants.{Less, Equal, Greater}
+use Rattle.std.specs.Ordering.{match_ordering}
+use Rattle.std.specs.BTreeMap.{insert_entry}
+use Rattle.handlebars_base.specs.Bytes.{Text}
+use Rattle.handlebars_base.specs.Path.{Reference, IsPath}
+use Rattle.handlebars_base.specs.PathReading.{path_of}
+use Rattle.handlebars_base.proofs.PathShapes.{path_is}
+use Rattle.handlebars_template.specs.Tree.{lacks_pairs, Param, Params, no_params, param, params_of, Pairs, pair}
+use Rattle.handlebars_template.specs.TreeView.{text, param_view, params_view, pairs_view}
+use Rattle.handlebars_template.specs.Calls.{put_pair}
+use Rattle.handlebars_template.specs.LineBuilding.{OpenCall, with_param, is_alone}
+use Rattle.handlebars_template.proofs.Levels.{lacks_params-view, lacks_pairs-view}
+use Rattle.handlebars_template.specs.LineBuildingView.{open_view, around_view}
+use Rattle.handlebars_template.specs.declared.template.tree.Parameter.{Parameter}
+use Rattle.handlebars_template.specs.declared.template.build.OpenCall.{OpenCall as BuiltCall}
+
+params_of-append : (ps : List Param) (p : Param) → params_of (ps ++ p ∷ []) ≡ with_param (params_of ps) p
+params_of-append [] p = refl
+params_of-append (q ∷ ps) p = ap (param q) (params_of-append ps p)
+
+pub params_view_push : (ps : List Parameter) (p : Parameter) → params_view (ps ++ p ∷ []) ≡ with_param (params_view ps) (param_view p)
+params_view_push ps p = ap params_of (map-append param_view ps (p ∷ [])) ∙ params_of-append (map param_view ps) (param_view p)
+
+pub around_view_push : (fs : List BuiltCall) (f : BuiltCall) → around_view (fs ++ f ∷ []) ≡ open_view f ∷ around_view fs
+around_view_push fs f = rw (map-append) (reverse-append (map open_view fs) (open_view f ∷ []))
+
+pub is_alone-view : (ps : List Parameter) (hs : List (String Global × Parameter))
+    → is_alone (params_view ps) (pairs_view hs) ≡ (length ps == 0) && (length hs == 0)
+is_alone-view ps hs =
+    ap (λ (b : Bool). b && lacks_pairs (pairs_view hs)) (lacks_params-view ps)
+    ∙ ap (λ (b : Bool). (length ps == 0) && b) (lacks_pairs-view hs)
+
+-- a text that is no path
+pub path_of-none : (raw : Text) → ((means : Reference) → IsPath raw means → ⊥) → None ≡ path_of raw
+path_of-none raw none = on (path_of raw) refl
+  where
+    on : (o : Option Reference) → path_of raw ≡ o → None ≡ path_of raw
+    on None is = sym is
+    on (Some means) is = absurd (none means (path_is raw means is))
+
+-- the same case of an order, before the view and behind it
+pairs_view-match : (o : Ordering) (a b c : List (String Global × Parameter)) → pairs_view (match_ordering o a b c) ≡ match_ordering o (pairs_view a) (pairs_view b) (pairs_view c)
+pairs_view-match Less a b c = refl
+pairs_view-match Equal a b c = refl
+pairs_view-match Greater a b c = refl
+
+pub pairs_view_insert : (hs : List (String Global × Parameter)) (key : String Global) (value : Parameter)
+    → pairs_view (insert_entry string_cmp hs key value) ≡ put_pair (text key) (param_view value) (pairs_view hs)
+pairs_view_insert [] key value = refl
+pairs_view_insert (h ∷ hs) key value =
+    let o : Ordering = string_cmp key h.0 in
+    pairs_view-match o ((key, value) ∷ h ∷ hs) ((h.0, value) ∷ hs) (h ∷ insert_entry string_cmp hs key value)
+    ∙ ap (λ (z : Pairs). match_ordering o (pairs_view ((key, value) ∷ h ∷ hs)) (pairs_view ((h.0, value) ∷ hs)) (pair (text h.0) (param_view h.1) z)) (pairs_view_insert hs key value)
