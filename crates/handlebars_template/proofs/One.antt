@@ -1,15 +1,17 @@
--- OneBeginning most one cut, and at most one outcome.
-use Rattle.std.proofs.Common.{◌≡◌, ◌≢◌, ℕ, zero, suc, ◌-◌, ◌<◌, List, [], ◌∷◌, ◌++◌, length, drop, true, false, cond, refl, sym, ap, ◌∙◌, subst, arith, ◌⊎◌, inl, inr, length-append}
+-- At most one cut, and at most one outcome.
+use Rattle.std.proofs.Common.{◌≡◌, ◌≢◌, ℕ, zero, suc, ◌-◌, ◌<◌, ◌≤◌, Option, Some, None, List, [], ◌∷◌, ◌++◌, length, drop, true, false, cond, refl, sym, ap, ◌∙◌, subst, arith, ◌⊎◌, inl, inr, length-append}
 use Rattle.std.specs.Prelude.{◌==◌, nat_lt, replicate}
 use Rattle.std.proofs.lemmas.List.{append-nil, drop_at}
 use Rattle.std.proofs.lemmas.Bool.{cases_Bool, eqb-true, eqb-false, ne_eqb}
+use Rattle.std.proofs.lemmas.Option.{same_Some, none-some}
 use borrow.Author.Tests.{ltb-true, ltb-false}
 use Rattle.handlebars_base.specs.Bytes.{Text, backslash, left_brace}
 use Rattle.handlebars_template.specs.Place.{Place, place}
 use Rattle.handlebars_template.specs.Text.{IsText, at_end, at_tag, a_byte, two_escaped, four_escaped, backslashes, braces, before_braces}
-use Rattle.handlebars_template.specs.Tag.{NoTag}
-use Rattle.handlebars_template.specs.Cut.{Slice, text_slice, Reads, starts, goes_on, TextAndTag, IsCut}
-use Rattle.handlebars_template.specs.Compile.{compiled, refused, whole, no_tag, IsUnreadable, unreadable, tree_of, OneCut, OneCompilation}
+use Rattle.handlebars_template.specs.Tag.{Tag, IsTag, tag_depth, NoTag}
+use Rattle.handlebars_template.specs.Calls.{first_refused, max_nesting}
+use Rattle.handlebars_template.specs.Cut.{Slice, text_slice, Reads, starts, goes_on, TextAndTag, tag_place, IsCut}
+use Rattle.handlebars_template.specs.Compile.{compiled, refused, whole, no_value, no_tag, deep_tag, IsUnreadable, IsTooDeep, unreadable, too_deep, bad_literal, tree_of, slice_literals, OneCut, OneCompilation}
 use Rattle.handlebars_template.proofs.Runs.{backslashes-run, backslashes-braces, before_braces-run}
 use Rattle.handlebars_template.proofs.Tags.{one_tag, braces-tag, append-right_cancel}
 
@@ -76,7 +78,7 @@ append-behind s b c x y e h k = append-left_cancel c x y (ap (λ (z : Text). z +
 -- how many tags were read
 pub count : {s b : Text} {ps : List Slice} → Reads s b ps → ℕ
 count starts = zero
-count (goes_on r x) = suc (count r)
+count (goes_on r x h) = suc (count r)
 
 pub record OneBeginning (b c : Text) (ps qs : List Slice) : Type 0 where
   pub here : b ≡ c
@@ -88,9 +90,9 @@ suc-cancel n m e = omega arith
 pub one_beginning : {s b c : Text} {ps qs : List Slice} → (r : Reads s b ps) (q : Reads s c qs) → count r ≡ count q → OneBeginning b c ps qs
 unfolding count
 one_beginning starts starts n = record { here = refl; slices = refl }
-one_beginning starts (goes_on q y) n = absurd (omega arith)
-one_beginning (goes_on r x) starts n = absurd (omega arith)
-one_beginning {s} (goes_on {before = b} {ps = ps} r x) (goes_on {before = c} {ps = qs} q y) n =
+one_beginning starts (goes_on q y h) n = absurd (omega arith)
+one_beginning (goes_on r x h) starts n = absurd (omega arith)
+one_beginning {s} (goes_on {before = b} {ps = ps} r x h) (goes_on {before = c} {ps = qs} q y g) n =
     let a = one_beginning r q (suc-cancel (count r) (count q) n) in
     let left : x.text ++ (x.slice ++ x.rest) ≡ y.text ++ (y.slice ++ y.rest) = append-behind s b c (x.text ++ (x.slice ++ x.rest)) (y.text ++ (y.slice ++ y.rest)) a.here x.whole y.whole in
     let texts = one_text x.text y.text x.kept y.kept (x.slice ++ x.rest) (y.slice ++ y.rest) x.is_text y.is_text left in
@@ -105,6 +107,7 @@ pub record Beginning (s : Text) (n : ℕ) : Type 0 where
   pub begins : Reads s before slices
   pub long : count begins ≡ n
   pub goes : TextAndTag s before
+  pub shallow : tag_depth goes.tag ≤ max_nesting
 
 split : (n m : ℕ) → n < suc m → (n ≡ m) ⊎ (n < m)
 split n m lt = elim (cases_Bool (n == m)) [
@@ -115,27 +118,34 @@ split n m lt = elim (cases_Bool (n == m)) [
 pub back : {s b : Text} {ps : List Slice} → (r : Reads s b ps) (n : ℕ) → n < count r → Beginning s n
 unfolding count
 back starts n lt = absurd (omega arith)
-back {s} (goes_on {before = b} {ps = ps} r x) n lt = elim (split n (count r) lt) [
-  | inl here ↦ record { before = b; slices = ps; begins = r; long = sym here; goes = x }
+back {s} (goes_on {before = b} {ps = ps} r x h) n lt = elim (split n (count r) lt) [
+  | inl here ↦ record { before = b; slices = ps; begins = r; long = sym here; goes = x; shallow = h }
   | inr less ↦ back r n less
 ]
+
+-- no tag goes on here
+abbrev NoNext : Text → Type 0
+NoNext left = (slice rest : Text) (t : Tag) → left ≡ slice ++ rest → IsTag slice rest t → tag_depth t ≤ max_nesting → ⊥
 
 -- nothing reads behind here
 pub record Stops (s b x k left : Text) : Type 0 where
   pub whole : s ≡ b ++ (x ++ left)
   pub is_text : IsText left x k
-  pub none : NoTag left
+  pub none : NoNext left
 
-stops-tag : (s b x k left : Text) → TextAndTag s b → Stops s b x k left → ⊥
-stops-tag s b x k left g e =
+stops-tag : (s b x k left : Text) → (g : TextAndTag s b) → tag_depth g.tag ≤ max_nesting → Stops s b x k left → ⊥
+stops-tag s b x k left g shallow e =
     let both = one_text g.text x g.kept k (g.slice ++ g.rest) left g.is_text e.is_text (append-left_cancel b (g.text ++ (g.slice ++ g.rest)) (x ++ left) (sym g.whole ∙ e.whole)) in
-    e.none g.slice g.rest g.tag (sym both.follows) g.is_tag
+    e.none g.slice g.rest g.tag (sym both.follows) g.is_tag shallow
 
 no_longer : {s b c x k left : Text} {ps qs : List Slice} → (r : Reads s b ps) → Stops s b x k left → (q : Reads s c qs) → count r < count q → ⊥
 no_longer {s} {b} {c} {x} {k} {left} r ends q lt =
     let m = back q (count r) lt in
     let a = one_beginning r m.begins (sym m.long) in
-    stops-tag s b x k left (subst (λ (z : Text). TextAndTag s z) (sym a.here) m.goes) ends
+    at b (sym a.here) m.goes m.shallow ends
+  where
+    at : {before : Text} (z : Text) → before ≡ z → (g : TextAndTag s before) → tag_depth g.tag ≤ max_nesting → Stops s z x k left → ⊥
+    at {before} z same g shallow h = stops-tag s before x k left g shallow (subst (λ (y : Text). Stops s y x k left) (sym same) h)
 
 by_order : (n m : ℕ) → (n ≡ m) ⊎ ((n < m) ⊎ (m < n))
 by_order n m = elim (cases_Bool (n == m)) [
@@ -160,13 +170,16 @@ one_rest s b c x k y l left more e h g = one_text x y k l left more h.is_text g.
 
 -- ---- where a source ends
 
+stops-none : {left : Text} → NoTag left → NoNext left
+stops-none none slice rest t e h shallow = none slice rest t e h
+
 no_tag-nil : NoTag []
 no_tag-nil slice rest t e h =
     let never : false ≡ true = ap braces e ∙ braces-tag slice rest t h in
     absurd cc
 
 cut_stops : {s : Text} {ps : List Slice} → (c : IsCut s ps) → Stops s c.before c.text c.kept []
-cut_stops {s} c = record { whole = c.whole ∙ ap (λ (z : Text). c.before ++ z) (sym (append-nil c.text)); is_text = c.is_text; none = no_tag-nil }
+cut_stops {s} c = record { whole = c.whole ∙ ap (λ (z : Text). c.before ++ z) (sym (append-nil c.text)); is_text = c.is_text; none = stops-none no_tag-nil }
 
 pub one_cut : OneCut
 one_cut s ps qs a b =
@@ -176,26 +189,87 @@ one_cut s ps qs a b =
     let all : a.slices ++ text_slice (place a.before) a.text a.kept ∷ [] ≡ b.slices ++ text_slice (place b.before) b.text b.kept ∷ [] = cc in
     a.gives ∙ all ∙ sym b.gives
 
-unreadable_stops : {s : Text} {at : Place} → (h : IsUnreadable s at) → Stops s h.before h.text h.kept h.left
-unreadable_stops h = record { whole = h.whole; is_text = h.is_text; none = h.none }
+-- the place where braces are refused, and what is left there
+record Refused (s left : Text) (at : Place) : Type 0 where
+  before : Text
+  slices : List Slice
+  begins : Reads s before slices
+  text : Text
+  kept : Text
+  stops : Stops s before text kept left
+  marks : braces left ≡ true
+  there : at ≡ place (before ++ text)
 
-cut_or_unreadable : {s : Text} {ps : List Slice} {at : Place} → IsCut s ps → IsUnreadable s at → ⊥
-cut_or_unreadable {s} a h =
-    let at = one_end a.begins (cut_stops a) h.begins (unreadable_stops h) in
-    let texts = one_rest s a.before h.before a.text a.kept h.text h.kept [] h.left at.here (cut_stops a) (unreadable_stops h) in
+unreadable_refused : {s : Text} {at : Place} → (h : IsUnreadable s at) → Refused s h.left at
+unreadable_refused h = record {
+  before = h.before;
+  slices = h.slices;
+  begins = h.begins;
+  text = h.text;
+  kept = h.kept;
+  stops = record { whole = h.whole; is_text = h.is_text; none = stops-none h.none };
+  marks = h.marks;
+  there = h.there;
+}
+
+-- where one tag nests too deep, no other stands
+no_next-deep : (slice rest : Text) (t : Tag) → IsTag slice rest t → max_nesting < tag_depth t → NoNext (slice ++ rest)
+no_next-deep slice rest t is deep slice' rest' t' e h shallow =
+    let same : tag_depth t ≡ tag_depth t' = ap tag_depth (one_tag slice slice' rest rest' t t' is h e).tags in
+    absurd (omega arith)
+
+too_deep_refused : {s : Text} {at : Place} → (h : IsTooDeep s at) → Refused s (h.next.slice ++ h.next.rest) at
+too_deep_refused h = record {
+  before = h.before;
+  slices = h.slices;
+  begins = h.begins;
+  text = h.next.text;
+  kept = h.next.kept;
+  stops = record { whole = h.next.whole; is_text = h.next.is_text; none = no_next-deep h.next.slice h.next.rest h.next.tag h.next.is_tag h.deep };
+  marks = braces-tag h.next.slice h.next.rest h.next.tag h.next.is_tag;
+  there = h.there;
+}
+
+cut_or_refused : {s left : Text} {ps : List Slice} {at : Place} → IsCut s ps → Refused s left at → ⊥
+cut_or_refused {s} {left} a h =
+    let at = one_end a.begins (cut_stops a) h.begins h.stops in
+    let texts = one_rest s a.before h.before a.text a.kept h.text h.kept [] left at.here (cut_stops a) h.stops in
     let never : false ≡ true = ap braces texts.follows ∙ h.marks in
     absurd cc
 
-one_place : {s : Text} {at there : Place} → IsUnreadable s at → IsUnreadable s there → at ≡ there
-one_place {s} h g =
-    let at = one_end h.begins (unreadable_stops h) g.begins (unreadable_stops g) in
-    let texts = one_rest s h.before g.before h.text h.kept g.text g.kept h.left g.left at.here (unreadable_stops h) (unreadable_stops g) in
+record OnePlace (at there : Place) (left more : Text) : Type 0 where
+  places : at ≡ there
+  lefts : left ≡ more
+
+one_place : {s left more : Text} {at there : Place} → Refused s left at → Refused s more there → OnePlace at there left more
+one_place {s} {left} {more} h g =
+    let at = one_end h.begins h.stops g.begins g.stops in
+    let texts = one_rest s h.before g.before h.text h.kept g.text g.kept left more at.here h.stops g.stops in
     let here = at.here in let text = texts.slices in
     let same : h.before ++ h.text ≡ g.before ++ g.text = cc in
-    h.there ∙ ap place same ∙ sym g.there
+    record { places = h.there ∙ ap place same ∙ sym g.there; lefts = texts.follows }
+
+unreadable_or_deep : {s : Text} {at there : Place} → IsUnreadable s at → IsTooDeep s there → ⊥
+unreadable_or_deep h g = h.none g.next.slice g.next.rest g.next.tag (one_place (unreadable_refused h) (too_deep_refused g)).lefts g.next.is_tag
+
+-- the first literal that is refused, if any is
+one_refused : {s : Text} {ps qs : List Slice} → IsCut s ps → IsCut s qs → (a b : Option Text) → first_refused (slice_literals ps) ≡ a → first_refused (slice_literals qs) ≡ b → a ≡ b
+one_refused {s} {ps} {qs} c d a b h g = sym h ∙ ap (λ (z : List Slice). first_refused (slice_literals z)) (one_cut s ps qs c d) ∙ g
 
 pub one_compilation : OneCompilation
-one_compilation s options _ _ (whole {ps = ps} a) (whole {ps = qs} b) = ap (λ (z : List Slice). compiled (tree_of options z)) (one_cut s ps qs a b)
-one_compilation s options _ _ (whole a) (no_tag h) = absurd (cut_or_unreadable a h)
-one_compilation s options _ _ (no_tag h) (whole a) = absurd (cut_or_unreadable a h)
-one_compilation s options _ _ (no_tag h) (no_tag g) = ap (λ (p : Place). refused (unreadable options p)) (one_place h g)
+one_compilation s options _ _ (whole {ps = ps} a h) (whole {ps = qs} b g) = ap (λ (z : List Slice). compiled (tree_of options z)) (one_cut s ps qs a b)
+one_compilation s options _ _ (whole a h) (no_value {raw = raw} b g) = absurd (none-some raw (one_refused a b None (Some raw) h g))
+one_compilation s options _ _ (no_value {raw = raw} a h) (whole b g) = absurd (none-some raw (one_refused b a None (Some raw) g h))
+one_compilation s options _ _ (no_value {raw = x} a h) (no_value {raw = y} b g) = ap (λ (raw : Text). refused (bad_literal raw)) (same_Some x y (one_refused a b (Some x) (Some y) h g))
+one_compilation s options _ _ (whole a h) (no_tag g) = absurd (cut_or_refused a (unreadable_refused g))
+one_compilation s options _ _ (whole a h) (deep_tag g) = absurd (cut_or_refused a (too_deep_refused g))
+one_compilation s options _ _ (no_value a h) (no_tag g) = absurd (cut_or_refused a (unreadable_refused g))
+one_compilation s options _ _ (no_value a h) (deep_tag g) = absurd (cut_or_refused a (too_deep_refused g))
+one_compilation s options _ _ (no_tag h) (whole b g) = absurd (cut_or_refused b (unreadable_refused h))
+one_compilation s options _ _ (no_tag h) (no_value b g) = absurd (cut_or_refused b (unreadable_refused h))
+one_compilation s options _ _ (no_tag h) (no_tag g) = ap (λ (p : Place). refused (unreadable options p)) (one_place (unreadable_refused h) (unreadable_refused g)).places
+one_compilation s options _ _ (no_tag h) (deep_tag g) = absurd (unreadable_or_deep h g)
+one_compilation s options _ _ (deep_tag h) (whole b g) = absurd (cut_or_refused b (too_deep_refused h))
+one_compilation s options _ _ (deep_tag h) (no_value b g) = absurd (cut_or_refused b (too_deep_refused h))
+one_compilation s options _ _ (deep_tag h) (no_tag g) = absurd (unreadable_or_deep g h)
+one_compilation s options _ _ (deep_tag h) (deep_tag g) = ap (λ (p : Place). refused (too_deep options p)) (one_place (too_deep_refused h) (too_deep_refused g)).places

@@ -1,5 +1,5 @@
 -- A template as the code makes it, and the tree that it stands for.
-use Rattle.std.proofs.Common.{◌≡◌, ◌∙◌, ◌++◌, ◌∷◌, [], List, map, refl, sym, rules, option_map, length}
+use Rattle.std.proofs.Common.{◌≡◌, ◌∙◌, ◌++◌, ◌∷◌, [], List, None, map, refl, sym, rules, option_map, length}
 use Rattle.handlebars_template.specs.Place.{Place}
 use Rattle.handlebars_template.specs.Tree.{Tree, tree, Element}
 use Rattle.handlebars_template.specs.TreeView.{text, place_of, element_view, tree_view, elements_view}
@@ -26,7 +26,7 @@ pub tree_view-out : (t : Template)
 tree_view-out t = search (rules, the_lemmas)
 
 -- at the end of the source
-pub Compiles-tree : {source slice kept left : List ℕ} {at : Place} {es : List Element} {places : List Place} → Scans source slice kept left at es places → length left ≡ 0
+pub Compiles-tree : {source slice kept left : List ℕ} {at : Place} {es : List Element} {places : List Place} → Scans source slice kept left at es places None → length left ≡ 0
     → (x : Template-F BlockParam Parameter TemplateElement DecoratorTemplate HelperTemplate Subexpression Template)
     → (options : Options) → option_map text x.name ≡ options.name
     → map element_view x.elements.items ≡ es ++ slice_elements (text_slice at slice kept ∷ [])

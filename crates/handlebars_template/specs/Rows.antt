@@ -1,10 +1,11 @@
 -- Worked sources, each with its tree or its refusal.
 use Rattle.std.specs.Prelude.{ℕ, List, [], ◌∷◌, ◌++◌, None, codes}
 use Rattle.handlebars_base.specs.Bytes.{Text, backslash, newline}
-use Rattle.handlebars_base.specs.Path.{Segment, named, relative}
+use Rattle.handlebars_base.specs.Path.{Segment, named, up, relative}
 use Rattle.handlebars_template.specs.Place.{Place}
-use Rattle.handlebars_template.specs.Tree.{Tree, tree, empty_tree, Element, no_elements, element, raw_string, expression}
-use Rattle.handlebars_template.specs.Compile.{Compiles, compiled, refused, no_options, unreadable, value_call}
+use Rattle.handlebars_template.specs.Tree.{Tree, tree, empty_tree, Element, no_elements, element, raw_string, html_expression, expression, Param, name, path, subexpression, no_params, param, no_pairs, pair}
+use Rattle.handlebars_template.specs.Compile.{Compiles, compiled, refused, no_options, unreadable}
+use Rattle.handlebars_template.specs.Calls.{plain_call}
 
 abbrev pub at : ℕ → ℕ → Place
 at line column = record { line = line; column = column }
@@ -14,9 +15,9 @@ abbrev pub text_and_value : Text → Element → Place → Tree
 text_and_value text value there =
     tree None (element (raw_string text) (element value no_elements)) (at 1 1 ∷ there ∷ [])
 
--- the value that these names lead to, written so
+-- the value that these segments lead to, written so
 abbrev pub value_at : List Segment → Text → Element
-value_at names written = expression (value_call (relative names written))
+value_at segments written = expression (plain_call (path (relative segments written)) no_params no_pairs)
 
 -- The empty source has no elements.
 abbrev pub EmptyRow : Type 0
@@ -51,3 +52,55 @@ UnclosedRow = Compiles (codes "ab{{name") no_options (refused (unreadable no_opt
 -- A newline begins a line, and a character of two bytes, here U+00E9, is one column.
 abbrev pub PlaceRow : Type 0
 PlaceRow = Compiles (newline ∷ 195 ∷ 169 ∷ codes "{{a") no_options (refused (unreadable no_options (at 2 2)))
+
+-- ---- expressions
+
+-- an element where the source begins, and nothing else
+abbrev pub alone : Element → Tree
+alone e = tree None (element e no_elements) (at 1 1 ∷ [])
+
+abbrev pub path_to : Text → Param
+path_to n = path (relative (named n ∷ []) n)
+
+-- `{{{x}}}` and `{{&x}}` are html expressions.
+abbrev pub html_x : Tree
+html_x = alone (html_expression (plain_call (path_to (codes "x")) no_params no_pairs))
+
+abbrev pub HtmlRow : Type 0
+HtmlRow = Compiles (codes "{{{x}}}") no_options (compiled html_x)
+
+abbrev pub AmpersandRow : Type 0
+AmpersandRow = Compiles (codes "{{&x}}") no_options (compiled html_x)
+
+-- a call with a parameter and a pair
+abbrev pub CallRow : Type 0
+CallRow =
+    Compiles (codes "{{a b c=d}}") no_options
+    (compiled
+    (alone
+    (expression
+    (plain_call (name (codes "a")) (param (path_to (codes "b")) no_params)
+    (pair (codes "c") (path_to (codes "d")) no_pairs)))))
+
+-- a call of this name with this parameter
+abbrev pub call_with : Text → Param → Element
+call_with n p = expression (plain_call (name n) (param p no_params) no_pairs)
+
+-- calls in parentheses
+abbrev pub NestedRow : Type 0
+NestedRow =
+    Compiles (codes "{{a (b (c d))}}") no_options
+    (compiled
+    (alone
+    (call_with (codes "a")
+    (subexpression (call_with (codes "b") (subexpression (call_with (codes "c") (path_to (codes "d")))))))))
+
+-- a value in the block around
+abbrev pub UpRow : Type 0
+UpRow =
+    Compiles (codes "{{../a}}") no_options
+    (compiled (alone (value_at (up ∷ named (codes "a") ∷ []) (codes "../a"))))
+
+-- `else` in double braces is no value.
+abbrev pub ElseRow : Type 0
+ElseRow = Compiles (codes "{{else}}") no_options (refused (unreadable no_options (at 1 1)))

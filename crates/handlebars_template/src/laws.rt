@@ -2,7 +2,7 @@
 
 ghost use Rattle.handlebars_template.specs.Compile.{OneCut, OneCompilation};
 ghost use Rattle.handlebars_template.specs.ParameterParsing.{OneParsing};
-ghost use Rattle.handlebars_template.specs.Rows.{EmptyRow, ValueRow, EscapedRow, MemberRow, UnclosedRow, PlaceRow};
+ghost use Rattle.handlebars_template.specs.Rows.{EmptyRow, ValueRow, EscapedRow, MemberRow, UnclosedRow, PlaceRow, HtmlRow, AmpersandRow, CallRow, NestedRow, UpRow, ElseRow};
 
 /// A source has at most one cut into texts and tags.
 pub fn one_cut()
@@ -27,4 +27,10 @@ pub fn worked_sources()
     ensures member { MemberRow }
     ensures unclosed { UnclosedRow }
     ensures place { PlaceRow }
+    ensures html_tag { HtmlRow }
+    ensures ampersand_tag { AmpersandRow }
+    ensures call_tag { CallRow }
+    ensures nested_tag { NestedRow }
+    ensures up_tag { UpRow }
+    ensures else_tag { ElseRow }
 {}

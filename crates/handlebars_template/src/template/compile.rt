@@ -3,23 +3,18 @@
 ghost use Rattle.std.specs.Prelude.{◌≡◌, ◌≢◌, ◌++◌, ◌∷◌, [], IfOk, IfErr, OnOk, IsSome, map, string_bytes, false};
 ghost use Rattle.handlebars_base.specs.Reasons.{template_out_of_memory};
 ghost use Rattle.handlebars_base.specs.TemplateRefusals.{template_refusal_of, shown_lines};
-ghost use Rattle.handlebars_base.specs.PathView.{reference_of};
-ghost use Rattle.handlebars_template.specs.Tag.{expression_tag};
+ghost use Rattle.handlebars_base.specs.Bytes.{Text};
 ghost use Rattle.handlebars_template.specs.Cut.{text_slice};
-ghost use Rattle.handlebars_template.specs.Compile.{Compiles, compiled, refused, no_options, named_options, unreadable, value_call, element_of, slice_elements, slice_places};
+ghost use Rattle.handlebars_template.specs.Compile.{Compiles, compiled, refused, no_options, named_options, syntax_refusal, bad_literal, slice_elements, slice_places};
 ghost use Rattle.handlebars_template.specs.OptionsView.{options_view};
-ghost use Rattle.handlebars_template.specs.TreeView.{tree_view, call_view, element_view, place_of};
+ghost use Rattle.handlebars_template.specs.TreeView.{tree_view, element_view, place_of};
 
 use crate::template::place::advance;
-use crate::template::tag::tag;
+use crate::template::tag::{TagFront, tag};
 use crate::template::text::{TextFront, text};
-use crate::template::tree::{
-    HelperTemplate, Parameter, Template, TemplateElement, TemplateMapping,
-};
+use crate::template::tree::{Template, TemplateElement, TemplateMapping};
 use handlebars_base::error::{TemplateError, TemplateErrorReason};
-use handlebars_base::json::path::Path;
 use std::alloc::{AllocError, Global};
-use std::collections::BTreeMap;
 
 /// How a source is compiled: the name of its template, and whether its inclusions add no indentation. No source has
 /// inclusions yet, so the second changes nothing.
@@ -35,8 +30,7 @@ impl Template {
         ensures ok { IfOk result (λ template. Compiles source.now no_options (compiled (tree_view template))) }
         ensures err { IfErr result (λ e. (template_refusal_of e).reason ≢ template_out_of_memory
             → Compiles source.now no_options (refused (template_refusal_of e))) }
-        ensures shown { IfErr result (λ e. (template_refusal_of e).reason ≢ template_out_of_memory
-            → IsSome (shown_lines e)) }
+        ensures shown { IfErr result (λ e. IsSome (template_refusal_of e).position → IsSome (shown_lines e)) }
     {
         Template::compile2(alloc, source, TemplateOptions::default())
     }
@@ -51,8 +45,7 @@ impl Template {
             Compiles source.now (named_options (string_bytes name)) (compiled (tree_view template))) }
         ensures err { IfErr result (λ e. (template_refusal_of e).reason ≢ template_out_of_memory
             → Compiles source.now (named_options (string_bytes name)) (refused (template_refusal_of e))) }
-        ensures shown { IfErr result (λ e. (template_refusal_of e).reason ≢ template_out_of_memory
-            → IsSome (shown_lines e)) }
+        ensures shown { IfErr result (λ e. IsSome (template_refusal_of e).position → IsSome (shown_lines e)) }
     {
         let options = TemplateOptions {
             name: Some(name),
@@ -61,8 +54,10 @@ impl Template {
         Template::compile2(alloc, source, options)
     }
 
-    /// The tree of a source, or what the first unreadable tag is refused with: `InvalidSyntax` at its position, in
-    /// the template of the name that is given, or `Unnamed`. In time linear in the source.
+    /// The tree of a source, or what is refused first: a tag that doesn't read, `InvalidSyntax("unreadable tag")`, or
+    /// one that nests deeper than 200, `InvalidSyntax("nesting too deep")`, both at its position, in the template of
+    /// the name that is given, or `Unnamed`; and where all tags read, a literal with no value, `InvalidParam` of its
+    /// text alone. In time linear in the source, but for the literals' values.
     pub fn compile2(
         alloc: Global,
         source: &str,
@@ -72,25 +67,43 @@ impl Template {
             Compiles source.now (options_view options) (compiled (tree_view template))) }
         ensures err { IfErr result (λ e. (template_refusal_of e).reason ≢ template_out_of_memory
             → Compiles source.now (options_view options) (refused (template_refusal_of e))) }
-        ensures shown { IfErr result (λ e. (template_refusal_of e).reason ≢ template_out_of_memory
-            → IsSome (shown_lines e)) }
+        ensures shown { IfErr result (λ e. IsSome (template_refusal_of e).position → IsSome (shown_lines e)) }
     {
         let mut tree = Growing {
             elements: Vec::new(alloc),
             mapping: Vec::new(alloc),
         };
+        let mut refused = None;
         let mut place = TemplateMapping(1, 1);
         let mut front = text(alloc, source)?;
         'tags: while !front.rest.is_empty() {
             let left = front.rest;
             let at = advance(place, front.slice);
-            let Some(found) = tag(alloc, left)? else {
-                return Err(unreadable(alloc, source, options, at)?);
+            let found = match tag(alloc, left)? {
+                TagFront::Unreadable => return Err(syntax_error(
+                    alloc,
+                    source,
+                    options,
+                    at,
+                    "unreadable tag",
+                )?),
+                TagFront::TooDeep => return Err(syntax_error(
+                    alloc,
+                    source,
+                    options,
+                    at,
+                    "nesting too deep",
+                )?),
+                TagFront::Tag(found) => found,
             };
             tree.add_text(place, front)?;
-            tree.add_expression(alloc, at, found.path)?;
+            tree.add_element(at, found.element)?;
+            refused = refused.or(found.refused);
             place = advance(at, left.split_at(left.len() - found.rest.len()).0);
             front = text(alloc, found.rest)?;
+        }
+        if let Some(raw) = refused {
+            return Err(literal_error(alloc, raw)?);
         }
         tree.add_text(place, front)?;
         Ok(Template {
@@ -126,54 +139,35 @@ impl Growing {
         Ok(())
     }
 
-    fn add_expression(
+    fn add_element(
         &mut self,
-        alloc: Global,
         place: TemplateMapping,
-        path: Path,
+        element: TemplateElement,
     ) -> Result<(), AllocError>
         ensures elements { OnOk result (map element_view self.new.elements.items
-            ≡ map element_view self.old.elements.items ++ element_of (expression_tag (reference_of path)) ∷ []) }
+            ≡ map element_view self.old.elements.items ++ element_view element ∷ []) }
         ensures places { OnOk result (map place_of self.new.mapping.items
             ≡ map place_of self.old.mapping.items ++ place_of place ∷ []) }
     {
-        let value = Box::new(alloc, value_call(alloc, path))?;
-        self.elements.push(TemplateElement::Expression(value))?;
+        self.elements.push(element)?;
         self.mapping.push(place)?;
         Ok(())
     }
 }
 
-// The value that a path leads to.
-fn value_call(alloc: Global, path: Path) -> HelperTemplate
-    ensures { call_view result ≡ value_call (reference_of path) }
-{
-    HelperTemplate {
-        name: Parameter::Path(path),
-        params: Vec::new(alloc),
-        hash: BTreeMap::new(alloc),
-        block_param: None,
-        template: None,
-        inverse: None,
-        block: false,
-        chain: false,
-        indent_before_write: false,
-    }
-}
-
-// The refusal of a tag that doesn't read.
-fn unreadable(
+// The refusal of a tag.
+fn syntax_error(
     alloc: Global,
     source: &str,
     options: TemplateOptions,
     at: TemplateMapping,
+    message: &str,
 ) -> Result<TemplateError, AllocError>
     ensures refusal { IfOk result (λ e. (template_refusal_of e).reason ≢ template_out_of_memory
-        → template_refusal_of e ≡ unreadable (options_view options) (place_of at)) }
-    ensures shown { IfOk result (λ e. (template_refusal_of e).reason ≢ template_out_of_memory
-        → IsSome (shown_lines e)) }
+        → template_refusal_of e ≡ syntax_refusal message.now (options_view options) (place_of at)) }
+    ensures shown { IfOk result (λ e. IsSome (template_refusal_of e).position → IsSome (shown_lines e)) }
 {
-    let reason = TemplateErrorReason::InvalidSyntax(String::from_str(alloc, "unreadable tag")?);
+    let reason = TemplateErrorReason::InvalidSyntax(String::from_str(alloc, message)?);
     let name = match options.name {
         Some(name) => name,
         None => String::from_str(alloc, "Unnamed")?,
@@ -183,4 +177,12 @@ fn unreadable(
             .at(alloc, source, at.0, at.1)
             .in_template(name),
     )
+}
+
+// The refusal of a literal.
+fn literal_error(alloc: Global, raw: &str) -> Result<TemplateError, AllocError>
+    ensures { IfOk result (λ e. template_refusal_of e ≡ bad_literal raw.now) }
+{
+    let raw = String::from_str(alloc, raw)?;
+    Ok(TemplateError::of(TemplateErrorReason::InvalidParam(raw)))
 }
