@@ -17,7 +17,7 @@ use crate::template::tree::{Parameter, Subexpression};
 use handlebars_base::error::{TemplateError, TemplateErrorReason};
 use handlebars_lines::line::{Enclosure, split_line};
 use handlebars_lines::literal::{LiteralSlice, split_literal};
-use handlebars_lines::marks::{after, behind_white};
+use handlebars_base::json::path::marks::{after, behind_white};
 use handlebars_lines::worth::literal_value;
 use std::alloc::{AllocError, Global};
 
