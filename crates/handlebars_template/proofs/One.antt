@@ -10,7 +10,7 @@ use Rattle.handlebars_template.specs.Place.{Place, place}
 use Rattle.handlebars_template.specs.Text.{IsText, at_end, at_tag, a_byte, two_escaped, four_escaped, backslashes, braces, before_braces}
 use Rattle.handlebars_template.specs.Tag.{Tag, IsTag, tag_depth, NoTag}
 use Rattle.handlebars_template.specs.Calls.{first_refused, max_nesting}
-use Rattle.handlebars_template.specs.Cut.{Slice, text_slice, Reads, starts, goes_on, TextAndTag, tag_place, IsCut}
+use Rattle.handlebars_template.specs.Cut.{Slice, text_slice, Reads, starts, goes_on, TextAndTag, IsCut}
 use Rattle.handlebars_template.specs.Compile.{compiled, refused, whole, no_value, no_tag, deep_tag, IsUnreadable, IsTooDeep, unreadable, too_deep, bad_literal, tree_of, slice_literals, OneCut, OneCompilation}
 use Rattle.handlebars_template.proofs.Runs.{backslashes-run, backslashes-braces, before_braces-run}
 use Rattle.handlebars_template.proofs.Tags.{one_tag, braces-tag, append-right_cancel}

@@ -8,7 +8,7 @@ use Rattle.handlebars_base.specs.Path.{is_symbol, IsIdentifier, IsPath, Referenc
 use Rattle.handlebars_base.specs.PathReading.{after}
 use Rattle.handlebars_lines.specs.Literal.{IsWhite}
 use Rattle.handlebars_lines.specs.LiteralReading.{literal_at, value_token, atom_at, undoubled_at, plain_at}
-use Rattle.handlebars_lines.specs.Parameter.{Shape, path_shape, nested_shape, Items, no_items, parameter_item, pair_item, spelled_shape, spelled_items, is_name, IsChosen, Fits, AreItems, term_of, terms_of, depth_of, items_depth}
+use Rattle.handlebars_lines.specs.Parameter.{Shape, path_shape, nested_shape, Items, no_items, parameter_item, pair_item, spelled_shape, spelled_items, is_name, Fits, AreItems, term_of, terms_of, depth_of, items_depth}
 use Rattle.handlebars_lines.specs.Line.{Line, in_tag, IsLine, Closes}
 use Rattle.handlebars_lines.proofs.LinesRead.{path_chosen}
 use Rattle.handlebars_template.specs.Place.{place}
@@ -207,9 +207,14 @@ pub call_row : CallRow
 unfolding chars line_of part literal_at value_token atom_at undoubled_at plain_at after
 call_row = Compiles-alone (codes "{{a b c=d}}") _ refl
     (is_tag double_braces (codes "{{") by_two (part 97 []) (parameter_item gap (part 98 []) (pair_item gap (codes "c") [] [] (part 100 []) no_items))
-    refl (is_plain 97 [] (refl, tt))
-    (gap_white, gap_some, refl, path_chosen (codes "b") (codes " c=d}}") (path_to (codes "b")) refl, is_plain 98 [] (refl, tt),
-    (gap_white, gap_some, is_identifier (codes "c") 99 [] refl (refl, tt), tt, tt, path_chosen (codes "d") (codes "}}") (path_to (codes "d")) refl, is_plain 100 [] (refl, tt), tt))
+    refl (is_plain 97 [] (refl, tt)) (
+      gap_white,
+      gap_some,
+      refl,
+      path_chosen (codes "b") (codes " c=d}}") (path_to (codes "b")) refl,
+      is_plain 98 [] (refl, tt),
+      (gap_white, gap_some, is_identifier (codes "c") 99 [] refl (refl, tt), tt, tt, path_chosen (codes "d") (codes "}}") (path_to (codes "d")) refl, is_plain 100 [] (refl, tt), tt),
+    )
     refl) (omega arith) refl
 
 pub nested_row : NestedRow
@@ -217,11 +222,27 @@ unfolding chars line_of part literal_at value_token atom_at undoubled_at plain_a
 nested_row = Compiles-alone (codes "{{a (b (c d))}}") _ refl
     (is_tag double_braces (codes "{{") by_two (part 97 [])
     (parameter_item gap (nested_shape [] (part 98 []) (parameter_item gap (nested_shape [] (part 99 []) (parameter_item gap (part 100 []) no_items) []) no_items) []) no_items)
-    refl (is_plain 97 [] (refl, tt))
-    (gap_white, gap_some, tt, tt,
-    (tt, refl, is_plain 98 [] (refl, tt), (gap_white, gap_some, tt, tt,
-    (tt, refl, is_plain 99 [] (refl, tt), (gap_white, gap_some, refl, path_chosen (codes "d") (codes "))}}") (path_to (codes "d")) refl, is_plain 100 [] (refl, tt), tt), tt),
-    tt), tt), tt)
+    refl (is_plain 97 [] (refl, tt)) (
+      gap_white,
+      gap_some,
+      tt,
+      tt,
+      (
+        tt,
+        refl,
+        is_plain 98 [] (refl, tt),
+        (
+          gap_white,
+          gap_some,
+          tt,
+          tt,
+          (tt, refl, is_plain 99 [] (refl, tt), (gap_white, gap_some, refl, path_chosen (codes "d") (codes "))}}") (path_to (codes "d")) refl, is_plain 100 [] (refl, tt), tt), tt),
+          tt,
+        ),
+        tt,
+      ),
+      tt,
+    )
     refl) (omega arith) refl
 
 -- two dots, a slash and `a`

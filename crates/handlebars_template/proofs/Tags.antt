@@ -1,5 +1,5 @@
 -- Reading a tag: what is read is spelled so, and what is spelled so is read.
-use Rattle.std.proofs.Common.{◌≡◌, ◌≢◌, ℕ, ◌<◌, Bool, true, false, not, ◌||◌, [], ◌∷◌, ◌++◌, length, take, Option, Some, None, refl, sym, ap, subst, ◌∙◌, append_assoc, arith, inl, inr, length-append, codes}
+use Rattle.std.proofs.Common.{◌≡◌, ℕ, Bool, true, false, not, ◌||◌, [], ◌∷◌, ◌++◌, length, take, Option, Some, None, refl, sym, ap, subst, ◌∙◌, append_assoc, arith, inl, inr, length-append, codes}
 use Rattle.std.specs.Prelude.{◌==◌}
 use Rattle.std.proofs.lemmas.Bool.{false≢true, and_parts}
 use Rattle.std.proofs.lemmas.List.Folds.{list_all-append}
@@ -8,7 +8,7 @@ use Rattle.std.proofs.lemmas.Option.{same_Some, none-some}
 use Rattle.std.specs.Str.{bytes_eq}
 use Rattle.std.proofs.lemmas.List.{take_at}
 use Rattle.handlebars_base.specs.Bytes.{Text, is_white, ampersand, left_brace, right_brace}
-use Rattle.handlebars_base.specs.Path.{IsPath, raw_of, meaning, Shape as PathShape, itself, at_root, at_name, in_parts}
+use Rattle.handlebars_base.specs.Path.{raw_of, meaning, Shape as PathShape, itself, at_root, at_name, in_parts}
 use Rattle.handlebars_base.specs.PathReading.{◌>>=◌, with_or, after, starts_reference, stops, slice_at}
 use Rattle.handlebars_base.proofs.OptionBinds.{bind_some, with_or_is}
 use Rattle.handlebars_base.proofs.PathMarks.{after_takes}
@@ -17,7 +17,7 @@ use Rattle.handlebars_lines.specs.Literal.{IsWhite, starts}
 use Rattle.handlebars_lines.specs.LiteralReading.{behind_white}
 use Rattle.handlebars_lines.specs.Parameter.{left_parenthesis, Shape, literal_shape, path_shape, nested_shape, Items, is_name, spelled_shape, spelled_items, Fits, AreItems, term_of}
 use Rattle.handlebars_lines.specs.Line.{Line, in_tag, IsLine, NoLine, Closes}
-use Rattle.handlebars_lines.proofs.LineMarks.{other_byte, TakesPath, slice_at-some, slice_at-stops}
+use Rattle.handlebars_lines.proofs.LineMarks.{other_byte, slice_at-some, slice_at-stops}
 use Rattle.handlebars_lines.proofs.LineFronts.{items_follow, follows_stops}
 use Rattle.handlebars_lines.proofs.Lines.{one_line}
 use Rattle.handlebars_lines.proofs.Fronts.{behind_white-skips, behind_white-append, starts-other, starts-append, after-not, after-same}
@@ -182,10 +182,12 @@ behind_closing-some marks t rest e =
     last_of double_braces = []
     last_of triple_braces = codes "}"
     last_of braces_and_sign = []
+
     last : (marks : Marks) (r : Text) → behind_last marks r ≡ Some rest → r ≡ last_of marks ++ rest
     last double_braces r e = same_Some r rest e
     last triple_braces r e = after_takes right_brace r rest e
     last braces_and_sign r e = same_Some r rest e
+
     joined : (marks : Marks) → right_brace ∷ right_brace ∷ (last_of marks ++ rest) ≡ closing_of marks ++ rest
     joined double_braces = refl
     joined triple_braces = refl

@@ -2,7 +2,6 @@
 use Rattle.std.specs.Prelude.{◌≡◌, ◌<◌, Bool, true, false, List, [], ◌∷◌, ◌++◌, Option, None, Some, unwrap_or, codes}
 use Rattle.handlebars_base.specs.Bytes.{Text}
 use Rattle.handlebars_base.specs.Reasons.{TemplateRefusal, invalid_syntax, invalid_param}
-use Rattle.handlebars_lines.specs.Line.{Line}
 use Rattle.handlebars_template.specs.Place.{Place, place}
 use Rattle.handlebars_template.specs.Text.{IsText, braces}
 use Rattle.handlebars_template.specs.Tag.{Tag, expression_tag, html_tag, tag_depth, NoTag}

@@ -1,5 +1,5 @@
 -- What a tag is, by the slice that spells it and what follows it.
-use Rattle.std.specs.Prelude.{◌≡◌, Bool, true, false, ℕ, [], ◌∷◌, ◌++◌, codes}
+use Rattle.std.specs.Prelude.{◌≡◌, Bool, false, ℕ, [], ◌∷◌, ◌++◌, codes}
 use Rattle.std.specs.Str.{bytes_eq}
 use Rattle.handlebars_base.specs.Bytes.{Text, ampersand}
 use Rattle.handlebars_base.specs.Path.{raw_of}

@@ -1,12 +1,11 @@
 -- How a tag is read from left to right. Only the code's own contracts cite this.
-use Rattle.std.specs.Prelude.{◌≡◌, ◌≤◌, ◌<◌, Bool, true, false, [], ◌∷◌, ◌++◌, Option, Some, None}
+use Rattle.std.specs.Prelude.{◌≡◌, ◌≤◌, ◌<◌, ◌++◌, Option, Some}
 use Rattle.handlebars_base.specs.Bytes.{Text, ampersand, left_brace, right_brace}
 use Rattle.handlebars_base.specs.PathReading.{◌>>=◌, with_or, after}
 use Rattle.handlebars_lines.specs.LiteralReading.{behind_white}
-use Rattle.handlebars_lines.specs.Line.{Line}
 use Rattle.handlebars_template.specs.Tree.{Element}
 use Rattle.handlebars_template.specs.Calls.{first_refused, max_nesting}
-use Rattle.handlebars_template.specs.Tag.{Tag, Marks, double_braces, triple_braces, braces_and_sign, IsTag, NoTag, tag_depth}
+use Rattle.handlebars_template.specs.Tag.{Tag, Marks, double_braces, triple_braces, braces_and_sign, IsTag, tag_depth}
 use Rattle.handlebars_template.specs.Compile.{element_of, tag_literals}
 
 -- ---- what opens and what closes

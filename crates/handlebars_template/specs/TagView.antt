@@ -1,5 +1,5 @@
 -- What the program's tags stand for.
-use Rattle.std.specs.Prelude.{◌≡◌, Option, option_map}
+use Rattle.std.specs.Prelude.{◌≡◌, option_map}
 use Rattle.handlebars_base.specs.Bytes.{Text}
 use Rattle.handlebars_lines.specs.Line.{Line, in_tag, IsLine}
 use Rattle.handlebars_template.specs.Tag.{Marks, double_braces, triple_braces, braces_and_sign, tag_of, NoTag}

@@ -80,20 +80,14 @@ impl Template {
             let left = front.rest;
             let at = advance(place, front.slice);
             let found = match tag(alloc, left)? {
-                TagFront::Unreadable => return Err(syntax_error(
-                    alloc,
-                    source,
-                    options,
-                    at,
-                    "unreadable tag",
-                )?),
-                TagFront::TooDeep => return Err(syntax_error(
-                    alloc,
-                    source,
-                    options,
-                    at,
-                    "nesting too deep",
-                )?),
+                TagFront::Unreadable => {
+                    let message = "unreadable tag";
+                    return Err(syntax_error(alloc, source, options, at, message)?);
+                }
+                TagFront::TooDeep => {
+                    let message = "nesting too deep";
+                    return Err(syntax_error(alloc, source, options, at, message)?);
+                }
                 TagFront::Tag(found) => found,
             };
             tree.add_text(place, front)?;

@@ -46,6 +46,7 @@ pub fn tag<'a>(alloc: Global, left: &'a str) -> Result<TagFront<'a>, AllocError>
     if slice.depth > MAX_NESTING {
         return Ok(TagFront::TooDeep);
     }
+    // A line stands there, so one is built.
     let Some(line) = build_line(alloc, Enclosure::Tag, slice.line)? else {
         return Ok(TagFront::Unreadable);
     };

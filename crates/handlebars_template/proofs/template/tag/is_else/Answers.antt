@@ -1,4 +1,4 @@
-use Rattle.std.proofs.Common.{◌≡◌, ◌∙◌, sym, ap}
+use Rattle.std.proofs.Common.{◌∙◌, ap}
 use Rattle.handlebars_template.proofs.Tags.{else_at, line-else}
 use Rattle.handlebars_template.proofs.template.tag.is_else.Goals as goal
 

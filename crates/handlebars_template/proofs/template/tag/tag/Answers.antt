@@ -1,6 +1,4 @@
-use Rattle.std.proofs.Common.{◌≡◌, ◌∙◌, ◌≤◌, sym, ap, arith}
-use Rattle.std.specs.Prelude.{List}
-use Rattle.handlebars_base.specs.Bytes.{Text}
+use Rattle.std.proofs.Common.{◌∙◌, sym, ap, arith}
 use Rattle.handlebars_template.specs.Tag.{tag_of}
 use Rattle.handlebars_template.specs.Calls.{first_refused}
 use Rattle.handlebars_template.specs.TagView.{marks_of}
