@@ -11,7 +11,7 @@ use Rattle.handlebars_lines.proofs.Endings.{Through, through-starts, through-goe
 use Rattle.handlebars_lines.proofs.LineEvents.{whole_frames}
 use Rattle.handlebars_lines.proofs.Lines.{line_found}
 use Rattle.handlebars_template.specs.Tree.{Param}
-use Rattle.handlebars_template.specs.Calls.{name_of, params_in, pairs_in, first_refused, line_literals}
+use Rattle.handlebars_template.specs.Calls.{params_in, pairs_in, first_refused, line_literals}
 use Rattle.handlebars_template.specs.Tree.{no_pairs}
 use Rattle.handlebars_template.specs.LineBuilding.{OpenCalls, LineCall, take, take_all, first_calls, finish, line_call}
 use Rattle.handlebars_template.specs.LineBuildingView.{line_view, IsCallOf, IsBuilt}

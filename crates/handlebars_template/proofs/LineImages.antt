@@ -1,6 +1,6 @@
 -- What is built of a line's terms, and what stands for it in the tree: step by step the same.
 use Rattle.std.proofs.Common.{◌≡◌, ◌∙◌, ◌&&◌, ◌||◌, Bool, true, false, cond, List, [], ◌∷◌, ◌++◌, map, Option, Some, None, refl, sym, ap, append_assoc}
-use Rattle.std.specs.Prelude.{⊤, is_some, unwrap_or, option_map}
+use Rattle.std.specs.Prelude.{⊤, is_some, option_map}
 use Rattle.std.specs.declared.cmp.Ordering.{Ordering}
 use Rattle.std.specs.declared.cmp.Ordering.TheVariants.{Less, Equal, Greater}
 use Rattle.std.specs.Cmp.Lexicographic.{slice_cmp}
@@ -10,11 +10,11 @@ use Rattle.handlebars_base.specs.Bytes.{Text}
 use Rattle.handlebars_base.specs.Path.{Reference, raw_of}
 use Rattle.handlebars_base.specs.PathReading.{◌>>=◌, with_or, path_of}
 use Rattle.handlebars_lines.specs.Parameter.{Term, literal_term, path_term, call_term, Terms, no_terms, term}
-use Rattle.handlebars_lines.specs.LineReading.{Event, opened, literal_event, path_event, closed, Frame, joined, new_frame, add_term, Frames, opened_in, added_in, closed_in, build, build_all}
+use Rattle.handlebars_lines.specs.LineReading.{Event, opened, literal_event, path_event, closed, Frame, joined, new_frame, add_term, Frames, added_in, closed_in, build, build_all}
 use Rattle.handlebars_lines.specs.Worth.{worth_of}
 use Rattle.handlebars_template.specs.Tree.{expression, Param, name, path, subexpression, Params, param, Pairs, no_pairs, pair, lacks_params, lacks_pairs}
 use Rattle.handlebars_template.specs.Calls.{plain_call, put_pair, literal_param, lacks_terms, param_of, name_of, params_in, pairs_in, literals_of, literals_in, first_refused}
-use Rattle.handlebars_template.specs.LineBuilding.{OpenCall, open_call, OpenCalls, open_calls, with_param, add_behind, add, is_alone, closed_name, called, close, refuse, take, take_all}
+use Rattle.handlebars_template.specs.LineBuilding.{OpenCall, open_call, OpenCalls, open_calls, with_param, add, is_alone, closed_name, called, close, refuse, take, take_all}
 
 -- ---- what stands for open calls
 

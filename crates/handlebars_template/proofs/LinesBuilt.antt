@@ -1,5 +1,5 @@
 -- What the code builds of a line, and what it stands for.
-use Rattle.std.proofs.Common.{◌≡◌, ◌∙◌, ◌&&◌, ◌==◌, ℕ, Bool, Option, None, Some, length, option_map, sym, List, [], ◌∷◌, ◌++◌, map, reverse, refl, ap, String, Global}
+use Rattle.std.proofs.Common.{◌≡◌, ◌∙◌, ◌&&◌, ◌==◌, Bool, Option, None, Some, length, sym, List, [], ◌∷◌, ◌++◌, map, refl, ap, String, Global}
 use Rattle.std.proofs.lemmas.List.{reverse-append, map-append}
 use Rattle.std.specs.Prelude.{string_cmp}
 use Rattle.std.specs.declared.cmp.Ordering.{Ordering}
@@ -10,10 +10,10 @@ use Rattle.handlebars_base.specs.Bytes.{Text}
 use Rattle.handlebars_base.specs.Path.{Reference, IsPath}
 use Rattle.handlebars_base.specs.PathReading.{path_of}
 use Rattle.handlebars_base.proofs.PathShapes.{path_is}
-use Rattle.handlebars_template.specs.Tree.{lacks_pairs, Param, Params, no_params, param, params_of, Pairs, pair}
+use Rattle.handlebars_template.specs.Tree.{lacks_pairs, Param, param, params_of, Pairs, pair}
 use Rattle.handlebars_template.specs.TreeView.{text, param_view, params_view, pairs_view}
 use Rattle.handlebars_template.specs.Calls.{put_pair}
-use Rattle.handlebars_template.specs.LineBuilding.{OpenCall, with_param, is_alone}
+use Rattle.handlebars_template.specs.LineBuilding.{with_param, is_alone}
 use Rattle.handlebars_template.proofs.Levels.{lacks_params-view, lacks_pairs-view}
 use Rattle.handlebars_template.specs.LineBuildingView.{open_view, around_view}
 use Rattle.handlebars_template.specs.declared.template.tree.Parameter.{Parameter}

@@ -3,23 +3,22 @@ use Rattle.std.proofs.Common.{◌≡◌, ◌∙◌, ℕ, suc, ◌<◌, ◌≤◌
 use Rattle.std.proofs.lemmas.Bool.{eqb-true, eqb-false}
 use Rattle.std.proofs.lemmas.Option.{same_Some, none-some}
 use Rattle.std.specs.Prelude.{true, false, ◌==◌, option_map}
-use Rattle.serde_json.specs.Data.{Data, null}
+use Rattle.serde_json.specs.Data.{Data}
 use Rattle.handlebars_base.specs.Bytes.{Text}
 use Rattle.handlebars_base.specs.Path.{Reference}
 use Rattle.handlebars_base.specs.PathReading.{with_or, after, path_of}
 use Rattle.handlebars_lines.specs.Laws.{HasLiteral, NoLiteral}
 use Rattle.handlebars_lines.specs.LiteralReading.{behind_white, Slice, literal_at}
-use Rattle.handlebars_lines.specs.Parameter.{Term, literal_term, path_term, call_term, IsParameter, NoParameter}
+use Rattle.handlebars_lines.specs.Parameter.{Term, literal_term, path_term, call_term, IsParameter}
 use Rattle.handlebars_lines.specs.Line.{in_parentheses, Line, IsLine, NoLine}
 use Rattle.handlebars_lines.specs.LineLaws.{HasLine}
 use Rattle.handlebars_lines.specs.Worth.{worth_of}
 use Rattle.handlebars_lines.proofs.LiteralsFound.{literal_at-is, literal_at-some}
 use Rattle.handlebars_lines.proofs.Parameters.{nested-has, nested-no_line, nested-goes_on, literal-is, path-is, single-goes_on, single-no_path, one_parameter}
-use Rattle.handlebars_template.specs.Tree.{expression, Param, path, literal, subexpression, Params, Pairs}
-use Rattle.handlebars_template.specs.Calls.{plain_call, max_nesting, param_of, name_of, params_in, pairs_in, literals_of, first_refused}
-use Rattle.handlebars_template.specs.LineBuilding.{LineCall, line_call}
+use Rattle.handlebars_template.specs.Tree.{expression, Param, path, literal, subexpression}
+use Rattle.handlebars_template.specs.Calls.{plain_call, max_nesting, param_of, literals_of, first_refused}
 use Rattle.handlebars_template.specs.LineBuildingView.{line_view, IsCallOf, IsBuilt}
-use Rattle.handlebars_template.specs.ParameterParsing.{Parsing, parsed, refused, invalid, parsing_of, Parses, reads, too_deep, unreadable, OneParsing}
+use Rattle.handlebars_template.specs.ParameterParsing.{parsed, refused, invalid, parsing_of, Parses, reads, too_deep, unreadable, OneParsing}
 use Rattle.handlebars_template.specs.ParameterParsingView.{HasNested, NoNested}
 use Rattle.handlebars_template.specs.declared.template.line.BuiltLine.{BuiltLine}
 

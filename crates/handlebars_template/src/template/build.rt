@@ -86,11 +86,7 @@ fn put_pair(
 }
 
 #[tactic(auto, using(crate::proofs::LinesBuilt::params_view_push))]
-fn add_behind(
-    call: OpenCall,
-    key: Option<String>,
-    value: Parameter,
-) -> Result<OpenCall, AllocError>
+fn add_behind(call: OpenCall, key: Option<String>, value: Parameter) -> Result<OpenCall, AllocError>
     ensures { IfOk result (λ more. open_view more
         ≡ add_behind (option_map string_bytes key) (param_view value) (open_view call)) }
 {
@@ -222,10 +218,7 @@ fn begin<'a>(
 }
 
 #[tactic(auto, using(crate::proofs::LinesBuilt::around_view_push))]
-fn close<'a>(
-    alloc: Global,
-    calls: OpenCalls<'a>,
-) -> Result<Option<OpenCalls<'a>>, AllocError>
+fn close<'a>(alloc: Global, calls: OpenCalls<'a>) -> Result<Option<OpenCalls<'a>>, AllocError>
     ensures { IfOk result (λ read. option_map calls_view read
         ≡ close (calls_view calls.entry).top (calls_view calls.entry).around (calls_view calls.entry).refused) }
 {

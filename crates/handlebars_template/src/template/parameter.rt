@@ -77,11 +77,7 @@ fn nested_depth(alloc: Global, inside: &str) -> Result<Option<usize>, AllocError
 }
 
 // Behind an opening parenthesis.
-fn read_nested<'a>(
-    alloc: Global,
-    text: &'a str,
-    inside: &'a str,
-) -> Result<Reading<'a>, AllocError>
+fn read_nested<'a>(alloc: Global, text: &'a str, inside: &'a str) -> Result<Reading<'a>, AllocError>
     ensures { IfOk result (λ reading. after left_parenthesis text.now ≡ Some inside.now
         → Parses text.now (reading_view reading)) }
 {

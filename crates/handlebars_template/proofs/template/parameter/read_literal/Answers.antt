@@ -1,4 +1,4 @@
-use Rattle.std.proofs.Common.{sym, ap, ◌∙◌, subst, arith}
+use Rattle.std.proofs.Common.{sym, ◌∙◌, subst, arith}
 use Rattle.serde_json.specs.View as json
 use Rattle.handlebars_lines.specs.LiteralView.{slice_of}
 use Rattle.handlebars_template.specs.Tree.{Param}

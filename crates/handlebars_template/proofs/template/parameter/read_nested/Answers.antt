@@ -1,6 +1,5 @@
-use Rattle.std.proofs.Common.{sym, ap, ◌∙◌, arith, option_map}
+use Rattle.std.proofs.Common.{ap, ◌∙◌, arith, option_map}
 use Rattle.handlebars_template.specs.Tree.{subexpression}
-use Rattle.handlebars_template.specs.TreeView.{param_view}
 use Rattle.handlebars_template.specs.ParameterParsing.{unreadable}
 use Rattle.handlebars_template.proofs.Levels.{param_view-Subexpression}
 use Rattle.handlebars_template.proofs.ParametersParsed.{parses_deep, parses_lost, parses_worthless, parses_call}

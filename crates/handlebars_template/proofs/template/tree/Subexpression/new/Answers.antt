@@ -1,4 +1,4 @@
-use Rattle.std.proofs.Common.{◌≡◌, ◌∙◌, ap, rules}
+use Rattle.std.proofs.Common.{◌∙◌, ap, rules}
 use Rattle.handlebars_template.specs.Tree.{expression}
 use Rattle.handlebars_template.specs.TreeView.{element_view, call_view}
 use Rattle.handlebars_template.specs.declared.template.tree.BlockParam.{the_lemmas}
