@@ -42,7 +42,7 @@ pub record TagView : Type 0 where
   pub params : List PathAndData
   pub pairs : List (Text × PathAndData)
 
--- It is made in this order.
+-- The name is made first, then the parameters, then the pairs.
 abbrev pub made_view : Answer Text → Answer (List PathAndData) → Answer (List (Text × PathAndData)) → Answer TagView
 made_view called first rest = do
   n ← called
@@ -57,7 +57,7 @@ not_found why (refuses r) = r
 
 -- ---- parameters and calls
 
--- Two values of a list, of which the first comes first.
+-- one more value in front of others, which is made before them
 abbrev pub more_values : {A B : Type 0} → (A → B) → Answer A → Answer (List B) → Answer (List B)
 more_values seen first rest = do
   v ← first
