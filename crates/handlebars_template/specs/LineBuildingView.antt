@@ -11,7 +11,8 @@ use Rattle.handlebars_template.specs.declared.template.line.BuiltLine.{BuiltLine
 
 abbrev pub open_view : BuiltCall → OpenCall
 open_view f =
-    open_call (option_map string_bytes f.key) (option_map param_view f.name) (params_view f.params.items) (pairs_view f.hash.entries)
+    open_call (option_map string_bytes f.key) (option_map param_view f.name) (params_view f.params.items)
+    (pairs_view f.hash.entries)
 
 -- the innermost first
 abbrev pub around_view : List BuiltCall → List OpenCall

@@ -20,8 +20,11 @@ abbrev pub parsing_of : Term → Parsing
 parsing_of means = with_or (first_refused (literals_of means)) (λ raw. refused (invalid raw)) (parsed (param_of means))
 
 pub data Parses (text : Text) : Parsing → Type 0 where
-  reads : (means : Term) (depth : ℕ) → IsParameter text means depth → depth ≤ max_nesting → Parses text (parsing_of means)
-  too_deep : (means : Term) (depth : ℕ) → IsParameter text means depth → max_nesting < depth → Parses text (refused (invalid text))
+  reads :
+      (means : Term) (depth : ℕ) → IsParameter text means depth → depth ≤ max_nesting → Parses text (parsing_of means)
+  too_deep :
+      (means : Term) (depth : ℕ) → IsParameter text means depth → max_nesting < depth
+      → Parses text (refused (invalid text))
   unreadable : NoParameter text → Parses text (refused (invalid text))
 
 -- A text is parsed to at most one answer.

@@ -50,7 +50,7 @@ fn new_call(alloc: Global, key: Option<String>) -> OpenCall
     }
 }
 
-/// One open call, with nothing in it. What is refused later is lent from the text.
+/// One open call, with nothing in it. What is refused later is a part of the text, which so gives the lifetime.
 pub fn first_calls<'a>(alloc: Global, _text: &'a str) -> OpenCalls<'a>
     ensures { calls_view result ≡ first_calls }
 {

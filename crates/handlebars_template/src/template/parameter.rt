@@ -22,7 +22,8 @@ use handlebars_lines::worth::literal_value;
 use std::alloc::{AllocError, Global};
 
 impl Parameter {
-    /// The parameter that the whole text is, or its refusal, which has no name and no position.
+    /// The parameter that the whole text is, or `InvalidParam`, with no name and no position: of the text where it is
+    /// no parameter or nests deeper than 200, else of the first literal in it that is worth nothing.
     pub fn parse(alloc: Global, text: &str) -> Result<Parameter, TemplateError>
         ensures ok { IfOk result (λ parameter. Parses text.now (parsed (param_view parameter))) }
         ensures err { IfErr result (λ e. (template_refusal_of e).reason ≢ template_out_of_memory
