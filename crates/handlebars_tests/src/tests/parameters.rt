@@ -79,7 +79,7 @@ fn nested(alloc: Global, open: &str, count: u32, inner: &str, close: &str) -> Re
 fn parameters_parse(rt: HostRuntime) -> Result<(), Fail> {
     let alloc = rt.alloc();
     for (text, wanted) in READ {
-        assert!(rt; outcome(alloc, text)? == wanted, "at {text}");
+        assert!(rt; outcome(alloc, text)?.as_str() == wanted, "at {text}");
     }
     let depths = [
         ("[", 127, "", "]", true),
