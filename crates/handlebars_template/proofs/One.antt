@@ -9,9 +9,9 @@ use Rattle.handlebars_base.specs.Bytes.{Text, backslash, left_brace}
 use Rattle.handlebars_template.specs.Place.{Place, place}
 use Rattle.handlebars_template.specs.Text.{IsText, at_end, at_tag, a_byte, two_escaped, four_escaped, backslashes, braces, before_braces}
 use Rattle.handlebars_template.specs.Tag.{Tag, IsTag, tag_depth, NoTag}
-use Rattle.handlebars_template.specs.Calls.{first_refused, max_nesting}
+use Rattle.handlebars_template.specs.Calls.{first_refused, max_nesting, invalid}
 use Rattle.handlebars_template.specs.Cut.{Slice, text_slice, Reads, starts, goes_on, TextAndTag, IsCut}
-use Rattle.handlebars_template.specs.Compile.{compiled, refused, whole, no_value, no_tag, deep_tag, IsUnreadable, IsTooDeep, unreadable, too_deep, bad_literal, tree_of, slice_literals, OneCut, OneCompilation}
+use Rattle.handlebars_template.specs.Compile.{compiled, refused, whole, no_value, no_tag, deep_tag, IsUnreadable, IsTooDeep, unreadable, too_deep, tree_of, slice_literals, OneCut, OneCompilation}
 use Rattle.handlebars_template.proofs.Runs.{backslashes-run, backslashes-braces, before_braces-run}
 use Rattle.handlebars_template.proofs.Tags.{one_tag, braces-tag, append-right_cancel}
 
@@ -260,7 +260,7 @@ pub one_compilation : OneCompilation
 one_compilation s options _ _ (whole {ps = ps} a h) (whole {ps = qs} b g) = ap (λ (z : List Slice). compiled (tree_of options z)) (one_cut s ps qs a b)
 one_compilation s options _ _ (whole a h) (no_value {raw = raw} b g) = absurd (none-some raw (one_refused a b None (Some raw) h g))
 one_compilation s options _ _ (no_value {raw = raw} a h) (whole b g) = absurd (none-some raw (one_refused b a None (Some raw) g h))
-one_compilation s options _ _ (no_value {raw = x} a h) (no_value {raw = y} b g) = ap (λ (raw : Text). refused (bad_literal raw)) (same_Some x y (one_refused a b (Some x) (Some y) h g))
+one_compilation s options _ _ (no_value {raw = x} a h) (no_value {raw = y} b g) = ap (λ (raw : Text). refused (invalid raw)) (same_Some x y (one_refused a b (Some x) (Some y) h g))
 one_compilation s options _ _ (whole a h) (no_tag g) = absurd (cut_or_refused a (unreadable_refused g))
 one_compilation s options _ _ (whole a h) (deep_tag g) = absurd (cut_or_refused a (too_deep_refused g))
 one_compilation s options _ _ (no_value a h) (no_tag g) = absurd (cut_or_refused a (unreadable_refused g))

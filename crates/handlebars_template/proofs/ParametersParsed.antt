@@ -16,9 +16,9 @@ use Rattle.handlebars_lines.specs.Worth.{worth_of}
 use Rattle.handlebars_lines.proofs.LiteralsFound.{literal_at-is, literal_at-some}
 use Rattle.handlebars_lines.proofs.Parameters.{nested-has, nested-no_line, nested-goes_on, literal-is, path-is, single-goes_on, single-no_path, one_parameter}
 use Rattle.handlebars_template.specs.Tree.{expression, Param, path, literal, subexpression}
-use Rattle.handlebars_template.specs.Calls.{plain_call, max_nesting, param_of, literals_of, first_refused}
+use Rattle.handlebars_template.specs.Calls.{plain_call, max_nesting, param_of, literals_of, first_refused, invalid}
 use Rattle.handlebars_template.specs.LineBuildingView.{line_view, IsCallOf, IsBuilt}
-use Rattle.handlebars_template.specs.ParameterParsing.{parsed, refused, invalid, parsing_of, Parses, reads, too_deep, unreadable, OneParsing}
+use Rattle.handlebars_template.specs.ParameterParsing.{parsed, refused, parsing_of, Parses, reads, too_deep, unreadable, OneParsing}
 use Rattle.handlebars_template.specs.ParameterParsingView.{HasNested, NoNested}
 use Rattle.handlebars_template.specs.declared.template.line.BuiltLine.{BuiltLine}
 

@@ -15,8 +15,8 @@ use Rattle.handlebars_template.specs.TagReading.{Deep}
 use Rattle.handlebars_lines.specs.Worth.{worth_of}
 use Rattle.handlebars_template.specs.Tree.{Element, raw_string}
 use Rattle.handlebars_template.specs.Cut.{Slice, text_slice, tag_slice, Reads, starts, goes_on, IsCut}
-use Rattle.handlebars_template.specs.Calls.{max_nesting, first_refused}
-use Rattle.handlebars_template.specs.Compile.{Options, compiled, refused, Compiles, whole, no_value, no_tag, deep_tag, unreadable, too_deep, bad_literal, tree_of, element_of, tag_literals, slice_elements, slice_places, slice_literals}
+use Rattle.handlebars_template.specs.Calls.{max_nesting, first_refused, invalid}
+use Rattle.handlebars_template.specs.Compile.{Options, compiled, refused, Compiles, whole, no_value, no_tag, deep_tag, unreadable, too_deep, tree_of, element_of, tag_literals, slice_elements, slice_places, slice_literals}
 
 pub behind-append : (p : Place) (x y : Text) → IsUtf8 x → behind p (x ++ y) ≡ behind (behind p x) y
 behind-append p x y h = ap (fold behind_char p) (chars-append x y h) ∙ fold-append behind_char p (chars x) (chars y)
@@ -191,7 +191,7 @@ pub Compiles-end : {source slice kept left : Text} {at : Place} {es : List Eleme
 Compiles-end h over options = whole (IsCut-end h over) (literals-end h)
 
 pub Compiles-literal : {source slice kept left : Text} {at : Place} {es : List Element} {places : List Place} {raw : Text} → Scans source slice kept left at es places (Some raw) → length left ≡ 0
-    → (options : Options) → Compiles source options (refused (bad_literal raw))
+    → (options : Options) → Compiles source options (refused (invalid raw))
 Compiles-literal h over options = no_value (IsCut-end h over) (literals-end h)
 
 -- the tree's elements and their places, as the code has them

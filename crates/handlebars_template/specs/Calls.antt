@@ -5,6 +5,7 @@ use Rattle.std.specs.Ordering.{match_ordering, nat_cmp}
 use Rattle.serde_json.specs.Data.{null}
 use Rattle.handlebars_base.specs.Bytes.{Text}
 use Rattle.handlebars_base.specs.Path.{Reference, raw_of}
+use Rattle.handlebars_base.specs.Reasons.{TemplateRefusal, invalid_param}
 use Rattle.handlebars_lines.specs.Parameter.{Term, literal_term, path_term, call_term, Terms, no_terms, term}
 use Rattle.handlebars_lines.specs.Line.{Line}
 use Rattle.handlebars_lines.specs.Worth.{worth_of}
@@ -91,3 +92,7 @@ first_refused (raw ∷ raws) = if is_some (worth_of raw) then first_refused raws
 
 abbrev pub line_literals : Line → List Text
 line_literals line = literals_of line.name ++ literals_in line.terms
+
+-- A text that is no parameter, and a literal that is worth nothing, are refused by their text alone.
+abbrev pub invalid : Text → TemplateRefusal
+invalid raw = record { reason = invalid_param raw; name = None; position = None }

@@ -1,13 +1,13 @@
 -- What compiling a source answers: its tree, or the first refusal.
 use Rattle.std.specs.Prelude.{◌≡◌, ◌<◌, Bool, true, false, List, [], ◌∷◌, ◌++◌, Option, None, Some, unwrap_or, codes}
 use Rattle.handlebars_base.specs.Bytes.{Text}
-use Rattle.handlebars_base.specs.Reasons.{TemplateRefusal, invalid_syntax, invalid_param}
+use Rattle.handlebars_base.specs.Reasons.{TemplateRefusal, invalid_syntax}
 use Rattle.handlebars_template.specs.Place.{Place, place}
 use Rattle.handlebars_template.specs.Text.{IsText, braces}
 use Rattle.handlebars_template.specs.Tag.{Tag, expression_tag, html_tag, tag_depth, NoTag}
 use Rattle.handlebars_template.specs.Cut.{Slice, text_slice, tag_slice, TextAndTag, tag_place, Reads, IsCut}
 use Rattle.handlebars_template.specs.Tree.{Tree, tree, elements_of, Element, raw_string, html_expression, expression}
-use Rattle.handlebars_template.specs.Calls.{call_of, line_literals, first_refused, max_nesting}
+use Rattle.handlebars_template.specs.Calls.{call_of, line_literals, first_refused, max_nesting, invalid}
 
 -- the name of the template, if it has one, and whether inclusions add no indentation
 pub record Options : Type 0 where
@@ -60,10 +60,6 @@ unreadable options p = syntax_refusal (codes "unreadable tag") options p
 abbrev pub too_deep : Options → Place → TemplateRefusal
 too_deep options p = syntax_refusal (codes "nesting too deep") options p
 
--- A refused literal is told by its text alone.
-abbrev pub bad_literal : Text → TemplateRefusal
-bad_literal raw = record { reason = invalid_param raw; name = None; position = None }
-
 -- At this place, behind texts and tags and one more text, stand braces with which no tag begins.
 pub record IsUnreadable (source : Text) (at : Place) : Type 0 where
   pub before : Text
@@ -108,7 +104,7 @@ pub data Compiles (source : Text) (options : Options) : Compilation → Type 0 w
   whole : {ps : List Slice} → IsCut source ps → first_refused (slice_literals ps) ≡ None
       → Compiles source options (compiled (tree_of options ps))
   no_value : {ps : List Slice} {raw : Text} → IsCut source ps → first_refused (slice_literals ps) ≡ Some raw
-      → Compiles source options (refused (bad_literal raw))
+      → Compiles source options (refused (invalid raw))
   no_tag : {at : Place} → IsUnreadable source at → Compiles source options (refused (unreadable options at))
   deep_tag : {at : Place} → IsTooDeep source at → Compiles source options (refused (too_deep options at))
 

@@ -2,18 +2,14 @@
 use Rattle.std.specs.Prelude.{◌≡◌, ℕ, ◌<◌, ◌≤◌, None}
 use Rattle.handlebars_base.specs.Bytes.{Text}
 use Rattle.handlebars_base.specs.PathReading.{with_or}
-use Rattle.handlebars_base.specs.Reasons.{TemplateRefusal, invalid_param}
+use Rattle.handlebars_base.specs.Reasons.{TemplateRefusal}
 use Rattle.handlebars_lines.specs.Parameter.{Term, IsParameter, NoParameter}
 use Rattle.handlebars_template.specs.Tree.{Param}
-use Rattle.handlebars_template.specs.Calls.{max_nesting, param_of, literals_of, first_refused}
+use Rattle.handlebars_template.specs.Calls.{max_nesting, param_of, literals_of, first_refused, invalid}
 
 pub data Parsing : Type 0 where
   parsed : Param → Parsing
   refused : TemplateRefusal → Parsing
-
--- the refusal of a text, with no name and no place
-abbrev pub invalid : Text → TemplateRefusal
-invalid t = record { reason = invalid_param t; name = None; position = None }
 
 -- The first literal that is worth nothing is refused.
 abbrev pub parsing_of : Term → Parsing

@@ -7,7 +7,8 @@ use Rattle.handlebars_lines.specs.Parameter.{left_parenthesis, right_parenthesis
 use Rattle.handlebars_lines.specs.Line.{in_parentheses}
 use Rattle.handlebars_lines.specs.LineLaws.{HasLine}
 use Rattle.handlebars_template.specs.TreeView.{param_view}
-use Rattle.handlebars_template.specs.ParameterParsing.{Parsing, parsed, refused, invalid}
+use Rattle.handlebars_template.specs.Calls.{invalid}
+use Rattle.handlebars_template.specs.ParameterParsing.{Parsing, parsed, refused}
 use Rattle.handlebars_template.specs.declared.template.parameter.Reading.{Reading}
 use Rattle.handlebars_template.specs.declared.template.parameter.Reading.TheVariants.{Reads, Refuses}
 

@@ -5,10 +5,11 @@ ghost use Rattle.handlebars_base.specs.Reasons.{template_out_of_memory};
 ghost use Rattle.handlebars_base.specs.TemplateRefusals.{template_refusal_of, shown_lines};
 ghost use Rattle.handlebars_base.specs.Bytes.{Text};
 ghost use Rattle.handlebars_template.specs.Cut.{text_slice};
-ghost use Rattle.handlebars_template.specs.Compile.{Compiles, compiled, refused, no_options, named_options, syntax_refusal, bad_literal, slice_elements, slice_places};
+ghost use Rattle.handlebars_template.specs.Compile.{Compiles, compiled, refused, no_options, named_options, syntax_refusal, slice_elements, slice_places};
 ghost use Rattle.handlebars_template.specs.OptionsView.{options_view};
 ghost use Rattle.handlebars_template.specs.TreeView.{tree_view, element_view, place_of};
 
+use crate::template::parameter::invalid;
 use crate::template::place::advance;
 use crate::template::tag::{TagFront, tag};
 use crate::template::text::{TextFront, text};
@@ -97,7 +98,7 @@ impl Template {
             front = text(alloc, found.rest)?;
         }
         if let Some(raw) = refused {
-            return Err(literal_error(alloc, raw)?);
+            return Err(invalid(alloc, raw)?);
         }
         tree.add_text(place, front)?;
         Ok(Template {
@@ -171,12 +172,4 @@ fn syntax_error(
             .at(alloc, source, at.0, at.1)
             .in_template(name),
     )
-}
-
-// The refusal of a literal.
-fn literal_error(alloc: Global, raw: &str) -> Result<TemplateError, AllocError>
-    ensures { IfOk result (λ e. template_refusal_of e ≡ bad_literal raw.now) }
-{
-    let raw = String::from_str(alloc, raw)?;
-    Ok(TemplateError::of(TemplateErrorReason::InvalidParam(raw)))
 }

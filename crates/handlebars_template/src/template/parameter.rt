@@ -7,7 +7,8 @@ ghost use Rattle.handlebars_base.specs.TemplateRefusals.{template_refusal_of};
 ghost use Rattle.handlebars_lines.specs.Laws.{HasLiteral, NoLiteral};
 ghost use Rattle.handlebars_lines.specs.LiteralView.{slice_of};
 ghost use Rattle.handlebars_lines.specs.Parameter.{left_parenthesis};
-ghost use Rattle.handlebars_template.specs.ParameterParsing.{Parses, parsed, refused, invalid};
+ghost use Rattle.handlebars_template.specs.Calls.{invalid};
+ghost use Rattle.handlebars_template.specs.ParameterParsing.{Parses, parsed, refused};
 ghost use Rattle.handlebars_template.specs.ParameterParsingView.{reading_view, HasNested, NoNested};
 ghost use Rattle.handlebars_template.specs.TreeView.{param_view};
 
@@ -36,7 +37,8 @@ impl Parameter {
     }
 }
 
-fn invalid(alloc: Global, raw: &str) -> Result<TemplateError, AllocError>
+/// The refusal of a text alone.
+pub fn invalid(alloc: Global, raw: &str) -> Result<TemplateError, AllocError>
     ensures { IfOk result (λ e. template_refusal_of e ≡ invalid raw.now) }
 {
     let raw = String::from_str(alloc, raw)?;

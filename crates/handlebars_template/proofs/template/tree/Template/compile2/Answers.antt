@@ -74,7 +74,7 @@ tags-preserved c =
 
 pub returns-in-Some-clause-err : goal.returns-in-Some-clause-err
 returns-in-Some-clause-err c = λ memory.
-    rw c.in_ok-literal_error.ensures (Compiles-literal (rw c.in-Some.is at c.tags.invariant.scans) (empty c.tags.front.rest.now c.tags-test.ensures) (options_view c.args.options))
+    rw c.in_ok-invalid.ensures (Compiles-literal (rw c.in-Some.is at c.tags.invariant.scans) (empty c.tags.front.rest.now c.tags-test.ensures) (options_view c.args.options))
 
 pub returns-clause-ok : goal.returns-clause-ok
 returns-clause-ok c = Compiles-tree (rw c.in_default.is at c.tags.invariant.scans) (empty c.tags.front.rest.now c.tags-test.ensures) _ (options_view c.args.options) refl c.in_ok-add_text-2.ensures.elements c.in_ok-add_text-2.ensures.places
