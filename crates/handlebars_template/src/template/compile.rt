@@ -58,7 +58,7 @@ impl Template {
     /// The tree of a source, or what is refused first: a tag that doesn't read, `InvalidSyntax("unreadable tag")`, or
     /// one that nests deeper than 200, `InvalidSyntax("nesting too deep")`, both at its position, in the template of
     /// the name that is given, or `Unnamed`; and where all tags read, a literal with no value, `InvalidParam` of its
-    /// text alone. In time linear in the source, but for the literals' values.
+    /// text alone. In time linear in the source, but for the order of keys and the values of literals.
     pub fn compile2(
         alloc: Global,
         source: &str,
