@@ -1,7 +1,8 @@
 -- Reading a tag: what is read is spelled so, and what is spelled so is read.
 use Rattle.std.proofs.Common.{◌≡◌, ℕ, Bool, true, false, not, ◌||◌, [], ◌∷◌, ◌++◌, length, take, Option, Some, None, refl, sym, ap, subst, ◌∙◌, append_assoc, arith, inl, inr, length-append, codes}
 use Rattle.std.specs.Prelude.{◌==◌}
-use Rattle.std.proofs.lemmas.Bool.{false≢true, and_parts}
+use Rattle.std.proofs.lemmas.Bool.{false≢true, and_parts, cases_Bool}
+use Rattle.std.proofs.lemmas.Slice.Eq.{bytes_eq-Decides}
 use Rattle.std.proofs.lemmas.List.Folds.{list_all-append}
 use Rattle.std.specs.List.{list_all}
 use Rattle.std.proofs.lemmas.Option.{same_Some, none-some}
@@ -96,6 +97,20 @@ name-else (path_shape t means) items left named fits are closes =
     ap else_at (slice_at-stops t follows means fits (follows_stops follows (items_follow in_tag items left are closes)))
     ∙ ap (λ (z : Text). bytes_eq z (codes "else")) (sym raw)
 name-else (nested_shape w name inner v) items left named fits are closes = ap else_at (no_path-nested _)
+
+-- what begins with another letter is not `else`
+pub else_at-other : (t : Text) → starts (λ b. b == 101) t ≡ false → else_at (slice_at t) ≡ false
+else_at-other t other = on (slice_at t) refl
+  where
+    on : (o : Option (Text × Text)) → slice_at t ≡ o → else_at o ≡ false
+    on None e = refl
+    on (Some p) e = elim (cases_Bool (bytes_eq p.0 (codes "else"))) [
+      | inl same ↦
+          let word : p.0 ≡ codes "else" = (bytes_eq-Decides p.0 (codes "else")).0 same in
+          let whole : t ≡ codes "else" ++ p.1 = (slice_at-some t p e).whole ∙ ap (λ (z : Text). z ++ p.1) word in
+          absurd (false≢true (sym other ∙ ap (starts (λ b. b == 101)) whole))
+      | inr differs ↦ differs
+    ]
 
 -- what is read as a path in front of a line tells whether its name is `else`
 pub line-else : (t : Text) {left : Text} {line : Line} → IsLine in_tag t line left → else_at (slice_at t) ≡ is_else line.name

@@ -1,6 +1,7 @@
 //! Tags: what stands at the braces in front of a source.
 
-ghost use Rattle.std.specs.Prelude.{◌≡◌, ◌<◌, IfOk, MatchOption};
+ghost use Rattle.std.specs.Prelude.{◌≡◌, ◌<◌, ◌==◌, IfOk, MatchOption};
+ghost use Rattle.handlebars_lines.specs.Literal.{starts};
 ghost use Rattle.std.specs.Option.{option_map};
 ghost use Rattle.handlebars_base.specs.Bytes.{Text};
 ghost use Rattle.handlebars_lines.specs.LiteralReading.{behind_white};
@@ -132,10 +133,23 @@ fn is_named_else(marks: Marks, text: &str) -> bool
     }
 }
 
+fn starts_with_e(text: &str) -> bool
+    ensures { result ≡ starts (λ byte. byte == 101) text.now }
+{
+    match text.as_bytes() {
+        [first, ..] => *first == b'e',
+        [] => false,
+    }
+}
+
 // Whether the name of a line is the path `else`.
 fn is_else(text: &str) -> bool
     ensures { (line : Line) (left : Text) → IsLine in_tag text.now line left → result ≡ is_else line.name }
 {
+    // Few lines begin so, and no other is read once more.
+    if !starts_with_e(text) {
+        return false;
+    }
     match split_path(text) {
         Some(slice) => slice.raw == "else",
         None => false,
