@@ -1,19 +1,21 @@
 -- The loop that builds a line's call: what it keeps, and what it comes to.
-use Rattle.std.proofs.Common.{◌≡◌, ◌∙◌, List, Option, Some, None, refl, sym, ap}
+use Rattle.std.proofs.Common.{◌≡◌, ℕ, ◌∙◌, List, [], Option, Some, None, refl, sym, ap}
 use Rattle.std.proofs.lemmas.Option.{same_Some, none-some}
-use Rattle.std.specs.Prelude.{option_map}
+use Rattle.std.specs.Prelude.{option_map, Result, Ok, Err, IfOk, IfSome}
+use Rattle.handlebars_base.specs.PathView.{reference_of}
+use Rattle.handlebars_base.specs.declared.json.path.Path.{Path}
 use Rattle.handlebars_base.specs.Bytes.{Text}
-use Rattle.handlebars_base.specs.PathReading.{◌>>=◌}
+use Rattle.handlebars_base.specs.Path.{Reference}
+use Rattle.handlebars_base.specs.PathReading.{◌>>=◌, path_of}
 use Rattle.handlebars_lines.specs.Runs.{goes, ends, stuck}
 use Rattle.handlebars_lines.specs.Line.{Enclosure, Line, IsLine}
-use Rattle.handlebars_lines.specs.LineReading.{Event, at_name, State, state, line_step, first_frames, build_all}
+use Rattle.handlebars_lines.specs.LineReading.{Event, path_event, at_name, State, state, line_step, first_frames, build_all}
 use Rattle.handlebars_lines.proofs.Endings.{Through, through-starts, through-goes, runs-goes, runs-ends, runs-stuck}
 use Rattle.handlebars_lines.proofs.LineEvents.{whole_frames}
 use Rattle.handlebars_lines.proofs.Lines.{line_found}
-use Rattle.handlebars_template.specs.Tree.{Param}
+use Rattle.handlebars_template.specs.Tree.{Param, path, no_params, no_pairs}
 use Rattle.handlebars_template.specs.Calls.{params_in, pairs_in, first_refused, line_literals}
-use Rattle.handlebars_template.specs.Tree.{no_pairs}
-use Rattle.handlebars_template.specs.LineBuilding.{OpenCalls, LineCall, take, take_all, first_calls, finish, line_call}
+use Rattle.handlebars_template.specs.LineBuilding.{open_call, OpenCalls, open_calls, LineCall, add, take, take_all, first_calls, finish, line_call, path_call}
 use Rattle.handlebars_template.specs.LineBuildingView.{line_view, IsCallOf, IsBuilt}
 use Rattle.handlebars_template.specs.declared.template.line.BuiltLine.{BuiltLine}
 use Rattle.handlebars_template.proofs.LineImages.{frames_image, closed_name-terms, take_all-image}
@@ -68,6 +70,24 @@ take-lost around t s rest calls x s' rest' line left is lost h l =
     let nothing : take_all calls p.0 ≡ None = ap (take_all calls) r.1 ∙ ap (λ (z : Option OpenCalls). z >>= λ gs. take_all gs r.0) (sym lost) in
     absurd (none-some (frames_image (whole_frames line.name line.terms)) (sym nothing ∙ sym p.2 ∙ taken_whole f.events line f.built))
 
+-- where a path is taken first and the steps then end, the line is that path
+pub path-alone : (around : Enclosure) (t raw : Text) (key : Option Text) (n : ℕ) (s : State) (rest : Text) (means : Reference)
+    → goes (path_event key raw n) s rest ≡ line_step around (state at_name 0) t → ends ≡ line_step around s rest → Some means ≡ path_of raw
+    → (line : Line) (left : Text) → IsLine around t line left → line_call line ≡ path_call means
+path-alone around t raw key n s rest means first last found line left l =
+    let taken : Some (open_calls (open_call None (Some (path means)) no_params no_pairs) [] None) ≡ take first_calls (path_event key raw n) =
+    ap (option_map (λ m. open_calls (add key (path m) first_calls.top) first_calls.around first_calls.refused)) found in
+    let h = take-goes around t (state at_name 0) t first_calls (path_event key raw n) s rest _ first taken (take-starts around t) in
+    same_Some (line_call line) (path_call means) (sym (take-ends around t s rest _ last h line left l))
+
+pub path-read : {E : Type 0} (around : Enclosure) (t raw : Text) (key : Option Text) (n : ℕ) (s : State) (rest : Text)
+    → goes (path_event key raw n) s rest ≡ line_step around (state at_name 0) t → ends ≡ line_step around s rest
+    → (r : Result (Option Path) E) → IfOk r (λ read. option_map reference_of read ≡ path_of raw)
+    → IfOk r (λ read. IfSome read (λ p. (line : Line) (left : Text) → IsLine around t line left → line_call line ≡ path_call (reference_of p)))
+path-read around t raw key n s rest first last (Ok None) found = tt
+path-read around t raw key n s rest first last (Ok (Some p)) found = path-alone around t raw key n s rest (reference_of p) first last found
+path-read around t raw key n s rest first last (Err e) found = tt
+
 -- ---- the line of what is built
 
 built-line : (line : Line) (built : BuiltLine) → line_view built ≡ line_call line → IsCallOf line built
@@ -81,3 +101,6 @@ built-line line built is = record {
 pub IsBuilt-finished : (line : Line) (read : Option BuiltLine) → option_map line_view read ≡ Some (line_call line) → IsBuilt line read
 IsBuilt-finished line None is = none-some (line_call line) is
 IsBuilt-finished line (Some built) is = built-line line built (same_Some (line_view built) (line_call line) is)
+
+pub IsBuilt-path : (line : Line) (built : BuiltLine) (call : LineCall) → line_view built ≡ call → line_call line ≡ call → IsBuilt line (Some built)
+IsBuilt-path line built call is same = built-line line built (is ∙ sym same)

@@ -2,7 +2,7 @@
 -- the terms of the tree. Only the code's own contracts cite this.
 use Rattle.std.specs.Prelude.{Bool, ◌&&◌, if◌then◌else◌, List, [], ◌∷◌, Option, Some, None, option_map, unwrap_or, is_some}
 use Rattle.handlebars_base.specs.Bytes.{Text}
-use Rattle.handlebars_base.specs.Path.{raw_of}
+use Rattle.handlebars_base.specs.Path.{Reference, raw_of}
 use Rattle.handlebars_base.specs.PathReading.{◌>>=◌, with_or, path_of}
 use Rattle.handlebars_lines.specs.Line.{Line}
 use Rattle.handlebars_lines.specs.LineReading.{Event, opened, literal_event, path_event, closed}
@@ -122,3 +122,7 @@ line_call line = record {
   pairs = pairs_in no_pairs line.terms;
   refused = first_refused (line_literals line);
 }
+
+-- what a line with a path alone is built to
+abbrev pub path_call : Reference → LineCall
+path_call means = record { name = path means; params = no_params; pairs = no_pairs; refused = None }

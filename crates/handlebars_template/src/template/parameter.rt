@@ -16,9 +16,9 @@ use crate::template::build::path_of;
 use crate::template::line::{MAX_NESTING, build_line};
 use crate::template::tree::{Parameter, Subexpression};
 use handlebars_base::error::{TemplateError, TemplateErrorReason};
+use handlebars_base::json::path::marks::{after, behind_white};
 use handlebars_lines::line::{Enclosure, split_line};
 use handlebars_lines::literal::{LiteralSlice, split_literal};
-use handlebars_base::json::path::marks::{after, behind_white};
 use handlebars_lines::worth::literal_value;
 use std::alloc::{AllocError, Global};
 

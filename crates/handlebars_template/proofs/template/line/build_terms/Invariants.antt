@@ -4,7 +4,7 @@ use denote.Shadow.{shadow}
 use Rattle.handlebars_lines.specs.LineView.{enclosure_of, state_of}
 use Rattle.handlebars_template.specs.LineBuildingView.{calls_view}
 use Rattle.handlebars_template.proofs.LineCalls.{Takes}
-use Rattle.handlebars_template.proofs.template.line.build_line.Given as goal
+use Rattle.handlebars_template.proofs.template.line.build_terms.Given as goal
 
 abbrev pub invariant-building : goal.invariant-building
 invariant-building l = record {

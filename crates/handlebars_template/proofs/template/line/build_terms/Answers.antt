@@ -1,0 +1,39 @@
+use Rattle.std.proofs.Common.{rules, arith, ◌≡◌, ◌∙◌}
+use Rattle.handlebars_lines.specs.Runs.{goes}
+use Rattle.handlebars_lines.specs.LineReading.{line_step}
+use Rattle.handlebars_lines.specs.LineView.{enclosure_of, state_of, event_of}
+use Rattle.handlebars_lines.proofs.LineBounds.{line_bounds}
+use Rattle.handlebars_template.specs.LineBuildingView.{calls_view}
+use Rattle.handlebars_template.proofs.LineCalls.{take-goes, take-ends, take-stuck, take-lost, IsBuilt-finished}
+use Rattle.handlebars_template.proofs.template.line.build_terms.Goals as goal
+
+pub building-preserved : goal.building-preserved
+building-preserved c =
+    let step : goes (event_of c.in-Goes.event) (state_of c.in-Goes.next) c.in-Goes.behind.now ≡ line_step (enclosure_of c.args.around) (state_of c.building.state) c.building.rest.now = rw c.in-Goes.is at c.in_ok-event.ensures in
+    let bounds = line_bounds (enclosure_of c.args.around) (state_of c.building.state) c.building.rest.now (event_of c.in-Goes.event) (state_of c.in-Goes.next) c.in-Goes.behind.now step in
+    record {
+      text = search rules;
+      takes = take-goes (enclosure_of c.args.around) c.args.text.now (state_of c.building.state) c.building.rest.now (calls_view c.building.calls) (event_of c.in-Goes.event) (state_of c.in-Goes.next) c.in-Goes.behind.now (calls_view c.in-Some.more) step (rw c.in-Some.is at c.in_ok-more.ensures) c.building.invariant.takes;
+      within = omega (arith, bounds.level_within, c.building.invariant.within);
+    }
+
+pub building-smaller : goal.building-smaller
+building-smaller c =
+    let step : goes (event_of c.in-Goes.event) (state_of c.in-Goes.next) c.in-Goes.behind.now ≡ line_step (enclosure_of c.args.around) (state_of c.building.state) c.building.rest.now = rw c.in-Goes.is at c.in_ok-event.ensures in
+    (line_bounds (enclosure_of c.args.around) (state_of c.building.state) c.building.rest.now (event_of c.in-Goes.event) (state_of c.in-Goes.next) c.in-Goes.behind.now step).shorter
+
+pub returns-in-Stuck : goal.returns-in-Stuck
+returns-in-Stuck c line left l =
+    take-stuck (enclosure_of c.args.around) c.args.text.now (state_of c.building.state) c.building.rest.now (calls_view c.building.calls) line left
+    (rw c.in-Stuck.is at c.in_ok-event.ensures) c.building.invariant.takes l
+
+pub returns-in_default : goal.returns-in_default
+returns-in_default c line left l =
+    take-lost (enclosure_of c.args.around) c.args.text.now (state_of c.building.state) c.building.rest.now (calls_view c.building.calls) (event_of c.in-Goes.event) (state_of c.in-Goes.next) c.in-Goes.behind.now line left
+    (rw c.in-Goes.is at c.in_ok-event.ensures) (rw c.in_default.is at c.in_ok-more.ensures) c.building.invariant.takes l
+
+pub returns : goal.returns
+returns c line left l =
+    IsBuilt-finished line c.finish.result
+    (c.finish.ensures ∙ take-ends (enclosure_of c.args.around) c.args.text.now (state_of c.building.state) c.building.rest.now (calls_view c.building.calls)
+    (rw c.in-Ends.is at c.in_ok-event.ensures) c.building.invariant.takes line left l)
