@@ -1,5 +1,5 @@
 -- What a registry keeps under a name.
-use Rattle.std.specs.Prelude.{◌≡◌, Option, Some, None, option_map, cond}
+use Rattle.std.specs.Prelude.{◌≡◌, Option, Some, option_map, cond}
 use Rattle.std.specs.BTreeMap.{get_by_text}
 use Rattle.std.specs.Str.{bytes_eq}
 use Rattle.handlebars_base.specs.Bytes.{Text}

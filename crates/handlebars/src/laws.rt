@@ -6,8 +6,8 @@ ghost use Rattle.handlebars.specs.View.{setting_of};
 
 use crate::registry::Registry;
 pub use handlebars_base::laws::{one_meaning, paths_in_front};
-use handlebars_scope::context::Context;
 pub use handlebars_lines::laws::{one_line, one_literal, one_parameter, worth_of_literal};
+use handlebars_scope::context::Context;
 pub use handlebars_scope::laws::escape_laws;
 pub use handlebars_template::laws::{one_compilation, one_cut, one_parsing, worked_sources};
 

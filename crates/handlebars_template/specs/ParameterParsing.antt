@@ -1,5 +1,5 @@
 -- What parsing a text as a parameter answers: the parameter, or a refusal.
-use Rattle.std.specs.Prelude.{◌≡◌, ℕ, ◌<◌, ◌≤◌, None}
+use Rattle.std.specs.Prelude.{◌≡◌, ℕ, ◌<◌, ◌≤◌}
 use Rattle.handlebars_base.specs.Bytes.{Text}
 use Rattle.handlebars_base.specs.PathReading.{with_or}
 use Rattle.handlebars_base.specs.Reasons.{TemplateRefusal}

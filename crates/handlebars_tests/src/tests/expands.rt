@@ -75,7 +75,13 @@ fn texts_evaluate(rt: HostRuntime) -> Result<(), Fail> {
         assert!(rt; value.render(alloc)?.as_str() == wanted, "at {text}");
     }
     let error = refusal(rc.evaluate(&data, "a..b"))?;
-    refuses(&rt, alloc, &error, r#"InvalidJsonPath("a..b")"#, (None, None))?;
+    refuses(
+        &rt,
+        alloc,
+        &error,
+        r#"InvalidJsonPath("a..b")"#,
+        (None, None),
+    )?;
     let error = refusal(rc.evaluate(&data, "a.b.x"))?;
     refuses(&rt, alloc, &error, r#"InvalidJsonIndex("x")"#, (None, None))
 }

@@ -93,7 +93,10 @@ fn parameters_parse(rt: HostRuntime) -> Result<(), Fail> {
     ];
     for (open, count, inner, close, reads) in depths {
         let text = nested(alloc, open, count, inner, close)?;
-        assert!(rt; Parameter::parse(alloc, text.as_str()).is_ok() == reads, "{count} of {open}");
+        assert!(rt;
+            Parameter::parse(alloc, text.as_str()).is_ok() == reads,
+            "{count} of {open}"
+        );
     }
     Ok(())
 }
@@ -116,7 +119,12 @@ fn calls_are_made(rt: HostRuntime) -> Result<(), Fail> {
     let other = Subexpression {
         element: Box::new(alloc, comment)?,
     };
-    assert!(rt; !other.is_helper() && other.name().is_none() && other.params().is_none() && other.hash().is_none());
+    assert!(rt;
+        !other.is_helper()
+            && other.name().is_none()
+            && other.params().is_none()
+            && other.hash().is_none()
+    );
 
     let spec = ExpressionSpec {
         name: parse("a")?,

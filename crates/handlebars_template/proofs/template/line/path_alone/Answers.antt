@@ -1,5 +1,5 @@
 use Rattle.std.proofs.Common.{arith, ◌≡◌, ◌∙◌, ap}
-use Rattle.handlebars_lines.specs.Runs.{goes, ends}
+use Rattle.handlebars_lines.specs.Runs.{goes}
 use Rattle.handlebars_lines.specs.LineReading.{at_name, State, state, line_step}
 use Rattle.handlebars_lines.specs.LineView.{enclosure_of, key_of, state_of, event_of}
 use Rattle.handlebars_lines.proofs.LineBounds.{line_bounds}
