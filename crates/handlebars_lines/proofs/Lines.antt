@@ -1,16 +1,14 @@
 -- A line stands in front just where the steps come to an end, and there is one at most; and what loops over the steps
 -- keep.
-use Rattle.std.proofs.Common.{◌≡◌, ℕ, ◌+◌, ◌≤◌, List, [], ◌++◌, length, Option, Some, None, refl, sym, ap, subst, ◌∙◌, arith, max}
-use Rattle.std.proofs.lemmas.Option.{same_Some, none-some}
-use Rattle.std.specs.Option.{option_map}
-use Rattle.handlebars_base.specs.PathReading.{◌>>=◌}
+use Rattle.std.proofs.Common.{◌≡◌, ℕ, ◌+◌, ◌≤◌, List, [], ◌++◌, length, Some, None, refl, sym, ap, subst, ◌∙◌, arith, max}
+use Rattle.std.proofs.lemmas.Option.{same_Some}
 use Rattle.handlebars_lines.specs.Runs.{goes, ends, stuck}
 use Rattle.handlebars_lines.specs.Parameter.{Term, Terms, Shape, Items, term_of, terms_of, depth_of, items_depth}
 use Rattle.handlebars_lines.specs.Line.{Enclosure, Line, IsLine, NoLine}
-use Rattle.handlebars_lines.specs.LineReading.{Event, at_name, State, state, line_step, height, most_open, Frames, first_frames, build, build_all, line_from}
+use Rattle.handlebars_lines.specs.LineReading.{Event, at_name, State, state, line_step, height, most_open, first_frames, build_all, line_from}
 use Rattle.handlebars_lines.specs.LineLaws.{HasLine, OneLine}
 use Rattle.handlebars_lines.proofs.Stepping.{Runs, last, none, Still, still-starts, still-goes}
-use Rattle.handlebars_lines.proofs.Endings.{one_end, not_both, runs-goes, runs-ends, runs-stuck, Through, through-starts, through-goes}
+use Rattle.handlebars_lines.proofs.Endings.{one_end, not_both}
 use Rattle.handlebars_lines.proofs.LinesRead.{events, item_events, runs_read}
 use Rattle.handlebars_lines.proofs.LinesFound.{line_runs}
 use Rattle.handlebars_lines.proofs.LineEvents.{most_open-line, whole_frames, build-line}
@@ -118,85 +116,3 @@ pub measure-stuck : (around : Enclosure) (t : List ℕ) (s : State) (rest : List
 measure-stuck around t s rest depth is h line left l =
     let f = line_found around t line left l in
     not_both (line_step around) (line_shortens around) (state at_name 0) t f.events left f.runs (h.still.failed (none (sym is)))
-
--- ---- the loop that builds
-
--- what it keeps: what is built of all the steps is built of those from here on
-pub record Builds (around : Enclosure) (t : List ℕ) (s : State) (rest : List ℕ) (fs : Frames) : Type 0 where
-  pub through : Through (line_step around) (state at_name 0) t (build_all first_frames) s rest (build_all fs)
-  pub level_within : s.level + length rest ≤ length t
-
-pub build-starts : (around : Enclosure) (t : List ℕ) → Builds around t (state at_name 0) t first_frames
-build-starts around t = record {
-  through = through-starts (line_step around) (state at_name 0) t (build_all first_frames);
-  level_within = omega arith;
-}
-
-pub build-goes : (around : Enclosure) (t : List ℕ) (s : State) (rest : List ℕ) (fs : Frames) (x : Event) (s' : State) (rest' : List ℕ) (fs' : Frames) → goes x s' rest' ≡ line_step around s rest → Some fs' ≡ build fs x
-    → Builds around t s rest fs → Builds around t s' rest' fs'
-build-goes around t s rest fs x s' rest' fs' is made h =
-    let bounds = line_bounds around s rest x s' rest' is in
-    record {
-      through = through-goes (line_step around) (state at_name 0) t (build_all first_frames) s rest (build_all fs) x s' rest' (build_all fs') (sym is) (λ xs. ap (λ (z : Option Frames). z >>= λ gs. build_all gs xs) (sym made)) h.through;
-      level_within = omega (arith, bounds.level_within, h.level_within);
-    }
-
--- what the loop answers where a line stands: its frames
-abbrev pub IsBuilt : Enclosure → List ℕ → Option Frames → Type 0
-IsBuilt around t o = (line : Line) (left : List ℕ) → IsLine around t line left → o ≡ Some (whole_frames line.name line.terms)
-
-pub build-ends : (around : Enclosure) (t : List ℕ) (s : State) (rest : List ℕ) (fs : Frames) → ends ≡ line_step around s rest → Builds around t s rest fs → IsBuilt around t (Some fs)
-build-ends around t s rest fs is h line left l =
-    let f = line_found around t line left l in
-    let p = h.through.passes f.events left f.runs in
-    let over = runs-ends (line_step around) s rest p.0 left p.1 (sym is) in
-    ap (build_all fs) (sym over.0) ∙ sym p.2 ∙ f.built
-
-pub build-stuck : {A : Type 0} (around : Enclosure) (t : List ℕ) (s : State) (rest : List ℕ) (fs : Frames) (line : Line) (left : List ℕ) → stuck ≡ line_step around s rest → Builds around t s rest fs → IsLine around t line left → A
-build-stuck around t s rest fs line left is h l =
-    let f = line_found around t line left l in
-    let p = h.through.passes f.events left f.runs in
-    runs-stuck (line_step around) s rest p.0 left p.1 (sym is)
-
-pub build-lost : {A : Type 0} (around : Enclosure) (t : List ℕ) (s : State) (rest : List ℕ) (fs : Frames) (x : Event) (s' : State) (rest' : List ℕ) (line : Line) (left : List ℕ) → goes x s' rest' ≡ line_step around s rest → None ≡ build fs x
-    → Builds around t s rest fs → IsLine around t line left → A
-build-lost around t s rest fs x s' rest' line left is lost h l =
-    let f = line_found around t line left l in
-    let p = h.through.passes f.events left f.runs in
-    let r = runs-goes (line_step around) s rest p.0 left x s' rest' p.1 (sym is) in
-    let nothing : build_all fs p.0 ≡ None = ap (build_all fs) r.1 ∙ ap (λ (z : Option Frames). z >>= λ gs. build_all gs r.0) (sym lost) in
-    absurd (none-some (whole_frames line.name line.terms) (sym nothing ∙ sym p.2 ∙ f.built))
-
--- ---- the line of what is built
-
--- the name and the terms of the outermost call
-abbrev pub call_in : Frames → Option (Term × Terms)
-call_in fs = option_map (λ name. (name, fs.top.terms)) fs.top.name
-
--- what the loop answers where a line stands: its name and its terms
-abbrev pub IsMeant : Enclosure → List ℕ → Option (Term × Terms) → Type 0
-IsMeant around t o = (line : Line) (left : List ℕ) → IsLine around t line left → o ≡ Some (line.name, line.terms)
-
-pub meant-ends : (around : Enclosure) (t : List ℕ) (s : State) (rest : List ℕ) (fs : Frames) → ends ≡ line_step around s rest → Builds around t s rest fs → IsMeant around t (call_in fs)
-meant-ends around t s rest fs is h line left l =
-    ap call_in (same_Some fs (whole_frames line.name line.terms) (build-ends around t s rest fs is h line left l))
-
-pub meant-stuck : (around : Enclosure) (t : List ℕ) (s : State) (rest : List ℕ) (fs : Frames) (o : Option (Term × Terms)) → stuck ≡ line_step around s rest → Builds around t s rest fs → IsMeant around t o
-meant-stuck around t s rest fs o is h line left l = build-stuck around t s rest fs line left is h l
-
-pub meant-lost : (around : Enclosure) (t : List ℕ) (s : State) (rest : List ℕ) (fs : Frames) (x : Event) (s' : State) (rest' : List ℕ) (o : Option (Term × Terms)) → goes x s' rest' ≡ line_step around s rest → None ≡ build fs x
-    → Builds around t s rest fs → IsMeant around t o
-meant-lost around t s rest fs x s' rest' o is lost h line left l = build-lost around t s rest fs x s' rest' line left is lost h l
-
--- ---- both
-
--- where a line stands, so deep, what is meant is it
-pub answers_line : (around : Enclosure) (t left : List ℕ) (depth : ℕ) (name : Term) (terms : Terms) → HasLine around t depth left → IsMeant around t (Some (name, terms)) → IsLine around t (record { name = name; terms = terms; depth = depth }) left
-answers_line around t left depth name terms h meant =
-    let same : (name, terms) ≡ (h.line.name, h.line.terms) = same_Some (name, terms) (h.line.name, h.line.terms) (meant h.line left h.is) in
-    let made : IsLine around t (record { name = h.line.name; terms = h.line.terms; depth = depth }) left = subst (λ (z : ℕ). IsLine around t (record { name = h.line.name; terms = h.line.terms; depth = z }) left) h.deep h.is in
-    subst (λ (z : Term × Terms). IsLine around t (record { name = z.0; terms = z.1; depth = depth }) left) (sym same) made
-
--- and something is
-pub answers_none : {A : Type 0} (around : Enclosure) (t left : List ℕ) (depth : ℕ) → HasLine around t depth left → IsMeant around t None → A
-answers_none around t left depth h meant = absurd (none-some (h.line.name, h.line.terms) (meant h.line left h.is))

@@ -1,5 +1,5 @@
 -- Texts in quotes, piece by piece between marks.
-use Rattle.std.proofs.Common.{◌≡◌, ℕ, ◌<◌, Bool, true, false, cond, not, List, [], ◌∷◌, ◌++◌, length, get_or, refl, sym, ap, subst, ◌∙◌, append_assoc, arith, length-append}
+use Rattle.std.proofs.Common.{◌≡◌, ℕ, ◌<◌, Bool, true, false, cond, not, List, [], ◌∷◌, ◌++◌, length, get_or, refl, sym, ap, subst, ◌∙◌, append_assoc, arith}
 use Rattle.std.specs.Prelude.{◌==◌}
 use Rattle.std.specs.List.{AllByRecursion, position_or_len, before_first, after_first}
 use Rattle.std.proofs.lemmas.Bool.{eqb-true, not-true}
@@ -29,9 +29,6 @@ around_first mark t front behind lt front_is behind_is =
 
 pub lacks_mark : (mark : ℕ) (t : List ℕ) → position_or_len (λ b. b == mark) t ≡ length t → Lacks mark t
 lacks_mark mark t is = subst (Lacks mark) (take_all (position_or_len (λ b. b == mark) t) t (omega arith)) (prefix_pass (λ b. not (b == mark)) t)
-
-pub around_shorter : (mark : ℕ) (t front behind : List ℕ) → Around mark t front behind → length behind < length t
-around_shorter mark t front behind h = omega (arith, ap length h.whole, length-append front (mark ∷ behind))
 
 -- ---- single quotes
 
