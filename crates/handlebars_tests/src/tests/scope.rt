@@ -45,7 +45,7 @@ fn contexts_take_values(rt: HostRuntime) -> Result<(), Fail> {
     Ok(())
 }
 
-// Paths that no tag of today takes lead nowhere.
+// A variable of a block leads nowhere.
 #[test]
 fn paths_lead_into_data(rt: HostRuntime) -> Result<(), Fail> {
     let alloc = rt.alloc();
