@@ -48,6 +48,7 @@ pub trait Renderable {
         ensures failed { has_failed rc.old ≡ true → IsErrAnd result (λ e. refusal_of e ≡ plain_refusal failed)
             × (rc.new ≡ rc.old) × (O.held out.new ≡ O.held out.old) }
         ensures root { root_of rc.new ≡ root_of rc.old }
+        ensures escapes { (state_of rc.new).escapes ≡ (state_of rc.old).escapes }
         ensures ok { OnOk result (has_failed rc.new ≡ false) }
         ensures err { OnErr result (has_failed rc.new ≡ true) };
 
@@ -66,6 +67,7 @@ pub trait Renderable {
             → RefusesString (setting_of registry.now «data».now) (steps self.now) (state_of rc.old) (refusal_of e)) }
         ensures failed { has_failed rc.old ≡ true → IsErrAnd result (λ e. refusal_of e ≡ plain_refusal failed) × (rc.new ≡ rc.old) }
         ensures root { root_of rc.new ≡ root_of rc.old }
+        ensures escapes { (state_of rc.new).escapes ≡ (state_of rc.old).escapes }
         ensures kept { OnOk result (has_failed rc.new ≡ false) }
         ensures fails { OnErr result (has_failed rc.new ≡ true) };
 }
