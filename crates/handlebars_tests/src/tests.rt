@@ -1,6 +1,7 @@
 //! What no row says: calls of one's own, trees by hand, outputs that fail, big sources, printed errors.
 
 mod big;
+mod blocks;
 mod compiling;
 mod errors;
 mod expands;

@@ -57,7 +57,7 @@ fn rendered(
 // Elements that name what isn't registered, with the reasons of their refusals.
 fn unregistered(alloc: Global) -> Result<Vec<(TemplateElement, &'static str)>, AllocError> {
     Ok(vec![in alloc;
-        (block(alloc, "if")?, r#"HelperNotFound("if")"#),
+        (block(alloc, "none")?, r#"HelperNotFound("none")"#),
         (
             TemplateElement::PartialExpression(naming(alloc, "p")?),
             r#"PartialNotFound("p")"#
@@ -88,8 +88,8 @@ fn elements_render_by_hand(rt: HostRuntime) -> Result<(), Fail> {
     }
 
     let mapping = vec![in alloc; TemplateMapping(3, 4)]?;
-    let error = refusal(rendered(alloc, block(alloc, "if")?, mapping)?)?;
-    let wanted = r#"HelperNotFound("if")"#;
+    let error = refusal(rendered(alloc, block(alloc, "none")?, mapping)?)?;
+    let wanted = r#"HelperNotFound("none")"#;
     refuses(&rt, alloc, &error, wanted, (Some(3), Some(4)))?;
     shows(&rt, alloc, &error.template_name, r#"Some("t")"#)?;
 
