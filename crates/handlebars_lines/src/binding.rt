@@ -1,9 +1,9 @@
 //! Block parameters, as in `as |item index|`, behind the items of a line.
 
-ghost use Rattle.std.specs.Prelude.{◌≡◌, MatchOption, is_some};
+ghost use Rattle.std.specs.Prelude.{◌≡◌, MatchOption};
 ghost use Rattle.std.specs.Option.{option_map};
 ghost use Rattle.handlebars_lines.specs.Binding.{behind_bar, behind_beginning, IsBinding, NoBinding};
-ghost use Rattle.handlebars_lines.specs.BindingReading.{symbols_at, name_at, other_at, names_at};
+ghost use Rattle.handlebars_lines.specs.BindingReading.{symbols_at, other_at, names_at};
 ghost use Rattle.handlebars_lines.specs.BindingView.{binding_of, slice_of};
 ghost use Rattle.handlebars_lines.specs.LineView.{texts_of};
 
