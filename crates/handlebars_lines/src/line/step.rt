@@ -12,8 +12,8 @@ use handlebars_base::json::path::marks::{after, behind_white};
 use handlebars_base::json::path::split_path;
 use std::alloc::{AllocError, Global};
 
-/// Where a line stands: it ends before `~` or `}` in a tag, there or before `as |` in the tag of a block, and before `)`
-/// in parentheses.
+/// Where a line stands: it ends before `~` or `}` in a tag, there or before `as |` in the tag of a block, and before
+/// `)` in parentheses.
 #[derive(Clone, Copy, Debug, PartialEq, Eq)]
 pub enum Enclosure {
     Tag,
@@ -51,8 +51,8 @@ impl State {
     }
 }
 
-/// What a step takes: an opening parenthesis, or a literal or a path by its text, each behind a key or not; or a closing
-/// parenthesis. The numbers say how many parentheses and brackets are then open at once.
+/// What a step takes: an opening parenthesis, or a literal or a path by its text, each behind a key or not; or a
+/// closing parenthesis. The numbers say how many parentheses and brackets are then open at once.
 #[derive(Clone, Copy, Debug, PartialEq, Eq)]
 pub enum Event<'a> {
     Opened(Option<&'a str>, usize),
