@@ -11,7 +11,7 @@ pub option_map-now : {A B : Type 0} (f : A → B) (r : Option (Bor A)) → optio
 option_map-now f None = refl
 option_map-now f (Some x) = refl
 
-option_map-cond : {A B : Type 0} (f : A → B) (b : Bool) (x : A) (o : Option A)
+pub option_map-cond : {A B : Type 0} (f : A → B) (b : Bool) (x : A) (o : Option A)
     → option_map f (cond b (Some x) o) ≡ cond b (Some (f x)) (option_map f o)
 option_map-cond f true x o = refl
 option_map-cond f false x o = refl

@@ -1,6 +1,9 @@
 -- What the code's values stand for.
-use Rattle.std.specs.Prelude.{List, map, Option, option_map}
+use Rattle.std.specs.Prelude.{map, Option, option_map, String}
+use Rattle.std.specs.declared.alloc.Global.{Global}
+use Rattle.std.specs.BTreeMap.{BTreeMap, get_by_text}
 use Rattle.std.specs.Cow.{cow_str_bytes}
+use Rattle.handlebars_base.specs.Bytes.{Text}
 use Rattle.handlebars_base.specs.PathAndData.{path_and_data}
 use Rattle.handlebars_template.specs.TreeView.{tree_view, binding_view, body_of, binding_of}
 use Rattle.handlebars_helpers.specs.CallView.{HelperView}
@@ -35,6 +38,10 @@ kind_of Raw = kind_raw
 -- the kind of what stands under a name
 abbrev pub kind_of_entry : HelperEntry → Kind
 kind_of_entry (Built b) = kind_of b
+
+-- the kind of the helper under a name, if one stands there
+abbrev pub kind_at : Text → BTreeMap (String Global) HelperEntry → Option Kind
+kind_at name helpers = option_map kind_of_entry (get_by_text helpers name)
 
 abbrev pub choice_of : Choice → plain.Choice
 choice_of TheBody = the_body

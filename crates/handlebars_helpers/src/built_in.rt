@@ -1,13 +1,17 @@
 //! The built-in helpers, and what they choose.
 
-ghost use Rattle.std.specs.Prelude.{◌≡◌};
+ghost use Rattle.std.specs.Prelude.{◌≡◌, IfOk, OnOk, Some, bytes_eq, map};
+ghost use Rattle.std.specs.Map.{update};
 ghost use Rattle.handlebars_base.specs.Answers.{Answers};
-ghost use Rattle.handlebars_helpers.specs.Choice.{chosen, condition, includes_zero, body_if};
-ghost use Rattle.handlebars_helpers.specs.View.{choice_of, helper_view, kind_of};
+ghost use Rattle.handlebars_base.specs.Bytes.{Text};
+ghost use Rattle.handlebars_helpers.specs.Choice.{body_if, built_in, built_ins, chosen, condition, includes_zero};
+ghost use Rattle.handlebars_helpers.specs.View.{choice_of, helper_view, kind_at, kind_of};
 
 use crate::view::Helper;
 use handlebars_base::error::{RenderError, RenderErrorReason};
 use handlebars_base::json::value::JsonTruthy;
+use std::alloc::{AllocError, Global};
+use std::collections::BTreeMap;
 
 /// A helper that every registry begins with.
 #[derive(Clone, Copy, Debug, PartialEq, Eq)]
@@ -69,4 +73,38 @@ fn includes_zero(helper: &Helper) -> bool
         Some(param) => param.value().as_bool().unwrap_or(false),
         None => false,
     }
+}
+
+/// The built-in helpers under their names.
+pub fn built_ins(alloc: Global) -> Result<BTreeMap<String, HelperEntry>, AllocError>
+    ensures { IfOk result (λ helpers. (name : Text) → kind_at name helpers ≡ built_in name) }
+{
+    let mut helpers = BTreeMap::new(alloc);
+    'all: for (name, kind) in &table() {
+        put(alloc, &mut helpers, *name, *kind)?;
+    }
+    Ok(helpers)
+}
+
+fn table() -> [(&'static str, BuiltIn); 3]
+    ensures { map (λ row. (row.0.now, kind_of row.1)) result ≡ built_ins }
+{
+    [
+        ("if", BuiltIn::If),
+        ("unless", BuiltIn::Unless),
+        ("raw", BuiltIn::Raw),
+    ]
+}
+
+fn put(
+    alloc: Global,
+    helpers: &mut BTreeMap<String, HelperEntry>,
+    name: &str,
+    kind: BuiltIn,
+) -> Result<(), AllocError>
+    ensures { OnOk result ((other : Text) → kind_at other helpers.new
+        ≡ update bytes_eq (λ n. kind_at n helpers.old) name.now (Some (kind_of kind)) other) }
+{
+    helpers.insert(String::from_str(alloc, name)?, HelperEntry::Built(kind))?;
+    Ok(())
 }
