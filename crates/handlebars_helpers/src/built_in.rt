@@ -89,11 +89,7 @@ pub fn choose(kind: BuiltIn, helper: &Helper) -> Result<Choice, RenderError>
 fn body_if(truth: bool) -> Choice
     ensures { choice_of result ≡ body_if truth }
 {
-    if truth {
-        Choice::Body
-    } else {
-        Choice::Inverse
-    }
+    if truth { Choice::Body } else { Choice::Inverse }
 }
 
 // Whether the first parameter counts as true.

@@ -3,4 +3,6 @@
 #![tactic(auto)]
 
 pub mod built_in;
+#[cfg(test)]
+mod tests;
 pub mod view;
