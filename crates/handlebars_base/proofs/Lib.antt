@@ -6,3 +6,4 @@ pub mod PathShapes
 pub mod ReferenceLength
 pub mod References
 pub mod PathsInFront
+pub mod Truths

@@ -1,4 +1,8 @@
-//! The helpers that templates call by name. None is defined yet: a call of a name renders as a
-//! value or is refused.
-
+//! The helpers that templates call by name: what a call shows to a helper, and what the built-in
+//! ones choose.
 #![tactic(auto)]
+
+pub mod built_in;
+#[cfg(test)]
+mod tests;
+pub mod view;

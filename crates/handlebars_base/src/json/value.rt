@@ -1,9 +1,9 @@
-//! Values of JSON: how they are rendered, and where they come from.
+//! Values of JSON: how they are rendered, whether they count as true, and where they come from.
 
-ghost use Rattle.std.specs.Prelude.{◌≡◌, ◌++◌, IfOk, OnOk, IsTrue, ◌↔◌, string_bytes, true, false, option_map, map, Some};
+ghost use Rattle.std.specs.Prelude.{◌≡◌, ◌++◌, Bool, IfOk, OnOk, IsTrue, ◌↔◌, string_bytes, true, false, option_map, map, Some};
 ghost use Rattle.handlebars_base.specs.Bytes.{Text};
 ghost use Rattle.serde_json.specs.View.{view, number_view, items_view};
-ghost use Rattle.handlebars_base.specs.Values.{rendered, rendered_items, rendered_number};
+ghost use Rattle.handlebars_base.specs.Values.{rendered, rendered_items, rendered_number, truth, truth_of_number};
 ghost use Rattle.handlebars_base.specs.Scoped.{found_of, data_in, present_in, path_in, derived_in, missing, value};
 
 mod path_and_json;
@@ -103,6 +103,40 @@ impl JsonRender for Value {
         push_value(self, &mut out)?;
         Ok(out)
     }
+}
+
+/// Whether a value counts as true.
+pub trait JsonTruthy {
+    ghost truth_of: { Self → Bool → Bool };
+
+    /// With `include_zero`, 0 counts as true.
+    fn is_truthy(&self, include_zero: bool) -> bool
+        ensures { result ≡ truth_of self.now include_zero };
+}
+
+impl JsonTruthy for Value {
+    ghost truth_of = { λ v include_zero. truth include_zero (view v) };
+
+    fn is_truthy(&self, include_zero: bool) -> bool {
+        match self {
+            Value::Null => false,
+            Value::Bool(b) => *b,
+            Value::Number(n) => counts(n, include_zero),
+            Value::String(s) => !s.is_empty(),
+            Value::Array(items) => !items.is_empty(),
+            Value::Object(members) => !members.is_empty(),
+        }
+    }
+}
+
+// A number outside the range counts as null.
+fn counts(number: &Number, include_zero: bool) -> bool
+    ensures { result ≡ truth_of_number include_zero (number_view number.now) }
+{
+    if number.is_f64() {
+        return false;
+    }
+    include_zero || number.as_u64() != Some(0)
 }
 
 #[cycle(push)]

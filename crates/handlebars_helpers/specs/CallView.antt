@@ -1,0 +1,50 @@
+-- What a call shows of itself, as plain data.
+use Rattle.std.specs.Prelude.{ℕ, Bool, true, false, List, Option, None, Some}
+use Rattle.std.specs.List.{slice_get}
+use Rattle.std.specs.Map.{lookup}
+use Rattle.std.specs.Str.{bytes_eq}
+use Rattle.handlebars_base.specs.Bytes.{Text}
+use Rattle.handlebars_base.specs.PathAndData.{PathAndData}
+use Rattle.handlebars_base.specs.PathReading.{◌>>=◌}
+use Rattle.handlebars_template.specs.Tree.{Binding, no_binding, single, both, Body, as_name}
+
+-- The view of a call or of another tag: its name, and the values of its parameters in order and of its pairs in order of
+-- key.
+pub record CallView : Type 0 where
+  pub name : Text
+  pub params : List PathAndData
+  pub pairs : List (Text × PathAndData)
+
+-- The view of a helper's call: the call, the names that it binds, its body and its inverse, and whether it is a block.
+pub record HelperView : Type 0 where
+  pub call : CallView
+  pub binding : Binding
+  pub body : Body
+  pub inverse : Body
+  pub block : Bool
+
+-- the value of a parameter, counted from 0
+abbrev pub param_at : ℕ → CallView → Option PathAndData
+param_at i v = slice_get v.params i
+
+-- the value of the pair under the key
+abbrev pub pair_at : Text → CallView → Option PathAndData
+pair_at key v = lookup (bytes_eq key) v.pairs
+
+-- whether any name is bound
+abbrev pub binds : Binding → Bool
+binds no_binding = false
+binds (single p) = true
+binds (both p q) = true
+
+-- the name that is bound alone: a name or a path, as written
+abbrev pub single_name : Binding → Option Text
+single_name no_binding = None
+single_name (single p) = as_name p
+single_name (both p q) = None
+
+-- the two names that are bound together
+abbrev pub both_names : Binding → Option (Text × Text)
+both_names no_binding = None
+both_names (single p) = None
+both_names (both p q) = as_name p >>= λ first. as_name q >>= λ second. Some (first, second)

@@ -1,0 +1,3 @@
+pub mod CallView
+pub mod Choice
+pub mod View

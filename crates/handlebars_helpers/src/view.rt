@@ -1,0 +1,148 @@
+//! What a call shows to the helper that it calls.
+
+ghost use Rattle.std.specs.Prelude.{◌≡◌, option_map, map};
+ghost use Rattle.std.specs.Cow.{cow_str_bytes};
+ghost use Rattle.handlebars_base.specs.PathAndData.{path_and_data};
+ghost use Rattle.handlebars_template.specs.TreeView.{tree_view, binding_view, body_of, binding_of};
+ghost use Rattle.handlebars_helpers.specs.CallView.{binds, both_names, pair_at, param_at, single_name};
+ghost use Rattle.handlebars_helpers.specs.View.{helper_view};
+
+use handlebars_base::json::value::PathAndJson;
+use handlebars_template::template::{BlockParam, Template};
+use std::borrow::CowStr;
+use std::collections::BTreeMap;
+
+/// A call, as its helper sees it: the values of its parameters and pairs, and what a block has.
+#[derive(Drop)]
+pub struct Helper<'rc> {
+    name: CowStr<'rc>,
+    params: Vec<PathAndJson<'rc>>,
+    hash: BTreeMap<&'rc str, PathAndJson<'rc>>,
+    template: Option<&'rc Template>,
+    inverse: Option<&'rc Template>,
+    block_param: Option<&'rc BlockParam>,
+    block: bool,
+}
+
+impl<'rc> Helper<'rc> {
+    /// A call of these parts.
+    pub fn new(
+        name: CowStr<'rc>,
+        params: Vec<PathAndJson<'rc>>,
+        hash: BTreeMap<&'rc str, PathAndJson<'rc>>,
+        template: Option<&'rc Template>,
+        inverse: Option<&'rc Template>,
+        block_param: Option<&'rc BlockParam>,
+        block: bool,
+    ) -> Helper<'rc>
+        ensures { helper_view result ≡ record {
+          call = record {
+            name = cow_str_bytes name.entry;
+            params = map path_and_data params.entry.items;
+            pairs = map (λ e. (e.0.now, path_and_data e.1)) hash.entry.entries;
+          };
+          binding = binding_of (option_map (λ b. binding_view b.now) block_param.entry);
+          body = body_of (option_map (λ t. tree_view t.now) template.entry);
+          inverse = body_of (option_map (λ t. tree_view t.now) inverse.entry);
+          block = block;
+        } }
+    {
+        Helper {
+            name,
+            params,
+            hash,
+            template,
+            inverse,
+            block_param,
+            block,
+        }
+    }
+
+    /// The name that it is called by.
+    pub fn name(&self) -> &str
+        ensures { result.now ≡ (helper_view self.now).call.name }
+    {
+        self.name.as_str()
+    }
+
+    /// The values of its parameters, in order.
+    pub fn params(&self) -> &Vec<PathAndJson<'rc>>
+        ensures { map path_and_data result.now.items ≡ (helper_view self.now).call.params }
+    {
+        &self.params
+    }
+
+    /// The value of a parameter, counted from 0.
+    pub fn param(&self, idx: usize) -> Option<&PathAndJson<'rc>>
+        ensures { option_map (λ p. path_and_data p.now) result ≡ param_at idx (helper_view self.now).call }
+    {
+        self.params.get(idx)
+    }
+
+    /// The values of its pairs, by key.
+    pub fn hash(&self) -> &BTreeMap<&'rc str, PathAndJson<'rc>>
+        ensures { map (λ e. (e.0.now, path_and_data e.1)) result.now.entries ≡ (helper_view self.now).call.pairs }
+    {
+        &self.hash
+    }
+
+    /// The value of the pair with this key.
+    pub fn hash_get(&self, key: &str) -> Option<&PathAndJson<'rc>>
+        ensures { option_map (λ p. path_and_data p.now) result ≡ pair_at key.now (helper_view self.now).call }
+    {
+        self.hash.get(key)
+    }
+
+    /// The body of a block.
+    pub fn template(&self) -> Option<&'rc Template>
+        ensures { body_of (option_map (λ t. tree_view t.now) result) ≡ (helper_view self.now).body }
+    {
+        self.template
+    }
+
+    /// What stands behind `else`.
+    pub fn inverse(&self) -> Option<&'rc Template>
+        ensures { body_of (option_map (λ t. tree_view t.now) result) ≡ (helper_view self.now).inverse }
+    {
+        self.inverse
+    }
+
+    /// Whether it is written as a block.
+    pub fn is_block(&self) -> bool
+        ensures { result ≡ (helper_view self.now).block }
+    {
+        self.block
+    }
+
+    /// Whether it binds names.
+    pub fn has_block_param(&self) -> bool
+        ensures { result ≡ binds (helper_view self.now).binding }
+    {
+        self.block_param.is_some()
+    }
+
+    /// The name that it binds, where it binds one alone.
+    pub fn block_param(&self) -> Option<&'rc str>
+        ensures { option_map (λ name. name.now) result ≡ single_name (helper_view self.now).binding }
+    {
+        match self.block_param {
+            Some(BlockParam::Single(name)) => name.as_name(),
+            Some(BlockParam::Pair(_)) => None,
+            None => None,
+        }
+    }
+
+    /// The two names that it binds, where it binds two.
+    pub fn block_param_pair(&self) -> Option<(&'rc str, &'rc str)>
+        ensures { option_map (λ names. (names.0.now, names.1.now)) result ≡ both_names (helper_view self.now).binding }
+    {
+        match self.block_param {
+            Some(BlockParam::Pair(names)) => match (names.0.as_name(), names.1.as_name()) {
+                (Some(first), Some(second)) => Some((first, second)),
+                _ => None,
+            },
+            Some(BlockParam::Single(_)) => None,
+            None => None,
+        }
+    }
+}
