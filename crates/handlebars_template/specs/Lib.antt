@@ -3,6 +3,7 @@ pub mod Text
 pub mod TextReading
 pub mod Tree
 pub mod Calls
+pub mod Nest
 pub mod LineBuilding
 pub mod Tag
 pub mod Cut
