@@ -11,3 +11,4 @@ pub mod LinesBuilt
 pub mod LineImages
 pub mod LineCalls
 pub mod ParametersParsed
+pub mod NestsBuilt
