@@ -12,3 +12,4 @@ pub mod LineImages
 pub mod LineCalls
 pub mod ParametersParsed
 pub mod NestsBuilt
+pub mod NestsSteps

@@ -1,6 +1,6 @@
 //! The tree of a template.
 
-ghost use Rattle.std.specs.Prelude.{◌≡◌, IfOk, option_map};
+ghost use Rattle.std.specs.Prelude.{◌≡◌, true, false, IfOk, option_map};
 ghost use Rattle.handlebars_template.specs.Tree.{empty_tree, as_name, is_value, expression, expression_call, is_helper, element_name, call_params, call_pairs, call_marks};
 ghost use Rattle.handlebars_template.specs.Calls.{plain_call};
 ghost use Rattle.handlebars_template.specs.TreeView.{tree_view, param_view, params_view, pairs_view, call_view, element_view, subexpression_view, spec_call};
