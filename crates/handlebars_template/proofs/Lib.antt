@@ -12,6 +12,7 @@ pub mod LineImages
 pub mod LineCalls
 pub mod ParametersParsed
 pub mod NestsBuilt
+pub mod NestsLooked
 pub mod NestsSteps
 pub mod NestsStates
 pub mod NestsRuns
