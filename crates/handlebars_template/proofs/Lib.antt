@@ -13,6 +13,7 @@ pub mod LineCalls
 pub mod ParametersParsed
 pub mod NestsBuilt
 pub mod NestsLooked
+pub mod NestsDone
 pub mod NestsSteps
 pub mod NestsStates
 pub mod NestsRuns
