@@ -18,3 +18,4 @@ pub mod NestsSteps
 pub mod NestsStates
 pub mod NestsRuns
 pub mod NestsOne
+pub mod NestsKept
