@@ -11,3 +11,11 @@ pub mod LinesBuilt
 pub mod LineImages
 pub mod LineCalls
 pub mod ParametersParsed
+pub mod NestsBuilt
+pub mod NestsLooked
+pub mod NestsDone
+pub mod NestsSteps
+pub mod NestsStates
+pub mod NestsRuns
+pub mod NestsOne
+pub mod NestsKept

@@ -3,6 +3,8 @@ pub mod Text
 pub mod TextReading
 pub mod Tree
 pub mod Calls
+pub mod Nest
+pub mod Machine
 pub mod LineBuilding
 pub mod Tag
 pub mod Cut
@@ -13,5 +15,6 @@ pub mod TreeView
 pub mod LineBuildingView
 pub mod ParameterParsingView
 pub mod TagView
+pub mod NestView
 pub mod OptionsView
 pub mod Rows

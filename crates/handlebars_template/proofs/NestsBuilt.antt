@@ -1,0 +1,75 @@
+-- What the program builds of blocks, and what stands for it.
+use Rattle.std.proofs.Common.{◌≡◌, ◌∙◌, suc, Bool, true, List, [], ◌∷◌, ◌++◌, map, reverse, length, refl, sym, ap, arith}
+use Rattle.std.specs.Prelude.{◌==◌, not}
+use Rattle.std.proofs.lemmas.Bool.{ne_eqb}
+use Rattle.std.proofs.lemmas.List.{reverse-append, map-append}
+use Rattle.handlebars_template.specs.Place.{Place}
+use Rattle.handlebars_template.specs.Tree.{Element, helper_block, Call, Body, no_body}
+use Rattle.handlebars_template.specs.TreeView.{place_of, element_view}
+use Rattle.handlebars_template.specs.Nest.{Opening, Placed, Branch, body_with, block_call, inverse_of, is_chain, in_branch, in_inverse}
+use Rattle.handlebars_template.specs.Machine.{closed_block}
+use Rattle.handlebars_template.specs.NestView.{paired, branch_view, frame_view, stack_view}
+use Rattle.handlebars_template.specs.declared.template.tree.TemplateMapping.{TemplateMapping}
+use Rattle.handlebars_template.specs.declared.template.tree.TemplateElement.{TemplateElement}
+use Rattle.handlebars_template.specs.declared.template.chain.Branch.{Branch as BuiltBranch}
+use Rattle.handlebars_template.specs.declared.template.nest.Open.{Open}
+
+inverse_of-append : (bs cs : List Branch) (last : Body) → inverse_of (bs ++ cs) last ≡ inverse_of bs (inverse_of cs last)
+inverse_of-append [] cs last = refl
+inverse_of-append (b ∷ bs) cs last = rw (inverse_of-append bs cs last) refl
+
+pub inverse_of_pop : (bs : List BuiltBranch) (b : BuiltBranch) (last : Body)
+    → inverse_of (map branch_view (bs ++ b ∷ [])) last ≡ inverse_of (map branch_view bs) (inverse_of (branch_view b ∷ []) last)
+inverse_of_pop bs b last = rw (map-append) (inverse_of-append (map branch_view bs) (branch_view b ∷ []) last)
+
+pub stack_view_push : (os : List Open) (o : Open) → stack_view (os ++ o ∷ []) ≡ frame_view o ∷ stack_view os
+stack_view_push os o = rw (map-append) (reverse-append (map frame_view os) (frame_view o ∷ []))
+
+is_chain-append : (bs : List Branch) (b : Branch) → is_chain (bs ++ b ∷ []) ≡ true
+is_chain-append [] b = refl
+is_chain-append (a ∷ bs) b = refl
+
+pub closed_block-chained : (h : Call) (o g : Opening) (first es : List Placed) (bs cs : List Branch) (inverse : Body)
+    → h ≡ block_call o first inverse true → inverse ≡ inverse_of cs no_body → cs ≡ bs ++ record { opening = g; elements = es } ∷ []
+    → helper_block h ≡ closed_block (in_branch g) o first bs es
+closed_block-chained h o g first es bs cs inverse is chained more =
+    let last : Branch = record { opening = g; elements = es } in
+    ap helper_block is
+    ∙ ap (λ (i : Body). helper_block (block_call o first i true)) (chained ∙ ap (λ (x : List Branch). inverse_of x no_body) more)
+    ∙ ap (λ (b : Bool). helper_block (block_call o first (inverse_of (bs ++ last ∷ []) no_body) b)) (sym (is_chain-append bs last))
+
+pub closed_block-inverse : (h : Call) (o : Opening) (first es : List Placed) (bs : List Branch) (inverse last : Body) (chain : Bool)
+    → h ≡ block_call o first inverse chain → inverse ≡ inverse_of bs last → last ≡ body_with es → chain ≡ is_chain bs
+    → helper_block h ≡ closed_block in_inverse o first bs es
+closed_block-inverse h o first es bs inverse last chain is chained whole same =
+    ap helper_block is
+    ∙ ap (λ (i : Body). helper_block (block_call o first i chain)) (chained ∙ ap (inverse_of bs) whole)
+    ∙ ap (λ (b : Bool). helper_block (block_call o first (inverse_of bs (body_with es)) b)) same
+
+pub is_chain-view : (bs : List BuiltBranch) → not (length bs == 0) ≡ is_chain (map branch_view bs)
+is_chain-view [] = refl
+is_chain-view (b ∷ bs) = ap not (ne_eqb (suc (length bs)) 0 (λ e. absurd (omega arith)))
+
+-- ---- elements and their places
+
+pub paired_push : (es : List TemplateElement) (ms : List TemplateMapping) (e : TemplateElement) (m : TemplateMapping) → length es ≡ length ms
+    → paired (es ++ e ∷ []) (ms ++ m ∷ []) ≡ paired es ms ++ record { place = place_of m; element = element_view e } ∷ []
+paired_push [] [] e m h = refl
+paired_push [] (n ∷ ms) e m h = absurd (omega arith)
+paired_push (f ∷ es) [] e m h = absurd (omega arith)
+paired_push (f ∷ es) (n ∷ ms) e m h =
+    ap (λ (z : List Placed). record { place = place_of n; element = element_view f } ∷ z) (paired_push es ms e m (omega arith))
+
+pub paired_elements : (es : List TemplateElement) (ms : List TemplateMapping) → length es ≡ length ms
+    → map (λ (x : Placed). x.element) (paired es ms) ≡ map element_view es
+paired_elements [] [] h = refl
+paired_elements [] (n ∷ ms) h = absurd (omega arith)
+paired_elements (f ∷ es) [] h = absurd (omega arith)
+paired_elements (f ∷ es) (n ∷ ms) h = ap (λ (z : List Element). element_view f ∷ z) (paired_elements es ms (omega arith))
+
+pub paired_places : (es : List TemplateElement) (ms : List TemplateMapping) → length es ≡ length ms
+    → map (λ (x : Placed). x.place) (paired es ms) ≡ map place_of ms
+paired_places [] [] h = refl
+paired_places [] (n ∷ ms) h = absurd (omega arith)
+paired_places (f ∷ es) [] h = absurd (omega arith)
+paired_places (f ∷ es) (n ∷ ms) h = ap (λ (z : List Place). place_of n ∷ z) (paired_places es ms (omega arith))
