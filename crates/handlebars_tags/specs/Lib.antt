@@ -1,5 +1,5 @@
 pub mod Text
+pub mod TextReading
+pub mod TextView
 pub mod Kind
 pub mod Comment
-pub mod Tag
-pub mod Trim
