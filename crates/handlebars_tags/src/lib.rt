@@ -1,4 +1,5 @@
 //! The texts and the tags of a source, one after the other, without a tree.
 #![tactic(auto)]
 
+pub mod laws;
 pub mod text;
