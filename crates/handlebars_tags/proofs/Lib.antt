@@ -1,3 +1,5 @@
 pub mod Runs
 pub mod Texts
 pub mod OneText
+pub mod Marks
+pub mod Comments

@@ -1,5 +1,6 @@
 //! The texts and the tags of a source, one after the other, without a tree.
 #![tactic(auto)]
 
+pub mod comment;
 pub mod laws;
 pub mod text;
