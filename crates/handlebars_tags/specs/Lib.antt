@@ -6,3 +6,4 @@ pub mod Comment
 pub mod CommentReading
 pub mod Tag
 pub mod Trim
+pub mod TrimView

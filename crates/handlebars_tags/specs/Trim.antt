@@ -69,14 +69,23 @@ opens_raw (raw_tag line) = true
 opens_raw (raw_close_tag n) = false
 opens_raw (comment_tag t) = false
 
+-- Behind a line that is fresh or not, and before the rest, a tag that may stand alone does so if nothing else is on its
+-- line.
+abbrev pub edge_at : Bool → Edge → Text → Edge
+edge_at fresh tag rest = record {
+  standalone = tag.standalone && (fresh && is_ended rest);
+  left = tag.left;
+  right = tag.right;
+  is_raw = tag.is_raw;
+}
+
+-- what a tag does wherever it stands
+abbrev pub sides_of : Tag → Tildes → Edge
+sides_of t tildes = record { standalone = may_stand_alone t; left = tildes.left; right = tildes.right; is_raw = opens_raw t }
+
 -- a tag behind a line that is fresh or not, and before the rest
 abbrev pub edge_with : Bool → Tag → Tildes → Text → Edge
-edge_with fresh t tildes rest = record {
-  standalone = may_stand_alone t && (fresh && is_ended rest);
-  left = tildes.left;
-  right = tildes.right;
-  is_raw = opens_raw t;
-}
+edge_with fresh t tildes rest = edge_at fresh (sides_of t tildes) rest
 
 -- a tag between two parts of the source
 abbrev pub edge_of : Text → Tag → Tildes → Text → Edge

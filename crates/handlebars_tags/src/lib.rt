@@ -4,3 +4,4 @@
 pub mod comment;
 pub mod laws;
 pub mod text;
+pub mod trim;
