@@ -2,7 +2,6 @@
 use Rattle.std.specs.Prelude.{◌≡◌, ℕ, zero, suc, [], ◌∷◌, ◌++◌, length, reverse, Option, Some, None, codes}
 use Rattle.handlebars_base.specs.Bytes.{Text, behind_white}
 use Rattle.handlebars_base.specs.PathReading.{◌>>=◌, with_or}
-
 use Rattle.handlebars_tags.specs.Kind.{past}
 
 -- what follows the first such mark
