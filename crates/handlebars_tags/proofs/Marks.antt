@@ -1,11 +1,11 @@
 -- Marks of several bytes: where they stand, and texts less them.
-use Rattle.std.proofs.Common.{◌≡◌, ◌≢◌, ℕ, zero, suc, ◌+◌, ◌-◌, ◌<◌, ◌≤◌, [], ◌∷◌, ◌++◌, length, reverse, take, drop, List, Option, Some, None, IfSome, MatchOption, option_map, refl, sym, ap, ◌∙◌, append_assoc, arith, inl, inr, length-append, length-drop}
+use Rattle.std.proofs.Common.{◌≡◌, ◌≢◌, ℕ, zero, suc, ◌+◌, ◌<◌, ◌≤◌, [], ◌∷◌, ◌++◌, length, reverse, drop, List, Option, Some, None, IfSome, MatchOption, option_map, refl, sym, ap, ◌∙◌, arith, inl, inr, length-append, length-drop}
 use Rattle.std.proofs.lemmas.Option.{same_Some, none-some}
-use Rattle.std.proofs.lemmas.List.{drop_at, reverse-append, reverse-reverse, length-reverse}
-use Rattle.std.specs.Str.Pattern.{FindsText, SplitsAroundMatch, StripsPrefix, FindsTextPrefix, FindsTextSuffix, LacksTextAt, CutsPrefixes, CutsSuffixes, IsFullyTrimmed, IsTrimStartMatches, IsTrimEndMatches}
+use Rattle.std.proofs.lemmas.List.{reverse-append, reverse-reverse, length-reverse}
+use Rattle.std.specs.Str.Pattern.{FindsText, SplitsAroundMatch, StripsPrefix, FindsTextPrefix, FindsTextSuffix, LacksTextAt, CutsPrefixes, CutsSuffixes, IsTrimStartMatches, IsTrimEndMatches}
 use denote.Ref.{Bor}
 use Rattle.handlebars_base.specs.Bytes.{Text}
-use Rattle.handlebars_base.specs.PathReading.{with_or, after}
+use Rattle.handlebars_base.specs.PathReading.{after}
 use Rattle.handlebars_base.proofs.PathMarks.{after_takes}
 use Rattle.handlebars_base.proofs.OptionBinds.{none_or_some, bind_some, with_or_is}
 use Rattle.handlebars_lines.proofs.Fronts.{after-same}
@@ -23,10 +23,6 @@ past-takes [] t r e = same_Some t r e
 past-takes (c ∷ mark) t r e =
     let b = bind_some (after c t) (past mark) r e in
     after_takes c t b.0 b.1 ∙ ap (λ (z : Text). c ∷ z) (past-takes mark b.0 r b.2)
-
--- so what follows it is the text but for so many bytes
-pub past-drop : (mark t r : Text) → past mark t ≡ Some r → r ≡ drop (length mark) t
-past-drop mark t r e = sym (drop_at mark r (length mark) refl) ∙ ap (drop (length mark)) (sym (past-takes mark t r e))
 
 pub past-None : (mark t : Text) → ((r : Text) → t ≢ mark ++ r) → past mark t ≡ None
 past-None mark t lacks = elim (none_or_some (past mark t)) [

@@ -34,7 +34,8 @@ pub fn no_edge() -> Edge
     }
 }
 
-/// The edge of a tag where it stands, of which so much is known wherever it stands. Reads no more than blanks and a byte.
+/// The edge of a tag where it stands, of which so much is known wherever it stands: whether it may stand alone, its
+/// tildes, and whether it opens a raw block.
 pub fn edge_at(fresh: bool, tag: Edge, rest: &str) -> Edge
     ensures { edge_view result ≡ edge_at fresh (edge_view tag) rest.now }
 {
