@@ -1,0 +1,6 @@
+pub mod Runs
+pub mod Texts
+pub mod OneText
+pub mod Marks
+pub mod Comments
+pub mod Trims

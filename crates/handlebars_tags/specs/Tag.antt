@@ -1,0 +1,131 @@
+-- What a tag is, by the slice that spells it and what follows it.
+use Rattle.std.specs.Prelude.{◌≡◌, ◌≢◌, ℕ, ◌+◌, Bool, true, false, if◌then◌else◌, ◌==◌, ◌||◌, [], ◌∷◌, ◌++◌, Some, nat_lt, length, take, drop}
+use Rattle.std.specs.List.{list_all, prefix_len, position_or_len}
+use Rattle.handlebars_base.specs.Bytes.{Text, slash, dot, at_sign, left_bracket, right_bracket, single_quote, is_white, behind_white}
+use Rattle.handlebars_base.specs.Path.{is_symbol, Reference, raw_of}
+use Rattle.handlebars_base.specs.PathReading.{symbols_of, behind_symbols}
+use Rattle.handlebars_lines.specs.Literal.{starts}
+
+use Rattle.handlebars_lines.specs.Parameter.{Terms, path_term}
+use Rattle.handlebars_lines.specs.Line.{Line, in_tag, in_block, IsLine}
+use Rattle.handlebars_lines.specs.Binding.{Binding, IsBinding}
+use Rattle.handlebars_tags.specs.Kind.{Kind, expression_kind, html_kind, html_sign_kind, block_kind, close_kind, inverse_kind, else_kind, raw_kind, raw_close_kind, comment_kind, Beginning, beginning_of, closing_of}
+use Rattle.handlebars_tags.specs.Comment.{IsComment}
+
+-- ---- what tags say
+
+-- the line of a block: its name, what stands behind it, the names that it binds, and the most parentheses and brackets
+-- open at once in it
+pub record BlockLine : Type 0 where
+  pub name : Text
+  pub terms : Terms
+  pub binding : Binding
+  pub depth : ℕ
+
+-- a value or a call, escaped or raw; a block, its inverse, a chained inverse and its end, with the name that closes it,
+-- empty or not; a raw block and its end; a comment by its text
+pub data Tag : Type 0 where
+  expression_tag : Line → Tag
+  html_tag : Line → Tag
+  block_tag : BlockLine → Tag
+  inverse_tag : Tag
+  chain_tag : BlockLine → Tag
+  close_tag : Text → Tag
+  raw_tag : BlockLine → Tag
+  raw_close_tag : Text → Tag
+  comment_tag : Text → Tag
+
+-- whether a tilde stands behind its opening braces, and before its closing ones
+pub record Tildes : Type 0 where
+  pub left : Bool
+  pub right : Bool
+
+-- the most parentheses and brackets of literals open at once
+abbrev pub tag_depth : Tag → ℕ
+tag_depth (expression_tag line) = line.depth
+tag_depth (html_tag line) = line.depth
+tag_depth (block_tag line) = line.depth
+tag_depth inverse_tag = 0
+tag_depth (chain_tag line) = line.depth
+tag_depth (close_tag n) = 0
+tag_depth (raw_tag line) = line.depth
+tag_depth (raw_close_tag n) = 0
+tag_depth (comment_tag t) = 0
+
+-- ---- what stands between the marks
+
+-- a line whose name is an identifier, and block parameters or none
+pub record IsBlockLine (text : Text) (means : BlockLine) (rest : Text) : Type 0 where
+  pub name : Reference
+  pub behind : Text
+  pub is_line : IsLine in_block text (record { name = path_term name; terms = means.terms; depth = means.depth }) behind
+  pub is_name : raw_of name ≡ means.name
+  pub is_identifier : list_all is_symbol means.name ≡ true
+  pub binds : IsBinding behind means.binding rest
+
+abbrev pub is_close_symbol : ℕ → Bool
+is_close_symbol b = is_symbol b || ((b == slash) || ((b == dot) || (b == at_sign)))
+
+-- up to the byte and with it, where it stands behind the first byte; and what follows
+abbrev pub enclosed_at : ℕ → Text → Text × Text
+enclosed_at c t =
+    let n = position_or_len (λ b. b == c) (drop 1 t) in
+    if nat_lt n (length (drop 1 t)) then (take (n + 2) t, drop (n + 2) t) else ([], t)
+
+-- The name in a closing tag, empty or not, and what follows it: in brackets, in single quotes, or a run of symbols, `/`,
+-- `.` and `@`.
+abbrev pub close_name_at : Text → Text × Text
+close_name_at t =
+    if starts (λ b. b == left_bracket) t then enclosed_at right_bracket t
+    else (if starts (λ b. b == single_quote) t then enclosed_at single_quote t
+    else (take (prefix_len is_close_symbol t) t, drop (prefix_len is_close_symbol t) t))
+
+-- Says kind inside tag rest: what is inside a tag of this kind says so much, and the rest follows it.
+pub data Says : Kind → Text → Tag → Text → Type 0 where
+  a_value : {t rest : Text} {line : Line} → IsLine in_tag t line rest → Says expression_kind t (expression_tag line) rest
+  a_raw_value : {t rest : Text} {line : Line} → IsLine in_tag t line rest → Says html_kind t (html_tag line) rest
+  a_signed_value : {t rest : Text} {line : Line} → IsLine in_tag t line rest → Says html_sign_kind t (html_tag line) rest
+  a_block : {t rest : Text} {line : BlockLine} → IsBlockLine t line rest → Says block_kind t (block_tag line) rest
+  a_close : (t : Text) → Says close_kind t (close_tag (close_name_at t).0) (close_name_at t).1
+  an_inverse : (t : Text) → Says inverse_kind t inverse_tag t
+  an_else : (t : Text) → Says else_kind t inverse_tag t
+  -- `else`, white, and the line of a block
+  a_chain : {t rest : Text} {line : BlockLine} → starts is_white t ≡ true → IsBlockLine (behind_white t) line rest
+      → Says else_kind t (chain_tag line) rest
+  a_raw_block : {t rest : Text} {line : BlockLine} → IsBlockLine t line rest → Says raw_kind t (raw_tag line) rest
+  a_raw_close : (t : Text) → symbols_of t ≢ [] → Says raw_close_kind t (raw_close_tag (symbols_of t)) (behind_symbols t)
+  a_comment : {t rest kept : Text} → IsComment t kept rest → Says comment_kind t (comment_tag kept) rest
+
+-- ---- tags
+
+-- In front of the rest, the slice spells the tag with these tildes: what it begins with, what it says, and what closes it.
+-- What a line means depends on what follows it, so the rest counts.
+pub record IsTag (slice rest : Text) (tag : Tag) (tildes : Tildes) : Type 0 where
+  pub begins : Beginning
+  pub behind : Text
+  pub is_beginning : beginning_of (slice ++ rest) ≡ Some begins
+  pub left : begins.tilde ≡ tildes.left
+  pub says : Says begins.kind begins.inside tag behind
+  pub closes : closing_of begins.kind behind ≡ Some (tildes.right, rest)
+
+-- No tag stands in front.
+abbrev pub NoTag : Text → Type 0
+NoTag left = (slice rest : Text) (t : Tag) (tildes : Tildes) → left ≡ slice ++ rest → IsTag slice rest t tildes → ⊥
+
+-- At most one tag stands in front of what is left of a source, and the rest behind it is one.
+abbrev pub OneTag : Type 0
+OneTag = (left slice slice' rest rest' : Text) (t t' : Tag) (tildes tildes' : Tildes)
+    → left ≡ slice ++ rest → left ≡ slice' ++ rest' → IsTag slice rest t tildes → IsTag slice' rest' t' tildes'
+    → (slice ≡ slice') × (rest ≡ rest') × (t ≡ t') × (tildes ≡ tildes')
+
+-- the end of a raw block
+abbrev pub is_raw_close : Tag → Bool
+is_raw_close (expression_tag line) = false
+is_raw_close (html_tag line) = false
+is_raw_close (block_tag line) = false
+is_raw_close inverse_tag = false
+is_raw_close (chain_tag line) = false
+is_raw_close (close_tag n) = false
+is_raw_close (raw_tag line) = false
+is_raw_close (raw_close_tag n) = true
+is_raw_close (comment_tag t) = false

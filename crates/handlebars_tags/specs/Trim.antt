@@ -1,0 +1,130 @@
+-- What is kept of a text beside tags.
+use Rattle.std.specs.Prelude.{ℕ, ◌-◌, Bool, true, false, ◌==◌, ◌&&◌, ◌||◌, not, if◌then◌else◌, [], ◌∷◌, length, take}
+use Rattle.std.specs.List.{fold, suffix_len, list_all}
+use Rattle.handlebars_base.specs.Bytes.{Text, space, tab, newline, carriage_return, is_white}
+use Rattle.handlebars_base.specs.PathReading.{◌>>=◌, with_or, after}
+use Rattle.handlebars_tags.specs.Text.{Braces, two_braces, four_braces}
+use Rattle.handlebars_tags.specs.Tag.{Tag, expression_tag, html_tag, block_tag, inverse_tag, chain_tag, close_tag, raw_tag, raw_close_tag, comment_tag, Tildes}
+use Rattle.std.specs.Str.{trim_start, trim_end}
+
+-- ---- lines
+
+abbrev pub is_blank : ℕ → Bool
+is_blank b = (b == space) || (b == tab)
+
+abbrev pub is_break : ℕ → Bool
+is_break b = (b == newline) || (b == carriage_return)
+
+abbrev pub is_fresh_behind : Bool → ℕ → Bool
+is_fresh_behind fresh b = is_break b || (is_blank b && fresh)
+
+-- nothing but spaces and tabs since the last line's end, or since the source's start
+abbrev pub is_fresh : Text → Bool
+is_fresh before = fold is_fresh_behind true before
+
+-- spaces and tabs, or none, and a line's end
+abbrev pub breaks : Text → Bool
+breaks [] = false
+breaks (b ∷ t) = is_break b || (is_blank b && breaks t)
+
+-- the line ends behind a tag: nothing at all follows, or spaces and tabs, or none, and a line's end
+abbrev pub is_ended : Text → Bool
+is_ended [] = true
+is_ended (b ∷ t) = breaks (b ∷ t)
+
+-- ---- the edges of texts
+
+-- what a tag does to the texts beside it: it may stand alone on its line, it has tildes, and a raw block's text may
+-- follow it
+pub record Edge : Type 0 where
+  pub standalone : Bool
+  pub left : Bool
+  pub right : Bool
+  pub is_raw : Bool
+
+-- at the start and at the end of a source
+abbrev pub no_edge : Edge
+no_edge = record { standalone = false; left = false; right = false; is_raw = false }
+
+-- values never stand alone
+abbrev pub may_stand_alone : Tag → Bool
+may_stand_alone (expression_tag line) = false
+may_stand_alone (html_tag line) = false
+may_stand_alone (block_tag line) = true
+may_stand_alone inverse_tag = true
+may_stand_alone (chain_tag line) = true
+may_stand_alone (close_tag n) = true
+may_stand_alone (raw_tag line) = true
+may_stand_alone (raw_close_tag n) = true
+may_stand_alone (comment_tag t) = true
+
+abbrev pub opens_raw : Tag → Bool
+opens_raw (expression_tag line) = false
+opens_raw (html_tag line) = false
+opens_raw (block_tag line) = false
+opens_raw inverse_tag = false
+opens_raw (chain_tag line) = false
+opens_raw (close_tag n) = false
+opens_raw (raw_tag line) = true
+opens_raw (raw_close_tag n) = false
+opens_raw (comment_tag t) = false
+
+-- Behind a line that is fresh or not, and before the rest, a tag that may stand alone does so if nothing else is on its
+-- line.
+abbrev pub edge_at : Bool → Edge → Text → Edge
+edge_at fresh tag rest = record {
+  standalone = tag.standalone && (fresh && is_ended rest);
+  left = tag.left;
+  right = tag.right;
+  is_raw = tag.is_raw;
+}
+
+-- what a tag does wherever it stands
+abbrev pub sides_of : Tag → Tildes → Edge
+sides_of t tildes = record {
+  standalone = may_stand_alone t;
+  left = tildes.left;
+  right = tildes.right;
+  is_raw = opens_raw t;
+}
+
+-- a tag behind a line that is fresh or not, and before the rest
+abbrev pub edge_with : Bool → Tag → Tildes → Text → Edge
+edge_with fresh t tildes rest = edge_at fresh (sides_of t tildes) rest
+
+-- a tag between two parts of the source
+abbrev pub edge_of : Text → Tag → Tildes → Text → Edge
+edge_of before t tildes rest = edge_with (is_fresh before) t tildes rest
+
+-- how many braces end the text behind a tag
+abbrev pub braces_behind : Edge → Braces
+braces_behind e = if e.is_raw then four_braces else two_braces
+
+-- ---- trimming
+
+-- spaces and tabs in front go
+abbrev pub behind_blanks : Text → Text
+behind_blanks [] = []
+behind_blanks (b ∷ t) = if is_blank b then behind_blanks t else b ∷ t
+
+-- one `\n` or `\r\n` in front goes
+abbrev pub behind_break : Text → Text
+behind_break t = with_or (after newline t) (λ r. r) (with_or (after carriage_return t >>= after newline) (λ r. r) t)
+
+-- After a tilde all white goes, as Unicode has it; else after a tag that stands alone spaces and tabs, and one line's
+-- end.
+abbrev pub trimmed_start : Edge → Text → Text
+trimmed_start e t = if e.right then trim_start t else (if e.standalone then behind_break (behind_blanks t) else t)
+
+-- Before a tilde all white goes; before a tag that stands alone spaces and tabs.
+abbrev pub trimmed_end : Text → Edge → Text
+trimmed_end t e =
+    if e.left then trim_end t else (if e.standalone then take (length t - suffix_len is_blank t) t else t)
+
+-- what is kept of a text between two tags, which is its slice less its dropped backslashes
+abbrev pub trimmed : Edge → Text → Edge → Text
+trimmed before t behind = trimmed_end (trimmed_start before t) behind
+
+-- An empty slice has no element, nor has one of white alone behind a tilde. A raw block's text always has one.
+abbrev pub has_element : Edge → Text → Bool
+has_element before slice = before.is_raw || not ((length slice == 0) || (before.right && list_all is_white slice))
