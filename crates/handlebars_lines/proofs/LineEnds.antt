@@ -1,13 +1,13 @@
 -- Where a line ends no item stands: `as` and a bar behind it are none.
-use Rattle.std.proofs.Common.{◌≡◌, ℕ, Bool, true, false, List, [], ◌∷◌, ◌++◌, None, Some, refl, sym, ap, subst, ◌∙◌, inl, inr}
+use Rattle.std.proofs.Common.{◌≡◌, ℕ, Bool, true, false, List, [], ◌∷◌, ◌++◌, None, Some, refl, sym, ap, ◌∙◌, inl, inr}
 use Rattle.std.specs.Prelude.{◌==◌}
 use Rattle.std.proofs.lemmas.Bool.{cases_Bool, both_ways}
 use Rattle.handlebars_base.specs.Bytes.{is_white}
 use Rattle.handlebars_base.specs.Path.{plain, in_parts, IsPath, Reference, meaning}
-use Rattle.handlebars_base.specs.PathReading.{after, behind_symbols, starts_reference, stops, slice_at}
+use Rattle.handlebars_base.specs.PathReading.{behind_symbols, starts_reference, stops, slice_at}
 use Rattle.handlebars_lines.specs.Runs.{goes, stuck}
-use Rattle.handlebars_lines.specs.Literal.{IsWhite, Literal, quoted, single_quoted, number, word, empty, filled, array, object, is_number, is_word, IsLiteralAt, spelled_literal, goes_on, starts}
-use Rattle.handlebars_lines.specs.LiteralReading.{behind_white, literal_at, run_of}
+use Rattle.handlebars_lines.specs.Literal.{IsWhite, Literal, quoted, single_quoted, number, word, empty, filled, array, object, is_number, is_word, IsLiteralAt, goes_on, starts}
+use Rattle.handlebars_lines.specs.LiteralReading.{behind_white, run_of}
 use Rattle.handlebars_lines.specs.Binding.{begins_binding}
 use Rattle.handlebars_lines.specs.Line.{Enclosure, in_tag, in_block, in_parentheses, ends_tag, is_end}
 use Rattle.handlebars_lines.specs.LineReading.{Event, State, key_at, parameter_step, item_step}

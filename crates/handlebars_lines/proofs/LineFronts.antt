@@ -1,7 +1,7 @@
 -- With which bytes parameters begin, and what may follow them, so that no key is read where none stands.
 use Rattle.std.proofs.Common.{◌≡◌, ◌≢◌, ℕ, suc, ◌+◌, Bool, true, false, ◌||◌, List, [], ◌∷◌, ◌++◌, length, drop, None, refl, sym, ap, subst, ◌∙◌, append_assoc, append-nil, arith, inl, inr}
 use Rattle.std.specs.Prelude.{◌==◌}
-use Rattle.std.specs.List.{prefix_len, AllByRecursion}
+use Rattle.std.specs.List.{AllByRecursion}
 use Rattle.std.proofs.lemmas.Bool.{eqb-true, cases_Bool, or_cases, or_parts, not-false}
 use Rattle.handlebars_base.specs.Bytes.{is_white}
 use Rattle.handlebars_base.specs.Path.{is_symbol, IsIdentifier, Reference, IsPath}

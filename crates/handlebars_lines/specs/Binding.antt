@@ -1,5 +1,5 @@
 -- Block parameters: one name or two between bars, behind `as`.
-use Rattle.std.specs.Prelude.{◌≡◌, ◌≢◌, ℕ, Bool, false, if◌then◌else◌, [], ◌∷◌, ◌++◌, codes, Option, Some, None, is_some}
+use Rattle.std.specs.Prelude.{◌≡◌, ◌≢◌, ℕ, Bool, false, if◌then◌else◌, [], ◌∷◌, ◌++◌, codes, Option, None, is_some}
 use Rattle.std.specs.Str.{bytes_eq}
 use Rattle.handlebars_base.specs.Bytes.{Text, is_white, behind_white}
 use Rattle.handlebars_base.specs.Path.{IsIdentifier}

@@ -10,6 +10,9 @@ ghost use Rattle.handlebars_lines.specs.LineView.{texts_of};
 use crate::marks::starts_white;
 use handlebars_base::json::path::marks::{after, behind_white, symbols};
 
+#[cfg(test)]
+mod tests;
+
 /// The names that a block gives to what it shows.
 #[derive(Clone, Copy, Debug, PartialEq, Eq)]
 pub enum Binding<'a> {
@@ -39,7 +42,7 @@ fn behind_bar(text: &str) -> Option<&str>
 
 /// What follows the first bar, where block parameters are begun.
 #[tactic(auto, unfolding(crate::specs::Binding::behind_beginning))]
-pub fn behind_beginning(text: &str) -> Option<&str>
+pub(crate) fn behind_beginning(text: &str) -> Option<&str>
     ensures { option_map (λ rest. rest.now) result ≡ behind_beginning text.now }
 {
     if starts_white(text) {
