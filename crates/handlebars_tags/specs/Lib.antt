@@ -2,3 +2,8 @@ pub mod Text
 pub mod Kind
 pub mod KindView
 pub mod Comment
+pub mod CommentView
+pub mod Tag
+pub mod TagReading
+pub mod TagView
+pub mod Trim

@@ -1,5 +1,6 @@
 //! The texts and the tags of a source, one after the other, without a tree.
 #![tactic(auto)]
 
-mod marks;
+mod comment;
+mod front;
 pub mod tag;
