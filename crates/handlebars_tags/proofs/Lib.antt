@@ -1,1 +1,3 @@
 pub mod Pasts
+pub mod LineNames
+pub mod BlockLines
