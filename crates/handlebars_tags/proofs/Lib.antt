@@ -1,3 +1,7 @@
-pub mod Pasts
+pub mod Runs
+pub mod Texts
+pub mod OneText
+pub mod Marks
+pub mod Comments
 pub mod LineNames
 pub mod BlockLines

@@ -1,8 +1,10 @@
 pub mod Text
+pub mod TextReading
+pub mod TextView
 pub mod Kind
 pub mod KindView
 pub mod Comment
-pub mod CommentView
+pub mod CommentReading
 pub mod Tag
 pub mod TagReading
 pub mod TagView

@@ -1,8 +1,8 @@
 //! Tags: what stands at the braces in front of a source.
 
 ghost use Rattle.std.specs.Prelude.{◌≡◌, IfOk, IfSome, MatchOption};
-ghost use Rattle.handlebars_tags.specs.CommentView.{HasNoLong};
 ghost use Rattle.handlebars_tags.specs.Tag.{NoTag};
+ghost use Rattle.handlebars_tags.specs.TagReading.{HasNoLong};
 ghost use Rattle.handlebars_tags.specs.TagView.{HasTag};
 
 use beginning::beginning_of;

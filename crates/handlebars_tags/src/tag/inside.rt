@@ -1,15 +1,14 @@
 //! What stands inside tags, with what closes it.
 
-ghost use Rattle.std.specs.Prelude.{◌≡◌, true, ◌++◌, IfOk, IfSome, MatchOption, None, codes};
+ghost use Rattle.std.specs.Prelude.{◌≡◌, true, IfOk, IfSome, MatchOption, Some, None, codes, drop};
 ghost use Rattle.std.specs.List.{list_all};
 ghost use Rattle.std.specs.Option.{option_map};
 ghost use Rattle.handlebars_base.specs.Bytes.{Text};
 ghost use Rattle.handlebars_base.specs.Path.{is_symbol};
 ghost use Rattle.handlebars_lines.specs.Line.{Line, in_block, IsLine};
-ghost use Rattle.handlebars_tags.specs.Kind.{closing_of, Kind, comment_kind, else_kind, block_kind, raw_kind, raw_close_kind, close_kind};
+ghost use Rattle.handlebars_tags.specs.Kind.{past, closing_of, comment_kind, else_kind, block_kind, raw_kind, raw_close_kind, close_kind};
 ghost use Rattle.handlebars_tags.specs.KindView.{kind_of};
-ghost use Rattle.handlebars_tags.specs.CommentView.{HasNoLong};
-ghost use Rattle.handlebars_tags.specs.TagReading.{identifier_of, NoBlockLine, NoneClosed, NoClosedLine};
+ghost use Rattle.handlebars_tags.specs.TagReading.{HasNoLong, identifier_of, NoBlockLine, NoneClosed, NoClosedLine};
 ghost use Rattle.handlebars_tags.specs.TagView.{HasBlock, HasClosing, HasClosedLine, HasInside};
 
 use super::beginning::{Beginning, Kind};
@@ -69,8 +68,8 @@ pub fn inside_at<'a>(
     left: &'a str,
     long_ahead: bool,
 ) -> Result<Option<Inside<'a>>, AllocError>
-    requires comment { kind_of begins.kind ≡ comment_kind → left.now ≡ codes "{{!" ++ begins.inside.now }
-    requires ahead { HasNoLong long_ahead begins.inside.now }
+    requires comment { kind_of begins.kind ≡ comment_kind → past (codes "{{!") left.now ≡ Some begins.inside.now }
+    requires ahead { HasNoLong long_ahead left.now }
     ensures reads { IfOk result (λ read. MatchOption read (NoneClosed (kind_of begins.entry.kind) begins.entry.inside.now)
         (λ inside. HasInside (kind_of begins.entry.kind) begins.entry.inside.now inside)) }
     ensures ahead { IfOk result (λ read. IfSome read (λ inside. HasNoLong inside.long_ahead inside.rest.now)) }
@@ -86,7 +85,7 @@ pub fn inside_at<'a>(
         Kind::Else => inverse(alloc, text),
         Kind::Raw => raw_block(alloc, text),
         Kind::RawClose => Ok(raw_close(text)),
-        Kind::Comment => Ok(comment(text, left, long_ahead)),
+        Kind::Comment => Ok(comment(left, long_ahead)),
         Kind::Other => Ok(None),
     }
 }
@@ -196,14 +195,15 @@ fn raw_close(text: &str) -> Option<Inside<'_>>
     }
 }
 
-fn comment<'a>(text: &'a str, left: &'a str, long_ahead: bool) -> Option<Inside<'a>>
-    requires braces { left.now ≡ codes "{{!" ++ text.now }
-    requires ahead { HasNoLong long_ahead text.now }
-    ensures reads { MatchOption result (NoneClosed comment_kind text.now)
-        (λ inside. HasInside comment_kind text.now inside) }
+/// A comment, by the source from its braces on.
+fn comment(left: &str, long_ahead: bool) -> Option<Inside<'_>>
+    requires begins { past (codes "{{!") left.now ≡ Some (drop 3 left.now) }
+    requires ahead { HasNoLong long_ahead left.now }
+    ensures reads { MatchOption result (NoneClosed comment_kind (drop 3 left.now))
+        (λ inside. HasInside comment_kind (drop 3 left.now) inside) }
     ensures ahead { IfSome result (λ inside. HasNoLong inside.long_ahead inside.rest.now) }
 {
-    match split_comment(text, left, long_ahead) {
+    match split_comment(left, long_ahead) {
         Some(slice) => Some(Inside {
             content: Content::Comment(slice.text),
             right: false,
