@@ -5,3 +5,6 @@ pub mod Marks
 pub mod Comments
 pub mod LineNames
 pub mod BlockLines
+pub mod CloseNames
+pub mod Insides
+pub mod InsidesRead

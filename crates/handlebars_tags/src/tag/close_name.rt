@@ -16,7 +16,7 @@ pub fn close_name_at(text: &str) -> (&str, &str)
         [b'[', ..] => enclosed_at(b']', text),
         [b'\'', ..] => enclosed_at(b'\'', text),
         [_, ..] => text.split_at(close_symbols_len(text.as_bytes())),
-        [] => text.split_at(0),
+        [] => ("", text),
     }
 }
 
@@ -27,7 +27,7 @@ fn enclosed_at(mark: u8, text: &str) -> (&str, &str)
 {
     match place_behind_first(mark, text.as_bytes()) {
         Some(n) => text.split_at(n + 2),
-        None => text.split_at(0),
+        None => ("", text),
     }
 }
 
