@@ -1,18 +1,21 @@
 -- What is read inside tags stands there.
-use Rattle.std.proofs.Common.{◌≡◌, ◌≢◌, ℕ, Bool, true, [], Option, Some, None, refl, sym, ap, subst, ◌∙◌}
+use Rattle.std.proofs.Common.{◌≡◌, ◌≢◌, ℕ, Bool, true, false, [], Option, Some, None, refl, sym, ap, subst, ◌∙◌}
 use Rattle.std.specs.Option.{MatchOption}
 use denote.Ref.{Bor}
 use Rattle.handlebars_base.specs.Bytes.{Text, behind_white}
 use Rattle.handlebars_lines.specs.Line.{Line, in_tag, IsLine}
 use Rattle.handlebars_tags.specs.Kind.{Kind, expression_kind, html_kind, html_sign_kind, block_kind, close_kind, inverse_kind, else_kind, raw_kind, raw_close_kind, comment_kind, closing_of}
-use Rattle.handlebars_tags.specs.Tag.{Tag, tag_depth, expression_tag, html_tag, BlockLine, IsBlockLine, Says, a_value, a_raw_value, a_signed_value}
+use Rattle.handlebars_tags.specs.Tag.{Tag, tag_depth, expression_tag, html_tag, BlockLine, IsBlockLine, Says, a_value, a_raw_value, a_signed_value, inverse_tag, close_tag, raw_close_tag, close_name_at, a_close, a_raw_close, an_inverse, comment_tag, a_comment}
+use Rattle.handlebars_tags.specs.Comment.{IsComment}
 use Rattle.handlebars_tags.specs.TagReading.{NoClosedLine, NoneClosed, NoBlockLine}
 use Rattle.handlebars_tags.specs.TagView.{Holds, HoldsLine, HoldsBlock, HasBlock, HasClosing, HasClosedLine, HasInside}
 use Rattle.handlebars_tags.specs.declared.tag.inside.Inside.{Inside}
 use Rattle.handlebars_tags.specs.declared.tag.inside.Content.{Content}
-use Rattle.handlebars_tags.specs.declared.tag.inside.Content.TheVariants.{Expression, Html}
+use Rattle.handlebars_tags.specs.declared.tag.inside.Content.TheVariants.{Expression, Html, Inverse, Close, RawClose, Comment}
+use Rattle.handlebars_base.specs.PathReading.{symbols_of, behind_symbols}
+use Rattle.handlebars_lines.specs.LineView.{texts_of}
 use Rattle.handlebars_tags.specs.declared.tag.inside.BlockRead.{BlockRead}
-use Rattle.handlebars_tags.proofs.Insides.{OnlyBlock, none-closed_line, none-expression, none-html, none-html_sign, none_closing-block}
+use Rattle.handlebars_tags.proofs.Insides.{OnlyBlock, none-closed_line, none-expression, none-html, none-html_sign, none_closing-block, none-close, none-raw_close, none-inverse}
 
 -- ---- values
 
@@ -85,3 +88,41 @@ text_read k t behind tag content i says deep holds h = (record {
   deep = deep ∙ sym h.deep;
   holds = subst (λ (z : Content). Holds z tag) (sym h.is_content) holds;
 }, h.ahead)
+
+pub close_read : (t : Text) (name behind : Bor Text) (r : Option Inside) → texts_of (name, behind) ≡ close_name_at t
+    → MatchOption r (closing_of close_kind behind.now ≡ None) (λ i. HasClosing close_kind behind.now (Close name) 0 i)
+    → MatchOption r (NoneClosed close_kind t) (λ i. HasInside close_kind t i × (i.long_ahead ≡ true))
+close_read t name behind None e none = none-close t (ap (λ (p : Text × Text). closing_of close_kind p.1) (sym e) ∙ none)
+close_read t name behind (Some i) e h =
+    let names : name.now ≡ (close_name_at t).0 = ap (λ (p : Text × Text). p.0) e in
+    let behinds : behind.now ≡ (close_name_at t).1 = ap (λ (p : Text × Text). p.1) e in
+    text_read close_kind t (close_name_at t).1 (close_tag (close_name_at t).0) (Close name) i (a_close t) refl (ap close_tag (sym names))
+    (subst (λ (z : Text). HasClosing close_kind z (Close name) 0 i) behinds h)
+
+pub raw_close_read : (t : Text) (name behind : Bor Text) (r : Option Inside) → name.now ≡ symbols_of t → behind.now ≡ behind_symbols t → name.now ≢ []
+    → MatchOption r (closing_of raw_close_kind behind.now ≡ None) (λ i. HasClosing raw_close_kind behind.now (RawClose name) 0 i)
+    → MatchOption r (NoneClosed raw_close_kind t) (λ i. HasInside raw_close_kind t i × (i.long_ahead ≡ true))
+raw_close_read t name behind None n b some none = none-raw_close t (ap (closing_of raw_close_kind) (sym b) ∙ none)
+raw_close_read t name behind (Some i) n b some h =
+    text_read raw_close_kind t (behind_symbols t) (raw_close_tag (symbols_of t)) (RawClose name) i (a_raw_close t (λ e. some (n ∙ e))) refl (ap raw_close_tag (sym n))
+    (subst (λ (z : Text). HasClosing raw_close_kind z (RawClose name) 0 i) b h)
+
+pub inverse_read : (t : Text) (r : Option Inside) → MatchOption r (closing_of inverse_kind t ≡ None) (λ i. HasClosing inverse_kind t Inverse 0 i)
+    → MatchOption r (NoneClosed inverse_kind t) (λ i. HasInside inverse_kind t i)
+inverse_read t None none = none-inverse t none
+inverse_read t (Some i) h = (text_read inverse_kind t t inverse_tag Inverse i (an_inverse t) refl refl h).0
+
+-- ---- comments
+
+comment_closes : (t : Text) → closing_of comment_kind t ≡ Some (false, t)
+unfolding closing_of
+comment_closes t = refl
+
+pub comment_read : (t : Text) (text rest : Bor Text) (long_ahead : Bool) → IsComment t text.now rest.now
+    → HasInside comment_kind t (record { content = Comment text; right = false; depth = 0; rest = rest; long_ahead = long_ahead })
+comment_read t text rest long_ahead is = record {
+  tag = comment_tag text.now;
+  is = record { behind = rest.now; says = a_comment is; closes = comment_closes rest.now };
+  deep = refl;
+  holds = refl;
+}

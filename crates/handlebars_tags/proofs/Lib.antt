@@ -8,3 +8,5 @@ pub mod BlockLines
 pub mod CloseNames
 pub mod Insides
 pub mod InsidesRead
+pub mod BlocksRead
+pub mod Beginnings
