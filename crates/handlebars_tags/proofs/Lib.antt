@@ -10,3 +10,4 @@ pub mod Insides
 pub mod InsidesRead
 pub mod BlocksRead
 pub mod Beginnings
+pub mod InsideAt
