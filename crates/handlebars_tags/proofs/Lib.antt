@@ -11,3 +11,5 @@ pub mod InsidesRead
 pub mod BlocksRead
 pub mod Beginnings
 pub mod InsideAt
+pub mod TagEnds
+pub mod Tags

@@ -50,7 +50,7 @@ pub fn split_tag<'a>(
             right: read.right,
             depth: read.depth,
             rest: read.rest,
-            long_ahead: read.long_ahead,
+            long_ahead: long_ahead && read.long_ahead,
         })),
         None => Ok(None),
     }
