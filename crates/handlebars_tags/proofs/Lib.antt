@@ -13,3 +13,4 @@ pub mod Beginnings
 pub mod InsideAt
 pub mod TagEnds
 pub mod Tags
+pub mod OneTag

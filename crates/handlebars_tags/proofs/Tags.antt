@@ -14,7 +14,7 @@ use Rattle.handlebars_tags.proofs.TagEnds.{end-closed}
 -- ---- what is inside a tag is closed
 
 -- a tag in front of the text that begins so
-tag-closed : (left slice rest : Text) (b : Beginning) (t : Tag) (tildes : Tildes) → beginning_of left ≡ Some b → left ≡ slice ++ rest → IsTag slice rest t tildes
+pub tag-closed : (left slice rest : Text) (b : Beginning) (t : Tag) (tildes : Tildes) → beginning_of left ≡ Some b → left ≡ slice ++ rest → IsTag slice rest t tildes
     → IsClosed b.kind b.inside t tildes.right rest × (b.tilde ≡ tildes.left)
 tag-closed left slice rest b t tildes e whole is =
     let same : is.begins ≡ b = same_Some is.begins b (sym is.is_beginning ∙ ap beginning_of (sym whole) ∙ e) in
