@@ -4,3 +4,14 @@ pub mod OneText
 pub mod Marks
 pub mod Comments
 pub mod Trims
+pub mod LineNames
+pub mod BlockLines
+pub mod CloseNames
+pub mod Insides
+pub mod InsidesRead
+pub mod BlocksRead
+pub mod Beginnings
+pub mod InsideAt
+pub mod TagEnds
+pub mod Tags
+pub mod OneTag

@@ -2,6 +2,8 @@
 #![tactic(auto)]
 
 pub mod comment;
+mod front;
 pub mod laws;
+pub mod tag;
 pub mod text;
 pub mod trim;
