@@ -14,3 +14,4 @@ pub mod InsideAt
 pub mod TagEnds
 pub mod Tags
 pub mod OneTag
+pub mod Trims

@@ -9,3 +9,4 @@ pub mod Tag
 pub mod TagReading
 pub mod TagView
 pub mod Trim
+pub mod TrimView

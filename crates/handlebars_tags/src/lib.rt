@@ -6,3 +6,4 @@ mod front;
 pub mod laws;
 pub mod tag;
 pub mod text;
+pub mod trim;
