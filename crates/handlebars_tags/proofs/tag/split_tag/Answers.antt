@@ -1,7 +1,7 @@
-use Rattle.std.proofs.Common.{◌≡◌, false, sym, ◌∙◌}
+use Rattle.std.proofs.Common.{sym, ◌∙◌}
 use Rattle.handlebars_tags.specs.KindView.{beginning_view}
 use Rattle.handlebars_tags.proofs.Beginnings.{begun}
-use Rattle.handlebars_tags.proofs.Comments.{long_ahead-end}
+use Rattle.handlebars_tags.proofs.Comments.{HasNoLong-end}
 use Rattle.handlebars_tags.proofs.Tags.{none-beginning, none-inside, end-inside, tag_read}
 use Rattle.handlebars_tags.proofs.tag.split_tag.Goals as goal
 use Rattle.handlebars_tags.proofs.tag.split_tag.Goals.{then-long_ahead, else-long_ahead}
@@ -28,5 +28,5 @@ returns-after-long_ahead-clause-ahead c =
     let end = end-inside c.args.left.now (beginning_view c.in-Some.begins) read (sym c.in-Some.ensures) inside in
     elim c.if-long_ahead.branch [
       | then-long_ahead w ↦ λ none. rw c.in-Some-2.is at c.in_ok-read.ensures.ahead (sym w.result-is ∙ none)
-      | else-long_ahead w ↦ λ none. long_ahead-end c.args.left.now read.rest.now end (c.requires w.if-long_ahead.false)
+      | else-long_ahead w ↦ λ none. HasNoLong-end c.args.long_ahead c.args.left.now read.rest.now end c.requires w.if-long_ahead.false
     ]
