@@ -1,2 +1,2 @@
 mod Pairs
-mod Rows
+mod Entries

@@ -107,7 +107,7 @@ impl<'rc> Helper<'rc> {
         self.inverse
     }
 
-    /// Whether the call has a body, or has a place for one.
+    /// Whether it is written as a block.
     pub fn is_block(&self) -> bool
         ensures { result ≡ (helper_view self.now).block }
     {

@@ -1,5 +1,5 @@
 use Rattle.std.specs.declared.alloc.Global.{Global}
-use Rattle.handlebars_helpers.proofs.Rows.{kind_at-insert}
+use Rattle.handlebars_helpers.proofs.Entries.{kind_at-insert}
 use Rattle.handlebars_helpers.specs.declared.built_in.HelperEntry.TheVariants.{Built}
 use Rattle.handlebars_helpers.proofs.built_in.put.Goals as goal
 
