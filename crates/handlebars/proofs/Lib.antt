@@ -1,4 +1,5 @@
 pub mod RunLaws
+pub mod Gives
 pub mod RunOrigins
 pub mod Carry
 pub mod Puts
@@ -8,5 +9,4 @@ pub mod Lists
 pub mod AnswerLaws
 pub mod Stored
 pub mod Texts
-pub mod WorkedRows
 mod Values
