@@ -8,5 +8,5 @@ pub mod Lists
 pub mod AnswerLaws
 pub mod Stored
 pub mod Texts
-pub mod WorkedRows
-mod Values
+mod Evaluates
+pub mod Values

@@ -8,9 +8,12 @@ ghost use Rattle.handlebars.specs.Steps.{Steps};
 ghost use Rattle.handlebars.specs.Means.{render_tree, render_alone};
 ghost use Rattle.handlebars.specs.View.{setting_of, state_of, root_of, has_failed, moment, CarriesOut, GivesString, RefusesString};
 
+mod called;
 mod context;
 mod element;
 mod expand;
+mod lone;
+mod registered;
 mod setting;
 mod tree;
 mod value;
@@ -20,6 +23,7 @@ use crate::render::setting::Setting;
 use crate::render::tree::{render_alone, render_tree};
 pub use context::RenderContext;
 pub use expand::Expand;
+pub use registered::Registered;
 use handlebars_base::error::{RenderError, RenderErrorReason};
 use handlebars_scope::context::Context;
 use handlebars_scope::output::{Output, StringOutput};
@@ -78,7 +82,7 @@ impl Renderable for Template {
     fn render<L: Log, O: Output>(
         &self,
         alloc: Global,
-        _registry: &Registry,
+        registry: &Registry,
         data: &Context,
         rc: &mut RenderContext,
         out: &mut O,
@@ -86,7 +90,7 @@ impl Renderable for Template {
     ) -> Result<(), RenderError> {
         ready(rc)?;
         let given = data.data();
-        let answer = render_tree(&Setting { alloc, given }, self, rc, out);
+        let answer = render_tree(&Setting { alloc, parts: registry, given }, self, rc, out);
         fail_after(rc, answer)
     }
 
@@ -137,7 +141,7 @@ impl Renderable for TemplateElement {
     fn render<L: Log, O: Output>(
         &self,
         alloc: Global,
-        _registry: &Registry,
+        registry: &Registry,
         data: &Context,
         rc: &mut RenderContext,
         out: &mut O,
@@ -145,7 +149,7 @@ impl Renderable for TemplateElement {
     ) -> Result<(), RenderError> {
         ready(rc)?;
         let given = data.data();
-        let answer = render_alone(&Setting { alloc, given }, self, rc, out);
+        let answer = render_alone(&Setting { alloc, parts: registry, given }, self, rc, out);
         fail_after(rc, answer)
     }
 

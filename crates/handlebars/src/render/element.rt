@@ -2,19 +2,17 @@
 
 ghost use Rattle.std.specs.Prelude.{◌≡◌, option_map};
 ghost use Rattle.serde_json.specs.View.{view};
-ghost use Rattle.handlebars_base.specs.Answers.{IsRefusal};
-ghost use Rattle.handlebars_base.specs.Reasons.{decorator_not_found, partial_not_found};
-ghost use Rattle.handlebars_template.specs.TreeView.{element_view, call_view, decorator_view};
+ghost use Rattle.handlebars_template.specs.TreeView.{element_view, call_view};
 ghost use Rattle.handlebars_scope.specs.Sites.{Site};
-ghost use Rattle.handlebars.specs.State.{State};
-ghost use Rattle.handlebars.specs.Expand.{not_found, view_of_tag};
 ghost use Rattle.handlebars.specs.Means.{render_element, render_expression, shown_if_any, unescaped};
 ghost use Rattle.handlebars.specs.Steps.{run};
 ghost use Rattle.handlebars.specs.View.{setting_in, state_of, moment, CarriesOn, CarriesOut, Puts, IsKept};
 
 use crate::render::context::RenderContext;
+use crate::render::registered::Registered;
 use crate::render::setting::Setting;
-use crate::render::value::{helper_not_found, tag_name, value_of};
+use crate::render::called::{helper_not_found, view_of_call, view_of_tag};
+use crate::render::lone::{lone_name, lone_value};
 use handlebars_base::error::{RenderError, RenderErrorReason};
 use handlebars_base::json::value::Json;
 use handlebars_scope::output::{Output, output_fault};
@@ -22,13 +20,13 @@ use handlebars_scope::value::write_value;
 use handlebars_template::template::{DecoratorTemplate, HelperTemplate, TemplateElement};
 
 /// Renders one element of a tree.
-pub fn render_element<O: Output>(
-    setting: &Setting,
+pub fn render_element<O: Output, P: Registered>(
+    setting: &Setting<P>,
     element: &TemplateElement,
     rc: &mut RenderContext,
     out: &mut O,
 ) -> Result<(), RenderError>
-    ensures renders { (site : Site) → CarriesOut (setting_in setting.now) (run (render_element (setting_in setting.now) site (element_view element.now)))
+    ensures renders { (site : Site) → CarriesOut (setting_in P.parts setting.now) (run (render_element (setting_in P.parts setting.now) site (element_view element.now)))
         O.may_give (moment rc.old (O.held out.old)) result (moment rc.new (O.held out.new)) }
     ensures kept { IsKept rc.old rc.new }
 {
@@ -37,7 +35,7 @@ pub fn render_element<O: Output>(
         TemplateElement::Expression(helper) => render_expression(setting, helper, rc, out),
         TemplateElement::Comment(_) => Ok(()),
         TemplateElement::HtmlExpression(helper) => render_unescaped(setting, helper, rc, out),
-        TemplateElement::HelperBlock(helper) => Err(helper_not_found(setting, helper)),
+        TemplateElement::HelperBlock(helper) => Err(call_refused(setting, helper)),
         TemplateElement::DecoratorExpression(tag) => Err(decorator_not_found(setting, tag)),
         TemplateElement::DecoratorBlock(tag) => Err(decorator_not_found(setting, tag)),
         TemplateElement::PartialExpression(tag) => Err(partial_not_found(setting, tag)),
@@ -46,13 +44,13 @@ pub fn render_element<O: Output>(
 }
 
 // An expression with escaping off, which is restored before a refusal goes on.
-fn render_unescaped<O: Output>(
-    setting: &Setting,
+fn render_unescaped<O: Output, P: Registered>(
+    setting: &Setting<P>,
     helper: &HelperTemplate,
     rc: &mut RenderContext,
     out: &mut O,
 ) -> Result<(), RenderError>
-    ensures renders { (site : Site) → CarriesOut (setting_in setting.now) (run (unescaped (render_expression (setting_in setting.now) site (call_view helper.now))))
+    ensures renders { (site : Site) → CarriesOut (setting_in P.parts setting.now) (run (unescaped (render_expression (setting_in P.parts setting.now) site (call_view helper.now))))
         O.may_give (moment rc.old (O.held out.old)) result (moment rc.new (O.held out.new)) }
     ensures kept { IsKept rc.old rc.new }
 {
@@ -64,19 +62,26 @@ fn render_unescaped<O: Output>(
 }
 
 // Writes the value of an expression.
-fn render_expression<O: Output>(
-    setting: &Setting,
+fn render_expression<O: Output, P: Registered>(
+    setting: &Setting<P>,
     helper: &HelperTemplate,
     rc: &mut RenderContext,
     out: &mut O,
 ) -> Result<(), RenderError>
-    ensures renders { (site : Site) → CarriesOn (setting_in setting.now) (render_expression (setting_in setting.now) site (call_view helper.now))
+    ensures renders { (site : Site) → CarriesOn (setting_in P.parts setting.now) (render_expression (setting_in P.parts setting.now) site (call_view helper.now))
         O.may_give (moment rc.old (O.held out.old)) result (moment rc.new (O.held out.new)) }
     ensures kept { IsKept rc.old rc.new }
 {
-    match value_of(setting, helper) {
-        Ok(value) => write_found(value, rc, out),
-        Err(e) => Err(e),
+    if helper.is_value() {
+        match lone_name(setting, &helper.name) {
+            Ok(lone) => match lone_value(setting, &helper.name, lone.value) {
+                Ok(value) => write_found(value.as_json(), rc, out),
+                Err(e) => Err(e),
+            },
+            Err(e) => Err(e),
+        }
+    } else {
+        Err(call_refused(setting, helper))
     }
 }
 
@@ -115,21 +120,30 @@ fn write_text<O: Output>(text: &str, rc: &mut RenderContext, out: &mut O) -> Res
     }
 }
 
-// The refusals of decorators and inclusions, for which nothing is registered.
-fn decorator_not_found(setting: &Setting, tag: &DecoratorTemplate) -> RenderError
-    ensures { (s : State) → IsRefusal (not_found decorator_not_found (view_of_tag (setting_in setting.now) s (decorator_view tag.now))) result }
-{
-    match tag_name(setting, tag) {
-        Ok(name) => RenderErrorReason::DecoratorNotFound(name).into(),
+fn call_refused<P: Registered>(setting: &Setting<P>, helper: &HelperTemplate) -> RenderError {
+    match view_of_call(setting, helper) {
+        Ok(view) => helper_not_found(setting.alloc, view.name()),
         Err(e) => e,
     }
 }
 
-fn partial_not_found(setting: &Setting, tag: &DecoratorTemplate) -> RenderError
-    ensures { (s : State) → IsRefusal (not_found partial_not_found (view_of_tag (setting_in setting.now) s (decorator_view tag.now))) result }
-{
-    match tag_name(setting, tag) {
-        Ok(name) => RenderErrorReason::PartialNotFound(name).into(),
+// The refusals of decorators and inclusions, for which nothing is registered.
+fn decorator_not_found<P: Registered>(setting: &Setting<P>, tag: &DecoratorTemplate) -> RenderError {
+    match view_of_tag(setting, tag) {
+        Ok(view) => match view.name.into_owned(setting.alloc) {
+            Ok(name) => RenderErrorReason::DecoratorNotFound(name).into(),
+            Err(e) => e.into(),
+        },
+        Err(e) => e,
+    }
+}
+
+fn partial_not_found<P: Registered>(setting: &Setting<P>, tag: &DecoratorTemplate) -> RenderError {
+    match view_of_tag(setting, tag) {
+        Ok(view) => match view.name.into_owned(setting.alloc) {
+            Ok(name) => RenderErrorReason::PartialNotFound(name).into(),
+            Err(e) => e.into(),
+        },
         Err(e) => e,
     }
 }

@@ -12,19 +12,20 @@ ghost use Rattle.handlebars.specs.View.{setting_in, moment, CarriesOut, IsKept};
 
 use crate::render::context::RenderContext;
 use crate::render::element::render_element;
+use crate::render::registered::Registered;
 use crate::render::setting::Setting;
 use handlebars_base::error::RenderError;
 use handlebars_scope::output::Output;
 use handlebars_template::template::{Template, TemplateElement, TemplateMapping};
 
 /// Renders a tree; a refusal takes its name, where none is known yet.
-pub fn render_tree<O: Output>(
-    setting: &Setting,
+pub fn render_tree<O: Output, P: Registered>(
+    setting: &Setting<P>,
     template: &Template,
     rc: &mut RenderContext,
     out: &mut O,
 ) -> Result<(), RenderError>
-    ensures renders { CarriesOut (setting_in setting.now) (render_tree (tree_view template.now))
+    ensures renders { CarriesOut (setting_in P.parts setting.now) (render_tree (tree_view template.now))
         O.may_give (moment rc.old (O.held out.old)) result (moment rc.new (O.held out.new)) }
     ensures kept { IsKept rc.old rc.new }
 {
@@ -35,13 +36,13 @@ pub fn render_tree<O: Output>(
 }
 
 /// Renders an element that stands in no tree.
-pub fn render_alone<O: Output>(
-    setting: &Setting,
+pub fn render_alone<O: Output, P: Registered>(
+    setting: &Setting<P>,
     element: &TemplateElement,
     rc: &mut RenderContext,
     out: &mut O,
 ) -> Result<(), RenderError>
-    ensures renders { CarriesOut (setting_in setting.now) (render_alone (element_view element.now))
+    ensures renders { CarriesOut (setting_in P.parts setting.now) (render_alone (element_view element.now))
         O.may_give (moment rc.old (O.held out.old)) result (moment rc.new (O.held out.new)) }
     ensures kept { IsKept rc.old rc.new }
 {
@@ -49,13 +50,13 @@ pub fn render_alone<O: Output>(
 }
 
 // The name and the elements of a tree.
-fn render_whole<O: Output>(
-    setting: &Setting,
+fn render_whole<O: Output, P: Registered>(
+    setting: &Setting<P>,
     template: &Template,
     rc: &mut RenderContext,
     out: &mut O,
 ) -> Result<(), RenderError>
-    ensures renders { CarriesOut (setting_in setting.now) (run (render_whole first_tree (tree_view template.now)))
+    ensures renders { CarriesOut (setting_in P.parts setting.now) (run (render_whole first_tree (tree_view template.now)))
         O.may_give (moment rc.old (O.held out.old)) result (moment rc.new (O.held out.new)) }
     ensures kept { IsKept rc.old rc.new }
 {
@@ -80,7 +81,7 @@ fn placed(error: RenderError, place: Option<&TemplateMapping>) -> RenderError
 }
 
 // With the name of a template, where it has one and none is known yet.
-fn named(setting: &Setting, error: RenderError, name: &Option<String>) -> RenderError
+fn named<P>(setting: &Setting<P>, error: RenderError, name: &Option<String>) -> RenderError
     ensures spot { reason_in result ≢ out_of_memory → spot_of result ≡ named_as (option_map string_bytes name.now) (spot_of error) }
     ensures cause { reason_in result ≢ out_of_memory → cause_of result ≡ cause_of error }
     ensures memory { reason_in error ≡ out_of_memory → reason_in result ≡ out_of_memory }
