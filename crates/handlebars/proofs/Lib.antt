@@ -9,4 +9,5 @@ pub mod Lists
 pub mod AnswerLaws
 pub mod Stored
 pub mod Texts
-mod Values
+mod Evaluates
+pub mod Values

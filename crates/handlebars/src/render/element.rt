@@ -1,21 +1,21 @@
 //! Rendering an element.
 
-ghost use Rattle.std.specs.Prelude.{◌≡◌, ◌≢◌, option_map};
+ghost use Rattle.std.specs.Prelude.{◌≡◌, ◌≢◌, [], option_map};
 ghost use Rattle.std.specs.Cow.{cow_str_bytes};
-ghost use Rattle.serde_json.specs.View.{view};
-ghost use Rattle.handlebars_base.specs.Reasons.{out_of_memory};
-ghost use Rattle.handlebars_base.specs.RenderRefusals.{reason_in, refusal_of};
-ghost use Rattle.handlebars_base.specs.Scoped.{found_of, present_in};
+ghost use Rattle.handlebars_base.specs.Answers.{IsRefusal};
+ghost use Rattle.handlebars_base.specs.Reasons.{out_of_memory, decorator_not_found, partial_not_found};
+ghost use Rattle.handlebars_base.specs.RenderRefusals.{plain_refusal, reason_in, refusal_of};
+ghost use Rattle.handlebars_base.specs.Scoped.{found_of};
 ghost use Rattle.handlebars_template.specs.Tree.{call_name};
 ghost use Rattle.handlebars_template.specs.TreeView.{element_view, call_view, decorator_view};
 ghost use Rattle.handlebars_scope.specs.Sites.{Site};
 ghost use Rattle.handlebars_helpers.specs.View.{kind_of};
 ghost use Rattle.handlebars.specs.State.{State};
 ghost use Rattle.handlebars.specs.Expand.{lone_value};
-ghost use Rattle.handlebars.specs.Means.{render_decorator, render_element, render_expression, render_helped, render_lone, render_partial, shown_if_any, unescaped, write_value};
+ghost use Rattle.handlebars.specs.Means.{render_decorator, render_element, render_expression, render_helped, render_lone, render_partial, unescaped, write_value};
 ghost use Rattle.handlebars.specs.Steps.{run, ◌>>=◌};
 ghost use Rattle.handlebars.specs.Runs.{RefusesValue};
-ghost use Rattle.handlebars.specs.View.{setting_in, state_of, moment, CarriesOn, CarriesOut, Puts, IsKept};
+ghost use Rattle.handlebars.specs.View.{setting_in, moment, CarriesOn, CarriesOut, IsKept};
 
 use crate::render::block::{render_call, render_helped};
 use crate::render::called::{Called, view_of_tag};
@@ -29,7 +29,7 @@ use handlebars_base::json::value::ScopedJson;
 use handlebars_helpers::built_in::BuiltIn;
 use handlebars_scope::output::Output;
 use handlebars_template::template::{DecoratorTemplate, HelperTemplate, TemplateElement};
-use std::alloc::AllocError;
+use std::alloc::{AllocError, Global};
 use std::borrow::CowStr;
 
 /// Renders one element of a tree.
@@ -163,8 +163,8 @@ fn decorator_not_found<'a, P: Registered>(
     ensures { (site : Site) (s : State) → reason_in result ≢ out_of_memory
         → RefusesValue (setting_in P.parts setting.now) (render_decorator (setting_in P.parts setting.now) site (decorator_view tag.now)) s (refusal_of result) }
 {
-    match tag_name(tag, setting) {
-        Ok(name) => RenderErrorReason::DecoratorNotFound(name).into(),
+    match view_of_tag(setting, tag) {
+        Ok(view) => no_decorator(setting.alloc, view.name),
         Err(e) => e,
     }
 }
@@ -176,8 +176,26 @@ fn partial_not_found<'a, P: Registered>(
     ensures { (site : Site) (s : State) → reason_in result ≢ out_of_memory
         → RefusesValue (setting_in P.parts setting.now) (render_partial (setting_in P.parts setting.now) site (decorator_view tag.now)) s (refusal_of result) }
 {
-    match tag_name(tag, setting) {
-        Ok(name) => RenderErrorReason::PartialNotFound(name).into(),
+    match view_of_tag(setting, tag) {
+        Ok(view) => no_partial(setting.alloc, view.name),
         Err(e) => e,
+    }
+}
+
+fn no_decorator(alloc: Global, name: CowStr) -> RenderError
+    ensures { IsRefusal (plain_refusal (decorator_not_found (cow_str_bytes name.entry))) result }
+{
+    match name.into_owned(alloc) {
+        Ok(name) => RenderErrorReason::DecoratorNotFound(name).into(),
+        Err(AllocError) => RenderErrorReason::OutOfMemory.into(),
+    }
+}
+
+fn no_partial(alloc: Global, name: CowStr) -> RenderError
+    ensures { IsRefusal (plain_refusal (partial_not_found (cow_str_bytes name.entry))) result }
+{
+    match name.into_owned(alloc) {
+        Ok(name) => RenderErrorReason::PartialNotFound(name).into(),
+        Err(AllocError) => RenderErrorReason::OutOfMemory.into(),
     }
 }
