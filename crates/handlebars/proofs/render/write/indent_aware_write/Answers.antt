@@ -1,5 +1,5 @@
 use Rattle.handlebars.proofs.Puts.{puts_all, puts_front}
-use Rattle.handlebars.proofs.render.element.write_text.Goals as goal
+use Rattle.handlebars.proofs.render.write.indent_aware_write.Goals as goal
 
 pub returns-in-Ok-clause-puts : goal.returns-in-Ok-clause-puts
 returns-in-Ok-clause-puts g c = puts_all _ c.args.text.now c.pass_text.ensures.state c.in-Ok.ensures.written

@@ -3,7 +3,7 @@ use Rattle.serde_json.specs.View.{view}
 use Rattle.handlebars.specs.Means.{shown_if_any}
 use Rattle.handlebars.specs.View.{state_of}
 use Rattle.handlebars.proofs.Puts.{puts-nil, puts_all, puts_front}
-use Rattle.handlebars.proofs.render.element.write_found.Goals as goal
+use Rattle.handlebars.proofs.render.write.write_found.Goals as goal
 
 pub returns-in_default-clause-puts : goal.returns-in_default-clause-puts
 returns-in_default-clause-puts g c = rw c.in_default.is (puts-nil _)
