@@ -70,11 +70,13 @@ in_bracket marked steps = do
   new ← state
   become (record new { line = line_out old.line new.line })
 
--- What a helper chooses for a call of this view is carried out in the bracket.
+-- what a helper chooses for a call of this view
+abbrev pub render_chosen : Site → Call → Kind → CallView → Prog (Unit {0})
+render_chosen site c k v = answer (chosen k v) >>= carry_out site (call_body c) (call_inverse c)
+
+-- It is carried out in the bracket.
 abbrev pub render_helped : Site → Call → Kind → CallView → Prog (Unit {0})
-render_helped site c k v =
-    in_bracket (call_marks c).indent_before_write
-    (answer (chosen k v) >>= carry_out site (call_body c) (call_inverse c))
+render_helped site c k v = in_bracket (call_marks c).indent_before_write (render_chosen site c k v)
 
 abbrev pub render_called : Site → Call → Option Kind → CallView → Prog (Unit {0})
 render_called site c None v = refuse_for (helper_not_found v.name)
@@ -86,9 +88,13 @@ render_call p site c = do
   v ← view_of_call p site c
   render_called site c (p.parts.helper v.name) v
 
+-- the value of a lone expression, which may have been made for its name
+abbrev pub render_value : Setting → Site → Call → Option Found → Prog (Unit {0})
+render_value p site c made = lone_value p site (call_name c) made >>= write_value site
+
 -- A lone expression calls the helper of its name, where there is one, and is a value else.
 abbrev pub render_lone_as : Setting → Site → Call → Text × Option Found → Option Kind → Prog (Unit {0})
-render_lone_as p site c n None = lone_value p site (call_name c) n.1 >>= write_value site
+render_lone_as p site c n None = render_value p site c n.1
 render_lone_as p site c n (Some k) = render_helped site c k (record { name = n.0; params = []; pairs = [] })
 
 abbrev pub render_lone : Setting → Site → Call → Prog (Unit {0})

@@ -15,9 +15,9 @@ use serde_json::Number;
 /// whether the last text ended a line, and whether there was one.
 #[derive(Clone, Copy)]
 pub struct Line {
-    pub before: bool,
-    pub trailing: bool,
-    pub produced: bool,
+    before: bool,
+    trailing: bool,
+    produced: bool,
 }
 
 impl Line {

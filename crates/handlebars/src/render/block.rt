@@ -5,11 +5,9 @@ ghost use Rattle.handlebars_template.specs.Tree.{call_body, call_inverse};
 ghost use Rattle.handlebars_template.specs.TreeView.{call_view};
 ghost use Rattle.handlebars_scope.specs.Put.{LineState};
 ghost use Rattle.handlebars_scope.specs.Sites.{Site};
-ghost use Rattle.handlebars_helpers.specs.Choice.{chosen};
 ghost use Rattle.handlebars_helpers.specs.View.{choice_of, helper_view, kind_of};
 ghost use Rattle.handlebars.specs.Expand.{carry_out};
-ghost use Rattle.handlebars.specs.Means.{line_in, line_out, render_call, render_called, render_helped};
-ghost use Rattle.handlebars.specs.Steps.{answer, ◌>>=◌};
+ghost use Rattle.handlebars.specs.Means.{line_in, line_out, render_call, render_called, render_chosen, render_helped};
 ghost use Rattle.handlebars.specs.View.{setting_in, state_of, moment, CarriesOn, IsKept};
 
 use crate::render::called::{helper_not_found, view_of_call};
@@ -93,7 +91,7 @@ fn render_chosen<'a, O: Output, P: Registered>(
     out: &mut O,
 ) -> Result<(), RenderError>
     ensures renders { (site : Site) → CarriesOn (setting_in P.parts setting.now)
-        (answer (chosen (kind_of kind) (helper_view view.now).call) >>= carry_out site (call_body (call_view helper.now)) (call_inverse (call_view helper.now)))
+        (render_chosen site (call_view helper.now) (kind_of kind) (helper_view view.now).call)
         O.may_give (moment rc.old (O.held out.old)) result (moment rc.new (O.held out.new)) }
     ensures kept { IsKept rc.old rc.new }
 {

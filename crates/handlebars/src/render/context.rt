@@ -75,38 +75,6 @@ impl RenderContext {
         self.escapes = !disable;
     }
 
-    pub fn get_trailine_newline(&self) -> bool
-        ensures { result ≡ (state_of self.now).line.trailing }
-    {
-        self.line.trailing
-    }
-
-    pub fn get_content_produced(&self) -> bool
-        ensures { result ≡ (state_of self.now).line.produced }
-    {
-        self.line.produced
-    }
-
-    pub fn get_indent_before_write(&self) -> bool
-        ensures { result ≡ (state_of self.now).line.before }
-    {
-        self.line.before
-    }
-
-    pub fn set_content_produced(&mut self, produced: bool)
-        ensures state { state_of self.new ≡ record (state_of self.old) { line = record (state_of self.old).line { produced = produced } } }
-        ensures kept { IsKept self.old self.new }
-    {
-        self.line.produced = produced;
-    }
-
-    pub fn set_indent_before_write(&mut self, before: bool)
-        ensures state { state_of self.new ≡ record (state_of self.old) { line = record (state_of self.old).line { before = before } } }
-        ensures kept { IsKept self.old self.new }
-    {
-        self.line.before = before;
-    }
-
     // Whether values are escaped.
     pub(super) fn escapes(&self) -> bool
         ensures { result ≡ (state_of self.now).escapes }

@@ -6,14 +6,12 @@ ghost use Rattle.handlebars_base.specs.Answers.{IsRefusal};
 ghost use Rattle.handlebars_base.specs.Reasons.{out_of_memory, decorator_not_found, partial_not_found};
 ghost use Rattle.handlebars_base.specs.RenderRefusals.{plain_refusal, reason_in, refusal_of};
 ghost use Rattle.handlebars_base.specs.Scoped.{found_of};
-ghost use Rattle.handlebars_template.specs.Tree.{call_name};
 ghost use Rattle.handlebars_template.specs.TreeView.{element_view, call_view, decorator_view};
 ghost use Rattle.handlebars_scope.specs.Sites.{Site};
 ghost use Rattle.handlebars_helpers.specs.View.{kind_of};
 ghost use Rattle.handlebars.specs.State.{State};
-ghost use Rattle.handlebars.specs.Expand.{lone_value};
-ghost use Rattle.handlebars.specs.Means.{render_decorator, render_element, render_expression, render_helped, render_lone, render_partial, unescaped, write_value};
-ghost use Rattle.handlebars.specs.Steps.{run, ◌>>=◌};
+ghost use Rattle.handlebars.specs.Means.{render_decorator, render_element, render_expression, render_helped, render_lone, render_partial, render_value, unescaped};
+ghost use Rattle.handlebars.specs.Steps.{run};
 ghost use Rattle.handlebars.specs.Runs.{RefusesValue};
 ghost use Rattle.handlebars.specs.View.{setting_in, moment, CarriesOn, CarriesOut, IsKept};
 
@@ -145,7 +143,7 @@ fn render_value<'a, O: Output, P: Registered>(
     out: &mut O,
 ) -> Result<(), RenderError>
     ensures renders { (site : Site) → CarriesOn (setting_in P.parts setting.now)
-        (lone_value (setting_in P.parts setting.now) site (call_name (call_view helper.now)) (option_map found_of made.entry) >>= write_value site)
+        (render_value (setting_in P.parts setting.now) site (call_view helper.now) (option_map found_of made.entry))
         O.may_give (moment rc.old (O.held out.old)) result (moment rc.new (O.held out.new)) }
     ensures kept { IsKept rc.old rc.new }
 {
