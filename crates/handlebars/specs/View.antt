@@ -18,7 +18,7 @@ use Rattle.handlebars_template.specs.Compile.{Options, no_options}
 use Rattle.handlebars_scope.specs.Contexts.{data_of}
 use Rattle.handlebars_scope.specs.LineView.{line_of}
 use Rattle.handlebars_scope.specs.Outputs.{Held, IsWhole, IsCutOff, write_reason}
-use Rattle.handlebars_scope.specs.Put.{Piece, join, line_behind}
+use Rattle.handlebars_scope.specs.Put.{LineState, Piece, join, line_behind}
 use Rattle.handlebars_scope.specs.declared.context.Context.{Context}
 use Rattle.handlebars_helpers.specs.CallView.{CallView}
 use Rattle.handlebars_helpers.specs.View.{kind_at}
@@ -144,6 +144,10 @@ abbrev pub YieldsPresent : {T : Type 0} → Setting → Prog Found → State →
 YieldsPresent p m s present r =
     MatchResult r (λ x. (found : Found) × GivesValue p m s found × (present_in found ≡ present x))
     (λ e. reason_in e ≢ out_of_memory → RefusesValue p m s (refusal_of e))
+
+-- the state with another line
+abbrev pub with_line : LineState → State → State
+with_line line s = record s { line = line }
 
 -- the state behind a text
 abbrev pub behind : Text → State → State
