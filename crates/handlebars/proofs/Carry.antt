@@ -181,7 +181,7 @@ module _ (p : Setting) (may : Error → Type 0) where
   carries_on-value m f g (goes_on c) = goes_on (λ k r last d. carries-value m (λ a. f a k) g (c k r last d))
   carries_on-value m f g (is_over c) = is_over (λ k. carries-value m (λ a. f a k) g (c k))
 
-  carries-no_value : {A : Type 0} (m : Prog A) (k : A → Steps) {s next : State} {h : Held} (e : RenderError)
+  pub carries-no_value : {A : Type 0} (m : Prog A) (k : A → Steps) {s next : State} {h : Held} (e : RenderError)
       → (reason_in e ≢ out_of_memory → RefusesValue p m s (refusal_of e)) → CarriesOut p (m k) may (at s h) (Err e) (at next h)
   carries-no_value m k {h = h} e is = elim (memory_or (reason_in e)) [
     | inl memory ↦ carries-no_memory e memory

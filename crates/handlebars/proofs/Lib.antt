@@ -4,6 +4,7 @@ pub mod RunOrigins
 pub mod Carry
 pub mod Puts
 pub mod Elements
+pub mod Calls
 pub mod Kept
 pub mod Lists
 pub mod AnswerLaws
