@@ -1,5 +1,5 @@
 -- What calls of helpers carry out, and lone expressions.
-use Rattle.std.proofs.Common.{◌≡◌, ◌≢◌, [], Option, None, Some, Result, Ok, Err, refl, sym, ap, ◌∙◌, subst}
+use Rattle.std.proofs.Common.{◌≡◌, ◌≢◌, Bool, [], Option, None, Some, Result, Ok, Err, refl, sym, ap, ◌∙◌, subst}
 use Rattle.std.specs.declared.io.Error.{Error}
 use Rattle.handlebars_base.specs.Answers.{Answer, gives, refuses, IsRefusal}
 use Rattle.handlebars_base.specs.Bytes.{Text}
@@ -15,7 +15,7 @@ use Rattle.handlebars_helpers.specs.Choice.{Kind, Choice, the_body, the_inverse,
 use Rattle.handlebars.specs.State.{Setting, State}
 use Rattle.handlebars.specs.Steps.{Whole, Prog, answer, refuse_for, perform, ◌>>=◌}
 use Rattle.handlebars.specs.Expand.{render_branch, carry_out, lone_name, lone_value, view_of_call}
-use Rattle.handlebars.specs.Means.{shown_if_any, value_origin, write_text, write_value, render_chosen, render_helped, render_called, render_call, render_value, render_lone_as, render_lone, render_expression}
+use Rattle.handlebars.specs.Means.{line_in, shown_if_any, value_origin, write_text, write_value, render_chosen, render_helped, render_called, render_call, render_value, render_lone_as, render_lone, render_expression}
 use Rattle.handlebars.specs.Runs.{Runs, Refused, refused, GivesValue, RefusesValue}
 use Rattle.handlebars.specs.View.{Moment, Answered, CarriesOn, Puts}
 use Rattle.handlebars.proofs.Carry.{at, carries_on-get, carries_on-puts, carries_on-value, carries_on-no_value, carries_on-done, carries_on-refuse}
@@ -30,13 +30,17 @@ abbrev pub branch_of : Call → Choice → Body
 branch_of c the_body = call_body c
 branch_of c the_inverse = call_inverse c
 
+-- the line with another mark
+pub entered_as : (s mid : State) (a b : Bool) → b ≡ a → mid ≡ record s { line = line_in a s.line } → mid ≡ record s { line = line_in b s.line }
+entered_as s mid a b is e = e ∙ ap (λ (z : Bool). record s { line = line_in z s.line }) (sym is)
+
 module _ (p : Setting) where
   -- the refusal of a tag, by the name that it is called by
   pub refuses_named : (m : Prog CallView) (why : Text → Reason) {s : State} (v : CallView) (e : RenderError) → GivesValue p m s v
       → IsRefusal (plain_refusal (why v.name)) e → reason_in e ≢ out_of_memory
-      → RefusesValue p (m >>= (λ w. refuse_for (why w.name))) s (refusal_of e)
+      → RefusesValue p (m >>= (λ w. refuse_for {A = Unit {0}} (why w.name))) s (refusal_of e)
   refuses_named m why {s = s} v e g is other = refuses-then p m _ g
-      (λ k. subst (λ (z : Refusal). Runs p (refuse_for (why v.name) k) s [] (Refused z)) (sym (is other)) refused)
+      (λ k. subst (λ (z : Refusal). Runs p (refuse_for {A = Unit {0}} (why v.name) k) s [] (Refused z)) (sym (is other)) refused)
 
 module _ (p : Setting) (may : Error → Type 0) where
   branch_out : (site : Site) (c : Call) (x : Choice) {before after : Moment} {r : Answered}
@@ -76,9 +80,14 @@ module _ (p : Setting) (may : Error → Type 0) where
   pub called_none : (site : Site) (c : Call) (o : Option Kind) (v : CallView) {s next : State} {h : Held} (e : RenderError)
       → None ≡ o → IsRefusal (plain_refusal (helper_not_found v.name)) e
       → CarriesOn p (render_called site c o v) may (at s h) (Err e) (at next h)
-  called_none site c o v {s = s} {next = next} {h = h} e is refuses =
+  called_none site c o v {s = s} {next = next} {h = h} e is n =
       subst (λ (z : Option Kind). CarriesOn p (render_called site c z v) may (at s h) (Err e) (at next h)) is
-      (carries_on-refuse p may e refuses)
+      (carries_on-refuse p may e n)
+
+  pub helped_as : (site : Site) (c : Call) (k : Kind) (v w : CallView) {before after : Moment} {r : Answered}
+      → v ≡ w → CarriesOn p (render_helped site c k v) may before r after → CarriesOn p (render_helped site c k w) may before r after
+  helped_as site c k v w {before = before} {after = after} {r = r} is a =
+      subst (λ (z : CallView). CarriesOn p (render_helped site c k z) may before r after) is a
 
   pub call_ok : (site : Site) (c : Call) (v : CallView) {s : State} {h : Held} {after : Moment} {r : Answered}
       → GivesValue p (view_of_call p site c) s v → CarriesOn p (render_called site c (p.parts.helper v.name) v) may (at s h) r after

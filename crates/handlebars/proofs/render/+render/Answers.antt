@@ -2,28 +2,37 @@ use Rattle.std.proofs.Common.{◌∙◌, sym, ap, map, Option, List, refl}
 use Rattle.std.specs.Prelude.{slice_get}
 use Rattle.handlebars_base.specs.RenderRefusals.{spot_of}
 use Rattle.handlebars_template.specs.Place.{Place}
-use Rattle.handlebars_template.specs.Tree.{Tree, tree_name}
-use Rattle.handlebars_template.specs.TreeView.{call_view, element_view, place_of}
+use Rattle.handlebars_template.specs.Tree.{Tree, tree_name, CallMarks, call_marks}
+use Rattle.handlebars_template.specs.TreeView.{body_view, call_view, element_view, place_of}
 use Rattle.handlebars_template.specs.declared.template.tree.TemplateMapping.{TemplateMapping}
 use Rattle.handlebars_template.proofs.Levels.{call_name-view, call_body-view, call_inverse-view, call_marks-view, element_view-Expression, element_view-HtmlExpression, element_view-HelperBlock, element_view-DecoratorExpression, element_view-DecoratorBlock, element_view-PartialExpression, element_view-PartialBlock, element_view-Comment, element_view-RawString}
 use Rattle.handlebars_template.proofs.Trees.{tree_view-out}
 use Rattle.handlebars_scope.specs.Put.{of_text}
 use Rattle.handlebars_scope.specs.Sites.{element_in}
+use Rattle.handlebars_helpers.specs.CallView.{HelperView}
+use Rattle.handlebars_helpers.specs.declared.built_in.Choice.TheVariants.{Body, Inverse}
 use Rattle.handlebars_helpers.specs.View.{choice_of, helper_view, kind_of}
+use Rattle.handlebars.specs.Means.{render_chosen}
 use Rattle.handlebars.specs.Runs.{named_as, placed_at}
 use Rattle.handlebars.specs.View.{setting_in, state_of, lone_view}
-use Rattle.handlebars.proofs.Calls.{carry_out_none, chosen_ok, chosen_err, called_some, called_none, call_ok, call_err, lone_some, lone_none, lone_err}
+use Rattle.handlebars.proofs.Calls.{carry_out_none, chosen_ok, chosen_err, called_some, called_none, call_ok, call_err, lone_some, lone_none, lone_err, entered_as, helped_as}
 use Rattle.handlebars.proofs.Carry.{carries-done, carries-no_value, carries-out_of_memory, carries-puts, carries-run, carries-unescaped, carries_on-bracket, carries_on-task, carries_on-task_over, restored}
 use Rattle.handlebars.proofs.Elements.{left_starts, left_goes, left_over, left_ends, whole_with}
 use Rattle.handlebars.proofs.Kept.{kept-refl, kept-trans}
 use Rattle.handlebars.proofs.Lists.{get_or-seen, below-seen, over-seen, place_there, looked_up, placed_marks}
+use Rattle.handlebars.proofs.render.+render.Goals.{block::carry_out-in-Body, block::carry_out-in-Inverse}
 use Rattle.handlebars.proofs.render.+render.Goals as goal
 
 -- ---- calls
 
 pub block::carry_out-returns-in-None-clause-renders :
     goal.block::carry_out-returns-in-None-clause-renders
-block::carry_out-returns-in-None-clause-renders g t c = ?
+block::carry_out-returns-in-None-clause-renders g t c = λ site. elim c.match-choice.branch [
+  | block::carry_out-in-Body w ↦ rw w.in-Body.is (carry_out_none _ _ site (call_view c.args.helper.now) (choice_of Body)
+      (call_body-view c.args.helper.now ∙ ap body_view ?))
+  | block::carry_out-in-Inverse w ↦ rw w.in-Inverse.is (carry_out_none _ _ site (call_view c.args.helper.now) (choice_of Inverse)
+      (call_inverse-view c.args.helper.now ∙ ap body_view ?))
+]
 
 pub block::render_call-returns-in-Ok-clause-renders : goal.block::render_call-returns-in-Ok-clause-renders
 block::render_call-returns-in-Ok-clause-renders g t c = λ site.
@@ -35,22 +44,32 @@ block::render_call-returns-in-Err-clause-renders g t c = λ site.
 
 pub block::render_called-returns-in-Some-clause-renders : goal.block::render_called-returns-in-Some-clause-renders
 block::render_called-returns-in-Some-clause-renders g t c = λ site.
-    called_some _ _ site (call_view c.args.helper.now) _ _ _ ? (c.render_helped.ensures.renders site)
+    called_some _ _ site (call_view c.args.helper.now) _ _ _
+    (c.in-Some.ensures ∙ ap (g.P.Registered.parts c.args.setting.now.parts.now).helper c.name.ensures)
+    (c.render_helped.ensures.renders site)
 
 pub block::render_called-returns-in-None-clause-renders : goal.block::render_called-returns-in-None-clause-renders
 block::render_called-returns-in-None-clause-renders g t c = λ site.
-    called_none _ _ site (call_view c.args.helper.now) _ _ c.helper_not_found.result ? ?
+    called_none _ _ site (call_view c.args.helper.now) _ _ c.helper_not_found.result
+    (c.in-None.ensures ∙ ap (g.P.Registered.parts c.args.setting.now.parts.now).helper c.name.ensures)
+    (rw c.name-in-None.ensures at c.helper_not_found.ensures)
 
 pub block::render_chosen-returns-in-Ok-clause-renders : goal.block::render_chosen-returns-in-Ok-clause-renders
 block::render_chosen-returns-in-Ok-clause-renders g t c = λ site.
-    chosen_ok _ _ site (call_view c.args.helper.now) _ _ _ c.in-Ok.ensures.chosen (c.carry_out.ensures.renders site)
+    chosen_ok _ _ site (call_view c.args.helper.now) (kind_of c.args.kind) (helper_view c.args.view.now).call _ c.in-Ok.ensures.chosen (c.carry_out.ensures.renders site)
 
 pub block::render_chosen-returns-in-Err-clause-renders : goal.block::render_chosen-returns-in-Err-clause-renders
 block::render_chosen-returns-in-Err-clause-renders g t c = λ site.
-    chosen_err _ _ site (call_view c.args.helper.now) _ _ c.in-Err.e c.in-Err.ensures.chosen
+    chosen_err _ _ site (call_view c.args.helper.now) (kind_of c.args.kind) (helper_view c.args.view.now).call c.in-Err.e c.in-Err.ensures.chosen
 
 pub block::render_helped-returns-clause-renders : goal.block::render_helped-returns-clause-renders
-block::render_helped-returns-clause-renders g t c = λ site. ?
+block::render_helped-returns-clause-renders g t c = λ site.
+    let marked = ap (λ (m : CallMarks). m.indent_before_write) (call_marks-view c.args.helper.now) in
+    carries_on-bracket _ _ (call_marks (call_view c.args.helper.now)).indent_before_write
+    (render_chosen site (call_view c.args.helper.now) (kind_of c.args.kind) (helper_view c.args.view.now).call)
+    (entered_as (state_of c.args.rc.now) (state_of c.enter_call.new.rc) _ _ marked c.enter_call.ensures.state)
+    (c.leave_call.ensures.state (state_of c.args.rc.now).line (sym c.get_indent_before_write-before.ensures) (sym c.get_content_produced-produced.ensures))
+    (c.render_chosen-answer.ensures.renders site)
 
 -- ---- elements
 
@@ -98,16 +117,28 @@ element::render_unescaped-returns-clause-renders g t c = λ site. carries-unesca
 
 pub element::render_lone-returns-in-Err-clause-renders : goal.element::render_lone-returns-in-Err-clause-renders
 element::render_lone-returns-in-Err-clause-renders g t c = λ site.
-    lone_err _ _ site (call_view c.args.helper.now) c.in-Err.e ?
+    lone_err _ _ site (call_view c.args.helper.now) c.in-Err.e
+    (rw (call_name-view c.args.helper.now) (c.in-Err.ensures site (state_of c.args.rc.now)))
 
 pub element::render_lone-returns-in-Some-clause-renders : goal.element::render_lone-returns-in-Some-clause-renders
-element::render_lone-returns-in-Some-clause-renders g t c = λ site. ?
+element::render_lone-returns-in-Some-clause-renders g t c = λ site.
+    lone_some _ _ site (call_view c.args.helper.now) (lone_view c.in-Ok.lone) (kind_of c.in-Some.kind)
+    (rw (call_name-view c.args.helper.now) (c.in-Ok.ensures site (state_of c.args.rc.now)))
+    (c.in-Some.ensures ∙ ap (g.P.Registered.parts c.args.setting.now.parts.now).helper c.as_str.ensures.value)
+    (c.render_named.ensures.renders site)
 
 pub element::render_lone-returns-in-None-clause-renders : goal.element::render_lone-returns-in-None-clause-renders
-element::render_lone-returns-in-None-clause-renders g t c = λ site. ?
+element::render_lone-returns-in-None-clause-renders g t c = λ site.
+    lone_none _ _ site (call_view c.args.helper.now) (lone_view c.in-Ok.lone)
+    (rw (call_name-view c.args.helper.now) (c.in-Ok.ensures site (state_of c.args.rc.now)))
+    (c.in-None.ensures ∙ ap (g.P.Registered.parts c.args.setting.now.parts.now).helper c.as_str.ensures.value)
+    (c.render_value.ensures.renders site)
 
 pub element::render_named-returns-clause-renders : goal.element::render_named-returns-clause-renders
-element::render_named-returns-clause-renders g t c = λ site. ?
+element::render_named-returns-clause-renders g t c = λ site.
+    helped_as _ _ site (call_view c.args.helper.now) (kind_of c.args.kind) (helper_view c.of_call-view.result).call _
+    (ap (λ (h : HelperView). h.call) c.of_call-view.ensures ∙ c.alone.ensures)
+    (c.render_helped.ensures.renders site)
 
 -- ---- trees
 
