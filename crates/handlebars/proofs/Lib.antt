@@ -11,4 +11,5 @@ pub mod AnswerLaws
 pub mod Stored
 pub mod Texts
 mod Evaluates
+mod Ordered
 pub mod Values

@@ -1,10 +1,13 @@
 //! Values of parameters, and the calls in parentheses among them.
 
-ghost use Rattle.std.specs.Prelude.{◌≡◌, IfOk, false, option_map, map, string_bytes};
+ghost use Rattle.std.specs.Prelude.{◌≡◌, IfOk, OnOk, false, option_map, map, string_bytes};
+ghost use Rattle.std.specs.BTreeMap.{insert_entry};
+ghost use Rattle.std.specs.Cmp.Lexicographic.{slice_cmp};
 ghost use Rattle.std.specs.Cow.{cow_str_bytes};
+ghost use Rattle.std.specs.Ordering.{nat_cmp};
 ghost use Rattle.handlebars_base.specs.PathAndData.{path_and_data};
 ghost use Rattle.handlebars_base.specs.Scoped.{found_of, is_constant};
-ghost use Rattle.handlebars_template.specs.Tree.{as_name};
+ghost use Rattle.handlebars_template.specs.Tree.{as_name, expression};
 ghost use Rattle.handlebars_template.specs.TreeView.{call_view, param_view, params_view, pairs_view, subexpression_view};
 ghost use Rattle.handlebars_scope.specs.Sites.{Site};
 ghost use Rattle.handlebars.specs.State.{State};
@@ -82,10 +85,7 @@ pub fn inner_value<'a, P: Registered>(
     ensures constant { IfOk result (λ found. is_constant found ≡ false) }
 {
     match &*inner.element {
-        TemplateElement::Expression(helper) => match called(setting, helper) {
-            Ok(call) => helped_value(setting, &call.in_parentheses()),
-            Err(e) => Err(e),
-        },
+        TemplateElement::Expression(helper) => call_value(setting, helper),
         TemplateElement::RawString(_) => Ok(ScopedJson::Missing),
         TemplateElement::HtmlExpression(_) => Ok(ScopedJson::Missing),
         TemplateElement::HelperBlock(_) => Ok(ScopedJson::Missing),
@@ -94,6 +94,21 @@ pub fn inner_value<'a, P: Registered>(
         TemplateElement::PartialExpression(_) => Ok(ScopedJson::Missing),
         TemplateElement::PartialBlock(_) => Ok(ScopedJson::Missing),
         TemplateElement::Comment(_) => Ok(ScopedJson::Missing),
+    }
+}
+
+/// The value of a call in parentheses.
+#[cycle(value)]
+pub fn call_value<'a, P: Registered>(
+    setting: &Setting<'_, 'a, P>,
+    helper: &'a HelperTemplate,
+) -> Result<ScopedJson<'a>, RenderError>
+    ensures value { (site : Site) (s : State) → Yields (setting_in P.parts setting.now) (inner_value (setting_in P.parts setting.now) site (expression (call_view helper.now))) s found_of result }
+    ensures constant { IfOk result (λ found. is_constant found ≡ false) }
+{
+    match called(setting, helper) {
+        Ok(call) => helped_value(setting, &call.in_parentheses()),
+        Err(e) => Err(e),
     }
 }
 
@@ -136,9 +151,22 @@ pub fn pairs_values<'a, P: Registered>(
 {
     let mut values = BTreeMap::new(setting.alloc);
     for (key, parameter) in pairs.iter() {
-        values.insert(key.as_str(), expand(setting, parameter)?)?;
+        put(&mut values, key.as_str(), expand(setting, parameter)?)?;
     }
     Ok(values)
+}
+
+// Puts a value under a key.
+fn put<'a>(
+    values: &mut BTreeMap<&'a str, PathAndJson<'a>>,
+    key: &'a str,
+    value: PathAndJson<'a>,
+) -> Result<(), AllocError>
+    ensures { OnOk result (values.new.entries
+        ≡ insert_entry (λ a b. slice_cmp nat_cmp a.now b.now) values.old.entries key.entry value.entry) }
+{
+    values.insert(key, value)?;
+    Ok(())
 }
 
 // The text of a name or a path.
