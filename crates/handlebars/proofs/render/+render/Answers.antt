@@ -29,9 +29,9 @@ pub block::carry_out-returns-in-None-clause-renders :
     goal.block::carry_out-returns-in-None-clause-renders
 block::carry_out-returns-in-None-clause-renders g t c = λ site. elim c.match-choice.branch [
   | block::carry_out-in-Body w ↦ rw w.in-Body.is (carry_out_none _ _ site (call_view c.args.helper.now) (choice_of Body)
-      (call_body-view c.args.helper.now ∙ ap body_view ?))
+      (call_body-view c.args.helper.now ∙ ap body_view (ap (λ b. b.now) (sym w.chosen-is) ∙ c.in-None.is)))
   | block::carry_out-in-Inverse w ↦ rw w.in-Inverse.is (carry_out_none _ _ site (call_view c.args.helper.now) (choice_of Inverse)
-      (call_inverse-view c.args.helper.now ∙ ap body_view ?))
+      (call_inverse-view c.args.helper.now ∙ ap body_view (ap (λ b. b.now) (sym w.chosen-is) ∙ c.in-None.is)))
 ]
 
 pub block::render_call-returns-in-Ok-clause-renders : goal.block::render_call-returns-in-Ok-clause-renders
