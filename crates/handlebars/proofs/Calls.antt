@@ -1,13 +1,14 @@
 -- What calls of helpers carry out, and lone expressions.
 use Rattle.std.proofs.Common.{◌≡◌, ◌≢◌, Bool, [], Option, None, Some, Result, Ok, Err, refl, sym, ap, ◌∙◌, subst}
 use Rattle.std.specs.declared.io.Error.{Error}
+use Rattle.serde_json.specs.Data.{Data}
 use Rattle.handlebars_base.specs.Answers.{Answer, gives, refuses, IsRefusal}
 use Rattle.handlebars_base.specs.Bytes.{Text}
 use Rattle.handlebars_base.specs.Reasons.{Reason, Refusal, helper_not_found, out_of_memory}
 use Rattle.handlebars_base.specs.RenderRefusals.{plain_refusal, reason_in, refusal_of}
 use Rattle.handlebars_base.specs.Scoped.{Found, present_in}
 use Rattle.handlebars_base.specs.declared.error.render_error.RenderError.{RenderError}
-use Rattle.handlebars_template.specs.Tree.{Tree, Body, body, no_body, Call, call_name, call_body, call_inverse, is_value}
+use Rattle.handlebars_template.specs.Tree.{Tree, Param, Body, body, no_body, Call, call_name, call_body, call_inverse, is_value}
 use Rattle.handlebars_scope.specs.Outputs.{Held}
 use Rattle.handlebars_scope.specs.Sites.{TreeSite, body_at, inverse_at, Site}
 use Rattle.handlebars_helpers.specs.CallView.{CallView}
@@ -108,11 +109,14 @@ module _ (p : Setting) (may : Error → Type 0) where
       carries_on-get p may (λ z. write_text (value_origin z.escapes site v) (shown_if_any z.escapes (present_in v)))
       (carries_on-puts p may (value_origin s.escapes site v) (shown_if_any s.escapes (present_in v)) puts)
 
-  pub value_ok : (site : Site) (c : Call) (made : Option Found) (v : Found) {s next : State} {h new : Held} {r : Answered}
-      → GivesValue p (lone_value p site (call_name c) made) s v
-      → Puts (shown_if_any s.escapes (present_in v)) may (at s h) r (at next new)
+  pub value_ok : (site : Site) (c : Call) (q : Param) (made : Option Found) (v : Found) (o : Option Data) {s next : State} {h new : Held} {r : Answered}
+      → call_name c ≡ q → GivesValue p (lone_value p site q made) s v → present_in v ≡ o
+      → Puts (shown_if_any s.escapes o) may (at s h) r (at next new)
       → CarriesOn p (render_value p site c made) may (at s h) r (at next new)
-  value_ok site c made v g puts = carries_on-value p may (lone_value p site (call_name c) made) (write_value site) g (shows site v puts)
+  value_ok site c q made v o {s = s} {next = next} {h = h} {new = new} {r = r} name g is puts =
+      carries_on-value p may (lone_value p site (call_name c) made) (write_value site)
+      (subst (λ (z : Param). GivesValue p (lone_value p site z made) s v) (sym name) g) (shows site v
+      (subst (λ (z : Option Data). Puts (shown_if_any s.escapes z) may (at s h) r (at next new)) (sym is) puts))
 
   pub value_err : (site : Site) (c : Call) (made : Option Found) {s next : State} {h : Held} (e : RenderError)
       → (reason_in e ≢ out_of_memory → RefusesValue p (lone_value p site (call_name c) made) s (refusal_of e))
