@@ -11,5 +11,6 @@ pub mod AnswerLaws
 pub mod Stored
 pub mod Texts
 mod Evaluates
+mod Lone
 mod Ordered
 pub mod Values

@@ -2,6 +2,7 @@
 
 ghost use Rattle.std.specs.Prelude.{◌≡◌, option_map};
 ghost use Rattle.std.specs.Cow.{cow_str_bytes};
+ghost use Rattle.serde_json.specs.View.{view};
 ghost use Rattle.handlebars_base.specs.Scoped.{found_of, present_in};
 ghost use Rattle.handlebars_template.specs.TreeView.{param_view};
 ghost use Rattle.handlebars_scope.specs.Sites.{Site};
@@ -13,7 +14,7 @@ use crate::render::registered::Registered;
 use crate::render::setting::Setting;
 use crate::render::value::inner_value;
 use handlebars_base::error::RenderError;
-use handlebars_base::json::value::{JsonRender, ScopedJson};
+use handlebars_base::json::value::{Json, JsonRender, ScopedJson};
 use handlebars_scope::context::walk::resolve;
 use handlebars_template::template::Parameter;
 use std::borrow::CowStr;
@@ -79,11 +80,20 @@ fn bare_value<'a, P: Registered>(
     match parameter {
         Parameter::Name(_) => Ok(ScopedJson::Missing),
         Parameter::Path(path) => match resolve(setting.alloc, setting.given, path) {
-            Ok(Some(value)) => Ok(ScopedJson::Constant(value)),
-            Ok(None) => Ok(ScopedJson::Missing),
+            Ok(value) => Ok(borrowed(value)),
             Err(e) => Err(e),
         },
         Parameter::Literal(value) => Ok(ScopedJson::Constant(value)),
         Parameter::Subexpression(inner) => inner_value(setting, inner),
+    }
+}
+
+// A value, or none, as it is written: where it came from is not told.
+fn borrowed<'a>(value: Option<&'a Json>) -> ScopedJson<'a>
+    ensures { present_in (found_of result) ≡ option_map (λ v. view v.now) value.entry }
+{
+    match value {
+        Some(value) => ScopedJson::Constant(value),
+        None => ScopedJson::Missing,
     }
 }
