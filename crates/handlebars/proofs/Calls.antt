@@ -1,14 +1,14 @@
 -- What calls of helpers carry out, and lone expressions.
-use Rattle.std.proofs.Common.{◌≡◌, ◌≢◌, Bool, [], Option, None, Some, Result, Ok, Err, refl, sym, ap, ◌∙◌, subst}
+use Rattle.std.proofs.Common.{◌≡◌, ◌≢◌, Bool, [], Option, None, Some, Ok, Err, sym, ap, ◌∙◌, subst}
 use Rattle.std.specs.declared.io.Error.{Error}
 use Rattle.serde_json.specs.Data.{Data}
-use Rattle.handlebars_base.specs.Answers.{Answer, gives, refuses, IsRefusal}
+use Rattle.handlebars_base.specs.Answers.{gives, refuses, IsRefusal}
 use Rattle.handlebars_base.specs.Bytes.{Text}
 use Rattle.handlebars_base.specs.Reasons.{Reason, Refusal, helper_not_found, out_of_memory}
 use Rattle.handlebars_base.specs.RenderRefusals.{plain_refusal, reason_in, refusal_of}
 use Rattle.handlebars_base.specs.Scoped.{Found, present_in}
 use Rattle.handlebars_base.specs.declared.error.render_error.RenderError.{RenderError}
-use Rattle.handlebars_template.specs.Tree.{Tree, Param, Body, body, no_body, Call, call_name, call_body, call_inverse, is_value}
+use Rattle.handlebars_template.specs.Tree.{Tree, Param, Body, body, no_body, Call, call_name, call_body, call_inverse}
 use Rattle.handlebars_scope.specs.Outputs.{Held}
 use Rattle.handlebars_scope.specs.Sites.{TreeSite, body_at, inverse_at, Site}
 use Rattle.handlebars_helpers.specs.CallView.{CallView}
@@ -16,7 +16,7 @@ use Rattle.handlebars_helpers.specs.Choice.{Kind, Choice, the_body, the_inverse,
 use Rattle.handlebars.specs.State.{Setting, State}
 use Rattle.handlebars.specs.Steps.{Whole, Prog, answer, refuse_for, perform, ◌>>=◌}
 use Rattle.handlebars.specs.Expand.{render_branch, carry_out, lone_name, lone_value, view_of_call}
-use Rattle.handlebars.specs.Means.{line_in, shown_if_any, value_origin, write_text, write_value, render_chosen, render_helped, render_called, render_call, render_value, render_lone_as, render_lone, render_expression}
+use Rattle.handlebars.specs.Means.{line_in, shown_if_any, value_origin, write_text, write_value, render_chosen, render_helped, render_called, render_call, render_value, render_lone_as, render_lone}
 use Rattle.handlebars.specs.Runs.{Runs, Refused, refused, GivesValue, RefusesValue}
 use Rattle.handlebars.specs.View.{Moment, Answered, CarriesOn, Puts}
 use Rattle.handlebars.proofs.Carry.{at, carries_on-get, carries_on-puts, carries_on-value, carries_on-no_value, carries_on-done, carries_on-refuse}

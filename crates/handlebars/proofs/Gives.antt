@@ -1,10 +1,10 @@
 -- How values of programs compose.
-use Rattle.std.proofs.Common.{◌≡◌, List, [], sym, subst}
+use Rattle.std.proofs.Common.{◌≡◌, [], sym, subst}
 use Rattle.handlebars_base.specs.Answers.{Answer, gives, refuses}
 use Rattle.handlebars_base.specs.Reasons.{Refusal}
 use Rattle.handlebars.specs.State.{Setting, State}
-use Rattle.handlebars.specs.Steps.{Steps, Prog, return, refuse, answer, ◌>>=◌}
-use Rattle.handlebars.specs.Runs.{Refused, Runs, refused, GivesValue, RefusesValue}
+use Rattle.handlebars.specs.Steps.{Prog, return, answer, ◌>>=◌}
+use Rattle.handlebars.specs.Runs.{Refused, refused, GivesValue, RefusesValue}
 
 module _ (p : Setting) where
   pub gives-return : {A : Type 0} {a : A} {s : State} → GivesValue p (return a) s a

@@ -25,14 +25,14 @@ use crate::render::setting::Setting;
 use crate::render::tree::{render_alone, render_first};
 pub use context::RenderContext;
 pub use expand::Expand;
-pub use registered::Registered;
-pub use write::indent_aware_write;
 use handlebars_base::error::{RenderError, RenderErrorReason};
 use handlebars_scope::context::Context;
 use handlebars_scope::output::{Output, StringOutput};
 use handlebars_template::template::{Template, TemplateElement};
 use log::Log;
+pub use registered::Registered;
 use std::alloc::Global;
+pub use write::indent_aware_write;
 
 /// What can be rendered.
 pub trait Renderable {

@@ -1,11 +1,11 @@
-use Rattle.std.proofs.Common.{◌∙◌, sym, ap, map, Option, List, refl}
+use Rattle.std.proofs.Common.{◌∙◌, sym, ap, map, Option, List}
 use Rattle.std.specs.Prelude.{slice_get}
 use Rattle.handlebars_base.specs.RenderRefusals.{spot_of}
 use Rattle.handlebars_template.specs.Place.{Place}
 use Rattle.handlebars_template.specs.Tree.{Tree, tree_name, CallMarks, call_marks}
 use Rattle.handlebars_template.specs.TreeView.{body_view, call_view, element_view, place_of}
 use Rattle.handlebars_template.specs.declared.template.tree.TemplateMapping.{TemplateMapping}
-use Rattle.handlebars_template.proofs.Levels.{call_name-view, call_body-view, call_inverse-view, call_marks-view, element_view-Expression, element_view-HtmlExpression, element_view-HelperBlock, element_view-DecoratorExpression, element_view-DecoratorBlock, element_view-PartialExpression, element_view-PartialBlock, element_view-Comment, element_view-RawString}
+use Rattle.handlebars_template.proofs.Levels.{call_name-view, call_body-view, call_inverse-view, call_marks-view, element_view-Expression, element_view-HelperBlock, element_view-DecoratorExpression, element_view-DecoratorBlock, element_view-PartialExpression, element_view-PartialBlock, element_view-Comment, element_view-RawString}
 use Rattle.handlebars_template.proofs.Trees.{tree_view-out}
 use Rattle.handlebars_scope.specs.Put.{of_text}
 use Rattle.handlebars_scope.specs.Sites.{element_in}
@@ -14,7 +14,7 @@ use Rattle.handlebars_helpers.specs.declared.built_in.Choice.TheVariants.{Body, 
 use Rattle.handlebars_helpers.specs.View.{choice_of, helper_view, kind_of}
 use Rattle.handlebars.specs.Means.{render_chosen}
 use Rattle.handlebars.specs.Runs.{named_as, placed_at}
-use Rattle.handlebars.specs.View.{setting_in, state_of, lone_view}
+use Rattle.handlebars.specs.View.{state_of, lone_view}
 use Rattle.handlebars.proofs.Calls.{carry_out_none, chosen_ok, chosen_err, called_some, called_none, call_ok, call_err, lone_some, lone_none, lone_err, entered_as, helped_as}
 use Rattle.handlebars.proofs.Carry.{carries-done, carries-no_value, carries-out_of_memory, carries-puts, carries-run, carries-unescaped, carries_on-bracket, carries_on-task, carries_on-task_over, restored}
 use Rattle.handlebars.proofs.Elements.{left_starts, left_goes, left_over, left_ends, whole_with}
