@@ -10,9 +10,9 @@ use Rattle.handlebars_base.specs.declared.error.render_error.RenderError.{Render
 use Rattle.handlebars_scope.specs.Outputs.{Held}
 use Rattle.handlebars_scope.specs.Put.{Origin, Piece, join, pieces_of}
 use Rattle.handlebars.specs.State.{Setting, State}
-use Rattle.handlebars.specs.Steps.{Task, Steps, Done, Refuse, Get, Set, Do, Prog, run, state, ◌>>=◌, ◌>>◌}
-use Rattle.handlebars.specs.Means.{write_text, unescaped, todo}
-use Rattle.handlebars.specs.Runs.{Fault, plain_fault, Outcome, Ended, Refused, Faulted, NoMemory, mark, cut_off, Runs, done, refused, wrote, got, set, did, did_over, stop, cut}
+use Rattle.handlebars.specs.Steps.{Task, Steps, Done, Refuse, Get, Set, Do, Prog, return, run, refuse_for, state, perform, ◌>>=◌, ◌>>◌}
+use Rattle.handlebars.specs.Means.{write_text, unescaped, line_in, line_out, in_bracket, todo}
+use Rattle.handlebars.specs.Runs.{Fault, plain_fault, Outcome, Ended, Refused, Faulted, NoMemory, mark, cut_off, Runs, done, refused, wrote, got, set, did, did_over, stop, cut, GivesValue, RefusesValue}
 use Rattle.handlebars.specs.View.{Moment, TellsFault, Answered, Tells, ended, refusal, fault, no_memory, CarriesOut, CarriesOn, goes_on, is_over, Puts, all_put, front_put}
 use Rattle.handlebars.proofs.RunLaws.{join-append, Runs-short}
 
@@ -163,6 +163,50 @@ module _ (p : Setting) (may : Error → Type 0) where
       → Puts t may (at s h) r (at next new) → CarriesOut p (run (write_text o t)) may (at s h) r (at next new)
   carries-puts o t puts = carries-run (carries_on-puts o t puts)
 
+  -- ---- values, and what is done with them
+
+  carries-value : {A : Type 0} (m : Prog A) (k : A → Steps) {s : State} {a : A} {h : Held} {after : Moment} {r : Answered}
+      → GivesValue p m s a → CarriesOut p (k a) may (at s h) r after → CarriesOut p (m k) may (at s h) r after
+  carries-value m k g c = record {
+    pieces = c.pieces;
+    outcome = c.outcome;
+    runs = g k c.pieces c.outcome c.runs;
+    text = c.text;
+    tells = c.tells;
+  }
+
+  pub carries_on-value : {A : Type 0} (m : Prog A) (f : A → Prog (Unit {0})) {s : State} {a : A} {h : Held} {after : Moment}
+      {r : Answered} → GivesValue p m s a → CarriesOn p (f a) may (at s h) r after → CarriesOn p (m >>= f) may (at s h) r after
+  unfolding ◌>>=◌
+  carries_on-value m f g (goes_on c) = goes_on (λ k r last d. carries-value m (λ a. f a k) g (c k r last d))
+  carries_on-value m f g (is_over c) = is_over (λ k. carries-value m (λ a. f a k) g (c k))
+
+  pub carries-no_value : {A : Type 0} (m : Prog A) (k : A → Steps) {s next : State} {h : Held} (e : RenderError)
+      → (reason_in e ≢ out_of_memory → RefusesValue p m s (refusal_of e)) → CarriesOut p (m k) may (at s h) (Err e) (at next h)
+  carries-no_value m k {h = h} e is = elim (memory_or (reason_in e)) [
+    | inl memory ↦ carries-no_memory e memory
+    | inr other ↦ record {
+      pieces = [];
+      outcome = Refused (refusal_of e);
+      runs = is other k;
+      text = sym (append-nil h.text);
+      tells = refusal refl;
+    }
+  ]
+
+  pub carries_on-no_value : {A : Type 0} (m : Prog A) (f : A → Prog (Unit {0})) {s next : State} {h : Held} (e : RenderError)
+      → (reason_in e ≢ out_of_memory → RefusesValue p m s (refusal_of e))
+      → CarriesOn p (m >>= f) may (at s h) (Err e) (at next h)
+  unfolding ◌>>=◌
+  carries_on-no_value m f e is = is_over (λ k. carries-no_value m (λ a. f a k) e is)
+
+  pub carries_on-done : {s : State} {h : Held} {u : Unit {0}} → CarriesOn p (return tt) may (at s h) (Ok u) (at s h)
+  carries_on-done = goes_on (λ k r last c. c)
+
+  pub carries_on-refuse : {x : Reason} {s next : State} {h : Held} (e : RenderError) → IsRefusal (plain_refusal x) e
+      → CarriesOn p (refuse_for x) may (at s h) (Err e) (at next h)
+  carries_on-refuse e is = is_over (λ k. carries-refuse e is)
+
   -- ---- escaping off, and then as before
 
   -- behind an error the state may be any
@@ -191,6 +235,20 @@ module _ (p : Setting) (may : Error → Type 0) where
       let restore : Unit {0} → Steps = λ v. Get (λ z. Set (record z { escapes = s.escapes }) Done) in
       carries-get (carries-set (subst (λ (z : State). CarriesOut p (m restore) may (at z h) (Err e) (at last new)) starts
       (carries-elsewhere (c restore))))
+
+  -- the line around a call
+  pub carries_on-bracket : (marked : Bool) (m : Prog (Unit {0})) {s mid next last : State} {h new : Held} {r : Answered}
+      → mid ≡ record s { line = line_in marked s.line } → last ≡ record next { line = line_out s.line next.line }
+      → CarriesOn p m may (at mid h) r (at next new) → CarriesOn p (in_bracket marked m) may (at s h) r (at last new)
+  unfolding ◌>>=◌ ◌>>◌
+  carries_on-bracket marked m {s = s} {h = h} {new = new} starts ends (goes_on c) = goes_on (λ k r last d.
+      let back : Unit {0} → Steps = λ v. Get (λ z. Set (record z { line = line_out s.line z.line }) (k tt)) in
+      let behind = carries-get (carries-set (subst (λ (z : State). CarriesOut p (k tt) may (at z new) r last) ends d)) in
+      carries-get (carries-set (subst (λ (z : State). CarriesOut p (m back) may (at z h) r last) starts (c back r last behind))))
+  carries_on-bracket marked m {s = s} {last = last} {h = h} {new = new} starts ends (is_over {e = e} c) = is_over (λ k.
+      let back : Unit {0} → Steps = λ v. Get (λ z. Set (record z { line = line_out s.line z.line }) (k tt)) in
+      carries-get (carries-set (subst (λ (z : State). CarriesOut p (m back) may (at z h) (Err e) (at last new)) starts
+      (carries-elsewhere (c back)))))
 
   -- ---- a part, and what comes next
 
@@ -247,6 +305,14 @@ module _ (p : Setting) (may : Error → Type 0) where
   pub carries-over : {t : Task} {k : Steps} {s next : State} {h new : Held} (e d : RenderError) → IsMarked t e d
       → CarriesOut p (todo p t) may (at s h) (Err e) (at next new) → CarriesOut p (Do t k) may (at s h) (Err d) (at next new)
   carries-over e d m c = Tells-over c.outcome e d m c.pieces c.runs c.text c.tells
+
+  pub carries_on-task : {t : Task} {s next : State} {h new : Held} {u : Unit {0}}
+      → CarriesOut p (todo p t) may (at s h) (Ok u) (at next new) → CarriesOn p (perform t) may (at s h) (Ok u) (at next new)
+  carries_on-task a = goes_on (λ k r last c. carries-then a c)
+
+  pub carries_on-task_over : {t : Task} {s next : State} {h new : Held} (e d : RenderError) → IsMarked t e d
+      → CarriesOut p (todo p t) may (at s h) (Err e) (at next new) → CarriesOn p (perform t) may (at s h) (Err d) (at next new)
+  carries_on-task_over e d m a = is_over (λ k. carries-over e d m a)
 
   -- the last part
   pub carries-last : {t : Task} {s next : State} {h new : Held} {u : Unit {0}}

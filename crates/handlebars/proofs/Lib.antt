@@ -1,12 +1,16 @@
 pub mod RunLaws
+pub mod Gives
 pub mod RunOrigins
 pub mod Carry
 pub mod Puts
 pub mod Elements
+pub mod Calls
 pub mod Kept
 pub mod Lists
 pub mod AnswerLaws
 pub mod Stored
 pub mod Texts
-pub mod WorkedRows
-mod Values
+mod Evaluates
+mod Lone
+mod Ordered
+pub mod Values

@@ -1,11 +1,11 @@
--- What is written is determined: two whole runs are one, and a run that stopped wrote a Runs-beginning of the whole one.
+-- What is written is determined: two whole runs are one, and a run that stopped wrote a beginning of the whole one.
 use Rattle.std.proofs.Common.{◌≡◌, List, [], ◌∷◌, ◌++◌, refl, sym, ap, ◌∙◌, subst, append_assoc, append-nil}
 use Rattle.handlebars_base.specs.Reasons.{Refusal}
 use Rattle.handlebars_scope.specs.Outputs.{IsBeginning}
 use Rattle.handlebars_scope.specs.Put.{Piece, join}
 use Rattle.handlebars.specs.State.{Setting, State}
 use Rattle.handlebars.specs.Steps.{Task, Steps}
-use Rattle.handlebars.specs.Runs.{Outcome, Ended, Refused, Faulted, NoMemory, IsOver, IsStop, StopsHere, Front, none, cut_off, more, marked, Runs, done, refused, wrote, got, set, did, did_over, stop, cut}
+use Rattle.handlebars.specs.Runs.{Outcome, Ended, Refused, Faulted, NoMemory, IsOver, IsStop, StopsHere, Front, none, cut_off, more, marked, Runs, done, refused, wrote, got, set, did, did_over, captured, captured_over, stop, cut}
 
 pub join-append : (xs ys : List Piece) → join (xs ++ ys) ≡ join xs ++ join ys
 join-append [] ys = refl
@@ -23,6 +23,10 @@ Ended-injective {s = s} e = ap (state_or s) e
 
 Runs-state : {p : Setting} {k : Steps} {s t : State} {ps : List Piece} {o : Outcome} → s ≡ t → Runs p k t ps o → Runs p k s ps o
 Runs-state {p = p} {k = k} {ps = ps} {o = o} e r = subst (λ (t : State). Runs p k t ps o) (sym e) r
+
+Runs-pieces : {p : Setting} (f : List Piece → Steps) {s : State} {xs ys ps : List Piece} {o : Outcome} → xs ≡ ys
+    → Runs p (f ys) s ps o → Runs p (f xs) s ps o
+Runs-pieces {p = p} f {s = s} {ps = ps} {o = o} e r = subst (λ (zs : List Piece). Runs p (f zs) s ps o) (sym e) r
 
 abbrev pub IsWhole : Outcome → Type 0
 IsWhole o = IsStop o → ⊥
@@ -74,6 +78,13 @@ Runs-one (did_over {t = t} {o = o} a over) (did c d) h g =
 Runs-one (did_over {t = t} {o = o} a over) (did_over {o = o'} c over') h g =
     let e = Runs-one a c (λ i. h (IsStop-marked t o i)) (λ i. g (IsStop-marked t o' i)) in (e.0, ap (marked t) e.1)
 Runs-one (did_over a over) stop h g = absurd (g tt)
+Runs-one (captured {f = f} a b) (captured c d) h g =
+    let e = Runs-one a c (λ x. x) (λ x. x) in Runs-one b (Runs-pieces f e.0 d) h g
+Runs-one (captured a b) (captured_over c over) h g = absurd (subst IsOver (sym (Runs-one a c (λ x. x) g).1) over)
+Runs-one (captured a b) stop h g = absurd (g tt)
+Runs-one (captured_over a over) (captured c d) h g = absurd (subst IsOver (Runs-one a c h (λ x. x)).1 over)
+Runs-one (captured_over a over) (captured_over c over') h g = (refl, (Runs-one a c h g).1)
+Runs-one (captured_over a over) stop h g = absurd (g tt)
 
 IsBeginning-join : (xs ys zs : List Piece) → IsBeginning (join ys) (join zs) → IsBeginning (join (xs ++ ys)) (join (xs ++ zs))
 IsBeginning-join [] ys zs b = b
@@ -87,7 +98,7 @@ IsBeginning-front (none {ps = ps}) = (join ps, refl)
 IsBeginning-front (cut_off {p = p} {t = t} {ps = ps} b) = (b.0 ++ join ps, ap (λ ws. ws ++ join ps) b.1 ∙ append_assoc t b.0 (join ps) ∙ ap (λ ws. ws ++ (b.0 ++ join ps)) (sym (append-nil t)))
 IsBeginning-front (more {p = p} {qs = qs} {ps = ps} f) = let b = IsBeginning-front f in (b.0, ap (λ ws. p.text ++ ws) b.1 ∙ sym (append_assoc p.text (join qs) b.0))
 
--- a run that stopped wrote a Runs-beginning of the whole one
+-- a run that stopped wrote a beginning of the whole one
 pub Runs-beginning : {p : Setting} {k : Steps} {s : State} {ps qs : List Piece} {o q : Outcome}
     → Runs p k s ps o → Runs p k s qs q → IsStop o → IsWhole q → IsBeginning (join ps) (join qs)
 Runs-beginning done q h g = absurd h
@@ -115,6 +126,11 @@ Runs-beginning (did_over {t = t} {ps = xs} {o = o} a over) (did {ps = zs} {qs = 
 Runs-beginning (did_over {t = t} {o = o} a over) (did_over {o = o'} c over') h g =
     Runs-beginning a c (marked-IsStop t o h) (λ i. g (IsStop-marked t o' i))
 Runs-beginning (did_over a over) stop h g = absurd (g tt)
+Runs-beginning (captured {f = f} a b) (captured c d) h g =
+    let e = Runs-one a c (λ x. x) (λ x. x) in Runs-beginning b (Runs-pieces f e.0 d) h g
+Runs-beginning (captured a b) (captured_over c over) h g = absurd (subst IsOver (sym (Runs-one a c (λ x. x) g).1) over)
+Runs-beginning (captured a b) stop h g = absurd (g tt)
+Runs-beginning {qs = qs} (captured_over a over) q h g = (join qs, refl)
 
 -- a run that is refused might as well stop there for want of memory
 pub Runs-short : {p : Setting} {k : Steps} {s : State} {ps : List Piece} {f : Refusal} {o : Outcome}
@@ -129,6 +145,8 @@ Runs-short (did_over {o = Ended s} a over) e = absurd over
 Runs-short (did_over {o = Refused f} a over) e = did_over (Runs-short a refl) tt
 Runs-short (did_over {o = Faulted f} a over) e = cc
 Runs-short (did_over {o = NoMemory} a over) e = cc
+Runs-short (captured a b) e = captured a (Runs-short b e)
+Runs-short (captured_over a over) e = stop
 Runs-short stop e = cc
 Runs-short (cut {o = Ended s} i b) e = absurd i
 Runs-short (cut {o = Refused f} i b) e = absurd i

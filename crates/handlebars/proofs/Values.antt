@@ -1,183 +1,316 @@
--- Answers one behind another, for the proofs of the values of parameters.
-use Rattle.std.proofs.Common.{◌≡◌, ◌≢◌, Bool, Option, ℕ, ◌+◌, ◌<◌, List, ◌∷◌, length, drop, get_or, Result, Ok, Err, refl, sym, ap, ◌∙◌, subst, String, Global}
-use Rattle.std.specs.Prelude.{IsErrAnd, IfOk, IfErr}
-use Rattle.serde_json.specs.Data.{Data}
-use Rattle.std.proofs.lemmas.List.{drop_more}
-use Rattle.handlebars_base.specs.Answers.{Answer, gives, refuses, answer_map, Answers}
+-- How the values of calls compose.
+use Rattle.std.proofs.Common.{◌≡◌, ◌≢◌, ◌++◌, ℕ, ◌+◌, ◌<◌, ◌≤◌, List, [], ◌∷◌, length, drop, get_or, Bool, Option, Some, None, Result, Ok, Err, String, Global, rules, refl, sym, ap, ◌∙◌, subst, append_assoc, append-nil}
+use Rattle.std.specs.Prelude.{IsErrAnd}
+use Rattle.std.proofs.lemmas.List.{drop_more, drop_all}
+use Rattle.std.specs.String.{string_bytes}
+use Rattle.serde_json.specs.Data.{string}
+use Rattle.serde_json.specs.View.{view}
+use Rattle.serde_json.specs.declared.value.Value as value
+use Rattle.serde_json.specs.declared.value.Value.{the_lemmas}
+use Rattle.handlebars_base.specs.Answers.{Answer, gives, refuses, Answers, IsRefusal}
 use Rattle.handlebars_base.specs.Bytes.{Text}
-use Rattle.handlebars_base.specs.Path.{Reference, IsPath}
 use Rattle.handlebars_base.specs.PathAndData.{PathAndData}
-use Rattle.handlebars_base.specs.Reasons.{Reason, Refusal, out_of_memory, invalid_json_path}
+use Rattle.handlebars_base.specs.Reasons.{Reason, Refusal, out_of_memory, helper_not_found}
 use Rattle.handlebars_base.specs.RenderRefusals.{plain_refusal, reason_in, refusal_of}
 use Rattle.handlebars_base.specs.declared.error.render_error.RenderError.{RenderError}
-use Rattle.handlebars_base.specs.Scoped.{Found}
-use Rattle.handlebars_template.specs.Tree.{as_name, Call, call, call_name, call_params, call_pairs, Decorator, decorator, decorator_name, decorator_params, decorator_pairs, args, Param, Params, param}
-use Rattle.handlebars_template.specs.TreeView.{call_view, decorator_view, param_view, params_view, pairs_view}
+use Rattle.handlebars_base.specs.Scoped.{Found, data_in}
+use Rattle.handlebars_base.specs.Values.{rendered}
+use Rattle.handlebars_template.specs.Tree.{as_name, Element, expression, subexpression, Call, call, call_name, call_params, call_pairs, Decorator, decorator, decorator_name, decorator_params, decorator_pairs, args, Param, Params, param, Pairs, pair}
+use Rattle.handlebars_template.specs.TreeView.{call_view, decorator_view, element_view, param_view, params_view, pairs_view, subexpression_view}
 use Rattle.handlebars_template.specs.declared.template.tree.HelperTemplate.{HelperTemplate, out-HelperTemplate}
 use Rattle.handlebars_template.specs.declared.template.tree.DecoratorTemplate.{DecoratorTemplate, out-DecoratorTemplate}
 use Rattle.handlebars_template.specs.declared.template.tree.Parameter.{Parameter}
+use Rattle.handlebars_template.specs.declared.template.tree.Subexpression.{Subexpression, out-Subexpression}
+use Rattle.handlebars_template.specs.declared.template.tree.BlockParam as tree
 use Rattle.handlebars_template.proofs.Levels.{call_name-view, call_params-view, call_pairs-view, decorator_name-view, decorator_params-view, decorator_pairs-view}
-use Rattle.handlebars_scope.specs.Resolve.{resolved}
+use Rattle.handlebars_scope.specs.Put.{Piece}
+use Rattle.handlebars_scope.specs.Sites.{Site}
+use Rattle.handlebars_helpers.specs.CallView.{CallView}
+use Rattle.handlebars_helpers.specs.Choice.{Kind, Choice, the_body, the_inverse, chosen}
 use Rattle.handlebars.specs.State.{Setting, State}
-use Rattle.handlebars.specs.Expand.{Evaluates, leads, leads_nowhere, as_written, is_literal, TagView, made_view, more_values, not_found, expands, expand_as_name, params_values, pairs_values, view_of_call, view_of_tag}
-use Rattle.handlebars.specs.View.{without_value}
+use Rattle.handlebars.specs.Steps.{Prog, return, answer, refuse, refuse_for, state, ◌>>=◌, ◌>>◌}
+use Rattle.handlebars.specs.Expand.{as_written, is_literal, expand, expands, expand_as_name, inner_value, params_values, pairs_values, view_of_call, view_of_tag, helped_value, choice_value}
+use Rattle.handlebars.specs.Runs.{Outcome, Refused, Runs, refused, got, set, done, captured, GivesValue, RefusesValue}
+use Rattle.handlebars.specs.View.{Yields}
 
--- ---- answers
+pub subexpression_view-out : (s : Subexpression) → subexpression_view s ≡ element_view (out-Subexpression s).element.value
+subexpression_view-out s = search (rules, tree.the_lemmas)
 
-refuses_or : {A : Type 0} → Refusal → Answer A → Refusal
-refuses_or d (gives x) = d
-refuses_or d (refuses r) = r
+pub view-String : (s : String Global) → view (value.String s) ≡ string (string_bytes s)
+view-String s = search (rules, the_lemmas)
 
--- a refusal in place of a value
-abbrev no_value : (A : Type 0) → Refusal → Answer A
-no_value A r = refuses r
+-- parameters from an index on
+pub params-here : (qs : List Parameter) (i : ℕ) (q : Parameter) → i < length qs → q ≡ get_or qs i q
+    → params_view (drop i qs) ≡ param (param_view q) (params_view (drop (i + 1) qs))
+params-here qs i q lt is = ap params_view (drop_more qs i q lt)
+    ∙ ap (λ (z : Parameter). param (param_view z) (params_view (drop (i + 1) qs))) (sym is)
 
-pub refuses-injective : {A : Type 0} {r q : Refusal} → no_value A r ≡ no_value A q → r ≡ q
-unfolding refuses_or
-refuses-injective {r = r} e = ap (refuses_or r) e
+pub params-past : (qs : List Parameter) (i : ℕ) → length qs ≤ i → params_view (drop i qs) ≡ params_view []
+params-past qs i over = ap params_view (drop_all i qs over)
 
-gives_or : {A : Type 0} → A → Answer A → A
-gives_or d (gives x) = x
-gives_or d (refuses r) = d
+module _ (p : Setting) where
+  pub gives-return : {A : Type 0} {a : A} {s : State} → GivesValue p (return a) s a
+  gives-return k ps o r = r
 
-pub gives-injective : {A : Type 0} {x y : A} → gives x ≡ gives y → x ≡ y
-unfolding gives_or
-gives-injective {x = x} e = ap (gives_or x) e
+  pub gives-then : {A B : Type 0} (m : Prog A) (f : A → Prog B) {s : State} {a : A} {b : B}
+      → GivesValue p m s a → GivesValue p (f a) s b → GivesValue p (m >>= f) s b
+  unfolding ◌>>=◌
+  gives-then m f x y k ps o r = x (λ a. f a k) ps o (y k ps o r)
 
-pub gives≢refuses : {A : Type 0} {x : A} {r : Refusal} → gives x ≡ no_value A r → ⊥
-gives≢refuses e = cc
+  pub refuses-first : {A B : Type 0} (m : Prog A) (f : A → Prog B) {s : State} {r : Refusal}
+      → RefusesValue p m s r → RefusesValue p (m >>= f) s r
+  unfolding ◌>>=◌
+  refuses-first m f x k = x (λ a. f a k)
 
--- an error that `?` hands on
-pub handed_on : {T A : Type 0} (seen : T → A) (r : Result T RenderError) (e : RenderError) (a : Answer A) → IsErrAnd r (λ d. d ≡ e)
-    → (reason_in e ≢ out_of_memory → a ≡ refuses (refusal_of e)) → Answers seen r a
-handed_on seen (Ok x) e a is h = absurd is
-handed_on seen (Err d) e a is h = subst (λ (z : RenderError). reason_in z ≢ out_of_memory → a ≡ refuses (refusal_of z)) (sym is) h
+  pub refuses-then : {A B : Type 0} (m : Prog A) (f : A → Prog B) {s : State} {a : A} {r : Refusal}
+      → GivesValue p m s a → RefusesValue p (f a) s r → RefusesValue p (m >>= f) s r
+  unfolding ◌>>=◌
+  refuses-then m f {r = r} x y k = x (λ a. f a k) [] (Refused r) (y k)
 
--- a value more, which is there
-pub more_given : {A B C : Type 0} (seen : A → B) (f : A → C) (x : C) (a : Answer A) (rest : Answer (List B))
-    → answer_map f a ≡ gives x → without_value (more_values seen a rest) ≡ without_value rest
-more_given seen f x (gives v) (gives vs) e = refl
-more_given seen f x (gives v) (refuses r) e = refl
-more_given seen f x (refuses r) rest e = absurd (gives≢refuses (sym e))
+  pub gives-answer : {A : Type 0} {a : Answer A} {v : A} {s : State} → a ≡ gives v → GivesValue p (answer a) s v
+  gives-answer {A = A} {v = v} {s = s} is = subst (λ (z : Answer A). GivesValue p (answer z) s v) (sym is) (λ k ps o r. r)
 
--- or is refused
-pub more_refused : {A B C : Type 0} (seen : A → B) (f : A → C) (r : Refusal) (a : Answer A) (rest : Answer (List B))
-    → answer_map f a ≡ refuses r → without_value (more_values seen a rest) ≡ refuses r
-more_refused seen f r (gives v) rest e = absurd (gives≢refuses e)
-more_refused seen f r (refuses q) rest e = ap (λ (z : Refusal). refuses z) (refuses-injective e)
+  pub refuses-answer : {A : Type 0} {a : Answer A} {r : Refusal} {s : State} → a ≡ refuses r → RefusesValue p (answer a) s r
+  refuses-answer {A = A} {r = r} {s = s} is =
+      subst (λ (z : Answer A). RefusesValue p (answer z) s r) (sym is) (λ k. refused)
 
--- a value as it is written
-pub given_as_written : (q : Param) (a : Answer Found) (found : Found) (path : Option Text) (constant : Bool) (d : PathAndData)
-    → d ≡ record { relative_path = path; found = found; is_constant = constant } → path ≡ as_name q → constant ≡ is_literal q
-    → a ≡ gives found → answer_map (as_written q) a ≡ gives d
-given_as_written q a found path constant d is same literal given =
-    ap (answer_map (as_written q)) given ∙ ap (λ (z : PathAndData). gives z) (sym (is ∙ rw (same, literal) refl))
+  -- a refusal as the code has it
+  pub refuses-so : {A : Type 0} {r : Refusal} {s : State} (e : RenderError) → refusal_of e ≡ r
+      → RefusesValue {A = A} p (refuse r) s (refusal_of e)
+  refuses-so {r = r} {s = s} e is k = subst (λ (z : Refusal). Runs p (refuse r k) s [] (Refused z)) (sym is) refused
 
--- ---- texts as paths
+  -- ---- what calls say
 
-pub evaluates_nowhere : {T : Type 0} (given : Data) (t : Text) (r : Result T RenderError) (e : RenderError) → IsErrAnd r (λ d. d ≡ e)
-    → (reason_in e ≢ out_of_memory → (refusal_of e ≡ plain_refusal (invalid_json_path t)) × ((means : Reference) → IsPath t means → ⊥))
-    → IfErr r (λ d. reason_in d ≢ out_of_memory → Evaluates given t (refuses (refusal_of d)))
-evaluates_nowhere given t (Ok x) e is h = absurd is
-evaluates_nowhere given t (Err d) e is h = λ other.
-    let k = h (λ memory. other (ap reason_in is ∙ memory)) in
-    subst (λ (z : Refusal). Evaluates given t (refuses z)) (sym (ap refusal_of is ∙ k.0)) (leads_nowhere k.1)
+  -- an error that `?` hands on
+  pub yields-handed_on : {T A : Type 0} (seen : T → A) (m : Prog A) {s : State} (r : Result T RenderError) (e : RenderError)
+      → IsErrAnd r (λ d. d ≡ e) → (reason_in e ≢ out_of_memory → RefusesValue p m s (refusal_of e)) → Yields p m s seen r
+  yields-handed_on seen m (Ok x) e is h = absurd is
+  yields-handed_on seen m {s = s} (Err d) e is h =
+      subst (λ (z : RenderError). reason_in z ≢ out_of_memory → RefusesValue p m s (refusal_of z)) (sym is) h
 
-pub evaluates_to : {T : Type 0} (given : Data) (t : Text) (seen : T → Found) (r : Result T RenderError) (means : Reference) → IsPath t means
-    → Answers seen r (resolved means given) → IfOk r (λ x. Evaluates given t (gives (seen x)))
-evaluates_to given t seen (Ok x) means path answer = leads path answer
-evaluates_to given t seen (Err e) means path answer = tt
+  pub yields-answer : {T A : Type 0} (seen : T → A) (a : Answer A) (s : State) (r : Result T RenderError) → Answers seen r a
+      → Yields p (answer a) s seen r
+  yields-answer seen a s (Ok x) is = gives-answer is
+  yields-answer seen a s (Err e) is = λ other. refuses-answer (is other)
 
-pub evaluation_refused : {T : Type 0} (given : Data) (t : Text) (seen : T → Found) (r : Result T RenderError) (means : Reference) → IsPath t means
-    → Answers seen r (resolved means given) → IfErr r (λ e. reason_in e ≢ out_of_memory → Evaluates given t (refuses (refusal_of e)))
-evaluation_refused given t seen (Ok x) means path answer = tt
-evaluation_refused given t seen (Err e) means path answer = λ other. leads path (answer other)
+  -- ---- calls in parentheses
 
--- ---- views
+  -- what a helper chooses writes nothing there
+  gives-choice : (site : Site) (choice : Choice) {s : State} → GivesValue p (choice_value site choice) s (Found.value (string []))
+  unfolding ◌>>=◌ ◌>>◌
+  gives-choice site the_body = λ k ps o r. captured (got (set done)) r
+  gives-choice site the_inverse = λ k ps o r. captured (got (set done)) r
 
-pub view_named : (n : Text) (called : Answer Text) (ps : Answer (List PathAndData)) (hs : Answer (List (Text × PathAndData)))
-    → called ≡ gives n → without_value ps ≡ gives tt → without_value hs ≡ gives tt
-    → answer_map (λ v. v.name) (made_view called ps hs) ≡ gives n
-view_named n (gives m) (gives vs) (gives us) a b c = a
-view_named n (gives m) (gives vs) (refuses r) a b c = absurd (gives≢refuses (sym c))
-view_named n (gives m) (refuses r) hs a b c = absurd (gives≢refuses (sym b))
-view_named n (refuses r) ps hs a b c = absurd (gives≢refuses (sym a))
+  pub gives-helped : (site : Site) (h : Option Kind) (k : Kind) (v : CallView) (choice : Choice) (found : Found) {s : State}
+      → h ≡ Some k → chosen k v ≡ gives choice → found ≡ Found.value (string []) → GivesValue p (helped_value site h v) s found
+  gives-helped site h k v choice found {s = s} is chooses same =
+      subst (λ (z : Option Kind). GivesValue p (helped_value site z v) s found) (sym is)
+      (subst (λ (z : Found). GivesValue p (helped_value site (Some k) v) s z) (sym same)
+      (gives-then (answer (chosen k v)) (choice_value site) (gives-answer chooses) (gives-choice site choice)))
 
-pub view_without_params : (n : Text) (r : Refusal) (called : Answer Text) (ps : Answer (List PathAndData))
-    (hs : Answer (List (Text × PathAndData))) → called ≡ gives n → without_value ps ≡ refuses r
-    → answer_map (λ v. v.name) (made_view called ps hs) ≡ refuses r
-view_without_params n r (gives m) (gives vs) hs a b = absurd (gives≢refuses b)
-view_without_params n r (gives m) (refuses q) hs a b = ap (λ (z : Refusal). refuses z) (refuses-injective b)
-view_without_params n r (refuses q) ps hs a b = absurd (gives≢refuses (sym a))
+  pub refuses-helped : (site : Site) (h : Option Kind) (k : Kind) (v : CallView) {s : State} {r : Refusal}
+      → h ≡ Some k → chosen k v ≡ refuses r → RefusesValue p (helped_value site h v) s r
+  refuses-helped site h k v {s = s} {r = r} is refusal =
+      subst (λ (z : Option Kind). RefusesValue p (helped_value site z v) s r) (sym is)
+      (refuses-first (answer (chosen k v)) (choice_value site) (refuses-answer refusal))
 
-pub view_without_pairs : (n : Text) (r : Refusal) (called : Answer Text) (ps : Answer (List PathAndData))
-    (hs : Answer (List (Text × PathAndData))) → called ≡ gives n → without_value ps ≡ gives tt → without_value hs ≡ refuses r
-    → answer_map (λ v. v.name) (made_view called ps hs) ≡ refuses r
-view_without_pairs n r (gives m) (gives vs) (gives us) a b c = absurd (gives≢refuses c)
-view_without_pairs n r (gives m) (gives vs) (refuses q) a b c = ap (λ (z : Refusal). refuses z) (refuses-injective c)
-view_without_pairs n r (gives m) (refuses q) hs a b c = absurd (gives≢refuses (sym b))
-view_without_pairs n r (refuses q) ps hs a b c = absurd (gives≢refuses (sym a))
+  pub refuses-unknown : (site : Site) (h : Option Kind) (v : CallView) {s : State} (e : RenderError) → h ≡ None
+      → refusal_of e ≡ plain_refusal (helper_not_found v.name) → RefusesValue p (helped_value site h v) s (refusal_of e)
+  refuses-unknown site h v {s = s} e is same =
+      subst (λ (z : Option Kind). RefusesValue p (helped_value site z v) s (refusal_of e)) (sym is) (refuses-so e same)
 
--- the refusal of a call whose view has a name, or is refused
-pub not_found_named : (why : Text → Reason) (a : Answer TagView) (n : Text) → answer_map (λ v. v.name) a ≡ gives n
-    → not_found why a ≡ plain_refusal (why n)
-not_found_named why (gives v) n e = ap (λ (z : Text). plain_refusal (why z)) (gives-injective e)
-not_found_named why (refuses r) n e = absurd (gives≢refuses (sym e))
+  pub yields-then : {T A B : Type 0} (seen : T → B) (m : Prog A) (f : A → Prog B) {s : State} {a : A} (r : Result T RenderError)
+      → GivesValue p m s a → Yields p (f a) s seen r → Yields p (m >>= f) s seen r
+  yields-then seen m f (Ok x) g y = gives-then m f g y
+  yields-then seen m f (Err e) g y = λ other. refuses-then m f g (y other)
 
-pub not_found_refused : (why : Text → Reason) (a : Answer TagView) (r : Refusal) → answer_map (λ v. v.name) a ≡ refuses r
-    → not_found why a ≡ r
-not_found_refused why (gives v) r e = absurd (gives≢refuses e)
-not_found_refused why (refuses q) r e = refuses-injective e
+  pub yields-state : {T A : Type 0} (seen : T → A) (f : State → Prog A) (s : State) (r : Result T RenderError)
+      → Yields p (f s) s seen r → Yields p (state >>= f) s seen r
+  unfolding ◌>>=◌
+  yields-state seen f s (Ok x) y = λ k ps o r. got (y k ps o r)
+  yields-state seen f s (Err e) y = λ other k. got (y other k)
 
-module _ (p : Setting) (s : State) where
-  view_of_call-parts : (c : Call)
-      → view_of_call p s c ≡ made_view (expand_as_name p s (call_name c)) (params_values p s (call_params c)) (pairs_values p s (call_pairs c))
-  view_of_call-parts (call n (args ps hs) b t marks) = refl
+  -- the value of a call, by its view
+  pub yields-call : {T : Type 0} (seen : T → Found) (site : Site) (c : Call) (v w : CallView) {s : State} (r : Result T RenderError)
+      → v ≡ w → GivesValue p (view_of_call p site c) s w → Yields p (helped_value site (p.parts.helper v.name) v) s seen r
+      → Yields p (inner_value p site (expression c)) s seen r
+  yields-call seen site c v w {s = s} r is g y =
+      yields-then seen (view_of_call p site c) (λ v. helped_value site (p.parts.helper v.name) v) r g
+      (subst (λ (z : CallView). Yields p (helped_value site (p.parts.helper z.name) z) s seen r) is y)
 
-  pub view_of_call-out : (h : HelperTemplate) → view_of_call p s (call_view h)
-      ≡ made_view (expand_as_name p s (param_view (out-HelperTemplate h).name))
-      (params_values p s (params_view (out-HelperTemplate h).params.items))
-      (pairs_values p s (pairs_view (out-HelperTemplate h).hash.entries))
-  view_of_call-out h = view_of_call-parts (call_view h) ∙ rw (call_name-view h, call_params-view h, call_pairs-view h) refl
+  -- ---- names
 
-  view_of_tag-parts : (t : Decorator)
-      → view_of_tag p s t ≡ made_view (expand_as_name p s (decorator_name t)) (params_values p s (decorator_params t)) (pairs_values p s (decorator_pairs t))
-  view_of_tag-parts (decorator n (args ps hs) b marks) = refl
+  pub gives-called : (site : Site) (e : Element) (found : Found) (t : Text) {s : State} → t ≡ rendered (data_in found)
+      → GivesValue p (inner_value p site e) s found → GivesValue p (expand_as_name p site (subexpression e)) s t
+  gives-called site e found t {s = s} is g =
+      subst (λ (z : Text). GivesValue p (expand_as_name p site (subexpression e)) s z) (sym is)
+      (gives-then (inner_value p site e) _ g gives-return)
 
-  pub view_of_tag-out : (t : DecoratorTemplate) → view_of_tag p s (decorator_view t)
-      ≡ made_view (expand_as_name p s (param_view (out-DecoratorTemplate t).name))
-      (params_values p s (params_view (out-DecoratorTemplate t).params.items))
-      (pairs_values p s (pairs_view (out-DecoratorTemplate t).hash.entries))
-  view_of_tag-out t = view_of_tag-parts (decorator_view t) ∙ rw (decorator_name-view t, decorator_params-view t, decorator_pairs-view t) refl
+  pub refuses-called : (site : Site) (e : Element) {s : State} {r : Refusal} → RefusesValue p (inner_value p site e) s r
+      → RefusesValue p (expand_as_name p site (subexpression e)) s r
+  refuses-called site e n = refuses-first (inner_value p site e) _ n
 
-  -- ---- parameters from an index on
+  -- ---- views
 
-  here : (qs : List Parameter) (i : ℕ) (q : Parameter) → i < length qs → q ≡ get_or qs i q
-      → params_view (drop i qs) ≡ param (param_view q) (params_view (drop (i + 1) qs))
-  here qs i q lt is = ap params_view (drop_more qs i q lt) ∙ ap (λ (z : Parameter). param (param_view z) (params_view (drop (i + 1) qs))) (sym is)
+  module _ (site : Site) where
+    view_of_call-parts : (c : Call) → view_of_call p site c ≡ (expand_as_name p site (call_name c) >>= (λ n.
+        params_values p site (call_params c) >>= (λ vs. pairs_values p site (call_pairs c) >>= (λ ws.
+        return (record { name = n; params = vs; pairs = ws })))))
+    view_of_call-parts (call n (args ps hs) b t marks) = refl
 
-  pub params_given : {A : Type 0} (f : Found → A) (x : A) (qs : List Parameter) (i : ℕ) (q : Parameter) → i < length qs → q ≡ get_or qs i q
-      → answer_map f (expands p s (param_view q)) ≡ gives x
-      → without_value (params_values p s (params_view (drop i qs))) ≡ without_value (params_values p s (params_view (drop (i + 1) qs)))
-  params_given f x qs i q lt is e = ap (λ (z : Params). without_value (params_values p s z)) (here qs i q lt is)
-      ∙ more_given _ f x (expands p s (param_view q)) (params_values p s (params_view (drop (i + 1) qs))) e
+    view_of_tag-parts : (t : Decorator) → view_of_tag p site t ≡ (expand_as_name p site (decorator_name t) >>= (λ n.
+        params_values p site (decorator_params t) >>= (λ vs. pairs_values p site (decorator_pairs t) >>= (λ ws.
+        return (record { name = n; params = vs; pairs = ws })))))
+    view_of_tag-parts (decorator n (args ps hs) b marks) = refl
 
-  pub params_refused : {A : Type 0} (f : Found → A) (r : Refusal) (qs : List Parameter) (i : ℕ) (q : Parameter) → i < length qs → q ≡ get_or qs i q
-      → answer_map f (expands p s (param_view q)) ≡ refuses r
-      → without_value (params_values p s (params_view (drop i qs))) ≡ refuses r
-  params_refused f r qs i q lt is e = ap (λ (z : Params). without_value (params_values p s z)) (here qs i q lt is)
-      ∙ more_refused _ f r (expands p s (param_view q)) (params_values p s (params_view (drop (i + 1) qs))) e
+    -- a view, of the parts of a call or of another tag
+    abbrev pub view_of_parts : Param → Params → Pairs → Prog CallView
+    view_of_parts n ps hs = expand_as_name p site n >>= (λ n. params_values p site ps >>= (λ vs.
+        pairs_values p site hs >>= (λ ws. return (record { name = n; params = vs; pairs = ws }))))
 
-  -- ---- pairs, one by one
+    pub view_of_call-out : (h : HelperTemplate) → view_of_call p site (call_view h)
+        ≡ view_of_parts (param_view (out-HelperTemplate h).name) (params_view (out-HelperTemplate h).params.items)
+        (pairs_view (out-HelperTemplate h).hash.entries)
+    view_of_call-out h = view_of_call-parts (call_view h) ∙ rw (call_name-view h, call_params-view h, call_pairs-view h) refl
 
-  pub pairs_given : {A : Type 0} (f : Found → A) (x : A) (all rest : List (String Global × Parameter)) (k : String Global) (q : Parameter)
-      → all ≡ (k, q) ∷ rest → answer_map f (expands p s (param_view q)) ≡ gives x
-      → without_value (pairs_values p s (pairs_view all)) ≡ without_value (pairs_values p s (pairs_view rest))
-  pairs_given f x all rest k q is e = ap (λ (z : List (String Global × Parameter)). without_value (pairs_values p s (pairs_view z))) is
-      ∙ more_given _ f x (expands p s (param_view q)) (pairs_values p s (pairs_view rest)) e
+    pub view_of_tag-out : (t : DecoratorTemplate) → view_of_tag p site (decorator_view t)
+        ≡ view_of_parts (param_view (out-DecoratorTemplate t).name) (params_view (out-DecoratorTemplate t).params.items)
+        (pairs_view (out-DecoratorTemplate t).hash.entries)
+    view_of_tag-out t =
+        view_of_tag-parts (decorator_view t) ∙ rw (decorator_name-view t, decorator_params-view t, decorator_pairs-view t) refl
 
-  pub pairs_refused : {A : Type 0} (f : Found → A) (r : Refusal) (all rest : List (String Global × Parameter)) (k : String Global) (q : Parameter)
-      → all ≡ (k, q) ∷ rest → answer_map f (expands p s (param_view q)) ≡ refuses r
-      → without_value (pairs_values p s (pairs_view all)) ≡ refuses r
-  pairs_refused f r all rest k q is e = ap (λ (z : List (String Global × Parameter)). without_value (pairs_values p s (pairs_view z))) is
-      ∙ more_refused _ f r (expands p s (param_view q)) (pairs_values p s (pairs_view rest)) e
+    module _ (n : Param) (ps : Params) (hs : Pairs) {s : State} where
+      pub gives-view : {called : Text} {vs : List PathAndData} {ws : List (Text × PathAndData)}
+          → GivesValue p (expand_as_name p site n) s called → GivesValue p (params_values p site ps) s vs
+          → GivesValue p (pairs_values p site hs) s ws
+          → GivesValue p (view_of_parts n ps hs) s (record { name = called; params = vs; pairs = ws })
+      gives-view x y z = gives-then (expand_as_name p site n) _ x
+          (gives-then (params_values p site ps) _ y (gives-then (pairs_values p site hs) _ z gives-return))
+
+      pub refuses-name : {r : Refusal} → RefusesValue p (expand_as_name p site n) s r → RefusesValue p (view_of_parts n ps hs) s r
+      refuses-name x = refuses-first (expand_as_name p site n) _ x
+
+      pub refuses-params : {called : Text} {r : Refusal} → GivesValue p (expand_as_name p site n) s called
+          → RefusesValue p (params_values p site ps) s r → RefusesValue p (view_of_parts n ps hs) s r
+      refuses-params x y = refuses-then (expand_as_name p site n) _ x (refuses-first (params_values p site ps) _ y)
+
+      pub refuses-pairs : {called : Text} {vs : List PathAndData} {r : Refusal} → GivesValue p (expand_as_name p site n) s called
+          → GivesValue p (params_values p site ps) s vs → RefusesValue p (pairs_values p site hs) s r
+          → RefusesValue p (view_of_parts n ps hs) s r
+      refuses-pairs x y z = refuses-then (expand_as_name p site n) _ x
+          (refuses-then (params_values p site ps) _ y (refuses-first (pairs_values p site hs) _ z))
+
+    -- ---- parameters from an index on
+
+    module _ {s : State} where
+      gives-param : (q : Param) (qs : Params) (d : PathAndData) (vs : List PathAndData)
+          → GivesValue p (expand p site q) s d → GivesValue p (params_values p site qs) s vs
+          → GivesValue p (params_values p site (param q qs)) s (d ∷ vs)
+      unfolding ◌>>=◌
+      gives-param q qs d vs x y k ps o r =
+          x (λ c. params_values p site qs (λ us. k (c ∷ us))) ps o (y (λ us. k (d ∷ us)) ps o r)
+
+      refuses-param : (q : Param) (qs : Params) {r : Refusal}
+          → RefusesValue p (expand p site q) s r → RefusesValue p (params_values p site (param q qs)) s r
+      unfolding ◌>>=◌
+      refuses-param q qs x k = x (λ c. params_values p site qs (λ us. k (c ∷ us)))
+
+      refuses-more_params : (q : Param) (qs : Params) (d : PathAndData) {r : Refusal}
+          → GivesValue p (expand p site q) s d → RefusesValue p (params_values p site qs) s r
+          → RefusesValue p (params_values p site (param q qs)) s r
+      unfolding ◌>>=◌
+      refuses-more_params q qs d {r = r} x y k =
+          x (λ c. params_values p site qs (λ us. k (c ∷ us))) [] (Refused r) (y (λ us. k (d ∷ us)))
+
+      gives-pair : (key : Text) (q : Param) (hs : Pairs) (d : PathAndData) (vs : List (Text × PathAndData))
+          → GivesValue p (expand p site q) s d → GivesValue p (pairs_values p site hs) s vs
+          → GivesValue p (pairs_values p site (pair key q hs)) s ((key, d) ∷ vs)
+      unfolding ◌>>=◌
+      gives-pair key q hs d vs x y k ps o r =
+          x (λ c. pairs_values p site hs (λ us. k ((key, c) ∷ us))) ps o (y (λ us. k ((key, d) ∷ us)) ps o r)
+
+      refuses-pair : (key : Text) (q : Param) (hs : Pairs) {r : Refusal}
+          → RefusesValue p (expand p site q) s r → RefusesValue p (pairs_values p site (pair key q hs)) s r
+      unfolding ◌>>=◌
+      refuses-pair key q hs x k = x (λ c. pairs_values p site hs (λ us. k ((key, c) ∷ us)))
+
+      refuses-more_pairs : (key : Text) (q : Param) (hs : Pairs) (d : PathAndData) {r : Refusal}
+          → GivesValue p (expand p site q) s d → RefusesValue p (pairs_values p site hs) s r
+          → RefusesValue p (pairs_values p site (pair key q hs)) s r
+      unfolding ◌>>=◌
+      refuses-more_pairs key q hs d {r = r} x y k =
+          x (λ c. pairs_values p site hs (λ us. k ((key, c) ∷ us))) [] (Refused r) (y (λ us. k ((key, d) ∷ us)))
+
+    -- What the rest gives, the whole gives behind the values so far; and what the rest refuses, it refuses.
+    pub record ParamsLeft (all left : Params) (s : State) (so_far : List PathAndData) : Type 0 where
+      pub go : (vs : List PathAndData) → GivesValue p (params_values p site left) s vs
+          → GivesValue p (params_values p site all) s (so_far ++ vs)
+      pub over : (r : Refusal) → RefusesValue p (params_values p site left) s r → RefusesValue p (params_values p site all) s r
+
+    pub params-start : {all : Params} {s : State} → ParamsLeft all all s []
+    params-start = record { go = λ vs g. g; over = λ r n. n }
+
+    pub params-end : {all left : Params} {s : State} {so_far : List PathAndData} → left ≡ params_view []
+        → ParamsLeft all left s so_far → GivesValue p (params_values p site all) s so_far
+    params-end {all = all} {s = s} {so_far = so_far} is x =
+        subst (λ (z : List PathAndData). GivesValue p (params_values p site all) s z) (append-nil so_far)
+        (x.go [] (subst (λ (z : Params). GivesValue p (params_values p site z) s []) (sym is) gives-return))
+
+    module _ {all left rest : Params} {q : Param} {s : State} {so_far : List PathAndData} (here : left ≡ param q rest)
+        (x : ParamsLeft all left s so_far) where
+      pub params-go : (d : PathAndData) → GivesValue p (expand p site q) s d → ParamsLeft all rest s (so_far ++ d ∷ [])
+      params-go d g = record {
+        go = λ vs more. subst (λ (z : List PathAndData). GivesValue p (params_values p site all) s z) (sym (append_assoc so_far (d ∷ []) vs))
+            (x.go (d ∷ vs) (subst (λ (z : Params). GivesValue p (params_values p site z) s (d ∷ vs)) (sym here)
+            (gives-param q rest d vs g more)));
+        over = λ r more. x.over r (subst (λ (z : Params). RefusesValue p (params_values p site z) s r) (sym here)
+            (refuses-more_params q rest d g more));
+      }
+
+      pub params-over : {r : Refusal} → RefusesValue p (expand p site q) s r → RefusesValue p (params_values p site all) s r
+      params-over {r = r} n = x.over r (subst (λ (z : Params). RefusesValue p (params_values p site z) s r) (sym here)
+          (refuses-param q rest n))
+
+    -- the same of pairs
+    pub record PairsLeft (all left : Pairs) (s : State) (so_far : List (Text × PathAndData)) : Type 0 where
+      pub go : (vs : List (Text × PathAndData)) → GivesValue p (pairs_values p site left) s vs
+          → GivesValue p (pairs_values p site all) s (so_far ++ vs)
+      pub over : (r : Refusal) → RefusesValue p (pairs_values p site left) s r → RefusesValue p (pairs_values p site all) s r
+
+    pub pairs-start : {all : Pairs} {s : State} → PairsLeft all all s []
+    pairs-start = record { go = λ vs g. g; over = λ r n. n }
+
+    pub pairs-end : {all left : Pairs} {s : State} {so_far : List (Text × PathAndData)} → left ≡ pairs_view []
+        → PairsLeft all left s so_far → GivesValue p (pairs_values p site all) s so_far
+    pairs-end {all = all} {s = s} {so_far = so_far} is x =
+        subst (λ (z : List (Text × PathAndData)). GivesValue p (pairs_values p site all) s z) (append-nil so_far)
+        (x.go [] (subst (λ (z : Pairs). GivesValue p (pairs_values p site z) s []) (sym is) gives-return))
+
+    module _ {all left rest : Pairs} {key : Text} {q : Param} {s : State} {so_far : List (Text × PathAndData)}
+        (here : left ≡ pair key q rest) (x : PairsLeft all left s so_far) where
+      pub pairs-go : (d : PathAndData) → GivesValue p (expand p site q) s d → PairsLeft all rest s (so_far ++ (key, d) ∷ [])
+      pairs-go d g = record {
+        go = λ vs more. subst (λ (z : List (Text × PathAndData)). GivesValue p (pairs_values p site all) s z)
+            (sym (append_assoc so_far ((key, d) ∷ []) vs))
+            (x.go ((key, d) ∷ vs) (subst (λ (z : Pairs). GivesValue p (pairs_values p site z) s ((key, d) ∷ vs)) (sym here)
+            (gives-pair key q rest d vs g more)));
+        over = λ r more. x.over r (subst (λ (z : Pairs). RefusesValue p (pairs_values p site z) s r) (sym here)
+            (refuses-more_pairs key q rest d g more));
+      }
+
+      pub pairs-over : {r : Refusal} → RefusesValue p (expand p site q) s r → RefusesValue p (pairs_values p site all) s r
+      pairs-over {r = r} n = x.over r (subst (λ (z : Pairs). RefusesValue p (pairs_values p site z) s r) (sym here)
+          (refuses-pair key q rest n))
+
+  -- ---- a parameter as it is written
+
+  pub gives-written : (site : Site) (q : Param) (found : Found) (path : Option Text) (constant : Bool) (d : PathAndData) {s : State}
+      → d ≡ record { relative_path = path; found = found; is_constant = constant } → path ≡ as_name q → constant ≡ is_literal q
+      → GivesValue p (expands p site q) s found → GivesValue p (expand p site q) s d
+  gives-written site q found path constant d {s = s} is same literal g =
+      subst (λ (z : PathAndData). GivesValue p (expand p site q) s z) (sym (is ∙ rw (same, literal) refl))
+      (gives-then (expands p site q) _ g gives-return)
+
+  pub refuses-written : (site : Site) (q : Param) {s : State} {r : Refusal} → RefusesValue p (expands p site q) s r
+      → RefusesValue p (expand p site q) s r
+  refuses-written site q n = refuses-first (expands p site q) _ n

@@ -1,25 +1,21 @@
--- What parameters and calls come to in a state: values, or refusals. None of it changes the state.
-use Rattle.std.specs.Prelude.{◌≡◌, Bool, true, false, List, [], ◌∷◌, if◌then◌else◌}
-use Rattle.serde_json.specs.Data.{Data}
-use Rattle.handlebars_base.specs.Answers.{Answer, gives, refuses, refuses_for, answer_map}
+-- What parameters and calls come to: values, or refusals. None of it writes or changes the state.
+use Rattle.std.specs.Prelude.{◌≡◌, Bool, true, false, List, [], ◌∷◌, Option, Some, None}
+use Rattle.serde_json.specs.Data.{Data, string}
+use Rattle.handlebars_base.specs.Answers.{Answer, gives, refuses_for}
 use Rattle.handlebars_base.specs.Bytes.{Text}
 use Rattle.handlebars_base.specs.Path.{Reference, raw_of, IsPath}
 use Rattle.handlebars_base.specs.PathAndData.{PathAndData}
-use Rattle.handlebars_base.specs.Reasons.{Reason, Refusal, helper_not_found, invalid_json_path}
-use Rattle.handlebars_base.specs.RenderRefusals.{plain_refusal}
+use Rattle.handlebars_base.specs.Reasons.{Reason, helper_not_found, invalid_json_path}
 use Rattle.handlebars_base.specs.Scoped.{Found, value, missing, data_in}
 use Rattle.handlebars_base.specs.Values.{rendered}
-use Rattle.handlebars_template.specs.Tree.{Element, raw_string, html_expression, expression, helper_block, decorator_expression, decorator_block, partial_expression, partial_block, comment, Call, call, call_name, Decorator, decorator, args, Param, name, path, literal, subexpression, Params, no_params, param, Pairs, no_pairs, pair, as_name, is_value}
+use Rattle.handlebars_template.specs.Tree.{Element, raw_string, html_expression, expression, helper_block, decorator_expression, decorator_block, partial_expression, partial_block, comment, Call, call, Decorator, decorator, args, Param, name, path, literal, subexpression, Params, no_params, param, Pairs, no_pairs, pair, Body, no_body, body, as_name}
+use Rattle.handlebars_scope.specs.Put.{join}
 use Rattle.handlebars_scope.specs.Resolve.{resolved}
+use Rattle.handlebars_scope.specs.Sites.{TreeSite, body_at, inverse_at, Site}
+use Rattle.handlebars_helpers.specs.CallView.{CallView}
+use Rattle.handlebars_helpers.specs.Choice.{Kind, Choice, the_body, the_inverse, chosen}
 use Rattle.handlebars.specs.State.{Setting, State, data_at}
-
--- ---- one answer behind another
-
-infixl 20 ◌>>=◌
--- The first refusal is the answer.
-abbrev pub ◌>>=◌ : {A B : Type 0} → Answer A → (A → Answer B) → Answer B
-◌>>=◌ (gives x) next = next x
-◌>>=◌ (refuses r) next = refuses r
+use Rattle.handlebars.specs.Steps.{Prog, Whole, return, ◌>>=◌, ◌>>◌, refuse_for, answer, state, become, perform, capture}
 
 -- ---- values as they are written
 
@@ -33,89 +29,111 @@ is_literal (subexpression e) = false
 abbrev pub as_written : Param → Found → PathAndData
 as_written q found = record { relative_path = as_name q; found = found; is_constant = is_literal q }
 
--- ---- what is called
+-- ---- what helpers choose
 
--- The view of a call or of another tag: its name, and the values of its parameters in order and of its pairs in order of
--- key.
-pub record TagView : Type 0 where
-  pub name : Text
-  pub params : List PathAndData
-  pub pairs : List (Text × PathAndData)
+-- a body or an inverse is rendered, where there is one
+abbrev pub render_branch : TreeSite → Body → Prog (Unit {0})
+render_branch at no_body = return tt
+render_branch at (body t) = perform (Whole at t)
 
--- The name is made first, then the parameters, then the pairs.
-abbrev pub made_view : Answer Text → Answer (List PathAndData) → Answer (List (Text × PathAndData)) → Answer TagView
-made_view called first rest = do
-  n ← called
-  vs ← first
-  hs ← rest
-  gives (record { name = n; params = vs; pairs = hs })
+-- What a helper chose is carried out, for a call with this body and this inverse.
+abbrev pub carry_out : Site → Body → Body → Choice → Prog (Unit {0})
+carry_out site b i the_body = render_branch (body_at site) b
+carry_out site b i the_inverse = render_branch (inverse_at site) i
 
--- Nothing is registered, so a tag is refused: for its view, or else for its name.
-abbrev pub not_found : (Text → Reason) → Answer TagView → Refusal
-not_found why (gives v) = plain_refusal (why v.name)
-not_found why (refuses r) = r
+-- with escaping off
+abbrev pub raw : Prog (Unit {0}) → Prog (Unit {0})
+raw steps = do
+  s ← state
+  become (record s { escapes = false })
+  steps
+
+-- What steps write with escaping off, as a text. The state is then as it was before them.
+abbrev pub captured_text : Prog (Unit {0}) → Prog Found
+captured_text steps = do
+  ps ← capture (raw steps)
+  return (value (string (join ps)))
+
+-- In parentheses a helper's bodies count as absent, so what it chose writes nothing; its value is that text.
+abbrev pub choice_value : Site → Choice → Prog Found
+choice_value site choice = captured_text (carry_out site no_body no_body choice)
+
+-- the value of a call of this view, where its name stands for this helper
+abbrev pub helped_value : Site → Option Kind → CallView → Prog Found
+helped_value site None v = refuse_for (helper_not_found v.name)
+helped_value site (Some k) v = answer (chosen k v) >>= choice_value site
 
 -- ---- parameters and calls
 
--- one more value in front of others, which is made before them
-abbrev pub more_values : {A B : Type 0} → (A → B) → Answer A → Answer (List B) → Answer (List B)
-more_values seen first rest = do
-  v ← first
-  vs ← rest
-  gives (seen v ∷ vs)
+-- A name or a path is called by its text, another parameter by its value's.
+abbrev pub called_by : Found → Text
+called_by v = rendered (data_in v)
 
 abbrev mutual
   -- A name alone has no value. A path leads into the data. A literal is itself.
-  pub expands : Setting → State → Param → Answer Found
-  expands p s (name n) = gives missing
-  expands p s (path r) = resolved r (data_at p s)
-  expands p s (literal d) = gives (value d)
-  expands p s (subexpression e) = inner_value p s e
+  pub expands : Setting → Site → Param → Prog Found
+  expands p site (name n) = return missing
+  expands p site (path r) = state >>= (λ s. answer (resolved r (data_at p s)))
+  expands p site (literal d) = return (value d)
+  expands p site (subexpression e) = inner_value p site e
 
   -- An expression in parentheses is a call, also without parameters. Nothing else there has a value.
-  pub inner_value : Setting → State → Element → Answer Found
-  inner_value p s (raw_string t) = gives missing
-  inner_value p s (html_expression c) = gives missing
-  inner_value p s (expression c) = refuses (not_found helper_not_found (view_of_call p s c))
-  inner_value p s (helper_block c) = gives missing
-  inner_value p s (decorator_expression t) = gives missing
-  inner_value p s (decorator_block t) = gives missing
-  inner_value p s (partial_expression t) = gives missing
-  inner_value p s (partial_block t) = gives missing
-  inner_value p s (comment t) = gives missing
+  pub inner_value : Setting → Site → Element → Prog Found
+  inner_value p site (raw_string t) = return missing
+  inner_value p site (html_expression c) = return missing
+  inner_value p site (expression c) = view_of_call p site c >>= (λ v. helped_value site (p.parts.helper v.name) v)
+  inner_value p site (helper_block c) = return missing
+  inner_value p site (decorator_expression t) = return missing
+  inner_value p site (decorator_block t) = return missing
+  inner_value p site (partial_expression t) = return missing
+  inner_value p site (partial_block t) = return missing
+  inner_value p site (comment t) = return missing
 
-  -- the view of a call
-  pub view_of_call : Setting → State → Call → Answer TagView
-  view_of_call p s (call n (args ps hs) b t marks) =
-      made_view (expand_as_name p s n) (params_values p s ps) (pairs_values p s hs)
+  -- The view of a call: its name is made first, then the parameters in order, then the pairs in order of key.
+  pub view_of_call : Setting → Site → Call → Prog CallView
+  view_of_call p site (call n (args ps hs) b t marks) =
+      expand_as_name p site n >>= (λ called. params_values p site ps >>= (λ vs. pairs_values p site hs >>= (λ ws.
+      return (record { name = called; params = vs; pairs = ws }))))
 
-  -- A name or a path is called by its text, another parameter by its value's.
-  pub expand_as_name : Setting → State → Param → Answer Text
-  expand_as_name p s (name n) = gives n
-  expand_as_name p s (path r) = gives (raw_of r)
-  expand_as_name p s (literal d) = gives (rendered d)
-  expand_as_name p s (subexpression e) = answer_map (λ v. rendered (data_in v)) (inner_value p s e)
+  pub expand_as_name : Setting → Site → Param → Prog Text
+  expand_as_name p site (name n) = return n
+  expand_as_name p site (path r) = return (raw_of r)
+  expand_as_name p site (literal d) = return (rendered d)
+  expand_as_name p site (subexpression e) = inner_value p site e >>= (λ v. return (called_by v))
 
-  pub params_values : Setting → State → Params → Answer (List PathAndData)
-  params_values p s no_params = gives []
-  params_values p s (param q qs) = more_values (as_written q) (expands p s q) (params_values p s qs)
+  pub params_values : Setting → Site → Params → Prog (List PathAndData)
+  params_values p site no_params = return []
+  params_values p site (param q qs) =
+      expands p site q >>= (λ v. params_values p site qs >>= (λ vs. return (as_written q v ∷ vs)))
 
-  pub pairs_values : Setting → State → Pairs → Answer (List (Text × PathAndData))
-  pairs_values p s no_pairs = gives []
-  pairs_values p s (pair k q hs) = more_values (λ v. (k, as_written q v)) (expands p s q) (pairs_values p s hs)
+  pub pairs_values : Setting → Site → Pairs → Prog (List (Text × PathAndData))
+  pairs_values p site no_pairs = return []
+  pairs_values p site (pair k q hs) =
+      expands p site q >>= (λ v. pairs_values p site hs >>= (λ vs. return ((k, as_written q v) ∷ vs)))
 
 -- the view of a decorator or an inclusion
-abbrev pub view_of_tag : Setting → State → Decorator → Answer TagView
-view_of_tag p s (decorator n (args ps hs) t marks) =
-    made_view (expand_as_name p s n) (params_values p s ps) (pairs_values p s hs)
+abbrev pub view_of_tag : Setting → Site → Decorator → Prog CallView
+view_of_tag p site (decorator n (args ps hs) t marks) =
+    expand_as_name p site n >>= (λ called. params_values p site ps >>= (λ vs. pairs_values p site hs >>= (λ ws.
+    return (record { name = called; params = vs; pairs = ws }))))
 
 -- the value of a parameter, as it is written
-abbrev pub expand : Setting → State → Param → Answer PathAndData
-expand p s q = answer_map (as_written q) (expands p s q)
+abbrev pub expand : Setting → Site → Param → Prog PathAndData
+expand p site q = expands p site q >>= (λ v. return (as_written q v))
 
--- An expression with neither parameters nor pairs is the value of its name. With some it is a call, and finds no helper.
-abbrev pub value_of : Setting → State → Call → Answer Found
-value_of p s c = if is_value c then expands p s (call_name c) else refuses (not_found helper_not_found (view_of_call p s c))
+-- ---- the name of a lone expression
+
+-- A lone expression's name is read as its value only where it is no helper's. A literal or a call in parentheses is made
+-- a value for its name already, and no second time.
+abbrev pub lone_name : Setting → Site → Param → Prog (Text × Option Found)
+lone_name p site (name n) = return (n, None)
+lone_name p site (path r) = return (raw_of r, None)
+lone_name p site (literal d) = return (rendered d, Some (value d))
+lone_name p site (subexpression e) = inner_value p site e >>= (λ v. return (called_by v, Some v))
+
+abbrev pub lone_value : Setting → Site → Param → Option Found → Prog Found
+lone_value p site q None = expands p site q
+lone_value p site q (Some v) = return v
 
 -- ---- texts as paths
 

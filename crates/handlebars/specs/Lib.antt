@@ -8,4 +8,3 @@ pub mod Laws
 pub mod Answer
 pub mod Store
 pub mod View
-pub mod Rows

@@ -1,17 +1,19 @@
 -- What a template means: what each of its elements does, step by step.
-use Rattle.std.specs.Prelude.{ℕ, ◌+◌, Bool, true, false, [], List, Option, None, Some, slice_get}
+use Rattle.std.specs.Prelude.{ℕ, ◌+◌, Bool, true, false, ◌&&◌, ◌||◌, if◌then◌else◌, [], List, Option, None, Some, slice_get}
 use Rattle.serde_json.specs.Data.{Data}
 use Rattle.handlebars_base.specs.Bytes.{Text}
 use Rattle.handlebars_base.specs.Reasons.{helper_not_found, decorator_not_found, partial_not_found}
 use Rattle.handlebars_base.specs.Scoped.{Found, present_in}
 use Rattle.handlebars_template.specs.Place.{Place}
-use Rattle.handlebars_template.specs.Tree.{Tree, tree, Elements, no_elements, element, Element, raw_string, html_expression, expression, helper_block, decorator_expression, decorator_block, partial_expression, partial_block, comment, Call, Decorator}
-use Rattle.handlebars_scope.specs.Put.{Origin, of_text, of_value, of_raw, put}
+use Rattle.handlebars_template.specs.Tree.{Tree, tree, Elements, no_elements, element, Element, raw_string, html_expression, expression, helper_block, decorator_expression, decorator_block, partial_expression, partial_block, comment, Call, call_name, call_body, call_inverse, call_marks, is_value, Decorator}
+use Rattle.handlebars_scope.specs.Put.{Origin, of_text, of_value, of_raw, put, LineState}
 use Rattle.handlebars_scope.specs.Shown.{shown}
 use Rattle.handlebars_scope.specs.Sites.{TreeSite, first_tree, Site, element_in}
+use Rattle.handlebars_helpers.specs.CallView.{CallView}
+use Rattle.handlebars_helpers.specs.Choice.{Kind, chosen}
 use Rattle.handlebars.specs.State.{Setting}
-use Rattle.handlebars.specs.Expand.{value_of, view_of_call, view_of_tag, not_found}
-use Rattle.handlebars.specs.Steps.{Task, One, Whole, Steps, Done, Do, Prog, return, ◌>>=◌, ◌>>◌, run, refuse, answer, write, state, become, perform}
+use Rattle.handlebars.specs.Expand.{carry_out, lone_name, lone_value, view_of_call, view_of_tag}
+use Rattle.handlebars.specs.Steps.{Task, One, Whole, Steps, Done, Do, Prog, return, ◌>>=◌, ◌>>◌, run, refuse_for, answer, write, state, become, perform}
 
 -- ---- writing
 
@@ -46,40 +48,86 @@ unescaped steps = do
   after ← state
   become (record after { escapes = before.escapes })
 
+-- ---- calls
+
+-- Around a call the line takes note: indentation goes before the next text where it did, or where the tag's mark is set
+-- and the last text ended a line; and nothing counts as written yet.
+abbrev pub line_in : Bool → LineState → LineState
+line_in marked line = record line { before = line.before || (marked && line.trailing); produced = false }
+
+-- Behind the call, where something was written, indentation goes before the next text if that ended a line; else both
+-- are as they were.
+abbrev pub line_out : LineState → LineState → LineState
+line_out old new =
+    if new.produced then record new { before = new.trailing }
+    else record new { before = old.before; produced = old.produced }
+
+abbrev pub in_bracket : Bool → Prog (Unit {0}) → Prog (Unit {0})
+in_bracket marked steps = do
+  old ← state
+  become (record old { line = line_in marked old.line })
+  steps
+  new ← state
+  become (record new { line = line_out old.line new.line })
+
+-- what a helper chooses for a call of this view
+abbrev pub render_chosen : Site → Call → Kind → CallView → Prog (Unit {0})
+render_chosen site c k v = answer (chosen k v) >>= carry_out site (call_body c) (call_inverse c)
+
+-- It is carried out in the bracket.
+abbrev pub render_helped : Site → Call → Kind → CallView → Prog (Unit {0})
+render_helped site c k v = in_bracket (call_marks c).indent_before_write (render_chosen site c k v)
+
+abbrev pub render_called : Site → Call → Option Kind → CallView → Prog (Unit {0})
+render_called site c None v = refuse_for (helper_not_found v.name)
+render_called site c (Some k) v = render_helped site c k v
+
+-- A block, and an expression with parameters or pairs, calls the helper of its name.
+abbrev pub render_call : Setting → Site → Call → Prog (Unit {0})
+render_call p site c = do
+  v ← view_of_call p site c
+  render_called site c (p.parts.helper v.name) v
+
+-- the value of a lone expression, which may have been made for its name
+abbrev pub render_value : Setting → Site → Call → Option Found → Prog (Unit {0})
+render_value p site c made = lone_value p site (call_name c) made >>= write_value site
+
+-- A lone expression calls the helper of its name, where there is one, and is a value else.
+abbrev pub render_lone_as : Setting → Site → Call → Text × Option Found → Option Kind → Prog (Unit {0})
+render_lone_as p site c n None = render_value p site c n.1
+render_lone_as p site c n (Some k) = render_helped site c k (record { name = n.0; params = []; pairs = [] })
+
+abbrev pub render_lone : Setting → Site → Call → Prog (Unit {0})
+render_lone p site c = do
+  n ← lone_name p site (call_name c)
+  render_lone_as p site c n (p.parts.helper n.0)
+
 -- ---- elements
 
 abbrev pub render_expression : Setting → Site → Call → Prog (Unit {0})
-render_expression p site c = do
-  s ← state
-  v ← answer (value_of p s c)
-  write_value site v
+render_expression p site c = if is_value c then render_lone p site c else render_call p site c
 
--- A block calls a helper, and finds none.
-abbrev pub render_block : Setting → Call → Prog (Unit {0})
-render_block p c = do
-  s ← state
-  refuse (not_found helper_not_found (view_of_call p s c))
+abbrev pub render_decorator : Setting → Site → Decorator → Prog (Unit {0})
+render_decorator p site t = do
+  v ← view_of_tag p site t
+  refuse_for (decorator_not_found v.name)
 
-abbrev pub render_decorator : Setting → Decorator → Prog (Unit {0})
-render_decorator p t = do
-  s ← state
-  refuse (not_found decorator_not_found (view_of_tag p s t))
+abbrev pub render_partial : Setting → Site → Decorator → Prog (Unit {0})
+render_partial p site t = do
+  v ← view_of_tag p site t
+  refuse_for (partial_not_found v.name)
 
-abbrev pub render_partial : Setting → Decorator → Prog (Unit {0})
-render_partial p t = do
-  s ← state
-  refuse (not_found partial_not_found (view_of_tag p s t))
-
--- A text and an expression write, a comment does not. Blocks, decorators and inclusions find nothing registered.
+-- A text and an expression write, a block does what its helper chooses, and a comment nothing. No decorator and no
+-- template to be included is registered.
 abbrev pub render_element : Setting → Site → Element → Prog (Unit {0})
 render_element p site (raw_string t) = write_text (of_text site) t
 render_element p site (html_expression c) = unescaped (render_expression p site c)
 render_element p site (expression c) = render_expression p site c
-render_element p site (helper_block c) = render_block p c
-render_element p site (decorator_expression t) = render_decorator p t
-render_element p site (decorator_block t) = render_decorator p t
-render_element p site (partial_expression t) = render_partial p t
-render_element p site (partial_block t) = render_partial p t
+render_element p site (helper_block c) = render_call p site c
+render_element p site (decorator_expression t) = render_decorator p site t
+render_element p site (decorator_block t) = render_decorator p site t
+render_element p site (partial_expression t) = render_partial p site t
+render_element p site (partial_block t) = render_partial p site t
 render_element p site (comment t) = return tt
 
 -- elements in order, from an index on; some have a place

@@ -8,7 +8,7 @@ use Rattle.handlebars_template.specs.Tree.{Tree, tree_name}
 use Rattle.handlebars_scope.specs.Outputs.{IsBeginning}
 use Rattle.handlebars_scope.specs.Put.{Piece}
 use Rattle.handlebars.specs.State.{Setting, State}
-use Rattle.handlebars.specs.Steps.{Task, One, Whole, Steps, Done, Refuse, Write, Get, Set, Do}
+use Rattle.handlebars.specs.Steps.{Task, One, Whole, Steps, Done, Refuse, Write, Get, Set, Do, Capture, Prog}
 use Rattle.handlebars.specs.Means.{todo, render_tree}
 
 -- a write that failed: where, as far as it is known
@@ -84,11 +84,24 @@ pub data Runs (p : Setting) : Steps → State → List Piece → Outcome → Typ
       → Runs p (todo p t) s ps (Ended next) → Runs p k next qs o → Runs p (Do t k) s (ps ++ qs) o
   did_over : {s : State} {t : Task} {k : Steps} {ps : List Piece} {o : Outcome}
       → Runs p (todo p t) s ps o → IsOver o → Runs p (Do t k) s ps (marked t o)
+  -- what was captured is told, and the state is as it was before; a capture that is over before its end wrote nothing
+  captured : {s next : State} {m : Steps} {f : List Piece → Steps} {ps qs : List Piece} {o : Outcome}
+      → Runs p m s ps (Ended next) → Runs p (f ps) s qs o → Runs p (Capture m f) s qs o
+  captured_over : {s : State} {m : Steps} {f : List Piece → Steps} {ps : List Piece} {o : Outcome}
+      → Runs p m s ps o → IsOver o → Runs p (Capture m f) s [] o
   -- want of memory between two steps
   stop : {s : State} {k : Steps} → Runs p k s [] NoMemory
   -- a stop within a write that isn't empty
   cut : {s : State} {x : Piece} {xs ys : List Piece} {k : Steps} {o : Outcome}
       → StopsHere o → Front ys (x ∷ xs) → Runs p (Write (x ∷ xs) k) s ys o
+
+-- The value is this: whatever comes next for it comes of the whole, from the same state and with nothing written.
+abbrev pub GivesValue : {A : Type 0} → Setting → Prog A → State → A → Type 0
+GivesValue p m s a = (k : _) (ps : List Piece) (o : Outcome) → Runs p (k a) s ps o → Runs p (m k) s ps o
+
+-- There is no value, but this refusal, whatever were to come next.
+abbrev pub RefusesValue : {A : Type 0} → Setting → Prog A → State → Refusal → Type 0
+RefusesValue p m s r = (k : _) → Runs p (m k) s [] (Refused r)
 
 -- the meaning of a tree
 abbrev pub Means : Setting → Tree → State → List Piece → Outcome → Type 0

@@ -3,10 +3,16 @@ use Rattle.std.specs.Prelude.{Bool, true, Option, None}
 use Rattle.serde_json.specs.Data.{Data}
 use Rattle.handlebars_base.specs.Bytes.{Text}
 use Rattle.handlebars_scope.specs.Put.{LineState, first_line}
+use Rattle.handlebars_helpers.specs.Choice.{Kind}
+
+-- what a run reads of a registry: the helper under a name, if there is one
+pub record Parts : Type 0 where
+  pub helper : Text → Option Kind
 
 -- all that stays as it is in a run
 pub record Setting : Type 0 where
   pub given : Data
+  pub parts : Parts
 
 -- what a run changes: the name of the template that is being rendered, if it has one, the line that is written, and
 -- whether escaping is on

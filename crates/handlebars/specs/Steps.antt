@@ -14,7 +14,8 @@ pub data Task : Type 0 where
   One : Site → Option Place → Element → Task
   Whole : TreeSite → Tree → Task
 
--- steps to be carried out one after the other
+-- Steps to be carried out one after the other. What steps that are captured write is no output, but told to what comes
+-- next, which goes on from the state before them.
 pub data Steps : Type 0 where
   Done : Steps
   Refuse : Refusal → Steps
@@ -22,6 +23,7 @@ pub data Steps : Type 0 where
   Get : (State → Steps) → Steps
   Set : State → Steps → Steps
   Do : Task → Steps → Steps
+  Capture : Steps → (List Piece → Steps) → Steps
 
 -- steps that have a value, which is told to what comes next
 abbrev pub Prog : Type 0 → Type 0
@@ -64,3 +66,7 @@ become s = λ k. Set s (k tt)
 
 abbrev pub perform : Task → Prog (Unit {0})
 perform t = λ k. Do t (k tt)
+
+-- the pieces that the steps write
+abbrev pub capture : Prog (Unit {0}) → Prog (List Piece)
+capture m = λ k. Capture (run m) k

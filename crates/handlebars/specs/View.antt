@@ -1,36 +1,60 @@
 -- What the code's values stand for, and what a call of it says of a run.
-use Rattle.std.specs.Prelude.{◌≡◌, ◌≢◌, ℕ, Option, ◌+◌, ◌^◌, ◌<◌, List, ◌++◌, option_map, Result, Ok, Err, string_bytes, Bool}
+use Rattle.std.specs.Prelude.{◌≡◌, ◌≢◌, ℕ, Option, ◌+◌, ◌^◌, ◌<◌, List, ◌++◌, option_map, Result, Ok, Err, MatchResult, string_bytes, map, Bool}
+use Rattle.std.specs.Cow.{cow_str_bytes}
+use denote.Ref.{Bor}
 use Rattle.std.specs.declared.io.Error.{Error}
 use Rattle.std.specs.IoError.{error_kind}
+use Rattle.serde_json.specs.Data.{Data}
 use Rattle.serde_json.specs.View.{view}
-use Rattle.handlebars_base.specs.Answers.{Answer, answer_map}
 use Rattle.handlebars_base.specs.Bytes.{Text}
 use Rattle.handlebars_base.specs.Reasons.{Refusal, out_of_memory}
 use Rattle.handlebars_base.specs.RenderRefusals.{reason_in, spot_of, refusal_of, cause_of}
 use Rattle.handlebars_base.specs.declared.error.render_error.RenderError.{RenderError}
+use Rattle.handlebars_base.specs.PathAndData.{PathAndData, path_and_data}
+use Rattle.handlebars_base.specs.Scoped.{Found, found_of, present_in}
+use Rattle.handlebars_base.specs.declared.json.value.path_and_json.PathAndJson.{PathAndJson}
 use Rattle.handlebars_base.specs.declared.error.render_error.RenderErrorReason.TheVariants.{IOError}
 use Rattle.handlebars_template.specs.Compile.{Options, no_options}
 use Rattle.handlebars_scope.specs.Contexts.{data_of}
 use Rattle.handlebars_scope.specs.LineView.{line_of}
 use Rattle.handlebars_scope.specs.Outputs.{Held, IsWhole, IsCutOff, write_reason}
-use Rattle.handlebars_scope.specs.Put.{Piece, join, line_behind}
+use Rattle.handlebars_scope.specs.Put.{LineState, Piece, join, line_behind}
 use Rattle.handlebars_scope.specs.declared.context.Context.{Context}
-use Rattle.handlebars.specs.State.{Setting, State}
+use Rattle.handlebars_helpers.specs.CallView.{CallView}
+use Rattle.handlebars_helpers.specs.View.{kind_at}
+use Rattle.handlebars.specs.State.{Parts, Setting, State}
 use Rattle.handlebars.specs.Steps.{Steps, Prog}
-use Rattle.handlebars.specs.Runs.{Fault, plain_fault, Outcome, Ended, Refused, Faulted, NoMemory, Runs}
+use Rattle.handlebars.specs.Runs.{Fault, plain_fault, Outcome, Ended, Refused, Faulted, NoMemory, Runs, GivesValue, RefusesValue}
 use Rattle.handlebars.specs.declared.registry.Registry.{Registry}
 use Rattle.handlebars.specs.declared.render.context.RenderContext.{RenderContext}
+use Rattle.handlebars.specs.declared.render.called.Called.{Called}
+use Rattle.handlebars.specs.declared.render.lone.Lone.{Lone}
 use Rattle.handlebars.specs.declared.render.setting.Setting as declared
 
 -- ---- what a run reads and changes
 
+-- what a run reads of a registry
+abbrev pub parts_of : Registry → Parts
+parts_of r = record { helper = λ name. kind_at name r.helpers }
+
 -- the setting of a run, with a registry and over a context
 abbrev pub setting_of : Registry → Context → Setting
-setting_of r c = record { given = data_of c }
+setting_of r c = record { given = data_of c; parts = parts_of r }
 
--- the same, as the code of a rendering has it
-abbrev pub setting_in : declared.Setting → Setting
-setting_in x = record { given = view x.given.now }
+-- the same, as the code of a rendering has it, with what it sees of the registry
+abbrev pub setting_in : {P : Type 0} → (P → Parts) → declared.Setting P → Setting
+setting_in parts x = record { given = view x.given.now; parts = parts x.parts.now }
+
+-- what a call or another tag shows
+abbrev pub pairs_seen : List (Bor Text × PathAndJson) → List (Text × PathAndData)
+pairs_seen hs = map (λ h. (h.0.now, path_and_data h.1)) hs
+
+abbrev pub called_view : Called → CallView
+called_view c = record { name = cow_str_bytes c.name; params = map path_and_data c.params.items; pairs = pairs_seen c.hash.entries }
+
+-- the name of a lone expression, and the value that was made for it
+abbrev pub lone_view : Lone → Text × Option Found
+lone_view x = (cow_str_bytes x.name, option_map found_of x.value)
 
 -- how a registry compiles sources
 abbrev pub options_of : Registry → Options
@@ -109,9 +133,21 @@ pub data CarriesOn (p : Setting) (m : Prog (Unit {0})) (may : Error → Type 0) 
       → ((next : Unit {0} → Steps) → CarriesOut p (m next) may before (Err e) after)
       → CarriesOn p m may before (Err e) after
 
--- the answer without its value
-abbrev pub without_value : {A : Type 0} → Answer A → Answer (Unit {0})
-without_value a = answer_map (λ x. tt) a
+-- What a call that has a value says: its value is that of the program in this state, or it is refused as the program is,
+-- or for want of memory.
+abbrev pub Yields : {T A : Type 0} → Setting → Prog A → State → (T → A) → Result T RenderError → Type 0
+Yields p m s value r =
+    MatchResult r (λ x. GivesValue p m s (value x)) (λ e. reason_in e ≢ out_of_memory → RefusesValue p m s (refusal_of e))
+
+-- The same of a call that tells nothing of where its value came from.
+abbrev pub YieldsPresent : {T : Type 0} → Setting → Prog Found → State → (T → Option Data) → Result T RenderError → Type 0
+YieldsPresent p m s present r =
+    MatchResult r (λ x. (found : Found) × GivesValue p m s found × (present_in found ≡ present x))
+    (λ e. reason_in e ≢ out_of_memory → RefusesValue p m s (refusal_of e))
+
+-- the state with another line
+abbrev pub with_line : LineState → State → State
+with_line line s = record s { line = line }
 
 -- the state behind a text
 abbrev pub behind : Text → State → State

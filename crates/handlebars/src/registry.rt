@@ -8,13 +8,15 @@ ghost use Rattle.handlebars_base.specs.TemplateRefusals.{template_refusal_of};
 ghost use Rattle.handlebars_template.specs.Compile.{Compiles, compiled, refused, named_options};
 ghost use Rattle.handlebars_template.specs.Tree.{Tree};
 ghost use Rattle.handlebars_template.specs.TreeView.{tree_view};
+ghost use Rattle.handlebars_helpers.specs.Choice.{built_in};
 ghost use Rattle.handlebars.specs.Answer.{FromSource, FromName, GivesText, RefusesWith, HasOneAnswer, AnswerHasOrigins};
 ghost use Rattle.handlebars.specs.Store.{stored, Stores, IsUnchanged};
-ghost use Rattle.handlebars.specs.View.{setting_of, options_of};
+ghost use Rattle.handlebars.specs.View.{parts_of, setting_of, options_of};
 
-use crate::render::{RenderContext, Renderable};
+use crate::render::{Registered, RenderContext, Renderable};
 use crate::sources::TemplateReader;
 use handlebars_base::error::{RenderError, RenderErrorReason, TemplateError};
+use handlebars_helpers::built_in::{BuiltIn, HelperEntry, built_ins};
 use handlebars_scope::context::Context;
 use handlebars_template::template::Template;
 use log::Log;
@@ -26,16 +28,30 @@ use std::collections::BTreeMap;
 pub struct Registry {
     alloc: Global,
     templates: BTreeMap<String, Template>,
+    helpers: BTreeMap<String, HelperEntry>,
+}
+
+impl Registered for Registry {
+    ghost parts = { parts_of };
+
+    fn helper(&self, name: &str) -> Option<BuiltIn> {
+        match self.helpers.get(name) {
+            Some(HelperEntry::Built(kind)) => Some(*kind),
+            None => None,
+        }
+    }
 }
 
 impl Registry {
-    /// A registry with nothing registered.
+    /// A registry with the built-in helpers, and nothing else.
     pub fn new(alloc: Global) -> Result<Registry, AllocError>
-        ensures { IfOk result (λ r. (name : Text) → stored r name ≡ None) }
+        ensures templates { IfOk result (λ r. (name : Text) → stored r name ≡ None) }
+        ensures helpers { IfOk result (λ r. (name : Text) → (parts_of r).helper name ≡ built_in name) }
     {
         Ok(Registry {
             alloc,
             templates: BTreeMap::new(alloc),
+            helpers: built_ins(alloc)?,
         })
     }
 

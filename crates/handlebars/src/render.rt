@@ -8,16 +8,21 @@ ghost use Rattle.handlebars.specs.Steps.{Steps};
 ghost use Rattle.handlebars.specs.Means.{render_tree, render_alone};
 ghost use Rattle.handlebars.specs.View.{setting_of, state_of, root_of, has_failed, moment, CarriesOut, GivesString, RefusesString};
 
+mod block;
+mod called;
 mod context;
 mod element;
 mod expand;
+mod lone;
+mod registered;
 mod setting;
 mod tree;
 mod value;
+mod write;
 
 use crate::registry::Registry;
 use crate::render::setting::Setting;
-use crate::render::tree::{render_alone, render_tree};
+use crate::render::tree::{render_alone, render_first};
 pub use context::RenderContext;
 pub use expand::Expand;
 use handlebars_base::error::{RenderError, RenderErrorReason};
@@ -25,7 +30,9 @@ use handlebars_scope::context::Context;
 use handlebars_scope::output::{Output, StringOutput};
 use handlebars_template::template::{Template, TemplateElement};
 use log::Log;
+pub use registered::Registered;
 use std::alloc::Global;
+pub use write::indent_aware_write;
 
 /// What can be rendered.
 pub trait Renderable {
@@ -78,7 +85,7 @@ impl Renderable for Template {
     fn render<L: Log, O: Output>(
         &self,
         alloc: Global,
-        _registry: &Registry,
+        registry: &Registry,
         data: &Context,
         rc: &mut RenderContext,
         out: &mut O,
@@ -86,7 +93,12 @@ impl Renderable for Template {
     ) -> Result<(), RenderError> {
         ready(rc)?;
         let given = data.data();
-        let answer = render_tree(&Setting { alloc, given }, self, rc, out);
+        let setting = Setting {
+            alloc,
+            parts: registry,
+            given,
+        };
+        let answer = render_first(self, &setting, rc, out);
         fail_after(rc, answer)
     }
 
@@ -137,7 +149,7 @@ impl Renderable for TemplateElement {
     fn render<L: Log, O: Output>(
         &self,
         alloc: Global,
-        _registry: &Registry,
+        registry: &Registry,
         data: &Context,
         rc: &mut RenderContext,
         out: &mut O,
@@ -145,7 +157,12 @@ impl Renderable for TemplateElement {
     ) -> Result<(), RenderError> {
         ready(rc)?;
         let given = data.data();
-        let answer = render_alone(&Setting { alloc, given }, self, rc, out);
+        let setting = Setting {
+            alloc,
+            parts: registry,
+            given,
+        };
+        let answer = render_alone(self, &setting, rc, out);
         fail_after(rc, answer)
     }
 

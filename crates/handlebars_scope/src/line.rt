@@ -15,9 +15,9 @@ use serde_json::Number;
 /// whether the last text ended a line, and whether there was one.
 #[derive(Clone, Copy)]
 pub struct Line {
-    before: bool,
-    trailing: bool,
-    produced: bool,
+    pub before: bool,
+    pub trailing: bool,
+    pub produced: bool,
 }
 
 impl Line {

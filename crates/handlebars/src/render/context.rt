@@ -10,7 +10,7 @@ ghost use Rattle.handlebars_scope.specs.Contexts.{data_of};
 ghost use Rattle.handlebars_scope.specs.Shown.{shown};
 ghost use Rattle.handlebars.specs.Expand.{Evaluates};
 ghost use Rattle.handlebars.specs.State.{first_state};
-ghost use Rattle.handlebars.specs.View.{state_of, root_of, has_failed, behind, IsKept};
+ghost use Rattle.handlebars.specs.View.{state_of, root_of, has_failed, behind, with_line, IsKept};
 
 use handlebars_base::error::RenderError;
 use handlebars_base::json::path::Path;
@@ -73,6 +73,51 @@ impl RenderContext {
         ensures failed { has_failed self.new ≡ has_failed self.old }
     {
         self.escapes = !disable;
+    }
+
+    /// Whether indentation goes before the next text.
+    pub fn get_indent_before_write(&self) -> bool
+        ensures { result ≡ (state_of self.now).line.before }
+    {
+        self.line.before
+    }
+
+    /// From now on indentation goes before the next text, or doesn't.
+    pub fn set_indent_before_write(&mut self, indent: bool)
+        ensures state { state_of self.new ≡ with_line (record (state_of self.old).line { before = indent }) (state_of self.old) }
+        ensures kept { IsKept self.old self.new }
+    {
+        self.line.before = indent;
+    }
+
+    /// Whether the last text ended a line.
+    pub fn get_trailine_newline(&self) -> bool
+        ensures { result ≡ (state_of self.now).line.trailing }
+    {
+        self.line.trailing
+    }
+
+    /// From now on the last text counts as one that ended a line, or didn't.
+    pub fn set_trailing_newline(&mut self, trailing: bool)
+        ensures state { state_of self.new ≡ with_line (record (state_of self.old).line { trailing = trailing }) (state_of self.old) }
+        ensures kept { IsKept self.old self.new }
+    {
+        self.line.trailing = trailing;
+    }
+
+    /// Whether a text was written.
+    pub fn get_content_produced(&self) -> bool
+        ensures { result ≡ (state_of self.now).line.produced }
+    {
+        self.line.produced
+    }
+
+    /// From now on a text counts as written, or as not written yet.
+    pub fn set_content_produced(&mut self, produced: bool)
+        ensures state { state_of self.new ≡ with_line (record (state_of self.old).line { produced = produced }) (state_of self.old) }
+        ensures kept { IsKept self.old self.new }
+    {
+        self.line.produced = produced;
     }
 
     // Whether values are escaped.

@@ -1,135 +1,199 @@
 //! Rendering an element.
 
-ghost use Rattle.std.specs.Prelude.{◌≡◌, option_map};
-ghost use Rattle.serde_json.specs.View.{view};
+ghost use Rattle.std.specs.Prelude.{◌≡◌, ◌≢◌, [], option_map};
+ghost use Rattle.std.specs.Cow.{cow_str_bytes};
 ghost use Rattle.handlebars_base.specs.Answers.{IsRefusal};
-ghost use Rattle.handlebars_base.specs.Reasons.{decorator_not_found, partial_not_found};
+ghost use Rattle.handlebars_base.specs.Reasons.{out_of_memory, decorator_not_found, partial_not_found};
+ghost use Rattle.handlebars_base.specs.RenderRefusals.{plain_refusal, reason_in, refusal_of};
+ghost use Rattle.handlebars_base.specs.Scoped.{found_of};
 ghost use Rattle.handlebars_template.specs.TreeView.{element_view, call_view, decorator_view};
 ghost use Rattle.handlebars_scope.specs.Sites.{Site};
+ghost use Rattle.handlebars_helpers.specs.View.{kind_of};
 ghost use Rattle.handlebars.specs.State.{State};
-ghost use Rattle.handlebars.specs.Expand.{not_found, view_of_tag};
-ghost use Rattle.handlebars.specs.Means.{render_element, render_expression, shown_if_any, unescaped};
+ghost use Rattle.handlebars.specs.Means.{render_decorator, render_element, render_expression, render_helped, render_lone, render_partial, render_value, unescaped};
 ghost use Rattle.handlebars.specs.Steps.{run};
-ghost use Rattle.handlebars.specs.View.{setting_in, state_of, moment, CarriesOn, CarriesOut, Puts, IsKept};
+ghost use Rattle.handlebars.specs.Runs.{RefusesValue};
+ghost use Rattle.handlebars.specs.View.{setting_in, moment, CarriesOn, CarriesOut, IsKept};
 
+use crate::render::block::{render_call, render_helped};
+use crate::render::called::{Called, view_of_tag};
 use crate::render::context::RenderContext;
+use crate::render::lone::{lone_name, lone_value};
+use crate::render::registered::Registered;
 use crate::render::setting::Setting;
-use crate::render::value::{helper_not_found, tag_name, value_of};
+use crate::render::write::{indent_aware_write, write_found};
 use handlebars_base::error::{RenderError, RenderErrorReason};
-use handlebars_base::json::value::Json;
-use handlebars_scope::output::{Output, output_fault};
-use handlebars_scope::value::write_value;
+use handlebars_base::json::value::ScopedJson;
+use handlebars_helpers::built_in::BuiltIn;
+use handlebars_scope::output::Output;
 use handlebars_template::template::{DecoratorTemplate, HelperTemplate, TemplateElement};
+use std::alloc::{AllocError, Global};
+use std::borrow::CowStr;
 
 /// Renders one element of a tree.
-pub fn render_element<O: Output>(
-    setting: &Setting,
-    element: &TemplateElement,
+#[cycle(render)]
+pub fn render_element<'a, O: Output, P: Registered>(
+    element: &'a TemplateElement,
+    setting: &Setting<'_, 'a, P>,
     rc: &mut RenderContext,
     out: &mut O,
 ) -> Result<(), RenderError>
-    ensures renders { (site : Site) → CarriesOut (setting_in setting.now) (run (render_element (setting_in setting.now) site (element_view element.now)))
+    ensures renders { (site : Site) → CarriesOut (setting_in P.parts setting.now) (run (render_element (setting_in P.parts setting.now) site (element_view element.now)))
         O.may_give (moment rc.old (O.held out.old)) result (moment rc.new (O.held out.new)) }
     ensures kept { IsKept rc.old rc.new }
 {
     match element {
-        TemplateElement::RawString(text) => write_text(text.as_str(), rc, out),
-        TemplateElement::Expression(helper) => render_expression(setting, helper, rc, out),
+        TemplateElement::RawString(text) => indent_aware_write(text.as_str(), rc, out),
+        TemplateElement::Expression(helper) => render_expression(helper, setting, rc, out),
         TemplateElement::Comment(_) => Ok(()),
-        TemplateElement::HtmlExpression(helper) => render_unescaped(setting, helper, rc, out),
-        TemplateElement::HelperBlock(helper) => Err(helper_not_found(setting, helper)),
-        TemplateElement::DecoratorExpression(tag) => Err(decorator_not_found(setting, tag)),
-        TemplateElement::DecoratorBlock(tag) => Err(decorator_not_found(setting, tag)),
-        TemplateElement::PartialExpression(tag) => Err(partial_not_found(setting, tag)),
-        TemplateElement::PartialBlock(tag) => Err(partial_not_found(setting, tag)),
+        TemplateElement::HtmlExpression(helper) => render_unescaped(helper, setting, rc, out),
+        TemplateElement::HelperBlock(helper) => render_call(helper, setting, rc, out),
+        TemplateElement::DecoratorExpression(tag) => Err(decorator_not_found(tag, setting)),
+        TemplateElement::DecoratorBlock(tag) => Err(decorator_not_found(tag, setting)),
+        TemplateElement::PartialExpression(tag) => Err(partial_not_found(tag, setting)),
+        TemplateElement::PartialBlock(tag) => Err(partial_not_found(tag, setting)),
     }
 }
 
 // An expression with escaping off, which is restored before a refusal goes on.
-fn render_unescaped<O: Output>(
-    setting: &Setting,
-    helper: &HelperTemplate,
+#[cycle(render)]
+fn render_unescaped<'a, O: Output, P: Registered>(
+    helper: &'a HelperTemplate,
+    setting: &Setting<'_, 'a, P>,
     rc: &mut RenderContext,
     out: &mut O,
 ) -> Result<(), RenderError>
-    ensures renders { (site : Site) → CarriesOut (setting_in setting.now) (run (unescaped (render_expression (setting_in setting.now) site (call_view helper.now))))
+    ensures renders { (site : Site) → CarriesOut (setting_in P.parts setting.now) (run (unescaped (render_expression (setting_in P.parts setting.now) site (call_view helper.now))))
         O.may_give (moment rc.old (O.held out.old)) result (moment rc.new (O.held out.new)) }
     ensures kept { IsKept rc.old rc.new }
 {
     let disabled = rc.is_disable_escape();
     rc.set_disable_escape(true);
-    let answer = render_expression(setting, helper, rc, out);
+    let answer = render_expression(helper, setting, rc, out);
     rc.set_disable_escape(disabled);
     answer
 }
 
-// Writes the value of an expression.
-fn render_expression<O: Output>(
-    setting: &Setting,
-    helper: &HelperTemplate,
+// Writes a value, or what the helper of its name chooses.
+#[cycle(render)]
+fn render_expression<'a, O: Output, P: Registered>(
+    helper: &'a HelperTemplate,
+    setting: &Setting<'_, 'a, P>,
     rc: &mut RenderContext,
     out: &mut O,
 ) -> Result<(), RenderError>
-    ensures renders { (site : Site) → CarriesOn (setting_in setting.now) (render_expression (setting_in setting.now) site (call_view helper.now))
+    ensures renders { (site : Site) → CarriesOn (setting_in P.parts setting.now) (render_expression (setting_in P.parts setting.now) site (call_view helper.now))
         O.may_give (moment rc.old (O.held out.old)) result (moment rc.new (O.held out.new)) }
     ensures kept { IsKept rc.old rc.new }
 {
-    match value_of(setting, helper) {
-        Ok(value) => write_found(value, rc, out),
+    if helper.is_value() {
+        render_lone(helper, setting, rc, out)
+    } else {
+        render_call(helper, setting, rc, out)
+    }
+}
+
+// An expression with no parameters and no pairs.
+#[cycle(render)]
+fn render_lone<'a, O: Output, P: Registered>(
+    helper: &'a HelperTemplate,
+    setting: &Setting<'_, 'a, P>,
+    rc: &mut RenderContext,
+    out: &mut O,
+) -> Result<(), RenderError>
+    ensures renders { (site : Site) → CarriesOn (setting_in P.parts setting.now) (render_lone (setting_in P.parts setting.now) site (call_view helper.now))
+        O.may_give (moment rc.old (O.held out.old)) result (moment rc.new (O.held out.new)) }
+    ensures kept { IsKept rc.old rc.new }
+{
+    let lone = match lone_name(setting, &helper.name) {
+        Ok(lone) => lone,
+        Err(e) => return Err(e),
+    };
+    match setting.parts.helper(lone.name.as_str()) {
+        Some(kind) => render_named(helper, setting, kind, lone.name, rc, out),
+        None => render_value(helper, setting, lone.value, rc, out),
+    }
+}
+
+// A call by a name alone.
+#[cycle(render)]
+fn render_named<'a, O: Output, P: Registered>(
+    helper: &'a HelperTemplate,
+    setting: &Setting<'_, 'a, P>,
+    kind: BuiltIn,
+    name: CowStr<'a>,
+    rc: &mut RenderContext,
+    out: &mut O,
+) -> Result<(), RenderError>
+    ensures renders { (site : Site) → CarriesOn (setting_in P.parts setting.now)
+        (render_helped site (call_view helper.now) (kind_of kind) (record { name = cow_str_bytes name.entry; params = []; pairs = [] }))
+        O.may_give (moment rc.old (O.held out.old)) result (moment rc.new (O.held out.new)) }
+    ensures kept { IsKept rc.old rc.new }
+{
+    let view = Called::alone(setting.alloc, name).of_call(helper);
+    render_helped(helper, setting, kind, &view, rc, out)
+}
+
+// Writes the value of an expression that no helper has the name of.
+fn render_value<'a, O: Output, P: Registered>(
+    helper: &'a HelperTemplate,
+    setting: &Setting<'_, 'a, P>,
+    made: Option<ScopedJson<'a>>,
+    rc: &mut RenderContext,
+    out: &mut O,
+) -> Result<(), RenderError>
+    ensures renders { (site : Site) → CarriesOn (setting_in P.parts setting.now)
+        (render_value (setting_in P.parts setting.now) site (call_view helper.now) (option_map found_of made.entry))
+        O.may_give (moment rc.old (O.held out.old)) result (moment rc.new (O.held out.new)) }
+    ensures kept { IsKept rc.old rc.new }
+{
+    match lone_value(setting, &helper.name, made) {
+        Ok(value) => write_found(value.as_json(), rc, out),
         Err(e) => Err(e),
     }
 }
 
-// Writes a value, rendered, and escaped where escaping is on; nothing where there is none.
-fn write_found<O: Output>(
-    value: Option<&Json>,
-    rc: &mut RenderContext,
-    out: &mut O,
-) -> Result<(), RenderError>
-    ensures puts { Puts (shown_if_any (state_of rc.old).escapes (option_map (λ v. view v.now) value.entry)) O.may_give (moment rc.old (O.held out.old)) result (moment rc.new (O.held out.new)) }
-    ensures kept { IsKept rc.old rc.new }
-{
-    let Some(value) = value else {
-        return Ok(());
-    };
-    match write_value(out, value, rc.escapes()) {
-        Ok(()) => {
-            rc.pass_value(value);
-            Ok(())
-        }
-        Err(cause) => Err(output_fault(cause)),
-    }
-}
-
-// Writes a text.
-fn write_text<O: Output>(text: &str, rc: &mut RenderContext, out: &mut O) -> Result<(), RenderError>
-    ensures puts { Puts text.now O.may_give (moment rc.old (O.held out.old)) result (moment rc.new (O.held out.new)) }
-    ensures kept { IsKept rc.old rc.new }
-{
-    match out.write(text) {
-        Ok(()) => {
-            rc.pass_text(text);
-            Ok(())
-        }
-        Err(fault) => Err(output_fault(fault)),
-    }
-}
-
 // The refusals of decorators and inclusions, for which nothing is registered.
-fn decorator_not_found(setting: &Setting, tag: &DecoratorTemplate) -> RenderError
-    ensures { (s : State) → IsRefusal (not_found decorator_not_found (view_of_tag (setting_in setting.now) s (decorator_view tag.now))) result }
+fn decorator_not_found<'a, P: Registered>(
+    tag: &'a DecoratorTemplate,
+    setting: &Setting<'_, 'a, P>,
+) -> RenderError
+    ensures { (site : Site) (s : State) → reason_in result ≢ out_of_memory
+        → RefusesValue (setting_in P.parts setting.now) (render_decorator (setting_in P.parts setting.now) site (decorator_view tag.now)) s (refusal_of result) }
 {
-    match tag_name(setting, tag) {
-        Ok(name) => RenderErrorReason::DecoratorNotFound(name).into(),
+    match view_of_tag(setting, tag) {
+        Ok(view) => no_decorator(setting.alloc, view.name),
         Err(e) => e,
     }
 }
 
-fn partial_not_found(setting: &Setting, tag: &DecoratorTemplate) -> RenderError
-    ensures { (s : State) → IsRefusal (not_found partial_not_found (view_of_tag (setting_in setting.now) s (decorator_view tag.now))) result }
+fn partial_not_found<'a, P: Registered>(
+    tag: &'a DecoratorTemplate,
+    setting: &Setting<'_, 'a, P>,
+) -> RenderError
+    ensures { (site : Site) (s : State) → reason_in result ≢ out_of_memory
+        → RefusesValue (setting_in P.parts setting.now) (render_partial (setting_in P.parts setting.now) site (decorator_view tag.now)) s (refusal_of result) }
 {
-    match tag_name(setting, tag) {
-        Ok(name) => RenderErrorReason::PartialNotFound(name).into(),
+    match view_of_tag(setting, tag) {
+        Ok(view) => no_partial(setting.alloc, view.name),
         Err(e) => e,
+    }
+}
+
+fn no_decorator(alloc: Global, name: CowStr) -> RenderError
+    ensures { IsRefusal (plain_refusal (decorator_not_found (cow_str_bytes name.entry))) result }
+{
+    match name.into_owned(alloc) {
+        Ok(name) => RenderErrorReason::DecoratorNotFound(name).into(),
+        Err(AllocError) => RenderErrorReason::OutOfMemory.into(),
+    }
+}
+
+fn no_partial(alloc: Global, name: CowStr) -> RenderError
+    ensures { IsRefusal (plain_refusal (partial_not_found (cow_str_bytes name.entry))) result }
+{
+    match name.into_owned(alloc) {
+        Ok(name) => RenderErrorReason::PartialNotFound(name).into(),
+        Err(AllocError) => RenderErrorReason::OutOfMemory.into(),
     }
 }

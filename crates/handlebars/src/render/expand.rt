@@ -2,14 +2,14 @@
 
 ghost use Rattle.std.specs.Prelude.{◌≡◌, IsErrAnd, OnErr, OnOk, true, false};
 ghost use Rattle.std.specs.Cow.{cow_str_bytes};
-ghost use Rattle.handlebars_base.specs.Answers.{Answers};
 ghost use Rattle.handlebars_base.specs.PathAndData.{path_and_data};
 ghost use Rattle.handlebars_base.specs.Reasons.{failed};
 ghost use Rattle.handlebars_base.specs.RenderRefusals.{refusal_of, plain_refusal};
 ghost use Rattle.handlebars_template.specs.Tree.{Param};
 ghost use Rattle.handlebars_template.specs.TreeView.{param_view};
+ghost use Rattle.handlebars_scope.specs.Sites.{Site};
 ghost use Rattle.handlebars.specs.Expand.{expand, expand_as_name};
-ghost use Rattle.handlebars.specs.View.{setting_of, state_of, root_of, has_failed};
+ghost use Rattle.handlebars.specs.View.{setting_of, state_of, root_of, has_failed, Yields};
 
 use crate::registry::Registry;
 use crate::render::context::RenderContext;
@@ -39,7 +39,7 @@ pub trait Expand {
         rc: &mut RenderContext,
         log: &L,
     ) -> Result<PathAndJson<'rc>, RenderError>
-        ensures expands { has_failed rc.old ≡ false → Answers path_and_data result (expand (setting_of registry.now «data».now) (state_of rc.old) (param self.now)) }
+        ensures expands { has_failed rc.old ≡ false → (site : Site) → Yields (setting_of registry.now «data».now) (expand (setting_of registry.now «data».now) site (param self.now)) (state_of rc.old) path_and_data result }
         ensures failed { has_failed rc.old ≡ true → IsErrAnd result (λ e. refusal_of e ≡ plain_refusal failed) × (rc.new ≡ rc.old) }
         ensures state { state_of rc.new ≡ state_of rc.old }
         ensures root { root_of rc.new ≡ root_of rc.old }
@@ -55,7 +55,7 @@ pub trait Expand {
         rc: &mut RenderContext,
         log: &L,
     ) -> Result<CowStr<'rc>, RenderError>
-        ensures expands { has_failed rc.old ≡ false → Answers cow_str_bytes result (expand_as_name (setting_of registry.now «data».now) (state_of rc.old) (param self.now)) }
+        ensures expands { has_failed rc.old ≡ false → (site : Site) → Yields (setting_of registry.now «data».now) (expand_as_name (setting_of registry.now «data».now) site (param self.now)) (state_of rc.old) cow_str_bytes result }
         ensures failed { has_failed rc.old ≡ true → IsErrAnd result (λ e. refusal_of e ≡ plain_refusal failed) × (rc.new ≡ rc.old) }
         ensures state { state_of rc.new ≡ state_of rc.old }
         ensures root { root_of rc.new ≡ root_of rc.old }
@@ -69,28 +69,28 @@ impl Expand for Parameter {
     fn expand<'rc, L: Log>(
         &'rc self,
         alloc: Global,
-        _registry: &Registry,
+        registry: &Registry,
         data: &'rc Context,
         rc: &mut RenderContext,
         _log: &L,
     ) -> Result<PathAndJson<'rc>, RenderError> {
         ready(rc)?;
         let given = data.data();
-        let answer = value::expand(&Setting { alloc, given }, self);
+        let answer = value::expand(&Setting { alloc, parts: registry, given }, self);
         fail_after(rc, answer)
     }
 
     fn expand_as_name<'rc, L: Log>(
         &'rc self,
         alloc: Global,
-        _registry: &Registry,
+        registry: &Registry,
         data: &'rc Context,
         rc: &mut RenderContext,
         _log: &L,
     ) -> Result<CowStr<'rc>, RenderError> {
         ready(rc)?;
         let given = data.data();
-        let answer = value::expand_as_name(&Setting { alloc, given }, self);
+        let answer = value::expand_as_name(&Setting { alloc, parts: registry, given }, self);
         fail_after(rc, answer)
     }
 }

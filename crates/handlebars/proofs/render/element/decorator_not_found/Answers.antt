@@ -1,10 +1,15 @@
-use Rattle.std.proofs.Common.{sym, ◌∙◌}
 use Rattle.handlebars_base.specs.Reasons.{decorator_not_found}
-use Rattle.handlebars.proofs.Values.{not_found_named, not_found_refused}
+use Rattle.handlebars_template.specs.TreeView.{decorator_view}
+use Rattle.handlebars.specs.Expand.{view_of_tag}
+use Rattle.handlebars.specs.View.{called_view, setting_in}
+use Rattle.handlebars.proofs.Calls.{refuses_named}
+use Rattle.handlebars.proofs.Gives.{refuses-bind}
 use Rattle.handlebars.proofs.render.element.decorator_not_found.Goals as goal
 
 pub returns-in-Ok : goal.returns-in-Ok
-returns-in-Ok c = λ s other. c.into.ensures ∙ sym (not_found_named (λ x. decorator_not_found x) _ _ (c.in-Ok.ensures s))
+returns-in-Ok g c = λ site s other. refuses_named _ (view_of_tag (setting_in g.P.Registered.parts c.args.setting.now) site (decorator_view c.args.tag.now))
+    (λ n. decorator_not_found n) (called_view c.in-Ok.view) c.no_decorator.result (c.in-Ok.ensures site s) c.no_decorator.ensures other
 
 pub returns-in-Err : goal.returns-in-Err
-returns-in-Err c = λ s other. sym (not_found_refused (λ x. decorator_not_found x) _ _ (c.in-Err.ensures s other))
+returns-in-Err g c = λ site s other. refuses-bind _ (view_of_tag (setting_in g.P.Registered.parts c.args.setting.now) site (decorator_view c.args.tag.now))
+    _ (c.in-Err.ensures site s other)

@@ -1,47 +1,102 @@
-use Rattle.std.proofs.Common.{sym, ◌∙◌}
-use Rattle.handlebars_base.specs.Reasons.{helper_not_found}
-use Rattle.handlebars.specs.View.{setting_in}
-use Rattle.handlebars.proofs.Values.{handed_on, view_of_call-out, view_named, view_without_params, view_without_pairs, not_found_named, not_found_refused, params_given, params_refused, pairs_given, pairs_refused}
+use Rattle.std.proofs.Common.{map, sym, ap, ◌∙◌}
+use Rattle.handlebars_base.specs.PathAndData.{path_and_data}
+use Rattle.handlebars_base.specs.Scoped.{found_of}
+use Rattle.handlebars_template.specs.TreeView.{param_view, pairs_view}
+use Rattle.handlebars_template.proofs.Levels.{element_view-Expression, param_view-Path, param_view-Subexpression}
+use Rattle.handlebars.specs.View.{called_view, pairs_seen}
+use Rattle.handlebars.proofs.Ordered.{follows-next, inserted-last, map-push, pairs_seen-push}
+use Rattle.handlebars.proofs.Values.{gives-called, gives-view, gives-written, pairs-end, pairs-go, pairs-over, params-end, params-go, params-here, params-over, params-past, refuses-called, refuses-name, refuses-pairs, refuses-params, refuses-written, refuses-first, subexpression_view-out, view_of_call-out, yields-answer, yields-call, yields-handed_on, yields-state}
 use Rattle.handlebars.proofs.render.value.+value.Goals as goal
 
-pub called_name-returns-in_err-expand_params : goal.called_name-returns-in_err-expand_params
-called_name-returns-in_err-expand_params t c = λ s. rw (view_of_call-out (setting_in c.args.setting.now) s c.args.helper.now)
-    (handed_on _ _ _ _ c.from_residual-in_err-expand_params.ensures.1
-    (λ other. view_without_params _ _ _ _ _ (c.in_ok-name.ensures s) (c.in_err-expand_params.ensures s other)))
+pub called-returns-in_err-name : goal.called-returns-in_err-name
+called-returns-in_err-name g t c = λ site s. rw (view_of_call-out _ site c.args.helper.now)
+    (yields-handed_on _ called_view _ _ _ c.from_residual.ensures.1
+    (λ other. refuses-name _ site _ _ _ (c.in_err-name.ensures site s other)))
 
-pub called_name-returns-in_err-expand_pairs : goal.called_name-returns-in_err-expand_pairs
-called_name-returns-in_err-expand_pairs t c = λ s. rw (view_of_call-out (setting_in c.args.setting.now) s c.args.helper.now)
-    (handed_on _ _ _ _ c.from_residual-in_err-expand_pairs.ensures.1
-    (λ other. view_without_pairs _ _ _ _ _ (c.in_ok-name.ensures s) (c.in_ok-expand_params.ensures s) (c.in_err-expand_pairs.ensures s other)))
+pub called-returns-in_err-params : goal.called-returns-in_err-params
+called-returns-in_err-params g t c = λ site s. rw (view_of_call-out _ site c.args.helper.now)
+    (yields-handed_on _ called_view _ _ _ c.from_residual-in_err-params.ensures.1
+    (λ other. refuses-params _ site _ _ _ (c.in_ok-name.ensures site s) (c.in_err-params.ensures site s other)))
 
-pub called_name-returns : goal.called_name-returns
-called_name-returns t c = λ s. rw (view_of_call-out (setting_in c.args.setting.now) s c.args.helper.now)
-    (view_named _ _ _ _ (c.in_ok-name.ensures s) (c.in_ok-expand_params.ensures s) (c.in_ok-expand_pairs.ensures s))
+pub called-returns-in_err-hash : goal.called-returns-in_err-hash
+called-returns-in_err-hash g t c = λ site s. rw (view_of_call-out _ site c.args.helper.now)
+    (yields-handed_on _ called_view _ _ _ c.from_residual-in_err-hash.ensures.1
+    (λ other. refuses-pairs _ site _ _ _ (c.in_ok-name.ensures site s) (c.in_ok-params.ensures site s)
+    (c.in_err-hash.ensures site s other)))
 
-pub expand_pairs-loop-key-preserved : goal.expand_pairs-loop-key-preserved
-expand_pairs-loop-key-preserved t c = λ s.
-    sym (pairs_given (setting_in c.args.setting.now) s _ _ _ _ _ _ c.in-Some.ensures.steps (c.in_ok-param_value.ensures s))
-    ∙ c.loop-key.invariant s
+pub called-returns : goal.called-returns
+called-returns g t c = λ site s. rw (view_of_call-out _ site c.args.helper.now)
+    (gives-view _ site _ _ _ (c.in_ok-name.ensures site s) (c.in_ok-params.ensures site s) (c.in_ok-hash.ensures site s))
 
-pub expand_pairs-returns-in_err-param_value : goal.expand_pairs-returns-in_err-param_value
-expand_pairs-returns-in_err-param_value t c = λ s. rw (sym (c.loop-key.invariant s))
-    (handed_on _ _ _ _ c.from_residual.ensures.1
-    (λ other. pairs_refused (setting_in c.args.setting.now) s _ _ _ _ _ _ c.in-Some.ensures.steps (c.in_err-param_value.ensures s other)))
+pub expand-returns-in_ok-written-in-Ok : goal.expand-returns-in_ok-written-in-Ok
+expand-returns-in_ok-written-in-Ok g t c = λ site s. gives-written _ site _ _ _ _ _ c.new.ensures
+    c.in_ok-written-in-Ok.ensures c.in-Ok.ensures.constant (c.in-Ok.ensures.value site s)
 
-pub expand_params-returns-in_err-param_value : goal.expand_params-returns-in_err-param_value
-expand_params-returns-in_err-param_value t c = λ s. rw (sym c.deref-parameter-items.ensures.value, sym (c.loop-parameter.invariant s))
-    (handed_on _ _ _ _ c.from_residual.ensures.1
-    (λ other. params_refused (setting_in c.args.setting.now) s _ _ c.deref-parameter-items.result.now c.loop-parameter.parameter-index c.parameter-item.result
-    c.loop-parameter-test.true c.parameter-item.is (c.in_err-param_value.ensures s other)))
+pub expand-returns-in-Err : goal.expand-returns-in-Err
+expand-returns-in-Err g t c = λ site s other. refuses-written _ site _ (c.in-Err.ensures.value site s other)
 
-pub expand_params-loop-parameter-preserved : goal.expand_params-loop-parameter-preserved
-expand_params-loop-parameter-preserved t c = λ s.
-    sym (params_given (setting_in c.args.setting.now) s _ _ c.deref-parameter-items.result.now c.loop-parameter.parameter-index c.parameter-item.result
-    c.loop-parameter-test.true c.parameter-item.is (c.in_ok-param_value.ensures s))
-    ∙ c.loop-parameter.invariant s
+pub expand_as_name-returns-in_ok-render-in-Ok : goal.expand_as_name-returns-in_ok-render-in-Ok
+expand_as_name-returns-in_ok-render-in-Ok g t c = λ site s. rw (c.in-Subexpression.is, param_view-Subexpression)
+    (gives-called _ site _ _ _ c.in_ok-render-in-Ok.ensures (c.in-Ok.ensures.value site s))
 
-pub helper_not_found-returns-in-Ok : goal.helper_not_found-returns-in-Ok
-helper_not_found-returns-in-Ok t c = λ s other. c.into.ensures ∙ sym (not_found_named (λ x. helper_not_found x) _ _ (c.in-Ok.ensures s))
+pub expand_as_name-returns-in-Err : goal.expand_as_name-returns-in-Err
+expand_as_name-returns-in-Err g t c = λ site s other. rw (c.in-Subexpression.is, param_view-Subexpression)
+    (refuses-called _ site _ (c.in-Err.ensures.value site s other))
 
-pub helper_not_found-returns-in-Err : goal.helper_not_found-returns-in-Err
-helper_not_found-returns-in-Err t c = λ s other. sym (not_found_refused (λ x. helper_not_found x) _ _ (c.in-Err.ensures s other))
+pub expands-returns-in-Path-clause-value : goal.expands-returns-in-Path-clause-value
+expands-returns-in-Path-clause-value g t c = λ site s. rw (c.in-Path.is, param_view-Path)
+    (yields-state _ found_of _ s _ (yields-answer _ found_of _ s _ c.find.ensures.found))
+
+pub expands-returns-in-Subexpression-clause-value : goal.expands-returns-in-Subexpression-clause-value
+expands-returns-in-Subexpression-clause-value g t c = λ site s. rw (c.in-Subexpression.is, param_view-Subexpression)
+    (c.inner_value.ensures.value site s)
+
+pub call_value-returns-in-Ok-clause-value : goal.call_value-returns-in-Ok-clause-value
+call_value-returns-in-Ok-clause-value g t c = λ site s.
+    yields-call _ found_of site _ _ _ _ (ap (λ h. h.call) c.in_parentheses.ensures) (c.in-Ok.ensures site s)
+    (c.helped_value.ensures.value site s)
+
+pub call_value-returns-in-Err-clause-value : goal.call_value-returns-in-Err-clause-value
+call_value-returns-in-Err-clause-value g t c = λ site s other. refuses-first _ _ _ (c.in-Err.ensures site s other)
+
+pub inner_value-returns-in-Expression-clause-value : goal.inner_value-returns-in-Expression-clause-value
+inner_value-returns-in-Expression-clause-value g t c = λ site s.
+    rw (subexpression_view-out c.args.inner.now, sym c.deref.ensures, c.in-Expression.is, element_view-Expression)
+    (rw c.deref-in-Expression.ensures at (c.call_value.ensures.value site s))
+
+pub pairs_values-returns-in_err-expand : goal.pairs_values-returns-in_err-expand
+pairs_values-returns-in_err-expand g t c = λ site s. yields-handed_on _ (λ vs. pairs_seen vs.entries) _ _ _ c.from_residual.ensures.1
+    (λ other. pairs-over _ site (ap pairs_view c.in-Some.ensures.steps) (c.loop-key.invariant.left site s)
+    (c.in_err-expand.ensures site s other))
+
+pub pairs_values-loop-key-preserved : goal.pairs_values-loop-key-preserved
+pairs_values-loop-key-preserved g t c =
+    let last = inserted-last c.in-Some.key.now c.in-Some.parameter.now c.as_str.result c.in_ok-expand.field-0 c.in-Some.ensures.steps
+    c.as_str.ensures.value c.iter-key-items.ensures.ordered c.loop-key.invariant.follows in
+    record {
+      follows = follows-next c.in-Some.key.now c.in-Some.parameter.now c.as_str.result c.in_ok-expand.field-0 c.in-Some.ensures.steps
+          c.as_str.ensures.value c.iter-key-items.ensures.ordered c.loop-key.invariant.follows c.in_ok-put.ensures;
+      left = λ site s. rw (pairs_seen-push _ _ c.as_str.result c.in_ok-expand.field-0 _ (c.in_ok-put.ensures ∙ last) c.as_str.ensures.value)
+          (pairs-go _ site (ap pairs_view c.in-Some.ensures.steps) (c.loop-key.invariant.left site s) _ (c.in_ok-expand.ensures site s));
+    }
+
+pub pairs_values-returns : goal.pairs_values-returns
+pairs_values-returns g t c = λ site s. pairs-end _ site (ap pairs_view c.in-None.ensures.steps.0) (c.loop-key.invariant.left site s)
+
+pub params_values-returns-in_err-expand : goal.params_values-returns-in_err-expand
+params_values-returns-in_err-expand g t c = λ site s. rw (sym c.deref-parameter-items.ensures.value)
+    (yields-handed_on _ (λ vs. map path_and_data vs.items) _ _ _ c.from_residual.ensures.1
+    (λ other. params-over _ site (params-here c.deref-parameter-items.result.now c.loop-parameter.parameter-index
+    c.parameter-item.result c.loop-parameter-test.true c.parameter-item.is)
+    (c.loop-parameter.invariant site s) (c.in_err-expand.ensures site s other)))
+
+pub params_values-loop-parameter-preserved : goal.params_values-loop-parameter-preserved
+params_values-loop-parameter-preserved g t c = λ site s. rw (map-push path_and_data _ _ c.in_ok-expand.field-0 c.in_ok-push.ensures.items)
+    (params-go _ site (params-here c.deref-parameter-items.result.now c.loop-parameter.parameter-index
+    c.parameter-item.result c.loop-parameter-test.true c.parameter-item.is)
+    (c.loop-parameter.invariant site s) _ (c.in_ok-expand.ensures site s))
+
+pub params_values-returns : goal.params_values-returns
+params_values-returns g t c = λ site s. rw (sym c.deref-parameter-items.ensures.value)
+    (params-end _ site (params-past c.deref-parameter-items.result.now c.loop-parameter.parameter-index c.loop-parameter-test.false)
+    (c.loop-parameter.invariant site s))

@@ -1,17 +1,22 @@
-use Rattle.std.proofs.Common.{◌≡◌, drop}
+use Rattle.std.proofs.Common.{◌≡◌, ◌++◌, List, map, drop, String, Global, string_bytes}
+use Rattle.handlebars_base.specs.PathAndData.{path_and_data}
 use Rattle.handlebars_template.specs.TreeView.{params_view, pairs_view}
+use Rattle.handlebars_template.specs.declared.template.tree.Parameter.{Parameter}
+use Rattle.handlebars_scope.specs.Sites.{Site}
 use Rattle.handlebars.specs.State.{State}
-use Rattle.handlebars.specs.Expand.{pairs_values, params_values}
-use Rattle.handlebars.specs.View.{setting_in, without_value}
+use Rattle.handlebars.specs.View.{setting_in, pairs_seen}
+use Rattle.handlebars.proofs.Values.{ParamsLeft, PairsLeft}
+use Rattle.handlebars.proofs.Ordered.{Follows}
 use Rattle.handlebars.proofs.render.value.+value.Given as goal
 
--- the parameters so far have values, so those that are left decide
-abbrev pub invariant-expand_params-loop-parameter : goal.invariant-expand_params-loop-parameter
-invariant-expand_params-loop-parameter l = (s : State)
-    → without_value (params_values (setting_in l.setting) s (params_view (drop l.parameter-index l.parameter-items)))
-    ≡ without_value (params_values (setting_in l.setting) s (params_view l.parameter-items))
+abbrev pub invariant-params_values-loop-parameter : goal.invariant-params_values-loop-parameter
+invariant-params_values-loop-parameter g l = (site : Site) (s : State)
+    → ParamsLeft (setting_in g.P.Registered.parts l.setting) site (params_view l.parameter-items)
+    (params_view (drop l.parameter-index l.parameter-items)) s (map path_and_data l.values.items)
 
-abbrev pub invariant-expand_pairs-loop-key : goal.invariant-expand_pairs-loop-key
-invariant-expand_pairs-loop-key l = (s : State)
-    → without_value (pairs_values (setting_in l.setting) s (pairs_view l._key-iterator))
-    ≡ without_value (pairs_values (setting_in l.setting) s (pairs_view l.pairs.entries))
+abbrev pub invariant-pairs_values-loop-key : goal.invariant-pairs_values-loop-key
+invariant-pairs_values-loop-key g l = record {
+  follows : Follows l.values.entries l.pairs.entries l.key-iterator;
+  left : (site : Site) (s : State) → PairsLeft (setting_in g.P.Registered.parts l.setting) site (pairs_view l.pairs.entries)
+      (pairs_view l.key-iterator) s (pairs_seen l.values.entries);
+}

@@ -1,5 +1,5 @@
 use Rattle.handlebars_base.specs.Scoped.{found_of}
-use Rattle.handlebars.proofs.Values.{evaluates_nowhere, evaluates_to, evaluation_refused}
+use Rattle.handlebars.proofs.Evaluates.{evaluates_nowhere, evaluates_to, evaluation_refused}
 use Rattle.handlebars.proofs.render.context.RenderContext.evaluate.Goals as goal
 
 pub returns-in_err-reference-clause-err : goal.returns-in_err-reference-clause-err
