@@ -2,11 +2,12 @@
 
 ghost use Rattle.std.specs.Prelude.{◌≡◌, [], IfOk, false, option_map};
 ghost use Rattle.std.specs.Cow.{cow_str_bytes};
+ghost use Rattle.serde_json.specs.Data.{string};
 ghost use Rattle.handlebars_base.specs.Answers.{IsRefusal};
 ghost use Rattle.handlebars_base.specs.Bytes.{Text};
 ghost use Rattle.handlebars_base.specs.Reasons.{helper_not_found};
 ghost use Rattle.handlebars_base.specs.RenderRefusals.{plain_refusal};
-ghost use Rattle.handlebars_base.specs.Scoped.{found_of, is_constant};
+ghost use Rattle.handlebars_base.specs.Scoped.{found_of, is_constant, value};
 ghost use Rattle.handlebars_template.specs.Tree.{call_binding, call_body, call_inverse, call_marks, no_binding, no_body};
 ghost use Rattle.handlebars_template.specs.TreeView.{call_view, decorator_view};
 ghost use Rattle.handlebars_scope.specs.Sites.{Site};
@@ -125,11 +126,19 @@ pub fn helped_value<'a, P: Registered>(
 {
     match setting.parts.helper(helper.name()) {
         Some(kind) => match choose(kind, helper) {
-            Ok(_) => Ok(ScopedJson::Derived(Json::String(String::new(setting.alloc)))),
+            Ok(_) => Ok(empty_text(setting.alloc)),
             Err(e) => Err(e),
         },
         None => Err(helper_not_found(setting.alloc, helper.name())),
     }
+}
+
+// The value of what writes nothing.
+fn empty_text<'a>(alloc: Global) -> ScopedJson<'a>
+    ensures value { found_of result ≡ value (string []) }
+    ensures constant { is_constant result ≡ false }
+{
+    ScopedJson::Derived(Json::String(String::new(alloc)))
 }
 
 /// The refusal of a name that no helper has.
