@@ -1,5 +1,5 @@
 -- White, runs, marks and quotes in front of a text.
-use Rattle.std.proofs.Common.{◌≡◌, ℕ, ◌<◌, Bool, true, false, cond, not, List, [], ◌∷◌, ◌++◌, length, get_or, Some, None, refl, sym, ap, ◌∙◌, arith, inl, inr}
+use Rattle.std.proofs.Common.{◌≡◌, ◌≢◌, ℕ, ◌<◌, Bool, true, false, cond, not, List, [], ◌∷◌, ◌++◌, length, get_or, Some, None, refl, sym, ap, ◌∙◌, arith, inl, inr}
 use Rattle.std.specs.Prelude.{◌==◌}
 use Rattle.std.specs.List.{prefix_len, AllByRecursion}
 use Rattle.std.specs.Str.{IsCharBoundary}
@@ -77,6 +77,18 @@ after-same c t = elim (cases_Bool (c == c)) [
   | inl yea ↦ rw yea refl
   | inr nay ↦ absurd (eqb-false c c nay refl)
 ]
+
+pub white_some : (t w r : List ℕ) → starts is_white t ≡ true → t ≡ w ++ r → starts is_white r ≡ false → w ≢ []
+white_some t [] r h e dark none = let same : starts is_white t ≡ starts is_white r = ap (starts is_white) e in absurd cc
+white_some t (b ∷ w) r h e dark none = absurd cc
+
+pub dark_behind : (t : List ℕ) → starts is_white (behind_white t) ≡ false
+dark_behind [] = refl
+dark_behind (b ∷ t) = on (is_white b) refl (dark_behind t)
+  where
+    on : (c : Bool) → is_white b ≡ c → starts is_white (behind_white t) ≡ false → starts is_white (behind_white (b ∷ t)) ≡ false
+    on true is again = rw is again
+    on false is again = rw is is
 
 -- ---- runs
 

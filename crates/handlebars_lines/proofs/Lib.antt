@@ -10,7 +10,9 @@ pub mod JsonOf
 pub mod LiteralLoop
 pub mod Endings
 pub mod LineMarks
+pub mod Bindings
 pub mod LineFronts
+pub mod LineEnds
 pub mod LineSteps
 pub mod LineBounds
 pub mod LinesRead

@@ -1,8 +1,8 @@
 -- With which bytes parameters begin, and what may follow them, so that no key is read where none stands.
 use Rattle.std.proofs.Common.{◌≡◌, ◌≢◌, ℕ, suc, ◌+◌, Bool, true, false, ◌||◌, List, [], ◌∷◌, ◌++◌, length, drop, None, refl, sym, ap, subst, ◌∙◌, append_assoc, append-nil, arith, inl, inr}
 use Rattle.std.specs.Prelude.{◌==◌}
-use Rattle.std.specs.List.{prefix_len, AllByRecursion}
-use Rattle.std.proofs.lemmas.Bool.{eqb-true, cases_Bool, or_parts, not-false}
+use Rattle.std.specs.List.{AllByRecursion}
+use Rattle.std.proofs.lemmas.Bool.{eqb-true, cases_Bool, or_cases, or_parts, not-false}
 use Rattle.handlebars_base.specs.Bytes.{is_white}
 use Rattle.handlebars_base.specs.Path.{is_symbol, IsIdentifier, Reference, IsPath}
 use Rattle.handlebars_base.specs.PathReading.{after, behind_symbols, is_reference_byte, starts_reference, stops, reference_from, reference_len}
@@ -10,11 +10,13 @@ use Rattle.handlebars_base.proofs.References.{stops-path, reference_len-append}
 use Rattle.handlebars_lines.specs.Literal.{IsWhite, Literal, quoted, single_quoted, number, word, empty, filled, array, object, spelled_literal, IsLiteral, goes_on, starts}
 use Rattle.handlebars_lines.specs.LiteralReading.{behind_white}
 use Rattle.handlebars_lines.specs.Parameter.{Shape, literal_shape, path_shape, nested_shape, Items, no_items, parameter_item, pair_item, spelled_shape, spelled_items, Fits, AreItems}
-use Rattle.handlebars_lines.specs.Line.{Enclosure, in_tag, in_parentheses, Closes}
+use Rattle.handlebars_lines.specs.Line.{Enclosure, in_tag, in_block, in_parentheses, ends_tag, Closes}
 use Rattle.handlebars_lines.specs.LineReading.{key_at}
 use Rattle.handlebars_lines.proofs.Fronts.{behind_white-dark, behind_white-append, starts-other, starts-append, after-not}
 use Rattle.handlebars_lines.proofs.Plain.{GoesOn, number_goes_on, word_goes_on}
-use Rattle.handlebars_lines.proofs.LineMarks.{other_byte, no_symbols, key_at-none, key_at-dark}
+use Rattle.handlebars_lines.specs.Binding.{begins_binding}
+use Rattle.handlebars_lines.proofs.Bindings.{BeginsAt, binding_begins}
+use Rattle.handlebars_lines.proofs.LineMarks.{other_byte, on_symbol, on_mark, no_symbols, key_at-none, key_at-dark}
 
 -- ---- with which bytes parameters begin
 
@@ -44,7 +46,7 @@ symbol_starts b h = rw h refl
 symbol_begins : (b : ℕ) → is_symbol b ≡ true → begins b ≡ true
 symbol_begins b h = reference_begins b (symbol_starts b h)
 
-goes_on_starts : (b : ℕ) → goes_on b ≡ true → starts_reference b ≡ true
+pub goes_on_starts : (b : ℕ) → goes_on b ≡ true → starts_reference b ≡ true
 goes_on_starts b h = elim (cases_Bool (is_symbol b)) [
   | inl is ↦ symbol_starts b is
   | inr other ↦ elim (cases_Bool (b == 46)) [
@@ -102,9 +104,9 @@ single_no_parenthesis t h = after-not 40 t (starts-other begins_single (λ b. b 
 
 -- ---- what follows a parameter
 
--- white, or what closes
+-- white, or what ends a line
 abbrev pub closes_byte : ℕ → Bool
-closes_byte b = is_white b || (b == 41 || b == 125)
+closes_byte b = is_white b || (b == 41 || (b == 125 || b == 126))
 
 pub record Follows (t : List ℕ) : Type 0 where
   pub first : starts closes_byte t ≡ true
@@ -117,19 +119,42 @@ white_starts : (w t : List ℕ) → IsWhite w → w ≢ [] → starts closes_byt
 white_starts [] t white some = absurd (some refl)
 white_starts (b ∷ w) t white some = white_closes b white.0
 
-closing_starts : (v : List ℕ) (b : ℕ) (t : List ℕ) → IsWhite v → closes_byte b ≡ true → starts closes_byte (v ++ b ∷ t) ≡ true
-closing_starts [] b t white h = h
-closing_starts (c ∷ v) b t white h = white_closes c white.0
+-- what stands behind white or none decides
+closing_starts : (p : ℕ → Bool) (t : List ℕ) → ((b : ℕ) → p b ≡ true → closes_byte b ≡ true) → starts p (behind_white t) ≡ true → starts closes_byte t ≡ true
+closing_starts p [] closes h = absurd cc
+closing_starts p (b ∷ t) closes h = elim (cases_Bool (is_white b)) [
+  | inl yea ↦ white_closes b yea
+  | inr nay ↦ let first : p b ≡ true = rw nay at h in closes b first
+]
+
+mark_follows : (p : ℕ → Bool) (t : List ℕ) → ((b : ℕ) → p b ≡ true → closes_byte b ≡ true) → p 61 ≡ false → starts p (behind_white t) ≡ true → Follows t
+mark_follows p t closes never h = record {
+  first = closing_starts p t closes h;
+  no_equals = starts-other p (λ b. b == 61) (behind_white t) (other_byte p 61 never) h;
+}
+
+tag_closes : (b : ℕ) → ends_tag b ≡ true → closes_byte b ≡ true
+tag_closes b h = elim (or_cases (b == 126) (b == 125) h) [
+  | inl is ↦ let same : b ≡ 126 = eqb-true b 126 is in ap closes_byte same
+  | inr is ↦ let same : b ≡ 125 = eqb-true b 125 is in ap closes_byte same
+]
+
+parenthesis_closes : (b : ℕ) → (b == 41) ≡ true → closes_byte b ≡ true
+parenthesis_closes b is = let same : b ≡ 41 = eqb-true b 41 is in ap closes_byte same
+
+binding_follows : (t r : List ℕ) → BeginsAt t r → Follows t
+binding_follows t r h = record {
+  first = starts_more is_white closes_byte t white_closes h.spaced;
+  no_equals = rw h.behind refl;
+}
 
 pub closing_follows : (around : Enclosure) (t : List ℕ) → Closes around t → Follows t
-closing_follows in_tag t h = subst Follows (sym h.whole) (record {
-  first = closing_starts h.white 125 (125 ∷ h.rest) h.is_white refl;
-  no_equals = rw (behind_white-append h.white (125 ∷ 125 ∷ h.rest) h.is_white refl) refl;
-})
-closing_follows in_parentheses t h = subst Follows (sym h.whole) (record {
-  first = closing_starts h.white 41 h.rest h.is_white refl;
-  no_equals = rw (behind_white-append h.white (41 ∷ h.rest) h.is_white refl) refl;
-})
+closing_follows in_tag t h = mark_follows ends_tag t tag_closes refl h
+closing_follows in_block t h = elim (or_cases (starts ends_tag (behind_white t)) (begins_binding t) h) [
+  | inl ends ↦ mark_follows ends_tag t tag_closes refl ends
+  | inr begins ↦ let b = binding_begins t begins in binding_follows t b.0 b.1
+]
+closing_follows in_parentheses t h = mark_follows (λ b. b == 41) t parenthesis_closes refl h
 
 item_follows : (w t : List ℕ) → IsWhite w → w ≢ [] → starts begins t ≡ true → Follows (w ++ t)
 item_follows w t white some start =
@@ -157,10 +182,14 @@ closes_stops b h = elim (cases_Bool (starts_reference b)) [
       let dark = begins_dark b (reference_begins b is) in
       let shut = other_byte starts_reference 41 refl b is in
       let brace = other_byte starts_reference 125 refl b is in
-      let no : closes_byte b ≡ false = rw (dark, shut, brace) refl in
+      let wave = other_byte starts_reference 126 refl b is in
+      let no : closes_byte b ≡ false = rw (dark, shut, brace, wave) refl in
       absurd cc
   | inr other ↦ other
 ]
+
+pub white_stops : (b : ℕ) → is_white b ≡ true → starts_reference b ≡ false
+white_stops b h = closes_stops b (white_closes b h)
 
 starts_stops : (t : List ℕ) → starts closes_byte t ≡ true → stops t ≡ true
 starts_stops [] h = absurd cc
@@ -176,14 +205,6 @@ follows_no_symbol : (t : List ℕ) → Follows t → starts is_symbol t ≡ fals
 follows_no_symbol t f = starts-other closes_byte is_symbol t (λ b is. no_symbol b (closes_stops b is)) f.first
 
 -- ---- no key stands where a parameter does
-
-on_symbol : (x : ℕ) (t : List ℕ) → is_symbol x ≡ true → behind_symbols (x ∷ t) ≡ behind_symbols t
-on_symbol x t h =
-    let long : 1 + prefix_len is_symbol t ≡ suc (prefix_len is_symbol t) = omega arith in
-    rw (h, long) refl
-
-on_mark : (x : ℕ) (t : List ℕ) → is_symbol x ≡ false → behind_symbols (x ∷ t) ≡ x ∷ t
-on_mark x t h = rw h refl
 
 no_equals_here : (t : List ℕ) → starts begins t ≡ true → starts (λ b. b == 61) (behind_white t) ≡ false
 no_equals_here t h =

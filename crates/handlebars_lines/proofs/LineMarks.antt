@@ -1,6 +1,6 @@
--- Paths, keys and the ends of lines in front of a text, and with which bytes parameters begin.
+-- Paths, literals and keys in front of a text.
 use Rattle.std.proofs.Common.{◌≡◌, ◌≢◌, ℕ, suc, ◌+◌, Bool, true, false, List, [], ◌∷◌, ◌++◌, Option, Some, None, refl, sym, ap, subst, ◌∙◌, arith, inl, inr}
-use Rattle.std.specs.Prelude.{◌==◌, is_some}
+use Rattle.std.specs.Prelude.{◌==◌}
 use Rattle.std.specs.List.{prefix_len, AllByRecursion}
 use Rattle.std.specs.Option.{option_map}
 use Rattle.std.proofs.lemmas.Bool.{ne_eqb, cases_Bool, both_ways}
@@ -15,8 +15,7 @@ use Rattle.handlebars_base.proofs.PathsInFront.{path_at-some, path_at-stops}
 use Rattle.handlebars_lines.specs.Literal.{IsWhite, Literal, spelled_literal, literal_depth, keeps_numbers, starts, IsLiteralAt}
 use Rattle.handlebars_lines.specs.LiteralReading.{behind_white, Slice, literal_at}
 use Rattle.handlebars_lines.specs.Laws.{HasLiteral}
-use Rattle.handlebars_lines.specs.Line.{Enclosure, in_tag, in_parentheses, end_of, Closes}
-use Rattle.handlebars_lines.specs.LineReading.{behind_end, key_at}
+use Rattle.handlebars_lines.specs.LineReading.{key_at}
 use Rattle.handlebars_lines.proofs.Fronts.{behind_white-skips, behind_white-append, after-not, after-same}
 use Rattle.handlebars_lines.proofs.LiteralsFound.{literal_at-is, literal_at-some}
 
@@ -68,25 +67,40 @@ literal_at-missing t none = on (literal_at t) refl
 pub other_byte : (p : ℕ → Bool) (c : ℕ) → p c ≡ false → (b : ℕ) → p b ≡ true → (b == c) ≡ false
 other_byte p c never b is = ne_eqb b c (λ e. let same : p b ≡ p c = ap p e in absurd cc)
 
-symbol_dark : (b : ℕ) → is_symbol b ≡ true → is_white b ≡ false
+pub symbol_dark : (b : ℕ) → is_symbol b ≡ true → is_white b ≡ false
 symbol_dark b h =
     rw (other_byte is_symbol 32 refl b h, other_byte is_symbol 9 refl b h, other_byte is_symbol 10 refl b h, other_byte is_symbol 13 refl b h) refl
 
-white_symbol : (b : ℕ) → is_white b ≡ true → is_symbol b ≡ false
+pub white_symbol : (b : ℕ) → is_white b ≡ true → is_symbol b ≡ false
 white_symbol b h = elim (cases_Bool (is_symbol b)) [
   | inl is ↦ absurd (both_ways (is_white b) (symbol_dark b is) h)
   | inr other ↦ other
 ]
 
-symbols_of-append : (n rest : List ℕ) → AllByRecursion (λ b. is_symbol b ≡ true) n → prefix_len is_symbol rest ≡ 0 → symbols_of (n ++ rest) ≡ n
+pub symbols_of-append : (n rest : List ℕ) → AllByRecursion (λ b. is_symbol b ≡ true) n → prefix_len is_symbol rest ≡ 0 → symbols_of (n ++ rest) ≡ n
 symbols_of-append n rest all stop = take_at n rest _ (sym (prefix_again is_symbol n rest all stop))
 
-behind_symbols-append : (n rest : List ℕ) → AllByRecursion (λ b. is_symbol b ≡ true) n → prefix_len is_symbol rest ≡ 0 → behind_symbols (n ++ rest) ≡ rest
+pub behind_symbols-append : (n rest : List ℕ) → AllByRecursion (λ b. is_symbol b ≡ true) n → prefix_len is_symbol rest ≡ 0 → behind_symbols (n ++ rest) ≡ rest
 behind_symbols-append n rest all stop = drop_at n rest _ (sym (prefix_again is_symbol n rest all stop))
 
 pub no_symbols : (t : List ℕ) → starts is_symbol t ≡ false → prefix_len is_symbol t ≡ 0
 no_symbols [] h = refl
 no_symbols (b ∷ t) h = rw h refl
+
+pub on_symbol : (x : ℕ) (t : List ℕ) → is_symbol x ≡ true → behind_symbols (x ∷ t) ≡ behind_symbols t
+on_symbol x t h =
+    let long : 1 + prefix_len is_symbol t ≡ suc (prefix_len is_symbol t) = omega arith in
+    rw (h, long) refl
+
+pub on_mark : (x : ℕ) (t : List ℕ) → is_symbol x ≡ false → behind_symbols (x ∷ t) ≡ x ∷ t
+on_mark x t h = rw h refl
+
+pub behind_symbols-stops : (t : List ℕ) → starts is_symbol (behind_symbols t) ≡ false
+behind_symbols-stops [] = refl
+behind_symbols-stops (b ∷ t) = elim (cases_Bool (is_symbol b)) [
+  | inl is ↦ rw (on_symbol b t is) (behind_symbols-stops t)
+  | inr mark ↦ rw (on_mark b t mark) mark
+]
 
 pub record TakesKey (t key rest : List ℕ) : Type 0 where
   pub before : List ℕ
@@ -96,7 +110,7 @@ pub record TakesKey (t key rest : List ℕ) : Type 0 where
   pub white_before : IsWhite before
   pub white_behind : IsWhite behind
 
-symbols_some : (t : List ℕ) → (prefix_len is_symbol t == 0) ≡ false → symbols_of t ≢ []
+pub symbols_some : (t : List ℕ) → (prefix_len is_symbol t == 0) ≡ false → symbols_of t ≢ []
 symbols_some [] h = absurd cc
 symbols_some (b ∷ t) h = on (is_symbol b) refl
   where
@@ -156,41 +170,3 @@ key_at-append key u v t id white-u white-v dark_t =
     not_none : (key : List ℕ) → IsIdentifier key → (prefix_len is_symbol (key ++ (u ++ 61 ∷ (v ++ t))) == 0) ≡ false
     not_none [] id = absurd (id.0 refl)
     not_none (c ∷ key) id = rw id.1.0 (ne_eqb (1 + prefix_len is_symbol (key ++ (u ++ 61 ∷ (v ++ t)))) 0 (λ e. absurd (omega (arith, e))))
-
--- ---- ends
-
-end_takes : (around : Enclosure) (t r : List ℕ) → behind_end around t ≡ Some r → t ≡ end_of around ++ r
-unfolding behind_end
-end_takes in_tag t r e =
-    let b = bind_some (after 125 t) (after 125) r e in
-    after_takes 125 t b.0 b.1 ∙ ap (λ (z : List ℕ). 125 ∷ z) (after_takes 125 b.0 r b.2)
-end_takes in_parentheses t r e = after_takes 41 t r e
-
-some_is : {A : Type 0} (o : Option A) → is_some o ≡ true → (x : A) × (o ≡ Some x)
-some_is None e = absurd cc
-some_is (Some x) e = (x, refl)
-
-pub end_closes : (around : Enclosure) (t : List ℕ) → is_some (behind_end around (behind_white t)) ≡ true → Closes around t
-end_closes around t e =
-    let r = some_is (behind_end around (behind_white t)) e in
-    let white = behind_white-skips t in
-    record {
-      white = white.white;
-      rest = r.0;
-      is_white = white.is;
-      whole = white.whole ∙ ap (λ (z : List ℕ). white.white ++ z) (end_takes around (behind_white t) r.0 r.1);
-    }
-
-pub closes_end : (around : Enclosure) (t : List ℕ) → Closes around t → is_some (behind_end around (behind_white t)) ≡ true
-unfolding behind_end
-closes_end in_tag t h =
-    let dark : behind_white t ≡ 125 ∷ 125 ∷ h.rest = ap behind_white h.whole ∙ behind_white-append h.white (125 ∷ 125 ∷ h.rest) h.is_white refl in
-    rw (dark, after-same 125 (125 ∷ h.rest), after-same 125 h.rest) refl
-closes_end in_parentheses t h =
-    let dark : behind_white t ≡ 41 ∷ h.rest = ap behind_white h.whole ∙ behind_white-append h.white (41 ∷ h.rest) h.is_white refl in
-    rw (dark, after-same 41 h.rest) refl
-
-pub no_end : (around : Enclosure) (t : List ℕ) → starts (λ b. b == 125) t ≡ false → starts (λ b. b == 41) t ≡ false → behind_end around t ≡ None
-unfolding behind_end
-no_end in_tag t brace shut = rw (after-not 125 t brace) refl
-no_end in_parentheses t brace shut = after-not 41 t shut

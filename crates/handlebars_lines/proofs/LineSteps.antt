@@ -1,6 +1,5 @@
 -- What each step of a line takes from the text, and how far it goes.
 use Rattle.std.proofs.Common.{◌≡◌, ◌≢◌, ℕ, zero, suc, ◌+◌, ◌-◌, Bool, true, false, cond, List, [], ◌∷◌, ◌++◌, Option, Some, None, refl, sym, ap, subst, ◌∙◌, arith, inl, inr}
-use Rattle.std.specs.Prelude.{is_some}
 use Rattle.std.proofs.Math.Dec.{eqb-suc-zero}
 use Rattle.handlebars_base.specs.Bytes.{is_white}
 use Rattle.handlebars_base.specs.Path.{IsIdentifier, Reference, IsPath}
@@ -10,13 +9,13 @@ use Rattle.handlebars_base.proofs.OptionBinds.{with_or_is, cond_is}
 use Rattle.handlebars_lines.specs.Runs.{Next, goes, ends, stuck}
 use Rattle.handlebars_lines.specs.Literal.{IsWhite, Literal, spelled_literal, literal_depth, starts, IsLiteralAt}
 use Rattle.handlebars_lines.specs.LiteralReading.{behind_white, Slice, literal_at}
-use Rattle.handlebars_lines.specs.Line.{Enclosure, Closes}
-use Rattle.handlebars_lines.specs.LineReading.{Event, opened, literal_event, path_event, closed, Stand, at_name, at_items, at_end, State, state, behind_end, key_at, behind_name, open_step, name_step, is_excluded, path_step, parameter_step, item_step, next_step, outer_step, inner_step, behind_step, line_step}
-use Rattle.handlebars_lines.proofs.Fronts.{behind_white-skips}
+use Rattle.handlebars_lines.specs.Line.{Enclosure, is_end, Closes}
+use Rattle.handlebars_lines.specs.LineReading.{Event, opened, literal_event, path_event, closed, Stand, at_name, at_items, at_end, State, state, key_at, behind_name, open_step, name_step, is_excluded, path_step, parameter_step, item_step, next_step, outer_step, inner_step, behind_step, line_step}
+use Rattle.handlebars_lines.proofs.Fronts.{behind_white-skips, white_some, dark_behind}
 use Rattle.handlebars_lines.proofs.Stepping.{goes-parts}
 use Rattle.handlebars_lines.proofs.Endings.{goes-not_stuck, goes-not_ends}
 use Rattle.handlebars_lines.proofs.LiteralsFound.{literal_at-some}
-use Rattle.handlebars_lines.proofs.LineMarks.{slice_at-some, key_at-some, end_closes}
+use Rattle.handlebars_lines.proofs.LineMarks.{slice_at-some, key_at-some}
 
 -- ---- what a step takes
 
@@ -92,18 +91,6 @@ name_stepped n t x s' t' e = elim (with_or_is (after 40 t) (open_step None n) (w
 
 -- ---- behind white
 
-white_some : (t w r : List ℕ) → starts is_white t ≡ true → t ≡ w ++ r → starts is_white r ≡ false → w ≢ []
-white_some t [] r h e dark none = let same : starts is_white t ≡ starts is_white r = ap (starts is_white) e in absurd cc
-white_some t (b ∷ w) r h e dark none = absurd cc
-
-dark_behind : (t : List ℕ) → starts is_white (behind_white t) ≡ false
-dark_behind [] = refl
-dark_behind (b ∷ t) = on (is_white b) refl (dark_behind t)
-  where
-    on : (c : Bool) → is_white b ≡ c → starts is_white (behind_white t) ≡ false → starts is_white (behind_white (b ∷ t)) ≡ false
-    on true is again = rw is again
-    on false is again = rw is is
-
 item_stepped : (n : ℕ) (t : List ℕ) (x : Event) (s' : State) (t' : List ℕ) → starts is_white t ≡ true → item_step n (behind_white t) ≡ goes x s' t' → LineStepped (state at_items n) t x s' t'
 unfolding item_step
 item_stepped n t x s' t' white e =
@@ -130,7 +117,7 @@ next_stepped at_items n t x s' t' e = on (starts is_white t) refl e
 -- ---- behind a name or an item
 
 outer_stepped : (around : Enclosure) (st : Stand) (t : List ℕ) (x : Event) (s' : State) (t' : List ℕ) → outer_step around st t ≡ goes x s' t' → LineStepped (state st 0) t x s' t'
-outer_stepped around st t x s' t' e = elim (cond_is (is_some (behind_end around (behind_white t))) ends (next_step st 0 t) (goes x s' t') e) [
+outer_stepped around st t x s' t' e = elim (cond_is (is_end around t) ends (next_step st 0 t) (goes x s' t') e) [
   | inl over ↦ goes-not_ends (goes x s' t') x s' t' refl (sym over.1)
   | inr item ↦ next_stepped st 0 t x s' t' item.1
 ]
@@ -219,8 +206,8 @@ inner_ends st n t = on (after 41 (behind_white t))
     on (Some r) = refl
 
 outer_ends : (around : Enclosure) (st : Stand) (t : List ℕ) → outer_step around st t ≡ ends → Closes around t
-outer_ends around st t e = elim (cond_is (is_some (behind_end around (behind_white t))) ends (next_step st 0 t) ends e) [
-  | inl over ↦ end_closes around t over.0
+outer_ends around st t e = elim (cond_is (is_end around t) ends (next_step st 0 t) ends e) [
+  | inl over ↦ over.0
   | inr item ↦ never_ends (next_step st 0 t) item.1 (next_ends st 0 t)
 ]
 

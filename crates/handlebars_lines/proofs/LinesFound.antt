@@ -3,18 +3,21 @@ use Rattle.std.proofs.Common.{◌≡◌, ◌≢◌, ℕ, zero, suc, ◌+◌, ◌
 use Rattle.std.specs.Prelude.{◌==◌}
 use Rattle.std.specs.List.{list_all}
 use Rattle.std.proofs.Math.Dec.{eqb-suc-zero}
+use Rattle.std.proofs.lemmas.Bool.{eqb-true}
 use Rattle.handlebars_base.specs.Bytes.{is_white}
 use Rattle.handlebars_base.specs.Path.{is_symbol, IsIdentifier, Reference, IsPath}
 use Rattle.handlebars_base.specs.PathReading.{after}
 use Rattle.handlebars_lines.specs.Runs.{goes, ends}
 use Rattle.handlebars_lines.specs.Literal.{IsWhite, Literal, spelled_literal, IsLiteral, literal_depth, goes_on, starts}
+use Rattle.handlebars_lines.specs.LiteralReading.{behind_white}
 use Rattle.handlebars_lines.specs.Parameter.{Shape, literal_shape, path_shape, nested_shape, Items, no_items, parameter_item, pair_item, spelled_shape, spelled_items, is_name, IsChosen, Fits, AreItems}
-use Rattle.handlebars_lines.specs.Line.{Enclosure, in_parentheses, Closes}
+use Rattle.handlebars_lines.specs.Line.{Enclosure, in_parentheses, is_end, Closes}
 use Rattle.handlebars_lines.specs.LineReading.{Event, opened, literal_event, path_event, closed, Stand, at_name, at_items, at_end, State, state, behind_name, name_step, is_excluded, parameter_step, item_step, behind_step, line_step}
-use Rattle.handlebars_lines.proofs.Fronts.{behind_white-append, starts-other, starts-append, after-not, after-same}
+use Rattle.handlebars_lines.proofs.Fronts.{behind_white-skips, behind_white-append, starts-other, starts-append, after-not, after-same}
 use Rattle.handlebars_lines.proofs.Stepping.{Runs, last, onward}
-use Rattle.handlebars_lines.proofs.LineMarks.{other_byte, slice_at-stops, literal_at-finds, literal_at-missing, key_at-append, closes_end, no_end}
+use Rattle.handlebars_lines.proofs.LineMarks.{other_byte, slice_at-stops, literal_at-finds, literal_at-missing, key_at-append}
 use Rattle.handlebars_lines.proofs.LineFronts.{begins, begins_single, begins_no_white, path_begins, literal_begins, shape_starts, key_starts, single_no_parenthesis, Follows, follows_stops, items_follow, no_key}
+use Rattle.handlebars_lines.proofs.LineEnds.{item_no_end}
 use Rattle.handlebars_lines.proofs.LinesRead.{events, item_events, IsAllowed, nested_group, events_group, parameter_group, pair_group}
 
 -- ---- steps: a parenthesis, a literal, a path
@@ -63,31 +66,34 @@ white_first : (w t : List ℕ) → IsWhite w → w ≢ [] → starts is_white (w
 white_first [] t white some = absurd (some refl)
 white_first (b ∷ w) t white some = white.0
 
-item_at : (around : Enclosure) (n : ℕ) (w t : List ℕ) → IsWhite w → w ≢ [] → starts begins t ≡ true → line_step around (state at_items n) (w ++ t) ≡ item_step n t
+-- where the step of an item goes on, so does that of the line
+item_at : (around : Enclosure) (n : ℕ) (w t : List ℕ) (x : Event) (s' : State) (t' : List ℕ) → IsWhite w → w ≢ [] → starts begins t ≡ true → item_step n t ≡ goes x s' t' → line_step around (state at_items n) (w ++ t) ≡ goes x s' t'
 unfolding line_step behind_step
-item_at around zero w t white some start =
+item_at around zero w t x s' t' white some start e =
     let dark = behind_white-append w t white (begins_no_white t start) in
-    let no_shut = starts-other begins (λ b. b == 41) t (other_byte begins 41 refl) start in
-    let no_brace = starts-other begins (λ b. b == 125) t (other_byte begins 125 refl) start in
-    rw (dark, no_end around t no_brace no_shut, white_first w t white some) refl
-item_at around (suc n) w t white some start =
+    rw (item_no_end around 0 w t x s' t' white start e, dark, white_first w t white some) e
+item_at around (suc n) w t x s' t' white some start e =
     let dark = behind_white-append w t white (begins_no_white t start) in
     let no_shut = after-not 41 t (starts-other begins (λ b. b == 41) t (other_byte begins 41 refl) start) in
-    rw (eqb-suc-zero n, dark, no_shut, white_first w t white some) refl
+    rw (eqb-suc-zero n, dark, no_shut, white_first w t white some) e
 
-parameter_at : (around : Enclosure) (n : ℕ) (w : List ℕ) (p : Shape) (rest : List ℕ) → IsWhite w → w ≢ [] → Fits p rest → Follows rest → line_step around (state at_items n) (w ++ (spelled_shape p ++ rest)) ≡ parameter_step None n (spelled_shape p ++ rest)
+-- where the step of a parameter goes on, so does that of the line
+abbrev GoesAt : Enclosure → State → List ℕ → Option (List ℕ) → ℕ → List ℕ → Type 0
+GoesAt around s from key n t = (x : Event) (s' : State) (t' : List ℕ) → parameter_step key n t ≡ goes x s' t' → line_step around s from ≡ goes x s' t'
+
+parameter_at : (around : Enclosure) (n : ℕ) (w : List ℕ) (p : Shape) (rest : List ℕ) → IsWhite w → w ≢ [] → Fits p rest → Follows rest → GoesAt around (state at_items n) (w ++ (spelled_shape p ++ rest)) None n (spelled_shape p ++ rest)
 unfolding item_step
-parameter_at around n w p rest white some fits f =
-    item_at around n w (spelled_shape p ++ rest) white some (shape_starts p rest rest fits) ∙ rw (no_key p rest fits f) refl
+parameter_at around n w p rest white some fits f x s' t' e =
+    item_at around n w (spelled_shape p ++ rest) x s' t' white some (shape_starts p rest rest fits) (rw (no_key p rest fits f) e)
 
 pair_at : (around : Enclosure) (n : ℕ) (w key u v : List ℕ) (p : Shape) (rest : List ℕ) → IsWhite w → w ≢ [] → IsIdentifier key → IsWhite u → IsWhite v → Fits p rest
-    → line_step around (state at_items n) (w ++ (key ++ (u ++ 61 ∷ (v ++ (spelled_shape p ++ rest))))) ≡ parameter_step (Some key) n (spelled_shape p ++ rest)
+    → GoesAt around (state at_items n) (w ++ (key ++ (u ++ 61 ∷ (v ++ (spelled_shape p ++ rest))))) (Some key) n (spelled_shape p ++ rest)
 unfolding item_step
-pair_at around n w key u v p rest white some id white-u white-v fits =
+pair_at around n w key u v p rest white some id white-u white-v fits x s' t' e =
     let t : List ℕ = spelled_shape p ++ rest in
     let dark = begins_no_white t (shape_starts p rest rest fits) in
-    item_at around n w (key ++ (u ++ 61 ∷ (v ++ t))) white some (key_starts key (u ++ 61 ∷ (v ++ t)) id)
-    ∙ rw (key_at-append key u v t id white-u white-v dark) refl
+    item_at around n w (key ++ (u ++ 61 ∷ (v ++ t))) x s' t' white some (key_starts key (u ++ 61 ∷ (v ++ t)) id)
+    (rw (key_at-append key u v t id white-u white-v dark) e)
 
 -- ---- steps: what closes
 
@@ -103,20 +109,27 @@ closed_at around at_end n v r other white =
 
 end_at : (around : Enclosure) (t : List ℕ) → Closes around t → line_step around (state at_items 0) t ≡ ends
 unfolding line_step behind_step
-end_at around t h = rw (closes_end around t h) refl
+end_at around t h = let is : is_end around t ≡ true = h in rw is refl
 
 -- what closes here, with so many parentheses open
 abbrev pub enclosed : Enclosure → ℕ → Enclosure
 enclosed around zero = around
 enclosed around (suc n) = in_parentheses
 
+starts-mark : (c : ℕ) (t : List ℕ) → starts (λ b. b == c) t ≡ true → (r : List ℕ) × (t ≡ c ∷ r)
+starts-mark c [] h = absurd cc
+starts-mark c (b ∷ t) h = let same : b ≡ c = eqb-true b c h in (t, ap (λ (z : ℕ). z ∷ t) same)
+
 -- where a line closes, items or none may follow
 same_end : (around : Enclosure) (n : ℕ) (t : List ℕ) → Closes (enclosed around n) t → line_step around (state at_end n) t ≡ line_step around (state at_items n) t
 unfolding line_step behind_step
-same_end around zero t h = rw (closes_end around t h) refl
+same_end around zero t h = let is : is_end around t ≡ true = h in rw is refl
 same_end around (suc n) t h =
-    let same : (st : Stand) → (st ≡ at_name → ⊥) → line_step around (state st (suc n)) t ≡ goes closed (state at_items n) h.rest =
-    λ st other. ap (line_step around (state st (suc n))) h.whole ∙ closed_at around st n h.white h.rest other h.is_white in
+    let front = behind_white-skips t in
+    let mark = starts-mark 41 (behind_white t) h in
+    let whole : t ≡ front.white ++ 41 ∷ mark.0 = front.whole ∙ ap (λ (z : List ℕ). front.white ++ z) mark.1 in
+    let same : (st : Stand) → (st ≡ at_name → ⊥) → line_step around (state st (suc n)) t ≡ goes closed (state at_items n) mark.0 =
+    λ st other. ap (line_step around (state st (suc n))) whole ∙ closed_at around st n front.white mark.0 other front.is in
     same at_end (λ e. absurd cc) ∙ sym (same at_items (λ e. absurd cc))
 
 end_runs : (around : Enclosure) (n : ℕ) (t : List ℕ) (xs : List Event) (e : List ℕ) → Closes (enclosed around n) t → Runs (line_step around) (state at_items n) t xs e → Runs (line_step around) (state at_end n) t xs e
@@ -162,7 +175,7 @@ inner_runs : (around : Enclosure) (name : Shape) (items : Items) → NameRuns ar
     → Runs (line_step around) (state at_items n) t xs e → Runs (line_step around) (state at_name (suc n)) (spelled_shape name ++ (spelled_items items ++ (v ++ 41 ∷ t))) (events (suc n) None name ++ (item_events (suc n) items ++ closed ∷ xs)) e
 inner_runs around name items name_run items_run n v t xs e named fits are_items white runs =
     let behind : List ℕ = v ++ 41 ∷ t in
-    let closes : Closes in_parentheses behind = record { white = v; rest = t; is_white = white; whole = refl } in
+    let closes : Closes in_parentheses behind = rw (behind_white-append v (41 ∷ t) white refl) refl in
     let shuts = onward closed (state at_items n) t (closed_at around at_items n v t (λ same. absurd cc) white) runs in
     let others = items_run (suc n) behind (closed ∷ xs) e are_items closes shuts in
     name_run (suc n) (spelled_items items ++ behind) (item_events (suc n) items ++ closed ∷ xs) e items named fits (items_follow in_parentheses items behind are_items closes)
@@ -184,9 +197,9 @@ mutual
 
   -- a parameter, from where its step is taken
   parameter_runs : (around : Enclosure) (p : Shape) (key : Option (List ℕ)) (n : ℕ) (t : List ℕ) (xs : List Event) (e : List ℕ) (s : State) (from : List ℕ) → IsChosen p t → IsAllowed key p → Fits p t → Follows t
-      → Runs (line_step around) (state at_items n) t xs e → line_step around s from ≡ parameter_step key n (spelled_shape p ++ t) → Runs (line_step around) s from (events n key p ++ xs) e
-  parameter_runs around (literal_shape l) key n t xs e s from chosen allowed fits f runs step = onward (literal_event key (spelled_literal l) (n + literal_depth l)) (state at_items n) t (step ∙ literal_goes_on key n l t fits chosen) runs
-  parameter_runs around (path_shape p means) key n t xs e s from chosen allowed fits f runs step = onward (path_event key p n) (state at_items n) t (step ∙ path_goes_on key n p t means fits chosen allowed f) runs
+      → Runs (line_step around) (state at_items n) t xs e → GoesAt around s from key n (spelled_shape p ++ t) → Runs (line_step around) s from (events n key p ++ xs) e
+  parameter_runs around (literal_shape l) key n t xs e s from chosen allowed fits f runs step = onward (literal_event key (spelled_literal l) (n + literal_depth l)) (state at_items n) t (step (literal_event key (spelled_literal l) (n + literal_depth l)) (state at_items n) t (literal_goes_on key n l t fits chosen)) runs
+  parameter_runs around (path_shape p means) key n t xs e s from chosen allowed fits f runs step = onward (path_event key p n) (state at_items n) t (step (path_event key p n) (state at_items n) t (path_goes_on key n p t means fits chosen allowed f)) runs
   parameter_runs around (nested_shape w name inner v) key n t xs e s from chosen allowed fits f runs step =
       let behind : List ℕ = v ++ 41 ∷ t in
       let inside : List ℕ = spelled_shape name ++ (spelled_items inner ++ behind) in
@@ -194,7 +207,7 @@ mutual
       let start = shape_starts name (spelled_items inner ++ behind) (spelled_items inner ++ behind) fits.2 in
       let same : 40 ∷ (w ++ inside) ≡ spelled_shape (nested_shape w name inner v) ++ t = ap (λ (z : List ℕ). 40 ∷ z) (nested_group w (spelled_shape name) (spelled_items inner) v t) in
       let taken : line_step around s from ≡ goes (opened key (suc n)) (state at_name (suc n)) inside =
-      step ∙ ap (parameter_step key n) (sym same) ∙ parameter_opens key n w inside fits.0 start in
+      step (opened key (suc n)) (state at_name (suc n)) inside (ap (parameter_step key n) (sym same) ∙ parameter_opens key n w inside fits.0 start) in
       let whole = onward (opened key (suc n)) (state at_name (suc n)) inside taken go in
       subst (λ (z : List Event). Runs (line_step around) s from (opened key (suc n) ∷ z) e) (events_group (events (suc n) None name) (item_events (suc n) inner) xs) whole
 

@@ -1,11 +1,12 @@
 -- A parameter alone: a line in parentheses, a literal, or a path where no literal stands in front.
 use Rattle.std.proofs.Common.{◌≡◌, ℕ, suc, List, [], ◌∷◌, ◌++◌, Option, Some, None, refl, sym, ap, subst, ◌∙◌, append-nil, max}
+use Rattle.std.specs.Prelude.{◌==◌}
 use Rattle.std.proofs.lemmas.Option.{same_Some, none-some}
 use Rattle.handlebars_base.specs.Path.{Reference}
 use Rattle.handlebars_base.specs.PathReading.{after, path_of}
 use Rattle.handlebars_base.proofs.PathMarks.{after_takes}
 use Rattle.handlebars_base.proofs.PathShapes.{path_known, path_is}
-use Rattle.handlebars_lines.specs.Literal.{spelled_literal, IsLiteralAt}
+use Rattle.handlebars_lines.specs.Literal.{spelled_literal, starts, IsLiteralAt}
 use Rattle.handlebars_lines.specs.LiteralReading.{behind_white, Slice, literal_at}
 use Rattle.handlebars_lines.specs.Parameter.{Term, literal_term, path_term, call_term, Shape, literal_shape, path_shape, nested_shape, spelled_shape, spelled_items, IsChosen, Fits, AreItems, term_of, terms_of, depth_of, items_depth, IsParameter, NoParameter}
 use Rattle.handlebars_lines.specs.Line.{in_parentheses, Line, IsLine, NoLine}
@@ -73,7 +74,7 @@ nested-read text r means depth opens h = on h.shape h.spells h.fits h.gives h.de
             is_name = fits.1;
             fits = fits.2;
             are_items = fits.3;
-            closes = record { white = v; rest = []; is_white = fits.4; whole = refl };
+            closes = ap (starts (λ b. b == 41)) white;
             gives = refl;
           };
           closes = ap (after 41) white ∙ after-same 41 [];

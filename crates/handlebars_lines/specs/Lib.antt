@@ -5,6 +5,9 @@ pub mod LiteralView
 pub mod Worth
 pub mod Laws
 pub mod Parameter
+pub mod Binding
+pub mod BindingReading
+pub mod BindingView
 pub mod Line
 pub mod LineReading
 pub mod LineView

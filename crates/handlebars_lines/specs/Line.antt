@@ -1,25 +1,32 @@
 -- Lines: a name with parameters and pairs behind it, or a path or a line in parentheses alone.
-use Rattle.std.specs.Prelude.{◌≡◌, ℕ, true, max, [], ◌∷◌, ◌++◌}
-use Rattle.handlebars_base.specs.Bytes.{Text, right_brace}
-use Rattle.handlebars_lines.specs.Literal.{IsWhite}
+use Rattle.std.specs.Prelude.{◌≡◌, ℕ, Bool, true, ◌||◌, ◌==◌, max, ◌++◌}
+use Rattle.handlebars_base.specs.Bytes.{Text, right_brace, behind_white}
+use Rattle.handlebars_lines.specs.Literal.{starts}
+use Rattle.handlebars_lines.specs.Binding.{begins_binding}
 use Rattle.handlebars_lines.specs.Parameter.{right_parenthesis, Term, Terms, Shape, Items, spelled_shape, spelled_items, is_name, Fits, AreItems, term_of, terms_of, depth_of, items_depth}
 
--- where a line stands: in a tag, or in parentheses
+abbrev pub tilde : ℕ
+tilde = 126
+
+-- where a line stands: in a tag, in that of a block, or in parentheses
 pub data Enclosure : Type 0 where
   in_tag : Enclosure
+  in_block : Enclosure
   in_parentheses : Enclosure
 
--- what closes it
-abbrev pub end_of : Enclosure → Text
-end_of in_tag = right_brace ∷ right_brace ∷ []
-end_of in_parentheses = right_parenthesis ∷ []
+-- a tilde or a brace ends the line of a tag
+abbrev pub ends_tag : ℕ → Bool
+ends_tag b = (b == tilde) || (b == right_brace)
 
--- white, or none, and what closes
-pub record Closes (around : Enclosure) (left : Text) : Type 0 where
-  pub white : Text
-  pub rest : Text
-  pub is_white : IsWhite white
-  pub whole : left ≡ white ++ (end_of around ++ rest)
+-- What ends a line, behind white or none: the byte that ends it in a tag; that, or the beginning of block parameters, in
+-- the tag of a block; or a closing parenthesis.
+abbrev pub is_end : Enclosure → Text → Bool
+is_end in_tag left = starts ends_tag (behind_white left)
+is_end in_block left = starts ends_tag (behind_white left) || begins_binding left
+is_end in_parentheses left = starts (λ b. b == right_parenthesis) (behind_white left)
+
+abbrev pub Closes : Enclosure → Text → Type 0
+Closes around left = is_end around left ≡ true
 
 -- what a line means: its name, what stands behind it, and the most parentheses and brackets open at once in it
 pub record Line : Type 0 where
@@ -27,7 +34,7 @@ pub record Line : Type 0 where
   pub terms : Terms
   pub depth : ℕ
 
--- In front of the text stands a line that means this, and what is left closes what it stands in.
+-- In front of the text stands a line that means this, and what is left ends it where it stands.
 pub record IsLine (around : Enclosure) (text : Text) (line : Line) (left : Text) : Type 0 where
   pub name : Shape
   pub items : Items

@@ -1,15 +1,15 @@
 -- Reading a line from left to right, step by step, with a count of the open parentheses, as functions on lists.
-use Rattle.std.specs.Prelude.{ℕ, suc, ◌+◌, ◌-◌, Bool, true, false, ◌&&◌, ◌==◌, if◌then◌else◌, max, List, [], ◌∷◌, Option, Some, None, is_some}
+use Rattle.std.specs.Prelude.{ℕ, suc, ◌+◌, ◌-◌, Bool, true, false, ◌&&◌, ◌==◌, if◌then◌else◌, max, List, [], ◌∷◌, Option, Some, None}
 use Rattle.std.specs.Option.{option_map}
 use Rattle.std.specs.List.{prefix_len, list_all}
-use Rattle.handlebars_base.specs.Bytes.{Text, equals_sign, right_brace, is_white}
+use Rattle.handlebars_base.specs.Bytes.{Text, equals_sign, is_white}
 use Rattle.handlebars_base.specs.Path.{is_symbol}
 use Rattle.handlebars_base.specs.PathReading.{◌>>=◌, with_or, after, symbols_of, behind_symbols, path_of, slice_at}
 use Rattle.handlebars_lines.specs.Runs.{Next, goes, ends, stuck}
 use Rattle.handlebars_lines.specs.Literal.{starts}
 use Rattle.handlebars_lines.specs.LiteralReading.{behind_white, literal_at}
 use Rattle.handlebars_lines.specs.Parameter.{left_parenthesis, right_parenthesis, Term, literal_term, path_term, call_term, Terms, no_terms, term, is_reserved}
-use Rattle.handlebars_lines.specs.Line.{Enclosure, in_tag, in_parentheses, Line}
+use Rattle.handlebars_lines.specs.Line.{Enclosure, is_end, Line}
 
 -- ---- what steps take
 
@@ -36,11 +36,6 @@ abbrev pub state : Stand → ℕ → State
 state s n = record { stand = s; level = n }
 
 -- ---- marks
-
--- what follows the end of a line
-unfoldable pub behind_end : Enclosure → Text → Option Text
-behind_end in_tag t = after right_brace t >>= after right_brace
-behind_end in_parentheses t = after right_parenthesis t
 
 -- a key, and what follows its `=` and white
 unfoldable pub key_at : Text → Option (Text × Text)
@@ -93,7 +88,7 @@ next_step s n t = if may_follow s && starts is_white t then item_step n (behind_
 
 -- the end, where no parenthesis is open
 abbrev pub outer_step : Enclosure → Stand → Text → Next Event State
-outer_step around s t = if is_some (behind_end around (behind_white t)) then ends else next_step s 0 t
+outer_step around s t = if is_end around t then ends else next_step s 0 t
 
 -- a closing parenthesis, where one is open
 abbrev pub inner_step : Stand → ℕ → Text → Next Event State

@@ -4,10 +4,10 @@ use Rattle.std.specs.Option.{option_map}
 use denote.Ref.{Bor}
 use Rattle.handlebars_base.specs.Bytes.{Text}
 use Rattle.handlebars_lines.specs.Runs.{Next, goes, ends, stuck}
-use Rattle.handlebars_lines.specs.Line.{Enclosure, in_tag, in_parentheses}
+use Rattle.handlebars_lines.specs.Line.{Enclosure, in_tag, in_block, in_parentheses}
 use Rattle.handlebars_lines.specs.LineReading.{Event, opened, literal_event, path_event, closed, Stand, at_name, at_items, at_end, State, state, height}
 use Rattle.handlebars_lines.specs.declared.line.step.Enclosure.{Enclosure as ReadEnclosure}
-use Rattle.handlebars_lines.specs.declared.line.step.Enclosure.TheVariants.{Tag, Parentheses}
+use Rattle.handlebars_lines.specs.declared.line.step.Enclosure.TheVariants.{Tag, Block, Parentheses}
 use Rattle.handlebars_lines.specs.declared.line.step.Stand.{Stand as ReadStand}
 use Rattle.handlebars_lines.specs.declared.line.step.Stand.TheVariants as stand
 use Rattle.handlebars_lines.specs.declared.line.step.State.{State as ReadState}
@@ -18,6 +18,7 @@ use Rattle.handlebars_lines.specs.declared.line.step.Step.TheVariants as step
 
 abbrev pub enclosure_of : ReadEnclosure → Enclosure
 enclosure_of Tag = in_tag
+enclosure_of Block = in_block
 enclosure_of Parentheses = in_parentheses
 
 -- two texts, wherever they lie

@@ -1,5 +1,6 @@
 //! Laws that callers may cite. Each is a function that does nothing: its contract is the law.
 
+ghost use Rattle.handlebars_lines.specs.Binding.{OneBinding};
 ghost use Rattle.handlebars_lines.specs.Laws.{OneLiteral, WorthOfLiteral};
 ghost use Rattle.handlebars_lines.specs.LineLaws.{OneLine, OneParameter};
 
@@ -16,6 +17,11 @@ pub fn worth_of_literal()
 /// A text has at most one line in front.
 pub fn one_line()
     ensures { OneLine }
+{}
+
+/// A text begins with at most one way to bind names.
+pub fn one_binding()
+    ensures { OneBinding }
 {}
 
 /// A text means at most one parameter.

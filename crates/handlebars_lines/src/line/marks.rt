@@ -1,16 +1,18 @@
-//! White, symbols, keys and ends at the front of a text.
+//! Symbols, keys and ends at the front of a text.
 
-ghost use Rattle.std.specs.Prelude.{◌≡◌};
+ghost use Rattle.std.specs.Prelude.{◌≡◌, ◌==◌};
 ghost use Rattle.std.specs.List.{list_all};
 ghost use Rattle.std.specs.Option.{option_map};
-ghost use Rattle.handlebars_base.specs.Bytes.{is_white};
 ghost use Rattle.handlebars_base.specs.Path.{is_symbol};
 ghost use Rattle.handlebars_lines.specs.Literal.{starts};
-ghost use Rattle.handlebars_lines.specs.LineReading.{behind_end, key_at};
+ghost use Rattle.handlebars_lines.specs.Parameter.{right_parenthesis};
+ghost use Rattle.handlebars_lines.specs.Line.{ends_tag, is_end};
+ghost use Rattle.handlebars_lines.specs.LineReading.{key_at};
 ghost use Rattle.handlebars_lines.specs.LineView.{enclosure_of, texts_of};
 
 use super::step::Enclosure;
-use handlebars_base::json::path::marks::{after, behind_white, is_symbol, is_white, symbols};
+use crate::binding::behind_beginning;
+use handlebars_base::json::path::marks::{after, behind_white, is_symbol, symbols};
 
 pub fn all_symbols(text: &str) -> bool
     ensures { result ≡ list_all is_symbol text.now }
@@ -18,23 +20,40 @@ pub fn all_symbols(text: &str) -> bool
     text.as_bytes().iter().all(|byte| is_symbol(*byte))
 }
 
-pub fn starts_white(text: &str) -> bool
-    ensures { result ≡ starts is_white text.now }
+fn ends_tag(byte: u8) -> bool
+    ensures { result ≡ ends_tag byte }
+{
+    byte == b'~' || byte == b'}'
+}
+
+fn starts_tag_end(text: &str) -> bool
+    ensures { result ≡ starts ends_tag text.now }
 {
     match text.as_bytes() {
-        [first, ..] => is_white(*first),
+        [first, ..] => ends_tag(*first),
         [] => false,
     }
 }
 
-/// What follows the mark or marks that end a line.
-#[tactic(auto, unfolding(crate::specs::LineReading::behind_end))]
-pub fn behind_end(around: Enclosure, text: &str) -> Option<&str>
-    ensures { option_map (λ rest. rest.now) result ≡ behind_end (enclosure_of around) text.now }
+fn starts_parenthesis(text: &str) -> bool
+    ensures { result ≡ starts (λ b. b == right_parenthesis) text.now }
+{
+    match text.as_bytes() {
+        [first, ..] => *first == b')',
+        [] => false,
+    }
+}
+
+/// Whether a line ends here, behind white or none.
+pub fn is_end(around: Enclosure, text: &str) -> bool
+    ensures { result ≡ is_end (enclosure_of around) text.now }
 {
     match around {
-        Enclosure::Tag => after(b'}', after(b'}', text)?),
-        Enclosure::Parentheses => after(b')', text),
+        Enclosure::Tag => starts_tag_end(behind_white(text)),
+        Enclosure::Block => {
+            starts_tag_end(behind_white(text)) || behind_beginning(text).is_some()
+        }
+        Enclosure::Parentheses => starts_parenthesis(behind_white(text)),
     }
 }
 

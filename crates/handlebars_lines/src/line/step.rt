@@ -5,16 +5,19 @@ ghost use Rattle.handlebars_lines.specs.Parameter.{is_reserved};
 ghost use Rattle.handlebars_lines.specs.LineReading.{at_name, state, behind_name, open_step, name_step, is_excluded, path_step, parameter_step, item_step, may_follow, next_step, outer_step, inner_step, behind_step, is_at_name, line_step};
 ghost use Rattle.handlebars_lines.specs.LineView.{enclosure_of, key_of, stand_of, state_of, step_of, height_of};
 
-use super::marks::{all_symbols, behind_end, key_at, starts_white};
+use super::marks::{all_symbols, is_end, key_at};
 use crate::literal::literal_at;
+use crate::marks::starts_white;
 use handlebars_base::json::path::marks::{after, behind_white};
 use handlebars_base::json::path::split_path;
 use std::alloc::{AllocError, Global};
 
-/// Where a line stands: its end is `}}` in a tag, and `)` in parentheses.
+/// Where a line stands: it ends before `~` or `}` in a tag, there or before `as |` in the tag of a block, and before `)`
+/// in parentheses.
 #[derive(Clone, Copy, Debug, PartialEq, Eq)]
 pub enum Enclosure {
     Tag,
+    Block,
     Parentheses,
 }
 
@@ -223,7 +226,7 @@ fn outer_step(
 ) -> Result<Step<'_>, AllocError>
     ensures { IfOk result (λ step. step_of step ≡ outer_step (enclosure_of around) (stand_of stand) text.now) }
 {
-    if behind_end(around, behind_white(text)).is_some() {
+    if is_end(around, text) {
         Ok(Step::Ends)
     } else {
         next_step(alloc, stand, 0, text)

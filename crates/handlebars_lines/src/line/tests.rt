@@ -2,8 +2,10 @@ use super::{Enclosure, LineSlice, split_line};
 use std::alloc::AllocError;
 use std::test::Fail;
 
-const LINES: [(&str, usize, &str); 12] = [
+const LINES: [(&str, usize, &str); 14] = [
     ("a }}x", 0, " }}x"),
+    ("a }", 0, " }"),
+    ("a b \n~}}", 0, " \n~}}"),
     ("a.b}}", 0, "}}"),
     (r#"a b = c d="e}}\"" -12 [1 , ["]"]] null }}"#, 2, " }}"),
     ("( a b=(c)\td ) (e) }}", 2, " }}"),
@@ -19,7 +21,7 @@ const LINES: [(&str, usize, &str); 12] = [
 
 const UNREADABLE: [&str; 15] = [
     "",
-    "a }",
+    "a |",
     "a)",
     "(a b}}",
     "a b)}}",
@@ -33,6 +35,26 @@ const UNREADABLE: [&str; 15] = [
     "a =b}}",
     "a(b)}}",
     r#"a ["b] "] "}}"#,
+];
+
+/// In the tag of a block.
+const BLOCKS: [(&str, &str); 7] = [
+    ("each xs as |x i|}}", " as |x i|}}"),
+    ("each xs\n as|x|}}", "\n as|x|}}"),
+    ("each (f xs) as\t|x|}}", " as\t|x|}}"),
+    ("each as=1 as |x|}}", " as |x|}}"),
+    ("each x=as as |x|}}", " as |x|}}"),
+    ("each as.x [as] assign ~}}", " ~}}"),
+    ("a.b as |}}", " as |}}"),
+];
+
+const UNREADABLE_BLOCKS: [&str; 6] = [
+    "each xs as}}",
+    "each xs as x|}}",
+    "each xs else |x|}}",
+    "each (f xs as |x|)}}",
+    "each x=as |x|}}",
+    "as |x|}}",
 ];
 
 fn repeat(text: &mut String, part: &str, times: usize) -> Result<(), AllocError> {
@@ -63,6 +85,22 @@ fn lines_read(rt: HostRuntime) -> Result<(), Fail> {
             })
     );
     assert!(rt; split_line(rt.alloc(), Enclosure::Parentheses, "a }}")?.is_none());
+    Ok(())
+}
+
+#[test]
+fn blocks_end_before_their_parameters(rt: HostRuntime) -> Result<(), Fail> {
+    for (text, rest) in BLOCKS {
+        let read = split_line(rt.alloc(), Enclosure::Block, text)?;
+        assert!(rt; read.is_some_and(|slice| slice.rest == rest), "{text}");
+    }
+    for text in UNREADABLE_BLOCKS {
+        assert!(rt;
+            split_line(rt.alloc(), Enclosure::Block, text)?.is_none(),
+            "{text}"
+        );
+    }
+    assert!(rt; split_line(rt.alloc(), Enclosure::Parentheses, "a as |b|)")?.is_none());
     Ok(())
 }
 
