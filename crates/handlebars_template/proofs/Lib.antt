@@ -11,3 +11,5 @@ pub mod LinesBuilt
 pub mod LineImages
 pub mod LineCalls
 pub mod ParametersParsed
+pub mod NestsBuilt
+pub mod NestsSteps

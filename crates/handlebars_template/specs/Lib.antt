@@ -4,6 +4,7 @@ pub mod TextReading
 pub mod Tree
 pub mod Calls
 pub mod Nest
+pub mod Machine
 pub mod LineBuilding
 pub mod Tag
 pub mod Cut
@@ -14,5 +15,6 @@ pub mod TreeView
 pub mod LineBuildingView
 pub mod ParameterParsingView
 pub mod TagView
+pub mod NestView
 pub mod OptionsView
 pub mod Rows

@@ -5,12 +5,13 @@ use Rattle.serde_json.specs.View as json
 use Rattle.handlebars_base.specs.Bytes.{Text}
 use Rattle.handlebars_base.specs.PathView.{reference_of}
 use Rattle.handlebars_template.specs.Place.{Place}
-use Rattle.handlebars_template.specs.Tree.{Tree, tree, Elements, elements_of, Element, raw_string, html_expression, expression, helper_block, decorator_expression, decorator_block, partial_expression, partial_block, comment, Call, call, Decorator, decorator, args, bodies, Param, name, path, literal, subexpression, Params, params_of, Pairs, no_pairs, pair, Binding, no_binding, single, both, Body, no_body, body}
+use Rattle.handlebars_template.specs.Tree.{CallMarks, Tree, tree, Elements, elements_of, Element, raw_string, html_expression, expression, helper_block, decorator_expression, decorator_block, partial_expression, partial_block, comment, Call, call, Decorator, decorator, args, bodies, Param, name, path, literal, subexpression, Params, params_of, Pairs, no_pairs, pair, Binding, no_binding, single, both, Body, no_body, body}
 use Rattle.handlebars_template.specs.declared.template.tree.TemplateMapping.{TemplateMapping}
 use Rattle.handlebars_template.specs.declared.template.tree.Template.{Template, fold-Template}
 use Rattle.handlebars_template.specs.declared.template.tree.TemplateElement.{TemplateElement, fold-TemplateElement}
 use Rattle.handlebars_template.specs.declared.template.tree.HelperTemplate.{HelperTemplate, fold-HelperTemplate}
 use Rattle.handlebars_template.specs.declared.template.tree.DecoratorTemplate.{DecoratorTemplate, fold-DecoratorTemplate}
+use Rattle.handlebars_template.specs.declared.template.tree.ExpressionSpec.{ExpressionSpec}
 use Rattle.handlebars_template.specs.declared.template.tree.BlockParam.{BlockParam, fold-BlockParam}
 use Rattle.handlebars_template.specs.declared.template.tree.Parameter.{Parameter, fold-Parameter}
 use Rattle.handlebars_template.specs.declared.template.tree.Subexpression.{Subexpression, fold-Subexpression}
@@ -122,3 +123,9 @@ body_view t = body_of (option_map tree_view t)
 
 abbrev pub block_param_view : Option BlockParam → Binding
 block_param_view b = binding_of (option_map binding_view b)
+
+-- the call that a tag's inside is, without bodies
+abbrev pub spec_call : ExpressionSpec → CallMarks → Call
+spec_call spec marks =
+    call (param_view spec.name) (args (params_view spec.params.items) (pairs_view spec.hash.entries))
+    (block_param_view spec.block_param) (bodies no_body no_body) marks

@@ -1,10 +1,13 @@
 //! A template's tree, and how a source is compiled to it.
 
 mod build;
+mod chain;
 mod compile;
 mod line;
+mod nest;
 mod parameter;
 mod place;
+mod placed;
 mod tag;
 mod text;
 mod tree;

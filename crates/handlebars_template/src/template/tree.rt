@@ -1,9 +1,9 @@
 //! The tree of a template.
 
-ghost use Rattle.std.specs.Prelude.{◌≡◌, IfOk, option_map};
-ghost use Rattle.handlebars_template.specs.Tree.{empty_tree, as_name, is_value, expression, expression_call, is_helper, element_name, call_params, call_pairs};
+ghost use Rattle.std.specs.Prelude.{◌≡◌, true, false, IfOk, option_map};
+ghost use Rattle.handlebars_template.specs.Tree.{empty_tree, as_name, is_value, expression, expression_call, is_helper, element_name, call_params, call_pairs, call_marks};
 ghost use Rattle.handlebars_template.specs.Calls.{plain_call};
-ghost use Rattle.handlebars_template.specs.TreeView.{tree_view, param_view, params_view, pairs_view, call_view, element_view, subexpression_view};
+ghost use Rattle.handlebars_template.specs.TreeView.{tree_view, param_view, params_view, pairs_view, call_view, element_view, subexpression_view, spec_call};
 
 use handlebars_base::json::path::Path;
 use handlebars_base::json::value::Json;
@@ -67,6 +67,46 @@ pub struct HelperTemplate {
 }
 
 impl HelperTemplate {
+    /// What a tag says, without bodies.
+    pub fn new(spec: ExpressionSpec, block: bool, indent_before_write: bool) -> HelperTemplate
+        ensures { call_view result
+            ≡ spec_call spec (record { block = block; chain = false; indent_before_write = indent_before_write }) }
+    {
+        HelperTemplate {
+            name: spec.name,
+            params: spec.params,
+            hash: spec.hash,
+            block_param: spec.block_param,
+            template: None,
+            inverse: None,
+            block,
+            chain: false,
+            indent_before_write,
+        }
+    }
+
+    /// What a chained tag says, without bodies.
+    pub fn new_chain(
+        spec: ExpressionSpec,
+        block: bool,
+        indent_before_write: bool,
+    ) -> HelperTemplate
+        ensures { call_view result
+            ≡ spec_call spec (record { block = block; chain = true; indent_before_write = indent_before_write }) }
+    {
+        HelperTemplate {
+            chain: true,
+            ..HelperTemplate::new(spec, block, indent_before_write)
+        }
+    }
+
+    /// Whether it is chained to the block around it, or has one chained to it.
+    pub fn is_chained(&self) -> bool
+        ensures { result ≡ (call_marks (call_view self.now)).chain }
+    {
+        self.chain
+    }
+
     /// Whether it is a value, and not a call: without parameters and pairs.
     pub fn is_value(&self) -> bool
         ensures { result ≡ is_value (call_view self.now) }

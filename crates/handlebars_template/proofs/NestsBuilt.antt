@@ -1,0 +1,47 @@
+-- What the program builds of blocks, and what stands for it.
+use Rattle.std.proofs.Common.{◌≡◌, ◌∙◌, suc, List, [], ◌∷◌, ◌++◌, map, reverse, length, refl, sym, ap, arith}
+use Rattle.std.proofs.lemmas.List.{reverse-append, map-append}
+use Rattle.handlebars_template.specs.Place.{Place}
+use Rattle.handlebars_template.specs.Tree.{Element, Body}
+use Rattle.handlebars_template.specs.TreeView.{place_of, element_view}
+use Rattle.handlebars_template.specs.Nest.{Placed, Branch, inverse_of}
+use Rattle.handlebars_template.specs.NestView.{paired, branch_view, frame_view, stack_view}
+use Rattle.handlebars_template.specs.declared.template.tree.TemplateMapping.{TemplateMapping}
+use Rattle.handlebars_template.specs.declared.template.tree.TemplateElement.{TemplateElement}
+use Rattle.handlebars_template.specs.declared.template.chain.Branch.{Branch as BuiltBranch}
+use Rattle.handlebars_template.specs.declared.template.nest.Open.{Open}
+
+inverse_of-append : (bs cs : List Branch) (last : Body) → inverse_of (bs ++ cs) last ≡ inverse_of bs (inverse_of cs last)
+inverse_of-append [] cs last = refl
+inverse_of-append (b ∷ bs) cs last = rw (inverse_of-append bs cs last) refl
+
+pub inverse_of_pop : (bs : List BuiltBranch) (b : BuiltBranch) (last : Body)
+    → inverse_of (map branch_view (bs ++ b ∷ [])) last ≡ inverse_of (map branch_view bs) (inverse_of (branch_view b ∷ []) last)
+inverse_of_pop bs b last = rw (map-append) (inverse_of-append (map branch_view bs) (branch_view b ∷ []) last)
+
+pub stack_view_push : (os : List Open) (o : Open) → stack_view (os ++ o ∷ []) ≡ frame_view o ∷ stack_view os
+stack_view_push os o = rw (map-append) (reverse-append (map frame_view os) (frame_view o ∷ []))
+
+-- ---- elements and their places
+
+pub paired_push : (es : List TemplateElement) (ms : List TemplateMapping) (e : TemplateElement) (m : TemplateMapping) → length es ≡ length ms
+    → paired (es ++ e ∷ []) (ms ++ m ∷ []) ≡ paired es ms ++ record { place = place_of m; element = element_view e } ∷ []
+paired_push [] [] e m h = refl
+paired_push [] (n ∷ ms) e m h = absurd (omega arith)
+paired_push (f ∷ es) [] e m h = absurd (omega arith)
+paired_push (f ∷ es) (n ∷ ms) e m h =
+    ap (λ (z : List Placed). record { place = place_of n; element = element_view f } ∷ z) (paired_push es ms e m (omega arith))
+
+pub paired_elements : (es : List TemplateElement) (ms : List TemplateMapping) → length es ≡ length ms
+    → map (λ (x : Placed). x.element) (paired es ms) ≡ map element_view es
+paired_elements [] [] h = refl
+paired_elements [] (n ∷ ms) h = absurd (omega arith)
+paired_elements (f ∷ es) [] h = absurd (omega arith)
+paired_elements (f ∷ es) (n ∷ ms) h = ap (λ (z : List Element). element_view f ∷ z) (paired_elements es ms (omega arith))
+
+pub paired_places : (es : List TemplateElement) (ms : List TemplateMapping) → length es ≡ length ms
+    → map (λ (x : Placed). x.place) (paired es ms) ≡ map place_of ms
+paired_places [] [] h = refl
+paired_places [] (n ∷ ms) h = absurd (omega arith)
+paired_places (f ∷ es) [] h = absurd (omega arith)
+paired_places (f ∷ es) (n ∷ ms) h = ap (λ (z : List Place). place_of n ∷ z) (paired_places es ms (omega arith))

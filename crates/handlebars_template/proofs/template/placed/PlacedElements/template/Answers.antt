@@ -1,0 +1,11 @@
+use Rattle.std.proofs.Common.{◌∙◌, ap, sym, None}
+use Rattle.handlebars_template.specs.Tree.{Tree, tree, elements_of, body}
+use Rattle.handlebars_template.proofs.Trees.{tree_view-roll}
+use Rattle.handlebars_template.proofs.NestsBuilt.{paired_elements, paired_places}
+use Rattle.handlebars_template.proofs.template.placed.PlacedElements.template.Goals as goal
+
+pub returns : goal.returns
+returns c =
+    let es = c.args.self.elements.items in
+    let ms = c.args.self.mapping.items in
+    ap body (tree_view-roll _) ∙ rw (paired_elements es ms c.args.self.as_many, paired_places es ms c.args.self.as_many)

@@ -1,0 +1,101 @@
+-- What the program's open blocks stand for.
+use Rattle.std.specs.Prelude.{◌≡◌, List, [], ◌∷◌, map, reverse, Option, None, Some}
+use Rattle.handlebars_template.specs.Place.{Place}
+use Rattle.handlebars_template.specs.Tree.{args}
+use Rattle.handlebars_template.specs.TreeView.{text, place_of, element_view, params_view, pairs_view, block_param_view}
+use Rattle.handlebars_template.specs.Nest.{Opening, Piece, Fault, unexpected, too_deep, not_closed, mismatched, no_value, Placed, Branch, syntax_alone, Stage, in_first, in_branch, in_inverse, Frame}
+use Rattle.handlebars_template.specs.Machine.{Moved, goes, stops, MayGo, apply, late_after, End, whole, faulty}
+use Rattle.handlebars_template.specs.declared.template.tree.TemplateMapping.{TemplateMapping}
+use Rattle.handlebars_template.specs.declared.template.tree.TemplateElement.{TemplateElement}
+use Rattle.handlebars_template.specs.declared.template.placed.PlacedElements.{PlacedElements}
+use Rattle.handlebars_template.specs.declared.template.chain.BlockOpening.{BlockOpening}
+use Rattle.handlebars_template.specs.declared.template.chain.Branch.{Branch as BuiltBranch}
+use Rattle.handlebars_template.specs.declared.template.chain.Stage.{Stage as BuiltStage}
+use Rattle.handlebars_template.specs.declared.template.chain.Stage.TheVariants as stage
+use Rattle.handlebars_template.specs.declared.template.nest.Open.{Open}
+use Rattle.handlebars_template.specs.declared.template.nest.SyntaxFault.{SyntaxFault}
+use Rattle.handlebars_template.specs.declared.template.nest.SyntaxFault.TheVariants as syntax
+use Rattle.handlebars_template.specs.declared.template.nest.Late.{Late}
+use Rattle.handlebars_template.specs.declared.template.nest.Late.TheVariants as late
+use Rattle.handlebars_template.specs.declared.template.nest.Nesting.{Nesting}
+use Rattle.handlebars_template.specs.declared.template.nest.Nested.{Nested}
+use Rattle.handlebars_template.specs.declared.template.nest.Nested.TheVariants as nested
+
+-- each element with its place
+abbrev pub paired : List TemplateElement → List TemplateMapping → List Placed
+paired [] ms = []
+paired (e ∷ es) [] = []
+paired (e ∷ es) (m ∷ ms) = record { place = place_of m; element = element_view e } ∷ paired es ms
+
+abbrev pub placed_view : PlacedElements → List Placed
+placed_view b = paired b.elements.items b.mapping.items
+
+abbrev pub opening_view : BlockOpening → Opening
+opening_view o = record {
+  name = text o.name;
+  is_raw = o.is_raw;
+  arguments = args (params_view o.params.items) (pairs_view o.hash.entries);
+  binding = block_param_view o.block_param;
+  indent = o.indent_before_write;
+}
+
+abbrev pub branch_view : BuiltBranch → Branch
+branch_view b = record { opening = opening_view b.opening; elements = placed_view b.elements }
+
+abbrev pub stage_view : BuiltStage → Stage
+stage_view stage.First = in_first
+stage_view (stage.Chained o) = in_branch (opening_view o)
+stage_view stage.Inverse = in_inverse
+
+abbrev pub frame_view : Open → Frame
+frame_view b = record {
+  place = place_of b.place;
+  opening = opening_view b.opening;
+  around = b.around;
+  first = placed_view b.first;
+  branches = map branch_view b.branches.items;
+  stage = stage_view b.stage;
+  outside = placed_view b.outside;
+}
+
+-- the innermost first
+abbrev pub stack_view : List Open → List Frame
+stack_view bs = reverse (map frame_view bs)
+
+abbrev pub late_fault : Late → Fault
+late_fault (late.NoValue raw) = no_value (text raw)
+late_fault (late.Mismatched opened closing p) = mismatched (text opened) (text closing) (place_of p)
+
+abbrev pub late_view : Option Late → Option Fault
+late_view None = None
+late_view (Some l) = Some (late_fault l)
+
+abbrev pub frames : Nesting → List Frame
+frames state = stack_view state.stack.items
+
+abbrev pub late_of : Nesting → Option Fault
+late_of state = late_view state.late
+
+-- what a piece does, by the syntax alone
+abbrev pub moved : Nesting → Piece → Moved
+moved state x = apply syntax_alone x state.depth (frames state) (placed_view state.elements)
+
+-- what is said of a piece at this place, before it stands
+abbrev pub Looks : Place → Moved → Option SyntaxFault → Type 0
+Looks p m None = MayGo m
+Looks p m (Some syntax.Unexpected) = m ≡ stops (unexpected p)
+Looks p m (Some syntax.TooDeep) = m ≡ stops (too_deep p)
+
+-- the state behind a piece
+pub record IsBehind (old : Nesting) (x : Piece) (new : Nesting) : Type 0 where
+  pub goes_on : moved old x ≡ goes new.depth (frames new) (placed_view new.elements)
+  pub late : late_of new ≡ late_after (late_of old) x (frames old)
+
+-- It does what the piece does, where that may stand.
+abbrev pub Does : Nesting → Piece → Nesting → Type 0
+Does old x new = MayGo (moved old x) → IsBehind old x new
+
+abbrev pub end_view : Nested → End
+end_view (nested.Whole elements) = whole (placed_view elements)
+end_view (nested.NotClosed p) = faulty (not_closed (place_of p))
+end_view (nested.Late l) = faulty (late_fault l)

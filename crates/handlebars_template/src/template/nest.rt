@@ -1,0 +1,403 @@
+//! The open blocks, and how each element and tag changes them.
+
+ghost use Rattle.std.specs.Prelude.{◌≡◌, ◌+◌, ◌<◌, suc, ℕ, [], None, Option, IfOk, OnOk, nat_lt, option_map};
+ghost use Rattle.std.specs.Option.{option_or};
+ghost use Rattle.std.specs.Str.{bytes_eq};
+ghost use Rattle.handlebars_base.specs.Bytes.{Text};
+ghost use Rattle.handlebars_template.specs.Place.{Place};
+ghost use Rattle.handlebars_template.specs.Tree.{Element};
+ghost use Rattle.handlebars_template.specs.Calls.{max_nesting};
+ghost use Rattle.handlebars_template.specs.TreeView.{element_view, place_of};
+ghost use Rattle.handlebars_template.specs.Nest.{Opening, leaf, opens, turns, chains, closes};
+ghost use Rattle.handlebars_template.specs.Machine.{at_end, next_stage, late_literal, late_name};
+ghost use Rattle.handlebars_template.specs.NestView.{placed_view, opening_view, stage_view, frame_view, frames, late_view, late_of, moved, Looks, Does, end_view};
+
+use crate::template::chain::{BlockOpening, Branch, Stage, closed_block};
+use crate::template::line::MAX_NESTING;
+use crate::template::placed::PlacedElements;
+use crate::template::tree::{TemplateElement, TemplateMapping};
+use std::alloc::{AllocError, Global};
+use std::mem;
+
+/// An open block: its place, what its tag says, how much is open around it, its first body and its whole chained
+/// inverses, where it stands, and what stood before it.
+#[derive(Drop)]
+pub struct Open {
+    pub place: TemplateMapping,
+    pub opening: BlockOpening,
+    pub around: usize,
+    pub first: PlacedElements,
+    pub branches: Vec<Branch>,
+    pub stage: Stage,
+    pub outside: PlacedElements,
+}
+
+/// Why a tag may not stand where it stands.
+#[derive(Clone, Copy, Debug, PartialEq, Eq)]
+pub enum SyntaxFault {
+    Unexpected,
+    TooDeep,
+}
+
+/// What is refused only where the whole source nests: a literal, by its text; or a block's name, the name of its
+/// close, and the place of that.
+#[derive(Debug, PartialEq, Drop)]
+pub enum Late {
+    NoValue(String),
+    Mismatched(String, String, TemplateMapping),
+}
+
+/// What stands at the end: the elements, the place of the innermost block that is open, or what comes late.
+#[derive(Drop)]
+pub enum Nested {
+    Whole(PlacedElements),
+    NotClosed(TemplateMapping),
+    Late(Late),
+}
+
+/// How much is open, the open blocks, the outermost first, the elements of the innermost, and what is refused first of
+/// what comes late. A chained inverse is open too.
+#[derive(Drop)]
+pub struct Nesting {
+    pub depth: usize,
+    pub stack: Vec<Open>,
+    pub elements: PlacedElements,
+    pub late: Option<Late>,
+}
+
+// Whether this many are too many, with others open around them.
+fn is_too_deep(around: usize, number: usize) -> bool
+    ensures { result ≡ nat_lt max_nesting (around + number) }
+{
+    if around > MAX_NESTING {
+        true
+    } else {
+        number > MAX_NESTING - around
+    }
+}
+
+// The same in a block more.
+fn is_too_deep_inside(around: usize, number: usize) -> bool
+    ensures { result ≡ nat_lt max_nesting (suc around + number) }
+{
+    if around >= MAX_NESTING {
+        true
+    } else {
+        number > MAX_NESTING - 1 - around
+    }
+}
+
+// One more, where one more may be open.
+fn one_more(depth: usize) -> usize
+    ensures { depth < max_nesting → result ≡ suc depth }
+{
+    if depth < MAX_NESTING {
+        depth + 1
+    } else {
+        depth
+    }
+}
+
+fn late_literal(alloc: Global, refused: Option<&str>) -> Result<Option<Late>, AllocError>
+    ensures { IfOk result (λ late. late_view late ≡ late_literal (option_map (λ t. t.now) refused.entry)) }
+{
+    match refused {
+        Some(raw) => Ok(Some(Late::NoValue(String::from_str(alloc, raw)?))),
+        None => Ok(None),
+    }
+}
+
+fn late_name(
+    alloc: Global,
+    opened: &str,
+    closing: &str,
+    place: TemplateMapping,
+) -> Result<Option<Late>, AllocError>
+    ensures { IfOk result (λ late. late_view late
+        ≡ late_name (bytes_eq opened.now closing.now) opened.now closing.now (place_of place)) }
+{
+    if opened == closing {
+        return Ok(None);
+    }
+    let opened = String::from_str(alloc, opened)?;
+    let closing = String::from_str(alloc, closing)?;
+    Ok(Some(Late::Mismatched(opened, closing, place)))
+}
+
+// The open block in this stage next, where one may stand behind its stage.
+fn next_stage(
+    block: Open,
+    elements: PlacedElements,
+    next: Stage,
+) -> Result<Option<Open>, AllocError>
+    ensures { IfOk result (λ moved. option_map frame_view moved
+        ≡ next_stage (stage_view block.stage) (frame_view block) (placed_view elements) (stage_view next)) }
+{
+    let Open {
+        place,
+        opening,
+        around,
+        first,
+        mut branches,
+        stage,
+        outside,
+    } = block;
+    match stage {
+        Stage::First => Ok(Some(Open {
+            place,
+            opening,
+            around,
+            first: elements,
+            branches,
+            stage: next,
+            outside,
+        })),
+        Stage::Chained(last) => {
+            branches.push(Branch {
+                opening: last,
+                elements,
+            })?;
+            Ok(Some(Open {
+                place,
+                opening,
+                around,
+                first,
+                branches,
+                stage: next,
+                outside,
+            }))
+        }
+        Stage::Inverse => Ok(None),
+    }
+}
+
+#[tactic(auto, using(crate::proofs::NestsBuilt::stack_view_push))]
+impl Nesting {
+    /// Nothing is open, and nothing stands there.
+    pub fn new(alloc: Global) -> Nesting
+        ensures depth { result.depth ≡ 0 }
+        ensures frames { frames result ≡ [] }
+        ensures elements { placed_view result.elements ≡ [] }
+        ensures late { late_of result ≡ None }
+    {
+        Nesting {
+            depth: 0,
+            stack: Vec::new(alloc),
+            elements: PlacedElements::new(alloc),
+            late: None,
+        }
+    }
+
+    /// Whether an element may stand next, with this many parentheses and brackets open in its tag.
+    pub fn look_at_leaf(&self, number: usize) -> Option<SyntaxFault>
+        ensures { (p : Place) (e : Element) (r : Option Text)
+            → Looks p (moved self.now (leaf p e number r)) result }
+    {
+        if is_too_deep(self.depth, number) {
+            Some(SyntaxFault::TooDeep)
+        } else {
+            None
+        }
+    }
+
+    /// Whether a block may open next.
+    pub fn look_at_opening(&self, number: usize) -> Option<SyntaxFault>
+        ensures { (p : Place) (o : Opening) (r : Option Text)
+            → Looks p (moved self.now (opens p o number r)) result }
+    {
+        if is_too_deep_inside(self.depth, number) {
+            Some(SyntaxFault::TooDeep)
+        } else {
+            None
+        }
+    }
+
+    /// Whether an inverse may stand next.
+    pub fn look_at_inverse(&self) -> Option<SyntaxFault>
+        ensures { (p : Place) → Looks p (moved self.now (turns p)) result }
+    {
+        let Some(block) = self.stack.last() else {
+            return Some(SyntaxFault::Unexpected);
+        };
+        match block.stage {
+            Stage::First => None,
+            Stage::Chained(_) => None,
+            Stage::Inverse => Some(SyntaxFault::Unexpected),
+        }
+    }
+
+    /// Whether a chained inverse may stand next.
+    pub fn look_at_chained(&self, number: usize) -> Option<SyntaxFault>
+        ensures { (p : Place) (o : Opening) (r : Option Text)
+            → Looks p (moved self.now (chains p o number r)) result }
+    {
+        if let Some(fault) = self.look_at_inverse() {
+            return Some(fault);
+        }
+        if is_too_deep_inside(self.depth, number) {
+            Some(SyntaxFault::TooDeep)
+        } else {
+            None
+        }
+    }
+
+    /// Whether a close may stand next, by any name but none.
+    pub fn look_at_close(&self, is_raw: bool, name: &str) -> Option<SyntaxFault>
+        ensures { (p : Place) → Looks p (moved self.now (closes p is_raw name.now)) result }
+    {
+        let Some(block) = self.stack.last() else {
+            return Some(SyntaxFault::Unexpected);
+        };
+        if name.is_empty() || block.opening.is_raw != is_raw {
+            return Some(SyntaxFault::Unexpected);
+        }
+        None
+    }
+
+    // What is refused first of what comes late stays.
+    fn keep(&mut self, late: Option<Late>)
+        ensures late { late_of self.new ≡ option_or (late_of self.old) (late_view late) }
+        ensures depth { self.new.depth ≡ self.old.depth }
+        ensures frames { frames self.new ≡ frames self.old }
+        ensures elements { placed_view self.new.elements ≡ placed_view self.old.elements }
+    {
+        if self.late.is_none() {
+            self.late = late;
+        }
+    }
+
+    /// An element with its place stands next.
+    pub fn add(
+        &mut self,
+        alloc: Global,
+        place: TemplateMapping,
+        element: TemplateElement,
+        refused: Option<&str>,
+    ) -> Result<(), AllocError>
+        ensures { OnOk result ((n : ℕ)
+            → Does self.old (leaf (place_of place) (element_view element) n (option_map (λ t. t.now) refused.entry))
+            self.new) }
+    {
+        self.keep(late_literal(alloc, refused)?);
+        let elements = mem::replace(&mut self.elements, PlacedElements::new(alloc));
+        self.elements = elements.with(place, element)?;
+        Ok(())
+    }
+
+    /// A block opens next.
+    pub fn begin(
+        &mut self,
+        alloc: Global,
+        place: TemplateMapping,
+        opening: BlockOpening,
+        refused: Option<&str>,
+    ) -> Result<(), AllocError>
+        ensures { OnOk result ((n : ℕ)
+            → Does self.old (opens (place_of place) (opening_view opening) n (option_map (λ t. t.now) refused.entry))
+            self.new) }
+    {
+        self.keep(late_literal(alloc, refused)?);
+        let outside = mem::replace(&mut self.elements, PlacedElements::new(alloc));
+        self.stack.push(Open {
+            place,
+            opening,
+            around: self.depth,
+            first: PlacedElements::new(alloc),
+            branches: Vec::new(alloc),
+            stage: Stage::First,
+            outside,
+        })?;
+        self.depth = one_more(self.depth);
+        Ok(())
+    }
+
+    /// An inverse stands next.
+    pub fn turn(&mut self, alloc: Global, place: TemplateMapping) -> Result<(), AllocError>
+        ensures { OnOk result (Does self.old (turns (place_of place)) self.new) }
+    {
+        let Some(block) = self.stack.pop() else {
+            return Ok(());
+        };
+        let elements = mem::replace(&mut self.elements, PlacedElements::new(alloc));
+        let Some(block) = next_stage(block, elements, Stage::Inverse)? else {
+            return Ok(());
+        };
+        self.stack.push(block)?;
+        Ok(())
+    }
+
+    /// A chained inverse stands next.
+    pub fn chain(
+        &mut self,
+        alloc: Global,
+        place: TemplateMapping,
+        opening: BlockOpening,
+        refused: Option<&str>,
+    ) -> Result<(), AllocError>
+        ensures { OnOk result ((n : ℕ)
+            → Does self.old (chains (place_of place) (opening_view opening) n (option_map (λ t. t.now) refused.entry))
+            self.new) }
+    {
+        self.keep(late_literal(alloc, refused)?);
+        let Some(block) = self.stack.pop() else {
+            return Ok(());
+        };
+        let elements = mem::replace(&mut self.elements, PlacedElements::new(alloc));
+        let Some(block) = next_stage(block, elements, Stage::Chained(opening))? else {
+            return Ok(());
+        };
+        self.stack.push(block)?;
+        self.depth = one_more(self.depth);
+        Ok(())
+    }
+
+    /// The close of a block stands next, which is raw or not, by this name.
+    pub fn close(
+        &mut self,
+        alloc: Global,
+        place: TemplateMapping,
+        is_raw: bool,
+        name: &str,
+    ) -> Result<(), AllocError>
+        ensures { OnOk result (Does self.old (closes (place_of place) is_raw name.now) self.new) }
+    {
+        let Some(block) = self.stack.pop() else {
+            return Ok(());
+        };
+        let Open {
+            place: at,
+            opening,
+            around,
+            first,
+            branches,
+            stage,
+            outside,
+        } = block;
+        self.keep(late_name(alloc, opening.name.as_str(), name, place)?);
+        let elements = mem::replace(&mut self.elements, PlacedElements::new(alloc));
+        let call = closed_block(alloc, stage, opening, first, branches, elements)?;
+        let element = TemplateElement::HelperBlock(Box::new(alloc, call)?);
+        self.elements = outside.with(at, element)?;
+        self.depth = around;
+        Ok(())
+    }
+
+    /// What stands at the end of the source.
+    pub fn finish(self) -> Nested
+        ensures { end_view result ≡ at_end (frames self) (late_of self) (placed_view self.elements) }
+    {
+        let Nesting {
+            depth: _,
+            mut stack,
+            elements,
+            late,
+        } = self;
+        if let Some(block) = stack.pop() {
+            return Nested::NotClosed(block.place);
+        }
+        match late {
+            Some(late) => Nested::Late(late),
+            None => Nested::Whole(elements),
+        }
+    }
+}
