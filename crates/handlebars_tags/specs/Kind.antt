@@ -60,10 +60,20 @@ ends_else t = starts (λ b. is_white b || (b == tilde)) t || is_some (past (code
 abbrev pub is_else : Text → Bool
 is_else t = bytes_eq (symbols_of t) (codes "else") && ends_else (behind_symbols t)
 
--- behind `#`: blocks of decorators and of inclusions aren't there yet
+-- the sign of a decorator or of an inclusion, which aren't there yet
+abbrev pub starts_other : Text → Bool
+starts_other t = starts (λ b. (b == asterisk) || (b == greater)) t
+
+-- behind `#`
 abbrev pub block_at : Bool → Text → Beginning
-block_at l t =
-    if starts (λ b. (b == asterisk) || (b == greater)) t then beginning other_kind l t else beginning block_kind l (behind_white t)
+block_at l t = if starts_other t then beginning other_kind l t else beginning block_kind l (behind_white t)
+
+-- with no other sign
+abbrev pub unsigned_at : Bool → Text → Beginning
+unsigned_at l t =
+    if starts_other t
+    then beginning other_kind l t
+    else (if is_else t then beginning else_kind l (behind_symbols t) else beginning expression_kind l t)
 
 -- behind the opening braces and a tilde, if any: a sign, or `else`
 abbrev pub signed_at : Bool → Text → Beginning
@@ -71,9 +81,7 @@ signed_at l t =
     with_or (after ampersand t) (λ r. beginning html_sign_kind l (behind_white r))
     (with_or (after number_sign t) (block_at l)
     (with_or (after slash t) (λ r. beginning close_kind l (behind_white r))
-    (with_or (after caret t) (beginning inverse_kind l)
-    (if starts (λ b. (b == asterisk) || (b == greater)) t then beginning other_kind l t
-    else (if is_else t then beginning else_kind l (behind_symbols t) else beginning expression_kind l t)))))
+    (with_or (after caret t) (beginning inverse_kind l) (unsigned_at l t))))
 
 -- behind two braces and a tilde, if any: a third brace counts only behind a tilde
 abbrev pub tilded_at : Bool × Text → Beginning

@@ -1,5 +1,4 @@
 pub mod Text
 pub mod Kind
+pub mod KindView
 pub mod Comment
-pub mod Tag
-pub mod Trim

@@ -1,0 +1,28 @@
+-- What the program's kinds and beginnings stand for.
+use Rattle.std.specs.Prelude.{Bool}
+use denote.Ref.{Bor}
+use Rattle.handlebars_base.specs.Bytes.{Text}
+use Rattle.handlebars_tags.specs.Kind.{Kind, expression_kind, html_kind, html_sign_kind, block_kind, close_kind, inverse_kind, else_kind, raw_kind, raw_close_kind, comment_kind, other_kind, Beginning, beginning}
+use Rattle.handlebars_tags.specs.declared.tag.beginning.Kind.{Kind as ReadKind}
+use Rattle.handlebars_tags.specs.declared.tag.beginning.Kind.TheVariants as kind
+use Rattle.handlebars_tags.specs.declared.tag.beginning.Beginning.{Beginning as ReadBeginning}
+
+abbrev pub kind_of : ReadKind → Kind
+kind_of kind.Expression = expression_kind
+kind_of kind.Html = html_kind
+kind_of kind.HtmlSign = html_sign_kind
+kind_of kind.Block = block_kind
+kind_of kind.Close = close_kind
+kind_of kind.Inverse = inverse_kind
+kind_of kind.Else = else_kind
+kind_of kind.Raw = raw_kind
+kind_of kind.RawClose = raw_close_kind
+kind_of kind.Comment = comment_kind
+kind_of kind.Other = other_kind
+
+abbrev pub beginning_view : ReadBeginning → Beginning
+beginning_view b = beginning (kind_of b.kind) b.tilde b.inside.now
+
+-- a tilde or none, and a text, wherever it lies
+abbrev pub tilded : Bool × Bor Text → Bool × Text
+tilded x = (x.0, x.1.now)
