@@ -1,1 +1,4 @@
 pub mod Pasts
+pub mod Runs
+pub mod Texts
+pub mod OneText

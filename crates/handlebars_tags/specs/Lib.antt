@@ -1,4 +1,6 @@
 pub mod Text
+pub mod TextReading
+pub mod TextView
 pub mod Kind
 pub mod KindView
 pub mod Comment

@@ -1,7 +1,7 @@
 -- What a text of a source is, and what is kept of it. Texts run up to the first braces that aren't escaped: two, or in a
 -- raw block four.
 use Rattle.std.specs.Prelude.{◌≡◌, ◌≢◌, ℕ, ◌-◌, Bool, true, false, ◌&&◌, ◌==◌, [], ◌∷◌, ◌++◌, drop, replicate}
-use Rattle.std.specs.List.{prefix_len}
+use Rattle.std.specs.List.{prefix_len, list_any}
 use Rattle.handlebars_base.specs.Bytes.{Text, backslash, left_brace}
 
 abbrev pub is_backslash : ℕ → Bool
@@ -49,3 +49,14 @@ pub data IsText (n : Braces) (follows : Text) : Text → Text → Type 0 where
       → IsText n follows
       (backslash ∷ left_brace ∷ left_brace ∷ left_brace ∷ left_brace ∷ slice)
       (left_brace ∷ left_brace ∷ left_brace ∷ left_brace ∷ kept)
+
+-- At most one text stands in front of a source, up to so many braces.
+abbrev pub OneText : Type 0
+OneText = (n : Braces) (source slice slice' follows follows' kept kept' : Text)
+    → source ≡ slice ++ follows → source ≡ slice' ++ follows' → IsText n follows slice kept → IsText n follows' slice' kept'
+    → (slice ≡ slice') × (follows ≡ follows') × (kept ≡ kept')
+
+-- In a text without backslashes no braces begin.
+abbrev pub ClearText : Type 0
+ClearText = (n : Braces) (follows slice kept a b : Text) → IsText n follows slice kept → list_any is_backslash slice ≡ false
+    → slice ≡ a ++ b → b ≢ [] → braces n (b ++ follows) ≡ false

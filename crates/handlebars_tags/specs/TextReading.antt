@@ -1,0 +1,26 @@
+-- How a text is read part by part. Only the code's own contracts cite this.
+use Rattle.std.specs.Prelude.{◌≡◌, ℕ, suc, [], ◌∷◌, ◌++◌, drop, if◌then◌else◌}
+use Rattle.handlebars_base.specs.Bytes.{Text}
+use Rattle.handlebars_tags.specs.Text.{Braces, IsText, two_in_front, before_braces}
+
+-- how many bytes stand before the next braces, and before the backslashes directly before these
+abbrev pub clear_len : Braces → Text → ℕ
+clear_len w [] = 0
+clear_len w (b ∷ t) = if before_braces w (b ∷ t) then 0 else suc (clear_len w t)
+
+-- how many of the braces in front one backslash makes text
+abbrev pub escaped_len : Text → ℕ
+escaped_len t = if two_in_front (drop 2 t) then 4 else 2
+
+-- what was taken from the front keeps this, whatever text goes on behind it
+pub record GoesOn (w : Braces) (source kept rest : Text) : Type 0 where
+  pub taken : Text
+  pub whole : source ≡ taken ++ rest
+  pub on : (follows slice more : Text) → rest ≡ slice ++ follows → IsText w follows slice more
+      → IsText w follows (taken ++ slice) (kept ++ more)
+
+-- what was taken from the front is the text's end
+pub record Ends (w : Braces) (source kept rest : Text) : Type 0 where
+  pub taken : Text
+  pub whole : source ≡ taken ++ rest
+  pub ends : IsText w rest taken kept

@@ -1,0 +1,13 @@
+//! What holds of every text and tag, for callers to cite.
+
+ghost use Rattle.handlebars_tags.specs.Text.{OneText, ClearText};
+
+/// At most one text stands in front of a source.
+pub fn one_text()
+    ensures { OneText }
+{}
+
+/// In a text without backslashes no braces begin.
+pub fn clear_text()
+    ensures { ClearText }
+{}
