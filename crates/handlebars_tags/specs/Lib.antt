@@ -4,3 +4,5 @@ pub mod TextView
 pub mod Kind
 pub mod KindView
 pub mod Comment
+pub mod Tag
+pub mod Trim
