@@ -12,4 +12,8 @@ pub mod LineImages
 pub mod LineCalls
 pub mod ParametersParsed
 pub mod NestsBuilt
+pub mod NestsLooked
 pub mod NestsSteps
+pub mod NestsStates
+pub mod NestsRuns
+pub mod NestsOne
