@@ -2,3 +2,5 @@ pub mod Pasts
 pub mod Runs
 pub mod Texts
 pub mod OneText
+pub mod Marks
+pub mod Comments

@@ -43,3 +43,11 @@ pub data IsComment (inside : Text) : Text → Text → Type 0 where
       → IsComment inside (long_text (codes "{{!" ++ body)) rest
   compact : {rest : Text} (body : Text) → inside ≡ body ++ rest → behind_long inside ≡ None → behind_compact inside ≡ Some rest
       → IsComment inside (compact_text (codes "{{!" ++ body)) rest
+
+-- No comment stands here.
+abbrev pub NoComment : Text → Type 0
+NoComment inside = (kept rest : Text) → IsComment inside kept rest → ⊥
+
+-- At most one comment stands here.
+abbrev pub OneComment : Type 0
+OneComment = (inside kept kept' rest rest' : Text) → IsComment inside kept rest → IsComment inside kept' rest' → (kept ≡ kept') × (rest ≡ rest')

@@ -4,5 +4,6 @@ pub mod TextView
 pub mod Kind
 pub mod KindView
 pub mod Comment
+pub mod CommentReading
 pub mod Tag
 pub mod Trim

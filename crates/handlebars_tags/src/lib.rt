@@ -1,6 +1,7 @@
 //! The texts and the tags of a source, one after the other, without a tree.
 #![tactic(auto)]
 
+pub mod comment;
 pub mod laws;
 mod marks;
 pub mod tag;
