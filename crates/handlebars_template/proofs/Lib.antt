@@ -3,6 +3,7 @@ pub mod Texts
 pub mod Tags
 pub mod Columns
 pub mod Scan
+pub mod Cuts
 pub mod One
 pub mod Trees
 pub mod Levels
