@@ -1,5 +1,5 @@
 -- Two readings of a source are one, as far as both go.
-use Rattle.std.proofs.Common.{◌≡◌, ℕ, zero, suc, ◌<◌, Option, Some, None, List, [], ◌∷◌, ◌++◌, length, drop, true, false, refl, sym, ap, ◌∙◌, subst, append_assoc, arith, ◌⊎◌, inl, inr}
+use Rattle.std.proofs.Common.{◌≡◌, ℕ, zero, suc, ◌<◌, None, List, [], ◌∷◌, ◌++◌, length, drop, refl, sym, ap, ◌∙◌, subst, append_assoc, arith, ◌⊎◌, inl, inr}
 use Rattle.std.specs.Prelude.{◌==◌, nat_lt}
 use Rattle.std.proofs.lemmas.List.{append-nil, drop_at}
 use Rattle.std.proofs.lemmas.Bool.{cases_Bool, eqb-true, eqb-false}
@@ -7,12 +7,12 @@ use Rattle.std.proofs.lemmas.Option.{none-some}
 use borrow.Author.Tests.{ltb-true, ltb-false}
 use Rattle.handlebars_base.specs.Bytes.{Text}
 use Rattle.handlebars_base.specs.PathReading.{after}
-use Rattle.handlebars_tags.specs.Text.{Braces, IsText}
+use Rattle.handlebars_tags.specs.Text.{IsText}
 use Rattle.handlebars_tags.specs.Kind.{beginning_of}
-use Rattle.handlebars_tags.specs.Tag.{Tag, Tildes, IsTag, OneTag}
+use Rattle.handlebars_tags.specs.Tag.{OneTag}
 use Rattle.handlebars_tags.specs.Trim.{Edge, no_edge, braces_behind}
 use Rattle.handlebars_tags.proofs.OneText.{one_text}
-use Rattle.handlebars_template.specs.Place.{Place, place}
+use Rattle.handlebars_template.specs.Place.{place}
 use Rattle.handlebars_template.specs.Cut.{Slice, text_slice, tag_slice, may_follow, TextAndTag, slices_of, Reads, starts, goes_on, IsCut, spelled, CutsJoin, OneCut}
 use Rattle.handlebars_template.specs.Compile.{NoTagBehind}
 

@@ -1,14 +1,14 @@
 -- At most one outcome.
-use Rattle.std.proofs.Common.{◌≡◌, ℕ, zero, ◌+◌, ◌<◌, ◌≤◌, Bool, true, false, List, [], ◌∷◌, ◌++◌, refl, sym, ap, ◌∙◌, subst, append_assoc, arith, ◌⊎◌, inl, inr}
+use Rattle.std.proofs.Common.{◌≡◌, ◌<◌, List, [], ◌∷◌, ◌++◌, refl, sym, ap, ◌∙◌, subst, append_assoc, ◌⊎◌, inl, inr}
 use Rattle.std.proofs.lemmas.Bool.{false≢true}
 use Rattle.std.proofs.lemmas.List.{append-nil}
 use Rattle.handlebars_base.specs.Bytes.{Text}
-use Rattle.handlebars_tags.specs.Text.{Braces, two_braces, four_braces, braces}
+use Rattle.handlebars_tags.specs.Text.{braces}
 use Rattle.handlebars_tags.specs.Tag.{OneTag}
 use Rattle.handlebars_tags.specs.Trim.{Edge, no_edge, braces_behind}
 use Rattle.handlebars_tags.proofs.Runs.{braces-none}
 use Rattle.handlebars_template.specs.Place.{Place, place}
-use Rattle.handlebars_template.specs.Nest.{Piece, Fault, Placed, Test, syntax_alone, names_and_literals, Nests, Frame, Opens, none_open, Refuses, LeavesOpen, left_open as still_open}
+use Rattle.handlebars_template.specs.Nest.{Piece, Fault, Placed, syntax_alone, names_and_literals, Nests, Refuses, LeavesOpen, left_open as still_open}
 use Rattle.handlebars_template.specs.Cut.{Slice, text_slice, tag_slice, Reads, IsCut}
 use Rattle.handlebars_template.specs.Compile.{Options, tag_piece, text_pieces, pieces_in, tree_of, unreadable, refusal_for, IsUnreadable, Compilation, compiled, refused, Compiles, whole, no_tag, misplaced, left_open, late, OneCompilation}
 use Rattle.handlebars_template.proofs.NestsSteps.{Refuses-append}

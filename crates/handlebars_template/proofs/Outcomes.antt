@@ -1,5 +1,5 @@
 -- What running a source's reading and nesting answers, the source compiles to.
-use Rattle.std.proofs.Common.{◌≡◌, ℕ, zero, suc, ◌-◌, Bool, true, false, cond, Option, Some, None, List, [], ◌∷◌, ◌++◌, length, take, refl, sym, ap, ◌∙◌, subst, append_assoc}
+use Rattle.std.proofs.Common.{◌≡◌, ℕ, zero, suc, ◌-◌, true, Option, Some, None, List, [], ◌∷◌, ◌++◌, length, take, refl, sym, ap, ◌∙◌, subst, append_assoc}
 use Rattle.std.specs.Str.{bytes_eq}
 use Rattle.std.proofs.lemmas.List.{append-nil}
 use Rattle.std.proofs.lemmas.Option.{same_Some, none-some}
@@ -7,13 +7,13 @@ use Rattle.std.proofs.lemmas.Slice.Eq.{bytes_eq-Decides}
 use Rattle.handlebars_base.specs.Bytes.{Text}
 use Rattle.handlebars_base.specs.PathReading.{◌>>=◌}
 use Rattle.handlebars_base.proofs.OptionBinds.{bind_some}
-use Rattle.handlebars_tags.specs.Text.{Braces, two_braces, braces, IsText}
+use Rattle.handlebars_tags.specs.Text.{two_braces, braces, IsText}
 use Rattle.handlebars_tags.specs.Tag.{NoTag}
 use Rattle.handlebars_tags.specs.Trim.{Edge, no_edge, edge_of, braces_behind}
-use Rattle.handlebars_template.specs.Place.{Place, place}
-use Rattle.handlebars_template.specs.Nest.{Piece, Fault, not_closed, Placed, Test, syntax_alone, names_and_literals, Nests, nothing, Frame, Opens, none_open, Refuses, LeavesOpen, left_open as still_open}
+use Rattle.handlebars_template.specs.Place.{place}
+use Rattle.handlebars_template.specs.Nest.{Piece, Fault, not_closed, Placed, Test, syntax_alone, names_and_literals, Nests, nothing, Frame, Opens, none_open, Refuses, left_open as still_open}
 use Rattle.handlebars_template.specs.Machine.{Moved, goes, stops, apply}
-use Rattle.handlebars_template.specs.Cut.{Slice, text_slice, tag_slice, may_follow, TextAndTag, tag_edge, slices_of, Reads, starts, goes_on, IsCut}
+use Rattle.handlebars_template.specs.Cut.{Slice, text_slice, tag_slice, may_follow, TextAndTag, Reads, starts, goes_on, IsCut}
 use Rattle.handlebars_template.specs.Compile.{Options, pieces_in, tree_of, refusal_for, Compilation, compiled, refused, unreadable, Compiles, whole, no_tag, misplaced, left_open, late}
 use Rattle.handlebars_template.proofs.NestsSteps.{Opens-step, Refuses-step}
 use Rattle.handlebars_template.proofs.NestsRuns.{run}

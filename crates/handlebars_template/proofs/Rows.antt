@@ -1,10 +1,10 @@
 -- The worked sources compile as stated.
-use Rattle.std.proofs.Common.{◌≢◌, [], ◌∷◌, ◌++◌, refl, codes, arith}
+use Rattle.std.proofs.Common.{[], ◌∷◌, ◌++◌, refl, codes, arith}
 use Rattle.std.specs.Str.{chars}
 use Rattle.json.specs.Json as json
 use Rattle.json.specs.Lex.{lex, punctuate}
 use Rattle.json.specs.Word.{word, after_number}
-use Rattle.handlebars_base.specs.Bytes.{Text, backslash, right_brace, newline}
+use Rattle.handlebars_base.specs.Bytes.{backslash, right_brace, newline}
 use Rattle.handlebars_base.specs.PathReading as path
 use Rattle.handlebars_lines.specs.Binding.{behind_bar, behind_beginning}
 use Rattle.handlebars_lines.specs.Line.{in_tag}
