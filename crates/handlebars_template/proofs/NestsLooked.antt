@@ -1,48 +1,35 @@
--- What is said of a chained inverse before it stands: what is said of an inverse, and whether it is too deep.
-use Rattle.std.proofs.Common.{◌≡◌, ℕ, suc, ◌+◌, List, [], ◌∷◌, Bool, true, false, Option, None, Some, nat_lt, refl, ap, subst}
+-- What is said of a chained inverse before it stands: what is said of an inverse, and then what of a block.
+use Rattle.std.proofs.Common.{ℕ, suc, ◌+◌, List, [], ◌∷◌, Bool, true, false, Option, None, Some, nat_lt}
+use Rattle.std.specs.Option.{option_or}
 use Rattle.handlebars_base.specs.Bytes.{Text}
 use Rattle.handlebars_template.specs.Place.{Place}
 use Rattle.handlebars_template.specs.Calls.{max_nesting}
-use Rattle.handlebars_template.specs.Nest.{Opening, turns, chains, too_deep, Placed, syntax_alone, Stage, in_first, in_branch, in_inverse, Frame}
-use Rattle.handlebars_template.specs.Machine.{Moved, stops, MayGo, next_stage, turning, chaining, apply}
+use Rattle.handlebars_template.specs.Nest.{Opening, opens, turns, chains, Placed, syntax_alone, Stage, in_first, in_branch, in_inverse, Frame}
+use Rattle.handlebars_template.specs.Machine.{next_stage, goes, checked, turning, chaining, apply}
 use Rattle.handlebars_template.specs.NestView.{Looks}
 use Rattle.handlebars_template.specs.declared.template.nest.SyntaxFault.{SyntaxFault}
-use Rattle.handlebars_template.specs.declared.template.nest.SyntaxFault.TheVariants as syntax
 
 module _ (p : Place) (o : Opening) (r : Option Text) (d : ℕ) (es : List Placed) where
-  staged-refused : (s : Stage) (f : Frame) (fs : List Frame) (b : Bool) (fault : SyntaxFault) → Looks p (turning (next_stage s f es in_inverse) p d fs) (Some fault)
-      → Looks p (chaining (next_stage s f es (in_branch o)) b syntax_alone p r d fs) (Some fault)
-  staged-refused in_first f fs b syntax.Unexpected h = absurd cc
-  staged-refused in_first f fs b syntax.TooDeep h = absurd cc
-  staged-refused (in_branch g) f fs b syntax.Unexpected h = absurd cc
-  staged-refused (in_branch g) f fs b syntax.TooDeep h = absurd cc
-  staged-refused in_inverse f fs b syntax.Unexpected h = h
-  staged-refused in_inverse f fs b syntax.TooDeep h = h
+  -- where only the levels count, what goes doesn't matter
+  checked-looks : (b : Bool) (e : ℕ) (gs : List Frame) (hs : List Placed) (f : Frame) (fs : List Frame) (deep : Option SyntaxFault)
+      → Looks p (checked b syntax_alone p r (goes e gs hs)) deep → Looks p (checked b syntax_alone p r (goes (suc d) (f ∷ fs) [])) deep
+  checked-looks true e gs hs f fs deep h = h
+  checked-looks false e gs hs f fs None h = tt
+  checked-looks false e gs hs f fs (Some fault) h = absurd cc
 
-  staged-deep : (s : Stage) (f : Frame) (fs : List Frame) → MayGo (turning (next_stage s f es in_inverse) p d fs)
-      → chaining (next_stage s f es (in_branch o)) true syntax_alone p r d fs ≡ stops (too_deep p)
-  staged-deep in_first f fs h = refl
-  staged-deep (in_branch g) f fs h = refl
-  staged-deep in_inverse f fs h = absurd h
+  staged-looks : (s : Stage) (f : Frame) (fs : List Frame) (b : Bool) (e : ℕ) (gs : List Frame) (hs : List Placed) (misplaced deep : Option SyntaxFault)
+      → Looks p (turning (next_stage s f es in_inverse) p d fs) misplaced → Looks p (checked b syntax_alone p r (goes e gs hs)) deep
+      → Looks p (chaining (next_stage s f es (in_branch o)) b syntax_alone p r d fs) (option_or misplaced deep)
+  staged-looks in_first f fs b e gs hs None deep h k = checked-looks b e gs hs _ fs deep k
+  staged-looks in_first f fs b e gs hs (Some fault) deep h k = absurd cc
+  staged-looks (in_branch g) f fs b e gs hs None deep h k = checked-looks b e gs hs _ fs deep k
+  staged-looks (in_branch g) f fs b e gs hs (Some fault) deep h k = absurd cc
+  staged-looks in_inverse f fs b e gs hs None deep h k = absurd h
+  staged-looks in_inverse f fs b e gs hs (Some fault) deep h k = h
 
-  staged-goes : (s : Stage) (f : Frame) (fs : List Frame) → MayGo (turning (next_stage s f es in_inverse) p d fs)
-      → MayGo (chaining (next_stage s f es (in_branch o)) false syntax_alone p r d fs)
-  staged-goes in_first f fs h = tt
-  staged-goes (in_branch g) f fs h = tt
-  staged-goes in_inverse f fs h = absurd h
-
-  pub Looks-refused : (n : ℕ) (fs : List Frame) (fault : SyntaxFault) → Looks p (apply syntax_alone (turns p) d fs es) (Some fault)
-      → Looks p (apply syntax_alone (chains p o n r) d fs es) (Some fault)
-  Looks-refused n [] syntax.Unexpected h = h
-  Looks-refused n [] syntax.TooDeep h = h
-  Looks-refused n (f ∷ fs) fault h = staged-refused f.stage f fs (nat_lt max_nesting (suc d + n)) fault h
-
-  pub Looks-deep : (n : ℕ) (fs : List Frame) → MayGo (apply syntax_alone (turns p) d fs es) → nat_lt max_nesting (suc d + n) ≡ true
-      → apply syntax_alone (chains p o n r) d fs es ≡ stops (too_deep p)
-  Looks-deep n [] h is = absurd h
-  Looks-deep n (f ∷ fs) h is = rw is (staged-deep f.stage f fs h)
-
-  pub Looks-goes : (n : ℕ) (fs : List Frame) → MayGo (apply syntax_alone (turns p) d fs es) → nat_lt max_nesting (suc d + n) ≡ false
-      → MayGo (apply syntax_alone (chains p o n r) d fs es)
-  Looks-goes n [] h is = absurd h
-  Looks-goes n (f ∷ fs) h is = rw is (staged-goes f.stage f fs h)
+  pub Looks-chained : (n : ℕ) (fs : List Frame) (misplaced deep : Option SyntaxFault)
+      → Looks p (apply syntax_alone (turns p) d fs es) misplaced → Looks p (apply syntax_alone (opens p o n r) d fs es) deep
+      → Looks p (apply syntax_alone (chains p o n r) d fs es) (option_or misplaced deep)
+  Looks-chained n [] None deep h k = absurd h
+  Looks-chained n [] (Some fault) deep h k = h
+  Looks-chained n (f ∷ fs) misplaced deep h k = staged-looks f.stage f fs (nat_lt max_nesting (suc d + n)) _ _ _ misplaced deep h k
