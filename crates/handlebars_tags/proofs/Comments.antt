@@ -7,13 +7,13 @@ use Rattle.std.specs.Str.{IsCharBoundary, IsUtf8}
 use Rattle.std.proofs.lemmas.Str.{IsCharBoundary-at_seam, IsCharBoundary-after_ascii}
 use Rattle.std.proofs.lemmas.Bool.{cases_Bool, ne_eqb}
 use Rattle.std.proofs.lemmas.Option.{same_Some, none-some}
-use Rattle.std.proofs.lemmas.List.{append_cancel_left, append_cancel_right}
+use Rattle.std.proofs.lemmas.List.{append_cancel_right}
 use Rattle.handlebars_base.specs.Bytes.{Text, right_brace, is_white, behind_white}
 use Rattle.handlebars_base.specs.PathReading.{after}
 use Rattle.handlebars_base.proofs.OptionBinds.{bind_some, none_or_some}
 use Rattle.handlebars_base.proofs.PathMarks.{after_other}
 use Rattle.handlebars_tags.specs.Kind.{past}
-use Rattle.handlebars_tags.specs.Comment.{behind_mark, behind_long, behind_compact, long_text, compact_text, IsComment, long, compact, NoComment, OneComment}
+use Rattle.handlebars_tags.specs.Comment.{behind_mark, behind_long, behind_compact, long_text, compact_text, HasNoLong, IsComment, long, compact, OneComment}
 use Rattle.handlebars_tags.specs.CommentReading.{EndsComment, comment_text, IsEnd}
 use Rattle.handlebars_tags.proofs.Marks.{past-takes, behind_mark-cut, behind_mark-end}
 
@@ -59,10 +59,6 @@ IsComment-made source inside slice rest is_long begins whole ends =
     by_length : (is_long : Bool) (body : Text) → inside ≡ body ++ rest → EndsComment inside is_long rest → IsComment inside (comment_text is_long (codes "{{!" ++ body)) rest
     by_length true body e ends = long body e ends
     by_length false body e ends = compact body e ends.0 ends.1
-
-pub NoComment-none : (inside : Text) → behind_long inside ≡ None → behind_compact inside ≡ None → NoComment inside
-NoComment-none inside no_long no_compact _ _ (long {rest = rest} body e is) = absurd (none-some rest (sym no_long ∙ is))
-NoComment-none inside no_long no_compact _ _ (compact {rest = rest} body e none is) = absurd (none-some rest (sym no_compact ∙ is))
 
 same_body : (inside body body' rest rest' : Text) → inside ≡ body ++ rest → inside ≡ body' ++ rest' → rest ≡ rest' → body ≡ body'
 same_body inside body body' rest rest' e e' same = append_cancel_right body body' rest' (ap (λ (z : Text). body ++ z) (sym same) ∙ sym e ∙ e')
@@ -116,24 +112,28 @@ unfolding after
 behind_compact-dashes d = refl
 
 -- behind a compact comment no long one ends: none ends in all of the text, or none behind the dashes
-pub long_ahead-end : (t rest : Text) → IsEnd t rest → behind_mark (codes "--}}") t ≡ None → behind_mark (codes "--}}") rest ≡ None
-long_ahead-end t rest cut none = behind_mark-end (codes "--}}") cut.0 rest (ap (behind_mark (codes "--}}")) (sym cut.1) ∙ none)
+no_end-behind : (t rest : Text) → IsEnd t rest → behind_mark (codes "--}}") t ≡ None → behind_mark (codes "--}}") rest ≡ None
+no_end-behind t rest cut none = behind_mark-end (codes "--}}") cut.0 rest (ap (behind_mark (codes "--}}")) (sym cut.1) ∙ none)
 
-pub long_ahead-dashes : (t d rest : Text) → past (codes "--") (behind_white t) ≡ Some d → behind_long t ≡ None → behind_compact t ≡ Some rest → behind_mark (codes "--}}") rest ≡ None
-long_ahead-dashes t d rest dashes no_long e =
+-- what is said of a text holds of its ends
+pub HasNoLong-end : (long_ahead : Bool) (t rest : Text) → IsEnd t rest → HasNoLong long_ahead t → HasNoLong long_ahead rest
+HasNoLong-end long_ahead t rest cut none = λ e. no_end-behind t rest cut (none e)
+
+no_end-dashes : (t d rest : Text) → past (codes "--") (behind_white t) ≡ Some d → behind_long t ≡ None → behind_compact t ≡ Some rest → behind_mark (codes "--}}") rest ≡ None
+no_end-dashes t d rest dashes no_long e =
     let there : behind_mark (codes "--}}") d ≡ None = rw dashes at no_long in
     let shape : behind_white t ≡ codes "--" ++ d = past-takes (codes "--") (behind_white t) d dashes in
     let same : behind_compact d ≡ Some rest = sym (behind_compact-dashes d) ∙ ap behind_compact (sym shape) ∙ behind_compact-white t ∙ e in
-    long_ahead-end d rest (behind_mark-cut (codes "}}") d rest same) there
+    no_end-behind d rest (behind_mark-cut (codes "}}") d rest same) there
 
-pub long_ahead-searched : (t rest : Text) (o : Option (Bor Text)) (none : Bool) → option_map (λ (x : Bor Text). x.now) o ≡ past (codes "--") (behind_white t) → is_some o ≡ not none → none ≡ false
+pub no_end-searched : (t rest : Text) (o : Option (Bor Text)) (none : Bool) → option_map (λ (x : Bor Text). x.now) o ≡ past (codes "--") (behind_white t) → is_some o ≡ not none → none ≡ false
     → behind_long t ≡ None → behind_compact t ≡ Some rest → behind_mark (codes "--}}") rest ≡ None
-long_ahead-searched t rest None none is said some no_long e = let there : not none ≡ true = ap not some in absurd cc
-long_ahead-searched t rest (Some d) none is said some no_long e = long_ahead-dashes t d.now rest (sym is) no_long e
+no_end-searched t rest None none is said some no_long e = let there : not none ≡ true = ap not some in absurd cc
+no_end-searched t rest (Some d) none is said some no_long e = no_end-dashes t d.now rest (sym is) no_long e
 
 -- where none ends in the text, no long comment stands in front
 pub behind_long-none : (t : Text) → behind_mark (codes "--}}") t ≡ None → behind_long t ≡ None
 behind_long-none t none = elim (none_or_some (past (codes "--") (behind_white t))) [
   | inl short ↦ rw short refl
-  | inr some ↦ rw some.1 (long_ahead-end t some.0 (dashes-end t some.0 some.1) none)
+  | inr some ↦ rw some.1 (no_end-behind t some.0 (dashes-end t some.0 some.1) none)
 ]

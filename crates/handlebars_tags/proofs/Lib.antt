@@ -4,3 +4,4 @@ pub mod Texts
 pub mod OneText
 pub mod Marks
 pub mod Comments
+pub mod Trims

@@ -1,11 +1,11 @@
 -- Marks of several bytes: where they stand, and texts less them.
-use Rattle.std.proofs.Common.{◌≡◌, ◌≢◌, ℕ, zero, suc, ◌+◌, ◌-◌, ◌<◌, ◌≤◌, [], ◌∷◌, ◌++◌, length, reverse, take, drop, List, Option, Some, None, IfSome, MatchOption, option_map, refl, sym, ap, ◌∙◌, append_assoc, arith, inl, inr, length-append, length-drop}
+use Rattle.std.proofs.Common.{◌≡◌, ◌≢◌, ℕ, zero, suc, ◌+◌, ◌<◌, ◌≤◌, [], ◌∷◌, ◌++◌, length, reverse, drop, List, Option, Some, None, IfSome, MatchOption, option_map, refl, sym, ap, ◌∙◌, arith, inl, inr, length-append, length-drop}
 use Rattle.std.proofs.lemmas.Option.{same_Some, none-some}
 use Rattle.std.proofs.lemmas.List.{reverse-append, reverse-reverse, length-reverse}
-use Rattle.std.specs.Str.Pattern.{FindsText, SplitsAroundMatch, StripsPrefix, FindsTextPrefix, FindsTextSuffix, LacksTextAt, CutsPrefixes, CutsSuffixes, IsFullyTrimmed, IsTrimStartMatches, IsTrimEndMatches}
+use Rattle.std.specs.Str.Pattern.{FindsText, SplitsAroundMatch, StripsPrefix, FindsTextPrefix, FindsTextSuffix, LacksTextAt, CutsPrefixes, CutsSuffixes, IsTrimStartMatches, IsTrimEndMatches}
 use denote.Ref.{Bor}
 use Rattle.handlebars_base.specs.Bytes.{Text}
-use Rattle.handlebars_base.specs.PathReading.{with_or, after}
+use Rattle.handlebars_base.specs.PathReading.{after}
 use Rattle.handlebars_base.proofs.PathMarks.{after_takes}
 use Rattle.handlebars_base.proofs.OptionBinds.{none_or_some, bind_some, with_or_is}
 use Rattle.handlebars_lines.proofs.Fronts.{after-same}

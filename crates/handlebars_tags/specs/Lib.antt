@@ -7,3 +7,4 @@ pub mod Comment
 pub mod CommentReading
 pub mod Tag
 pub mod Trim
+pub mod TrimView

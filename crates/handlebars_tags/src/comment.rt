@@ -1,10 +1,10 @@
 //! Comments: how far one goes, and its text.
 
-ghost use Rattle.std.specs.Prelude.{◌≡◌, ◌<◌, ◌++◌, None, MatchOption, codes, drop, length, Some, false};
+ghost use Rattle.std.specs.Prelude.{◌≡◌, ◌<◌, ◌++◌, None, IfSome, MatchOption, codes, drop, length, Some};
 ghost use Rattle.std.specs.Option.{option_map};
 ghost use Rattle.handlebars_base.specs.Bytes.{behind_white};
 ghost use Rattle.handlebars_tags.specs.Kind.{past};
-ghost use Rattle.handlebars_tags.specs.Comment.{behind_mark, behind_long, IsComment, NoComment};
+ghost use Rattle.handlebars_tags.specs.Comment.{behind_mark, behind_long, HasNoLong, IsComment, NoComment};
 ghost use Rattle.handlebars_tags.specs.CommentReading.{EndsComment, comment_text, IsEnd};
 
 use handlebars_base::json::path::marks::behind_white;
@@ -25,13 +25,14 @@ struct CommentEnd<'a> {
     long_ahead: bool,
 }
 
-/// The comment in front of a source, which begins with `{{!`. Once a search for the end of a long one was in vain, there
-/// is none ahead, and no other is made; so all comments of a source take time linear in it.
+/// The comment in front of a source, which begins with `{{!`. Once a search for the end of a long one was in vain,
+/// none is made any more; so all comments of a source take time linear in it.
 pub fn split_comment<'a>(source: &'a str, long_ahead: bool) -> Option<CommentSlice<'a>>
     requires begins { past (codes "{{!") source.now ≡ Some (drop 3 source.now) }
-    requires ahead { long_ahead ≡ false → behind_mark (codes "--}}") source.now ≡ None }
-    ensures comment { MatchOption result (NoComment (drop 3 source.now)) (λ slice. IsComment (drop 3 source.now) slice.text.now slice.rest.now) }
-    ensures still { MatchOption result (NoComment (drop 3 source.now)) (λ slice. slice.long_ahead ≡ false → behind_mark (codes "--}}") slice.rest.now ≡ None) }
+    requires ahead { HasNoLong long_ahead source.now }
+    ensures comment { MatchOption result (NoComment (drop 3 source.now))
+        (λ slice. IsComment (drop 3 source.now) slice.text.now slice.rest.now) }
+    ensures still { IfSome result (λ slice. HasNoLong slice.long_ahead slice.rest.now) }
 {
     let (_mark, inside) = source.split_at(3);
     match comment_end(inside, long_ahead) {
@@ -45,9 +46,10 @@ pub fn split_comment<'a>(source: &'a str, long_ahead: bool) -> Option<CommentSli
 }
 
 fn comment_end<'a>(inside: &'a str, long_ahead: bool) -> Option<CommentEnd<'a>>
-    requires { long_ahead ≡ false → behind_mark (codes "--}}") inside.now ≡ None }
-    ensures ends { MatchOption result (NoComment inside.now) (λ end. EndsComment inside.now end.is_long end.rest.now) }
-    ensures still { MatchOption result (NoComment inside.now) (λ end. end.long_ahead ≡ false → behind_mark (codes "--}}") end.rest.now ≡ None) }
+    requires { HasNoLong long_ahead inside.now }
+    ensures ends { MatchOption result (NoComment inside.now)
+        (λ end. EndsComment inside.now end.is_long end.rest.now) }
+    ensures still { IfSome result (λ end. HasNoLong end.long_ahead end.rest.now) }
 {
     match behind_long(inside, long_ahead) {
         Some(rest) => Some(CommentEnd {
@@ -61,9 +63,10 @@ fn comment_end<'a>(inside: &'a str, long_ahead: bool) -> Option<CommentEnd<'a>>
 
 fn compact_end<'a>(inside: &'a str, long_ahead: bool) -> Option<CommentEnd<'a>>
     requires none { behind_long inside.now ≡ None }
-    requires ahead { long_ahead ≡ false → behind_mark (codes "--}}") inside.now ≡ None }
-    ensures ends { MatchOption result (NoComment inside.now) (λ end. EndsComment inside.now end.is_long end.rest.now) }
-    ensures still { MatchOption result (NoComment inside.now) (λ end. end.long_ahead ≡ false → behind_mark (codes "--}}") end.rest.now ≡ None) }
+    requires ahead { HasNoLong long_ahead inside.now }
+    ensures ends { MatchOption result (NoComment inside.now)
+        (λ end. EndsComment inside.now end.is_long end.rest.now) }
+    ensures still { IfSome result (λ end. HasNoLong end.long_ahead end.rest.now) }
 {
     match behind_mark("}}", inside) {
         Some(rest) => Some(CommentEnd {
@@ -77,7 +80,7 @@ fn compact_end<'a>(inside: &'a str, long_ahead: bool) -> Option<CommentEnd<'a>>
 
 // What follows the long comment in front.
 fn behind_long<'a>(inside: &'a str, long_ahead: bool) -> Option<&'a str>
-    requires { long_ahead ≡ false → behind_mark (codes "--}}") inside.now ≡ None }
+    requires { HasNoLong long_ahead inside.now }
     ensures { option_map (λ rest. rest.now) result ≡ behind_long inside.now }
 {
     match behind_dashes(inside) {

@@ -6,3 +6,4 @@ pub mod laws;
 mod marks;
 pub mod tag;
 pub mod text;
+pub mod trim;

@@ -1,4 +1,4 @@
-use Rattle.std.proofs.Common.{◌∙◌, sym, ap}
+use Rattle.std.proofs.Common.{sym}
 use Rattle.handlebars_tags.proofs.Comments.{behind_long-none}
 use Rattle.handlebars_tags.proofs.comment.behind_long.Goals as goal
 

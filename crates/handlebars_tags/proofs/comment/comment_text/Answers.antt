@@ -1,7 +1,6 @@
-use Rattle.std.proofs.Common.{◌≡◌, ◌∙◌, ap, true, false, sym, arith, rules}
+use Rattle.std.proofs.Common.{◌∙◌, ap, arith}
 use Rattle.std.specs.Prelude.{codes}
 use Rattle.handlebars_tags.specs.Comment.{without_back}
-use Rattle.handlebars_tags.specs.CommentReading.{comment_text}
 use Rattle.handlebars_tags.proofs.Marks.{without_front-trimmed, without_back-trimmed}
 use Rattle.handlebars_tags.proofs.comment.comment_text.Goals as goal
 

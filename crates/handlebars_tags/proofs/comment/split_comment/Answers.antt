@@ -1,6 +1,4 @@
-use Rattle.std.proofs.Common.{◌≡◌, drop, subst, sym}
-use Rattle.handlebars_base.specs.Bytes.{Text}
-use Rattle.handlebars_tags.specs.Comment.{IsComment}
+use Rattle.std.proofs.Common.{drop}
 use Rattle.handlebars_tags.specs.CommentReading.{EndsComment}
 use Rattle.handlebars_tags.proofs.Comments.{begins-boundary, inside-end, IsComment-begins, EndsComment-end}
 use Rattle.handlebars_tags.proofs.comment.split_comment.Goals as goal
