@@ -1,5 +1,5 @@
 -- The kind of a tag, by its beginning, and what closes it.
-use Rattle.std.specs.Prelude.{ℕ, Bool, true, false, ◌&&◌, ◌||◌, ◌==◌, if◌then◌else◌, [], ◌∷◌, Option, Some, None, codes, is_some, drop}
+use Rattle.std.specs.Prelude.{ℕ, Bool, true, false, ◌&&◌, ◌||◌, ◌==◌, if◌then◌else◌, [], ◌∷◌, Option, Some, None, codes, is_some}
 use Rattle.std.specs.Str.{bytes_eq}
 use Rattle.handlebars_base.specs.Bytes.{Text, ampersand, slash, greater, left_brace, right_brace, is_white, behind_white}
 use Rattle.handlebars_base.specs.PathReading.{◌>>=◌, with_or, after, symbols_of, behind_symbols}

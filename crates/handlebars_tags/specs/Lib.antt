@@ -6,5 +6,7 @@ pub mod KindView
 pub mod Comment
 pub mod CommentReading
 pub mod Tag
+pub mod TagReading
+pub mod TagView
 pub mod Trim
 pub mod TrimView
