@@ -13,3 +13,6 @@ pub mod LineCalls
 pub mod ParametersParsed
 pub mod NestsBuilt
 pub mod NestsSteps
+pub mod NestsStates
+pub mod NestsRuns
+pub mod NestsOne

@@ -1,4 +1,6 @@
 -- What the program builds of blocks, and what stands for it.
+use Rattle.handlebars_template.proofs.NestsStates.{State-start}
+use Rattle.handlebars_template.proofs.NestsOne.{Nests-one}
 use Rattle.std.proofs.Common.{◌≡◌, ◌∙◌, suc, List, [], ◌∷◌, ◌++◌, map, reverse, length, refl, sym, ap, arith}
 use Rattle.std.proofs.lemmas.List.{reverse-append, map-append}
 use Rattle.handlebars_template.specs.Place.{Place}

@@ -53,17 +53,12 @@ Opens-append (one_more o i) m = opens_at (one_more o (Inside-append i m)) (sym (
 
 -- ---- a close
 
-pub is_chain-append : (bs : List Branch) (b : Branch) → is_chain (bs ++ (b ∷ [])) ≡ true
-is_chain-append [] b = refl
-is_chain-append (a ∷ bs) b = refl
-
 -- it makes a whole block
 Inside-closed : {t : Test} {f : Frame} {qs : List Piece} {d : ℕ} {es : List Placed} → (q : Place) (m : Text) → m ≢ [] → may_close t f.opening.name m ≡ true
     → Inside t f qs d es → Nests t f.around (qs ++ (closes q f.opening.is_raw m ∷ [])) (closed f es ∷ [])
 Inside-closed q m some named (in_its_body p x n r fits fair nb) = a_block p q x n r m fits fair some named nb no_more no_inverse nothing
-Inside-closed {es = es} q m some named (in_a_branch {first = first} {branches = bs} p q' x g n k r u fits fair nb ch fits' fair' ng) =
-    nests_at (a_block p q x n r m fits fair some named nb (Chains-append q' g k u ch fits' fair' ng) no_inverse nothing) (simp append_assoc)
-    (ap (λ (b : Bool). record { place = p; element = helper_block (block_call x first (inverse_of (bs ++ (record { opening = g; elements = es } ∷ [])) no_body) b) } ∷ []) (is_chain-append bs (record { opening = g; elements = es })))
+Inside-closed q m some named (in_a_branch p q' x g n k r u fits fair nb ch fits' fair' ng) =
+    nests_at (a_block p q x n r m fits fair some named nb (Chains-append q' g k u ch fits' fair' ng) no_inverse nothing) (simp append_assoc) refl
 Inside-closed q m some named (in_its_inverse p q' x n r fits fair nb ch ng) =
     nests_at (a_block p q x n r m fits fair some named nb ch (an_inverse q' ng) nothing) (simp append_assoc) refl
 
@@ -75,25 +70,25 @@ After t (goes e gs hs) x d fs ps = Opens t e (ps ++ (x ∷ [])) gs hs
 After t (stops f) x d fs ps = RefusesAt t d fs x f
 
 -- a piece with a literal, or none
-valued_after : {d : ℕ} {fs : List Frame} {ps : List Piece} → (t : Test) (x : Option Text → Piece) (r : Option Text) (m : Moved)
+valued_after : {d : ℕ} {fs : List Frame} → (ps : List Piece) (t : Test) (x : Option Text → Piece) (r : Option Text) (m : Moved)
     → (may_stand t r ≡ true → After t m (x r) d fs ps) → ((raw : Text) → may_stand t (Some raw) ≡ false → RefusesAt t d fs (x (Some raw)) (no_value raw))
     → After t (valued t r m) (x r) d fs ps
-valued_after syntax_alone x r m fair worthless = fair refl
-valued_after names_and_literals x None m fair worthless = fair refl
-valued_after names_and_literals x (Some raw) m fair worthless = worthless raw refl
+valued_after ps syntax_alone x r m fair worthless = fair refl
+valued_after ps names_and_literals x None m fair worthless = fair refl
+valued_after ps names_and_literals x (Some raw) m fair worthless = worthless raw refl
 
 after_leaf : {t : Test} {d : ℕ} {ps : List Piece} {fs : List Frame} {es : List Placed} → (p : Place) (e : Element) (n : ℕ) (r : Option Text) (b : Bool) → nat_lt max_nesting (d + n) ≡ b
     → Opens t d ps fs es → After t (checked b t p r (goes d fs (es ++ (record { place = p; element = e } ∷ [])))) (leaf p e n r) d fs ps
 after_leaf p e n r true is o = deep_leaf p e n r (ltb-true _ _ is)
 after_leaf {t} {d} {fs = fs} {es = es} p e n r false is o =
-    valued_after t (leaf p e n) r (goes d fs (es ++ (record { place = p; element = e } ∷ [])))
+    valued_after _ t (leaf p e n) r (goes d fs (es ++ (record { place = p; element = e } ∷ [])))
     (λ fair. Opens-append o (a_leaf p e n r (ltb-false _ _ is) fair nothing)) (λ raw bad. worthless_leaf p e n raw (ltb-false _ _ is) bad)
 
 after_opening : {t : Test} {d : ℕ} {ps : List Piece} {fs : List Frame} {es : List Placed} → (p : Place) (x : Opening) (n : ℕ) (r : Option Text) (b : Bool) → nat_lt max_nesting (suc d + n) ≡ b
     → Opens t d ps fs es → After t (checked b t p r (goes (suc d) (new_frame p x d es ∷ fs) [])) (opens p x n r) d fs ps
 after_opening p x n r true is o = deep_block p x n r (ltb-true _ _ is)
 after_opening {t} {d} {fs = fs} {es = es} p x n r false is o =
-    valued_after t (opens p x n) r (goes (suc d) (new_frame p x d es ∷ fs) [])
+    valued_after _ t (opens p x n) r (goes (suc d) (new_frame p x d es ∷ fs) [])
     (λ fair. one_more o (in_its_body p x n r (ltb-false _ _ is) fair nothing)) (λ raw bad. worthless_block p x n raw (ltb-false _ _ is) bad)
 
 after_inverse : {t : Test} {d : ℕ} {ps qs : List Piece} {f : Frame} {fs : List Frame} {es : List Placed} → (p : Place)
@@ -107,12 +102,12 @@ after_chained : {t : Test} {d : ℕ} {ps qs : List Piece} {f : Frame} {fs : List
     → Opens t f.around ps fs f.outside → Inside t f qs d es → After t (chaining (next_stage f.stage f es (in_branch g)) b t p u d fs) (chains p g k u) d (f ∷ fs) (ps ++ qs)
 after_chained q g k u true is o (in_its_body p x n r fits fair nb) = deep_chain q g k u (λ e. cc) (ltb-true _ _ is)
 after_chained {t} {d} {fs = fs} {es = es} q g k u false is o (in_its_body {o = c} {out = out} p x n r fits fair nb) =
-    valued_after t (chains q g k) u (goes (suc d) (record { place = p; opening = x; around = c; first = es; branches = []; stage = in_branch g; outside = out } ∷ fs) [])
+    valued_after _ t (chains q g k) u (goes (suc d) (record { place = p; opening = x; around = c; first = es; branches = []; stage = in_branch g; outside = out } ∷ fs) [])
     (λ fair'. opens_at (one_more o (in_a_branch p q x g n k r u fits fair nb no_more (ltb-false _ _ is) fair' nothing)) (sym (simp append_assoc)))
     (λ raw bad. worthless_chain q g k raw (λ e. cc) (ltb-false _ _ is) bad)
 after_chained q g k u true is o (in_a_branch p q' x g' n k' r u' fits fair nb ch fits' fair' ng) = deep_chain q g k u (λ e. cc) (ltb-true _ _ is)
 after_chained {t} {d} {fs = fs} {es = es} q g k u false is o (in_a_branch {o = c} {first = first} {out = out} {branches = bs} p q' x g' n k' r u' fits fair nb ch fits' fair' ng) =
-    valued_after t (chains q g k) u (goes (suc d) (record { place = p; opening = x; around = c; first = first; branches = bs ++ (record { opening = g'; elements = es } ∷ []); stage = in_branch g; outside = out } ∷ fs) [])
+    valued_after _ t (chains q g k) u (goes (suc d) (record { place = p; opening = x; around = c; first = first; branches = bs ++ (record { opening = g'; elements = es } ∷ []); stage = in_branch g; outside = out } ∷ fs) [])
     (λ fair''. opens_at (one_more o (in_a_branch p q x g n k r u fits fair nb (Chains-append q' g' k' u' ch fits' fair' ng) (ltb-false _ _ is) fair'' nothing)) (sym (simp append_assoc)))
     (λ raw bad. worthless_chain q g k raw (λ e. cc) (ltb-false _ _ is) bad)
 after_chained q g k u b is o (in_its_inverse p q' x n r fits fair nb ch ng) = late_chain q g k u refl
