@@ -9,7 +9,10 @@ pub mod LineImages
 pub mod LineCalls
 pub mod ParametersParsed
 pub mod NestsBuilt
+pub mod NestsLooked
+pub mod NestsDone
 pub mod NestsSteps
 pub mod NestsStates
 pub mod NestsRuns
 pub mod NestsOne
+pub mod NestsKept

@@ -6,7 +6,7 @@ use Rattle.handlebars_base.specs.Bytes.{Text}
 use Rattle.handlebars_template.specs.Place.{Place}
 use Rattle.handlebars_template.specs.Tree.{Element, no_body}
 use Rattle.handlebars_template.specs.Calls.{max_nesting}
-use Rattle.handlebars_template.specs.Nest.{Opening, Piece, leaf, opens, turns, chains, closes, Fault, unexpected, too_deep, not_closed, mismatched, no_value, Placed, body_with, Branch, block_of, Test, syntax_alone, names_and_literals, may_close, Stage, in_first, in_branch, in_inverse, Frame}
+use Rattle.handlebars_template.specs.Nest.{Opening, Piece, leaf, opens, turns, chains, closes, Fault, unexpected, too_deep, mismatched, no_value, Placed, body_with, Branch, block_of, Test, syntax_alone, names_and_literals, may_close, Stage, in_first, in_branch, in_inverse, Frame}
 
 -- the whole block, when its close comes
 abbrev pub closed_block : Stage → Opening → List Placed → List Branch → List Placed → Element
@@ -108,11 +108,13 @@ late_after late x fs = option_or late (late_in x fs)
 
 -- ---- the end
 
+-- the elements, the place of the innermost block that is open, or what comes late
 pub data End : Type 0 where
-  whole : List Placed → End
-  faulty : Fault → End
+  complete : List Placed → End
+  unclosed : Place → End
+  refused : Fault → End
 
 abbrev pub at_end : List Frame → Option Fault → List Placed → End
-at_end (f ∷ fs) late es = faulty (not_closed f.place)
-at_end [] (Some f) es = faulty f
-at_end [] None es = whole es
+at_end (f ∷ fs) late es = unclosed f.place
+at_end [] (Some f) es = refused f
+at_end [] None es = complete es

@@ -3,8 +3,8 @@ use Rattle.std.specs.Prelude.{◌≡◌, List, [], ◌∷◌, map, reverse, Opti
 use Rattle.handlebars_template.specs.Place.{Place}
 use Rattle.handlebars_template.specs.Tree.{args}
 use Rattle.handlebars_template.specs.TreeView.{text, place_of, element_view, params_view, pairs_view, block_param_view}
-use Rattle.handlebars_template.specs.Nest.{Opening, Piece, Fault, unexpected, too_deep, not_closed, mismatched, no_value, Placed, Branch, syntax_alone, Stage, in_first, in_branch, in_inverse, Frame}
-use Rattle.handlebars_template.specs.Machine.{Moved, goes, stops, MayGo, apply, late_after, End, whole, faulty}
+use Rattle.handlebars_template.specs.Nest.{Opening, Piece, Fault, unexpected, too_deep, mismatched, no_value, Placed, Branch, syntax_alone, Stage, in_first, in_branch, in_inverse, Frame}
+use Rattle.handlebars_template.specs.Machine.{Moved, goes, stops, MayGo, apply, late_after, End, complete, unclosed, refused}
 use Rattle.handlebars_template.specs.declared.template.tree.TemplateMapping.{TemplateMapping}
 use Rattle.handlebars_template.specs.declared.template.tree.TemplateElement.{TemplateElement}
 use Rattle.handlebars_template.specs.declared.template.placed.PlacedElements.{PlacedElements}
@@ -80,11 +80,14 @@ late_of state = late_view state.late
 abbrev pub moved : Nesting → Piece → Moved
 moved state x = apply syntax_alone x state.depth (frames state) (placed_view state.elements)
 
+abbrev pub syntax_fault : Place → SyntaxFault → Fault
+syntax_fault p syntax.Unexpected = unexpected p
+syntax_fault p syntax.TooDeep = too_deep p
+
 -- what is said of a piece at this place, before it stands
 abbrev pub Looks : Place → Moved → Option SyntaxFault → Type 0
 Looks p m None = MayGo m
-Looks p m (Some syntax.Unexpected) = m ≡ stops (unexpected p)
-Looks p m (Some syntax.TooDeep) = m ≡ stops (too_deep p)
+Looks p m (Some fault) = m ≡ stops (syntax_fault p fault)
 
 -- the state behind a piece
 pub record IsBehind (old : Nesting) (x : Piece) (new : Nesting) : Type 0 where
@@ -96,6 +99,6 @@ abbrev pub Does : Nesting → Piece → Nesting → Type 0
 Does old x new = MayGo (moved old x) → IsBehind old x new
 
 abbrev pub end_view : Nested → End
-end_view (nested.Whole elements) = whole (placed_view elements)
-end_view (nested.NotClosed p) = faulty (not_closed (place_of p))
-end_view (nested.Late l) = faulty (late_fault l)
+end_view (nested.Whole elements) = complete (placed_view elements)
+end_view (nested.NotClosed p) = unclosed (place_of p)
+end_view (nested.Late l) = refused (late_fault l)

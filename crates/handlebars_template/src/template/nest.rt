@@ -231,14 +231,9 @@ impl Nesting {
         ensures { (p : Place) (o : Opening) (r : Option Text)
             → Looks p (moved self.now (chains p o number r)) result }
     {
-        if let Some(fault) = self.look_at_inverse() {
-            return Some(fault);
-        }
-        if is_too_deep_inside(self.depth, number) {
-            Some(SyntaxFault::TooDeep)
-        } else {
-            None
-        }
+        let misplaced = self.look_at_inverse();
+        let deep = self.look_at_opening(number);
+        misplaced.or(deep)
     }
 
     /// Whether a close may stand next, by any name but none.
@@ -298,16 +293,17 @@ impl Nesting {
     {
         self.keep(late_literal(alloc, refused)?);
         let outside = mem::replace(&mut self.elements, PlacedElements::new(alloc));
+        let around = self.depth;
         self.stack.push(Open {
             place,
             opening,
-            around: self.depth,
+            around,
             first: PlacedElements::new(alloc),
             branches: Vec::new(alloc),
             stage: Stage::First,
             outside,
         })?;
-        self.depth = one_more(self.depth);
+        self.depth = one_more(around);
         Ok(())
     }
 

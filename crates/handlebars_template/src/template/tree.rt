@@ -86,11 +86,7 @@ impl HelperTemplate {
     }
 
     /// What a chained tag says, without bodies.
-    pub fn new_chain(
-        spec: ExpressionSpec,
-        block: bool,
-        indent_before_write: bool,
-    ) -> HelperTemplate
+    pub fn new_chain(spec: ExpressionSpec, block: bool, indent_before_write: bool) -> HelperTemplate
         ensures { call_view result
             ≡ spec_call spec (record { block = block; chain = true; indent_before_write = indent_before_write }) }
     {
