@@ -1,8 +1,7 @@
 -- Comments: how far one goes, and its text.
-use Rattle.std.specs.Prelude.{◌≡◌, ℕ, zero, suc, [], ◌∷◌, ◌++◌, length, reverse, Option, Some, None, codes}
+use Rattle.std.specs.Prelude.{◌≡◌, Bool, false, ℕ, zero, suc, [], ◌∷◌, ◌++◌, length, reverse, Option, Some, None, codes}
 use Rattle.handlebars_base.specs.Bytes.{Text, behind_white}
 use Rattle.handlebars_base.specs.PathReading.{◌>>=◌, with_or}
-
 use Rattle.handlebars_tags.specs.Kind.{past}
 
 -- what follows the first such mark
@@ -36,10 +35,23 @@ long_text slice = without_back (codes "--}}") (without_front (codes "{{!--") sli
 abbrev pub compact_text : Text → Text
 compact_text slice = without_back (codes "}}") (without_front (codes "{{!") slice)
 
--- IsComment inside kept rest: behind `{{!` stands a comment of this text, and the rest follows it. It is a long one where
--- one fits, and a compact one elsewhere.
+-- Where this says that none is ahead, no long comment ends in the text.
+abbrev pub HasNoLong : Bool → Text → Type 0
+HasNoLong long_ahead t = long_ahead ≡ false → behind_mark (codes "--}}") t ≡ None
+
+-- IsComment inside kept rest: behind `{{!` stands a comment of this text, and the rest follows it. It is a long one
+-- where one fits, and a compact one elsewhere.
 pub data IsComment (inside : Text) : Text → Text → Type 0 where
   long : {rest : Text} (body : Text) → inside ≡ body ++ rest → behind_long inside ≡ Some rest
       → IsComment inside (long_text (codes "{{!" ++ body)) rest
-  compact : {rest : Text} (body : Text) → inside ≡ body ++ rest → behind_long inside ≡ None → behind_compact inside ≡ Some rest
-      → IsComment inside (compact_text (codes "{{!" ++ body)) rest
+  compact : {rest : Text} (body : Text) → inside ≡ body ++ rest → behind_long inside ≡ None
+      → behind_compact inside ≡ Some rest → IsComment inside (compact_text (codes "{{!" ++ body)) rest
+
+-- No comment stands here.
+abbrev pub NoComment : Text → Type 0
+NoComment inside = (kept rest : Text) → IsComment inside kept rest → ⊥
+
+-- At most one comment stands here.
+abbrev pub OneComment : Type 0
+OneComment = (inside kept kept' rest rest' : Text) → IsComment inside kept rest → IsComment inside kept' rest'
+    → (kept ≡ kept') × (rest ≡ rest')

@@ -6,3 +6,5 @@ pub mod KindView
 pub mod Comment
 pub mod Tag
 pub mod Trim
+pub mod CommentReading
+pub mod TrimView

@@ -1,5 +1,5 @@
--- What a text of a source is, and what is kept of it. Texts run up to the first braces that aren't escaped: two, or in a
--- raw block four.
+-- What a text of a source is, and what is kept of it. Texts run up to the first braces that aren't escaped: two, or in
+-- a raw block four.
 use Rattle.std.specs.Prelude.{◌≡◌, ◌≢◌, ℕ, ◌-◌, Bool, true, false, ◌&&◌, ◌==◌, [], ◌∷◌, ◌++◌, drop, replicate}
 use Rattle.std.specs.List.{prefix_len, list_any}
 use Rattle.handlebars_base.specs.Bytes.{Text, backslash, left_brace}
@@ -39,8 +39,8 @@ pub data IsText (n : Braces) (follows : Text) : Text → Text → Type 0 where
   at_tag : (run : ℕ) → braces n follows ≡ true → run ≢ 1
       → IsText n follows (replicate run backslash) (replicate (run - 1) backslash)
   -- a byte with which no tag and no escape begins
-  a_byte : {slice kept : Text} → (b : ℕ) → before_braces n (b ∷ (slice ++ follows)) ≡ false → IsText n follows slice kept
-      → IsText n follows (b ∷ slice) (b ∷ kept)
+  a_byte : {slice kept : Text} → (b : ℕ) → before_braces n (b ∷ (slice ++ follows)) ≡ false
+      → IsText n follows slice kept → IsText n follows (b ∷ slice) (b ∷ kept)
   -- One backslash makes the braces behind it text, four where four stand there, and is dropped.
   two_escaped : {slice kept : Text} → n ≡ two_braces → two_in_front (slice ++ follows) ≡ false
       → IsText n follows slice kept
@@ -53,10 +53,10 @@ pub data IsText (n : Braces) (follows : Text) : Text → Text → Type 0 where
 -- At most one text stands in front of a source, up to so many braces.
 abbrev pub OneText : Type 0
 OneText = (n : Braces) (source slice slice' follows follows' kept kept' : Text)
-    → source ≡ slice ++ follows → source ≡ slice' ++ follows' → IsText n follows slice kept → IsText n follows' slice' kept'
-    → (slice ≡ slice') × (follows ≡ follows') × (kept ≡ kept')
+    → source ≡ slice ++ follows → source ≡ slice' ++ follows'
+    → IsText n follows slice kept → IsText n follows' slice' kept' → (slice ≡ slice') × (follows ≡ follows') × (kept ≡ kept')
 
 -- In a text without backslashes no braces begin.
 abbrev pub ClearText : Type 0
-ClearText = (n : Braces) (follows slice kept a b : Text) → IsText n follows slice kept → list_any is_backslash slice ≡ false
-    → slice ≡ a ++ b → b ≢ [] → braces n (b ++ follows) ≡ false
+ClearText = (n : Braces) (follows slice kept a b : Text)
+    → IsText n follows slice kept → list_any is_backslash slice ≡ false → slice ≡ a ++ b → b ≢ [] → braces n (b ++ follows) ≡ false

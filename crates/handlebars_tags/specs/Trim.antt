@@ -1,5 +1,5 @@
 -- What is kept of a text beside tags.
-use Rattle.std.specs.Prelude.{ℕ, ◌-◌, Bool, true, false, ◌==◌, ◌&&◌, ◌||◌, not, if◌then◌else◌, List, [], ◌∷◌, length, take, drop}
+use Rattle.std.specs.Prelude.{ℕ, ◌-◌, Bool, true, false, ◌==◌, ◌&&◌, ◌||◌, not, if◌then◌else◌, [], ◌∷◌, length, take}
 use Rattle.std.specs.List.{fold, suffix_len, list_all}
 use Rattle.handlebars_base.specs.Bytes.{Text, space, tab, newline, carriage_return, is_white}
 use Rattle.handlebars_base.specs.PathReading.{◌>>=◌, with_or, after}
@@ -69,14 +69,28 @@ opens_raw (raw_tag line) = true
 opens_raw (raw_close_tag n) = false
 opens_raw (comment_tag t) = false
 
--- a tag behind a line that is fresh or not, and before the rest
-abbrev pub edge_with : Bool → Tag → Tildes → Text → Edge
-edge_with fresh t tildes rest = record {
-  standalone = may_stand_alone t && (fresh && is_ended rest);
+-- Behind a line that is fresh or not, and before the rest, a tag that may stand alone does so if nothing else is on its
+-- line.
+abbrev pub edge_at : Bool → Edge → Text → Edge
+edge_at fresh tag rest = record {
+  standalone = tag.standalone && (fresh && is_ended rest);
+  left = tag.left;
+  right = tag.right;
+  is_raw = tag.is_raw;
+}
+
+-- what a tag does wherever it stands
+abbrev pub sides_of : Tag → Tildes → Edge
+sides_of t tildes = record {
+  standalone = may_stand_alone t;
   left = tildes.left;
   right = tildes.right;
   is_raw = opens_raw t;
 }
+
+-- a tag behind a line that is fresh or not, and before the rest
+abbrev pub edge_with : Bool → Tag → Tildes → Text → Edge
+edge_with fresh t tildes rest = edge_at fresh (sides_of t tildes) rest
 
 -- a tag between two parts of the source
 abbrev pub edge_of : Text → Tag → Tildes → Text → Edge
@@ -97,7 +111,8 @@ behind_blanks (b ∷ t) = if is_blank b then behind_blanks t else b ∷ t
 abbrev pub behind_break : Text → Text
 behind_break t = with_or (after newline t) (λ r. r) (with_or (after carriage_return t >>= after newline) (λ r. r) t)
 
--- After a tilde all white goes, as Unicode has it; else after a tag that stands alone spaces and tabs, and one line's end.
+-- After a tilde all white goes, as Unicode has it; else after a tag that stands alone spaces and tabs, and one line's
+-- end.
 abbrev pub trimmed_start : Edge → Text → Text
 trimmed_start e t = if e.right then trim_start t else (if e.standalone then behind_break (behind_blanks t) else t)
 

@@ -1,5 +1,6 @@
 //! What holds of every text and tag, for callers to cite.
 
+ghost use Rattle.handlebars_tags.specs.Comment.{OneComment};
 ghost use Rattle.handlebars_tags.specs.Text.{OneText, ClearText};
 
 /// At most one text stands in front of a source.
@@ -10,4 +11,9 @@ pub fn one_text()
 /// In a text without backslashes no braces begin.
 pub fn clear_text()
     ensures { ClearText }
+{}
+
+/// At most one comment stands behind `{{!`.
+pub fn one_comment()
+    ensures { OneComment }
 {}

@@ -30,14 +30,12 @@ struct Chunk<'a> {
     is_last: bool,
 }
 
-/// The text in front of a source, up to so many braces, in time linear in its slice. Where nothing is escaped, it is copied once.
-pub fn text<'a>(
-    alloc: Global,
-    until: Braces,
-    source: &'a str,
-) -> Result<TextFront<'a>, AllocError>
+/// The text in front of a source, up to so many braces, in time linear in its slice. Where nothing is escaped, it is
+/// copied once.
+pub fn text<'a>(alloc: Global, until: Braces, source: &'a str) -> Result<TextFront<'a>, AllocError>
     ensures whole { IfOk result (λ front. source.now ≡ front.slice.now ++ front.rest.now) }
-    ensures reads { IfOk result (λ front. IsText (braces_of until) front.rest.now front.slice.now (string_bytes front.kept)) }
+    ensures reads { IfOk result
+        (λ front. IsText (braces_of until) front.rest.now front.slice.now (string_bytes front.kept)) }
 {
     let mut kept = String::new(alloc);
     let mut left = source;

@@ -1,0 +1,139 @@
+-- Where comments end.
+use Rattle.std.proofs.Common.{◌≡◌, ℕ, ◌-◌, ◌<◌, length, get_or, drop, Bool, true, false, [], ◌∷◌, ◌++◌, Option, Some, None, option_map, refl, sym, ap, subst, ◌∙◌, append_assoc, arith, length-append, inl, inr}
+use Rattle.std.specs.Prelude.{◌==◌, not, codes}
+use Rattle.std.specs.Option.{is_some}
+use denote.Ref.{Bor}
+use Rattle.std.specs.Str.{IsCharBoundary, IsUtf8}
+use Rattle.std.proofs.lemmas.Str.{IsCharBoundary-at_seam, IsCharBoundary-after_ascii}
+use Rattle.std.proofs.lemmas.Bool.{cases_Bool, ne_eqb}
+use Rattle.std.proofs.lemmas.Option.{same_Some, none-some}
+use Rattle.std.proofs.lemmas.List.{append_cancel_right}
+use Rattle.handlebars_base.specs.Bytes.{Text, right_brace, is_white, behind_white}
+use Rattle.handlebars_base.specs.PathReading.{after}
+use Rattle.handlebars_base.proofs.OptionBinds.{bind_some, none_or_some}
+use Rattle.handlebars_base.proofs.PathMarks.{after_other}
+use Rattle.handlebars_tags.specs.Kind.{past}
+use Rattle.handlebars_tags.specs.Comment.{behind_mark, behind_long, behind_compact, long_text, compact_text, HasNoLong, IsComment, long, compact, OneComment}
+use Rattle.handlebars_tags.specs.CommentReading.{EndsComment, comment_text, IsEnd}
+use Rattle.handlebars_tags.proofs.Marks.{past-takes, behind_mark-cut, behind_mark-end}
+
+-- ---- ends of a text
+
+IsEnd-append : (x y z : Text) → IsEnd x y → IsEnd y z → IsEnd x z
+IsEnd-append x y z a b = (a.0 ++ b.0, a.1 ∙ ap (λ (u : Text). a.0 ++ u) b.1 ∙ sym (append_assoc a.0 b.0 z))
+
+pub IsCharBoundary-end : (t v : Text) → IsUtf8 v → IsEnd t v → IsCharBoundary t (length t - length v)
+IsCharBoundary-end t v utf8 cut =
+    let len : length t - length v ≡ length cut.0 = omega (arith, ap length cut.1, length-append cut.0 v) in
+    rw len (IsCharBoundary-at_seam t cut.0 v cut.1 utf8)
+
+behind_white-end : (t : Text) → IsEnd t (behind_white t)
+behind_white-end [] = ([], refl)
+behind_white-end (b ∷ t) = elim (cases_Bool (is_white b)) [
+  | inl white ↦ let more = behind_white-end t in rw white (b ∷ more.0, ap (λ (z : Text). b ∷ z) more.1)
+  | inr dark ↦ rw dark ([], refl)
+]
+
+dashes-end : (t d : Text) → past (codes "--") (behind_white t) ≡ Some d → IsEnd t d
+dashes-end t d e = IsEnd-append t (behind_white t) d (behind_white-end t) (codes "--", past-takes (codes "--") (behind_white t) d e)
+
+behind_long-end : (t rest : Text) → behind_long t ≡ Some rest → IsEnd t rest
+behind_long-end t rest e =
+    let b = bind_some (past (codes "--") (behind_white t)) (behind_mark (codes "--}}")) rest e in
+    IsEnd-append t b.0 rest (dashes-end t b.0 b.1) (behind_mark-cut (codes "--}}") b.0 rest b.2)
+
+pub EndsComment-end : (inside : Text) (is_long : Bool) (rest : Text) → EndsComment inside is_long rest → IsEnd inside rest
+EndsComment-end inside true rest e = behind_long-end inside rest e
+EndsComment-end inside false rest e = behind_mark-cut (codes "}}") inside rest e.1
+
+-- ---- what stands here
+
+-- behind its mark, a slice spells the comment
+IsComment-made : (source inside slice rest : Text) (is_long : Bool) → source ≡ codes "{{!" ++ inside → source ≡ slice ++ rest → EndsComment inside is_long rest
+    → IsComment inside (comment_text is_long slice) rest
+IsComment-made source inside slice rest is_long begins whole ends =
+    let cut = EndsComment-end inside is_long rest ends in
+    let spelled : codes "{{!" ++ cut.0 ≡ slice = append_cancel_right (codes "{{!" ++ cut.0) slice rest (append_assoc (codes "{{!") cut.0 rest ∙ ap (λ (z : Text). codes "{{!" ++ z) (sym cut.1) ∙ sym begins ∙ whole) in
+    subst (λ (z : Text). IsComment inside (comment_text is_long z) rest) spelled (by_length is_long cut.0 cut.1 ends)
+  where
+    by_length : (is_long : Bool) (body : Text) → inside ≡ body ++ rest → EndsComment inside is_long rest → IsComment inside (comment_text is_long (codes "{{!" ++ body)) rest
+    by_length true body e ends = long body e ends
+    by_length false body e ends = compact body e ends.0 ends.1
+
+same_body : (inside body body' rest rest' : Text) → inside ≡ body ++ rest → inside ≡ body' ++ rest' → rest ≡ rest' → body ≡ body'
+same_body inside body body' rest rest' e e' same = append_cancel_right body body' rest' (ap (λ (z : Text). body ++ z) (sym same) ∙ sym e ∙ e')
+
+pub one_comment : OneComment
+one_comment inside _ _ _ _ (long {rest = rest} body e is) (long {rest = rest'} body' e' is') =
+    let same = same_Some rest rest' (sym is ∙ is') in
+    (ap (λ (z : Text). long_text (codes "{{!" ++ z)) (same_body inside body body' rest rest' e e' same), same)
+one_comment inside _ _ _ _ (long {rest = rest} body e is) (compact body' e' none is') = absurd (none-some rest (sym none ∙ is))
+one_comment inside _ _ _ _ (compact body e none is) (long {rest = rest'} body' e' is') = absurd (none-some rest' (sym none ∙ is'))
+one_comment inside _ _ _ _ (compact {rest = rest} body e none is) (compact {rest = rest'} body' e' none' is') =
+    let same = same_Some rest rest' (sym is ∙ is') in
+    (ap (λ (z : Text). compact_text (codes "{{!" ++ z)) (same_body inside body body' rest rest' e e' same), same)
+
+-- ---- what begins with the mark
+
+begins-whole : (source : Text) → past (codes "{{!") source ≡ Some (drop 3 source) → source ≡ codes "{{!" ++ drop 3 source
+begins-whole source e = past-takes (codes "{{!") source (drop 3 source) e
+
+pub begins-boundary : (source : Text) → IsUtf8 source → past (codes "{{!") source ≡ Some (drop 3 source) → IsCharBoundary source 3
+begins-boundary source utf8 e =
+    let whole = begins-whole source e in
+    let long : 2 < length source = omega (arith, ap length whole) in
+    let low : get_or source 2 0 < 128 = omega (arith, ap (λ (z : Text). get_or z 2 0) whole) in
+    IsCharBoundary-after_ascii source 2 utf8 long low
+
+pub inside-end : (source rest : Text) → past (codes "{{!") source ≡ Some (drop 3 source) → IsEnd (drop 3 source) rest → IsEnd source rest
+inside-end source rest e cut = IsEnd-append source (drop 3 source) rest (codes "{{!", begins-whole source e) cut
+
+pub IsComment-begins : (source slice rest : Text) (is_long : Bool) → past (codes "{{!") source ≡ Some (drop 3 source) → source ≡ slice ++ rest → EndsComment (drop 3 source) is_long rest
+    → IsComment (drop 3 source) (comment_text is_long slice) rest
+IsComment-begins source slice rest is_long e whole ends = IsComment-made source (drop 3 source) slice rest is_long (begins-whole source e) whole ends
+
+-- ---- where no long comment ends further on
+
+white_brace : (b : ℕ) → is_white b ≡ true → (b == right_brace) ≡ false
+white_brace b white = ne_eqb b right_brace (λ e. let same : is_white b ≡ is_white right_brace = ap is_white e in cc)
+
+-- the end of a compact comment stands behind white and dashes
+behind_compact-white : (t : Text) → behind_compact (behind_white t) ≡ behind_compact t
+behind_compact-white [] = refl
+behind_compact-white (b ∷ t) = elim (cases_Bool (is_white b)) [
+  | inl white ↦
+      let none : past (codes "}}") (b ∷ t) ≡ None = rw (after_other right_brace b t (white_brace b white)) refl in
+      rw (white, none) (behind_compact-white t)
+  | inr dark ↦ rw dark refl
+]
+
+behind_compact-dashes : (d : Text) → behind_compact (codes "--" ++ d) ≡ behind_compact d
+unfolding after
+behind_compact-dashes d = refl
+
+-- behind a compact comment no long one ends: none ends in all of the text, or none behind the dashes
+no_end-behind : (t rest : Text) → IsEnd t rest → behind_mark (codes "--}}") t ≡ None → behind_mark (codes "--}}") rest ≡ None
+no_end-behind t rest cut none = behind_mark-end (codes "--}}") cut.0 rest (ap (behind_mark (codes "--}}")) (sym cut.1) ∙ none)
+
+-- what is said of a text holds of its ends
+pub HasNoLong-end : (long_ahead : Bool) (t rest : Text) → IsEnd t rest → HasNoLong long_ahead t → HasNoLong long_ahead rest
+HasNoLong-end long_ahead t rest cut none = λ e. no_end-behind t rest cut (none e)
+
+no_end-dashes : (t d rest : Text) → past (codes "--") (behind_white t) ≡ Some d → behind_long t ≡ None → behind_compact t ≡ Some rest → behind_mark (codes "--}}") rest ≡ None
+no_end-dashes t d rest dashes no_long e =
+    let there : behind_mark (codes "--}}") d ≡ None = rw dashes at no_long in
+    let shape : behind_white t ≡ codes "--" ++ d = past-takes (codes "--") (behind_white t) d dashes in
+    let same : behind_compact d ≡ Some rest = sym (behind_compact-dashes d) ∙ ap behind_compact (sym shape) ∙ behind_compact-white t ∙ e in
+    no_end-behind d rest (behind_mark-cut (codes "}}") d rest same) there
+
+pub no_end-searched : (t rest : Text) (o : Option (Bor Text)) (none : Bool) → option_map (λ (x : Bor Text). x.now) o ≡ past (codes "--") (behind_white t) → is_some o ≡ not none → none ≡ false
+    → behind_long t ≡ None → behind_compact t ≡ Some rest → behind_mark (codes "--}}") rest ≡ None
+no_end-searched t rest None none is said some no_long e = let there : not none ≡ true = ap not some in absurd cc
+no_end-searched t rest (Some d) none is said some no_long e = no_end-dashes t d.now rest (sym is) no_long e
+
+-- where none ends in the text, no long comment stands in front
+pub behind_long-none : (t : Text) → behind_mark (codes "--}}") t ≡ None → behind_long t ≡ None
+behind_long-none t none = elim (none_or_some (past (codes "--") (behind_white t))) [
+  | inl short ↦ rw short refl
+  | inr some ↦ rw some.1 (no_end-behind t some.0 (dashes-end t some.0 some.1) none)
+]

@@ -1,0 +1,43 @@
+-- Blanks and lines' ends.
+use Rattle.std.proofs.Common.{◌≡◌, ℕ, ◌<◌, ◌≤◌, Bool, true, false, length, get_or, [], ◌∷◌, ◌++◌, refl, ap, arith, inl, inr}
+use Rattle.std.specs.Prelude.{◌==◌, ◌||◌}
+use Rattle.std.specs.List.{fold}
+use Rattle.std.specs.Str.{IsCharBoundary}
+use Rattle.std.proofs.lemmas.Bool.{or_cases, eqb-true, cases_Bool}
+use Rattle.std.proofs.lemmas.List.Sums.{fold-append}
+use Rattle.handlebars_base.specs.Bytes.{Text, space, tab}
+use Rattle.handlebars_lines.specs.Literal.{starts}
+use Rattle.handlebars_tags.specs.Trim.{is_blank, is_break, is_fresh_behind, is_fresh, breaks, behind_blanks}
+
+pub is_blank-ascii : (b : ℕ) → is_blank b ≡ true → b < 128
+is_blank-ascii b h = elim (or_cases (b == space) (b == tab) h) [
+  | inl is ↦ let e = eqb-true b space is in omega arith
+  | inr is ↦ let e = eqb-true b tab is in omega arith
+]
+
+-- before a blank, and at the end, a text may be cut
+pub is_blank-boundary : (t : Text) (n : ℕ) → n ≤ length t → (n < length t → is_blank (get_or t n 0) ≡ true) → IsCharBoundary t n
+is_blank-boundary t n within blank = (within, λ lt le. let low = is_blank-ascii (get_or t n 0) (blank lt) in absurd (omega arith))
+
+no_break : (b : ℕ) → is_blank b ≡ true → is_break b ≡ false
+no_break b h = elim (or_cases (b == space) (b == tab) h) [
+  | inl is ↦ ap is_break (eqb-true b space is)
+  | inr is ↦ ap is_break (eqb-true b tab is)
+]
+
+or_false : (p : Bool) → (p || false) ≡ p
+or_false true = refl
+or_false false = refl
+
+pub breaks-behind : (t : Text) → breaks t ≡ starts is_break (behind_blanks t)
+breaks-behind [] = refl
+breaks-behind (b ∷ t) = elim (cases_Bool (is_blank b)) [
+  | inl blank ↦ rw (no_break b blank, blank) (breaks-behind t)
+  | inr dark ↦ rw dark (or_false (is_break b))
+]
+
+-- ---- for the layers above
+
+-- from one part of a source to the next
+pub is_fresh-append : (x y : Text) → is_fresh (x ++ y) ≡ fold is_fresh_behind (is_fresh x) y
+is_fresh-append x y = fold-append is_fresh_behind true x y
