@@ -1,7 +1,14 @@
-pub mod Pasts
 pub mod Runs
 pub mod Texts
 pub mod OneText
 pub mod Marks
 pub mod Comments
 pub mod Trims
+pub mod LineNames
+pub mod BlockLines
+pub mod CloseNames
+pub mod Insides
+pub mod InsidesRead
+pub mod BlocksRead
+pub mod Beginnings
+pub mod InsideAt

@@ -4,7 +4,9 @@ pub mod TextView
 pub mod Kind
 pub mod KindView
 pub mod Comment
-pub mod Tag
-pub mod Trim
 pub mod CommentReading
+pub mod Tag
+pub mod TagReading
+pub mod TagView
+pub mod Trim
 pub mod TrimView

@@ -2,8 +2,8 @@
 #![tactic(auto)]
 
 pub mod comment;
+mod front;
 pub mod laws;
-mod marks;
 pub mod tag;
 pub mod text;
 pub mod trim;

@@ -7,7 +7,7 @@ ghost use Rattle.handlebars_lines.specs.Literal.{starts};
 ghost use Rattle.handlebars_tags.specs.Kind.{starts_other, ends_else, is_else, block_at, signed_at, unsigned_at, tilde_at, tilded_at, raw_at, braced_at, beginning_of};
 ghost use Rattle.handlebars_tags.specs.KindView.{beginning_view};
 
-use crate::marks::{past, tilde_at};
+use crate::front::{past, tilde_at};
 use handlebars_base::json::path::marks::{after, behind_white, is_white, symbols};
 
 /// The kind of a tag, by its beginning.

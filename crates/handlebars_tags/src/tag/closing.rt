@@ -6,7 +6,7 @@ ghost use Rattle.handlebars_tags.specs.Kind.{two_close, three_close, four_close,
 ghost use Rattle.handlebars_tags.specs.KindView.{kind_of, tilded};
 
 use super::beginning::Kind;
-use crate::marks::{past, tilde_at};
+use crate::front::{past, tilde_at};
 use handlebars_base::json::path::marks::{after, behind_white};
 
 /// Whether a tilde stands before the braces that close a tag of this kind, and what follows them. A comment holds its

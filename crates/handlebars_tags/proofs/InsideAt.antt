@@ -1,0 +1,46 @@
+-- Reading what is inside a tag, where memory may run out.
+use Rattle.std.proofs.Common.{◌≡◌, Bool, true, Option, Some, None, Result, Ok, Err, refl, sym, ap, subst, ◌∙◌, codes, drop}
+use Rattle.std.specs.Prelude.{IfOk}
+use Rattle.std.specs.Option.{MatchOption}
+use Rattle.std.proofs.lemmas.Option.{same_Some}
+use denote.Ref.{Bor}
+use Rattle.handlebars_base.specs.Bytes.{Text}
+use Rattle.handlebars_tags.specs.Kind.{Kind, expression_kind, html_kind, html_sign_kind, past}
+use Rattle.handlebars_tags.specs.TagReading.{NoClosedLine, NoneClosed}
+use Rattle.handlebars_tags.specs.TagView.{HasClosedLine, HasInside}
+use Rattle.handlebars_tags.specs.declared.tag.inside.Inside.{Inside}
+use Rattle.handlebars_tags.specs.declared.tag.inside.Content.TheVariants.{Expression, Html}
+use Rattle.handlebars_tags.proofs.Marks.{past-takes}
+use Rattle.handlebars_tags.proofs.InsidesRead.{expression_read, html_read, html_sign_read}
+
+abbrev pub Reads : Kind → Text → Option Inside → Type 0
+Reads k t r = MatchOption r (NoneClosed k t) (λ i. HasInside k t i)
+
+abbrev pub ReadsPlain : Kind → Text → Option Inside → Type 0
+ReadsPlain k t r = MatchOption r (NoneClosed k t) (λ i. HasInside k t i × (i.long_ahead ≡ true))
+
+pub plain_reads : (k : Kind) (t : Text) (r : Option Inside) → ReadsPlain k t r → Reads k t r
+plain_reads k t None h = h
+plain_reads k t (Some i) h = h.0
+
+pub plain_reads-Ok : {E : Type 0} (k : Kind) (t : Text) (r : Result (Option Inside) E) → IfOk r (ReadsPlain k t) → IfOk r (Reads k t)
+plain_reads-Ok k t (Ok r) h = plain_reads k t r h
+plain_reads-Ok k t (Err e) h = h
+
+pub expression_reads : {E : Type 0} (t : Bor Text) (r : Result (Option Inside) E) → IfOk r (λ o. MatchOption o (NoClosedLine expression_kind t.now) (λ i. HasClosedLine expression_kind t.now (Expression t) i))
+    → IfOk r (Reads expression_kind t.now)
+expression_reads t (Ok r) h = expression_read t r h
+expression_reads t (Err e) h = h
+
+pub html_reads : {E : Type 0} (t : Bor Text) (r : Result (Option Inside) E) → IfOk r (λ o. MatchOption o (NoClosedLine html_kind t.now) (λ i. HasClosedLine html_kind t.now (Html t) i))
+    → IfOk r (Reads html_kind t.now)
+html_reads t (Ok r) h = html_read t r h
+html_reads t (Err e) h = h
+
+pub html_sign_reads : {E : Type 0} (t : Bor Text) (r : Result (Option Inside) E) → IfOk r (λ o. MatchOption o (NoClosedLine html_sign_kind t.now) (λ i. HasClosedLine html_sign_kind t.now (Html t) i))
+    → IfOk r (Reads html_sign_kind t.now)
+html_sign_reads t (Ok r) h = html_sign_read t r h
+html_sign_reads t (Err e) h = h
+
+pub behind_braces : (left inside : Text) → past (codes "{{!") left ≡ Some inside → drop 3 left ≡ inside
+behind_braces left inside e = ap (drop 3) (past-takes (codes "{{!") left inside e)

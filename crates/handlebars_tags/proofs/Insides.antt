@@ -1,0 +1,158 @@
+-- What is said inside tags and closed: where it isn't read it isn't there, and it is one.
+use Rattle.std.proofs.Common.{◌≡◌, ◌≢◌, ℕ, Bool, true, false, [], ◌∷◌, ◌++◌, Option, Some, None, refl, sym, ap, subst, ◌∙◌, codes, length, ◌⊎◌, inl, inr}
+use Rattle.std.specs.Prelude.{◌==◌}
+use Rattle.std.proofs.lemmas.Option.{same_Some, none-some}
+use Rattle.handlebars_base.specs.Bytes.{Text, behind_white, is_white}
+use Rattle.handlebars_base.specs.PathReading.{symbols_of, behind_symbols, after}
+use Rattle.handlebars_lines.specs.Literal.{starts}
+use Rattle.handlebars_lines.specs.Line.{Line, in_tag, IsLine, NoLine}
+use Rattle.handlebars_lines.proofs.Lines.{one_line}
+use Rattle.handlebars_tags.specs.Kind.{Kind, expression_kind, html_kind, html_sign_kind, block_kind, close_kind, inverse_kind, else_kind, raw_kind, raw_close_kind, comment_kind, other_kind, closing_of}
+use Rattle.handlebars_tags.specs.Comment.{IsComment, NoComment}
+use Rattle.handlebars_tags.specs.Tag.{Tag, expression_tag, html_tag, block_tag, inverse_tag, chain_tag, close_tag, raw_tag, raw_close_tag, comment_tag, BlockLine, IsBlockLine, close_name_at, Says, a_value, a_raw_value, a_signed_value, a_block, a_close, an_inverse, an_else, a_chain, a_raw_block, a_raw_close, a_comment}
+use Rattle.handlebars_tags.specs.TagReading.{NoBlockLine, NoClosedLine, IsClosed, NoneClosed}
+use Rattle.handlebars_tags.proofs.BlockLines.{one_block_line}
+
+-- ---- what is said, kind by kind
+
+pub record ValueSaid (of : Line → Tag) (t : Text) (tag : Tag) (rest : Text) : Type 0 where
+  pub line : Line
+  pub is : IsLine in_tag t line rest
+  pub gives : tag ≡ of line
+
+pub record BlockSaid (of : BlockLine → Tag) (t : Text) (tag : Tag) (rest : Text) : Type 0 where
+  pub line : BlockLine
+  pub is : IsBlockLine t line rest
+  pub gives : tag ≡ of line
+
+pub record TextSaid (tag tag' : Tag) (rest rest' : Text) : Type 0 where
+  pub gives : tag ≡ tag'
+  pub rests : rest ≡ rest'
+
+pub record ChainSaid (t : Text) (tag : Tag) (rest : Text) : Type 0 where
+  pub white : starts is_white t ≡ true
+  pub said : BlockSaid chain_tag (behind_white t) tag rest
+
+pub record RawCloseSaid (t : Text) (tag : Tag) (rest : Text) : Type 0 where
+  pub some : symbols_of t ≢ []
+  pub said : TextSaid tag (raw_close_tag (symbols_of t)) rest (behind_symbols t)
+
+pub record CommentSaid (t : Text) (tag : Tag) (rest : Text) : Type 0 where
+  pub kept : Text
+  pub is : IsComment t kept rest
+  pub gives : tag ≡ comment_tag kept
+
+abbrev pub Said : Kind → Text → Tag → Text → Type 0
+Said expression_kind t tag rest = ValueSaid expression_tag t tag rest
+Said html_kind t tag rest = ValueSaid html_tag t tag rest
+Said html_sign_kind t tag rest = ValueSaid html_tag t tag rest
+Said block_kind t tag rest = BlockSaid block_tag t tag rest
+Said close_kind t tag rest = TextSaid tag (close_tag (close_name_at t).0) rest (close_name_at t).1
+Said inverse_kind t tag rest = TextSaid tag inverse_tag rest t
+Said else_kind t tag rest = TextSaid tag inverse_tag rest t ⊎ ChainSaid t tag rest
+Said raw_kind t tag rest = BlockSaid raw_tag t tag rest
+Said raw_close_kind t tag rest = RawCloseSaid t tag rest
+Said comment_kind t tag rest = CommentSaid t tag rest
+Said other_kind t tag rest = ⊥
+
+pub said : (k : Kind) (t : Text) (tag : Tag) (rest : Text) → Says k t tag rest → Said k t tag rest
+said _ _ _ _ (a_value {line = line} is) = record { line = line; is = is; gives = refl }
+said _ _ _ _ (a_raw_value {line = line} is) = record { line = line; is = is; gives = refl }
+said _ _ _ _ (a_signed_value {line = line} is) = record { line = line; is = is; gives = refl }
+said _ _ _ _ (a_block {line = line} is) = record { line = line; is = is; gives = refl }
+said _ _ _ _ (a_close t) = record { gives = refl; rests = refl }
+said _ _ _ _ (an_inverse t) = record { gives = refl; rests = refl }
+said _ _ _ _ (an_else t) = inl (record { gives = refl; rests = refl })
+said _ _ _ _ (a_chain {line = line} white is) = inr (record { white = white; said = record { line = line; is = is; gives = refl } })
+said _ _ _ _ (a_raw_block {line = line} is) = record { line = line; is = is; gives = refl }
+said _ _ _ _ (a_raw_close t some) = record { some = some; said = record { gives = refl; rests = refl } }
+said _ _ _ _ (a_comment {kept = kept} is) = record { kept = kept; is = is; gives = refl }
+
+-- ---- the lines of blocks inside tags
+
+pub record BlockClosed (k : Kind) (of : BlockLine → Tag) (t : Text) (tag : Tag) (right : Bool) (rest : Text) : Type 0 where
+  pub behind : Text
+  pub said : BlockSaid of t tag behind
+  pub closes : closing_of k behind ≡ Some (right, rest)
+
+-- inside is the line of a block alone
+abbrev pub OnlyBlock : Kind → (BlockLine → Tag) → Text → Text → Type 0
+OnlyBlock k of t inside = (tag : Tag) (right : Bool) (rest : Text) → IsClosed k inside tag right rest → BlockClosed k of t tag right rest
+
+pub only_block : (t : Text) → OnlyBlock block_kind block_tag t t
+only_block t tag right rest h = record { behind = h.behind; said = said block_kind t tag h.behind h.says; closes = h.closes }
+
+pub only_raw : (t : Text) → OnlyBlock raw_kind raw_tag t t
+only_raw t tag right rest h = record { behind = h.behind; said = said raw_kind t tag h.behind h.says; closes = h.closes }
+
+-- where nothing closes the `else`
+open_else : (t : Text) (tag : Tag) (right : Bool) (rest : Text) → closing_of else_kind t ≡ None → (h : IsClosed else_kind t tag right rest) → ChainSaid t tag h.behind
+open_else t tag right rest none h = elim (said else_kind t tag h.behind h.says) [
+  | inl inverse ↦ absurd (none-some (right, rest) (sym none ∙ ap (closing_of else_kind) (sym inverse.rests) ∙ h.closes))
+  | inr chain ↦ chain
+]
+
+pub only_chain : (t : Text) → closing_of else_kind t ≡ None → OnlyBlock else_kind chain_tag (behind_white t) t
+only_chain t none tag right rest h =
+    let chain = open_else t tag right rest none h in
+    record { behind = h.behind; said = chain.said; closes = h.closes }
+
+pub none-chain : (t : Text) → closing_of else_kind t ≡ None → starts is_white t ≡ false → NoneClosed else_kind t
+none-chain t none dark tag right rest h = let chain = open_else t tag right rest none h in let white : starts is_white t ≡ true = chain.white in absurd cc
+
+pub none-block : (k : Kind) (of : BlockLine → Tag) (t inside : Text) → OnlyBlock k of t inside → NoBlockLine t → NoneClosed k inside
+none-block k of t inside only none tag right rest h = let b = only tag right rest h in none b.said.line b.behind b.said.is
+
+pub none_closing-block : (k : Kind) (of : BlockLine → Tag) (t inside left : Text) (line : BlockLine) → OnlyBlock k of t inside → IsBlockLine t line left → closing_of k left ≡ None → NoneClosed k inside
+none_closing-block k of t inside left line only is none tag right rest h =
+    let b = only tag right rest h in
+    let one = one_block_line t line b.said.line left b.behind is b.said.is in
+    none-some (right, rest) (sym none ∙ ap (closing_of k) one.1 ∙ b.closes)
+
+-- ---- values
+
+pub record ValueClosed (k : Kind) (t : Text) (right : Bool) (rest : Text) : Type 0 where
+  pub line : Line
+  pub behind : Text
+  pub is : IsLine in_tag t line behind
+  pub closes : closing_of k behind ≡ Some (right, rest)
+
+none-value : (k : Kind) (t : Text) → ((tag : Tag) (right : Bool) (rest : Text) → IsClosed k t tag right rest → ValueClosed k t right rest) → NoClosedLine k t → NoneClosed k t
+none-value k t only none tag right rest h = let v = only tag right rest h in none v.line v.behind right rest v.is v.closes
+
+pub none-expression : (t : Text) → NoClosedLine expression_kind t → NoneClosed expression_kind t
+none-expression t none = none-value expression_kind t (λ tag right rest h. let s = said expression_kind t tag h.behind h.says in record { line = s.line; behind = h.behind; is = s.is; closes = h.closes }) none
+
+pub none-html : (t : Text) → NoClosedLine html_kind t → NoneClosed html_kind t
+none-html t none = none-value html_kind t (λ tag right rest h. let s = said html_kind t tag h.behind h.says in record { line = s.line; behind = h.behind; is = s.is; closes = h.closes }) none
+
+pub none-html_sign : (t : Text) → NoClosedLine html_sign_kind t → NoneClosed html_sign_kind t
+none-html_sign t none = none-value html_sign_kind t (λ tag right rest h. let s = said html_sign_kind t tag h.behind h.says in record { line = s.line; behind = h.behind; is = s.is; closes = h.closes }) none
+
+pub none-closed_line : (k : Kind) (t left : Text) (line : Line) → IsLine in_tag t line left → closing_of k left ≡ None → NoClosedLine k t
+none-closed_line k t left line is none line' behind right rest is' closes =
+    let one = one_line in_tag t line line' left behind is is' in
+    none-some (right, rest) (sym none ∙ ap (closing_of k) one.1 ∙ closes)
+
+-- ---- texts
+
+none-text : (k : Kind) (left inside : Text) → ((tag : Tag) (behind : Text) → Says k inside tag behind → behind ≡ left) → closing_of k left ≡ None → NoneClosed k inside
+none-text k left inside only none tag right rest h = none-some (right, rest) (sym none ∙ ap (closing_of k) (sym (only tag h.behind h.says)) ∙ h.closes)
+
+pub none-close : (t : Text) → closing_of close_kind (close_name_at t).1 ≡ None → NoneClosed close_kind t
+none-close t none = none-text close_kind (close_name_at t).1 t (λ tag behind says. let s = said close_kind t tag behind says in s.rests) none
+
+pub none-inverse : (t : Text) → closing_of inverse_kind t ≡ None → NoneClosed inverse_kind t
+none-inverse t none = none-text inverse_kind t t (λ tag behind says. let s = said inverse_kind t tag behind says in s.rests) none
+
+pub none-raw_close : (t : Text) → closing_of raw_close_kind (behind_symbols t) ≡ None → NoneClosed raw_close_kind t
+none-raw_close t none = none-text raw_close_kind (behind_symbols t) t (λ tag behind says. let s = said raw_close_kind t tag behind says in s.said.rests) none
+
+pub none-raw_close_name : (t : Text) → symbols_of t ≡ [] → NoneClosed raw_close_kind t
+none-raw_close_name t none tag right rest h = let s = said raw_close_kind t tag h.behind h.says in s.some none
+
+pub none-comment : (t : Text) → NoComment t → NoneClosed comment_kind t
+none-comment t none tag right rest h = let s = said comment_kind t tag h.behind h.says in none s.kept h.behind s.is
+
+pub none-other : (t : Text) → NoneClosed other_kind t
+none-other t tag right rest h = said other_kind t tag h.behind h.says

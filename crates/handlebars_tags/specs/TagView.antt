@@ -1,0 +1,82 @@
+-- What the program's tags stand for.
+use Rattle.std.specs.Prelude.{◌≡◌, ℕ, true, ◌++◌, Some}
+use Rattle.handlebars_base.specs.Bytes.{Text}
+use Rattle.handlebars_lines.specs.Line.{Line, in_tag, IsLine}
+use Rattle.handlebars_lines.specs.BindingView.{binding_of}
+use Rattle.handlebars_tags.specs.Kind.{Kind, closing_of}
+use Rattle.handlebars_tags.specs.Tag.{BlockLine, IsBlockLine, Tag, expression_tag, html_tag, block_tag, inverse_tag, chain_tag, close_tag, raw_tag, raw_close_tag, comment_tag, Tildes, tag_depth, IsTag}
+use Rattle.handlebars_tags.specs.TagReading.{IsClosed}
+use Rattle.handlebars_tags.specs.declared.tag.inside.BlockSlice.{BlockSlice}
+use Rattle.handlebars_tags.specs.declared.tag.inside.Content.{Content}
+use Rattle.handlebars_tags.specs.declared.tag.inside.Content.TheVariants as content
+use Rattle.handlebars_tags.specs.declared.tag.inside.BlockRead.{BlockRead}
+use Rattle.handlebars_tags.specs.declared.tag.inside.Inside.{Inside}
+use Rattle.handlebars_tags.specs.declared.tag.TagSlice.{TagSlice}
+
+-- A text, which begins with a line of a tag, is that of the tag.
+pub record HoldsLine (of : Line → Tag) (text : Text) (tag : Tag) : Type 0 where
+  pub line : Line
+  pub behind : Text
+  pub is_line : IsLine in_tag text line behind
+  pub gives : tag ≡ of line
+
+-- A text, which begins with a line of a block, a name and what it binds are those of the block.
+pub record IsBlockSlice (slice : BlockSlice) (line : BlockLine) (rest : Text) : Type 0 where
+  pub is_line : IsBlockLine slice.line.now line rest
+  pub is_name : line.name ≡ slice.name.now
+  pub is_binding : line.binding ≡ binding_of slice.binding
+
+pub record HoldsBlock (of : BlockLine → Tag) (slice : BlockSlice) (tag : Tag) : Type 0 where
+  pub line : BlockLine
+  pub rest : Text
+  pub is_slice : IsBlockSlice slice line rest
+  pub gives : tag ≡ of line
+
+-- by its parts of the source, this is what the tag says
+abbrev pub Holds : Content → Tag → Type 0
+Holds (content.Expression text) tag = HoldsLine expression_tag text.now tag
+Holds (content.Html text) tag = HoldsLine html_tag text.now tag
+Holds (content.Block slice) tag = HoldsBlock block_tag slice tag
+Holds content.Inverse tag = tag ≡ inverse_tag
+Holds (content.Chain slice) tag = HoldsBlock chain_tag slice tag
+Holds (content.Close name) tag = tag ≡ close_tag name.now
+Holds (content.RawBlock slice) tag = HoldsBlock raw_tag slice tag
+Holds (content.RawClose name) tag = tag ≡ raw_close_tag name.now
+Holds (content.Comment text) tag = tag ≡ comment_tag text.now
+
+-- The line of a block was read so.
+pub record HasBlock (text : Text) (read : BlockRead) : Type 0 where
+  pub line : BlockLine
+  pub is_slice : IsBlockSlice read.slice line read.rest.now
+  pub whole : read.slice.line.now ≡ text
+  pub deep : line.depth ≡ read.depth
+
+-- This closes a tag of the kind behind what it says, so deep.
+pub record HasClosing (kind : Kind) (behind : Text) (content : Content) (depth : ℕ) (read : Inside) : Type 0 where
+  pub closes : closing_of kind behind ≡ Some (read.right, read.rest.now)
+  pub is_content : read.content ≡ content
+  pub deep : read.depth ≡ depth
+  pub ahead : read.long_ahead ≡ true
+
+-- A line of a tag stands in front, and is closed.
+pub record HasClosedLine (kind : Kind) (text : Text) (content : Content) (read : Inside) : Type 0 where
+  pub line : Line
+  pub behind : Text
+  pub is_line : IsLine in_tag text line behind
+  pub closing : HasClosing kind behind content line.depth read
+
+-- What stands inside a tag of this kind, and closes it, was read so.
+pub record HasInside (kind : Kind) (inside : Text) (read : Inside) : Type 0 where
+  pub tag : Tag
+  pub is : IsClosed kind inside tag read.right read.rest.now
+  pub deep : tag_depth tag ≡ read.depth
+  pub holds : Holds read.content tag
+
+-- Such a tag stands in front of the text.
+pub record HasTag (left : Text) (read : TagSlice) : Type 0 where
+  pub slice : Text
+  pub tag : Tag
+  pub whole : left ≡ slice ++ read.rest.now
+  pub is_tag : IsTag slice read.rest.now tag (record { left = read.left; right = read.right })
+  pub deep : tag_depth tag ≡ read.depth
+  pub holds : Holds read.content tag

@@ -1,0 +1,58 @@
+//! The names in closing tags.
+
+ghost use Rattle.std.specs.Prelude.{◌≡◌, ◌==◌, ◌<◌, ◌≤◌, drop, length};
+ghost use Rattle.std.specs.List.{prefix_len, position};
+ghost use Rattle.handlebars_lines.specs.Literal.{starts};
+ghost use Rattle.handlebars_tags.specs.Tag.{is_close_symbol, enclosed_at, close_name_at};
+ghost use Rattle.handlebars_lines.specs.LineView.{texts_of};
+
+use handlebars_base::json::path::marks::is_symbol;
+
+/// The name in a closing tag, empty or not, and what follows it.
+pub fn close_name_at(text: &str) -> (&str, &str)
+    ensures { texts_of result ≡ close_name_at text.now }
+{
+    match text.as_bytes() {
+        [b'[', ..] => enclosed_at(b']', text),
+        [b'\'', ..] => enclosed_at(b'\'', text),
+        [_, ..] => text.split_at(close_symbols_len(text.as_bytes())),
+        [] => ("", text),
+    }
+}
+
+/// Up to the mark and with it, where it stands behind the first byte; and what follows.
+fn enclosed_at(mark: u8, text: &str) -> (&str, &str)
+    requires { mark < 128 }
+    ensures { texts_of result ≡ enclosed_at mark text.now }
+{
+    match place_behind_first(mark, text.as_bytes()) {
+        Some(n) => text.split_at(n + 2),
+        None => ("", text),
+    }
+}
+
+/// How many bytes stand between the first one and the mark.
+fn place_behind_first(mark: u8, bytes: &[u8]) -> Option<usize>
+    ensures { result ≡ position (λ byte. byte == mark) (drop 1 bytes.now) }
+{
+    if bytes.is_empty() {
+        return None;
+    }
+    bytes.split_at(1).1.iter().position(|byte| *byte == mark)
+}
+
+fn is_close_symbol(byte: u8) -> bool
+    ensures { result ≡ is_close_symbol byte }
+{
+    is_symbol(byte) || byte == b'/' || byte == b'.' || byte == b'@'
+}
+
+fn close_symbols_len(bytes: &[u8]) -> usize
+    ensures { result ≡ prefix_len is_close_symbol bytes.now }
+{
+    let mut n = 0;
+    'symbols: while n < bytes.len() && is_close_symbol(bytes[n]) {
+        n += 1;
+    }
+    n
+}

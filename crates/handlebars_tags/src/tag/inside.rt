@@ -1,0 +1,267 @@
+//! What stands inside tags, with what closes it.
+
+ghost use Rattle.std.specs.Prelude.{◌≡◌, true, IfOk, IfSome, MatchOption, Some, None, codes, drop};
+ghost use Rattle.std.specs.List.{list_all};
+ghost use Rattle.std.specs.Option.{option_map};
+ghost use Rattle.handlebars_base.specs.Bytes.{Text};
+ghost use Rattle.handlebars_base.specs.Path.{is_symbol};
+ghost use Rattle.handlebars_lines.specs.Line.{Line, in_block, IsLine};
+ghost use Rattle.handlebars_tags.specs.Kind.{past, closing_of, comment_kind, else_kind, block_kind, raw_kind, raw_close_kind, close_kind};
+ghost use Rattle.handlebars_tags.specs.KindView.{kind_of};
+ghost use Rattle.handlebars_tags.specs.TagReading.{HasNoLong, identifier_of, NoBlockLine, NoneClosed, NoClosedLine};
+ghost use Rattle.handlebars_tags.specs.TagView.{HasBlock, HasClosing, HasClosedLine, HasInside};
+
+use super::beginning::{Beginning, Kind};
+use super::close_name::close_name_at;
+use super::closing::closing_of;
+use crate::comment::split_comment;
+use crate::front::starts_white;
+use handlebars_base::json::path::marks::{behind_white, is_symbol, symbols};
+use handlebars_base::json::path::split_path;
+use handlebars_lines::binding::{Binding, split_binding};
+use handlebars_lines::line::{Enclosure, split_line};
+use std::alloc::{AllocError, Global};
+
+/// What a tag says, by its parts of the source.
+#[derive(Clone, Copy, Debug, PartialEq, Eq)]
+pub enum Content<'a> {
+    /// A value or a call, by the text that begins with its line.
+    Expression(&'a str),
+    /// One that is written raw.
+    Html(&'a str),
+    Block(BlockSlice<'a>),
+    Inverse,
+    /// `else` with a line.
+    Chain(BlockSlice<'a>),
+    /// The name that closes a block, empty or not.
+    Close(&'a str),
+    RawBlock(BlockSlice<'a>),
+    RawClose(&'a str),
+    /// A comment's text.
+    Comment(&'a str),
+}
+
+/// The line of a block: the text that begins with it, its name, and what it binds.
+#[derive(Clone, Copy, Debug, PartialEq, Eq)]
+pub struct BlockSlice<'a> {
+    pub line: &'a str,
+    pub name: &'a str,
+    pub binding: Binding<'a>,
+}
+
+/// What is inside a tag: what it says, whether a tilde stands before its closing braces, how deep it nests, and what
+/// follows the braces.
+#[derive(Clone, Copy, Debug, PartialEq, Eq)]
+pub struct Inside<'a> {
+    pub content: Content<'a>,
+    pub right: bool,
+    pub depth: usize,
+    pub rest: &'a str,
+    /// Whether a long comment may end in the rest, as far as the tag tells.
+    pub long_ahead: bool,
+}
+
+/// What is inside the tag that begins so at the front of what is left, in which a long comment may end or not.
+pub fn inside_at<'a>(
+    alloc: Global,
+    begins: Beginning<'a>,
+    left: &'a str,
+    long_ahead: bool,
+) -> Result<Option<Inside<'a>>, AllocError>
+    requires comment { kind_of begins.kind ≡ comment_kind → past (codes "{{!") left.now ≡ Some begins.inside.now }
+    requires ahead { HasNoLong long_ahead left.now }
+    ensures reads { IfOk result (λ read. MatchOption read (NoneClosed (kind_of begins.entry.kind) begins.entry.inside.now)
+        (λ inside. HasInside (kind_of begins.entry.kind) begins.entry.inside.now inside)) }
+    ensures ahead { IfOk result (λ read. IfSome read (λ inside. HasNoLong inside.long_ahead inside.rest.now)) }
+{
+    let text = begins.inside;
+    match begins.kind {
+        Kind::Expression => value(alloc, Kind::Expression, Content::Expression(text), text),
+        Kind::Html => value(alloc, Kind::Html, Content::Html(text), text),
+        Kind::HtmlSign => value(alloc, Kind::HtmlSign, Content::Html(text), text),
+        Kind::Block => block(alloc, text),
+        Kind::Close => Ok(close(text)),
+        Kind::Inverse => Ok(closed(Kind::Inverse, Content::Inverse, 0, text)),
+        Kind::Else => inverse(alloc, text),
+        Kind::Raw => raw_block(alloc, text),
+        Kind::RawClose => Ok(raw_close(text)),
+        Kind::Comment => Ok(comment(left, long_ahead)),
+        Kind::Other => Ok(None),
+    }
+}
+
+/// What was read so far, with what closes it.
+fn closed<'a>(kind: Kind, content: Content<'a>, depth: usize, behind: &'a str) -> Option<Inside<'a>>
+    ensures { MatchOption result (closing_of (kind_of kind) behind.now ≡ None)
+        (λ inside. HasClosing (kind_of kind) behind.now content.entry depth inside) }
+{
+    match closing_of(kind, behind) {
+        Some((right, rest)) => Some(Inside {
+            content,
+            right,
+            depth,
+            rest,
+            long_ahead: true,
+        }),
+        None => None,
+    }
+}
+
+/// The line of a value, and what closes it.
+fn value<'a>(
+    alloc: Global,
+    kind: Kind,
+    content: Content<'a>,
+    text: &'a str,
+) -> Result<Option<Inside<'a>>, AllocError>
+    ensures { IfOk result (λ read. MatchOption read (NoClosedLine (kind_of kind) text.now)
+        (λ inside. HasClosedLine (kind_of kind) text.now content.entry inside)) }
+{
+    match split_line(alloc, Enclosure::Tag, text)? {
+        Some(line) => Ok(closed(kind, content, line.depth, line.rest)),
+        None => Ok(None),
+    }
+}
+
+fn block(alloc: Global, text: &str) -> Result<Option<Inside<'_>>, AllocError>
+    ensures { IfOk result (λ read. MatchOption read (NoneClosed block_kind text.now)
+        (λ inside. HasInside block_kind text.now inside × (inside.long_ahead ≡ true))) }
+{
+    match block_line(alloc, text)? {
+        Some(line) => Ok(closed(
+            Kind::Block,
+            Content::Block(line.slice),
+            line.depth,
+            line.rest,
+        )),
+        None => Ok(None),
+    }
+}
+
+fn raw_block(alloc: Global, text: &str) -> Result<Option<Inside<'_>>, AllocError>
+    ensures { IfOk result (λ read. MatchOption read (NoneClosed raw_kind text.now)
+        (λ inside. HasInside raw_kind text.now inside × (inside.long_ahead ≡ true))) }
+{
+    match block_line(alloc, text)? {
+        Some(line) => Ok(closed(
+            Kind::Raw,
+            Content::RawBlock(line.slice),
+            line.depth,
+            line.rest,
+        )),
+        None => Ok(None),
+    }
+}
+
+/// Behind `else`: what closes it, or a line.
+fn inverse(alloc: Global, text: &str) -> Result<Option<Inside<'_>>, AllocError>
+    ensures { IfOk result (λ read. MatchOption read (NoneClosed else_kind text.now)
+        (λ inside. HasInside else_kind text.now inside × (inside.long_ahead ≡ true))) }
+{
+    if let Some(inside) = closed(Kind::Else, Content::Inverse, 0, text) {
+        return Ok(Some(inside));
+    }
+    if !starts_white(text) {
+        return Ok(None);
+    }
+    match block_line(alloc, behind_white(text))? {
+        Some(line) => Ok(closed(
+            Kind::Else,
+            Content::Chain(line.slice),
+            line.depth,
+            line.rest,
+        )),
+        None => Ok(None),
+    }
+}
+
+fn close(text: &str) -> Option<Inside<'_>>
+    ensures { MatchOption result (NoneClosed close_kind text.now)
+        (λ inside. HasInside close_kind text.now inside × (inside.long_ahead ≡ true)) }
+{
+    let (name, behind) = close_name_at(text);
+    closed(Kind::Close, Content::Close(name), 0, behind)
+}
+
+fn raw_close(text: &str) -> Option<Inside<'_>>
+    ensures { MatchOption result (NoneClosed raw_close_kind text.now)
+        (λ inside. HasInside raw_close_kind text.now inside × (inside.long_ahead ≡ true)) }
+{
+    let (name, behind) = symbols(text);
+    if name.is_empty() {
+        None
+    } else {
+        closed(Kind::RawClose, Content::RawClose(name), 0, behind)
+    }
+}
+
+/// A comment, by the source from its braces on.
+fn comment(left: &str, long_ahead: bool) -> Option<Inside<'_>>
+    requires begins { past (codes "{{!") left.now ≡ Some (drop 3 left.now) }
+    requires ahead { HasNoLong long_ahead left.now }
+    ensures reads { MatchOption result (NoneClosed comment_kind (drop 3 left.now))
+        (λ inside. HasInside comment_kind (drop 3 left.now) inside) }
+    ensures ahead { IfSome result (λ inside. HasNoLong inside.long_ahead inside.rest.now) }
+{
+    match split_comment(left, long_ahead) {
+        Some(slice) => Some(Inside {
+            content: Content::Comment(slice.text),
+            right: false,
+            depth: 0,
+            rest: slice.rest,
+            long_ahead: slice.long_ahead,
+        }),
+        None => None,
+    }
+}
+
+/// The line of a block, how deep it nests, and what follows it.
+#[derive(Clone, Copy)]
+pub struct BlockRead<'a> {
+    pub slice: BlockSlice<'a>,
+    pub depth: usize,
+    pub rest: &'a str,
+}
+
+/// A line whose name is an identifier, and the block parameters behind it, if any.
+fn block_line(alloc: Global, text: &str) -> Result<Option<BlockRead<'_>>, AllocError>
+    ensures { IfOk result (λ read. MatchOption read (NoBlockLine text.now) (λ read. HasBlock text.now read)) }
+{
+    let Some(line) = split_line(alloc, Enclosure::Block, text)? else {
+        return Ok(None);
+    };
+    let Some(name) = identifier(text) else {
+        return Ok(None);
+    };
+    match split_binding(line.rest) {
+        Some(binding) => Ok(Some(BlockRead {
+            slice: BlockSlice {
+                line: text,
+                name,
+                binding: binding.means,
+            },
+            depth: line.depth,
+            rest: binding.rest,
+        })),
+        None => Ok(None),
+    }
+}
+
+/// The name of the line in front, where it is an identifier.
+fn identifier(text: &str) -> Option<&str>
+    ensures { (line : Line) (left : Text) → IsLine in_block text.now line left
+        → option_map (λ name. name.now) result ≡ identifier_of line.name }
+{
+    let path = split_path(text)?;
+    if all_symbols(path.raw) {
+        Some(path.raw)
+    } else {
+        None
+    }
+}
+
+fn all_symbols(text: &str) -> bool
+    ensures { result ≡ list_all is_symbol text.now }
+{
+    text.as_bytes().iter().all(|byte| is_symbol(*byte))
+}
