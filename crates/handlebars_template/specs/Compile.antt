@@ -23,7 +23,7 @@ no_options = record { name = None; prevent_indent = false }
 
 -- nothing but a name
 abbrev pub named_options : Text → Options
-named_options name = record no_options { name = Some name }
+named_options n = record no_options { name = Some n }
 
 -- ---- what the slices stand for
 

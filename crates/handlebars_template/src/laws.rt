@@ -1,8 +1,14 @@
 //! What holds of every source, and what some sources compile to, for callers to cite.
 
-ghost use Rattle.handlebars_template.specs.Compile.{OneCut, OneCompilation};
+ghost use Rattle.handlebars_template.specs.Compile.{OneCompilation};
+ghost use Rattle.handlebars_template.specs.Cut.{CutsJoin, OneCut};
 ghost use Rattle.handlebars_template.specs.ParameterParsing.{OneParsing};
 ghost use Rattle.handlebars_template.specs.Rows.{EmptyRow, ValueRow, EscapedRow, MemberRow, UnclosedRow, PlaceRow, HtmlRow, AmpersandRow, CallRow, NestedRow, UpRow, ElseRow};
+
+/// The slices of a cut join to its source.
+pub fn cuts_join()
+    ensures { CutsJoin }
+{}
 
 /// A source has at most one cut into texts and tags.
 pub fn one_cut()
