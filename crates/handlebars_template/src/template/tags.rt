@@ -27,7 +27,7 @@ use crate::template::tree::{
 use handlebars_lines::binding::Binding;
 use handlebars_lines::line::Enclosure;
 use handlebars_tags::tag::{BlockSlice, Content, TagSlice};
-use handlebars_tags::trim::{Edge, edge_with};
+use handlebars_tags::trim::{Edge, edge_at};
 use std::alloc::{AllocError, Global};
 
 // Whether it may stand alone on its line: values never do.
@@ -91,9 +91,13 @@ pub fn edge_behind(fresh: bool, tag: TagSlice<'_>) -> Edge
     ensures { (t : Tag) → Holds tag.entry.content t → edge_view result
         ≡ edge_with fresh t (record { left = tag.entry.left; right = tag.entry.right }) tag.entry.rest.now }
 {
-    let stands = may_stand_alone(tag.content);
-    let is_raw = opens_raw(tag.content);
-    edge_with(fresh, stands, tag.left, tag.right, is_raw, tag.rest)
+    let sides = Edge {
+        standalone: may_stand_alone(tag.content),
+        left: tag.left,
+        right: tag.right,
+        is_raw: opens_raw(tag.content),
+    };
+    edge_at(fresh, sides, tag.rest)
 }
 
 /// Whether a tag may stand next, with this many parentheses and brackets open in it. Nothing is built of it yet.
