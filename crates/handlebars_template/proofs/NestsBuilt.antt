@@ -1,5 +1,5 @@
 -- What the program builds of blocks, and what stands for it.
-use Rattle.std.proofs.Common.{◌≡◌, ◌∙◌, suc, Bool, true, List, [], ◌∷◌, ◌++◌, map, reverse, length, refl, sym, ap, arith}
+use Rattle.std.proofs.Common.{◌≡◌, ◌∙◌, suc, Bool, true, List, [], ◌∷◌, ◌++◌, map, length, refl, sym, ap, arith}
 use Rattle.std.specs.Prelude.{◌==◌, not}
 use Rattle.std.proofs.lemmas.Bool.{ne_eqb}
 use Rattle.std.proofs.lemmas.List.{reverse-append, map-append}

@@ -1,12 +1,11 @@
 -- What the program does at a chained inverse and at a close, and what the machine does.
-use Rattle.std.proofs.Common.{◌≡◌, ◌∙◌, ℕ, suc, ◌+◌, ◌<◌, ◌≤◌, List, [], ◌∷◌, ◌++◌, Bool, true, false, Option, Some, None, nat_lt, refl, sym, ap, subst, arith}
+use Rattle.std.proofs.Common.{◌≡◌, ◌∙◌, ℕ, suc, ◌+◌, ◌<◌, ◌≤◌, List, [], ◌∷◌, ◌++◌, Bool, true, false, Option, Some, nat_lt, refl, sym, ap, subst, arith}
 use borrow.Author.Tests.{ltb-false}
 use Rattle.handlebars_base.specs.Bytes.{Text}
 use Rattle.handlebars_template.specs.Place.{Place}
-use Rattle.handlebars_template.specs.Tree.{Element}
 use Rattle.handlebars_template.specs.Calls.{max_nesting}
 use Rattle.handlebars_template.specs.Nest.{Opening, chains, closes, Placed, syntax_alone, in_branch, Frame}
-use Rattle.handlebars_template.specs.Machine.{Moved, goes, MayGo, next_stage, closed, chaining, is_same_kind, closing, apply}
+use Rattle.handlebars_template.specs.Machine.{goes, MayGo, next_stage, closed, chaining, is_same_kind, closing, apply}
 
 one_deeper : (d n e : ℕ) → (d < max_nesting → e ≡ suc d) → nat_lt max_nesting (suc d + n) ≡ false → suc d ≡ e
 one_deeper d n e more is = let le : suc d + n ≤ max_nesting = ltb-false _ _ is in sym (more (omega arith))

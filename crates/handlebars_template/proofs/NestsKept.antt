@@ -1,11 +1,10 @@
 -- What the program keeps along a source.
-use Rattle.std.proofs.Common.{◌≡◌, ◌∙◌, ℕ, List, [], ◌∷◌, ◌++◌, Option, None, Some, refl, sym, ap, subst}
+use Rattle.std.proofs.Common.{◌≡◌, ℕ, List, [], ◌∷◌, ◌++◌, Option, None, Some, sym, subst}
 use Rattle.handlebars_template.specs.Place.{Place}
 use Rattle.handlebars_template.specs.TreeView.{place_of}
 use Rattle.handlebars_template.specs.Nest.{Piece, Fault, not_closed, Placed, syntax_alone, names_and_literals, Nests, Frame, Refuses, LeavesOpen}
-use Rattle.handlebars_template.specs.Machine.{Moved, goes, stops, MayGo, late_after, End, complete, unclosed, refused, at_end}
-use Rattle.handlebars_template.specs.NestView.{placed_view, frames, late_of, late_fault, moved, syntax_fault, IsBehind, Does, end_view}
-use Rattle.handlebars_template.specs.declared.template.placed.PlacedElements.{PlacedElements}
+use Rattle.handlebars_template.specs.Machine.{stops, MayGo, complete, unclosed, refused, at_end}
+use Rattle.handlebars_template.specs.NestView.{placed_view, frames, late_of, late_fault, moved, syntax_fault, Does, end_view}
 use Rattle.handlebars_template.specs.declared.template.nest.SyntaxFault.{SyntaxFault}
 use Rattle.handlebars_template.specs.declared.template.nest.Nesting.{Nesting}
 use Rattle.handlebars_template.specs.declared.template.nest.Nested.{Nested}

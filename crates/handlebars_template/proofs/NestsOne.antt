@@ -1,9 +1,9 @@
 -- At most one answer.
-use Rattle.std.proofs.Common.{◌≡◌, ℕ, List, [], ◌∷◌, ◌++◌, refl, sym, ap, ◌∙◌}
+use Rattle.std.proofs.Common.{◌≡◌, ℕ, List, [], ◌∷◌, refl, sym, ap, ◌∙◌}
 use Rattle.handlebars_template.specs.Nest.{Piece, Fault, not_closed, Placed, Branch, Test, syntax_alone, names_and_literals, Nests, nothing, a_leaf, a_block, Chains, no_more, a_branch, Turns, no_inverse, an_inverse, Frame, Opens, none_open, Refuses, LeavesOpen, left_open}
 use Rattle.handlebars_template.specs.Tree.{Body}
-use Rattle.handlebars_template.specs.Machine.{Moved, goes, stops}
-use Rattle.handlebars_template.proofs.NestsRuns.{run, Opens-run, Refuses-run}
+use Rattle.handlebars_template.specs.Machine.{goes, stops}
+use Rattle.handlebars_template.proofs.NestsRuns.{Opens-run, Refuses-run}
 
 -- two states of the same pieces
 pub record AreSame (d e : ℕ) (fs gs : List Frame) (es hs : List Placed) : Type 0 where

@@ -4,10 +4,10 @@ use Rattle.std.proofs.lemmas.Bool.{lt-ltb, le-ltb}
 use Rattle.std.proofs.lemmas.List.{append-nil}
 use Rattle.handlebars_base.specs.Bytes.{Text}
 use Rattle.handlebars_template.specs.Place.{Place}
-use Rattle.handlebars_template.specs.Tree.{Body, no_body}
+use Rattle.handlebars_template.specs.Tree.{Body}
 use Rattle.handlebars_template.specs.Calls.{max_nesting}
-use Rattle.handlebars_template.specs.Nest.{Opening, Piece, leaf, opens, turns, chains, closes, Fault, unexpected, too_deep, mismatched, no_value, Placed, body_with, Branch, block_of, Test, syntax_alone, names_and_literals, may_close, may_stand, Nests, nothing, a_leaf, a_block, Chains, no_more, a_branch, Turns, no_inverse, an_inverse, Stage, in_first, in_branch, in_inverse, Frame, Inside, in_its_body, in_a_branch, in_its_inverse, Opens, none_open, one_more, RefusesAt, deep_leaf, worthless_leaf, deep_block, worthless_block, stray_inverse, second_inverse, stray_chain, late_chain, deep_chain, worthless_chain, stray_close, empty_close, other_close, other_name, Refuses, refuses_at}
-use Rattle.handlebars_template.specs.Machine.{closed, next_stage, new_frame, Moved, goes, stops, valued, checked, turning, chaining, is_same_kind, closing, apply}
+use Rattle.handlebars_template.specs.Nest.{Opening, Piece, opens, turns, chains, closes, Fault, unexpected, too_deep, mismatched, no_value, Placed, Branch, block_of, Test, syntax_alone, names_and_literals, may_close, may_stand, Nests, nothing, a_leaf, a_block, Chains, no_more, a_branch, Turns, no_inverse, an_inverse, Stage, in_first, in_branch, in_inverse, Frame, Inside, in_its_body, in_a_branch, in_its_inverse, Opens, none_open, one_more, RefusesAt, deep_leaf, worthless_leaf, deep_block, worthless_block, stray_inverse, second_inverse, stray_chain, late_chain, deep_chain, worthless_chain, stray_close, empty_close, other_close, other_name, Refuses, refuses_at}
+use Rattle.handlebars_template.specs.Machine.{closed, next_stage, Moved, goes, stops, valued, checked, turning, chaining, is_same_kind, closing, apply}
 
 abbrev go_on : Moved → (ℕ → List Frame → List Placed → Moved) → Moved
 go_on (goes d fs es) k = k d fs es

@@ -1,11 +1,10 @@
 -- The state of a beginning: what is open by the syntax alone, and beside it the first of what comes late.
-use Rattle.std.proofs.Common.{◌≡◌, ℕ, suc, List, [], ◌∷◌, ◌++◌, Bool, true, false, Option, None, Some, refl, sym, ap, ◌∙◌, subst, append_assoc}
-use Rattle.std.specs.Prelude.{⊤, nat_lt}
+use Rattle.std.proofs.Common.{◌≡◌, ℕ, suc, List, [], ◌∷◌, ◌++◌, Bool, true, false, Option, None, Some, refl, subst}
+use Rattle.std.specs.Prelude.{⊤}
 use Rattle.std.specs.Str.{bytes_eq}
 use Rattle.handlebars_base.specs.Bytes.{Text}
 use Rattle.handlebars_template.specs.Place.{Place}
-use Rattle.handlebars_template.specs.Calls.{max_nesting}
-use Rattle.handlebars_template.specs.Nest.{Piece, leaf, opens, turns, chains, closes, Fault, unexpected, not_closed, Placed, syntax_alone, names_and_literals, Nests, nothing, in_branch, in_inverse, Frame, Opens, none_open, one_more, Refuses, LeavesOpen, left_open}
+use Rattle.handlebars_template.specs.Nest.{Piece, leaf, opens, turns, chains, closes, Fault, unexpected, not_closed, Placed, syntax_alone, names_and_literals, Nests, nothing, in_branch, Frame, Opens, none_open, Refuses, LeavesOpen, left_open}
 use Rattle.handlebars_template.specs.Machine.{next_stage, new_frame, Moved, goes, stops, checked, chaining, is_same_kind, closing, apply, late_literal, late_name, late_in, late_after}
 use Rattle.handlebars_template.proofs.NestsSteps.{Opens-step, Refuses-step, Refuses-append}
 

@@ -1,14 +1,13 @@
 -- What one piece does to what stands before it.
-use Rattle.std.proofs.Common.{◌≡◌, ◌≢◌, ℕ, suc, ◌+◌, ◌<◌, ◌≤◌, nat_lt, List, [], ◌∷◌, ◌++◌, Bool, true, false, Option, None, Some, refl, sym, ap, ◌∙◌, subst, append_assoc, arith}
+use Rattle.std.proofs.Common.{◌≡◌, ◌≢◌, ℕ, suc, ◌+◌, ◌≤◌, nat_lt, List, [], ◌∷◌, ◌++◌, Bool, true, false, Option, None, Some, refl, sym, subst, append_assoc}
 use Rattle.std.proofs.lemmas.List.{append-nil}
 use borrow.Author.Tests.{ltb-true, ltb-false}
 use Rattle.handlebars_base.specs.Bytes.{Text}
 use Rattle.handlebars_template.specs.Place.{Place}
-use Rattle.handlebars_template.specs.Tree.{Element, Body}
+use Rattle.handlebars_template.specs.Tree.{Element}
 use Rattle.handlebars_template.specs.Calls.{max_nesting}
-use Rattle.handlebars_template.specs.Nest.{Opening, Piece, leaf, opens, turns, chains, closes, Fault, unexpected, too_deep, not_closed, mismatched, no_value, Placed, body_with, Branch, is_chain, block_of, inverse_of, block_call, Test, syntax_alone, names_and_literals, may_close, may_stand, Nests, nothing, a_leaf, a_block, Chains, no_more, a_branch, Turns, no_inverse, an_inverse, Stage, in_first, in_branch, in_inverse, Frame, Inside, in_its_body, in_a_branch, in_its_inverse, Opens, none_open, one_more, RefusesAt, deep_leaf, worthless_leaf, deep_block, worthless_block, stray_inverse, second_inverse, stray_chain, late_chain, deep_chain, worthless_chain, stray_close, empty_close, other_close, other_name, Refuses, refuses_at, LeavesOpen, left_open}
-use Rattle.handlebars_template.specs.Tree.{no_body, helper_block}
-use Rattle.handlebars_template.specs.Machine.{closed_block, closed, next_stage, new_frame, Moved, goes, stops, valued, checked, turning, chaining, is_same_kind, closing, apply}
+use Rattle.handlebars_template.specs.Nest.{Opening, Piece, leaf, opens, turns, chains, closes, Fault, mismatched, no_value, Placed, Branch, Test, syntax_alone, names_and_literals, may_close, may_stand, Nests, nothing, a_leaf, a_block, Chains, no_more, a_branch, no_inverse, an_inverse, in_branch, in_inverse, Frame, Inside, in_its_body, in_a_branch, in_its_inverse, Opens, none_open, one_more, RefusesAt, deep_leaf, worthless_leaf, deep_block, worthless_block, stray_inverse, second_inverse, stray_chain, late_chain, deep_chain, worthless_chain, stray_close, empty_close, other_close, other_name, Refuses, refuses_at}
+use Rattle.handlebars_template.specs.Machine.{closed, next_stage, new_frame, Moved, goes, stops, valued, checked, turning, chaining, is_same_kind, closing, apply}
 
 -- ---- along an equation
 

@@ -69,22 +69,14 @@ pub struct Nesting {
 fn is_too_deep(around: usize, number: usize) -> bool
     ensures { result ≡ nat_lt max_nesting (around + number) }
 {
-    if around > MAX_NESTING {
-        true
-    } else {
-        number > MAX_NESTING - around
-    }
+    around > MAX_NESTING || number > MAX_NESTING - around
 }
 
 // The same in a block more.
 fn is_too_deep_inside(around: usize, number: usize) -> bool
     ensures { result ≡ nat_lt max_nesting (suc around + number) }
 {
-    if around >= MAX_NESTING {
-        true
-    } else {
-        number > MAX_NESTING - 1 - around
-    }
+    around >= MAX_NESTING || number >= MAX_NESTING - around
 }
 
 // One more, where one more may be open.

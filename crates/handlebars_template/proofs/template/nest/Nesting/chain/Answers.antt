@@ -1,8 +1,7 @@
-use Rattle.std.proofs.Common.{◌≡◌, ◌∙◌, List, ◌∷◌, [], ℕ, suc, ◌<◌, Option, Some, ap, sym, subst, arith, rules, option_map}
+use Rattle.std.proofs.Common.{◌≡◌, ◌∙◌, List, ◌∷◌, [], suc, ◌<◌, Some, ap, sym, rules}
 use Rattle.std.specs.Option.{option_or}
 use Rattle.handlebars_template.specs.Calls.{max_nesting}
-use Rattle.handlebars_template.specs.TreeView.{place_of}
-use Rattle.handlebars_template.specs.Nest.{Fault, Frame, Placed, in_branch}
+use Rattle.handlebars_template.specs.Nest.{Frame, Placed, in_branch}
 use Rattle.handlebars_template.specs.Machine.{goes, next_stage}
 use Rattle.handlebars_template.specs.NestView.{placed_view, opening_view, stage_view, frame_view, stack_view, frames, late_of}
 use Rattle.handlebars_template.proofs.NestsBuilt.{stack_view_push}

@@ -1,5 +1,5 @@
-use Rattle.std.proofs.Common.{◌∙◌, ap, sym, None}
-use Rattle.handlebars_template.specs.Tree.{Tree, tree, elements_of, body}
+use Rattle.std.proofs.Common.{◌∙◌, ap}
+use Rattle.handlebars_template.specs.Tree.{body}
 use Rattle.handlebars_template.proofs.Trees.{tree_view-roll}
 use Rattle.handlebars_template.proofs.NestsBuilt.{paired_elements, paired_places}
 use Rattle.handlebars_template.proofs.template.placed.PlacedElements.template.Goals as goal

@@ -1,4 +1,3 @@
-use Rattle.std.proofs.Common.{◌∙◌, ap, sym}
 use Rattle.handlebars_template.proofs.NestsBuilt.{paired_push}
 use Rattle.handlebars_template.proofs.template.placed.PlacedElements.with.Goals as goal
 
