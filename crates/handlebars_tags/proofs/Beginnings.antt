@@ -123,9 +123,12 @@ begun left b e =
     let same : braced_at h.0 ≡ b = same_Some (braced_at h.0) b h.2 in
     subst (Begun left) same (record {
       end = end-behind left h.0 (braced_at h.0).inside (end-past (codes "{{") left h.0 h.1) inside.end;
-      comment = λ k. past-more (codes "{{") (codes "!") left h.0 h.1 (inside.comment k);
+      comment = λ k. past-more (codes "{{") (codes "!") left h.0 h.1 (mark-one exclamation h.0 (braced_at h.0).inside (inside.comment k));
     })
   where
+    mark-one : (c : ℕ) (t r : Text) → after c t ≡ Some r → past (c ∷ []) t ≡ Some r
+    mark-one c t r e = rw e refl
+
     past-more : (mark more t r : Text) {s : Text} → past mark t ≡ Some r → past more r ≡ Some s → past (mark ++ more) t ≡ Some s
     past-more [] more t r e h = ap (past more) (same_Some t r e) ∙ h
     past-more (c ∷ mark) more t r {s} e h =

@@ -12,3 +12,6 @@ pub mod InsidesRead
 pub mod BlocksRead
 pub mod Beginnings
 pub mod InsideAt
+pub mod TagEnds
+pub mod Tags
+pub mod OneTag

@@ -1,12 +1,11 @@
 -- What stands inside tags, with what closes them. Only the code's own contracts cite this.
-use Rattle.std.specs.Prelude.{◌≡◌, Bool, false, Option, Some, None, if◌then◌else◌, codes}
+use Rattle.std.specs.Prelude.{◌≡◌, Bool, Option, Some, None, if◌then◌else◌}
 use Rattle.std.specs.List.{list_all}
 use Rattle.handlebars_base.specs.Bytes.{Text}
 use Rattle.handlebars_base.specs.Path.{raw_of, is_symbol}
 use Rattle.handlebars_lines.specs.Parameter.{Term, literal_term, path_term, call_term}
 use Rattle.handlebars_lines.specs.Line.{Line, in_tag, IsLine}
 use Rattle.handlebars_tags.specs.Kind.{Kind, closing_of}
-use Rattle.handlebars_tags.specs.Comment.{behind_mark}
 use Rattle.handlebars_tags.specs.Tag.{Tag, BlockLine, IsBlockLine, Says}
 
 -- the identifier that a line's name is
@@ -33,7 +32,3 @@ NoneClosed kind inside = (tag : Tag) (right : Bool) (rest : Text) → IsClosed k
 abbrev pub NoClosedLine : Kind → Text → Type 0
 NoClosedLine kind t = (line : Line) (behind : Text) (right : Bool) (rest : Text) →
     IsLine in_tag t line behind → closing_of kind behind ≡ Some (right, rest) → ⊥
-
--- no `--}}` stands there, unless one may
-abbrev pub HasNoLong : Bool → Text → Type 0
-HasNoLong long_ahead t = long_ahead ≡ false → behind_mark (codes "--}}") t ≡ None

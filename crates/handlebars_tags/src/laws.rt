@@ -1,6 +1,7 @@
 //! What holds of every text and tag, for callers to cite.
 
 ghost use Rattle.handlebars_tags.specs.Comment.{OneComment};
+ghost use Rattle.handlebars_tags.specs.Tag.{OneTag};
 ghost use Rattle.handlebars_tags.specs.Text.{OneText, ClearText};
 
 /// At most one text stands in front of a source.
@@ -16,4 +17,9 @@ pub fn clear_text()
 /// At most one comment stands behind `{{!`.
 pub fn one_comment()
     ensures { OneComment }
+{}
+
+/// At most one tag stands in front of a source.
+pub fn one_tag()
+    ensures { OneTag }
 {}

@@ -1,8 +1,8 @@
 //! Tags: what stands at the braces in front of a source.
 
 ghost use Rattle.std.specs.Prelude.{◌≡◌, IfOk, IfSome, MatchOption};
+ghost use Rattle.handlebars_tags.specs.Comment.{HasNoLong};
 ghost use Rattle.handlebars_tags.specs.Tag.{NoTag};
-ghost use Rattle.handlebars_tags.specs.TagReading.{HasNoLong};
 ghost use Rattle.handlebars_tags.specs.TagView.{HasTag};
 
 use beginning::beginning_of;
@@ -13,6 +13,8 @@ mod beginning;
 mod close_name;
 mod closing;
 mod inside;
+#[cfg(test)]
+mod tests;
 
 pub use inside::{BlockSlice, Content};
 
@@ -50,7 +52,7 @@ pub fn split_tag<'a>(
             right: read.right,
             depth: read.depth,
             rest: read.rest,
-            long_ahead: read.long_ahead,
+            long_ahead: long_ahead && read.long_ahead,
         })),
         None => Ok(None),
     }

@@ -6,9 +6,10 @@ ghost use Rattle.std.specs.Option.{option_map};
 ghost use Rattle.handlebars_base.specs.Bytes.{Text};
 ghost use Rattle.handlebars_base.specs.Path.{is_symbol};
 ghost use Rattle.handlebars_lines.specs.Line.{Line, in_block, IsLine};
+ghost use Rattle.handlebars_tags.specs.Comment.{HasNoLong};
 ghost use Rattle.handlebars_tags.specs.Kind.{past, closing_of, comment_kind, else_kind, block_kind, raw_kind, raw_close_kind, close_kind};
 ghost use Rattle.handlebars_tags.specs.KindView.{kind_of};
-ghost use Rattle.handlebars_tags.specs.TagReading.{HasNoLong, identifier_of, NoBlockLine, NoneClosed, NoClosedLine};
+ghost use Rattle.handlebars_tags.specs.TagReading.{identifier_of, NoBlockLine, NoneClosed, NoClosedLine};
 ghost use Rattle.handlebars_tags.specs.TagView.{HasBlock, HasClosing, HasClosedLine, HasInside};
 
 use super::beginning::{Beginning, Kind};

@@ -1,4 +1,4 @@
-use Rattle.std.proofs.Common.{sym, ◌∙◌, refl}
+use Rattle.std.proofs.Common.{sym, refl}
 use Rattle.handlebars_lines.specs.BindingView.{binding_of}
 use Rattle.handlebars_tags.proofs.BlockLines.{block_line-is, none-line, none-name, none-binding}
 use Rattle.handlebars_tags.proofs.tag.inside.block_line.Goals as goal

@@ -1,4 +1,4 @@
-use Rattle.std.proofs.Common.{◌≡◌, ◌∙◌, sym, ap}
+use Rattle.std.proofs.Common.{◌∙◌, sym, ap}
 use Rattle.handlebars_lines.specs.Line.{in_block}
 use Rattle.handlebars_tags.proofs.LineNames.{identifier_at, line-identifier}
 use Rattle.handlebars_tags.proofs.tag.inside.identifier.Goals as goal

@@ -1,6 +1,5 @@
-use Rattle.std.proofs.Common.{◌≡◌, drop, Some, sym, ap, ◌∙◌, codes}
-use Rattle.handlebars_base.specs.Bytes.{Text}
-use Rattle.handlebars_tags.specs.Kind.{block_kind, close_kind, else_kind, raw_kind, raw_close_kind, comment_kind}
+use Rattle.std.proofs.Common.{Some, sym, ap, ◌∙◌}
+use Rattle.handlebars_tags.specs.Kind.{block_kind, close_kind, else_kind, raw_kind, raw_close_kind}
 use Rattle.handlebars_tags.specs.KindView.{kind_of}
 use Rattle.handlebars_tags.proofs.InsidesRead.{inverse_read}
 use Rattle.handlebars_tags.proofs.InsideAt.{plain_reads, plain_reads-Ok, expression_reads, html_reads, html_sign_reads, behind_braces}

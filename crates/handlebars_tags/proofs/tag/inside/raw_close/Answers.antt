@@ -1,4 +1,4 @@
-use Rattle.std.proofs.Common.{◌≡◌, ℕ, [], length, ap, arith}
+use Rattle.std.proofs.Common.{◌≡◌, [], length, ap, arith}
 use Rattle.handlebars_base.proofs.OptionBinds.{nonempty}
 use Rattle.handlebars_base.specs.Bytes.{Text}
 use Rattle.handlebars_tags.proofs.InsidesRead.{raw_close_read}

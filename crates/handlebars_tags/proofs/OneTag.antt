@@ -1,0 +1,98 @@
+-- At most one tag stands in front of a text.
+use Rattle.std.proofs.Common.{◌≡◌, Bool, true, false, [], ◌∷◌, ◌++◌, Option, Some, None, refl, sym, ap, subst, ◌∙◌, codes, inl, inr}
+use Rattle.std.specs.Prelude.{◌==◌}
+use Rattle.std.proofs.lemmas.Option.{same_Some, none-some}
+use Rattle.std.proofs.lemmas.List.{append_cancel_right}
+use Rattle.handlebars_base.specs.Bytes.{Text, right_brace, behind_white}
+use Rattle.handlebars_base.specs.PathReading.{◌>>=◌, after}
+use Rattle.handlebars_lines.specs.Literal.{starts}
+use Rattle.handlebars_lines.specs.Line.{Line, in_tag}
+use Rattle.handlebars_lines.proofs.Fronts.{starts-other, after-not}
+use Rattle.handlebars_lines.proofs.LineMarks.{other_byte}
+use Rattle.handlebars_lines.proofs.LineFronts.{begins}
+use Rattle.handlebars_lines.proofs.Lines.{one_line}
+use Rattle.handlebars_tags.specs.Kind.{Kind, expression_kind, html_kind, html_sign_kind, block_kind, close_kind, inverse_kind, else_kind, raw_kind, raw_close_kind, comment_kind, other_kind, tilde, Beginning, beginning_of, closing_of}
+use Rattle.handlebars_tags.specs.Tag.{Tag, comment_tag, BlockLine, IsBlockLine, Tildes, IsTag, OneTag}
+use Rattle.handlebars_tags.specs.TagReading.{IsClosed}
+use Rattle.handlebars_tags.proofs.LineNames.{line_starts}
+use Rattle.handlebars_tags.proofs.BlockLines.{one_block_line}
+use Rattle.handlebars_tags.proofs.Comments.{one_comment}
+use Rattle.handlebars_tags.proofs.Insides.{ValueSaid, BlockSaid, TextSaid, Said, said}
+use Rattle.handlebars_tags.proofs.Tags.{tag-closed}
+
+-- ---- an `else` with a line isn't closed
+
+line_open : (t : Text) → starts begins (behind_white t) ≡ true → closing_of else_kind t ≡ None
+unfolding closing_of
+line_open t h =
+    let no_tilde : after tilde (behind_white t) ≡ None = after-not tilde (behind_white t) (starts-other begins (λ b. b == 126) (behind_white t) (other_byte begins 126 refl) h) in
+    let no_brace : after right_brace (behind_white t) ≡ None = after-not right_brace (behind_white t) (starts-other begins (λ b. b == 125) (behind_white t) (other_byte begins 125 refl) h) in
+    rw (no_tilde, no_brace) refl
+
+-- ---- what is said is one
+
+record OneSaid (tag tag' : Tag) (rest rest' : Text) : Type 0 where
+  tags : tag ≡ tag'
+  rests : rest ≡ rest'
+
+one_value : (of : Line → Tag) (t : Text) (tag tag' : Tag) (rest rest' : Text) → ValueSaid of t tag rest → ValueSaid of t tag' rest' → OneSaid tag tag' rest rest'
+one_value of t tag tag' rest rest' h k =
+    let one = one_line in_tag t h.line k.line rest rest' h.is k.is in
+    record { tags = h.gives ∙ ap of one.0 ∙ sym k.gives; rests = one.1 }
+
+one_block : (of : BlockLine → Tag) (t : Text) (tag tag' : Tag) (rest rest' : Text) → BlockSaid of t tag rest → BlockSaid of t tag' rest' → OneSaid tag tag' rest rest'
+one_block of t tag tag' rest rest' h k =
+    let one = one_block_line t h.line k.line rest rest' h.is k.is in
+    record { tags = h.gives ∙ ap of one.0 ∙ sym k.gives; rests = one.1 }
+
+one_text : (tag tag' said : Tag) (rest rest' left : Text) → TextSaid tag said rest left → TextSaid tag' said rest' left → OneSaid tag tag' rest rest'
+one_text tag tag' said rest rest' left h k = record { tags = h.gives ∙ sym k.gives; rests = h.rests ∙ sym k.rests }
+
+closed_line : {A : Type 0} (t rest : Text) (line : BlockLine) (p : Bool × Text) → closing_of else_kind t ≡ Some p → IsBlockLine (behind_white t) line rest → A
+closed_line t rest line p e h = absurd (none-some p (sym (line_open t (line_starts h.is_line)) ∙ e))
+
+-- both closed
+one_said : (k : Kind) (t : Text) (tag tag' : Tag) (rest rest' : Text) (p q : Bool × Text) → closing_of k rest ≡ Some p → closing_of k rest' ≡ Some q → Said k t tag rest → Said k t tag' rest'
+    → OneSaid tag tag' rest rest'
+one_said expression_kind t tag tag' rest rest' p q e f h k = one_value _ t tag tag' rest rest' h k
+one_said html_kind t tag tag' rest rest' p q e f h k = one_value _ t tag tag' rest rest' h k
+one_said html_sign_kind t tag tag' rest rest' p q e f h k = one_value _ t tag tag' rest rest' h k
+one_said block_kind t tag tag' rest rest' p q e f h k = one_block _ t tag tag' rest rest' h k
+one_said close_kind t tag tag' rest rest' p q e f h k = one_text tag tag' _ rest rest' _ h k
+one_said inverse_kind t tag tag' rest rest' p q e f h k = one_text tag tag' _ rest rest' _ h k
+one_said else_kind t tag tag' rest rest' p q e f (inl h) (inl k) = one_text tag tag' _ rest rest' _ h k
+one_said else_kind t tag tag' rest rest' p q e f (inl h) (inr k) = closed_line t rest' k.said.line p (ap (closing_of else_kind) (sym h.rests) ∙ e) k.said.is
+one_said else_kind t tag tag' rest rest' p q e f (inr h) (inl k) = closed_line t rest h.said.line q (ap (closing_of else_kind) (sym k.rests) ∙ f) h.said.is
+one_said else_kind t tag tag' rest rest' p q e f (inr h) (inr k) = one_block _ (behind_white t) tag tag' rest rest' h.said k.said
+one_said raw_kind t tag tag' rest rest' p q e f h k = one_block _ t tag tag' rest rest' h k
+one_said raw_close_kind t tag tag' rest rest' p q e f h k = one_text tag tag' _ rest rest' _ h.said k.said
+one_said comment_kind t tag tag' rest rest' p q e f h k =
+    let one = one_comment t h.kept k.kept rest rest' h.is k.is in
+    record { tags = h.gives ∙ ap comment_tag one.0 ∙ sym k.gives; rests = one.1 }
+one_said other_kind t tag tag' rest rest' p q e f h k = absurd h
+
+-- ---- there is one
+
+record OneClosed (tag tag' : Tag) (right right' : Bool) (rest rest' : Text) : Type 0 where
+  tags : tag ≡ tag'
+  rights : right ≡ right'
+  rests : rest ≡ rest'
+
+one_closed : (k : Kind) (t : Text) (tag tag' : Tag) (right right' : Bool) (rest rest' : Text) → IsClosed k t tag right rest → IsClosed k t tag' right' rest' → OneClosed tag tag' right right' rest rest'
+one_closed k t tag tag' right right' rest rest' h g =
+    let one = one_said k t tag tag' h.behind g.behind (right, rest) (right', rest') h.closes g.closes (said k t tag h.behind h.says) (said k t tag' g.behind g.says) in
+    let ends : ◌≡◌ {A = Bool × Text} (right, rest) (right', rest') = same_Some (right, rest) (right', rest') (sym h.closes ∙ ap (closing_of k) one.rests ∙ g.closes) in
+    record { tags = one.tags; rights = ap (λ (p : Bool × Text). p.0) ends; rests = ap (λ (p : Bool × Text). p.1) ends }
+
+pub one_tag : OneTag
+one_tag left slice slice' rest rest' t t' tildes tildes' e f h g =
+    let begins : beginning_of left ≡ Some h.begins = ap beginning_of e ∙ h.is_beginning in
+    let first = tag-closed left slice rest h.begins t tildes begins e h in
+    let second = tag-closed left slice' rest' h.begins t' tildes' begins f g in
+    let one = one_closed h.begins.kind h.begins.inside t t' tildes.right tildes'.right rest rest' first.0 second.0 in
+    let lefts : tildes.left ≡ tildes'.left = sym first.1 ∙ second.1 in
+    let slices : slice ++ rest' ≡ slice' ++ rest' = ap (λ (z : Text). slice ++ z) (sym one.rests) ∙ sym e ∙ f in
+    (append_cancel_right slice slice' rest' slices, one.rests, one.tags, same_tildes tildes tildes' lefts one.rights)
+  where
+    same_tildes : (a b : Tildes) → a.left ≡ b.left → a.right ≡ b.right → a ≡ b
+    same_tildes a b l r = ap (λ (z : Bool). let m : Tildes = record { left = z; right = a.right } in m) l ∙ ap (λ (z : Bool). let m : Tildes = record { left = b.left; right = z } in m) r

@@ -1,0 +1,117 @@
+-- What follows a tag ends its source.
+use Rattle.std.proofs.Common.{◌≡◌, ℕ, ◌+◌, Bool, true, false, cond, not, [], ◌∷◌, ◌++◌, length, drop, take, Option, Some, None, refl, sym, ap, subst, ◌∙◌, append_assoc, codes, inl, inr}
+use Rattle.std.specs.Prelude.{◌==◌, nat_lt}
+use Rattle.std.specs.List.{prefix_len, position_or_len}
+use Rattle.std.proofs.lemmas.Option.{same_Some, none-some}
+use Rattle.handlebars_base.specs.Bytes.{Text, right_brace, right_bracket, left_bracket, single_quote, is_white, behind_white}
+use Rattle.handlebars_base.specs.Path.{is_symbol}
+use Rattle.handlebars_base.specs.PathReading.{◌>>=◌, with_or, after}
+use Rattle.handlebars_base.proofs.OptionBinds.{bind_some, with_or_is}
+use Rattle.handlebars_lines.specs.Literal.{starts}
+use Rattle.handlebars_lines.specs.Parameter.{spelled_shape, spelled_items}
+use Rattle.handlebars_lines.specs.Line.{Line, Enclosure, IsLine}
+use Rattle.handlebars_lines.specs.Binding.{Binding, bar, IsBinding, is_unbound, is_bound, spelled_names}
+use Rattle.handlebars_tags.specs.Kind.{Kind, expression_kind, html_kind, html_sign_kind, block_kind, close_kind, inverse_kind, else_kind, raw_kind, raw_close_kind, comment_kind, other_kind, tilde, past, tilde_at, two_close, four_close, split_close, three_close, closing_of}
+use Rattle.handlebars_tags.specs.Comment.{IsComment, long, compact}
+use Rattle.handlebars_tags.specs.CommentReading.{IsEnd}
+use Rattle.handlebars_tags.specs.Tag.{Tag, BlockLine, IsBlockLine, is_close_symbol, enclosed_at, close_name_at, Says}
+use Rattle.handlebars_tags.specs.TagReading.{IsClosed}
+use Rattle.handlebars_tags.proofs.Beginnings.{end-all, end-behind, end-after, end-past, end-white, end-drop, end-after_white, end-tilde}
+use Rattle.handlebars_tags.proofs.Insides.{said}
+
+-- ---- what closes a tag
+
+end-tilded : (mark t : Text) (p : Bool × Text) → (past mark (tilde_at t).1 >>= λ r. Some ((tilde_at t).0, r)) ≡ Some p → IsEnd t p.1
+end-tilded mark t p e =
+    let h = bind_some (past mark (tilde_at t).1) (λ r. Some ((tilde_at t).0, r)) p e in
+    subst (λ (q : Bool × Text). IsEnd t q.1) (same_Some ((tilde_at t).0, h.0) p h.2)
+    (end-behind t (tilde_at t).1 h.0 (end-tilde t) (end-past mark (tilde_at t).1 h.0 h.1))
+
+end-split : (t : Text) (p : Bool × Text) → split_close t ≡ Some p → IsEnd t p.1
+end-split t p e =
+    let last : Text → Option (Bool × Text) = λ s. past (codes "}}") (behind_white s) >>= λ u. Some (true, u) in
+    let h = bind_some (after right_brace (behind_white t)) (λ r. after tilde (behind_white r) >>= last) p e in
+    let k = bind_some (after tilde (behind_white h.0)) last p h.2 in
+    let l = bind_some (past (codes "}}") (behind_white k.0)) (λ u. Some (true, u)) p k.2 in
+    let one : IsEnd t h.0 = end-behind t (behind_white t) h.0 (end-white t) (end-after right_brace (behind_white t) h.0 h.1) in
+    let two : IsEnd h.0 k.0 = end-behind h.0 (behind_white h.0) k.0 (end-white h.0) (end-after tilde (behind_white h.0) k.0 k.1) in
+    let three : IsEnd k.0 l.0 = end-behind k.0 (behind_white k.0) l.0 (end-white k.0) (end-past (codes "}}") (behind_white k.0) l.0 l.1) in
+    subst (λ (q : Bool × Text). IsEnd t q.1) (same_Some (true, l.0) p l.2) (end-behind t h.0 l.0 one (end-behind h.0 k.0 l.0 two three))
+
+end-three : (t : Text) (p : Bool × Text) → three_close t ≡ Some p → IsEnd t p.1
+end-three t p e = elim (with_or_is (past (codes "}}}") (tilde_at t).1) (λ r. Some ((tilde_at t).0, r)) (split_close t) (Some p) e) [
+  | inl there ↦
+      subst (λ (q : Bool × Text). IsEnd t q.1) (same_Some ((tilde_at t).0, there.0) p there.2)
+      (end-behind t (tilde_at t).1 there.0 (end-tilde t) (end-past (codes "}}}") (tilde_at t).1 there.0 there.1))
+  | inr none ↦ end-split t p none.1
+]
+
+end-closing : (k : Kind) (t : Text) (p : Bool × Text) → closing_of k t ≡ Some p → IsEnd t p.1
+unfolding closing_of
+end-closing expression_kind t p e = end-tilded (codes "}}") t p e
+end-closing html_kind t p e = end-three t p e
+end-closing html_sign_kind t p e = end-tilded (codes "}}") t p e
+end-closing block_kind t p e = end-tilded (codes "}}") t p e
+end-closing close_kind t p e = end-tilded (codes "}}") t p e
+end-closing inverse_kind t p e = end-tilded (codes "}}") t p e
+end-closing else_kind t p e = end-tilded (codes "}}") t p e
+end-closing raw_kind t p e = end-tilded (codes "}}}}") t p e
+end-closing raw_close_kind t p e = end-tilded (codes "}}}}") t p e
+end-closing comment_kind t p e = subst (λ (q : Bool × Text). IsEnd t q.1) (same_Some (false, t) p e) (end-all t)
+end-closing other_kind t p e = absurd (none-some p e)
+
+-- ---- what is said
+
+end-line : {around : Enclosure} {t rest : Text} {line : Line} → IsLine around t line rest → IsEnd t rest
+end-line {rest = rest} x = (spelled_shape x.name ++ spelled_items x.items, x.whole ∙ sym (append_assoc (spelled_shape x.name) (spelled_items x.items) rest))
+
+end-binding : (t rest : Text) (means : Binding) → IsBinding t means rest → IsEnd t rest
+end-binding t rest means (is_unbound none gives all) = ([], sym all)
+end-binding t rest means (is_bound b) =
+    let front : Text = b.white ++ (codes "as" ++ (b.between ++ bar ∷ (spelled_names b.names ++ bar ∷ []))) in
+    (front, b.whole ∙ sym (grouped b.white (codes "as") b.between (spelled_names b.names) rest))
+  where
+    grouped : (a b c d e : Text) → (a ++ (b ++ (c ++ bar ∷ (d ++ bar ∷ [])))) ++ e ≡ a ++ (b ++ (c ++ bar ∷ (d ++ bar ∷ e)))
+    grouped a b c d e = simp append_assoc
+
+end-block : (t rest : Text) (line : BlockLine) → IsBlockLine t line rest → IsEnd t rest
+end-block t rest line x = end-behind t x.behind rest (end-line x.is_line) (end-binding x.behind rest line.binding x.binds)
+
+end-cond : (b : Bool) (t : Text) (p q : Text × Text) → IsEnd t p.1 → IsEnd t q.1 → IsEnd t (cond b p q).1
+end-cond true t p q h k = h
+end-cond false t p q h k = k
+
+end-enclosed : (c : ℕ) (t : Text) → IsEnd t (enclosed_at c t).1
+end-enclosed c t =
+    let n = position_or_len (λ b. b == c) (drop 1 t) in
+    end-cond (nat_lt n (length (drop 1 t))) t (take (n + 2) t, drop (n + 2) t) ([], t) (end-drop (n + 2) t) (end-all t)
+
+end-close_name : (t : Text) → IsEnd t (close_name_at t).1
+end-close_name t =
+    let n = prefix_len is_close_symbol t in
+    let rest : Text × Text = cond (starts (λ b. b == single_quote) t) (enclosed_at single_quote t) (take n t, drop n t) in
+    end-cond (starts (λ b. b == left_bracket) t) t (enclosed_at right_bracket t) rest (end-enclosed right_bracket t)
+    (end-cond (starts (λ b. b == single_quote) t) t (enclosed_at single_quote t) (take n t, drop n t) (end-enclosed single_quote t) (end-drop n t))
+
+end-comment : (t kept rest : Text) → IsComment t kept rest → IsEnd t rest
+end-comment t _ _ (long body whole is) = (body, whole)
+end-comment t _ _ (compact body whole none is) = (body, whole)
+
+end-says : (k : Kind) (t : Text) (tag : Tag) (rest : Text) → Says k t tag rest → IsEnd t rest
+end-says expression_kind t tag rest h = let s = said expression_kind t tag rest h in end-line s.is
+end-says html_kind t tag rest h = let s = said html_kind t tag rest h in end-line s.is
+end-says html_sign_kind t tag rest h = let s = said html_sign_kind t tag rest h in end-line s.is
+end-says block_kind t tag rest h = let s = said block_kind t tag rest h in end-block t rest s.line s.is
+end-says close_kind t tag rest h = let s = said close_kind t tag rest h in subst (IsEnd t) (sym s.rests) (end-close_name t)
+end-says inverse_kind t tag rest h = let s = said inverse_kind t tag rest h in subst (IsEnd t) (sym s.rests) (end-all t)
+end-says else_kind t tag rest h = elim (said else_kind t tag rest h) [
+  | inl s ↦ subst (IsEnd t) (sym s.rests) (end-all t)
+  | inr s ↦ end-behind t (behind_white t) rest (end-white t) (end-block (behind_white t) rest s.said.line s.said.is)
+]
+end-says raw_kind t tag rest h = let s = said raw_kind t tag rest h in end-block t rest s.line s.is
+end-says raw_close_kind t tag rest h = let s = said raw_close_kind t tag rest h in subst (IsEnd t) (sym s.said.rests) (end-drop (prefix_len is_symbol t) t)
+end-says comment_kind t tag rest h = let s = said comment_kind t tag rest h in end-comment t s.kept rest s.is
+end-says other_kind t tag rest h = absurd (said other_kind t tag rest h)
+
+pub end-closed : (k : Kind) (t : Text) (tag : Tag) (right : Bool) (rest : Text) → IsClosed k t tag right rest → IsEnd t rest
+end-closed k t tag right rest h = end-behind t h.behind rest (end-says k t tag h.behind h.says) (end-closing k h.behind (right, rest) h.closes)
