@@ -114,7 +114,9 @@ four_close t = past (codes "}}}}") (tilde_at t).1 >>= λ r. Some ((tilde_at t).0
 
 -- one brace, a tilde, and two braces
 abbrev pub split_close : Text → Option (Bool × Text)
-split_close t = after right_brace (behind_white t) >>= λ r. after tilde (behind_white r) >>= λ s. past (codes "}}") (behind_white s) >>= λ u. Some (true, u)
+split_close t =
+    after right_brace (behind_white t) >>= λ r. after tilde (behind_white r) >>=
+    λ s. past (codes "}}") (behind_white s) >>= λ u. Some (true, u)
 
 -- three braces behind a tilde, if any, or with a tilde between the first and the others
 abbrev pub three_close : Text → Option (Bool × Text)

@@ -1,6 +1,3 @@
-pub mod Runs
-pub mod Texts
-pub mod Tags
 pub mod Columns
 pub mod Scan
 pub mod Cuts
