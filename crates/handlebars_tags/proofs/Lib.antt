@@ -15,3 +15,4 @@ pub mod TagEnds
 pub mod Tags
 pub mod OneTag
 pub mod Trims
+pub mod TagLengths

@@ -1,5 +1,6 @@
 pub mod Columns
 pub mod Scan
+pub mod TagsBuilt
 pub mod Cuts
 pub mod One
 pub mod Trees

@@ -12,11 +12,12 @@ use Rattle.handlebars_base.specs.Bytes.{Text}
 use Rattle.handlebars_tags.specs.Text.{Braces, IsText, at_end, at_tag, a_byte, two_escaped, four_escaped, braces}
 use Rattle.handlebars_tags.specs.Tag.{Tag, Tildes, IsTag, NoTag, OneTag}
 use Rattle.handlebars_tags.specs.Trim.{Edge, no_edge, is_fresh_behind, is_fresh, edge_with, braces_behind, has_element, trimmed}
+use Rattle.handlebars_tags.proofs.TagLengths.{length-tag}
 use Rattle.handlebars_template.specs.Place.{Place, origin, behind_char, behind, place}
 use Rattle.handlebars_template.specs.Tree.{raw_string}
 use Rattle.handlebars_template.specs.Calls.{max_nesting}
-use Rattle.handlebars_template.specs.Nest.{Piece, leaf, Fault, not_closed, Placed, Test, syntax_alone, names_and_literals, Chains, no_more, a_branch, Frame, Inside, in_its_body, in_a_branch, in_its_inverse, Opens, none_open, one_more, Nests, Refuses}
-use Rattle.handlebars_template.specs.Machine.{Moved, goes, stops, checked, apply, late_after, at_end as ended, End, whole as whole_end, faulty}
+use Rattle.handlebars_template.specs.Nest.{Piece, leaf, Fault, not_closed, Placed, Branch, Test, syntax_alone, Chains, no_more, a_branch, Frame, Inside, in_its_body, in_a_branch, in_its_inverse, Opens, none_open, one_more, Refuses}
+use Rattle.handlebars_template.specs.Machine.{Moved, goes, stops, checked, apply, late_after, at_end as ended, End, complete, unclosed, refused as stopped}
 use Rattle.handlebars_template.specs.Cut.{Slice, text_slice, tag_slice, may_follow, Reads, starts, goes_on, IsCut}
 use Rattle.handlebars_template.specs.Compile.{Options, tag_piece, text_pieces, pieces_in, tree_of, unreadable, refusal_for, NoTagBehind, Compiles, compiled, refused, whole, no_tag, misplaced, left_open, late}
 use Rattle.handlebars_template.specs.ScanView.{text_placed}
@@ -32,7 +33,7 @@ pieces_in-append (tag_slice p x t e ∷ ps) qs = ap (λ (z : List Piece). tag_pi
 
 -- ---- no more than the limit is open
 
-Chains-shallow : {t : Test} {d e : ℕ} {cs : List Piece} {bs : List _} → Chains t d cs bs e → d ≤ max_nesting → e ≤ max_nesting
+Chains-shallow : {t : Test} {d e : ℕ} {cs : List Piece} {bs : List Branch} → Chains t d cs bs e → d ≤ max_nesting → e ≤ max_nesting
 Chains-shallow no_more le = le
 Chains-shallow (a_branch p o n r fits fair nb ch) le = Chains-shallow ch (omega (arith, fits))
 
@@ -161,7 +162,7 @@ pub record Mid {source slice kept left : Text} {at : Place} {fresh : Bool} {e : 
     (h : Scans source slice kept left at fresh e late d fs es) (n : Edge) (late' : Option Fault) (d' : ℕ) (fs' : List Frame) (es' : List Placed) : Type 0 where
   pub depth : d' ≡ d
   pub frames : fs' ≡ fs
-  pub late : late' ≡ late
+  pub kept_late : late' ≡ late
   pub elements : es' ≡ es ++ text_placed at e slice kept n
 
 State-along : {late late' : Option Fault} {ps : List Piece} {d d' : ℕ} {fs fs' : List Frame} {es es' : List Placed} → late' ≡ late → d' ≡ d → fs' ≡ fs → es' ≡ es → State late ps d fs es → State late' ps d' fs' es'
@@ -170,7 +171,7 @@ State-along a b c e s = rw (a, b, c, e) s
 Mid-state : {source slice kept left : Text} {at : Place} {fresh : Bool} {e : Edge} {late : Option Fault} {d : ℕ} {fs : List Frame} {es : List Placed}
     → (h : Scans source slice kept left at fresh e late d fs es) (n : Edge) (late' : Option Fault) (d' : ℕ) (fs' : List Frame) (es' : List Placed) → Mid h n late' d' fs' es'
     → State late' (pieces_in h.slices ++ text_pieces at e slice kept n) d' fs' es'
-Mid-state {slice = slice} {kept = kept} {at = at} {e = e} h n late' d' fs' es' m = State-along m.late m.depth m.frames m.elements (State-text at e slice kept n h.state)
+Mid-state {slice = slice} {kept = kept} {at = at} {e = e} h n late' d' fs' es' m = State-along m.kept_late m.depth m.frames m.elements (State-text at e slice kept n h.state)
 
 regroup : (b s t x y : Text) → b ++ (s ++ (t ++ (x ++ y))) ≡ (b ++ (s ++ t)) ++ (x ++ y)
 regroup b s t x y = sym (simp append_assoc)
@@ -262,9 +263,6 @@ Compiles-unreadable {source} {slice} {kept} {left} {at} {fresh} {e} {late} {d} {
 
 -- ---- the end of the source
 
-last_slice : Place → Edge → Text → Text → List Slice
-last_slice at e slice kept = text_slice at e slice kept no_edge ∷ []
-
 Scans-cut : {source slice kept left : Text} {at : Place} {fresh : Bool} {e : Edge} {late : Option Fault} {d : ℕ} {fs : List Frame} {es : List Placed}
     → (h : Scans source slice kept left at fresh e late d fs es) → length left ≡ 0 → IsCut source (h.slices ++ text_slice at e slice kept no_edge ∷ [])
 Scans-cut {source} {slice} {kept} {left} {at} {fresh} {e} h over =
@@ -286,8 +284,9 @@ pieces_in-last ps p e x k n = pieces_in-append ps (text_slice p e x k n ∷ []) 
 
 -- what a source comes to whose end is such
 abbrev pub Comes : Text → End → Type 0
-Comes source (whole_end es) = (options : Options) → Compiles source options (compiled (tree_of options es))
-Comes source (faulty f) = (options : Options) → Compiles source options (refused (refusal_for options f))
+Comes source (complete es) = (options : Options) → Compiles source options (compiled (tree_of options es))
+Comes source (unclosed p) = (options : Options) → Compiles source options (refused (refusal_for options (not_closed p)))
+Comes source (stopped f) = (options : Options) → Compiles source options (refused (refusal_for options f))
 
 Cut-comes : {source : Text} {ps : List Slice} {d : ℕ} {es : List Placed} → (late : Option Fault) (fs : List Frame) → IsCut source ps → State late (pieces_in ps) d fs es → Comes source (ended fs late es)
 Cut-comes late' (f ∷ fs) cut s options = left_open cut (State-open s)
@@ -352,3 +351,8 @@ IsCharBoundary-seam left s rest e u = rw (length-seam left s rest e) (IsCharBoun
 
 pub IsUtf8-front : (left s rest : Text) → left ≡ s ++ rest → IsUtf8 left → IsUtf8 rest → IsUtf8 s
 IsUtf8-front left s rest e u v = subst IsUtf8 (take-seam left s rest e) (IsUtf8-take left (length left - length rest) u (IsCharBoundary-seam left s rest e v))
+
+pub length-rest : (left spelled rest x y : Text) (t : Tag) (tildes : Tildes) → left ≡ spelled ++ rest → IsTag spelled rest t tildes → rest ≡ x ++ y → length y < length left
+length-rest left spelled rest x y t tildes is fits cut =
+    let some = length-tag spelled rest t tildes fits in
+    omega (arith, some, ap length is, length-append spelled rest, ap length cut, length-append x y)

@@ -2,33 +2,37 @@
 use Rattle.std.specs.Prelude.{◌≡◌, Bool, true, false, if◌then◌else◌, List, [], ◌∷◌, Option, None, option_map, MatchOption}
 use Rattle.handlebars_base.specs.Bytes.{Text}
 use Rattle.handlebars_lines.specs.Line.{Line}
-use Rattle.handlebars_tags.specs.Tag.{expression_tag, html_tag, block_tag, raw_tag, BlockLine}
-use Rattle.handlebars_tags.specs.Trim.{Edge, no_edge, trimmed, has_element}
+use Rattle.handlebars_tags.specs.Tag.{BlockLine}
+use Rattle.handlebars_tags.specs.Trim.{Edge, trimmed, has_element}
 use Rattle.handlebars_template.specs.Place.{Place}
-use Rattle.handlebars_template.specs.Tree.{raw_string}
+use Rattle.handlebars_template.specs.Tree.{Element, raw_string, html_expression, expression, Call}
 use Rattle.handlebars_template.specs.TreeView.{place_of}
-use Rattle.handlebars_template.specs.Calls.{first_refused, literals_in}
-use Rattle.handlebars_template.specs.Nest.{Piece, Fault, unexpected, too_deep, not_closed, Placed}
-use Rattle.handlebars_template.specs.NestView.{placed_view, opening_view, late_fault}
-use Rattle.handlebars_template.specs.Compile.{Options, opening_of, tag_piece, tree_of, unreadable, refusal_for, Compiles, compiled, refused}
-use Rattle.handlebars_template.specs.declared.template.tree.TemplateMapping.{TemplateMapping}
-use Rattle.handlebars_template.specs.declared.template.nest.SyntaxFault.{SyntaxFault}
-use Rattle.handlebars_template.specs.declared.template.nest.SyntaxFault.TheVariants as syntax
+use Rattle.handlebars_template.specs.Calls.{call_of, first_refused, literals_in, line_literals}
+use Rattle.handlebars_template.specs.Nest.{Piece, leaf, opens, chains, not_closed, Placed}
+use Rattle.handlebars_template.specs.NestView.{placed_view, opening_view, late_fault, syntax_fault}
+use Rattle.handlebars_template.specs.Compile.{Options, opening_of, tree_of, unreadable, refusal_for, Compiles, compiled, refused}
 use Rattle.handlebars_template.specs.declared.template.tags.BuiltOpening.{BuiltOpening}
 use Rattle.handlebars_template.specs.declared.template.scan.Found.{Found}
 use Rattle.handlebars_template.specs.declared.template.scan.Found.TheVariants as found
 
 -- ---- tags
 
--- the piece of a value, which is escaped or not
-abbrev pub value_piece : Bool → Place → Line → Piece
-value_piece true p line = tag_piece p no_edge (expression_tag line)
-value_piece false p line = tag_piece p no_edge (html_tag line)
+-- a value, which is escaped or not
+abbrev pub value_element : Bool → Call → Element
+value_element true h = expression h
+value_element false h = html_expression h
 
--- the piece of a block, which is raw or not
+abbrev pub value_piece : Bool → Place → Line → Piece
+value_piece is_escaped p line =
+    leaf p (value_element is_escaped (call_of line.name line.terms)) line.depth (first_refused (line_literals line))
+
+-- the opening tag of a block, which is raw or not
 abbrev pub block_piece : Bool → Place → Edge → BlockLine → Piece
-block_piece true p e line = tag_piece p e (raw_tag line)
-block_piece false p e line = tag_piece p e (block_tag line)
+block_piece is_raw p e line =
+    opens p (opening_of is_raw e line) line.depth (first_refused (literals_in line.terms))
+
+abbrev pub chain_piece : Place → Edge → BlockLine → Piece
+chain_piece p e line = chains p (opening_of false e line) line.depth (first_refused (literals_in line.terms))
 
 -- the opening that this line of a block says, and its first refused literal
 pub record Opening (is_raw : Bool) (e : Edge) (line : BlockLine) (built : BuiltOpening) : Type 0 where
@@ -47,10 +51,6 @@ text_placed p e slice kept n =
 
 -- ---- a source
 
-abbrev pub syntax_fault : SyntaxFault → TemplateMapping → Fault
-syntax_fault syntax.Unexpected p = unexpected (place_of p)
-syntax_fault syntax.TooDeep p = too_deep (place_of p)
-
 -- The source comes to this, whatever its options are.
 abbrev pub IsFound : Text → Found → Type 0
 IsFound source (found.Whole es) =
@@ -58,7 +58,7 @@ IsFound source (found.Whole es) =
 IsFound source (found.Unreadable p) =
     (options : Options) → Compiles source options (refused (unreadable options (place_of p)))
 IsFound source (found.Misplaced f p) =
-    (options : Options) → Compiles source options (refused (refusal_for options (syntax_fault f p)))
+    (options : Options) → Compiles source options (refused (refusal_for options (syntax_fault (place_of p) f)))
 IsFound source (found.NotClosed p) =
     (options : Options) → Compiles source options (refused (refusal_for options (not_closed (place_of p))))
 IsFound source (found.Late l) =

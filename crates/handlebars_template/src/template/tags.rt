@@ -1,22 +1,21 @@
 //! What is built of tags, and how they stand in the nesting.
 
-ghost use Rattle.std.specs.Prelude.{◌≡◌, IfOk, OnOk};
+ghost use Rattle.std.specs.Prelude.{◌≡◌, ◌&&◌, not, IfOk, OnOk};
 ghost use Rattle.handlebars_base.specs.Bytes.{Text};
 ghost use Rattle.handlebars_lines.specs.Line.{Line, in_tag, IsLine};
 ghost use Rattle.handlebars_lines.specs.BindingView.{binding_of as means_of};
-ghost use Rattle.handlebars_tags.specs.Tag.{Tag, chain_tag, tag_depth, is_raw_close, BlockLine};
-ghost use Rattle.handlebars_tags.specs.Trim.{Edge, may_stand_alone, opens_raw, edge_with};
+ghost use Rattle.handlebars_tags.specs.Tag.{Tag, tag_depth, is_raw_close, BlockLine};
+ghost use Rattle.handlebars_tags.specs.Trim.{Edge as TextEdge, may_stand_alone, opens_raw, edge_with};
 ghost use Rattle.handlebars_tags.specs.TrimView.{edge_view};
 ghost use Rattle.handlebars_tags.specs.TagView.{Holds, IsBlockSlice};
 ghost use Rattle.handlebars_template.specs.Place.{Place};
-ghost use Rattle.handlebars_template.specs.Tree.{expression, html_expression, comment};
 ghost use Rattle.handlebars_template.specs.TreeView.{call_view, element_view, block_param_view, place_of};
-ghost use Rattle.handlebars_template.specs.Calls.{call_of, first_refused, literals_in, line_literals};
+ghost use Rattle.handlebars_template.specs.Calls.{call_of};
 ghost use Rattle.handlebars_template.specs.LineBuildingView.{IsCallOf};
-ghost use Rattle.handlebars_template.specs.NestView.{opening_view, moved, Looks, Does};
+ghost use Rattle.handlebars_template.specs.NestView.{moved, Looks, Does};
 ghost use Rattle.handlebars_template.specs.Cut.{may_follow};
-ghost use Rattle.handlebars_template.specs.ScanView.{value_piece, block_piece, IsOpening};
-ghost use Rattle.handlebars_template.specs.Compile.{binding_of, opening_of, tag_piece};
+ghost use Rattle.handlebars_template.specs.ScanView.{value_element, value_piece, block_piece, chain_piece, IsOpening};
+ghost use Rattle.handlebars_template.specs.Compile.{binding_of, tag_piece};
 
 use crate::template::chain::BlockOpening;
 use crate::template::line::{BuiltLine, build_line};
@@ -102,7 +101,7 @@ pub fn edge_behind(fresh: bool, tag: TagSlice<'_>) -> Edge
 
 /// Whether a tag may stand next, with this many parentheses and brackets open in it. Nothing is built of it yet.
 pub fn look(nesting: &Nesting, content: Content<'_>, depth: usize) -> Option<SyntaxFault>
-    ensures { (p : Place) (e : Edge) (tag : Tag) → Holds content.entry tag → tag_depth tag ≡ depth
+    ensures { (p : Place) (e : TextEdge) (tag : Tag) → Holds content.entry tag → tag_depth tag ≡ depth
         → Looks p (moved nesting.now (tag_piece p e tag)) result }
 {
     match content {
@@ -152,6 +151,13 @@ fn block_param(alloc: Global, binding: Binding<'_>) -> Result<Option<BlockParam>
     }
 }
 
+// Indentation goes before what a block writes where its tag stands alone, without a tilde in front.
+fn is_indented(edge: Edge) -> bool
+    ensures { result ≡ edge.standalone && not edge.left }
+{
+    edge.standalone && !edge.left
+}
+
 /// What the tag of a block says, and the first of its literals that is refused.
 #[derive(Drop)]
 struct BuiltOpening<'a> {
@@ -178,12 +184,22 @@ fn opening<'a>(
         hash: line.hash,
         block_param: block_param(alloc, block.binding)?,
         is_raw,
-        indent_before_write: edge.standalone && !edge.left,
+        indent_before_write: is_indented(edge),
     };
     Ok(Some(BuiltOpening {
         opening,
         refused: line.refused,
     }))
+}
+
+fn value_element(is_escaped: bool, call: Box<HelperTemplate>) -> TemplateElement
+    ensures { element_view result ≡ value_element is_escaped (call_view call.value) }
+{
+    if is_escaped {
+        TemplateElement::Expression(call)
+    } else {
+        TemplateElement::HtmlExpression(call)
+    }
 }
 
 fn add_value(
@@ -201,11 +217,7 @@ fn add_value(
     };
     let refused = line.refused;
     let call = Box::new(alloc, call(alloc, line))?;
-    if is_escaped {
-        nesting.add(alloc, at, TemplateElement::Expression(call), refused)
-    } else {
-        nesting.add(alloc, at, TemplateElement::HtmlExpression(call), refused)
-    }
+    nesting.add(alloc, at, value_element(is_escaped, call), refused)
 }
 
 fn begin(
@@ -233,7 +245,7 @@ fn chain(
     edge: Edge,
 ) -> Result<(), AllocError>
     ensures { OnOk result ((line : BlockLine) (rest : Text) → IsBlockSlice block.entry line rest
-        → Does nesting.old (tag_piece (place_of at) (edge_view edge) (chain_tag line)) nesting.new) }
+        → Does nesting.old (chain_piece (place_of at) (edge_view edge) line) nesting.new) }
 {
     match opening(alloc, block, false, edge)? {
         Some(built) => nesting.chain(alloc, at, built.opening, built.refused),
