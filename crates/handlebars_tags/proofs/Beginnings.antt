@@ -98,7 +98,7 @@ pub record Braced (t : Text) (b : Beginning) : Type 0 where
 braced-inner : (t : Text) (b : Beginning) → Inner t b → Braced t b
 braced-inner t b h = record { end = h.end; comment = λ e. absurd (h.plain e) }
 
-braced : (t : Text) → Braced t (braced_at t)
+pub braced : (t : Text) → Braced t (braced_at t)
 braced t = elim (with_or_is (past (codes "{{") t) (λ r. raw_at (tilde_at r)) _ (braced_at t) refl) [
   | inl raw ↦ subst (Braced t) raw.2 (braced-inner t _ (inner-behind t (tilde_at raw.0).1 (raw_at (tilde_at raw.0)) (end-behind t raw.0 (tilde_at raw.0).1 (end-past (codes "{{") t raw.0 raw.1) (end-tilde raw.0)) (inner-raw (tilde_at raw.0))))
   | inr two ↦ elim (with_or_is (after left_brace t) (λ r. beginning html_kind (tilde_at r).0 (tilde_at r).1) _ (braced_at t) two.1) [

@@ -15,3 +15,4 @@ pub mod InsideAt
 pub mod TagEnds
 pub mod Tags
 pub mod OneTag
+pub mod TagLengths

@@ -1,11 +1,12 @@
-pub mod Runs
-pub mod Texts
-pub mod Tags
 pub mod Columns
 pub mod Scan
+pub mod TagsBuilt
+pub mod Cuts
 pub mod One
 pub mod Trees
 pub mod Levels
+pub mod Running
+pub mod Outcomes
 pub mod Rows
 pub mod LinesBuilt
 pub mod LineImages

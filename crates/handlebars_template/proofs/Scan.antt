@@ -1,81 +1,177 @@
--- What was read of a source so far, and what the next tag adds.
-use Rattle.std.proofs.Common.{◌≡◌, ℕ, Option, Some, None, ◌+◌, ◌-◌, ◌<◌, ◌≤◌, List, [], ◌∷◌, ◌++◌, length, take, true, refl, sym, ap, ◌∙◌, subst, append_assoc, arith, length-append, inl, inr}
-use Rattle.std.specs.Prelude.{◌==◌, fold, Bool, false, if◌then◌else◌, is_some}
-use Rattle.std.specs.Option.{option_or, option_map}
+-- What was read of a source so far, and what the next tag does.
+use Rattle.std.proofs.Common.{◌≡◌, ◌≢◌, ℕ, Option, Some, None, Bool, true, false, suc, ◌+◌, ◌-◌, ◌<◌, ◌≤◌, List, [], ◌∷◌, ◌++◌, length, take, map, refl, sym, ap, ◌∙◌, subst, append_assoc, arith, length-append, inl, inr}
+use Rattle.std.specs.Prelude.{◌==◌, fold, nat_lt, if◌then◌else◌}
+use Rattle.std.specs.Option.{option_or}
 use Rattle.std.specs.Str.{IsUtf8, IsCharBoundary, chars}
-use Rattle.std.proofs.lemmas.Bool.{cases_Bool}
+use Rattle.std.proofs.lemmas.Bool.{cases_Bool, false≢true}
 use Rattle.std.proofs.lemmas.List.{append-nil, nil_from_length, take_at}
 use Rattle.std.proofs.lemmas.List.Sums.{fold-append}
 use Rattle.std.proofs.lemmas.Str.{chars-append, chars-nil, IsUtf8-append, IsUtf8-nil, IsUtf8-take, IsCharBoundary-at_seam, length-le-encodes, encodes-chars}
+use borrow.Author.Tests.{ltb-true}
 use Rattle.handlebars_base.specs.Bytes.{Text}
+use Rattle.handlebars_tags.specs.Text.{Braces, IsText, at_end, at_tag, a_byte, two_escaped, four_escaped, braces}
+use Rattle.handlebars_tags.specs.Tag.{Tag, Tildes, IsTag, NoTag, OneTag}
+use Rattle.handlebars_tags.specs.Trim.{Edge, no_edge, is_fresh_behind, is_fresh, edge_with, braces_behind, has_element, trimmed}
+use Rattle.handlebars_tags.proofs.TagLengths.{length-tag}
 use Rattle.handlebars_template.specs.Place.{Place, origin, behind_char, behind, place}
-use Rattle.handlebars_template.specs.Text.{IsText, at_end, at_tag, a_byte, two_escaped, four_escaped, braces}
-use Rattle.handlebars_template.specs.Tag.{Tag, Marks, Opens, by_two, by_three, by_sign, closing_of, IsTag, tag_depth, NoTag}
-use Rattle.handlebars_template.specs.TagReading.{Deep}
-use Rattle.handlebars_lines.specs.Worth.{worth_of}
-use Rattle.handlebars_template.specs.Tree.{Element, raw_string}
-use Rattle.handlebars_template.specs.Cut.{Slice, text_slice, tag_slice, Reads, starts, goes_on, IsCut}
-use Rattle.handlebars_template.specs.Calls.{max_nesting, first_refused, invalid}
-use Rattle.handlebars_template.specs.Compile.{Options, compiled, refused, Compiles, whole, no_value, no_tag, deep_tag, unreadable, too_deep, tree_of, element_of, tag_literals, slice_elements, slice_places, slice_literals}
+use Rattle.handlebars_template.specs.Tree.{raw_string}
+use Rattle.handlebars_template.specs.Calls.{max_nesting}
+use Rattle.handlebars_template.specs.Nest.{Piece, leaf, Fault, not_closed, Placed, Branch, Test, syntax_alone, Chains, no_more, a_branch, Frame, Inside, in_its_body, in_a_branch, in_its_inverse, Opens, none_open, one_more, Refuses}
+use Rattle.handlebars_template.specs.Machine.{Moved, goes, stops, checked, apply, late_after, at_end as ended, End, complete, unclosed, refused as stopped}
+use Rattle.handlebars_template.specs.Cut.{Slice, text_slice, tag_slice, may_follow, Reads, starts, goes_on, IsCut}
+use Rattle.handlebars_template.specs.Compile.{Options, tag_piece, text_pieces, pieces_in, tree_of, unreadable, refusal_for, NoTagBehind, Compiles, compiled, refused, whole, no_tag, misplaced, left_open, late}
+use Rattle.handlebars_template.specs.ScanView.{text_placed}
+use Rattle.handlebars_template.proofs.NestsStates.{State, State-start, State-moves, State-stops, State-whole, State-late, State-open}
 
 pub behind-append : (p : Place) (x y : Text) → IsUtf8 x → behind p (x ++ y) ≡ behind (behind p x) y
 behind-append p x y h = ap (fold behind_char p) (chars-append x y h) ∙ fold-append behind_char p (chars x) (chars y)
 
-pub slice_elements-append : (ps qs : List Slice) → slice_elements (ps ++ qs) ≡ slice_elements ps ++ slice_elements qs
-slice_elements-append [] qs = refl
-slice_elements-append (text_slice p [] kept ∷ ps) qs = slice_elements-append ps qs
-slice_elements-append (text_slice p (b ∷ slice) kept ∷ ps) qs = ap (λ (z : List Element). raw_string kept ∷ z) (slice_elements-append ps qs)
-slice_elements-append (tag_slice p slice t ∷ ps) qs = ap (λ (z : List Element). element_of t ∷ z) (slice_elements-append ps qs)
+pieces_in-append : (ps qs : List Slice) → pieces_in (ps ++ qs) ≡ pieces_in ps ++ pieces_in qs
+pieces_in-append [] qs = refl
+pieces_in-append (text_slice p e x k n ∷ ps) qs = ap (λ (z : List Piece). text_pieces p e x k n ++ z) (pieces_in-append ps qs) ∙ sym (append_assoc (text_pieces p e x k n) (pieces_in ps) (pieces_in qs))
+pieces_in-append (tag_slice p x t e ∷ ps) qs = ap (λ (z : List Piece). tag_piece p e t ∷ z) (pieces_in-append ps qs)
 
-pub slice_places-append : (ps qs : List Slice) → slice_places (ps ++ qs) ≡ slice_places ps ++ slice_places qs
-slice_places-append [] qs = refl
-slice_places-append (text_slice p [] kept ∷ ps) qs = slice_places-append ps qs
-slice_places-append (text_slice p (b ∷ slice) kept ∷ ps) qs = ap (λ (z : List Place). p ∷ z) (slice_places-append ps qs)
-slice_places-append (tag_slice p slice t ∷ ps) qs = ap (λ (z : List Place). p ∷ z) (slice_places-append ps qs)
+-- ---- no more than the limit is open
 
-pub slice_literals-append : (ps qs : List Slice) → slice_literals (ps ++ qs) ≡ slice_literals ps ++ slice_literals qs
-slice_literals-append [] qs = refl
-slice_literals-append (text_slice p slice kept ∷ ps) qs = slice_literals-append ps qs
-slice_literals-append (tag_slice p slice t ∷ ps) qs = ap (λ (z : List Text). tag_literals t ++ z) (slice_literals-append ps qs) ∙ sym (append_assoc (tag_literals t) (slice_literals ps) (slice_literals qs))
+Chains-shallow : {t : Test} {d e : ℕ} {cs : List Piece} {bs : List Branch} → Chains t d cs bs e → d ≤ max_nesting → e ≤ max_nesting
+Chains-shallow no_more le = le
+Chains-shallow (a_branch p o n r fits fair nb ch) le = Chains-shallow ch (omega (arith, fits))
 
-first_refused-append : (xs ys : List Text) → first_refused (xs ++ ys) ≡ option_or (first_refused xs) (first_refused ys)
-first_refused-append [] ys = refl
-first_refused-append (x ∷ xs) ys = on (is_some (worth_of x)) (first_refused-append xs ys)
-  where
-    on : (b : Bool) → first_refused (xs ++ ys) ≡ option_or (first_refused xs) (first_refused ys) → (if b then first_refused (xs ++ ys) else Some x) ≡ option_or (if b then first_refused xs else Some x) (first_refused ys)
-    on true more = more
-    on false more = refl
+Inside-shallow : {t : Test} {f : Frame} {qs : List Piece} {d : ℕ} {es : List Placed} → Inside t f qs d es → d ≤ max_nesting
+Inside-shallow (in_its_body p x n r fits fair nb) = omega (arith, fits)
+Inside-shallow (in_a_branch p q x g n k r u fits fair nb ch fits' fair' ng) = omega (arith, fits')
+Inside-shallow (in_its_inverse p q x n r fits fair nb ch ng) = Chains-shallow ch (omega (arith, fits))
 
--- Behind a beginning of the source stands this text, and behind it what is left. These are the elements so far.
-pub record Scans (source slice kept left : Text) (at : Place) (es : List Element) (places : List Place) (refusal : Option Text) : Type 0 where
+Opens-shallow : {t : Test} {d : ℕ} {ps : List Piece} {fs : List Frame} {es : List Placed} → Opens t d ps fs es → d ≤ max_nesting
+Opens-shallow (none_open h) = omega arith
+Opens-shallow (one_more o i) = Inside-shallow i
+
+-- ---- a text
+
+leaf-fits : (b : Bool) (d : ℕ) → nat_lt max_nesting (d + 0) ≡ b → d ≤ max_nesting → (p : Place) (m : Moved) → checked b syntax_alone p None m ≡ m
+leaf-fits true d is le p m = absurd (omega (arith, ltb-true _ _ is, le))
+leaf-fits false d is le p m = refl
+
+late-none : (late : Option Fault) → option_or late None ≡ late
+late-none None = refl
+late-none (Some f) = refl
+
+State-none : {late : Option Fault} {ps : List Piece} {d : ℕ} {fs : List Frame} {es : List Placed} → State late ps d fs es → State late (ps ++ []) d fs (es ++ [])
+State-none {ps = ps} {es = es} s = rw (append-nil ps, append-nil es) s
+
+State-leaf : {late : Option Fault} {ps : List Piece} {d : ℕ} {fs : List Frame} {es : List Placed} → (p : Place) (x : Text) → State late ps d fs es
+    → State late (ps ++ leaf p (raw_string x) 0 None ∷ []) d fs (es ++ record { place = p; element = raw_string x } ∷ [])
+State-leaf {late} {ps} {d} {fs} {es} p x s =
+    subst (λ (z : Option Fault). State z (ps ++ leaf p (raw_string x) 0 None ∷ []) d fs (es ++ record { place = p; element = raw_string x } ∷ [])) (late-none late)
+    (State-moves (leaf p (raw_string x) 0 None) s (leaf-fits (nat_lt max_nesting (d + 0)) d refl (Opens-shallow s.loose) p _))
+
+State-when : {late : Option Fault} {ps : List Piece} {d : ℕ} {fs : List Frame} {es : List Placed} → (b : Bool) (p : Place) (x : Text) → State late ps d fs es
+    → State late (ps ++ (if b then leaf p (raw_string x) 0 None ∷ [] else [])) d fs (es ++ (if b then record { place = p; element = raw_string x } ∷ [] else []))
+State-when true p x s = State-leaf p x s
+State-when false p x s = State-none s
+
+State-text : {late : Option Fault} {ps : List Piece} {d : ℕ} {fs : List Frame} {es : List Placed} → (p : Place) (e : Edge) (x k : Text) (n : Edge) → State late ps d fs es
+    → State late (ps ++ text_pieces p e x k n) d fs (es ++ text_placed p e x k n)
+State-text p e x k n s = State-when (has_element e x) p (trimmed e k n) s
+
+-- ---- a beginning of the source
+
+-- Behind a beginning of the source, which ends with this edge, stands this text, and behind it what is left.
+pub record Scans (source slice kept left : Text) (at : Place) (fresh : Bool) (e : Edge) (late : Option Fault) (d : ℕ) (fs : List Frame) (es : List Placed) : Type 0 where
   pub before : Text
   pub slices : List Slice
-  pub begins : Reads source before slices
+  pub begins : Reads source before e slices
   pub parts : source ≡ before ++ (slice ++ left)
-  pub is_text : IsText left slice kept
+  pub is_text : IsText (braces_behind e) left slice kept
   pub utf8 : IsUtf8 before
   pub there : at ≡ place before
-  pub elements : es ≡ slice_elements slices
-  pub mapping : places ≡ slice_places slices
-  pub literals : refusal ≡ first_refused (slice_literals slices)
+  pub lines : fresh ≡ is_fresh before
+  pub state : State late (pieces_in slices) d fs es
 
-pub Scans-start : (source slice kept left : Text) → source ≡ slice ++ left → IsText left slice kept → Scans source slice kept left origin [] [] None
-Scans-start source slice kept left e h = record { before = []; slices = []; begins = starts; parts = e; is_text = h; utf8 = IsUtf8-nil; there = sym (ap (fold behind_char origin) chars-nil); elements = refl; mapping = refl; literals = refl }
+pub Scans-start : (source slice kept left : Text) (e : Edge) → e ≡ no_edge → source ≡ slice ++ left → IsText (braces_behind e) left slice kept → Scans source slice kept left origin true e None 0 [] []
+Scans-start source slice kept left e is parts h = record {
+  before = [];
+  slices = [];
+  begins = subst (λ (z : Edge). Reads source [] z []) (sym is) starts;
+  parts = parts;
+  is_text = h;
+  utf8 = IsUtf8-nil;
+  there = sym (ap (fold behind_char origin) chars-nil);
+  lines = refl;
+  state = State-start;
+}
 
-behind-place : {source slice kept left : Text} {at : Place} {es : List Element} {places : List Place} {refusal : Option Text} → (h : Scans source slice kept left at es places refusal) → behind at slice ≡ place (h.before ++ slice)
-behind-place {slice = slice} h = ap (λ (p : Place). behind p slice) h.there ∙ sym (behind-append origin h.before slice h.utf8)
+-- a tag that may stand behind the text
+pub record TagHere (left : Text) (e : Edge) (t : Tag) (tildes : Tildes) (spelled rest : Text) : Type 0 where
+  pub whole : left ≡ spelled ++ rest
+  pub is_tag : IsTag spelled rest t tildes
+  pub follows : may_follow e t ≡ true
 
 -- a text and a tag
-abbrev pub pair_of : Place → Text → Text → Place → Text → Tag → List Slice
-pair_of p text kept q slice t = text_slice p text kept ∷ tag_slice q slice t ∷ []
+abbrev pub pair_of : Place → Edge → Text → Text → Place → Text → Tag → Edge → List Slice
+pair_of p e x k q spelled t n = text_slice p e x k n ∷ tag_slice q spelled t n ∷ []
 
-slice_elements-pair : (q : Place) (slice : Text) (t : Tag) (p : Place) (text kept : Text) → slice_elements (pair_of p text kept q slice t) ≡ slice_elements (text_slice p text kept ∷ []) ++ element_of t ∷ []
-slice_elements-pair q slice t p [] kept = refl
-slice_elements-pair q slice t p (b ∷ text) kept = refl
+Reads-along : (source before x k spelled : Text) (slices : List Slice) (t : Tag) (at p q there : Place) (e n m : Edge) → at ≡ p → q ≡ there → n ≡ m
+    → Reads source before m (slices ++ pair_of p e x k there spelled t m) → Reads source before n (slices ++ pair_of at e x k q spelled t n)
+Reads-along source before x k spelled slices t at p q there e n m a b c h = rw (a, b, c) h
 
-slice_places-pair : (q : Place) (slice : Text) (t : Tag) (p : Place) (text kept : Text) → slice_places (pair_of p text kept q slice t) ≡ slice_places (text_slice p text kept ∷ []) ++ q ∷ []
-slice_places-pair q slice t p [] kept = refl
-slice_places-pair q slice t p (b ∷ text) kept = refl
+-- where the code stands behind the text, what the text before it ends with, and what the tag does to it
+pub record Turn {source slice kept left : Text} {at : Place} {fresh : Bool} {e : Edge} {late : Option Fault} {d : ℕ} {fs : List Frame} {es : List Placed}
+    (h : Scans source slice kept left at fresh e late d fs es) (t : Tag) (tildes : Tildes) (spelled rest : Text) (q : Place) (mid : Bool) (n : Edge) : Type 0 where
+  pub here : TagHere left e t tildes spelled rest
+  pub there : q ≡ behind at slice
+  pub lines : mid ≡ fold is_fresh_behind fresh slice
+  pub edge : n ≡ edge_with mid t tildes rest
+
+pub behind-place : {source slice kept left : Text} {at : Place} {fresh : Bool} {e : Edge} {late : Option Fault} {d : ℕ} {fs : List Frame} {es : List Placed}
+    → (h : Scans source slice kept left at fresh e late d fs es) (q : Place) → q ≡ behind at slice → q ≡ place (h.before ++ slice)
+behind-place {slice = slice} h q is = is ∙ ap (λ (p : Place). behind p slice) h.there ∙ sym (behind-append origin h.before slice h.utf8)
+
+fresh-place : {source slice kept left : Text} {at : Place} {fresh : Bool} {e : Edge} {late : Option Fault} {d : ℕ} {fs : List Frame} {es : List Placed}
+    → (h : Scans source slice kept left at fresh e late d fs es) (mid : Bool) → mid ≡ fold is_fresh_behind fresh slice → mid ≡ is_fresh (h.before ++ slice)
+fresh-place {slice = slice} h mid is = is ∙ ap (λ (b : Bool). fold is_fresh_behind b slice) h.lines ∙ sym (fold-append is_fresh_behind true h.before slice)
+
+Turn-reads : {source slice kept left : Text} {at : Place} {fresh : Bool} {e : Edge} {late : Option Fault} {d : ℕ} {fs : List Frame} {es : List Placed}
+    → (h : Scans source slice kept left at fresh e late d fs es) (t : Tag) (tildes : Tildes) (spelled rest : Text) (q : Place) (mid : Bool) (n : Edge)
+    → Turn h t tildes spelled rest q mid n → Reads source (h.before ++ (slice ++ spelled)) n (h.slices ++ pair_of at e slice kept q spelled t n)
+Turn-reads {source} {slice} {kept} {left} {at} {fresh} {e} h t tildes spelled rest q mid n turn =
+    let b : Text = h.before in
+    let m : Edge = edge_with (is_fresh (b ++ slice)) t tildes rest in
+    let one : Reads source (b ++ (slice ++ spelled)) m (h.slices ++ pair_of (place b) e slice kept (place (b ++ slice)) spelled t m) = goes_on h.begins (record {
+      text = slice;
+      kept = kept;
+      slice = spelled;
+      tag = t;
+      tildes = tildes;
+      rest = rest;
+      whole = h.parts ∙ ap (λ (z : Text). b ++ (slice ++ z)) turn.here.whole;
+      is_text = subst (λ (z : Text). IsText (braces_behind e) z slice kept) turn.here.whole h.is_text;
+      is_tag = turn.here.is_tag;
+      may_follow = turn.here.follows;
+    }) in
+    Reads-along source (b ++ (slice ++ spelled)) slice kept spelled h.slices t at (place b) q (place (b ++ slice)) e n m
+    h.there (behind-place h q turn.there) (turn.edge ∙ ap (λ (z : Bool). edge_with z t tildes rest) (fresh-place h mid turn.lines)) one
+
+-- the pieces behind the text and the tag
+pieces_in-pair : (ps : List Slice) (p : Place) (e : Edge) (x k : Text) (q : Place) (spelled : Text) (t : Tag) (n : Edge)
+    → pieces_in (ps ++ pair_of p e x k q spelled t n) ≡ (pieces_in ps ++ text_pieces p e x k n) ++ tag_piece q n t ∷ []
+pieces_in-pair ps p e x k q spelled t n = pieces_in-append ps (pair_of p e x k q spelled t n) ∙ sym (append_assoc (pieces_in ps) (text_pieces p e x k n) (tag_piece q n t ∷ []))
+
+-- the state behind the text, as the code has it
+pub record Mid {source slice kept left : Text} {at : Place} {fresh : Bool} {e : Edge} {late : Option Fault} {d : ℕ} {fs : List Frame} {es : List Placed}
+    (h : Scans source slice kept left at fresh e late d fs es) (n : Edge) (late' : Option Fault) (d' : ℕ) (fs' : List Frame) (es' : List Placed) : Type 0 where
+  pub depth : d' ≡ d
+  pub frames : fs' ≡ fs
+  pub kept_late : late' ≡ late
+  pub elements : es' ≡ es ++ text_placed at e slice kept n
+
+State-along : {late late' : Option Fault} {ps : List Piece} {d d' : ℕ} {fs fs' : List Frame} {es es' : List Placed} → late' ≡ late → d' ≡ d → fs' ≡ fs → es' ≡ es → State late ps d fs es → State late' ps d' fs' es'
+State-along a b c e s = rw (a, b, c, e) s
+
+Mid-state : {source slice kept left : Text} {at : Place} {fresh : Bool} {e : Edge} {late : Option Fault} {d : ℕ} {fs : List Frame} {es : List Placed}
+    → (h : Scans source slice kept left at fresh e late d fs es) (n : Edge) (late' : Option Fault) (d' : ℕ) (fs' : List Frame) (es' : List Placed) → Mid h n late' d' fs' es'
+    → State late' (pieces_in h.slices ++ text_pieces at e slice kept n) d' fs' es'
+Mid-state {slice = slice} {kept = kept} {at = at} {e = e} h n late' d' fs' es' m = State-along m.kept_late m.depth m.frames m.elements (State-text at e slice kept n h.state)
 
 regroup : (b s t x y : Text) → b ++ (s ++ (t ++ (x ++ y))) ≡ (b ++ (s ++ t)) ++ (x ++ y)
 regroup b s t x y = sym (simp append_assoc)
@@ -83,58 +179,78 @@ regroup b s t x y = sym (simp append_assoc)
 IsUtf8-three : (b s t : Text) → IsUtf8 b → IsUtf8 s → IsUtf8 t → IsUtf8 (b ++ (s ++ t))
 IsUtf8-three b s t x y z = IsUtf8-append b (s ++ t) x (IsUtf8-append s t y z)
 
-slice_literals-pair : (ps : List Slice) (t : Tag) (p q : Place) (text kept slice : Text) → first_refused (slice_literals (ps ++ pair_of p text kept q slice t)) ≡ option_or (first_refused (slice_literals ps)) (first_refused (tag_literals t))
-slice_literals-pair ps t p q text kept slice =
-    ap first_refused (slice_literals-append ps (pair_of p text kept q slice t)) ∙ first_refused-append (slice_literals ps) (tag_literals t ++ [])
-    ∙ ap (λ (z : List Text). option_or (first_refused (slice_literals ps)) (first_refused z)) (append-nil (tag_literals t))
+-- the text behind the tag, and where that begins
+pub record Next (n : Edge) (q : Place) (mid : Bool) (spelled rest x k y : Text) (next : Place) (fresh : Bool) : Type 0 where
+  pub parts : rest ≡ x ++ y
+  pub is_text : IsText (braces_behind n) y x k
+  pub there : next ≡ behind q spelled
+  pub lines : fresh ≡ fold is_fresh_behind mid spelled
 
 -- one turn: the text, the tag behind it, and the next text
-pub Scans-tag : {source slice kept left : Text} {at : Place} {es : List Element} {places : List Place} {refusal : Option Text} → (h : Scans source slice kept left at es places refusal)
-    → (t : Tag) (spelled rest x k y : Text) → left ≡ spelled ++ rest → IsTag spelled rest t → tag_depth t ≤ max_nesting → rest ≡ x ++ y → IsText y x k → IsUtf8 slice → IsUtf8 spelled
-    → (q : Place) → q ≡ behind at slice
-    → Scans source x k y (behind q spelled) ((es ++ slice_elements (text_slice at slice kept ∷ [])) ++ element_of t ∷ []) ((places ++ slice_places (text_slice at slice kept ∷ [])) ++ q ∷ []) (option_or refusal (first_refused (tag_literals t)))
-Scans-tag {source} {slice} {kept} {left} {at} {es} {places} {refusal} h t spelled rest x k y is fits shallow cut words u v q qe =
+pub Scans-step : {source slice kept left : Text} {at : Place} {fresh : Bool} {e : Edge} {late : Option Fault} {d : ℕ} {fs : List Frame} {es : List Placed}
+    → (h : Scans source slice kept left at fresh e late d fs es) (t : Tag) (tildes : Tildes) (spelled rest : Text) (q : Place) (mid : Bool) (n : Edge) → Turn h t tildes spelled rest q mid n
+    → (late' : Option Fault) (d' : ℕ) (fs' : List Frame) (es' : List Placed) → Mid h n late' d' fs' es'
+    → (late'' : Option Fault) (d'' : ℕ) (fs'' : List Frame) (es'' : List Placed) → apply syntax_alone (tag_piece q n t) d' fs' es' ≡ goes d'' fs'' es'' → late'' ≡ late_after late' (tag_piece q n t) fs'
+    → (x k y : Text) (next : Place) (fresh' : Bool) → Next n q mid spelled rest x k y next fresh' → IsUtf8 slice → IsUtf8 spelled
+    → Scans source x k y next fresh' n late'' d'' fs'' es''
+Scans-step {source} {slice} {kept} {left} {at} {fresh} {e} h t tildes spelled rest q mid n turn late' d' fs' es' m late'' d'' fs'' es'' moved lates x k y next fresh' after u v =
     let b : Text = h.before in
-    let q2 : q ≡ place (b ++ slice) = qe ∙ behind-place h in
-    let new : List Slice = pair_of (place b) slice kept (place (b ++ slice)) spelled t in
-    let begins : Reads source (b ++ (slice ++ spelled)) (h.slices ++ new) = goes_on h.begins (record {
-      text = slice;
-      kept = kept;
-      slice = spelled;
-      tag = t;
-      rest = rest;
-      whole = h.parts ∙ ap (λ (z : Text). b ++ (slice ++ z)) is;
-      is_text = subst (λ (z : Text). IsText z slice kept) is h.is_text;
-      is_tag = fits;
-    }) shallow in
-    let here : text_slice at slice kept ≡ text_slice (place b) slice kept = ap (λ (p : Place). text_slice p slice kept) h.there in
+    let new : List Slice = pair_of at e slice kept q spelled t n in
+    let state : State (late_after late' (tag_piece q n t) fs') ((pieces_in h.slices ++ text_pieces at e slice kept n) ++ tag_piece q n t ∷ []) d'' fs'' es'' =
+      State-moves (tag_piece q n t) (Mid-state h n late' d' fs' es' m) moved in
     record {
       before = b ++ (slice ++ spelled);
       slices = h.slices ++ new;
-      begins = begins;
-      parts = h.parts ∙ ap (λ (z : Text). b ++ (slice ++ z)) (is ∙ ap (λ (z : Text). spelled ++ z) cut) ∙ regroup b slice spelled x y;
-      is_text = words;
+      begins = Turn-reads h t tildes spelled rest q mid n turn;
+      parts = h.parts ∙ ap (λ (z : Text). b ++ (slice ++ z)) (turn.here.whole ∙ ap (λ (z : Text). spelled ++ z) after.parts) ∙ regroup b slice spelled x y;
+      is_text = after.is_text;
       utf8 = IsUtf8-three b slice spelled h.utf8 u v;
-      there = ap (λ (p : Place). behind p spelled) q2 ∙ sym (behind-append origin (b ++ slice) spelled (IsUtf8-append b slice h.utf8 u)) ∙ ap place (append_assoc b slice spelled);
-      elements = append_assoc es _ _ ∙ ap (λ (z : List Element). z ++ (slice_elements (text_slice at slice kept ∷ []) ++ element_of t ∷ [])) h.elements ∙ ap (λ (p : Slice). slice_elements h.slices ++ (slice_elements (p ∷ []) ++ element_of t ∷ [])) here ∙ ap (λ (z : List Element). slice_elements h.slices ++ z) (sym (slice_elements-pair (place (b ++ slice)) spelled t (place b) slice kept)) ∙ sym (slice_elements-append h.slices new);
-      mapping = append_assoc places _ _ ∙ ap (λ (z : List Place). z ++ (slice_places (text_slice at slice kept ∷ []) ++ q ∷ [])) h.mapping ∙ ap (λ (p : Slice). slice_places h.slices ++ (slice_places (p ∷ []) ++ q ∷ [])) here ∙ ap (λ (p : Place). slice_places h.slices ++ (slice_places (text_slice (place b) slice kept ∷ []) ++ p ∷ [])) q2 ∙ ap (λ (z : List Place). slice_places h.slices ++ z) (sym (slice_places-pair (place (b ++ slice)) spelled t (place b) slice kept)) ∙ sym (slice_places-append h.slices new);
-      literals = ap (λ (z : Option Text). option_or z (first_refused (tag_literals t))) h.literals ∙ sym (slice_literals-pair h.slices t (place b) (place (b ++ slice)) slice kept spelled);
+      there = after.there ∙ ap (λ (p : Place). behind p spelled) (behind-place h q turn.there) ∙ sym (behind-append origin (b ++ slice) spelled (IsUtf8-append b slice h.utf8 u)) ∙ ap place (append_assoc b slice spelled);
+      lines = after.lines ∙ ap (λ (z : Bool). fold is_fresh_behind z spelled) (fresh-place h mid turn.lines) ∙ sym (fold-append is_fresh_behind true (b ++ slice) spelled) ∙ ap is_fresh (append_assoc b slice spelled);
+      state = subst (λ (z : List Piece). State late'' z d'' fs'' es'') (sym (pieces_in-pair h.slices at e slice kept q spelled t n))
+          (subst (λ (z : Option Fault). State z ((pieces_in h.slices ++ text_pieces at e slice kept n) ++ tag_piece q n t ∷ []) d'' fs'' es'') (sym lates) state);
     }
 
+-- the tag may not stand there
+pub Compiles-misplaced : {source slice kept left : Text} {at : Place} {fresh : Bool} {e : Edge} {late : Option Fault} {d : ℕ} {fs : List Frame} {es : List Placed}
+    → (h : Scans source slice kept left at fresh e late d fs es) (t : Tag) (tildes : Tildes) (spelled rest : Text) (q : Place) (mid : Bool) (n : Edge) → Turn h t tildes spelled rest q mid n
+    → (late' : Option Fault) (d' : ℕ) (fs' : List Frame) (es' : List Placed) → Mid h n late' d' fs' es'
+    → (f : Fault) → apply syntax_alone (tag_piece q n t) d' fs' es' ≡ stops f → (options : Options) → Compiles source options (refused (refusal_for options f))
+Compiles-misplaced {source} {slice} {kept} {left} {at} {fresh} {e} h t tildes spelled rest q mid n turn late' d' fs' es' m f stopped options =
+    misplaced (Turn-reads h t tildes spelled rest q mid n turn)
+    (subst (λ (z : List Piece). Refuses syntax_alone z f) (sym (pieces_in-pair h.slices at e slice kept q spelled t n)) (State-stops (tag_piece q n t) [] (Mid-state h n late' d' fs' es' m) stopped))
+
+-- ---- braces with which no tag begins
+
 -- a text that something follows is followed by braces
-IsText-some : {left slice kept : Text} → IsText left slice kept → 0 < length left → braces left ≡ true
+IsText-some : {n : Braces} {left slice kept : Text} → IsText n left slice kept → 0 < length left → braces n left ≡ true
 IsText-some (at_end over) lt = absurd (omega (arith, ap length over))
 IsText-some (at_tag run marks more) lt = marks
 IsText-some (a_byte b clear h) lt = IsText-some h lt
-IsText-some (two_escaped clear h) lt = IsText-some h lt
+IsText-some (two_escaped two clear h) lt = IsText-some h lt
 IsText-some (four_escaped h) lt = IsText-some h lt
 
-pub Compiles-unreadable : {source slice kept left : Text} {at : Place} {es : List Element} {places : List Place} {refusal : Option Text} → Scans source slice kept left at es places refusal → 0 < length left → NoTag left
-    → (options : Options) (q : Place) → q ≡ behind at slice → Compiles source options (refused (unreadable options q))
-Compiles-unreadable {source} {slice} {kept} {left} h lt none options q qe = subst (λ (p : Place). Compiles source options (refused (unreadable options p))) (sym (qe ∙ behind-place h)) (no_tag (record {
+pub NoTagBehind-none : (e : Edge) (left : Text) → NoTag left → NoTagBehind e left
+NoTagBehind-none e left none slice rest t tildes is h f = none slice rest t tildes is h
+
+-- behind the opening of a raw block stands a tag that isn't its end
+pub NoTagBehind-other : OneTag → (e : Edge) (left slice rest : Text) (t : Tag) (tildes : Tildes) → left ≡ slice ++ rest → IsTag slice rest t tildes → may_follow e t ≡ false → NoTagBehind e left
+NoTagBehind-other tags e left slice rest t tildes is h other slice' rest' t' tildes' is' h' f =
+    let one = tags left slice slice' rest rest' t t' tildes tildes' is is' h h' in
+    false≢true (sym other ∙ ap (may_follow e) one.2 ∙ f)
+
+pub Compiles-unreadable : {source slice kept left : Text} {at : Place} {fresh : Bool} {e : Edge} {late : Option Fault} {d : ℕ} {fs : List Frame} {es : List Placed}
+    → Scans source slice kept left at fresh e late d fs es → 0 < length left → NoTagBehind e left → (q : Place) → q ≡ behind at slice
+    → (options : Options) → Compiles source options (refused (unreadable options q))
+Compiles-unreadable {source} {slice} {kept} {left} {at} {fresh} {e} {late} {d} {fs} {es} h lt none q qe options = no_tag (record {
   before = h.before;
+  edge = e;
   slices = h.slices;
   begins = h.begins;
+  depth = d;
+  frames = fs;
+  elements = es;
+  nests = h.state.loose;
   text = slice;
   kept = kept;
   left = left;
@@ -142,64 +258,47 @@ Compiles-unreadable {source} {slice} {kept} {left} h lt none options q qe = subs
   is_text = h.is_text;
   marks = IsText-some h.is_text lt;
   none = none;
-  there = refl;
-}))
-
-pub Compiles-too_deep : {source slice kept left : Text} {at : Place} {es : List Element} {places : List Place} {refusal : Option Text} → Scans source slice kept left at es places refusal → Deep left
-    → (options : Options) (q : Place) → q ≡ behind at slice → Compiles source options (refused (too_deep options q))
-Compiles-too_deep {source} {slice} {kept} {left} h d options q qe = subst (λ (p : Place). Compiles source options (refused (too_deep options p))) (sym (qe ∙ behind-place h)) (deep_tag (record {
-  before = h.before;
-  slices = h.slices;
-  begins = h.begins;
-  next = record {
-    text = slice;
-    kept = kept;
-    slice = d.follows.slice;
-    tag = d.tag;
-    rest = d.rest;
-    whole = h.parts ∙ ap (λ (z : Text). h.before ++ (slice ++ z)) d.follows.whole;
-    is_text = subst (λ (z : Text). IsText z slice kept) d.follows.whole h.is_text;
-    is_tag = d.follows.is_tag;
-  };
-  deep = d.deep;
-  there = refl;
-}))
+  there = behind-place h q qe;
+})
 
 -- ---- the end of the source
 
-pub IsCut-end : {source slice kept left : Text} {at : Place} {es : List Element} {places : List Place} {refusal : Option Text} → (h : Scans source slice kept left at es places refusal) → length left ≡ 0
-    → IsCut source (h.slices ++ text_slice at slice kept ∷ [])
-IsCut-end {source} {slice} {kept} {left} {at} h over =
+Scans-cut : {source slice kept left : Text} {at : Place} {fresh : Bool} {e : Edge} {late : Option Fault} {d : ℕ} {fs : List Frame} {es : List Placed}
+    → (h : Scans source slice kept left at fresh e late d fs es) → length left ≡ 0 → IsCut source (h.slices ++ text_slice at e slice kept no_edge ∷ [])
+Scans-cut {source} {slice} {kept} {left} {at} {fresh} {e} h over =
     let none : left ≡ [] = nil_from_length left over in
     record {
       before = h.before;
+      edge = e;
       slices = h.slices;
       begins = h.begins;
       text = slice;
       kept = kept;
       whole = h.parts ∙ ap (λ (z : Text). h.before ++ (slice ++ z)) none ∙ ap (λ (z : Text). h.before ++ z) (append-nil slice);
-      is_text = subst (λ (z : Text). IsText z slice kept) none h.is_text;
-      gives = ap (λ (p : Place). h.slices ++ text_slice p slice kept ∷ []) h.there;
+      is_text = subst (λ (z : Text). IsText (braces_behind e) z slice kept) none h.is_text;
+      gives = ap (λ (p : Place). h.slices ++ text_slice p e slice kept no_edge ∷ []) h.there;
     }
 
-literals-end : {source slice kept left : Text} {at : Place} {es : List Element} {places : List Place} {refusal : Option Text} → (h : Scans source slice kept left at es places refusal)
-    → first_refused (slice_literals (h.slices ++ text_slice at slice kept ∷ [])) ≡ refusal
-literals-end {slice = slice} {kept = kept} {at = at} h = ap first_refused (slice_literals-append h.slices (text_slice at slice kept ∷ []) ∙ append-nil (slice_literals h.slices)) ∙ sym h.literals
+pieces_in-last : (ps : List Slice) (p : Place) (e : Edge) (x k : Text) (n : Edge) → pieces_in (ps ++ text_slice p e x k n ∷ []) ≡ pieces_in ps ++ text_pieces p e x k n
+pieces_in-last ps p e x k n = pieces_in-append ps (text_slice p e x k n ∷ []) ∙ ap (λ (z : List Piece). pieces_in ps ++ z) (append-nil (text_pieces p e x k n))
 
-pub Compiles-end : {source slice kept left : Text} {at : Place} {es : List Element} {places : List Place} → (h : Scans source slice kept left at es places None) → length left ≡ 0
-    → (options : Options) → Compiles source options (compiled (tree_of options (h.slices ++ text_slice at slice kept ∷ [])))
-Compiles-end h over options = whole (IsCut-end h over) (literals-end h)
+-- what a source comes to whose end is such
+abbrev pub Comes : Text → End → Type 0
+Comes source (complete es) = (options : Options) → Compiles source options (compiled (tree_of options es))
+Comes source (unclosed p) = (options : Options) → Compiles source options (refused (refusal_for options (not_closed p)))
+Comes source (stopped f) = (options : Options) → Compiles source options (refused (refusal_for options f))
 
-pub Compiles-literal : {source slice kept left : Text} {at : Place} {es : List Element} {places : List Place} {raw : Text} → Scans source slice kept left at es places (Some raw) → length left ≡ 0
-    → (options : Options) → Compiles source options (refused (invalid raw))
-Compiles-literal h over options = no_value (IsCut-end h over) (literals-end h)
+Cut-comes : {source : Text} {ps : List Slice} {d : ℕ} {es : List Placed} → (late : Option Fault) (fs : List Frame) → IsCut source ps → State late (pieces_in ps) d fs es → Comes source (ended fs late es)
+Cut-comes late' (f ∷ fs) cut s options = left_open cut (State-open s)
+Cut-comes (Some f) [] cut s options = let both = State-late s in late cut both.0 both.1
+Cut-comes None [] cut s options = whole cut (State-whole s)
 
--- the tree's elements and their places, as the code has them
-pub slice_elements-end : {source slice kept left : Text} {at : Place} {es : List Element} {places : List Place} {refusal : Option Text} → (h : Scans source slice kept left at es places refusal) → slice_elements (h.slices ++ text_slice at slice kept ∷ []) ≡ es ++ slice_elements (text_slice at slice kept ∷ [])
-slice_elements-end {slice = slice} {kept = kept} {at = at} h = slice_elements-append h.slices (text_slice at slice kept ∷ []) ∙ ap (λ (z : List Element). z ++ slice_elements (text_slice at slice kept ∷ [])) (sym h.elements)
-
-pub slice_places-end : {source slice kept left : Text} {at : Place} {es : List Element} {places : List Place} {refusal : Option Text} → (h : Scans source slice kept left at es places refusal) → slice_places (h.slices ++ text_slice at slice kept ∷ []) ≡ places ++ slice_places (text_slice at slice kept ∷ [])
-slice_places-end {slice = slice} {kept = kept} {at = at} h = slice_places-append h.slices (text_slice at slice kept ∷ []) ∙ ap (λ (z : List Place). z ++ slice_places (text_slice at slice kept ∷ [])) (sym h.mapping)
+pub Scans-end : {source slice kept left : Text} {at : Place} {fresh : Bool} {e : Edge} {late : Option Fault} {d : ℕ} {fs : List Frame} {es : List Placed}
+    → (h : Scans source slice kept left at fresh e late d fs es) → length left ≡ 0 → (n : Edge) → n ≡ no_edge → (late' : Option Fault) (d' : ℕ) (fs' : List Frame) (es' : List Placed) → Mid h n late' d' fs' es'
+    → (end : End) → end ≡ ended fs' late' es' → Comes source end
+Scans-end {source} {slice} {kept} {left} {at} {fresh} {e} h over n ne late' d' fs' es' m end is =
+    let state : State late' (pieces_in h.slices ++ text_pieces at e slice kept no_edge) d' fs' es' = subst (λ (z : Edge). State late' (pieces_in h.slices ++ text_pieces at e slice kept z) d' fs' es') ne (Mid-state h n late' d' fs' es' m) in
+    subst (Comes source) (sym is) (Cut-comes late' fs' (Scans-cut h over) (subst (λ (z : List Piece). State late' z d' fs' es') (sym (pieces_in-last h.slices at e slice kept no_edge)) state))
 
 -- ---- lines and columns fit
 
@@ -219,7 +318,8 @@ place-bound before h =
     let r = fold-bound (chars before) origin in
     (omega (arith, r.0), omega (arith, r.1))
 
-pub Scans-fits : {source slice kept left : Text} {at : Place} {es : List Element} {places : List Place} {refusal : Option Text} → Scans source slice kept left at es places refusal → (at.line + length slice ≤ 1 + length source) × (at.column + length slice ≤ 2 + length source)
+pub Scans-fits : {source slice kept left : Text} {at : Place} {fresh : Bool} {e : Edge} {late : Option Fault} {d : ℕ} {fs : List Frame} {es : List Placed}
+    → Scans source slice kept left at fresh e late d fs es → (at.line + length slice ≤ 1 + length source) × (at.column + length slice ≤ 2 + length source)
 Scans-fits {source} {slice} {kept} {left} {at} h =
     let r = place-bound h.before h.utf8 in
     let line : at.line ≡ (place h.before).line = ap (λ (p : Place). p.line) h.there in
@@ -227,10 +327,11 @@ Scans-fits {source} {slice} {kept} {left} {at} h =
     let long : length source ≡ length h.before + (length slice + length left) = omega (arith, ap length h.parts, length-append h.before (slice ++ left), length-append slice left) in
     (omega (arith, r.0), omega (arith, r.1))
 
-pub Scans-fits_behind : {source slice kept left : Text} {at : Place} {es : List Element} {places : List Place} {refusal : Option Text} → Scans source slice kept left at es places refusal → IsUtf8 slice → (q : Place) → q ≡ behind at slice → (k : ℕ) → k ≤ length left → (q.line + k ≤ 1 + length source) × (q.column + k ≤ 2 + length source)
+pub Scans-fits_behind : {source slice kept left : Text} {at : Place} {fresh : Bool} {e : Edge} {late : Option Fault} {d : ℕ} {fs : List Frame} {es : List Placed}
+    → Scans source slice kept left at fresh e late d fs es → IsUtf8 slice → (q : Place) → q ≡ behind at slice → (k : ℕ) → k ≤ length left → (q.line + k ≤ 1 + length source) × (q.column + k ≤ 2 + length source)
 Scans-fits_behind {source} {slice} {kept} {left} {at} h u q is k le =
     let r = place-bound (h.before ++ slice) (IsUtf8-append h.before slice h.utf8 u) in
-    let same : q ≡ place (h.before ++ slice) = is ∙ behind-place h in
+    let same : q ≡ place (h.before ++ slice) = behind-place h q is in
     let line : q.line ≡ (place (h.before ++ slice)).line = ap (λ (p : Place). p.line) same in
     let column : q.column ≡ (place (h.before ++ slice)).column = ap (λ (p : Place). p.column) same in
     let front : length (h.before ++ slice) ≡ length h.before + length slice = length-append h.before slice in
@@ -251,33 +352,7 @@ IsCharBoundary-seam left s rest e u = rw (length-seam left s rest e) (IsCharBoun
 pub IsUtf8-front : (left s rest : Text) → left ≡ s ++ rest → IsUtf8 left → IsUtf8 rest → IsUtf8 s
 IsUtf8-front left s rest e u v = subst IsUtf8 (take-seam left s rest e) (IsUtf8-take left (length left - length rest) u (IsCharBoundary-seam left s rest e v))
 
--- ---- in the code's own values
-
-pub Scans-step : {source slice kept left : Text} {at : Place} {es : List Element} {places : List Place} {refusal : Option Text} → (h : Scans source slice kept left at es places refusal)
-    → (t : Tag) (spelled rest x k y : Text) → left ≡ spelled ++ rest → IsTag spelled rest t → tag_depth t ≤ max_nesting → rest ≡ x ++ y → IsText y x k → IsUtf8 slice → IsUtf8 spelled
-    → (q : Place) → q ≡ behind at slice → (next : Place) (split : Text) → split ≡ spelled → next ≡ behind q split
-    → (mid last : List Element) (element : Element) → mid ≡ es ++ slice_elements (text_slice at slice kept ∷ []) → last ≡ mid ++ element ∷ [] → element ≡ element_of t
-    → (here there : List Place) → here ≡ places ++ slice_places (text_slice at slice kept ∷ []) → there ≡ here ++ q ∷ []
-    → (found now : Option Text) → found ≡ first_refused (tag_literals t) → now ≡ option_or refusal found
-    → Scans source x k y next last there now
-Scans-step h t spelled rest x k y is fits shallow cut words u v q qe next split se ne mid last element me le ee here there he te found now fe oe =
-    rw (ne, se, le, me, ee, te, he, oe, fe) (Scans-tag h t spelled rest x k y is fits shallow cut words u v q qe)
-
-opening-length : (marks : Marks) (opening : Text) → Opens marks opening → 0 < length opening
-opening-length _ _ by_two = omega arith
-opening-length _ _ by_three = omega arith
-opening-length _ _ (by_sign w white) = omega arith
-
-length-tag : (slice rest : Text) (t : Tag) → IsTag slice rest t → 0 < length slice
-length-tag slice rest t x =
-    let some = opening-length x.marks x.opening x.opens in
-    omega (arith, ap length x.spells, length-append x.opening (x.before ++ (x.text ++ (x.behind ++ closing_of x.marks))))
-
-pub length-rest : (left spelled rest x y : Text) (t : Tag) → left ≡ spelled ++ rest → IsTag spelled rest t → rest ≡ x ++ y → length y < length left
-length-rest left spelled rest x y t is fits cut =
-    let some = length-tag spelled rest t fits in
-    omega (arith, ap length is, length-append spelled rest, ap length cut, length-append x y)
-
-pub map-or : {A B : Type 0} (f : A → B) (a b : Option A) → option_map f (option_or a b) ≡ option_or (option_map f a) (option_map f b)
-map-or f None b = refl
-map-or f (Some x) b = refl
+pub length-rest : (left spelled rest x y : Text) (t : Tag) (tildes : Tildes) → left ≡ spelled ++ rest → IsTag spelled rest t tildes → rest ≡ x ++ y → length y < length left
+length-rest left spelled rest x y t tildes is fits cut =
+    let some = length-tag spelled rest t tildes fits in
+    omega (arith, some, ap length is, length-append spelled rest, ap length cut, length-append x y)

@@ -1,13 +1,17 @@
 -- What compiling a source answers: its tree, or the first refusal.
-use Rattle.std.specs.Prelude.{◌≡◌, ◌<◌, Bool, true, false, List, [], ◌∷◌, ◌++◌, Option, None, Some, unwrap_or, codes}
+use Rattle.std.specs.Prelude.{◌≡◌, ℕ, Bool, true, false, not, ◌&&◌, if◌then◌else◌, List, [], ◌∷◌, ◌++◌, map, Option, None, Some, unwrap_or, codes}
 use Rattle.handlebars_base.specs.Bytes.{Text}
-use Rattle.handlebars_base.specs.Reasons.{TemplateRefusal, invalid_syntax}
+use Rattle.handlebars_base.specs.Reasons.{TemplateRefusal, invalid_syntax, mismatching_closed_helper}
+use Rattle.handlebars_lines.specs.Binding.{Binding, unbound, bound, both_bound}
+use Rattle.handlebars_tags.specs.Text.{IsText, braces}
+use Rattle.handlebars_tags.specs.Tag.{Tag, expression_tag, html_tag, block_tag, inverse_tag, chain_tag, close_tag, raw_tag, raw_close_tag, comment_tag, BlockLine, Tildes, IsTag}
+use Rattle.handlebars_tags.specs.Trim.{Edge, braces_behind, trimmed, has_element}
 use Rattle.handlebars_template.specs.Place.{Place, place}
-use Rattle.handlebars_template.specs.Text.{IsText, braces}
-use Rattle.handlebars_template.specs.Tag.{Tag, expression_tag, html_tag, tag_depth, NoTag}
-use Rattle.handlebars_template.specs.Cut.{Slice, text_slice, tag_slice, TextAndTag, tag_place, Reads, IsCut}
-use Rattle.handlebars_template.specs.Tree.{Tree, tree, elements_of, Element, raw_string, html_expression, expression}
-use Rattle.handlebars_template.specs.Calls.{call_of, line_literals, first_refused, max_nesting, invalid}
+use Rattle.handlebars_template.specs.Tree.{Tree, tree, elements_of, Element, raw_string, html_expression, expression, comment, args, name, no_pairs, no_binding, single, both}
+use Rattle.handlebars_template.specs.Tree as tree
+use Rattle.handlebars_template.specs.Calls.{call_of, params_in, pairs_in, line_literals, literals_in, first_refused, invalid}
+use Rattle.handlebars_template.specs.Nest.{Opening, Piece, leaf, opens, turns, chains, closes, Fault, unexpected, too_deep, not_closed, mismatched, no_value, Placed, syntax_alone, names_and_literals, Nests, Frame, Opens, Refuses, LeavesOpen}
+use Rattle.handlebars_template.specs.Cut.{Slice, text_slice, tag_slice, may_follow, Reads, IsCut}
 
 -- the name of the template, if it has one, and whether inclusions add no indentation
 pub record Options : Type 0 where
@@ -19,30 +23,54 @@ no_options = record { name = None; prevent_indent = false }
 
 -- nothing but a name
 abbrev pub named_options : Text → Options
-named_options name = record no_options { name = Some name }
+named_options n = record no_options { name = Some n }
 
--- ---- the tree
+-- ---- what the slices stand for
 
-abbrev pub element_of : Tag → Element
-element_of (expression_tag line) = expression (call_of line.name line.terms)
-element_of (html_tag line) = html_expression (call_of line.name line.terms)
+abbrev pub binding_of : Binding → tree.Binding
+binding_of unbound = no_binding
+binding_of (bound x) = single (name x)
+binding_of (both_bound x y) = both (name x) (name y)
 
--- An empty slice has no element; any other text has one, and each tag has one.
-abbrev pub slice_elements : List Slice → List Element
-slice_elements [] = []
-slice_elements (text_slice p [] kept ∷ ps) = slice_elements ps
-slice_elements (text_slice p (b ∷ slice) kept ∷ ps) = raw_string kept ∷ slice_elements ps
-slice_elements (tag_slice p slice t ∷ ps) = element_of t ∷ slice_elements ps
+-- What the opening tag of a block says. Indentation goes before what the block writes where the tag stands alone on its
+-- line, without a tilde in front.
+abbrev pub opening_of : Bool → Edge → BlockLine → Opening
+opening_of raw e line = record {
+  name = line.name;
+  is_raw = raw;
+  arguments = args (params_in line.terms) (pairs_in no_pairs line.terms);
+  binding = binding_of line.binding;
+  indent = e.standalone && not e.left;
+}
 
--- the places of these elements
-abbrev pub slice_places : List Slice → List Place
-slice_places [] = []
-slice_places (text_slice p [] kept ∷ ps) = slice_places ps
-slice_places (text_slice p (b ∷ slice) kept ∷ ps) = p ∷ slice_places ps
-slice_places (tag_slice p slice t ∷ ps) = p ∷ slice_places ps
+abbrev pub tag_piece : Place → Edge → Tag → Piece
+tag_piece p e (expression_tag line) =
+    leaf p (expression (call_of line.name line.terms)) line.depth (first_refused (line_literals line))
+tag_piece p e (html_tag line) =
+    leaf p (html_expression (call_of line.name line.terms)) line.depth (first_refused (line_literals line))
+tag_piece p e (block_tag line) =
+    opens p (opening_of false e line) line.depth (first_refused (literals_in line.terms))
+tag_piece p e inverse_tag = turns p
+tag_piece p e (chain_tag line) =
+    chains p (opening_of false e line) line.depth (first_refused (literals_in line.terms))
+tag_piece p e (close_tag n) = closes p false n
+tag_piece p e (raw_tag line) =
+    opens p (opening_of true e line) line.depth (first_refused (literals_in line.terms))
+tag_piece p e (raw_close_tag n) = closes p true n
+tag_piece p e (comment_tag t) = leaf p (comment t) 0 None
 
-abbrev pub tree_of : Options → List Slice → Tree
-tree_of options ps = tree options.name (elements_of (slice_elements ps)) (slice_places ps)
+-- a text between two tags, where it has an element
+abbrev pub text_pieces : Place → Edge → Text → Text → Edge → List Piece
+text_pieces p e slice kept n =
+    if has_element e slice then leaf p (raw_string (trimmed e kept n)) 0 None ∷ [] else []
+
+abbrev pub pieces_in : List Slice → List Piece
+pieces_in [] = []
+pieces_in (text_slice p e slice kept n ∷ ps) = text_pieces p e slice kept n ++ pieces_in ps
+pieces_in (tag_slice p slice t e ∷ ps) = tag_piece p e t ∷ pieces_in ps
+
+abbrev pub tree_of : Options → List Placed → Tree
+tree_of options es = tree options.name (elements_of (map (λ e. e.element) es)) (map (λ e. e.place) es)
 
 -- ---- refusals
 
@@ -57,41 +85,38 @@ syntax_refusal message options p = record {
 abbrev pub unreadable : Options → Place → TemplateRefusal
 unreadable options p = syntax_refusal (codes "unreadable tag") options p
 
-abbrev pub too_deep : Options → Place → TemplateRefusal
-too_deep options p = syntax_refusal (codes "nesting too deep") options p
+abbrev pub refusal_for : Options → Fault → TemplateRefusal
+refusal_for options (unexpected p) = syntax_refusal (codes "unexpected tag") options p
+refusal_for options (too_deep p) = syntax_refusal (codes "nesting too deep") options p
+refusal_for options (not_closed p) = syntax_refusal (codes "block not closed") options p
+refusal_for options (mismatched n m p) =
+    record (syntax_refusal [] options p) { reason = mismatching_closed_helper n m }
+refusal_for options (no_value raw) = invalid raw
 
--- At this place, behind texts and tags and one more text, stand braces with which no tag begins.
+-- No tag that may follow this edge stands in front.
+abbrev pub NoTagBehind : Edge → Text → Type 0
+NoTagBehind e left = (slice rest : Text) (t : Tag) (tildes : Tildes)
+    → left ≡ slice ++ rest → IsTag slice rest t tildes → may_follow e t ≡ true → ⊥
+
+-- At this place, behind texts and tags that nest so far, and one more text, stand braces with which no tag begins that
+-- may stand there.
 pub record IsUnreadable (source : Text) (at : Place) : Type 0 where
   pub before : Text
+  pub edge : Edge
   pub slices : List Slice
-  pub begins : Reads source before slices
+  pub begins : Reads source before edge slices
+  pub depth : ℕ
+  pub frames : List Frame
+  pub elements : List Placed
+  pub nests : Opens syntax_alone depth (pieces_in slices) frames elements
   pub text : Text
   pub kept : Text
   pub left : Text
   pub whole : source ≡ before ++ (text ++ left)
-  pub is_text : IsText left text kept
-  pub marks : braces left ≡ true
-  pub none : NoTag left
+  pub is_text : IsText (braces_behind edge) left text kept
+  pub marks : braces (braces_behind edge) left ≡ true
+  pub none : NoTagBehind edge left
   pub there : at ≡ place (before ++ text)
-
--- At this place, behind texts and tags and one more text, stands a tag that nests too deep.
-pub record IsTooDeep (source : Text) (at : Place) : Type 0 where
-  pub before : Text
-  pub slices : List Slice
-  pub begins : Reads source before slices
-  pub next : TextAndTag source before
-  pub deep : max_nesting < tag_depth next.tag
-  pub there : at ≡ tag_place next
-
-abbrev pub tag_literals : Tag → List Text
-tag_literals (expression_tag line) = line_literals line
-tag_literals (html_tag line) = line_literals line
-
--- the literals along the source
-abbrev pub slice_literals : List Slice → List Text
-slice_literals [] = []
-slice_literals (text_slice p slice kept ∷ ps) = slice_literals ps
-slice_literals (tag_slice p slice t ∷ ps) = tag_literals t ++ slice_literals ps
 
 -- ---- outcomes
 
@@ -99,19 +124,22 @@ pub data Compilation : Type 0 where
   compiled : Tree → Compilation
   refused : TemplateRefusal → Compilation
 
--- Syntax comes first: a literal is refused only where the whole source is texts and tags.
+-- Syntax comes first, tag by tag along the source; then, where the whole source nests, the first name that closes a block
+-- of another, or literal with no value.
 pub data Compiles (source : Text) (options : Options) : Compilation → Type 0 where
-  whole : {ps : List Slice} → IsCut source ps → first_refused (slice_literals ps) ≡ None
-      → Compiles source options (compiled (tree_of options ps))
-  no_value : {ps : List Slice} {raw : Text} → IsCut source ps → first_refused (slice_literals ps) ≡ Some raw
-      → Compiles source options (refused (invalid raw))
+  whole : {ps : List Slice} {es : List Placed} → IsCut source ps → Nests names_and_literals 0 (pieces_in ps) es
+      → Compiles source options (compiled (tree_of options es))
   no_tag : {at : Place} → IsUnreadable source at → Compiles source options (refused (unreadable options at))
-  deep_tag : {at : Place} → IsTooDeep source at → Compiles source options (refused (too_deep options at))
+  misplaced : {before : Text} {edge : Edge} {ps : List Slice} {f : Fault}
+      → Reads source before edge ps → Refuses syntax_alone (pieces_in ps) f
+      → Compiles source options (refused (refusal_for options f))
+  left_open : {ps : List Slice} {f : Fault} → IsCut source ps → LeavesOpen syntax_alone (pieces_in ps) f
+      → Compiles source options (refused (refusal_for options f))
+  late : {ps : List Slice} {es : List Placed} {f : Fault} → IsCut source ps → Nests syntax_alone 0 (pieces_in ps) es
+      → Refuses names_and_literals (pieces_in ps) f
+      → Compiles source options (refused (refusal_for options f))
 
--- A source has at most one cut, and at most one outcome.
-abbrev pub OneCut : Type 0
-OneCut = (source : Text) (ps qs : List Slice) → IsCut source ps → IsCut source qs → ps ≡ qs
-
+-- A source has at most one outcome.
 abbrev pub OneCompilation : Type 0
 OneCompilation =
     (source : Text) (options : Options) (a b : Compilation)

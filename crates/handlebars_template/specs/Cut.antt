@@ -1,46 +1,75 @@
 -- A source, cut into texts and tags in turn.
-use Rattle.std.specs.Prelude.{◌≡◌, ◌≤◌, List, [], ◌∷◌, ◌++◌}
+use Rattle.std.specs.Prelude.{◌≡◌, Bool, true, not, ◌||◌, List, [], ◌∷◌, ◌++◌}
 use Rattle.handlebars_base.specs.Bytes.{Text}
+use Rattle.handlebars_tags.specs.Text.{IsText}
+use Rattle.handlebars_tags.specs.Tag.{Tag, Tildes, IsTag, is_raw_close}
+use Rattle.handlebars_tags.specs.Trim.{Edge, no_edge, edge_of, braces_behind}
 use Rattle.handlebars_template.specs.Place.{Place, place}
-use Rattle.handlebars_template.specs.Text.{IsText}
-use Rattle.handlebars_template.specs.Tag.{Tag, IsTag, tag_depth}
-use Rattle.handlebars_template.specs.Calls.{max_nesting}
 
--- a text: its place, its slice and what is kept of it; a tag: its place, its slice and what it is
+-- a text: its place, the edge before it, its slice, what is kept of it, and the edge behind it; a tag: its place, its
+-- slice, what it is, and its edge
 pub data Slice : Type 0 where
-  text_slice : Place → Text → Text → Slice
-  tag_slice : Place → Text → Tag → Slice
+  text_slice : Place → Edge → Text → Text → Edge → Slice
+  tag_slice : Place → Text → Tag → Edge → Slice
 
--- Behind a beginning of the source stand a text, empty or not, and a tag.
-pub record TextAndTag (source before : Text) : Type 0 where
+-- Behind the opening of a raw block only its end may stand.
+abbrev pub may_follow : Edge → Tag → Bool
+may_follow e t = not e.is_raw || is_raw_close t
+
+-- Behind a beginning of the source, which ends with this edge, stand a text, empty or not, and a tag.
+pub record TextAndTag (source before : Text) (edge : Edge) : Type 0 where
   pub text : Text
   pub kept : Text
   pub slice : Text
   pub tag : Tag
+  pub tildes : Tildes
   pub rest : Text
   pub whole : source ≡ before ++ (text ++ (slice ++ rest))
-  pub is_text : IsText (slice ++ rest) text kept
-  pub is_tag : IsTag slice rest tag
+  pub is_text : IsText (braces_behind edge) (slice ++ rest) text kept
+  pub is_tag : IsTag slice rest tag tildes
+  pub may_follow : may_follow edge tag ≡ true
 
-abbrev pub tag_place : {source before : Text} → TextAndTag source before → Place
+abbrev pub tag_place : {source before : Text} {edge : Edge} → TextAndTag source before edge → Place
 tag_place {before = before} x = place (before ++ x.text)
 
-abbrev pub slices_of : {source before : Text} → TextAndTag source before → List Slice
-slices_of {before = before} x = text_slice (place before) x.text x.kept ∷ tag_slice (tag_place x) x.slice x.tag ∷ []
+abbrev pub tag_edge : {source before : Text} {edge : Edge} → TextAndTag source before edge → Edge
+tag_edge {before = before} x = edge_of (before ++ x.text) x.tag x.tildes x.rest
 
--- Reads source before ps: the source begins with the slices ps, which join to before. No tag nests too deep.
-pub data Reads (source : Text) : Text → List Slice → Type 0 where
-  starts : Reads source [] []
-  goes_on : {before : Text} {ps : List Slice} → Reads source before ps → (x : TextAndTag source before)
-      → tag_depth x.tag ≤ max_nesting → Reads source (before ++ (x.text ++ x.slice)) (ps ++ slices_of x)
+abbrev pub text_slice_of : {source before : Text} {edge : Edge} → TextAndTag source before edge → Slice
+text_slice_of {before = before} {edge = edge} x = text_slice (place before) edge x.text x.kept (tag_edge x)
+
+abbrev pub slices_of : {source before : Text} {edge : Edge} → TextAndTag source before edge → List Slice
+slices_of x = text_slice_of x ∷ tag_slice (tag_place x) x.slice x.tag (tag_edge x) ∷ []
+
+-- Reads source before edge ps: the source begins with the slices ps, which join to before; the last of them has this edge.
+pub data Reads (source : Text) : Text → Edge → List Slice → Type 0 where
+  starts : Reads source [] no_edge []
+  goes_on : {before : Text} {edge : Edge} {ps : List Slice} → Reads source before edge ps
+      → (x : TextAndTag source before edge)
+      → Reads source (before ++ (x.text ++ x.slice)) (tag_edge x) (ps ++ slices_of x)
 
 -- The slices are the whole source, and end with a text.
 pub record IsCut (source : Text) (ps : List Slice) : Type 0 where
   pub before : Text
+  pub edge : Edge
   pub slices : List Slice
-  pub begins : Reads source before slices
+  pub begins : Reads source before edge slices
   pub text : Text
   pub kept : Text
   pub whole : source ≡ before ++ text
-  pub is_text : IsText [] text kept
-  pub gives : ps ≡ slices ++ text_slice (place before) text kept ∷ []
+  pub is_text : IsText (braces_behind edge) [] text kept
+  pub gives : ps ≡ slices ++ text_slice (place before) edge text kept no_edge ∷ []
+
+-- what slices spell
+abbrev pub spelled : List Slice → Text
+spelled [] = []
+spelled (text_slice p e slice kept n ∷ ps) = slice ++ spelled ps
+spelled (tag_slice p slice t e ∷ ps) = slice ++ spelled ps
+
+-- the slices of a cut join to the source
+abbrev pub CutsJoin : Type 0
+CutsJoin = (source : Text) (ps : List Slice) → IsCut source ps → spelled ps ≡ source
+
+-- a source has at most one cut
+abbrev pub OneCut : Type 0
+OneCut = (source : Text) (ps qs : List Slice) → IsCut source ps → IsCut source qs → ps ≡ qs

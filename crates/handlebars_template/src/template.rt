@@ -8,8 +8,8 @@ mod nest;
 mod parameter;
 mod place;
 mod placed;
-mod tag;
-mod text;
+mod scan;
+mod tags;
 mod tree;
 
 pub use compile::TemplateOptions;

@@ -1,19 +1,17 @@
 //! From a source to its tree.
 
-ghost use Rattle.std.specs.Prelude.{◌≡◌, ◌≢◌, ◌++◌, ◌∷◌, [], IfOk, IfErr, OnOk, IsSome, map, string_bytes, false};
+ghost use Rattle.std.specs.Prelude.{◌≡◌, ◌≢◌, [], IfOk, IfErr, IsSome, string_bytes};
 ghost use Rattle.handlebars_base.specs.Reasons.{template_out_of_memory};
-ghost use Rattle.handlebars_base.specs.TemplateRefusals.{template_refusal_of, shown_lines};
-ghost use Rattle.handlebars_base.specs.Bytes.{Text};
-ghost use Rattle.handlebars_template.specs.Cut.{text_slice};
-ghost use Rattle.handlebars_template.specs.Compile.{Compiles, compiled, refused, no_options, named_options, syntax_refusal, slice_elements, slice_places};
+ghost use Rattle.handlebars_base.specs.TemplateRefusals.{template_reason_of, template_refusal_of, shown_lines};
+ghost use Rattle.handlebars_template.specs.Compile.{Compiles, compiled, refused, no_options, named_options, tree_of, syntax_refusal, refusal_for};
 ghost use Rattle.handlebars_template.specs.OptionsView.{options_view};
-ghost use Rattle.handlebars_template.specs.TreeView.{tree_view, element_view, place_of};
+ghost use Rattle.handlebars_template.specs.NestView.{placed_view, late_fault};
+ghost use Rattle.handlebars_template.specs.TreeView.{tree_view, place_of};
 
-use crate::template::parameter::invalid;
-use crate::template::place::advance;
-use crate::template::tag::{TagFront, tag};
-use crate::template::text::{TextFront, text};
-use crate::template::tree::{Template, TemplateElement, TemplateMapping};
+use crate::template::nest::{Late, SyntaxFault};
+use crate::template::placed::PlacedElements;
+use crate::template::scan::{Found, scan};
+use crate::template::tree::{Template, TemplateMapping};
 use handlebars_base::error::{TemplateError, TemplateErrorReason};
 use std::alloc::{AllocError, Global};
 
@@ -55,10 +53,15 @@ impl Template {
         Template::compile2(alloc, source, options)
     }
 
-    /// The tree of a source, or what is refused first: a tag that doesn't read, `InvalidSyntax("unreadable tag")`, or
-    /// one that nests deeper than 200, `InvalidSyntax("nesting too deep")`, both at its position, in the template of
-    /// the name that is given, or `Unnamed`; and where all tags read, a literal with no value, `InvalidParam` of its
-    /// text alone. In time linear in the source, but for the order of keys and the values of literals.
+    /// The tree of a source, or what is refused first. Syntax comes first, tag by tag along the source: a tag that
+    /// doesn't read, or isn't the end of the raw block in which it stands, `InvalidSyntax("unreadable tag")`; an
+    /// inverse or a close where none may stand, `InvalidSyntax("unexpected tag")`; a tag inside which, or inside whose
+    /// block, more than 200 blocks, chained inverses, parentheses and brackets of literals are open at once,
+    /// `InvalidSyntax("nesting too deep")`; and at the end of the source, at the place of the innermost open block,
+    /// `InvalidSyntax("block not closed")`. Where there is none, the first of these: a name that closes the block of
+    /// another, `MismatchingClosedHelper` of both, or a literal with no value, `InvalidParam` of its text alone. But for
+    /// the last, each has its position, in the template of the name that is given, or `Unnamed`. In time linear in the
+    /// source, but for the order of keys and the values of literals, and without recursion.
     pub fn compile2(
         alloc: Global,
         source: &str,
@@ -70,87 +73,56 @@ impl Template {
             → Compiles source.now (options_view options) (refused (template_refusal_of e))) }
         ensures shown { IfErr result (λ e. IsSome (template_refusal_of e).position → IsSome (shown_lines e)) }
     {
-        let mut tree = Growing {
-            elements: Vec::new(alloc),
-            mapping: Vec::new(alloc),
-        };
-        let mut refused = None;
-        let mut place = TemplateMapping(1, 1);
-        let mut front = text(alloc, source)?;
-        'tags: while !front.rest.is_empty() {
-            let left = front.rest;
-            let at = advance(place, front.slice);
-            let found = match tag(alloc, left)? {
-                TagFront::Unreadable => {
-                    let message = "unreadable tag";
-                    return Err(syntax_error(alloc, source, options, at, message)?);
-                }
-                TagFront::TooDeep => {
-                    let message = "nesting too deep";
-                    return Err(syntax_error(alloc, source, options, at, message)?);
-                }
-                TagFront::Tag(found) => found,
-            };
-            tree.add_text(place, front)?;
-            tree.add_element(at, found.element)?;
-            refused = refused.or(found.refused);
-            place = advance(at, left.split_at(left.len() - found.rest.len()).0);
-            front = text(alloc, found.rest)?;
+        match scan(alloc, source)? {
+            Found::Whole(elements) => Ok(named_tree(options, elements)),
+            Found::Unreadable(at) => {
+                Err(syntax_error(alloc, source, options, at, "unreadable tag")?)
+            }
+            Found::Misplaced(SyntaxFault::Unexpected, at) => {
+                Err(syntax_error(alloc, source, options, at, "unexpected tag")?)
+            }
+            Found::Misplaced(SyntaxFault::TooDeep, at) => {
+                Err(syntax_error(alloc, source, options, at, "nesting too deep")?)
+            }
+            Found::NotClosed(at) => {
+                Err(syntax_error(alloc, source, options, at, "block not closed")?)
+            }
+            Found::Late(late) => Err(late_error(alloc, source, options, late)?),
         }
-        if let Some(raw) = refused {
-            return Err(invalid(alloc, raw)?);
-        }
-        tree.add_text(place, front)?;
-        Ok(Template {
-            name: options.name,
-            elements: tree.elements,
-            mapping: tree.mapping,
-        })
     }
 }
 
-// The elements so far, and where each begins.
-#[derive(Drop)]
-struct Growing {
-    elements: Vec<TemplateElement>,
-    mapping: Vec<TemplateMapping>,
+fn named_tree(options: TemplateOptions, elements: PlacedElements) -> Template
+    ensures { tree_view result ≡ tree_of (options_view options) (placed_view elements) }
+{
+    Template {
+        name: options.name,
+        elements: elements.elements,
+        mapping: elements.mapping,
+    }
 }
 
-impl Growing {
-    // An empty slice has no element.
-    fn add_text(&mut self, place: TemplateMapping, front: TextFront) -> Result<(), AllocError>
-        ensures elements { let text = text_slice (place_of place) front.entry.slice.now (string_bytes front.entry.kept) in
-            OnOk result (map element_view self.new.elements.items
-            ≡ map element_view self.old.elements.items ++ slice_elements (text ∷ [])) }
-        ensures places { let text = text_slice (place_of place) front.entry.slice.now (string_bytes front.entry.kept) in
-            OnOk result (map place_of self.new.mapping.items
-            ≡ map place_of self.old.mapping.items ++ slice_places (text ∷ [])) }
-    {
-        if front.slice.is_empty() {
-            return Ok(());
+// The refusal of a closing name, or of a literal.
+fn late_error(
+    alloc: Global,
+    source: &str,
+    options: TemplateOptions,
+    late: Late,
+) -> Result<TemplateError, AllocError>
+    ensures refusal { IfOk result (λ e. (template_refusal_of e).reason ≢ template_out_of_memory
+        → template_refusal_of e ≡ refusal_for (options_view options) (late_fault late)) }
+    ensures shown { IfOk result (λ e. IsSome (template_refusal_of e).position → IsSome (shown_lines e)) }
+{
+    match late {
+        Late::NoValue(raw) => Ok(TemplateError::of(TemplateErrorReason::InvalidParam(raw))),
+        Late::Mismatched(opened, closing, at) => {
+            let reason = TemplateErrorReason::MismatchingClosedHelper(opened, closing);
+            placed_error(alloc, source, options, at, reason)
         }
-        self.elements.push(TemplateElement::RawString(front.kept))?;
-        self.mapping.push(place)?;
-        Ok(())
-    }
-
-    fn add_element(
-        &mut self,
-        place: TemplateMapping,
-        element: TemplateElement,
-    ) -> Result<(), AllocError>
-        ensures elements { OnOk result (map element_view self.new.elements.items
-            ≡ map element_view self.old.elements.items ++ element_view element ∷ []) }
-        ensures places { OnOk result (map place_of self.new.mapping.items
-            ≡ map place_of self.old.mapping.items ++ place_of place ∷ []) }
-    {
-        self.elements.push(element)?;
-        self.mapping.push(place)?;
-        Ok(())
     }
 }
 
-// The refusal of a tag.
+// The refusal of a tag, or of a block that is not closed.
 fn syntax_error(
     alloc: Global,
     source: &str,
@@ -163,6 +135,22 @@ fn syntax_error(
     ensures shown { IfOk result (λ e. IsSome (template_refusal_of e).position → IsSome (shown_lines e)) }
 {
     let reason = TemplateErrorReason::InvalidSyntax(String::from_str(alloc, message)?);
+    placed_error(alloc, source, options, at, reason)
+}
+
+// A refusal at a place, in the template of the options' name.
+fn placed_error(
+    alloc: Global,
+    source: &str,
+    options: TemplateOptions,
+    at: TemplateMapping,
+    reason: TemplateErrorReason,
+) -> Result<TemplateError, AllocError>
+    ensures refusal { IfOk result (λ e. (template_refusal_of e).reason ≢ template_out_of_memory
+        → template_refusal_of e
+        ≡ record (syntax_refusal [] (options_view options) (place_of at)) { reason = template_reason_of reason }) }
+    ensures shown { IfOk result (λ e. IsSome (template_refusal_of e).position → IsSome (shown_lines e)) }
+{
     let name = match options.name {
         Some(name) => name,
         None => String::from_str(alloc, "Unnamed")?,

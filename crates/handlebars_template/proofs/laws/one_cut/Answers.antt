@@ -1,4 +1,4 @@
-use Rattle.handlebars_template.proofs.One.{one_cut}
+use Rattle.handlebars_template.proofs.Cuts.{one_cut}
 use Rattle.handlebars_template.proofs.laws.one_cut.Goals as goal
 
 pub returns : goal.returns

@@ -1,0 +1,222 @@
+-- A source read by functions, so that running them tells what a worked source compiles to.
+use Rattle.std.proofs.Common.{◌≡◌, ℕ, suc, Bool, true, false, cond, Option, Some, None, [], ◌∷◌, ◌++◌, length, refl, sym, ap, ◌∙◌, subst, arith, inl, inr}
+use Rattle.std.specs.List.{list_all}
+use Rattle.std.proofs.lemmas.Option.{same_Some, none-some}
+use Rattle.handlebars_base.specs.Bytes.{Text, is_white, behind_white}
+use Rattle.handlebars_base.specs.Path.{is_symbol, Reference, raw_of}
+use Rattle.handlebars_base.specs.PathReading.{◌>>=◌, symbols_of, behind_symbols}
+use Rattle.handlebars_base.proofs.OptionBinds.{bind_some, cond_is}
+use Rattle.handlebars_lines.specs.Literal.{starts}
+use Rattle.handlebars_lines.specs.Runs.{run as steps}
+use Rattle.handlebars_lines.specs.Parameter.{Term, literal_term, path_term, call_term}
+use Rattle.handlebars_lines.specs.Line.{Enclosure, in_tag, in_block, Line, IsLine, NoLine}
+use Rattle.handlebars_lines.specs.LineReading.{state, at_name, line_step, line_from}
+use Rattle.handlebars_lines.specs.Binding.{Binding}
+use Rattle.handlebars_lines.specs.BindingReading.{binding_at}
+use Rattle.handlebars_lines.proofs.Stepping.{run-runs, run-some}
+use Rattle.handlebars_lines.proofs.Lines.{line_made, line_found}
+use Rattle.handlebars_lines.proofs.LineBounds.{line_shortens}
+use Rattle.handlebars_lines.proofs.Bindings.{binding_at-takes}
+use Rattle.handlebars_tags.specs.Text.{Braces, IsText, at_end, at_tag, a_byte, braces, before_braces}
+use Rattle.handlebars_tags.specs.Kind.{Kind, expression_kind, html_kind, html_sign_kind, block_kind, close_kind, inverse_kind, else_kind, raw_kind, raw_close_kind, comment_kind, other_kind, Beginning, beginning, beginning_of, closing_of}
+use Rattle.handlebars_tags.specs.Tag.{BlockLine, Tag, expression_tag, html_tag, block_tag, inverse_tag, chain_tag, close_tag, raw_tag, raw_close_tag, Tildes, IsBlockLine, close_name_at, Says, a_value, a_raw_value, a_signed_value, a_block, a_close, an_inverse, an_else, a_chain, a_raw_block, a_raw_close, IsTag, NoTag}
+
+-- a value where a test holds
+abbrev pub guarded : {A : Type 0} → Bool → A → Option A
+guarded true x = Some x
+guarded false x = None
+
+pub guarded_some : {A : Type 0} (b : Bool) (x y : A) → guarded b x ≡ Some y → (b ≡ true) × (x ≡ y)
+guarded_some true x y e = (refl, same_Some x y e)
+guarded_some false x y e = absurd (none-some y e)
+
+-- ---- lines
+
+abbrev pub line_at : Enclosure → Text → Option (Line × Text)
+line_at around t = steps (line_step around) (suc (length t)) (state at_name 0) t >>= λ r. line_from r.0 >>= λ line. Some (line, r.1)
+
+line_at-is : (around : Enclosure) (t : Text) (q : Line × Text) → line_at around t ≡ Some q → IsLine around t q.0 q.1
+line_at-is around t q e =
+    let r = bind_some (steps (line_step around) (suc (length t)) (state at_name 0) t) _ q e in
+    let l = bind_some (line_from r.0.0) _ q r.2 in
+    let made = line_made around t r.0.0 r.0.1 (run-runs (line_step around) (suc (length t)) (state at_name 0) t r.0 r.1) in
+    let same : (made.line, r.0.1) ≡ q = ap (λ (z : Line). (z, r.0.1)) (same_Some made.line l.0 (sym made.from ∙ l.1)) ∙ same_Some (l.0, r.0.1) q l.2 in
+    subst (λ (z : Line × Text). IsLine around t z.0 z.1) same made.is
+
+abbrev name_of : Term → Option Reference
+name_of (literal_term raw) = None
+name_of (path_term r) = Some r
+name_of (call_term n terms) = None
+
+name_of-is : (t : Term) (r : Reference) → name_of t ≡ Some r → t ≡ path_term r
+name_of-is (literal_term raw) r e = absurd (none-some r e)
+name_of-is (path_term x) r e = ap path_term (same_Some x r e)
+name_of-is (call_term n terms) r e = absurd (none-some r e)
+
+abbrev block_with : Line → Reference → Binding × Text → BlockLine × Text
+block_with line r b = (record { name = raw_of r; terms = line.terms; binding = b.0; depth = line.depth }, b.1)
+
+abbrev pub block_line_at : Text → Option (BlockLine × Text)
+block_line_at t = line_at in_block t >>= λ l. name_of l.0.name >>= λ r. binding_at l.1 >>= λ b. guarded (list_all is_symbol (raw_of r)) (block_with l.0 r b)
+
+block_line_at-is : (t : Text) (q : BlockLine × Text) → block_line_at t ≡ Some q → IsBlockLine t q.0 q.1
+block_line_at-is t q e =
+    let l = bind_some (line_at in_block t) _ q e in
+    let r = bind_some (name_of l.0.0.name) _ q l.2 in
+    let b = bind_some (binding_at l.0.1) _ q r.2 in
+    let g = guarded_some (list_all is_symbol (raw_of r.0)) (block_with l.0.0 r.0 b.0) q b.2 in
+    let is = line_at-is in_block t l.0 l.1 in
+    let named : l.0.0 ≡ record { name = path_term r.0; terms = l.0.0.terms; depth = l.0.0.depth } = ap (λ (z : Term). record { name = z; terms = l.0.0.terms; depth = l.0.0.depth }) (name_of-is l.0.0.name r.0 r.1) in
+    subst (λ (z : BlockLine × Text). IsBlockLine t z.0 z.1) g.1 (record {
+      name = r.0;
+      behind = l.0.1;
+      is_line = subst (λ (z : Line). IsLine in_block t z l.0.1) named is;
+      is_name = refl;
+      is_identifier = g.0;
+      binds = binding_at-takes l.0.1 b.0 b.1;
+    })
+
+-- ---- tags
+
+abbrev tagged : (Line → Tag) → Option (Line × Text) → Option (Tag × Text)
+tagged f o = o >>= λ l. Some (f l.0, l.1)
+
+abbrev block_tagged : (BlockLine → Tag) → Option (BlockLine × Text) → Option (Tag × Text)
+block_tagged f o = o >>= λ l. Some (f l.0, l.1)
+
+abbrev else_at : Option (Bool × Text) → Text → Option (Tag × Text)
+else_at None t = cond (starts is_white t) (block_tagged chain_tag (block_line_at (behind_white t))) None
+else_at (Some c) t = Some (inverse_tag, t)
+
+abbrev raw_close_at : Text → Text → Option (Tag × Text)
+raw_close_at [] rest = None
+raw_close_at (b ∷ n) rest = Some (raw_close_tag (b ∷ n), rest)
+
+abbrev pub says_at : Kind → Text → Option (Tag × Text)
+says_at expression_kind t = tagged expression_tag (line_at in_tag t)
+says_at html_kind t = tagged html_tag (line_at in_tag t)
+says_at html_sign_kind t = tagged html_tag (line_at in_tag t)
+says_at block_kind t = block_tagged block_tag (block_line_at t)
+says_at close_kind t = Some (close_tag (close_name_at t).0, (close_name_at t).1)
+says_at inverse_kind t = Some (inverse_tag, t)
+says_at else_kind t = else_at (closing_of else_kind t) t
+says_at raw_kind t = block_tagged raw_tag (block_line_at t)
+says_at raw_close_kind t = raw_close_at (symbols_of t) (behind_symbols t)
+says_at comment_kind t = None
+says_at other_kind t = None
+
+abbrev SaysSo : Kind → Text → Tag × Text → Type 0
+SaysSo k t q = Says k t q.0 q.1
+
+tagged-is : (k : Kind) (f : Line → Tag) (t : Text) (q : Tag × Text) → tagged f (line_at in_tag t) ≡ Some q
+    → ((line : Line) (rest : Text) → IsLine in_tag t line rest → Says k t (f line) rest) → Says k t q.0 q.1
+tagged-is k f t q e says =
+    let l = bind_some (line_at in_tag t) _ q e in
+    subst (SaysSo k t) (same_Some (f l.0.0, l.0.1) q l.2) (says l.0.0 l.0.1 (line_at-is in_tag t l.0 l.1))
+
+block_tagged-is : (k : Kind) (f : BlockLine → Tag) (t inside : Text) (q : Tag × Text) → block_tagged f (block_line_at t) ≡ Some q
+    → ((line : BlockLine) (rest : Text) → IsBlockLine t line rest → Says k inside (f line) rest) → Says k inside q.0 q.1
+block_tagged-is k f t inside q e says =
+    let l = bind_some (block_line_at t) _ q e in
+    subst (SaysSo k inside) (same_Some (f l.0.0, l.0.1) q l.2) (says l.0.0 l.0.1 (block_line_at-is t l.0 l.1))
+
+else_at-is : (o : Option (Bool × Text)) (t : Text) (q : Tag × Text) → else_at o t ≡ Some q → Says else_kind t q.0 q.1
+else_at-is (Some c) t q e = subst (SaysSo else_kind t) (same_Some (inverse_tag, t) q e) (an_else t)
+else_at-is None t q e = elim (cond_is (starts is_white t) (block_tagged chain_tag (block_line_at (behind_white t))) None (Some q) e) [
+  | inl white ↦ block_tagged-is else_kind chain_tag (behind_white t) t q white.1 (λ line rest is. a_chain white.0 is)
+  | inr other ↦ absurd (none-some q other.1)
+]
+
+raw_close_at-is : (n t : Text) (q : Tag × Text) → n ≡ symbols_of t → raw_close_at n (behind_symbols t) ≡ Some q → Says raw_close_kind t q.0 q.1
+raw_close_at-is [] t q is e = absurd (none-some q e)
+raw_close_at-is (b ∷ n) t q is e =
+    subst (SaysSo raw_close_kind t) (ap (λ (z : Text). (raw_close_tag z, behind_symbols t)) (sym is) ∙ same_Some (raw_close_tag (b ∷ n), behind_symbols t) q e)
+    (a_raw_close t (λ none. cons-nil b n (is ∙ none)))
+  where
+    cons-nil : (b : ℕ) (n : Text) → b ∷ n ≡ [] → ⊥
+    cons-nil b n same = absurd cc
+
+says_at-is : (k : Kind) (t : Text) (q : Tag × Text) → says_at k t ≡ Some q → Says k t q.0 q.1
+says_at-is expression_kind t q e = tagged-is expression_kind expression_tag t q e (λ line rest is. a_value is)
+says_at-is html_kind t q e = tagged-is html_kind html_tag t q e (λ line rest is. a_raw_value is)
+says_at-is html_sign_kind t q e = tagged-is html_sign_kind html_tag t q e (λ line rest is. a_signed_value is)
+says_at-is block_kind t q e = block_tagged-is block_kind block_tag t t q e (λ line rest is. a_block is)
+says_at-is close_kind t q e = subst (SaysSo close_kind t) (same_Some (close_tag (close_name_at t).0, (close_name_at t).1) q e) (a_close t)
+says_at-is inverse_kind t q e = subst (SaysSo inverse_kind t) (same_Some (inverse_tag, t) q e) (an_inverse t)
+says_at-is else_kind t q e = else_at-is (closing_of else_kind t) t q e
+says_at-is raw_kind t q e = block_tagged-is raw_kind raw_tag t t q e (λ line rest is. a_raw_block is)
+says_at-is raw_close_kind t q e = raw_close_at-is (symbols_of t) t q refl e
+says_at-is comment_kind t q e = absurd (none-some q e)
+says_at-is other_kind t q e = absurd (none-some q e)
+
+pub record TagFound : Type 0 where
+  pub tag : Tag
+  pub tildes : Tildes
+  pub rest : Text
+
+abbrev tag_found : Bool → Tag → Bool × Text → TagFound
+tag_found l t c = record { tag = t; tildes = record { left = l; right = c.0 }; rest = c.1 }
+
+abbrev pub tag_at : Text → Option TagFound
+tag_at t = beginning_of t >>= λ b. says_at b.kind b.inside >>= λ s. closing_of b.kind s.1 >>= λ c. Some (tag_found b.tilde s.0 c)
+
+pub tag_at-is : (slice rest : Text) (f : TagFound) → tag_at (slice ++ rest) ≡ Some f → f.rest ≡ rest → IsTag slice rest f.tag f.tildes
+tag_at-is slice rest f e is =
+    let b = bind_some (beginning_of (slice ++ rest)) _ f e in
+    let s = bind_some (says_at b.0.kind b.0.inside) _ f b.2 in
+    let c = bind_some (closing_of b.0.kind s.0.1) _ f s.2 in
+    let same = same_Some (tag_found b.0.tilde s.0.0 c.0) f c.2 in
+    let behind : c.0.1 ≡ rest = ap (λ (z : TagFound). z.rest) same ∙ is in
+    subst (λ (z : TagFound). IsTag slice rest z.tag z.tildes) same (record {
+      begins = b.0;
+      behind = s.0.1;
+      is_beginning = b.1;
+      left = refl;
+      says = says_at-is b.0.kind b.0.inside s.0 s.1;
+      closes = c.1 ∙ ap (λ (z : Text). Some (c.0.0, z)) behind;
+    })
+
+-- ---- where nothing is read
+
+pub no_line_at : (around : Enclosure) (t : Text) → steps (line_step around) (suc (length t)) (state at_name 0) t ≡ None → NoLine around t
+no_line_at around t stops line left is =
+    let found = line_found around t line left is in
+    none-some (found.events, left) (sym stops ∙ run-some (line_step around) (line_shortens around) (suc (length t)) (state at_name 0) t found.events left (omega arith) found.runs)
+
+no_value : (inside : Text) (tag : Tag) (behind : Text) → NoLine in_tag inside → Says expression_kind inside tag behind → ⊥
+no_value inside tag behind none (a_value {line = line} is) = none line behind is
+
+pub no_value_tag : (left inside : Text) (tilde : Bool) → beginning_of left ≡ Some (beginning expression_kind tilde inside) → NoLine in_tag inside → NoTag left
+no_value_tag left inside tilde o none slice rest t tildes is tag =
+    let same = same_Some (beginning expression_kind tilde inside) tag.begins (sym o ∙ ap beginning_of is ∙ tag.is_beginning) in
+    no_value inside t tag.behind none (subst (λ (z : Beginning). Says z.kind z.inside t tag.behind) (sym same) tag.says)
+
+-- ---- texts without escapes
+
+abbrev longer : ℕ → Text × Text → Text × Text
+longer b q = (b ∷ q.0, q.1)
+
+-- a text up to braces or the end, and what follows it
+abbrev pub text_at : Braces → Text → Option (Text × Text)
+text_at w [] = Some ([], [])
+text_at w (b ∷ t) = cond (braces w (b ∷ t)) (Some ([], b ∷ t)) (cond (before_braces w (b ∷ t)) None (text_at w t >>= λ q. Some (longer b q)))
+
+pub record FoundText (w : Braces) (t : Text) (q : Text × Text) : Type 0 where
+  pub whole : t ≡ q.0 ++ q.1
+  pub is_text : IsText w q.1 q.0 q.0
+
+pub text_at-is : (w : Braces) (t : Text) (q : Text × Text) → text_at w t ≡ Some q → FoundText w t q
+text_at-is w [] q e = subst (FoundText w []) (same_Some ([], []) q e) (record { whole = refl; is_text = at_end refl })
+text_at-is w (b ∷ t) q e = elim (cond_is (braces w (b ∷ t)) (Some ([], b ∷ t)) (cond (before_braces w (b ∷ t)) None (text_at w t >>= λ q. Some (longer b q))) (Some q) e) [
+  | inl here ↦ subst (FoundText w (b ∷ t)) (same_Some ([], b ∷ t) q here.1) (record { whole = refl; is_text = at_tag 0 here.0 (λ same. absurd (omega (arith, same))) })
+  | inr on ↦ elim (cond_is (before_braces w (b ∷ t)) None (text_at w t >>= λ q. Some (longer b q)) (Some q) on.1) [
+    | inl marks ↦ absurd (none-some q marks.1)
+    | inr clear ↦
+        let r = bind_some (text_at w t) (λ (q : Text × Text). Some (longer b q)) q clear.1 in
+        let h = text_at-is w t r.0 r.1 in
+        subst (FoundText w (b ∷ t)) (same_Some (longer b r.0) q r.2) (record {
+          whole = ap (λ (z : Text). b ∷ z) h.whole;
+          is_text = a_byte b (ap (λ (z : Text). before_braces w (b ∷ z)) (sym h.whole) ∙ clear.0) h.is_text;
+        })
+  ]
+]

@@ -1,0 +1,66 @@
+-- What is built of tags, and what it stands for.
+use Rattle.std.proofs.Common.{◌≡◌, ℕ, Bool, false, refl, sym, ap, subst, ◌∙◌, rules, Result, Ok, Err, Option, option_map}
+use Rattle.std.specs.Prelude.{OnOk, String}
+use Rattle.std.specs.declared.alloc.Global.{Global}
+use Rattle.handlebars_base.specs.Bytes.{Text}
+use Rattle.handlebars_lines.specs.Line.{Line, in_tag, IsLine}
+use Rattle.handlebars_tags.specs.Tag.{Tag, BlockLine}
+use Rattle.handlebars_tags.specs.Trim.{Edge}
+use Rattle.handlebars_tags.specs.TagView.{HoldsLine, HoldsBlock, IsBlockSlice}
+use Rattle.handlebars_tags.specs.declared.tag.inside.BlockSlice.{BlockSlice}
+use Rattle.handlebars_template.specs.Place.{Place}
+use Rattle.handlebars_template.specs.Tree.{Element, Binding, Params, Pairs, args, name, both}
+use Rattle.handlebars_template.specs.TreeView.{text, binding_view}
+use Rattle.handlebars_template.specs.Calls.{call_of, first_refused, line_literals}
+use Rattle.handlebars_template.specs.Nest.{Opening as Said, leaf, opens, chains}
+use Rattle.handlebars_template.specs.NestView.{opening_view, Does}
+use Rattle.handlebars_template.specs.Compile.{opening_of, tag_piece}
+use Rattle.handlebars_template.specs.ScanView.{value_element, value_piece, block_piece, chain_piece, Opening}
+use Rattle.handlebars_template.specs.declared.template.nest.Nesting.{Nesting}
+use Rattle.handlebars_template.specs.declared.template.tags.BuiltOpening.{BuiltOpening}
+use Rattle.handlebars_template.specs.declared.template.tree.BlockParam.{the_lemmas}
+use Rattle.handlebars_template.specs.declared.template.tree.BlockParam.TheViews.{Pair}
+use Rattle.handlebars_template.specs.declared.template.tree.BlockParam.TheBlock.{Name}
+
+pub OnOk-map : {A E P Q : Type 0} → (r : Result A E) → (P → Q) → OnOk r P → OnOk r Q
+OnOk-map (Ok x) f h = f h
+OnOk-map (Err e) f h = tt
+
+pub binding_view-Pair : (x y : String Global) → binding_view (Pair (Name x, Name y)) ≡ both (name (text x)) (name (text y))
+binding_view-Pair x y = search (rules, the_lemmas)
+
+abbrev pub said : Text → Bool → Params → Pairs → Binding → Bool → Said
+said n raw ps hs b indent = record { name = n; is_raw = raw; arguments = args ps hs; binding = b; indent = indent }
+
+pub said-along : (n m : Text) (raw : Bool) (ps qs : Params) (hs gs : Pairs) (b c : Binding) (i j : Bool) → n ≡ m → ps ≡ qs → hs ≡ gs → b ≡ c → i ≡ j
+    → said n raw ps hs b i ≡ said m raw qs gs c j
+said-along n m raw ps qs hs gs b c i j one two three four five = rw (one, two, three, four, five) refl
+
+-- ---- a tag does what its line does
+
+pub Does-value : (old new : Nesting) (p : Place) (is_escaped : Bool) (line : Line) (e : Element) (refused : Option Text)
+    → e ≡ value_element is_escaped (call_of line.name line.terms) → refused ≡ first_refused (line_literals line)
+    → ((n : ℕ) → Does old (leaf p e n refused) new) → Does old (value_piece is_escaped p line) new
+Does-value old new p is_escaped line e refused one two does =
+    subst (λ (r : Option Text). Does old (leaf p (value_element is_escaped (call_of line.name line.terms)) line.depth r) new) two
+    (subst (λ (x : Element). Does old (leaf p x line.depth refused) new) one (does line.depth))
+
+pub Does-opens : (old new : Nesting) (p : Place) (e : Edge) (line : BlockLine) (is_raw : Bool) (built : BuiltOpening) → Opening is_raw e line built
+    → ((n : ℕ) → Does old (opens p (opening_view built.opening) n (option_map (λ t. t.now) built.refused)) new) → Does old (block_piece is_raw p e line) new
+Does-opens old new p e line is_raw built o does =
+    subst (λ (r : Option Text). Does old (opens p (opening_of is_raw e line) line.depth r) new) o.refused
+    (subst (λ (x : Said). Does old (opens p x line.depth (option_map (λ t. t.now) built.refused)) new) o.opening (does line.depth))
+
+pub Does-chains : (old new : Nesting) (p : Place) (e : Edge) (line : BlockLine) (built : BuiltOpening) → Opening false e line built
+    → ((n : ℕ) → Does old (chains p (opening_view built.opening) n (option_map (λ t. t.now) built.refused)) new) → Does old (chain_piece p e line) new
+Does-chains old new p e line built o does =
+    subst (λ (r : Option Text). Does old (chains p (opening_of false e line) line.depth r) new) o.refused
+    (subst (λ (x : Said). Does old (chains p x line.depth (option_map (λ t. t.now) built.refused)) new) o.opening (does line.depth))
+
+pub Does-line : (old new : Nesting) (p : Place) (e : Edge) (of : Line → Tag) (t : Text) (tag : Tag) → HoldsLine of t tag
+    → ((line : Line) (rest : Text) → IsLine in_tag t line rest → Does old (tag_piece p e (of line)) new) → Does old (tag_piece p e tag) new
+Does-line old new p e of t tag h does = subst (λ (z : Tag). Does old (tag_piece p e z) new) (sym h.gives) (does h.line h.behind h.is_line)
+
+pub Does-block : (old new : Nesting) (p : Place) (e : Edge) (of : BlockLine → Tag) (slice : BlockSlice) (tag : Tag) → HoldsBlock of slice tag
+    → ((line : BlockLine) (rest : Text) → IsBlockSlice slice line rest → Does old (tag_piece p e (of line)) new) → Does old (tag_piece p e tag) new
+Does-block old new p e of slice tag h does = subst (λ (z : Tag). Does old (tag_piece p e z) new) (sym h.gives) (does h.line h.rest h.is_slice)

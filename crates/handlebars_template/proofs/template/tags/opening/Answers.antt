@@ -1,0 +1,16 @@
+use Rattle.std.proofs.Common.{◌∙◌, sym, ap, refl}
+use Rattle.handlebars_template.specs.Compile.{binding_of}
+use Rattle.handlebars_template.proofs.TagsBuilt.{said-along}
+use Rattle.handlebars_template.proofs.template.tags.opening.Goals as goal
+
+-- A line stands there, so it was built.
+pub returns-in_default : goal.returns-in_default
+returns-in_default c line rest is = absurd (rw c.in_default.is at c.in_ok-line.ensures _ is.is_line.behind is.is_line.is_line)
+
+pub returns : goal.returns
+returns c line rest is =
+    let built = rw c.in-Some.is at c.in_ok-line.ensures _ is.is_line.behind is.is_line.is_line in
+    record {
+      opening = said-along _ line.name c.args.is_raw _ _ _ _ _ _ _ _ (c.in_ok-from_str.ensures.ok ∙ sym is.is_name) built.params built.pairs (c.in_ok-block_param.ensures ∙ ap binding_of (sym is.is_binding)) c.is_indented.ensures;
+      refused = built.refused;
+    }

@@ -1,0 +1,65 @@
+-- What the program builds of tags, and finds a source to be. Only the code's own contracts cite this.
+use Rattle.std.specs.Prelude.{◌≡◌, Bool, true, false, if◌then◌else◌, List, [], ◌∷◌, Option, None, option_map, MatchOption}
+use Rattle.handlebars_base.specs.Bytes.{Text}
+use Rattle.handlebars_lines.specs.Line.{Line}
+use Rattle.handlebars_tags.specs.Tag.{BlockLine}
+use Rattle.handlebars_tags.specs.Trim.{Edge, trimmed, has_element}
+use Rattle.handlebars_template.specs.Place.{Place}
+use Rattle.handlebars_template.specs.Tree.{Element, raw_string, html_expression, expression, Call}
+use Rattle.handlebars_template.specs.TreeView.{place_of}
+use Rattle.handlebars_template.specs.Calls.{call_of, first_refused, literals_in, line_literals}
+use Rattle.handlebars_template.specs.Nest.{Piece, leaf, opens, chains, not_closed, Placed}
+use Rattle.handlebars_template.specs.NestView.{placed_view, opening_view, late_fault, syntax_fault}
+use Rattle.handlebars_template.specs.Compile.{Options, opening_of, tree_of, unreadable, refusal_for, Compiles, compiled, refused}
+use Rattle.handlebars_template.specs.declared.template.tags.BuiltOpening.{BuiltOpening}
+use Rattle.handlebars_template.specs.declared.template.scan.Found.{Found}
+use Rattle.handlebars_template.specs.declared.template.scan.Found.TheVariants as found
+
+-- ---- tags
+
+-- a value, which is escaped or not
+abbrev pub value_element : Bool → Call → Element
+value_element true h = expression h
+value_element false h = html_expression h
+
+abbrev pub value_piece : Bool → Place → Line → Piece
+value_piece is_escaped p line =
+    leaf p (value_element is_escaped (call_of line.name line.terms)) line.depth (first_refused (line_literals line))
+
+-- the opening tag of a block, which is raw or not
+abbrev pub block_piece : Bool → Place → Edge → BlockLine → Piece
+block_piece is_raw p e line =
+    opens p (opening_of is_raw e line) line.depth (first_refused (literals_in line.terms))
+
+abbrev pub chain_piece : Place → Edge → BlockLine → Piece
+chain_piece p e line = chains p (opening_of false e line) line.depth (first_refused (literals_in line.terms))
+
+-- the opening that this line of a block says, and its first refused literal
+pub record Opening (is_raw : Bool) (e : Edge) (line : BlockLine) (built : BuiltOpening) : Type 0 where
+  pub opening : opening_view built.opening ≡ opening_of is_raw e line
+  pub refused : option_map (λ t. t.now) built.refused ≡ first_refused (literals_in line.terms)
+
+abbrev pub IsOpening : Bool → Edge → BlockLine → Option BuiltOpening → Type 0
+IsOpening is_raw e line read = MatchOption read ⊥ (Opening is_raw e line)
+
+-- ---- texts
+
+-- a text between two edges, where it has an element
+abbrev pub text_placed : Place → Edge → Text → Text → Edge → List Placed
+text_placed p e slice kept n =
+    if has_element e slice then record { place = p; element = raw_string (trimmed e kept n) } ∷ [] else []
+
+-- ---- a source
+
+-- The source comes to this, whatever its options are.
+abbrev pub IsFound : Text → Found → Type 0
+IsFound source (found.Whole es) =
+    (options : Options) → Compiles source options (compiled (tree_of options (placed_view es)))
+IsFound source (found.Unreadable p) =
+    (options : Options) → Compiles source options (refused (unreadable options (place_of p)))
+IsFound source (found.Misplaced f p) =
+    (options : Options) → Compiles source options (refused (refusal_for options (syntax_fault (place_of p) f)))
+IsFound source (found.NotClosed p) =
+    (options : Options) → Compiles source options (refused (refusal_for options (not_closed (place_of p))))
+IsFound source (found.Late l) =
+    (options : Options) → Compiles source options (refused (refusal_for options (late_fault l)))

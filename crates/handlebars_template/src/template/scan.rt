@@ -1,0 +1,113 @@
+//! From a source to its elements, in one pass over its texts and tags.
+
+ghost use Rattle.std.specs.Prelude.{◌≡◌, ◌++◌, IfOk, OnOk, string_bytes};
+ghost use Rattle.handlebars_tags.specs.TrimView.{edge_view};
+ghost use Rattle.handlebars_template.specs.TreeView.{place_of};
+ghost use Rattle.handlebars_template.specs.NestView.{placed_view, frames, late_of};
+ghost use Rattle.handlebars_tags.specs.Trim.{trimmed};
+ghost use Rattle.handlebars_template.specs.ScanView.{text_placed, IsFound};
+
+use crate::template::nest::{Late, Nested, Nesting, SyntaxFault};
+use crate::template::place::advance;
+use crate::template::placed::PlacedElements;
+use crate::template::tags::{edge_behind, look, may_follow, take_tag};
+use crate::template::tree::{TemplateElement, TemplateMapping};
+use handlebars_tags::tag::split_tag;
+use handlebars_tags::text::{TextFront, text};
+use handlebars_tags::trim::{Edge, braces_behind, fresh_behind, has_element, no_edge, trimmed};
+use std::alloc::{AllocError, Global};
+use std::mem;
+
+/// What a source is: its elements, or what is refused first.
+#[derive(Drop)]
+pub enum Found {
+    Whole(PlacedElements),
+    Unreadable(TemplateMapping),
+    Misplaced(SyntaxFault, TemplateMapping),
+    NotClosed(TemplateMapping),
+    Late(Late),
+}
+
+/// The elements of a source, or what is refused first. In time linear in the source, but for the order of keys and the
+/// values of literals.
+pub fn scan(alloc: Global, source: &str) -> Result<Found, AllocError>
+    ensures { IfOk result (λ found. IsFound source.now found) }
+{
+    let mut nesting = Nesting::new(alloc);
+    let mut place = TemplateMapping(1, 1);
+    let mut fresh = true;
+    let mut edge = no_edge();
+    let mut long_ahead = true;
+    let mut front = text(alloc, braces_behind(edge), source)?;
+    'tags: while !front.rest.is_empty() {
+        let left = front.rest;
+        let at = advance(place, front.slice);
+        let Some(tag) = split_tag(alloc, left, long_ahead)? else {
+            return Ok(Found::Unreadable(at));
+        };
+        if !may_follow(edge, tag.content) {
+            return Ok(Found::Unreadable(at));
+        }
+        let spelled = left.split_at(left.len() - tag.rest.len()).0;
+        let fresh_here = fresh_behind(fresh, front.slice);
+        let next = edge_behind(fresh_here, tag);
+        add_text(alloc, &mut nesting, place, edge, front, next)?;
+        if let Some(fault) = look(&nesting, tag.content, tag.depth) {
+            return Ok(Found::Misplaced(fault, at));
+        }
+        take_tag(alloc, &mut nesting, at, tag.content, next)?;
+        place = advance(at, spelled);
+        fresh = fresh_behind(fresh_here, spelled);
+        edge = next;
+        long_ahead = tag.long_ahead;
+        front = text(alloc, braces_behind(edge), tag.rest)?;
+    }
+    add_text(alloc, &mut nesting, place, edge, front, no_edge())?;
+    match nesting.finish() {
+        Nested::Whole(elements) => Ok(Found::Whole(elements)),
+        Nested::NotClosed(at) => Ok(Found::NotClosed(at)),
+        Nested::Late(late) => Ok(Found::Late(late)),
+    }
+}
+
+// What is kept of a text between two edges, which is copied again only where something of it goes.
+fn kept_text(
+    alloc: Global,
+    before: Edge,
+    kept: String,
+    behind: Edge,
+) -> Result<String, AllocError>
+    ensures { IfOk result (λ text. string_bytes text
+        ≡ trimmed (edge_view before) (string_bytes kept) (edge_view behind)) }
+{
+    let part = trimmed(before, kept.as_str(), behind);
+    if part == kept.as_str() {
+        Ok(kept)
+    } else {
+        Ok(String::from_str(alloc, part)?)
+    }
+}
+
+// A text stands next, where it has an element.
+fn add_text(
+    alloc: Global,
+    nesting: &mut Nesting,
+    place: TemplateMapping,
+    before: Edge,
+    front: TextFront,
+    behind: Edge,
+) -> Result<(), AllocError>
+    ensures depth { OnOk result (nesting.new.depth ≡ nesting.old.depth) }
+    ensures frames { OnOk result (frames nesting.new ≡ frames nesting.old) }
+    ensures late { OnOk result (late_of nesting.new ≡ late_of nesting.old) }
+    ensures elements { OnOk result (placed_view nesting.new.elements ≡ placed_view nesting.old.elements
+        ++ text_placed (place_of place) (edge_view before) front.entry.slice.now (string_bytes front.entry.kept) (edge_view behind)) }
+{
+    if !has_element(before, front.slice) {
+        return Ok(());
+    }
+    let kept = kept_text(alloc, before, front.kept, behind)?;
+    let elements = mem::replace(&mut nesting.elements, PlacedElements::new(alloc));
+    nesting.elements = elements.with(place, TemplateElement::RawString(kept))?;
+    Ok(())
+}

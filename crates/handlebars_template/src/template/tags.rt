@@ -1,0 +1,281 @@
+//! What is built of tags, and how they stand in the nesting.
+
+ghost use Rattle.std.specs.Prelude.{◌≡◌, ◌&&◌, not, IfOk, OnOk};
+ghost use Rattle.handlebars_base.specs.Bytes.{Text};
+ghost use Rattle.handlebars_lines.specs.Line.{Line, in_tag, IsLine};
+ghost use Rattle.handlebars_lines.specs.BindingView.{binding_of as means_of};
+ghost use Rattle.handlebars_tags.specs.Tag.{Tag, tag_depth, is_raw_close, BlockLine};
+ghost use Rattle.handlebars_tags.specs.Trim.{Edge as TextEdge, may_stand_alone, opens_raw, edge_with};
+ghost use Rattle.handlebars_tags.specs.TrimView.{edge_view};
+ghost use Rattle.handlebars_tags.specs.TagView.{Holds, IsBlockSlice};
+ghost use Rattle.handlebars_template.specs.Place.{Place};
+ghost use Rattle.handlebars_template.specs.TreeView.{call_view, element_view, block_param_view, place_of};
+ghost use Rattle.handlebars_template.specs.Calls.{call_of};
+ghost use Rattle.handlebars_template.specs.LineBuildingView.{IsCallOf};
+ghost use Rattle.handlebars_template.specs.NestView.{moved, Looks, Does};
+ghost use Rattle.handlebars_template.specs.Cut.{may_follow};
+ghost use Rattle.handlebars_template.specs.ScanView.{value_element, value_piece, block_piece, chain_piece, IsOpening};
+ghost use Rattle.handlebars_template.specs.Compile.{binding_of, tag_piece};
+
+use crate::template::chain::BlockOpening;
+use crate::template::line::{BuiltLine, build_line};
+use crate::template::nest::{Nesting, SyntaxFault};
+use crate::template::tree::{
+    BlockParam, HelperTemplate, Parameter, TemplateElement, TemplateMapping,
+};
+use handlebars_lines::binding::Binding;
+use handlebars_lines::line::Enclosure;
+use handlebars_tags::tag::{BlockSlice, Content, TagSlice};
+use handlebars_tags::trim::{Edge, edge_at};
+use std::alloc::{AllocError, Global};
+
+// Whether it may stand alone on its line: values never do.
+fn may_stand_alone(content: Content<'_>) -> bool
+    ensures { (tag : Tag) → Holds content.entry tag → result ≡ may_stand_alone tag }
+{
+    match content {
+        Content::Expression(_) => false,
+        Content::Html(_) => false,
+        Content::Block(_) => true,
+        Content::Inverse => true,
+        Content::Chain(_) => true,
+        Content::Close(_) => true,
+        Content::RawBlock(_) => true,
+        Content::RawClose(_) => true,
+        Content::Comment(_) => true,
+    }
+}
+
+fn opens_raw(content: Content<'_>) -> bool
+    ensures { (tag : Tag) → Holds content.entry tag → result ≡ opens_raw tag }
+{
+    match content {
+        Content::RawBlock(_) => true,
+        Content::Expression(_) => false,
+        Content::Html(_) => false,
+        Content::Block(_) => false,
+        Content::Inverse => false,
+        Content::Chain(_) => false,
+        Content::Close(_) => false,
+        Content::RawClose(_) => false,
+        Content::Comment(_) => false,
+    }
+}
+
+fn closes_raw(content: Content<'_>) -> bool
+    ensures { (tag : Tag) → Holds content.entry tag → result ≡ is_raw_close tag }
+{
+    match content {
+        Content::RawClose(_) => true,
+        Content::Expression(_) => false,
+        Content::Html(_) => false,
+        Content::Block(_) => false,
+        Content::Inverse => false,
+        Content::Chain(_) => false,
+        Content::Close(_) => false,
+        Content::RawBlock(_) => false,
+        Content::Comment(_) => false,
+    }
+}
+
+/// Behind the opening of a raw block only its end may stand.
+pub fn may_follow(edge: Edge, content: Content<'_>) -> bool
+    ensures { (tag : Tag) → Holds content.entry tag → result ≡ may_follow (edge_view edge) tag }
+{
+    !edge.is_raw || closes_raw(content)
+}
+
+/// What a tag does to the texts beside it, behind a line that is fresh or not.
+pub fn edge_behind(fresh: bool, tag: TagSlice<'_>) -> Edge
+    ensures { (t : Tag) → Holds tag.entry.content t → edge_view result
+        ≡ edge_with fresh t (record { left = tag.entry.left; right = tag.entry.right }) tag.entry.rest.now }
+{
+    let sides = Edge {
+        standalone: may_stand_alone(tag.content),
+        left: tag.left,
+        right: tag.right,
+        is_raw: opens_raw(tag.content),
+    };
+    edge_at(fresh, sides, tag.rest)
+}
+
+/// Whether a tag may stand next, with this many parentheses and brackets open in it. Nothing is built of it yet.
+pub fn look(nesting: &Nesting, content: Content<'_>, depth: usize) -> Option<SyntaxFault>
+    ensures { (p : Place) (e : TextEdge) (tag : Tag) → Holds content.entry tag → tag_depth tag ≡ depth
+        → Looks p (moved nesting.now (tag_piece p e tag)) result }
+{
+    match content {
+        Content::Expression(_) => nesting.look_at_leaf(depth),
+        Content::Html(_) => nesting.look_at_leaf(depth),
+        Content::Block(_) => nesting.look_at_opening(depth),
+        Content::Inverse => nesting.look_at_inverse(),
+        Content::Chain(_) => nesting.look_at_chained(depth),
+        Content::Close(name) => nesting.look_at_close(false, name),
+        Content::RawBlock(_) => nesting.look_at_opening(depth),
+        Content::RawClose(name) => nesting.look_at_close(true, name),
+        Content::Comment(_) => nesting.look_at_leaf(0),
+    }
+}
+
+// The call of a value, or of a helper.
+fn call(alloc: Global, line: BuiltLine) -> HelperTemplate
+    ensures { (means : Line) → IsCallOf means line.entry → call_view result ≡ call_of means.name means.terms }
+{
+    HelperTemplate {
+        name: line.name,
+        params: line.params,
+        hash: line.hash,
+        block_param: None,
+        template: None,
+        inverse: None,
+        block: false,
+        chain: false,
+        indent_before_write: false,
+    }
+}
+
+fn block_param(alloc: Global, binding: Binding<'_>) -> Result<Option<BlockParam>, AllocError>
+    ensures { IfOk result (λ param. block_param_view param ≡ binding_of (means_of binding.entry)) }
+{
+    match binding {
+        Binding::Unbound => Ok(None),
+        Binding::Bound(name) => {
+            let name = Parameter::Name(String::from_str(alloc, name)?);
+            Ok(Some(BlockParam::Single(name)))
+        }
+        Binding::BothBound(name, other) => {
+            let name = Parameter::Name(String::from_str(alloc, name)?);
+            let other = Parameter::Name(String::from_str(alloc, other)?);
+            Ok(Some(BlockParam::Pair((name, other))))
+        }
+    }
+}
+
+// Indentation goes before what a block writes where its tag stands alone, without a tilde in front.
+fn is_indented(edge: Edge) -> bool
+    ensures { result ≡ edge.standalone && not edge.left }
+{
+    edge.standalone && !edge.left
+}
+
+/// What the tag of a block says, and the first of its literals that is refused.
+#[derive(Drop)]
+struct BuiltOpening<'a> {
+    opening: BlockOpening,
+    refused: Option<&'a str>,
+}
+
+// Where no line of a block stands there, the answer says nothing.
+fn opening<'a>(
+    alloc: Global,
+    block: BlockSlice<'a>,
+    is_raw: bool,
+    edge: Edge,
+) -> Result<Option<BuiltOpening<'a>>, AllocError>
+    ensures { IfOk result (λ built. (line : BlockLine) (rest : Text) → IsBlockSlice block.entry line rest
+        → IsOpening is_raw (edge_view edge) line built) }
+{
+    let Some(line) = build_line(alloc, Enclosure::Block, block.line)? else {
+        return Ok(None);
+    };
+    let opening = BlockOpening {
+        name: String::from_str(alloc, block.name)?,
+        params: line.params,
+        hash: line.hash,
+        block_param: block_param(alloc, block.binding)?,
+        is_raw,
+        indent_before_write: is_indented(edge),
+    };
+    Ok(Some(BuiltOpening {
+        opening,
+        refused: line.refused,
+    }))
+}
+
+fn value_element(is_escaped: bool, call: Box<HelperTemplate>) -> TemplateElement
+    ensures { element_view result ≡ value_element is_escaped (call_view call.value) }
+{
+    if is_escaped {
+        TemplateElement::Expression(call)
+    } else {
+        TemplateElement::HtmlExpression(call)
+    }
+}
+
+fn add_value(
+    alloc: Global,
+    nesting: &mut Nesting,
+    at: TemplateMapping,
+    text: &str,
+    is_escaped: bool,
+) -> Result<(), AllocError>
+    ensures { OnOk result ((line : Line) (rest : Text) → IsLine in_tag text.now line rest
+        → Does nesting.old (value_piece is_escaped (place_of at) line) nesting.new) }
+{
+    let Some(line) = build_line(alloc, Enclosure::Tag, text)? else {
+        return Ok(());
+    };
+    let refused = line.refused;
+    let call = Box::new(alloc, call(alloc, line))?;
+    nesting.add(alloc, at, value_element(is_escaped, call), refused)
+}
+
+fn begin(
+    alloc: Global,
+    nesting: &mut Nesting,
+    at: TemplateMapping,
+    block: BlockSlice<'_>,
+    is_raw: bool,
+    edge: Edge,
+) -> Result<(), AllocError>
+    ensures { OnOk result ((line : BlockLine) (rest : Text) → IsBlockSlice block.entry line rest
+        → Does nesting.old (block_piece is_raw (place_of at) (edge_view edge) line) nesting.new) }
+{
+    match opening(alloc, block, is_raw, edge)? {
+        Some(built) => nesting.begin(alloc, at, built.opening, built.refused),
+        None => Ok(()),
+    }
+}
+
+fn chain(
+    alloc: Global,
+    nesting: &mut Nesting,
+    at: TemplateMapping,
+    block: BlockSlice<'_>,
+    edge: Edge,
+) -> Result<(), AllocError>
+    ensures { OnOk result ((line : BlockLine) (rest : Text) → IsBlockSlice block.entry line rest
+        → Does nesting.old (chain_piece (place_of at) (edge_view edge) line) nesting.new) }
+{
+    match opening(alloc, block, false, edge)? {
+        Some(built) => nesting.chain(alloc, at, built.opening, built.refused),
+        None => Ok(()),
+    }
+}
+
+/// A tag stands next, at this place and with this edge.
+pub fn take_tag(
+    alloc: Global,
+    nesting: &mut Nesting,
+    at: TemplateMapping,
+    content: Content<'_>,
+    edge: Edge,
+) -> Result<(), AllocError>
+    ensures { OnOk result ((tag : Tag) → Holds content.entry tag
+        → Does nesting.old (tag_piece (place_of at) (edge_view edge) tag) nesting.new) }
+{
+    match content {
+        Content::Expression(text) => add_value(alloc, nesting, at, text, true),
+        Content::Html(text) => add_value(alloc, nesting, at, text, false),
+        Content::Block(block) => begin(alloc, nesting, at, block, false, edge),
+        Content::Inverse => nesting.turn(alloc, at),
+        Content::Chain(block) => chain(alloc, nesting, at, block, edge),
+        Content::Close(name) => nesting.close(alloc, at, false, name),
+        Content::RawBlock(block) => begin(alloc, nesting, at, block, true, edge),
+        Content::RawClose(name) => nesting.close(alloc, at, true, name),
+        Content::Comment(text) => {
+            let text = TemplateElement::Comment(String::from_str(alloc, text)?);
+            nesting.add(alloc, at, text, None)
+        }
+    }
+}
