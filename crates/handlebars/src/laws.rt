@@ -5,10 +5,15 @@ ghost use Rattle.handlebars.specs.View.{setting_of};
 
 use crate::registry::Registry;
 pub use handlebars_base::laws::{one_meaning, paths_in_front};
-pub use handlebars_lines::laws::{one_line, one_literal, one_parameter, worth_of_literal};
+pub use handlebars_lines::laws::{
+    one_binding, one_line, one_literal, one_parameter, worth_of_literal,
+};
 use handlebars_scope::context::Context;
 pub use handlebars_scope::laws::escape_laws;
-pub use handlebars_template::laws::{one_compilation, one_cut, one_parsing, worked_sources};
+pub use handlebars_tags::laws::{clear_text, one_comment, one_tag, one_text};
+pub use handlebars_template::laws::{
+    cuts_join, one_compilation, one_cut, one_parsing, worked_sources,
+};
 
 /// Two runs of the same steps from the same state are one, unless they stop on the way; a run that
 /// stops on the way has written a beginning of the whole one's text; and all that the run of a tree

@@ -18,13 +18,15 @@ pub use handlebars_base::error::{
     RenderError, RenderErrorReason, TemplateError, TemplateErrorReason,
 };
 pub use handlebars_base::json::path::{Path, PathRule, PathSeg};
-pub use handlebars_base::json::value::{JsonRender, PathAndJson, ScopedJson};
+pub use handlebars_base::json::value::{JsonRender, JsonTruthy, PathAndJson, ScopedJson};
+pub use handlebars_helpers::built_in::{BuiltIn, HelperEntry};
+pub use handlebars_helpers::view::Helper;
 pub use handlebars_scope::context::Context;
 pub use handlebars_scope::output::{Output, StringOutput};
 pub use handlebars_scope::support::{escape_html, html_escape, no_escape};
 pub use handlebars_template::template;
 pub use handlebars_template::template::Template;
 pub use registry::{Registry, Registry as Handlebars};
-pub use render::{Expand, RenderContext, Renderable};
+pub use render::{Expand, RenderContext, Renderable, indent_aware_write};
 pub use serde_json::Value as JsonValue;
 pub use sources::{EntryKind, NoFiles, TemplateReader};
