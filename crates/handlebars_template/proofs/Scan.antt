@@ -1,6 +1,6 @@
 -- What was read of a source so far, and what the next tag does.
 use Rattle.std.proofs.Common.{◌≡◌, ◌≢◌, ℕ, Option, Some, None, Bool, true, false, suc, ◌+◌, ◌-◌, ◌<◌, ◌≤◌, List, [], ◌∷◌, ◌++◌, length, take, map, refl, sym, ap, ◌∙◌, subst, append_assoc, arith, length-append, inl, inr}
-use Rattle.std.specs.Prelude.{◌==◌, fold, nat_lt, if◌then◌else◌}
+use Rattle.std.specs.Prelude.{◌==◌, fold, nat_lt, if◌then◌else◌, codes}
 use Rattle.std.specs.Option.{option_or}
 use Rattle.std.specs.Str.{IsUtf8, IsCharBoundary, chars}
 use Rattle.std.proofs.lemmas.Bool.{cases_Bool, false≢true}
@@ -9,6 +9,8 @@ use Rattle.std.proofs.lemmas.List.Sums.{fold-append}
 use Rattle.std.proofs.lemmas.Str.{chars-append, chars-nil, IsUtf8-append, IsUtf8-nil, IsUtf8-take, IsCharBoundary-at_seam, length-le-encodes, encodes-chars}
 use borrow.Author.Tests.{ltb-true}
 use Rattle.handlebars_base.specs.Bytes.{Text}
+use Rattle.handlebars_tags.specs.Comment.{behind_mark, HasNoLong}
+use Rattle.handlebars_tags.proofs.Marks.{behind_mark-end}
 use Rattle.handlebars_tags.specs.Text.{Braces, IsText, at_end, at_tag, a_byte, two_escaped, four_escaped, braces}
 use Rattle.handlebars_tags.specs.Tag.{Tag, Tildes, IsTag, NoTag, OneTag}
 use Rattle.handlebars_tags.specs.Trim.{Edge, no_edge, is_fresh_behind, is_fresh, edge_with, braces_behind, has_element, trimmed}
@@ -17,7 +19,7 @@ use Rattle.handlebars_template.specs.Place.{Place, origin, behind_char, behind, 
 use Rattle.handlebars_template.specs.Tree.{raw_string}
 use Rattle.handlebars_template.specs.Calls.{max_nesting}
 use Rattle.handlebars_template.specs.Nest.{Piece, leaf, Fault, not_closed, Placed, Branch, Test, syntax_alone, Chains, no_more, a_branch, Frame, Inside, in_its_body, in_a_branch, in_its_inverse, Opens, none_open, one_more, Refuses}
-use Rattle.handlebars_template.specs.Machine.{Moved, goes, stops, checked, apply, late_after, at_end as ended, End, complete, unclosed, refused as stopped}
+use Rattle.handlebars_template.specs.Machine.{Moved, goes, stops, checked, apply, late_after, at_end as ended, End, complete, unclosed, refused as refused_end}
 use Rattle.handlebars_template.specs.Cut.{Slice, text_slice, tag_slice, may_follow, Reads, starts, goes_on, IsCut}
 use Rattle.handlebars_template.specs.Compile.{Options, tag_piece, text_pieces, pieces_in, tree_of, unreadable, refusal_for, NoTagBehind, Compiles, compiled, refused, whole, no_tag, misplaced, left_open, late}
 use Rattle.handlebars_template.specs.ScanView.{text_placed}
@@ -286,12 +288,12 @@ pieces_in-last ps p e x k n = pieces_in-append ps (text_slice p e x k n ∷ []) 
 abbrev pub Comes : Text → End → Type 0
 Comes source (complete es) = (options : Options) → Compiles source options (compiled (tree_of options es))
 Comes source (unclosed p) = (options : Options) → Compiles source options (refused (refusal_for options (not_closed p)))
-Comes source (stopped f) = (options : Options) → Compiles source options (refused (refusal_for options f))
+Comes source (refused_end f) = (options : Options) → Compiles source options (refused (refusal_for options f))
 
 Cut-comes : {source : Text} {ps : List Slice} {d : ℕ} {es : List Placed} → (late : Option Fault) (fs : List Frame) → IsCut source ps → State late (pieces_in ps) d fs es → Comes source (ended fs late es)
-Cut-comes late' (f ∷ fs) cut s options = left_open cut (State-open s)
-Cut-comes (Some f) [] cut s options = let both = State-late s in late cut both.0 both.1
-Cut-comes None [] cut s options = whole cut (State-whole s)
+Cut-comes late' (f ∷ fs) cut s = λ options. left_open cut (State-open s)
+Cut-comes (Some f) [] cut s = λ options. (let both = State-late s in late cut both.0 both.1)
+Cut-comes None [] cut s = λ options. whole cut (State-whole s)
 
 pub Scans-end : {source slice kept left : Text} {at : Place} {fresh : Bool} {e : Edge} {late : Option Fault} {d : ℕ} {fs : List Frame} {es : List Placed}
     → (h : Scans source slice kept left at fresh e late d fs es) → length left ≡ 0 → (n : Edge) → n ≡ no_edge → (late' : Option Fault) (d' : ℕ) (fs' : List Frame) (es' : List Placed) → Mid h n late' d' fs' es'
@@ -356,3 +358,12 @@ pub length-rest : (left spelled rest x y : Text) (t : Tag) (tildes : Tildes) →
 length-rest left spelled rest x y t tildes is fits cut =
     let some = length-tag spelled rest t tildes fits in
     omega (arith, some, ap length is, length-append spelled rest, ap length cut, length-append x y)
+
+-- ---- in the code's own values
+
+pub HasNoLong-behind : (long_ahead : Bool) (rest x y : Text) → rest ≡ x ++ y → HasNoLong long_ahead rest → HasNoLong long_ahead y
+HasNoLong-behind long_ahead rest x y is h e = behind_mark-end (codes "--}}") x y (subst (λ (z : Text). behind_mark (codes "--}}") z ≡ None) is (h e))
+
+pub Scans-at : (source slice kept left : Text) (e : Edge) (l : Option Fault) (d : ℕ) (fs : List Frame) (es : List Placed) → e ≡ no_edge → source ≡ slice ++ left → IsText (braces_behind e) left slice kept
+    → l ≡ None → d ≡ 0 → fs ≡ [] → es ≡ [] → Scans source slice kept left origin true e l d fs es
+Scans-at source slice kept left e l d fs es is parts h a b c f = rw (a, b, c, f) (Scans-start source slice kept left e is parts h)

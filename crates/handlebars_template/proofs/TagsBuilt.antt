@@ -4,7 +4,7 @@ use Rattle.std.specs.Prelude.{OnOk, String}
 use Rattle.std.specs.declared.alloc.Global.{Global}
 use Rattle.handlebars_base.specs.Bytes.{Text}
 use Rattle.handlebars_lines.specs.Line.{Line, in_tag, IsLine}
-use Rattle.handlebars_tags.specs.Tag.{Tag, BlockLine}
+use Rattle.handlebars_tags.specs.Tag.{Tag, tag_depth, BlockLine}
 use Rattle.handlebars_tags.specs.Trim.{Edge}
 use Rattle.handlebars_tags.specs.TagView.{HoldsLine, HoldsBlock, IsBlockSlice}
 use Rattle.handlebars_tags.specs.declared.tag.inside.BlockSlice.{BlockSlice}
@@ -12,11 +12,12 @@ use Rattle.handlebars_template.specs.Place.{Place}
 use Rattle.handlebars_template.specs.Tree.{Element, Binding, Params, Pairs, args, name, both}
 use Rattle.handlebars_template.specs.TreeView.{text, binding_view}
 use Rattle.handlebars_template.specs.Calls.{call_of, first_refused, line_literals}
-use Rattle.handlebars_template.specs.Nest.{Opening as Said, leaf, opens, chains}
-use Rattle.handlebars_template.specs.NestView.{opening_view, Does}
+use Rattle.handlebars_template.specs.Nest.{Opening as Said, Piece, leaf, opens, chains}
+use Rattle.handlebars_template.specs.NestView.{opening_view, moved, Looks, Does}
 use Rattle.handlebars_template.specs.Compile.{opening_of, tag_piece}
 use Rattle.handlebars_template.specs.ScanView.{value_element, value_piece, block_piece, chain_piece, Opening}
 use Rattle.handlebars_template.specs.declared.template.nest.Nesting.{Nesting}
+use Rattle.handlebars_template.specs.declared.template.nest.SyntaxFault.{SyntaxFault}
 use Rattle.handlebars_template.specs.declared.template.tags.BuiltOpening.{BuiltOpening}
 use Rattle.handlebars_template.specs.declared.template.tree.BlockParam.{the_lemmas}
 use Rattle.handlebars_template.specs.declared.template.tree.BlockParam.TheViews.{Pair}
@@ -64,3 +65,13 @@ Does-line old new p e of t tag h does = subst (λ (z : Tag). Does old (tag_piece
 pub Does-block : (old new : Nesting) (p : Place) (e : Edge) (of : BlockLine → Tag) (slice : BlockSlice) (tag : Tag) → HoldsBlock of slice tag
     → ((line : BlockLine) (rest : Text) → IsBlockSlice slice line rest → Does old (tag_piece p e (of line)) new) → Does old (tag_piece p e tag) new
 Does-block old new p e of slice tag h does = subst (λ (z : Tag). Does old (tag_piece p e z) new) (sym h.gives) (does h.line h.rest h.is_slice)
+
+-- ---- what is said of a tag before it stands
+
+pub Looks-at : (old : Nesting) (p : Place) (e : Edge) (seen : Option SyntaxFault) (tag same : Tag) (x : ℕ → Piece) (depth : ℕ) → tag ≡ same → tag_depth tag ≡ depth
+    → tag_piece p e same ≡ x (tag_depth same) → Looks p (moved old (x depth)) seen → Looks p (moved old (tag_piece p e tag)) seen
+Looks-at old p e seen tag same x depth is deep piece looks =
+    let deeper : tag_depth same ≡ depth = ap tag_depth (sym is) ∙ deep in
+    subst (λ (z : Tag). Looks p (moved old (tag_piece p e z)) seen) (sym is)
+    (subst (λ (y : Piece). Looks p (moved old y) seen) (sym piece)
+    (subst (λ (n : ℕ). Looks p (moved old (x n)) seen) (sym deeper) looks))

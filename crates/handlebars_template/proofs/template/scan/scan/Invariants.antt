@@ -1,7 +1,7 @@
 use Rattle.std.proofs.Common.{length, string_bytes}
 use denote.Text.{Utf8}
 use denote.Shadow.{shadow}
-use Rattle.handlebars_tags.specs.TagReading.{HasNoLong}
+use Rattle.handlebars_tags.specs.Comment.{HasNoLong}
 use Rattle.handlebars_tags.specs.TrimView.{edge_view}
 use Rattle.handlebars_template.specs.TreeView.{place_of}
 use Rattle.handlebars_template.specs.NestView.{placed_view, frames, late_of}

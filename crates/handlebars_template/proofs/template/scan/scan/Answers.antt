@@ -1,0 +1,140 @@
+use Rattle.std.proofs.Common.{◌≡◌, ◌≤◌, arith, rules, refl, sym, ap, ◌∙◌, length, string_bytes}
+use Rattle.std.specs.List.{fold}
+use Rattle.std.specs.Str.{IsUtf8}
+use Rattle.handlebars_base.proofs.OptionBinds.{empty, nonempty}
+use Rattle.handlebars_base.specs.Bytes.{Text}
+use Rattle.handlebars_tags.specs.Trim.{is_fresh_behind}
+use Rattle.handlebars_tags.specs.TrimView.{edge_view}
+use Rattle.handlebars_tags.proofs.OneTag.{one_tag}
+use Rattle.handlebars_template.specs.Place.{behind}
+use Rattle.handlebars_template.specs.TreeView.{place_of}
+use Rattle.handlebars_template.specs.Machine.{complete, unclosed, refused}
+use Rattle.handlebars_template.specs.NestView.{placed_view, frames, late_of, late_fault, syntax_fault}
+use Rattle.handlebars_template.proofs.Scan.{HasNoLong-behind, Scans-at, Scans-fits, Scans-fits_behind, Scans-step, Scans-end, Compiles-unreadable, Compiles-misplaced, NoTagBehind-none, NoTagBehind-other, IsCharBoundary-seam, take-seam, IsUtf8-front, length-rest}
+use Rattle.handlebars_template.proofs.template.scan.scan.Goals as goal
+
+pub tags-init : goal.tags-init
+tags-init c =
+    let front = c.in_ok-front.front in
+    record {
+      slice_utf8 = search rules;
+      rest_utf8 = search rules;
+      no_long = λ e. cc;
+      scans = Scans-at c.args.source.now front.slice.now (string_bytes front.kept) front.rest.now (edge_view c.no_edge-edge.result) _ _ _ _ c.no_edge-edge.ensures c.in_ok-front.ensures.whole
+          (rw c.braces_behind.ensures at c.in_ok-front.ensures.reads) c.new-nesting.ensures.late c.new-nesting.ensures.depth c.new-nesting.ensures.frames c.new-nesting.ensures.elements;
+    }
+
+pub advance-at-requires-clause-line : goal.advance-at-requires-clause-line
+advance-at-requires-clause-line c = omega (arith, Scans-fits c.tags.invariant.scans)
+
+pub advance-at-requires-clause-column : goal.advance-at-requires-clause-column
+advance-at-requires-clause-column c = omega (arith, Scans-fits c.tags.invariant.scans)
+
+pub returns-in_default : goal.returns-in_default
+returns-in_default c options =
+    let left = c.tags.front.rest.now in
+    Compiles-unreadable c.tags.invariant.scans (nonempty left c.tags-test.ensures) (NoTagBehind-none (edge_view c.tags.edge) left (rw c.in_default.is at c.in_ok-tag.ensures.reads)) (place_of c.advance-at.result) c.advance-at.ensures options
+
+pub returns-then-not-may_follow : goal.returns-then-not-may_follow
+returns-then-not-may_follow c options =
+    let left = c.tags.front.rest.now in
+    let f = rw c.in-Some.is at c.in_ok-tag.ensures.reads in
+    let other = sym (c.may_follow.ensures f.tag f.holds) ∙ c.if-not-may_follow.true in
+    Compiles-unreadable c.tags.invariant.scans (nonempty left c.tags-test.ensures) (NoTagBehind-other one_tag (edge_view c.tags.edge) left f.slice c.in-Some.tag.rest.now f.tag _ f.whole f.is_tag other) (place_of c.advance-at.result) c.advance-at.ensures options
+
+pub split_at-requires : goal.split_at-requires
+split_at-requires c =
+    let f = rw c.in-Some.is at c.in_ok-tag.ensures.reads in
+    IsCharBoundary-seam c.tags.front.rest.now f.slice c.in-Some.tag.rest.now f.whole (search rules)
+
+pub returns-in-Some-look : goal.returns-in-Some-look
+returns-in-Some-look c options =
+    let f = rw c.in-Some.is at c.in_ok-tag.ensures.reads in
+    let at = place_of c.advance-at.result in
+    let next = edge_view c.edge_behind-next.result in
+    let state = c.add_text.new.nesting in
+    Compiles-misplaced c.tags.invariant.scans f.tag _ f.slice c.in-Some.tag.rest.now at c.fresh_behind-fresh_here.result next
+    (record {
+      here = record { whole = f.whole; is_tag = f.is_tag; follows = sym (c.may_follow.ensures f.tag f.holds) ∙ c.if-not-may_follow.false };
+      there = c.advance-at.ensures;
+      lines = c.fresh_behind-fresh_here.ensures;
+      edge = c.edge_behind-next.ensures f.tag f.holds;
+    })
+    (late_of state) state.depth (frames state) (placed_view state.elements)
+    (record { depth = c.in_ok-add_text.ensures.depth; frames = c.in_ok-add_text.ensures.frames; kept_late = c.in_ok-add_text.ensures.late; elements = c.in_ok-add_text.ensures.elements })
+    (syntax_fault at c.in-Some-look.fault) (rw c.in-Some-look.is at (c.look.ensures at next f.tag f.holds f.deep)) options
+
+pub advance-place-requires-clause-line : goal.advance-place-requires-clause-line
+advance-place-requires-clause-line c =
+    let le : length c.split_at.result.0.now ≤ length c.tags.front.rest.now = omega arith in
+    omega (arith, Scans-fits_behind c.tags.invariant.scans c.tags.invariant.slice_utf8 (place_of c.advance-at.result) c.advance-at.ensures (length c.split_at.result.0.now) le)
+
+pub advance-place-requires-clause-column : goal.advance-place-requires-clause-column
+advance-place-requires-clause-column c =
+    let le : length c.split_at.result.0.now ≤ length c.tags.front.rest.now = omega arith in
+    omega (arith, Scans-fits_behind c.tags.invariant.scans c.tags.invariant.slice_utf8 (place_of c.advance-at.result) c.advance-at.ensures (length c.split_at.result.0.now) le)
+
+pub tags-smaller : goal.tags-smaller
+tags-smaller c =
+    let f = rw c.in-Some.is at c.in_ok-tag.ensures.reads in
+    let front = c.in_ok-front-2.front in
+    length-rest c.tags.front.rest.now f.slice c.in-Some.tag.rest.now front.slice.now front.rest.now f.tag _ f.whole f.is_tag c.in_ok-front-2.ensures.whole
+
+pub tags-preserved : goal.tags-preserved
+tags-preserved c =
+    let f = rw c.in-Some.is at c.in_ok-tag.ensures.reads in
+    let left = c.tags.front.rest.now in
+    let rest = c.in-Some.tag.rest.now in
+    let front = c.in_ok-front-2.front in
+    let at = place_of c.advance-at.result in
+    let mid = c.fresh_behind-fresh_here.result in
+    let next = edge_view c.edge_behind-next.result in
+    let state = c.add_text.new.nesting in
+    let last = c.take_tag.new.nesting in
+    let rest_utf8 : IsUtf8 rest = search rules in
+    let done = c.in_ok-take_tag.ensures f.tag f.holds (rw c.in_default-look.is at (c.look.ensures at next f.tag f.holds f.deep)) in
+    let same : c.split_at.result.0.now ≡ f.slice = c.split_at.ensures.front ∙ take-seam left f.slice rest f.whole in
+    record {
+      slice_utf8 = search rules;
+      rest_utf8 = search rules;
+      no_long = HasNoLong-behind c.in-Some.tag.long_ahead rest front.slice.now front.rest.now c.in_ok-front-2.ensures.whole (rw c.in-Some.is at c.in_ok-tag.ensures.ahead);
+      scans = Scans-step c.tags.invariant.scans f.tag _ f.slice rest at mid next
+          (record {
+            here = record { whole = f.whole; is_tag = f.is_tag; follows = sym (c.may_follow.ensures f.tag f.holds) ∙ c.if-not-may_follow.false };
+            there = c.advance-at.ensures;
+            lines = c.fresh_behind-fresh_here.ensures;
+            edge = c.edge_behind-next.ensures f.tag f.holds;
+          })
+          (late_of state) state.depth (frames state) (placed_view state.elements)
+          (record { depth = c.in_ok-add_text.ensures.depth; frames = c.in_ok-add_text.ensures.frames; kept_late = c.in_ok-add_text.ensures.late; elements = c.in_ok-add_text.ensures.elements })
+          (late_of last) last.depth (frames last) (placed_view last.elements) done.goes_on done.late
+          front.slice.now (string_bytes front.kept) front.rest.now (place_of c.advance-place.result) c.fresh_behind-fresh.result
+          (record {
+            parts = c.in_ok-front-2.ensures.whole;
+            is_text = rw c.braces_behind-in-tags.ensures at c.in_ok-front-2.ensures.reads;
+            there = c.advance-place.ensures ∙ ap (behind at) same;
+            lines = c.fresh_behind-fresh.ensures ∙ ap (fold is_fresh_behind mid) same;
+          })
+          c.tags.invariant.slice_utf8 (IsUtf8-front left f.slice rest f.whole c.tags.invariant.rest_utf8 rest_utf8);
+    }
+
+pub returns-in-Whole : goal.returns-in-Whole
+returns-in-Whole c =
+    let state = c.add_text-2.new.nesting in
+    Scans-end c.tags.invariant.scans (empty c.tags.front.rest.now c.tags-test.ensures) (edge_view c.no_edge.result) c.no_edge.ensures (late_of state) state.depth (frames state) (placed_view state.elements)
+    (record { depth = c.in_ok-add_text-2.ensures.depth; frames = c.in_ok-add_text-2.ensures.frames; kept_late = c.in_ok-add_text-2.ensures.late; elements = c.in_ok-add_text-2.ensures.elements })
+    (complete (placed_view c.in-Whole.elements)) (rw c.in-Whole.is at c.finish.ensures)
+
+pub returns-in-NotClosed : goal.returns-in-NotClosed
+returns-in-NotClosed c =
+    let state = c.add_text-2.new.nesting in
+    Scans-end c.tags.invariant.scans (empty c.tags.front.rest.now c.tags-test.ensures) (edge_view c.no_edge.result) c.no_edge.ensures (late_of state) state.depth (frames state) (placed_view state.elements)
+    (record { depth = c.in_ok-add_text-2.ensures.depth; frames = c.in_ok-add_text-2.ensures.frames; kept_late = c.in_ok-add_text-2.ensures.late; elements = c.in_ok-add_text-2.ensures.elements })
+    (unclosed (place_of c.in-NotClosed.at)) (rw c.in-NotClosed.is at c.finish.ensures)
+
+pub returns-in-Late : goal.returns-in-Late
+returns-in-Late c =
+    let state = c.add_text-2.new.nesting in
+    Scans-end c.tags.invariant.scans (empty c.tags.front.rest.now c.tags-test.ensures) (edge_view c.no_edge.result) c.no_edge.ensures (late_of state) state.depth (frames state) (placed_view state.elements)
+    (record { depth = c.in_ok-add_text-2.ensures.depth; frames = c.in_ok-add_text-2.ensures.frames; kept_late = c.in_ok-add_text-2.ensures.late; elements = c.in_ok-add_text-2.ensures.elements })
+    (refused (late_fault c.in-Late.late)) (rw c.in-Late.is at c.finish.ensures)
