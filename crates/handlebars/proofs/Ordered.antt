@@ -69,7 +69,7 @@ module _ {X Y : Type 0} {es : List (Bor Text × X)} {all left rest : List (Strin
   inserted-last =
       let split : all ≡ f.done ++ (key, q) ∷ rest = f.split ∙ ap (λ z. f.done ++ z) here in
       let above = above-owned f.done (key, q) rest
-          (subst (λ z. IsStrictlySortedBy string_cmp (keys_of z)) split ordered) in
+      (subst (λ z. IsStrictlySortedBy string_cmp (keys_of z)) split ordered) in
       insert_entry-last es k v (subst (λ (z : Text). Above z (borrowed es)) (sym same)
       (subst (λ z. Above (string_bytes key) z) (sym f.keys) above))
 

@@ -157,7 +157,7 @@ module _ (p : Setting) where
     pub view_of_call-out : (h : HelperTemplate) → view_of_call p site (call_view h)
         ≡ view_of_parts (param_view (out-HelperTemplate h).name) (params_view (out-HelperTemplate h).params.items)
         (pairs_view (out-HelperTemplate h).hash.entries)
-    view_of_call-out h = view_of_call-parts (call_view h) 
+    view_of_call-out h = view_of_call-parts (call_view h)
         ∙ rw (call_name-view h, call_params-view h, call_pairs-view h) refl
 
     pub view_of_tag-out : (t : DecoratorTemplate) → view_of_tag p site (decorator_view t)
