@@ -88,7 +88,8 @@ pub fn view_of_call<'a, P: Registered>(
     setting: &Setting<'_, 'a, P>,
     helper: &'a HelperTemplate,
 ) -> Result<Helper<'a>, RenderError>
-    ensures view { (site : Site) (s : State) → Yields (setting_in P.parts setting.now) (view_of_call (setting_in P.parts setting.now) site (call_view helper.now)) s (λ h. (helper_view h).call) result }
+    ensures view { (site : Site) (s : State) → Yields (setting_in P.parts setting.now)
+        (view_of_call (setting_in P.parts setting.now) site (call_view helper.now)) s (λ h. (helper_view h).call) result }
     ensures bodies { IfOk result (λ h. helper_view h ≡ record {
       call = (helper_view h).call;
       binding = call_binding (call_view helper.now);
@@ -108,7 +109,8 @@ pub fn view_of_tag<'a, P: Registered>(
     setting: &Setting<'_, 'a, P>,
     tag: &'a DecoratorTemplate,
 ) -> Result<Called<'a>, RenderError>
-    ensures { (site : Site) (s : State) → Yields (setting_in P.parts setting.now) (view_of_tag (setting_in P.parts setting.now) site (decorator_view tag.now)) s called_view result }
+    ensures { (site : Site) (s : State) → Yields (setting_in P.parts setting.now)
+        (view_of_tag (setting_in P.parts setting.now) site (decorator_view tag.now)) s called_view result }
 {
     let name = expand_as_name(setting, &tag.name)?;
     let params = params_values(setting, &tag.params)?;
@@ -121,7 +123,8 @@ pub fn helped_value<'a, P: Registered>(
     setting: &Setting<P>,
     helper: &Helper,
 ) -> Result<ScopedJson<'a>, RenderError>
-    ensures value { (site : Site) (s : State) → Yields (setting_in P.parts setting.now) (helped_value site ((P.parts setting.now.parts.now).helper (helper_view helper.now).call.name) (helper_view helper.now).call) s found_of result }
+    ensures value { (site : Site) (s : State) → Yields (setting_in P.parts setting.now)
+        (helped_value site ((P.parts setting.now.parts.now).helper (helper_view helper.now).call.name) (helper_view helper.now).call) s found_of result }
     ensures constant { IfOk result (λ found. is_constant found ≡ false) }
 {
     match setting.parts.helper(helper.name()) {
