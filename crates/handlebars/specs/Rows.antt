@@ -1,27 +1,30 @@
 -- Worked sources, each with its answer over data.
-use Rattle.std.specs.Prelude.{List, [], ◌∷◌, ◌++◌, Some, None, false, codes}
-use Rattle.serde_json.specs.Data.{unsigned, Data, null, number, string, array, object, no_members, member, no_items, item}
+use Rattle.std.specs.Prelude.{List, [], ◌∷◌, ◌++◌, Some, None, false, codes, Bool, true, false, if◌then◌else◌}
+use Rattle.serde_json.specs.Data.{unsigned, Data, null, boolean, number, string, array, object, no_members, member, no_items, item}
 use Rattle.handlebars_base.specs.Bytes.{Text, backslash}
 use Rattle.handlebars_base.specs.Path.{named, relative}
-use Rattle.handlebars_base.specs.Reasons.{Reason, Refusal, invalid_json_index, helper_not_found, of_template}
+use Rattle.handlebars_base.specs.Reasons.{Reason, Refusal, invalid_json_index, helper_not_found, param_not_found_for_index, of_template}
 use Rattle.handlebars_base.specs.RenderRefusals.{plain_refusal}
+use Rattle.handlebars_base.specs.Scoped.{value}
 use Rattle.handlebars_template.specs.Compile.{no_options, unreadable}
 use Rattle.handlebars_template.specs.Rows.{at, escaped_source}
-use Rattle.handlebars_template.specs.Tree.{Tree, tree, elements_of, Element, html_expression, expression, Call, call, args, bodies, no_body, no_binding, no_pairs, params_of, Param, path, literal, subexpression}
+use Rattle.handlebars_template.specs.Tree.{Tree, tree, elements_of, Element, html_expression, expression, raw_string, helper_block, Call, call, args, bodies, Body, no_body, body, no_binding, no_pairs, params_of, Param, path, literal, subexpression}
 use Rattle.handlebars_scope.specs.Put.{of_text}
 use Rattle.handlebars_scope.specs.Sites.{first_tree, element_in}
-use Rattle.handlebars.specs.State.{Setting}
-use Rattle.handlebars.specs.Runs.{Refused}
+use Rattle.handlebars_helpers.specs.Choice.{built_in}
+use Rattle.handlebars.specs.State.{Setting, State}
+use Rattle.handlebars.specs.Expand.{expands}
+use Rattle.handlebars.specs.Runs.{Refused, GivesValue}
 use Rattle.handlebars.specs.Answer.{Beginning, FromSource, FromName, RenderAnswers, GivesText}
 use Rattle.handlebars.specs.Laws.{alone}
 
 -- data with one member
 abbrev pub with : Text → Data → Data
-with name value = object (member name value no_members)
+with name d = object (member name d no_members)
 
--- a run over data
+-- a run over data, with the helpers that every registry begins with
 abbrev pub over : Data → Setting
-over given = record { given = given }
+over given = record { given = given; parts = record { helper = built_in } }
 
 -- The empty source gives the empty text, over any data.
 abbrev pub EmptyRow : Type 0
@@ -90,6 +93,10 @@ call_of n ps = call n (args (params_of ps) no_pairs) no_binding (bodies no_body 
 abbrev pub nested : Text → Param
 nested n = subexpression (expression (call_of (path_of n) []))
 
+-- a call in parentheses of a name, with one parameter
+abbrev pub calling : Text → Text → Param
+calling n q = subexpression (expression (call_of (path_of n) (path_of q ∷ [])))
+
 -- A value in three braces is written as it is, and the next one is escaped again: {{{name}}}{{name}}.
 abbrev pub RawRow : Type 0
 RawRow = GivesText (over markup)
@@ -118,3 +125,55 @@ NameRow = (given : Data)
 abbrev pub LiteralRow : Type 0
 LiteralRow = (given : Data) → IsRefusedFor given
     (expression (call_of (literal (number (unsigned 1))) (literal null ∷ []))) (helper_not_found (codes "1"))
+
+-- ---- blocks
+
+-- a block: its name, its parameters, its body and its inverse
+abbrev pub block : Text → List Param → Body → Body → Element
+block n ps b i = helper_block (call (path_of n) (args (params_of ps) no_pairs) no_binding (bodies b i)
+    (record { block = true; chain = false; indent_before_write = false }))
+
+-- a body of one element, and one of a text
+abbrev pub holding : Element → Body
+holding e = body (alone e)
+
+abbrev pub text : Text → Body
+text t = holding (raw_string t)
+
+-- a block `if` over what stands under a name, with a body of a text
+abbrev pub if_then : Text → Text → Body → Element
+if_then n t i = block (codes "if") (path_of n ∷ []) (text t) i
+
+-- data with two truths
+abbrev pub truths : Bool → Bool → Data
+truths a b = object (member (codes "a") (boolean a) (member (codes "b") (boolean b) no_members))
+
+-- A block `if` renders its body over a true value, and its inverse over a false one: {{#if a}}x{{else}}y{{/if}}.
+abbrev pub IfRow : Type 0
+IfRow = (a b : Bool) → GivesText (over (truths a b)) (keeping (alone (if_then (codes "a") (codes "x") (text (codes "y")))))
+    (if a then codes "x" else codes "y")
+
+-- Without an inverse it renders nothing over a false one: {{#if a}}x{{/if}}.
+abbrev pub NoInverseRow : Type 0
+NoInverseRow = GivesText (over null) (keeping (alone (if_then (codes "a") (codes "x") no_body))) []
+
+-- A chain takes the first true branch: {{#if a}}x{{else}}{{#if b}}y{{else}}z{{/if}}{{/if}}.
+abbrev pub ChainRow : Type 0
+ChainRow = (a b : Bool) → GivesText (over (truths a b))
+    (keeping (alone (if_then (codes "a") (codes "x") (holding (if_then (codes "b") (codes "y") (text (codes "z")))))))
+    (if a then codes "x" else (if b then codes "y" else codes "z"))
+
+-- A block `if` without a parameter is refused: {{#if}}x{{/if}}.
+abbrev pub NoParamRow : Type 0
+NoParamRow = (given : Data) → (b i : Body)
+    → IsRefusedFor given (block (codes "if") [] b i) (param_not_found_for_index (codes "if") 0)
+
+-- A block of a name that no helper has is refused: {{#a}}x{{/a}}.
+abbrev pub BlockRow : Type 0
+BlockRow = (given : Data) → (b i : Body) → IsRefusedFor given (block (codes "a") [] b i) (helper_not_found (codes "a"))
+
+-- In parentheses an `if` has no body, so its value is the empty text: (if a).
+abbrev pub InnerIfRow : Type 0
+InnerIfRow = (a b : Bool) → (s : State)
+    → GivesValue (over (truths a b)) (expands (over (truths a b)) (element_in first_tree 0) (calling (codes "if") (codes "a"))) s
+    (value (string []))
