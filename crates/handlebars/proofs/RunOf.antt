@@ -1,5 +1,5 @@
 -- A run that is computed, of at most so many steps.
-use Rattle.std.proofs.Common.{◌≡◌, ℕ, zero, suc, List, [], ◌++◌, subst}
+use Rattle.std.proofs.Common.{◌≡◌, ℕ, zero, suc, List, [], ◌++◌}
 use Rattle.handlebars_base.specs.Bytes.{Text}
 use Rattle.handlebars_base.specs.Reasons.{Refusal}
 use Rattle.handlebars_template.specs.Tree.{Tree}
@@ -17,15 +17,16 @@ pub record RunFrom (p : Setting) (k : Steps) (s : State) : Type 0 where
   pub runs : Runs p k s pieces outcome
 
 -- a part was run: what follows it, or nothing
-abbrev behind_part : {p : Setting} {t : Task} {k : Steps} {s : State} {ps : List Piece} (o : Outcome) → Runs p (todo p t) s ps o
-    → ((next : State) → RunFrom p k next) → RunFrom p (Do t k) s
+abbrev behind_part : {p : Setting} {t : Task} {k : Steps} {s : State} {ps : List Piece} (o : Outcome)
+    → Runs p (todo p t) s ps o → ((next : State) → RunFrom p k next) → RunFrom p (Do t k) s
 behind_part (Ended next) r rest = record { pieces = _; outcome = _; runs = did r (rest next).runs }
 behind_part (Refused f) r rest = record { pieces = _; outcome = _; runs = did_over r tt }
 behind_part (Faulted f) r rest = record { pieces = _; outcome = _; runs = did_over r tt }
 behind_part NoMemory r rest = record { pieces = _; outcome = _; runs = did_over r tt }
 
-abbrev behind_capture : {p : Setting} {m : Steps} {f : List Piece → Steps} {s : State} {ps : List Piece} (o : Outcome) → Runs p m s ps o
-    → RunFrom p (f ps) s → RunFrom p (Capture m f) s
+-- a capture was run: what is told of it, or nothing
+abbrev behind_capture : {p : Setting} {m : Steps} {f : List Piece → Steps} {s : State} {ps : List Piece} (o : Outcome)
+    → Runs p m s ps o → RunFrom p (f ps) s → RunFrom p (Capture m f) s
 behind_capture (Ended next) r rest = record { pieces = _; outcome = _; runs = captured r rest.runs }
 behind_capture (Refused f) r rest = record { pieces = _; outcome = _; runs = captured_over r tt }
 behind_capture (Faulted f) r rest = record { pieces = _; outcome = _; runs = captured_over r tt }
@@ -44,9 +45,9 @@ run_of (suc n) p (Do t k) s =
 run_of (suc n) p (Capture m f) s =
     let r = run_of n p m s in behind_capture r.outcome r.runs (run_of n p (f r.pieces) s)
 
--- the run of a whole tree
-abbrev pub tree_run : ℕ → (p : Setting) (t : Tree) → RunFrom p (render_tree t) first_state
-tree_run n p t = run_of n p (render_tree t) first_state
+-- the run of a whole tree, where it takes less than a hundred steps in depth
+abbrev pub tree_run : (p : Setting) (t : Tree) → RunFrom p (render_tree t) first_state
+tree_run p t = run_of 99 p (render_tree t) first_state
 
 -- what a run gives as a text
 abbrev pub Gives : List Piece → Outcome → Text → Type 0
@@ -62,11 +63,6 @@ gives_as (Refused f) h is = elim is [ ]
 gives_as (Faulted f) h is = elim is [ ]
 gives_as NoMemory h is = elim is [ ]
 
-pub gives_text : {p : Setting} {begins : Beginning → Type 0} {text : Text} (n : ℕ) (t : Tree) → begins (a_tree t)
-    → Gives (tree_run n p t).pieces (tree_run n p t).outcome text → GivesText p begins text
-gives_text n t b is = gives_as _ (rendered b (tree_run n _ t).runs) is
-
--- what a run answers
-pub answers : {p : Setting} {begins : Beginning → Type 0} {t : Tree} {ps : List Piece} {o : Outcome} → begins (a_tree t)
-    → (r : RunFrom p (render_tree t) first_state) → r.pieces ≡ ps → r.outcome ≡ o → RenderAnswers p begins ps o
-answers b r at to = subst (λ ps. RenderAnswers _ _ ps _) at (subst (λ o. RenderAnswers _ _ _ o) to (rendered b r.runs))
+pub gives_text : {p : Setting} {begins : Beginning → Type 0} {t : Tree} {text : Text} → begins (a_tree t)
+    → (r : RunFrom p (render_tree t) first_state) → Gives r.pieces r.outcome text → GivesText p begins text
+gives_text b r is = gives_as r.outcome (rendered b r.runs) is

@@ -6,11 +6,12 @@ use Rattle.handlebars_base.specs.Path.{named, relative}
 use Rattle.handlebars_base.specs.Reasons.{Reason, Refusal, invalid_json_index, helper_not_found, param_not_found_for_index, of_template}
 use Rattle.handlebars_base.specs.RenderRefusals.{plain_refusal}
 use Rattle.handlebars_base.specs.Scoped.{value}
+use Rattle.handlebars_template.specs.Calls.{plain_call, plain_marks}
 use Rattle.handlebars_template.specs.Compile.{no_options, unreadable}
 use Rattle.handlebars_template.specs.Rows.{at, escaped_source}
-use Rattle.handlebars_template.specs.Tree.{Tree, tree, elements_of, Element, html_expression, expression, raw_string, helper_block, Call, call, args, bodies, Body, no_body, body, no_binding, no_pairs, params_of, Param, path, literal, subexpression}
+use Rattle.handlebars_template.specs.Tree.{Tree, tree, elements_of, Element, html_expression, expression, raw_string, helper_block, Call, call, args, bodies, Body, no_body, body, no_binding, no_pairs, params_of, Param, name, path, literal, subexpression}
 use Rattle.handlebars_scope.specs.Put.{of_text}
-use Rattle.handlebars_scope.specs.Sites.{first_tree, element_in}
+use Rattle.handlebars_scope.specs.Sites.{first_tree, Site, element_in}
 use Rattle.handlebars_helpers.specs.Choice.{built_in}
 use Rattle.handlebars.specs.State.{Setting, State}
 use Rattle.handlebars.specs.Expand.{expands}
@@ -20,7 +21,7 @@ use Rattle.handlebars.specs.Laws.{alone}
 
 -- data with one member
 abbrev pub with : Text → Data → Data
-with name d = object (member name d no_members)
+with key d = object (member key d no_members)
 
 -- a run over data, with the helpers that every registry begins with
 abbrev pub over : Data → Setting
@@ -78,7 +79,7 @@ UnclosedRow = (given : Data) → RenderAnswers (over given) (FromSource no_optio
 
 -- a registry that keeps this tree
 abbrev pub keeping : Tree → Beginning → Type 0
-keeping t = FromName (λ name. Some t) []
+keeping t = FromName (λ n. Some t) []
 
 -- a path of one name
 abbrev pub path_of : Text → Param
@@ -86,16 +87,11 @@ path_of n = path (relative (named n ∷ []) n)
 
 -- what stands in braces or in parentheses: a name and parameters
 abbrev pub call_of : Param → List Param → Call
-call_of n ps = call n (args (params_of ps) no_pairs) no_binding (bodies no_body no_body)
-    (record { block = false; chain = false; indent_before_write = false })
+call_of n ps = plain_call n (params_of ps) no_pairs
 
 -- a call in parentheses, with no parameters
 abbrev pub nested : Text → Param
 nested n = subexpression (expression (call_of (path_of n) []))
-
--- a call in parentheses of a name, with one parameter
-abbrev pub calling : Text → Text → Param
-calling n q = subexpression (expression (call_of (path_of n) (path_of q ∷ [])))
 
 -- A value in three braces is written as it is, and the next one is escaped again: {{{name}}}{{name}}.
 abbrev pub RawRow : Type 0
@@ -109,17 +105,18 @@ IsRefusedFor given e r = RenderAnswers (over given) (keeping (alone e)) [] (Refu
 
 -- In parentheses stands a call: {{(a)}}.
 abbrev pub CallRow : Type 0
-CallRow = (given : Data) → IsRefusedFor given (expression (call_of (nested (codes "a")) [])) (helper_not_found (codes "a"))
+CallRow = (given : Data)
+    → IsRefusedFor given (expression (call_of (nested (codes "a")) [])) (helper_not_found (codes "a"))
 
 -- A call's parameters come before its helper is sought: {{a (b)}}.
 abbrev pub InnerRow : Type 0
-InnerRow = (given : Data)
-    → IsRefusedFor given (expression (call_of (path_of (codes "a")) (nested (codes "b") ∷ []))) (helper_not_found (codes "b"))
+InnerRow = (given : Data) → IsRefusedFor given
+    (expression (call_of (path_of (codes "a")) (nested (codes "b") ∷ []))) (helper_not_found (codes "b"))
 
 -- Its name comes before its parameters: {{(a) (b)}}.
 abbrev pub NameRow : Type 0
-NameRow = (given : Data)
-    → IsRefusedFor given (expression (call_of (nested (codes "a")) (nested (codes "b") ∷ []))) (helper_not_found (codes "a"))
+NameRow = (given : Data) → IsRefusedFor given
+    (expression (call_of (nested (codes "a")) (nested (codes "b") ∷ []))) (helper_not_found (codes "a"))
 
 -- A literal is called by its text: {{1 null}}.
 abbrev pub LiteralRow : Type 0
@@ -130,50 +127,56 @@ LiteralRow = (given : Data) → IsRefusedFor given
 
 -- a block: its name, its parameters, its body and its inverse
 abbrev pub block : Text → List Param → Body → Body → Element
-block n ps b i = helper_block (call (path_of n) (args (params_of ps) no_pairs) no_binding (bodies b i)
-    (record { block = true; chain = false; indent_before_write = false }))
+block n ps b i = helper_block (call (name n) (args (params_of ps) no_pairs) no_binding (bodies b i)
+    (record plain_marks { block = true }))
 
--- a body of one element, and one of a text
-abbrev pub holding : Element → Body
-holding e = body (alone e)
+abbrev pub body_of : Element → Body
+body_of e = body (alone e)
 
 abbrev pub text : Text → Body
-text t = holding (raw_string t)
+text t = body_of (raw_string t)
 
--- a block `if` over what stands under a name, with a body of a text
+-- a block `if` over what stands under a name, with a text as its body
 abbrev pub if_then : Text → Text → Body → Element
-if_then n t i = block (codes "if") (path_of n ∷ []) (text t) i
+if_then key t i = block (codes "if") (path_of key ∷ []) (text t) i
 
--- data with two truths
-abbrev pub truths : Bool → Bool → Data
-truths a b = object (member (codes "a") (boolean a) (member (codes "b") (boolean b) no_members))
+-- data with one boolean, and with two
+abbrev pub one_truth : Bool → Data
+one_truth a = with (codes "a") (boolean a)
+
+abbrev pub two_truths : Bool → Bool → Data
+two_truths a b = object (member (codes "a") (boolean a) (member (codes "b") (boolean b) no_members))
 
 -- A block `if` renders its body over a true value, and its inverse over a false one: {{#if a}}x{{else}}y{{/if}}.
 abbrev pub IfRow : Type 0
-IfRow = (a b : Bool) → GivesText (over (truths a b)) (keeping (alone (if_then (codes "a") (codes "x") (text (codes "y")))))
-    (if a then codes "x" else codes "y")
+IfRow = (a : Bool) → GivesText (over (one_truth a))
+    (keeping (alone (if_then (codes "a") (codes "x") (text (codes "y"))))) (if a then codes "x" else codes "y")
 
 -- Without an inverse it renders nothing over a false one: {{#if a}}x{{/if}}.
 abbrev pub NoInverseRow : Type 0
-NoInverseRow = GivesText (over null) (keeping (alone (if_then (codes "a") (codes "x") no_body))) []
+NoInverseRow = (a : Bool) → GivesText (over (one_truth a))
+    (keeping (alone (if_then (codes "a") (codes "x") no_body))) (if a then codes "x" else [])
 
 -- A chain takes the first true branch: {{#if a}}x{{else}}{{#if b}}y{{else}}z{{/if}}{{/if}}.
 abbrev pub ChainRow : Type 0
-ChainRow = (a b : Bool) → GivesText (over (truths a b))
-    (keeping (alone (if_then (codes "a") (codes "x") (holding (if_then (codes "b") (codes "y") (text (codes "z")))))))
+ChainRow = (a b : Bool) → GivesText (over (two_truths a b))
+    (keeping (alone (if_then (codes "a") (codes "x") (body_of (if_then (codes "b") (codes "y") (text (codes "z")))))))
     (if a then codes "x" else (if b then codes "y" else codes "z"))
 
--- A block `if` without a parameter is refused: {{#if}}x{{/if}}.
+-- A block `if` without a parameter is refused, here with no position, since the tree has none: {{#if}}..{{/if}}.
 abbrev pub NoParamRow : Type 0
-NoParamRow = (given : Data) → (b i : Body)
+NoParamRow = (given : Data) (b i : Body)
     → IsRefusedFor given (block (codes "if") [] b i) (param_not_found_for_index (codes "if") 0)
 
--- A block of a name that no helper has is refused: {{#a}}x{{/a}}.
+-- A block is refused where no helper has its name: {{#a}}..{{/a}}.
 abbrev pub BlockRow : Type 0
-BlockRow = (given : Data) → (b i : Body) → IsRefusedFor given (block (codes "a") [] b i) (helper_not_found (codes "a"))
+BlockRow = (given : Data) (b i : Body) → IsRefusedFor given (block (codes "a") [] b i) (helper_not_found (codes "a"))
+
+-- an `if` in parentheses, over what stands under a name
+abbrev pub nested_if : Text → Param
+nested_if key = subexpression (expression (call_of (name (codes "if")) (path_of key ∷ [])))
 
 -- In parentheses an `if` has no body, so its value is the empty text: (if a).
 abbrev pub InnerIfRow : Type 0
-InnerIfRow = (a b : Bool) → (s : State)
-    → GivesValue (over (truths a b)) (expands (over (truths a b)) (element_in first_tree 0) (calling (codes "if") (codes "a"))) s
-    (value (string []))
+InnerIfRow = (a : Bool) (site : Site) (s : State) → GivesValue (over (one_truth a))
+    (expands (over (one_truth a)) site (nested_if (codes "a"))) s (value (string []))

@@ -21,7 +21,8 @@ pub fn laws_of_runs(registry: &Registry, context: &Context)
     ensures element { ElementHasOrigins (setting_of registry.now context.now) }
 {}
 
-/// What some sources and some trees answer over some data.
+/// What some sources and some trees answer over some data, with the helpers that every registry
+/// begins with.
 pub fn worked_rows()
     ensures empty { EmptyRow }
     ensures value { ValueRow }
