@@ -8,13 +8,13 @@ use Rattle.handlebars_base.specs.Reasons.{Reason, Refusal, helper_not_found, out
 use Rattle.handlebars_base.specs.RenderRefusals.{plain_refusal, reason_in, refusal_of}
 use Rattle.handlebars_base.specs.Scoped.{Found, present_in}
 use Rattle.handlebars_base.specs.declared.error.render_error.RenderError.{RenderError}
-use Rattle.handlebars_template.specs.Tree.{Tree, Param, Body, body, no_body, Call, call_name, call_body, call_inverse}
+use Rattle.handlebars_template.specs.Tree.{Param, Body, no_body, Call, call_name, call_body, call_inverse}
 use Rattle.handlebars_scope.specs.Outputs.{Held}
 use Rattle.handlebars_scope.specs.Sites.{TreeSite, body_at, inverse_at, Site}
 use Rattle.handlebars_helpers.specs.CallView.{CallView}
 use Rattle.handlebars_helpers.specs.Choice.{Kind, Choice, the_body, the_inverse, chosen}
 use Rattle.handlebars.specs.State.{Setting, State}
-use Rattle.handlebars.specs.Steps.{Whole, Prog, answer, refuse_for, perform, ◌>>=◌}
+use Rattle.handlebars.specs.Steps.{Prog, answer, refuse_for, ◌>>=◌}
 use Rattle.handlebars.specs.Expand.{render_branch, carry_out, lone_name, lone_value, view_of_call}
 use Rattle.handlebars.specs.Means.{line_in, shown_if_any, value_origin, write_text, write_value, render_chosen, render_helped, render_called, render_call, render_value, render_lone_as, render_lone}
 use Rattle.handlebars.specs.Runs.{Runs, Refused, refused, GivesValue, RefusesValue}
@@ -32,12 +32,14 @@ branch_of c the_body = call_body c
 branch_of c the_inverse = call_inverse c
 
 -- the line with another mark
-pub entered_as : (s mid : State) (a b : Bool) → b ≡ a → mid ≡ record s { line = line_in a s.line } → mid ≡ record s { line = line_in b s.line }
+pub entered_as : (s mid : State) (a b : Bool) → b ≡ a → mid ≡ record s { line = line_in a s.line }
+    → mid ≡ record s { line = line_in b s.line }
 entered_as s mid a b is e = e ∙ ap (λ (z : Bool). record s { line = line_in z s.line }) (sym is)
 
 module _ (p : Setting) where
   -- the refusal of a tag, by the name that it is called by
-  pub refuses_named : (m : Prog CallView) (why : Text → Reason) {s : State} (v : CallView) (e : RenderError) → GivesValue p m s v
+  pub refuses_named : (m : Prog CallView) (why : Text → Reason) {s : State} (v : CallView) (e : RenderError)
+      → GivesValue p m s v
       → IsRefusal (plain_refusal (why v.name)) e → reason_in e ≢ out_of_memory
       → RefusesValue p (m >>= (λ w. refuse_for {A = Unit {0}} (why w.name))) s (refusal_of e)
   refuses_named m why {s = s} v e g is other = refuses-then p m _ g
@@ -50,13 +52,8 @@ module _ (p : Setting) (may : Error → Type 0) where
   branch_out site c the_body a = a
   branch_out site c the_inverse a = a
 
-  pub carry_out_some : (site : Site) (c : Call) (x : Choice) (t : Tree) {before after : Moment} {r : Answered}
-      → branch_of c x ≡ body t → CarriesOn p (perform (Whole (side site x) t)) may before r after
-      → CarriesOn p (carry_out site (call_body c) (call_inverse c) x) may before r after
-  carry_out_some site c x t {before = before} {after = after} {r = r} is a = branch_out site c x
-      (subst (λ (b : Body). CarriesOn p (render_branch (side site x) b) may before r after) (sym is) a)
-
-  pub carry_out_none : (site : Site) (c : Call) (x : Choice) {s : State} {h : Held} {u : Unit {0}} → branch_of c x ≡ no_body
+  pub carry_out_none : (site : Site) (c : Call) (x : Choice) {s : State} {h : Held} {u : Unit {0}}
+      → branch_of c x ≡ no_body
       → CarriesOn p (carry_out site (call_body c) (call_inverse c) x) may (at s h) (Ok u) (at s h)
   carry_out_none site c x {s = s} {h = h} {u = u} is = branch_out site c x
       (subst (λ (b : Body). CarriesOn p (render_branch (side site x) b) may (at s h) (Ok u) (at s h)) (sym is) (carries_on-done p may))
@@ -74,7 +71,8 @@ module _ (p : Setting) (may : Error → Type 0) where
   chosen_err site c k v e is = carries_on-no_value p may (answer (chosen k v)) _ e (λ other. refuses-answer p (is other))
 
   pub called_some : (site : Site) (c : Call) (o : Option Kind) (k : Kind) (v : CallView) {before after : Moment} {r : Answered}
-      → Some k ≡ o → CarriesOn p (render_helped site c k v) may before r after → CarriesOn p (render_called site c o v) may before r after
+      → Some k ≡ o → CarriesOn p (render_helped site c k v) may before r after
+      → CarriesOn p (render_called site c o v) may before r after
   called_some site c o k v {before = before} {after = after} {r = r} is a =
       subst (λ (z : Option Kind). CarriesOn p (render_called site c z v) may before r after) is a
 
@@ -86,12 +84,14 @@ module _ (p : Setting) (may : Error → Type 0) where
       (carries_on-refuse p may e n)
 
   pub helped_as : (site : Site) (c : Call) (k : Kind) (v w : CallView) {before after : Moment} {r : Answered}
-      → v ≡ w → CarriesOn p (render_helped site c k v) may before r after → CarriesOn p (render_helped site c k w) may before r after
+      → v ≡ w → CarriesOn p (render_helped site c k v) may before r after
+      → CarriesOn p (render_helped site c k w) may before r after
   helped_as site c k v w {before = before} {after = after} {r = r} is a =
       subst (λ (z : CallView). CarriesOn p (render_helped site c k z) may before r after) is a
 
   pub call_ok : (site : Site) (c : Call) (v : CallView) {s : State} {h : Held} {after : Moment} {r : Answered}
-      → GivesValue p (view_of_call p site c) s v → CarriesOn p (render_called site c (p.parts.helper v.name) v) may (at s h) r after
+      → GivesValue p (view_of_call p site c) s v
+      → CarriesOn p (render_called site c (p.parts.helper v.name) v) may (at s h) r after
       → CarriesOn p (render_call p site c) may (at s h) r after
   call_ok site c v g a = carries_on-value p may (view_of_call p site c) _ g a
 
@@ -125,7 +125,8 @@ module _ (p : Setting) (may : Error → Type 0) where
 
   lone_with : (site : Site) (c : Call) (n : Text × Option Found) (o : Option Kind) {s : State} {h : Held} {after : Moment} {r : Answered}
       → GivesValue p (lone_name p site (call_name c)) s n → o ≡ p.parts.helper n.0
-      → CarriesOn p (render_lone_as p site c n o) may (at s h) r after → CarriesOn p (render_lone p site c) may (at s h) r after
+      → CarriesOn p (render_lone_as p site c n o) may (at s h) r after
+      → CarriesOn p (render_lone p site c) may (at s h) r after
   lone_with site c n o {s = s} {h = h} {after = after} {r = r} g is a = carries_on-value p may (lone_name p site (call_name c)) _ g
       (subst (λ (z : Option Kind). CarriesOn p (render_lone_as p site c n z) may (at s h) r after) is a)
 
@@ -137,7 +138,8 @@ module _ (p : Setting) (may : Error → Type 0) where
 
   pub lone_none : (site : Site) (c : Call) (n : Text × Option Found) {s : State} {h : Held} {after : Moment} {r : Answered}
       → GivesValue p (lone_name p site (call_name c)) s n → None ≡ p.parts.helper n.0
-      → CarriesOn p (render_value p site c n.1) may (at s h) r after → CarriesOn p (render_lone p site c) may (at s h) r after
+      → CarriesOn p (render_value p site c n.1) may (at s h) r after
+      → CarriesOn p (render_lone p site c) may (at s h) r after
   lone_none site c n g is a = lone_with site c n None g is a
 
   pub lone_err : (site : Site) (c : Call) {s next : State} {h : Held} (e : RenderError)

@@ -49,7 +49,8 @@ pub record IsMarked (t : Task) (e d : RenderError) : Type 0 where
 pub unmarked : (t : Task) (e : RenderError) → mark t (spot_of e) ≡ spot_of e → IsMarked t e e
 unmarked t e is = record { spot = λ _. sym is; cause = λ _. refl; memory = λ m. m }
 
-marked-reason : (t : Task) (e d : RenderError) → IsMarked t e d → reason_in d ≢ out_of_memory → reason_in d ≡ reason_in e
+marked-reason : (t : Task) (e d : RenderError) → IsMarked t e d → reason_in d ≢ out_of_memory
+    → reason_in d ≡ reason_in e
 marked-reason t e d m other = ap reason_of (m.cause other)
 
 marked-refusal : (t : Task) (e d : RenderError) → IsMarked t e d → reason_in d ≢ out_of_memory
@@ -104,12 +105,6 @@ module _ (p : Setting) (may : Error → Type 0) where
     | inl memory ↦ carries-no_memory e memory
     | inr other ↦ refused_so e (is other)
   ]
-
-  -- the same of a call that only refuses
-  pub carries-refuses : {r : Refusal} {s next : State} {h : Held} (x : Result (Unit {0}) RenderError) → IsErrAnd x (IsRefusal r)
-      → CarriesOut p (Refuse r) may (at s h) x (at next h)
-  carries-refuses (Ok u) is = absurd is
-  carries-refuses (Err e) is = carries-refuse e is
 
   pub carries-get : {f : State → Steps} {s : State} {h : Held} {last : Moment} {r : Answered}
       → CarriesOut p (f s) may (at s h) r last → CarriesOut p (Get f) may (at s h) r last
@@ -176,13 +171,15 @@ module _ (p : Setting) (may : Error → Type 0) where
   }
 
   pub carries_on-value : {A : Type 0} (m : Prog A) (f : A → Prog (Unit {0})) {s : State} {a : A} {h : Held} {after : Moment}
-      {r : Answered} → GivesValue p m s a → CarriesOn p (f a) may (at s h) r after → CarriesOn p (m >>= f) may (at s h) r after
+      {r : Answered} → GivesValue p m s a → CarriesOn p (f a) may (at s h) r after
+      → CarriesOn p (m >>= f) may (at s h) r after
   unfolding ◌>>=◌
   carries_on-value m f g (goes_on c) = goes_on (λ k r last d. carries-value m (λ a. f a k) g (c k r last d))
   carries_on-value m f g (is_over c) = is_over (λ k. carries-value m (λ a. f a k) g (c k))
 
   pub carries-no_value : {A : Type 0} (m : Prog A) (k : A → Steps) {s next : State} {h : Held} (e : RenderError)
-      → (reason_in e ≢ out_of_memory → RefusesValue p m s (refusal_of e)) → CarriesOut p (m k) may (at s h) (Err e) (at next h)
+      → (reason_in e ≢ out_of_memory → RefusesValue p m s (refusal_of e))
+      → CarriesOut p (m k) may (at s h) (Err e) (at next h)
   carries-no_value m k {h = h} e is = elim (memory_or (reason_in e)) [
     | inl memory ↦ carries-no_memory e memory
     | inr other ↦ record {
@@ -252,8 +249,10 @@ module _ (p : Setting) (may : Error → Type 0) where
 
   -- ---- a part, and what comes next
 
-  Tells-ended : (o : Outcome) {k : Steps} {s next : State} {old new : Held} {u : Unit {0}} (ps : List Piece) → Runs p k s ps o
-      → new.text ≡ old.text ++ join ps → Tells may old.faults new.faults o (Ok u) next → Ends p k (at s old) (at next new)
+  Tells-ended : (o : Outcome) {k : Steps} {s next : State} {old new : Held} {u : Unit {0}} (ps : List Piece)
+      → Runs p k s ps o
+      → new.text ≡ old.text ++ join ps → Tells may old.faults new.faults o (Ok u) next
+      → Ends p k (at s old) (at next new)
   Tells-ended _ ps r t (ended same) = record { pieces = ps; runs = r; text = t; faults = same }
 
   pub ends : {k : Steps} {s next : State} {old new : Held} {u : Unit {0}}
@@ -261,7 +260,8 @@ module _ (p : Setting) (may : Error → Type 0) where
   ends c = Tells-ended c.outcome c.pieces c.runs c.text c.tells
 
   pub carries-then : {t : Task} {k : Steps} {s mid next : State} {h between new : Held} {u : Unit {0}} {r : Result (Unit {0}) RenderError}
-      → CarriesOut p (todo p t) may (at s h) (Ok u) (at mid between) → CarriesOut p k may (at mid between) r (at next new)
+      → CarriesOut p (todo p t) may (at s h) (Ok u) (at mid between)
+      → CarriesOut p k may (at mid between) r (at next new)
       → CarriesOut p (Do t k) may (at s h) r (at next new)
   carries-then {h = h} {between = between} {new = new} a b =
       let e = ends a in
@@ -273,7 +273,8 @@ module _ (p : Setting) (may : Error → Type 0) where
         tells = Tells-before e.faults b.tells;
       }
 
-  Tells-over : (o : Outcome) {t : Task} {k : Steps} {s next : State} {old new : Held} (e d : RenderError) → IsMarked t e d
+  Tells-over : (o : Outcome) {t : Task} {k : Steps} {s next : State} {old new : Held} (e d : RenderError)
+      → IsMarked t e d
       → (ps : List Piece) → Runs p (todo p t) s ps o → new.text ≡ old.text ++ join ps
       → Tells may old.faults new.faults o (Err e) next → CarriesOut p (Do t k) may (at s old) (Err d) (at next new)
   Tells-over _ {t = t} {k = k} {s = s} e d m ps r x (refusal same) = elim (memory_or (reason_in d)) [
@@ -303,24 +304,29 @@ module _ (p : Setting) (may : Error → Type 0) where
       record { pieces = ps; outcome = NoMemory; runs = did_over r tt; text = x; tells = no_memory same (m.memory memory) }
 
   pub carries-over : {t : Task} {k : Steps} {s next : State} {h new : Held} (e d : RenderError) → IsMarked t e d
-      → CarriesOut p (todo p t) may (at s h) (Err e) (at next new) → CarriesOut p (Do t k) may (at s h) (Err d) (at next new)
+      → CarriesOut p (todo p t) may (at s h) (Err e) (at next new)
+      → CarriesOut p (Do t k) may (at s h) (Err d) (at next new)
   carries-over e d m c = Tells-over c.outcome e d m c.pieces c.runs c.text c.tells
 
   pub carries_on-task : {t : Task} {s next : State} {h new : Held} {u : Unit {0}}
-      → CarriesOut p (todo p t) may (at s h) (Ok u) (at next new) → CarriesOn p (perform t) may (at s h) (Ok u) (at next new)
+      → CarriesOut p (todo p t) may (at s h) (Ok u) (at next new)
+      → CarriesOn p (perform t) may (at s h) (Ok u) (at next new)
   carries_on-task a = goes_on (λ k r last c. carries-then a c)
 
   pub carries_on-task_over : {t : Task} {s next : State} {h new : Held} (e d : RenderError) → IsMarked t e d
-      → CarriesOut p (todo p t) may (at s h) (Err e) (at next new) → CarriesOn p (perform t) may (at s h) (Err d) (at next new)
+      → CarriesOut p (todo p t) may (at s h) (Err e) (at next new)
+      → CarriesOn p (perform t) may (at s h) (Err d) (at next new)
   carries_on-task_over e d m a = is_over (λ k. carries-over e d m a)
 
   -- the last part
   pub carries-last : {t : Task} {s next : State} {h new : Held} {u : Unit {0}}
-      → CarriesOut p (todo p t) may (at s h) (Ok u) (at next new) → CarriesOut p (Do t Done) may (at s h) (Ok u) (at next new)
+      → CarriesOut p (todo p t) may (at s h) (Ok u) (at next new)
+      → CarriesOut p (Do t Done) may (at s h) (Ok u) (at next new)
   carries-last c = carries-then c carries-done
 
   -- a part alone that leaves its errors as they are
-  pub carries-only : {t : Task} {s next : State} {h new : Held} (r : Result (Unit {0}) RenderError) → ((spot : Spot) → mark t spot ≡ spot)
+  pub carries-only : {t : Task} {s next : State} {h new : Held} (r : Result (Unit {0}) RenderError)
+      → ((spot : Spot) → mark t spot ≡ spot)
       → CarriesOut p (todo p t) may (at s h) r (at next new) → CarriesOut p (Do t Done) may (at s h) r (at next new)
   carries-only (Ok u) is c = carries-last c
   carries-only {t = t} (Err e) is c = carries-over e e (unmarked t e (is (spot_of e))) c

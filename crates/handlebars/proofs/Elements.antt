@@ -31,21 +31,24 @@ module _ (p : Setting) (may : Error → Type 0) where
   -- What ends so from here ends so from the start.
   abbrev pub Left : TreeSite → List Element → List Place → ℕ → Moment → Moment → Type 0
   Left site es places i first now = (r : Result (Unit {0}) RenderError) (last : Moment)
-      → CarriesOut p (from_index site es places i) may now r last → CarriesOut p (from_index site es places 0) may first r last
+      → CarriesOut p (from_index site es places i) may now r last
+      → CarriesOut p (from_index site es places 0) may first r last
 
   pub left_starts : (site : TreeSite) (es : List Element) (places : List Place) (m : Moment) → Left site es places 0 m m
   left_starts site es places m = λ r last c. c
 
   pub left_goes : (site : TreeSite) (es : List Element) (places : List Place) (i : ℕ) (d x : Element) (first now next : Moment) {u : Unit {0}}
       → i < length es → get_or es i d ≡ x → Left site es places i first now
-      → CarriesOut p (todo p (One (element_in site i) (slice_get places i) x)) may now (Ok u) next → Left site es places (i + 1) first next
+      → CarriesOut p (todo p (One (element_in site i) (slice_get places i) x)) may now (Ok u) next
+      → Left site es places (i + 1) first next
   left_goes site es places i d x first now next lt is left a = λ r last c. left r last
       (subst (λ (k : Steps). CarriesOut p k may now r last) (sym (at_index site es places i d lt))
       (subst (λ (z : Element). CarriesOut p (Do (One (element_in site i) (slice_get places i) z) (from_index site es places (i + 1))) may now r last)
       (sym is) (carries-then p may a c)))
 
   pub left_over : (site : TreeSite) (es : List Element) (places : List Place) (i : ℕ) (d x : Element) (first now next : Moment) (e f : RenderError)
-      → i < length es → get_or es i d ≡ x → Left site es places i first now → IsMarked (One (element_in site i) (slice_get places i) x) e f
+      → i < length es → get_or es i d ≡ x → Left site es places i first now
+      → IsMarked (One (element_in site i) (slice_get places i) x) e f
       → CarriesOut p (todo p (One (element_in site i) (slice_get places i) x)) may now (Err e) next
       → CarriesOut p (from_index site es places 0) may first (Err f) next
   left_over site es places i d x first now next e f lt is left m a = left (Err f) next

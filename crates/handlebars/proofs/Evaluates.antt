@@ -12,20 +12,25 @@ use Rattle.handlebars_base.specs.declared.error.render_error.RenderError.{Render
 use Rattle.handlebars_scope.specs.Resolve.{resolved}
 use Rattle.handlebars.specs.Expand.{Evaluates, leads, leads_nowhere}
 
-pub evaluates_nowhere : {T : Type 0} (given : Data) (t : Text) (r : Result T RenderError) (e : RenderError) → IsErrAnd r (λ d. d ≡ e)
-    → (reason_in e ≢ out_of_memory → (refusal_of e ≡ plain_refusal (invalid_json_path t)) × ((means : Reference) → IsPath t means → ⊥))
+pub evaluates_nowhere : {T : Type 0} (given : Data) (t : Text) (r : Result T RenderError) (e : RenderError)
+    → IsErrAnd r (λ d. d ≡ e)
+    → (reason_in e ≢ out_of_memory → (refusal_of e ≡ plain_refusal (invalid_json_path t))
+    × ((means : Reference) → IsPath t means → ⊥))
     → IfErr r (λ d. reason_in d ≢ out_of_memory → Evaluates given t (refuses (refusal_of d)))
 evaluates_nowhere given t (Ok x) e is h = absurd is
 evaluates_nowhere given t (Err d) e is h = λ other.
     let k = h (λ memory. other (ap reason_in is ∙ memory)) in
     subst (λ (z : Refusal). Evaluates given t (refuses z)) (sym (ap refusal_of is ∙ k.0)) (leads_nowhere k.1)
 
-pub evaluates_to : {T : Type 0} (given : Data) (t : Text) (seen : T → Found) (r : Result T RenderError) (means : Reference) → IsPath t means
+pub evaluates_to : {T : Type 0} (given : Data) (t : Text) (seen : T → Found)
+    (r : Result T RenderError) (means : Reference) → IsPath t means
     → Answers seen r (resolved means given) → IfOk r (λ x. Evaluates given t (gives (seen x)))
 evaluates_to given t seen (Ok x) means path answer = leads path answer
 evaluates_to given t seen (Err e) means path answer = tt
 
-pub evaluation_refused : {T : Type 0} (given : Data) (t : Text) (seen : T → Found) (r : Result T RenderError) (means : Reference) → IsPath t means
-    → Answers seen r (resolved means given) → IfErr r (λ e. reason_in e ≢ out_of_memory → Evaluates given t (refuses (refusal_of e)))
+pub evaluation_refused : {T : Type 0} (given : Data) (t : Text) (seen : T → Found)
+    (r : Result T RenderError) (means : Reference) → IsPath t means
+    → Answers seen r (resolved means given)
+    → IfErr r (λ e. reason_in e ≢ out_of_memory → Evaluates given t (refuses (refusal_of e)))
 evaluation_refused given t seen (Ok x) means path answer = tt
 evaluation_refused given t seen (Err e) means path answer = λ other. leads path (answer other)

@@ -29,6 +29,7 @@ module _ (p : Setting) where
   unfolding ◌>>=◌
   refuses-then m f {r = r} x y k = x (λ a. f a k) [] (Refused r) (y k)
 
-  pub refuses-answer : {A : Type 0} {a : Answer A} {r : Refusal} {s : State} → a ≡ refuses r → RefusesValue p (answer a) s r
+  pub refuses-answer : {A : Type 0} {a : Answer A} {r : Refusal} {s : State} → a ≡ refuses r
+      → RefusesValue p (answer a) s r
   refuses-answer {A = A} {r = r} {s = s} is =
       subst (λ (z : Answer A). RefusesValue p (answer z) s r) (sym is) (λ k. refused)

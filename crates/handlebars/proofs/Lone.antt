@@ -14,7 +14,7 @@ use Rattle.handlebars.specs.Steps.{Prog, answer, state, ◌>>=◌}
 use Rattle.handlebars.specs.Expand.{inner_value, lone_name}
 use Rattle.handlebars.specs.Runs.{got, refused, GivesValue, RefusesValue}
 use Rattle.handlebars.specs.View.{Yields, YieldsPresent}
-use Rattle.handlebars.proofs.Values.{gives-return, gives-then, refuses-first}
+use Rattle.handlebars.proofs.Gives.{gives-return, gives-bind, refuses-bind}
 
 refuses_or : {A : Type 0} → Refusal → Answer A → Refusal
 refuses_or d (gives x) = d
@@ -41,22 +41,25 @@ gives≢refuses e = cc
 
 module _ (p : Setting) where
   pub gives-lone : (site : Site) (e : Element) (found : Found) (t : Text) {s : State} → t ≡ rendered (data_in found)
-      → GivesValue p (inner_value p site e) s found → GivesValue p (lone_name p site (subexpression e)) s (t, Some found)
+      → GivesValue p (inner_value p site e) s found
+      → GivesValue p (lone_name p site (subexpression e)) s (t, Some found)
   gives-lone site e found t {s = s} is g =
       subst (λ (z : Text). GivesValue p (lone_name p site (subexpression e)) s (z, Some found)) (sym is)
-      (gives-then p (inner_value p site e) _ g (gives-return p))
+      (gives-bind p (inner_value p site e) _ g (gives-return p))
 
   pub refuses-lone : (site : Site) (e : Element) {s : State} {r : Refusal} → RefusesValue p (inner_value p site e) s r
       → RefusesValue p (lone_name p site (subexpression e)) s r
-  refuses-lone site e n = refuses-first p (inner_value p site e) _ n
+  refuses-lone site e n = refuses-bind p (inner_value p site e) _ n
 
   -- a value with where it came from, of which only what is there is told
-  pub yields-present : {T : Type 0} (seen : T → Found) (m : Prog Found) (s : State) (r : Result T RenderError) → Yields p m s seen r
+  pub yields-present : {T : Type 0} (seen : T → Found) (m : Prog Found) (s : State) (r : Result T RenderError)
+      → Yields p m s seen r
       → YieldsPresent p m s (λ x. present_in (seen x)) r
   yields-present seen m s (Ok x) y = (seen x, y, refl)
   yields-present seen m s (Err e) y = y
 
-  pub gives-resolved : (a : Answer Found) (o present : Option Data) (s : State) → answer_map present_in a ≡ gives o → present ≡ o
+  pub gives-resolved : (a : Answer Found) (o present : Option Data) (s : State) → answer_map present_in a ≡ gives o
+      → present ≡ o
       → (found : Found) × GivesValue p (state >>= (λ z. answer a)) s found × (present_in found ≡ present)
   unfolding ◌>>=◌
   gives-resolved (gives found) o present s e is = (found, λ k ps q r. got r, gives-injective e ∙ sym is)
@@ -67,4 +70,5 @@ module _ (p : Setting) where
   unfolding ◌>>=◌
   refuses-resolved (gives found) r s e = absurd (gives≢refuses e)
   refuses-resolved (refuses q) r s e =
-      subst (λ (z : Refusal). RefusesValue p (state >>= (λ y. answer (no_value Found q))) s z) (refuses-injective e) (λ k. got refused)
+      subst (λ (z : Refusal). RefusesValue p (state >>= (λ y. answer (no_value Found q))) s z)
+      (refuses-injective e) (λ k. got refused)

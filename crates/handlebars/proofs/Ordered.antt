@@ -26,9 +26,6 @@ pub record Follows {X Y : Type 0} (es : List (Bor Text × X)) (all left : List (
   pub split : all ≡ done ++ left
   pub keys : borrowed es ≡ owned done
 
-pub follows-start : {X Y : Type 0} {es : List (Bor Text × X)} {all : List (String Global × Y)} → es ≡ [] → Follows es all all
-follows-start is = record { done = []; split = refl; keys = ap borrowed is }
-
 -- the order of borrowed keys
 abbrev pub by_text : Bor Text → Bor Text → Ordering
 by_text a b = slice_cmp nat_cmp a.now b.now
@@ -52,7 +49,8 @@ above-owned : {Y : Type 0} (es : List (String Global × Y)) (e : String Global �
 unfolding IsStrictlySortedBy
 above-owned [] e more h = tt
 above-owned (first ∷ es) e more h = (
-  nat_list_cmp_total.antisymm (string_bytes e.0) (string_bytes first.0) ∙ ap ordering_reverse (below-middle first es e more h.0),
+  nat_list_cmp_total.antisymm (string_bytes e.0) (string_bytes first.0)
+      ∙ ap ordering_reverse (below-middle first es e more h.0),
   above-owned es e more h.1,
 )
 
@@ -64,13 +62,14 @@ map-more f (y ∷ ys) x = ap (λ zs. f y ∷ zs) (map-more f ys x)
 pub map-push : {A B : Type 0} (f : A → B) (xs ys : List A) (x : A) → ys ≡ xs ++ x ∷ [] → map f ys ≡ map f xs ++ f x ∷ []
 map-push f xs ys x is = ap (map f) is ∙ map-more f xs x
 
-module _ {X Y : Type 0} {es : List (Bor Text × X)} {all left rest : List (String Global × Y)} (key : String Global) (q : Y)
-    (k : Bor Text) (v : X) (here : left ≡ (key, q) ∷ rest) (same : k.now ≡ string_bytes key)
+module _ {X Y : Type 0} {es : List (Bor Text × X)} {all left rest : List (String Global × Y)}
+    (key : String Global) (q : Y) (k : Bor Text) (v : X) (here : left ≡ (key, q) ∷ rest) (same : k.now ≡ string_bytes key)
     (ordered : IsStrictlySortedBy string_cmp (keys_of all)) (f : Follows es all left) where
   pub inserted-last : insert_entry by_text es k v ≡ es ++ (k, v) ∷ []
   inserted-last =
       let split : all ≡ f.done ++ (key, q) ∷ rest = f.split ∙ ap (λ z. f.done ++ z) here in
-      let above = above-owned f.done (key, q) rest (subst (λ z. IsStrictlySortedBy string_cmp (keys_of z)) split ordered) in
+      let above = above-owned f.done (key, q) rest
+      (subst (λ z. IsStrictlySortedBy string_cmp (keys_of z)) split ordered) in
       insert_entry-last es k v (subst (λ (z : Text). Above z (borrowed es)) (sym same)
       (subst (λ z. Above (string_bytes key) z) (sym f.keys) above))
 

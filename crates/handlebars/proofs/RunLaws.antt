@@ -21,7 +21,8 @@ Ended-injective : {s t : State} → Ended s ≡ Ended t → s ≡ t
 unfolding state_or
 Ended-injective {s = s} e = ap (state_or s) e
 
-Runs-state : {p : Setting} {k : Steps} {s t : State} {ps : List Piece} {o : Outcome} → s ≡ t → Runs p k t ps o → Runs p k s ps o
+Runs-state : {p : Setting} {k : Steps} {s t : State} {ps : List Piece} {o : Outcome} → s ≡ t → Runs p k t ps o
+    → Runs p k s ps o
 Runs-state {p = p} {k = k} {ps = ps} {o = o} e r = subst (λ (t : State). Runs p k t ps o) (sym e) r
 
 Runs-pieces : {p : Setting} (f : List Piece → Steps) {s : State} {xs ys ps : List Piece} {o : Outcome} → xs ≡ ys
@@ -86,7 +87,8 @@ Runs-one (captured_over a over) (captured c d) h g = absurd (subst IsOver (Runs-
 Runs-one (captured_over a over) (captured_over c over') h g = (refl, (Runs-one a c h g).1)
 Runs-one (captured_over a over) stop h g = absurd (g tt)
 
-IsBeginning-join : (xs ys zs : List Piece) → IsBeginning (join ys) (join zs) → IsBeginning (join (xs ++ ys)) (join (xs ++ zs))
+IsBeginning-join : (xs ys zs : List Piece) → IsBeginning (join ys) (join zs)
+    → IsBeginning (join (xs ++ ys)) (join (xs ++ zs))
 IsBeginning-join [] ys zs b = b
 IsBeginning-join (x ∷ xs) ys zs b = let d = IsBeginning-join xs ys zs b in (d.0, ap (λ ws. x.text ++ ws) d.1 ∙ sym (append_assoc x.text (join (xs ++ ys)) d.0))
 

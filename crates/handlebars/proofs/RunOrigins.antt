@@ -282,7 +282,8 @@ module _ (p : Setting) (u : Tree) where
         (λ v has. called_good s (p.parts.helper v.name) v raw on next g)
 
     module _ (stands : shown_call (element_at u site) ≡ Some c) (lone : is_value c ≡ true) where
-      value_comes : (b : Bool) (s : State) (v : Found) → b ≡ not (is_raw_site u site) → GivesValue p (value_of p site c) s v
+      value_comes : (b : Bool) (s : State) (v : Found) → b ≡ not (is_raw_site u site)
+          → GivesValue p (value_of p site c) s v
           → ComesFrom p u (value_origin b site v) (shown_if_any b (present_in v))
       value_comes true s v raw has = record {
         helper = c;
@@ -303,7 +304,8 @@ module _ (p : Setting) (u : Tree) where
         is = all_within (shown_if_any false (present_in v));
       }
 
-      write_value_good : (s : State) (v : Found) → s.escapes ≡ not (is_raw_site u site) → GivesValue p (value_of p site c) s v
+      write_value_good : (s : State) (v : Found) → s.escapes ≡ not (is_raw_site u site)
+          → GivesValue p (value_of p site c) s v
           → IsGoodFrom s (write_value site v)
       unfolding ◌>>=◌
       write_value_good s v raw has = write_text_good s (value_origin s.escapes site v) (shown_if_any s.escapes (present_in v))
@@ -337,7 +339,8 @@ module _ (p : Setting) (u : Tree) where
   unfolding ◌>>=◌
   refused_tag site t why s on next g = tag_good site t on s (λ v. Refuse (plain_refusal (why v.name))) (λ v has. tt)
 
-  element_good : (site : Site) (e : Element) (s : State) → element_at u site ≡ Some e → s.escapes ≡ not (is_raw_around site)
+  element_good : (site : Site) (e : Element) (s : State) → element_at u site ≡ Some e
+      → s.escapes ≡ not (is_raw_around site)
       → IsGoodFrom s (render_element p site e)
   unfolding ◌>>=◌ ◌>>◌
   element_good site (raw_string t) s h raw =

@@ -32,8 +32,10 @@ use Rattle.handlebars.specs.Steps.{Prog, return, answer, refuse, refuse_for, sta
 use Rattle.handlebars.specs.Expand.{as_written, is_literal, expand, expands, expand_as_name, inner_value, params_values, pairs_values, view_of_call, view_of_tag, helped_value, choice_value}
 use Rattle.handlebars.specs.Runs.{Outcome, Refused, Runs, refused, got, set, done, captured, GivesValue, RefusesValue}
 use Rattle.handlebars.specs.View.{Yields}
+use Rattle.handlebars.proofs.Gives.{gives-return, gives-bind, gives-answer, refuses-bind, refuses-then, refuses-answer}
 
-pub subexpression_view-out : (s : Subexpression) → subexpression_view s ≡ element_view (out-Subexpression s).element.value
+pub subexpression_view-out : (s : Subexpression)
+    → subexpression_view s ≡ element_view (out-Subexpression s).element.value
 subexpression_view-out s = search (rules, tree.the_lemmas)
 
 pub view-String : (s : String Global) → view (value.String s) ≡ string (string_bytes s)
@@ -49,31 +51,6 @@ pub params-past : (qs : List Parameter) (i : ℕ) → length qs ≤ i → params
 params-past qs i over = ap params_view (drop_all i qs over)
 
 module _ (p : Setting) where
-  pub gives-return : {A : Type 0} {a : A} {s : State} → GivesValue p (return a) s a
-  gives-return k ps o r = r
-
-  pub gives-then : {A B : Type 0} (m : Prog A) (f : A → Prog B) {s : State} {a : A} {b : B}
-      → GivesValue p m s a → GivesValue p (f a) s b → GivesValue p (m >>= f) s b
-  unfolding ◌>>=◌
-  gives-then m f x y k ps o r = x (λ a. f a k) ps o (y k ps o r)
-
-  pub refuses-first : {A B : Type 0} (m : Prog A) (f : A → Prog B) {s : State} {r : Refusal}
-      → RefusesValue p m s r → RefusesValue p (m >>= f) s r
-  unfolding ◌>>=◌
-  refuses-first m f x k = x (λ a. f a k)
-
-  pub refuses-then : {A B : Type 0} (m : Prog A) (f : A → Prog B) {s : State} {a : A} {r : Refusal}
-      → GivesValue p m s a → RefusesValue p (f a) s r → RefusesValue p (m >>= f) s r
-  unfolding ◌>>=◌
-  refuses-then m f {r = r} x y k = x (λ a. f a k) [] (Refused r) (y k)
-
-  pub gives-answer : {A : Type 0} {a : Answer A} {v : A} {s : State} → a ≡ gives v → GivesValue p (answer a) s v
-  gives-answer {A = A} {v = v} {s = s} is = subst (λ (z : Answer A). GivesValue p (answer z) s v) (sym is) (λ k ps o r. r)
-
-  pub refuses-answer : {A : Type 0} {a : Answer A} {r : Refusal} {s : State} → a ≡ refuses r → RefusesValue p (answer a) s r
-  refuses-answer {A = A} {r = r} {s = s} is =
-      subst (λ (z : Answer A). RefusesValue p (answer z) s r) (sym is) (λ k. refused)
-
   -- a refusal as the code has it
   pub refuses-so : {A : Type 0} {r : Refusal} {s : State} (e : RenderError) → refusal_of e ≡ r
       → RefusesValue {A = A} p (refuse r) s (refusal_of e)
@@ -82,47 +59,54 @@ module _ (p : Setting) where
   -- ---- what calls say
 
   -- an error that `?` hands on
-  pub yields-handed_on : {T A : Type 0} (seen : T → A) (m : Prog A) {s : State} (r : Result T RenderError) (e : RenderError)
-      → IsErrAnd r (λ d. d ≡ e) → (reason_in e ≢ out_of_memory → RefusesValue p m s (refusal_of e)) → Yields p m s seen r
+  pub yields-handed_on : {T A : Type 0} (seen : T → A) (m : Prog A) {s : State}
+      (r : Result T RenderError) (e : RenderError)
+      → IsErrAnd r (λ d. d ≡ e) → (reason_in e ≢ out_of_memory → RefusesValue p m s (refusal_of e))
+      → Yields p m s seen r
   yields-handed_on seen m (Ok x) e is h = absurd is
   yields-handed_on seen m {s = s} (Err d) e is h =
       subst (λ (z : RenderError). reason_in z ≢ out_of_memory → RefusesValue p m s (refusal_of z)) (sym is) h
 
-  pub yields-answer : {T A : Type 0} (seen : T → A) (a : Answer A) (s : State) (r : Result T RenderError) → Answers seen r a
+  pub yields-answer : {T A : Type 0} (seen : T → A) (a : Answer A) (s : State) (r : Result T RenderError)
+      → Answers seen r a
       → Yields p (answer a) s seen r
-  yields-answer seen a s (Ok x) is = gives-answer is
-  yields-answer seen a s (Err e) is = λ other. refuses-answer (is other)
+  yields-answer seen a s (Ok x) is = gives-answer p is
+  yields-answer seen a s (Err e) is = λ other. refuses-answer p (is other)
 
   -- ---- calls in parentheses
 
   -- what a helper chooses writes nothing there
-  gives-choice : (site : Site) (choice : Choice) {s : State} → GivesValue p (choice_value site choice) s (Found.value (string []))
+  gives-choice : (site : Site) (choice : Choice) {s : State}
+      → GivesValue p (choice_value site choice) s (Found.value (string []))
   unfolding ◌>>=◌ ◌>>◌
   gives-choice site the_body = λ k ps o r. captured (got (set done)) r
   gives-choice site the_inverse = λ k ps o r. captured (got (set done)) r
 
-  pub gives-helped : (site : Site) (h : Option Kind) (k : Kind) (v : CallView) (choice : Choice) (found : Found) {s : State}
-      → h ≡ Some k → chosen k v ≡ gives choice → found ≡ Found.value (string []) → GivesValue p (helped_value site h v) s found
+  pub gives-helped : (site : Site) (h : Option Kind) (k : Kind) (v : CallView) (choice : Choice)
+      (found : Found) {s : State}
+      → h ≡ Some k → chosen k v ≡ gives choice → found ≡ Found.value (string [])
+      → GivesValue p (helped_value site h v) s found
   gives-helped site h k v choice found {s = s} is chooses same =
       subst (λ (z : Option Kind). GivesValue p (helped_value site z v) s found) (sym is)
       (subst (λ (z : Found). GivesValue p (helped_value site (Some k) v) s z) (sym same)
-      (gives-then (answer (chosen k v)) (choice_value site) (gives-answer chooses) (gives-choice site choice)))
+      (gives-bind p (answer (chosen k v)) (choice_value site) (gives-answer p chooses) (gives-choice site choice)))
 
   pub refuses-helped : (site : Site) (h : Option Kind) (k : Kind) (v : CallView) {s : State} {r : Refusal}
       → h ≡ Some k → chosen k v ≡ refuses r → RefusesValue p (helped_value site h v) s r
   refuses-helped site h k v {s = s} {r = r} is refusal =
       subst (λ (z : Option Kind). RefusesValue p (helped_value site z v) s r) (sym is)
-      (refuses-first (answer (chosen k v)) (choice_value site) (refuses-answer refusal))
+      (refuses-bind p (answer (chosen k v)) (choice_value site) (refuses-answer p refusal))
 
   pub refuses-unknown : (site : Site) (h : Option Kind) (v : CallView) {s : State} (e : RenderError) → h ≡ None
       → refusal_of e ≡ plain_refusal (helper_not_found v.name) → RefusesValue p (helped_value site h v) s (refusal_of e)
   refuses-unknown site h v {s = s} e is same =
       subst (λ (z : Option Kind). RefusesValue p (helped_value site z v) s (refusal_of e)) (sym is) (refuses-so e same)
 
-  pub yields-then : {T A B : Type 0} (seen : T → B) (m : Prog A) (f : A → Prog B) {s : State} {a : A} (r : Result T RenderError)
+  pub yields-then : {T A B : Type 0} (seen : T → B) (m : Prog A)
+      (f : A → Prog B) {s : State} {a : A} (r : Result T RenderError)
       → GivesValue p m s a → Yields p (f a) s seen r → Yields p (m >>= f) s seen r
-  yields-then seen m f (Ok x) g y = gives-then m f g y
-  yields-then seen m f (Err e) g y = λ other. refuses-then m f g (y other)
+  yields-then seen m f (Ok x) g y = gives-bind p m f g y
+  yields-then seen m f (Err e) g y = λ other. refuses-then p m f g (y other)
 
   pub yields-state : {T A : Type 0} (seen : T → A) (f : State → Prog A) (s : State) (r : Result T RenderError)
       → Yields p (f s) s seen r → Yields p (state >>= f) s seen r
@@ -131,8 +115,10 @@ module _ (p : Setting) where
   yields-state seen f s (Err e) y = λ other k. got (y other k)
 
   -- the value of a call, by its view
-  pub yields-call : {T : Type 0} (seen : T → Found) (site : Site) (c : Call) (v w : CallView) {s : State} (r : Result T RenderError)
-      → v ≡ w → GivesValue p (view_of_call p site c) s w → Yields p (helped_value site (p.parts.helper v.name) v) s seen r
+  pub yields-call : {T : Type 0} (seen : T → Found)
+      (site : Site) (c : Call) (v w : CallView) {s : State} (r : Result T RenderError)
+      → v ≡ w → GivesValue p (view_of_call p site c) s w
+      → Yields p (helped_value site (p.parts.helper v.name) v) s seen r
       → Yields p (inner_value p site (expression c)) s seen r
   yields-call seen site c v w {s = s} r is g y =
       yields-then seen (view_of_call p site c) (λ v. helped_value site (p.parts.helper v.name) v) r g
@@ -144,11 +130,11 @@ module _ (p : Setting) where
       → GivesValue p (inner_value p site e) s found → GivesValue p (expand_as_name p site (subexpression e)) s t
   gives-called site e found t {s = s} is g =
       subst (λ (z : Text). GivesValue p (expand_as_name p site (subexpression e)) s z) (sym is)
-      (gives-then (inner_value p site e) _ g gives-return)
+      (gives-bind p (inner_value p site e) _ g (gives-return p))
 
   pub refuses-called : (site : Site) (e : Element) {s : State} {r : Refusal} → RefusesValue p (inner_value p site e) s r
       → RefusesValue p (expand_as_name p site (subexpression e)) s r
-  refuses-called site e n = refuses-first (inner_value p site e) _ n
+  refuses-called site e n = refuses-bind p (inner_value p site e) _ n
 
   -- ---- views
 
@@ -171,34 +157,41 @@ module _ (p : Setting) where
     pub view_of_call-out : (h : HelperTemplate) → view_of_call p site (call_view h)
         ≡ view_of_parts (param_view (out-HelperTemplate h).name) (params_view (out-HelperTemplate h).params.items)
         (pairs_view (out-HelperTemplate h).hash.entries)
-    view_of_call-out h = view_of_call-parts (call_view h) ∙ rw (call_name-view h, call_params-view h, call_pairs-view h) refl
+    view_of_call-out h = view_of_call-parts (call_view h)
+        ∙ rw (call_name-view h, call_params-view h, call_pairs-view h) refl
 
     pub view_of_tag-out : (t : DecoratorTemplate) → view_of_tag p site (decorator_view t)
         ≡ view_of_parts (param_view (out-DecoratorTemplate t).name) (params_view (out-DecoratorTemplate t).params.items)
         (pairs_view (out-DecoratorTemplate t).hash.entries)
     view_of_tag-out t =
-        view_of_tag-parts (decorator_view t) ∙ rw (decorator_name-view t, decorator_params-view t, decorator_pairs-view t) refl
+        view_of_tag-parts (decorator_view t) ∙ rw (
+          decorator_name-view t,
+          decorator_params-view t,
+          decorator_pairs-view t,
+        ) refl
 
     module _ (n : Param) (ps : Params) (hs : Pairs) {s : State} where
       pub gives-view : {called : Text} {vs : List PathAndData} {ws : List (Text × PathAndData)}
           → GivesValue p (expand_as_name p site n) s called → GivesValue p (params_values p site ps) s vs
           → GivesValue p (pairs_values p site hs) s ws
           → GivesValue p (view_of_parts n ps hs) s (record { name = called; params = vs; pairs = ws })
-      gives-view x y z = gives-then (expand_as_name p site n) _ x
-          (gives-then (params_values p site ps) _ y (gives-then (pairs_values p site hs) _ z gives-return))
+      gives-view x y z = gives-bind p (expand_as_name p site n) _ x
+          (gives-bind p (params_values p site ps) _ y (gives-bind p (pairs_values p site hs) _ z (gives-return p)))
 
-      pub refuses-name : {r : Refusal} → RefusesValue p (expand_as_name p site n) s r → RefusesValue p (view_of_parts n ps hs) s r
-      refuses-name x = refuses-first (expand_as_name p site n) _ x
+      pub refuses-name : {r : Refusal} → RefusesValue p (expand_as_name p site n) s r
+          → RefusesValue p (view_of_parts n ps hs) s r
+      refuses-name x = refuses-bind p (expand_as_name p site n) _ x
 
       pub refuses-params : {called : Text} {r : Refusal} → GivesValue p (expand_as_name p site n) s called
           → RefusesValue p (params_values p site ps) s r → RefusesValue p (view_of_parts n ps hs) s r
-      refuses-params x y = refuses-then (expand_as_name p site n) _ x (refuses-first (params_values p site ps) _ y)
+      refuses-params x y = refuses-then p (expand_as_name p site n) _ x (refuses-bind p (params_values p site ps) _ y)
 
-      pub refuses-pairs : {called : Text} {vs : List PathAndData} {r : Refusal} → GivesValue p (expand_as_name p site n) s called
+      pub refuses-pairs : {called : Text} {vs : List PathAndData} {r : Refusal}
+          → GivesValue p (expand_as_name p site n) s called
           → GivesValue p (params_values p site ps) s vs → RefusesValue p (pairs_values p site hs) s r
           → RefusesValue p (view_of_parts n ps hs) s r
-      refuses-pairs x y z = refuses-then (expand_as_name p site n) _ x
-          (refuses-then (params_values p site ps) _ y (refuses-first (pairs_values p site hs) _ z))
+      refuses-pairs x y z = refuses-then p (expand_as_name p site n) _ x
+          (refuses-then p (params_values p site ps) _ y (refuses-bind p (pairs_values p site hs) _ z))
 
     -- ---- parameters from an index on
 
@@ -245,29 +238,29 @@ module _ (p : Setting) where
     pub record ParamsLeft (all left : Params) (s : State) (so_far : List PathAndData) : Type 0 where
       pub go : (vs : List PathAndData) → GivesValue p (params_values p site left) s vs
           → GivesValue p (params_values p site all) s (so_far ++ vs)
-      pub over : (r : Refusal) → RefusesValue p (params_values p site left) s r → RefusesValue p (params_values p site all) s r
-
-    pub params-start : {all : Params} {s : State} → ParamsLeft all all s []
-    params-start = record { go = λ vs g. g; over = λ r n. n }
+      pub over : (r : Refusal) → RefusesValue p (params_values p site left) s r
+          → RefusesValue p (params_values p site all) s r
 
     pub params-end : {all left : Params} {s : State} {so_far : List PathAndData} → left ≡ params_view []
         → ParamsLeft all left s so_far → GivesValue p (params_values p site all) s so_far
     params-end {all = all} {s = s} {so_far = so_far} is x =
         subst (λ (z : List PathAndData). GivesValue p (params_values p site all) s z) (append-nil so_far)
-        (x.go [] (subst (λ (z : Params). GivesValue p (params_values p site z) s []) (sym is) gives-return))
+        (x.go [] (subst (λ (z : Params). GivesValue p (params_values p site z) s []) (sym is) (gives-return p)))
 
     module _ {all left rest : Params} {q : Param} {s : State} {so_far : List PathAndData} (here : left ≡ param q rest)
         (x : ParamsLeft all left s so_far) where
       pub params-go : (d : PathAndData) → GivesValue p (expand p site q) s d → ParamsLeft all rest s (so_far ++ d ∷ [])
       params-go d g = record {
-        go = λ vs more. subst (λ (z : List PathAndData). GivesValue p (params_values p site all) s z) (sym (append_assoc so_far (d ∷ []) vs))
+        go = λ vs more. subst (λ (z : List PathAndData). GivesValue p (params_values p site all) s z) (sym
+            (append_assoc so_far (d ∷ []) vs))
             (x.go (d ∷ vs) (subst (λ (z : Params). GivesValue p (params_values p site z) s (d ∷ vs)) (sym here)
             (gives-param q rest d vs g more)));
         over = λ r more. x.over r (subst (λ (z : Params). RefusesValue p (params_values p site z) s r) (sym here)
             (refuses-more_params q rest d g more));
       }
 
-      pub params-over : {r : Refusal} → RefusesValue p (expand p site q) s r → RefusesValue p (params_values p site all) s r
+      pub params-over : {r : Refusal} → RefusesValue p (expand p site q) s r
+          → RefusesValue p (params_values p site all) s r
       params-over {r = r} n = x.over r (subst (λ (z : Params). RefusesValue p (params_values p site z) s r) (sym here)
           (refuses-param q rest n))
 
@@ -275,42 +268,45 @@ module _ (p : Setting) where
     pub record PairsLeft (all left : Pairs) (s : State) (so_far : List (Text × PathAndData)) : Type 0 where
       pub go : (vs : List (Text × PathAndData)) → GivesValue p (pairs_values p site left) s vs
           → GivesValue p (pairs_values p site all) s (so_far ++ vs)
-      pub over : (r : Refusal) → RefusesValue p (pairs_values p site left) s r → RefusesValue p (pairs_values p site all) s r
-
-    pub pairs-start : {all : Pairs} {s : State} → PairsLeft all all s []
-    pairs-start = record { go = λ vs g. g; over = λ r n. n }
+      pub over : (r : Refusal) → RefusesValue p (pairs_values p site left) s r
+          → RefusesValue p (pairs_values p site all) s r
 
     pub pairs-end : {all left : Pairs} {s : State} {so_far : List (Text × PathAndData)} → left ≡ pairs_view []
         → PairsLeft all left s so_far → GivesValue p (pairs_values p site all) s so_far
     pairs-end {all = all} {s = s} {so_far = so_far} is x =
         subst (λ (z : List (Text × PathAndData)). GivesValue p (pairs_values p site all) s z) (append-nil so_far)
-        (x.go [] (subst (λ (z : Pairs). GivesValue p (pairs_values p site z) s []) (sym is) gives-return))
+        (x.go [] (subst (λ (z : Pairs). GivesValue p (pairs_values p site z) s []) (sym is) (gives-return p)))
 
     module _ {all left rest : Pairs} {key : Text} {q : Param} {s : State} {so_far : List (Text × PathAndData)}
         (here : left ≡ pair key q rest) (x : PairsLeft all left s so_far) where
-      pub pairs-go : (d : PathAndData) → GivesValue p (expand p site q) s d → PairsLeft all rest s (so_far ++ (key, d) ∷ [])
+      pub pairs-go : (d : PathAndData) → GivesValue p (expand p site q) s d
+          → PairsLeft all rest s (so_far ++ (key, d) ∷ [])
       pairs-go d g = record {
         go = λ vs more. subst (λ (z : List (Text × PathAndData)). GivesValue p (pairs_values p site all) s z)
             (sym (append_assoc so_far ((key, d) ∷ []) vs))
-            (x.go ((key, d) ∷ vs) (subst (λ (z : Pairs). GivesValue p (pairs_values p site z) s ((key, d) ∷ vs)) (sym here)
+            (x.go ((key, d) ∷ vs) (subst (λ (z : Pairs). GivesValue p (pairs_values p site z) s ((key, d) ∷ vs))
+            (sym here)
             (gives-pair key q rest d vs g more)));
         over = λ r more. x.over r (subst (λ (z : Pairs). RefusesValue p (pairs_values p site z) s r) (sym here)
             (refuses-more_pairs key q rest d g more));
       }
 
-      pub pairs-over : {r : Refusal} → RefusesValue p (expand p site q) s r → RefusesValue p (pairs_values p site all) s r
+      pub pairs-over : {r : Refusal} → RefusesValue p (expand p site q) s r
+          → RefusesValue p (pairs_values p site all) s r
       pairs-over {r = r} n = x.over r (subst (λ (z : Pairs). RefusesValue p (pairs_values p site z) s r) (sym here)
           (refuses-pair key q rest n))
 
   -- ---- a parameter as it is written
 
-  pub gives-written : (site : Site) (q : Param) (found : Found) (path : Option Text) (constant : Bool) (d : PathAndData) {s : State}
-      → d ≡ record { relative_path = path; found = found; is_constant = constant } → path ≡ as_name q → constant ≡ is_literal q
+  pub gives-written : (site : Site) (q : Param) (found : Found) (path : Option Text) (constant : Bool)
+      (d : PathAndData) {s : State}
+      → d ≡ record { relative_path = path; found = found; is_constant = constant } → path ≡ as_name q
+      → constant ≡ is_literal q
       → GivesValue p (expands p site q) s found → GivesValue p (expand p site q) s d
   gives-written site q found path constant d {s = s} is same literal g =
       subst (λ (z : PathAndData). GivesValue p (expand p site q) s z) (sym (is ∙ rw (same, literal) refl))
-      (gives-then (expands p site q) _ g gives-return)
+      (gives-bind p (expands p site q) _ g (gives-return p))
 
   pub refuses-written : (site : Site) (q : Param) {s : State} {r : Refusal} → RefusesValue p (expands p site q) s r
       → RefusesValue p (expand p site q) s r
-  refuses-written site q n = refuses-first (expands p site q) _ n
+  refuses-written site q n = refuses-bind p (expands p site q) _ n

@@ -50,7 +50,11 @@ abbrev pub pairs_seen : List (Bor Text × PathAndJson) → List (Text × PathAnd
 pairs_seen hs = map (λ h. (h.0.now, path_and_data h.1)) hs
 
 abbrev pub called_view : Called → CallView
-called_view c = record { name = cow_str_bytes c.name; params = map path_and_data c.params.items; pairs = pairs_seen c.hash.entries }
+called_view c = record {
+  name = cow_str_bytes c.name;
+  params = map path_and_data c.params.items;
+  pairs = pairs_seen c.hash.entries;
+}
 
 -- the name of a lone expression, and the value that was made for it
 abbrev pub lone_view : Lone → Text × Option Found

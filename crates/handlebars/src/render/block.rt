@@ -29,7 +29,8 @@ pub fn render_call<'a, O: Output, P: Registered>(
     rc: &mut RenderContext,
     out: &mut O,
 ) -> Result<(), RenderError>
-    ensures renders { (site : Site) → CarriesOn (setting_in P.parts setting.now) (render_call (setting_in P.parts setting.now) site (call_view helper.now))
+    ensures renders { (site : Site) → CarriesOn (setting_in P.parts setting.now)
+        (render_call (setting_in P.parts setting.now) site (call_view helper.now))
         O.may_give (moment rc.old (O.held out.old)) result (moment rc.new (O.held out.new)) }
     ensures kept { IsKept rc.old rc.new }
 {
@@ -49,7 +50,8 @@ fn render_called<'a, O: Output, P: Registered>(
     out: &mut O,
 ) -> Result<(), RenderError>
     ensures renders { (site : Site) → CarriesOn (setting_in P.parts setting.now)
-        (render_called site (call_view helper.now) ((setting_in P.parts setting.now).parts.helper (helper_view view.now).call.name) (helper_view view.now).call)
+        (render_called site (call_view helper.now)
+        ((setting_in P.parts setting.now).parts.helper (helper_view view.now).call.name) (helper_view view.now).call)
         O.may_give (moment rc.old (O.held out.old)) result (moment rc.new (O.held out.new)) }
     ensures kept { IsKept rc.old rc.new }
 {
@@ -69,7 +71,8 @@ pub fn render_helped<'a, O: Output, P: Registered>(
     rc: &mut RenderContext,
     out: &mut O,
 ) -> Result<(), RenderError>
-    ensures renders { (site : Site) → CarriesOn (setting_in P.parts setting.now) (render_helped site (call_view helper.now) (kind_of kind) (helper_view view.now).call)
+    ensures renders { (site : Site) → CarriesOn (setting_in P.parts setting.now)
+        (render_helped site (call_view helper.now) (kind_of kind) (helper_view view.now).call)
         O.may_give (moment rc.old (O.held out.old)) result (moment rc.new (O.held out.new)) }
     ensures kept { IsKept rc.old rc.new }
 {
@@ -138,7 +141,8 @@ fn enter_call(rc: &mut RenderContext, marked: bool)
 
 // The line behind a call, by what it was before.
 fn leave_call(rc: &mut RenderContext, before: bool, produced: bool)
-    ensures state { (old : LineState) → old.before ≡ before → old.produced ≡ produced → state_of rc.new ≡ record (state_of rc.old) { line = line_out old (state_of rc.old).line } }
+    ensures state { (old : LineState) → old.before ≡ before → old.produced ≡ produced
+        → state_of rc.new ≡ record (state_of rc.old) { line = line_out old (state_of rc.old).line } }
     ensures kept { IsKept rc.old rc.new }
 {
     if rc.get_content_produced() {

@@ -2,11 +2,12 @@
 
 ghost use Rattle.std.specs.Prelude.{◌≡◌, [], IfOk, false, option_map};
 ghost use Rattle.std.specs.Cow.{cow_str_bytes};
+ghost use Rattle.serde_json.specs.Data.{string};
 ghost use Rattle.handlebars_base.specs.Answers.{IsRefusal};
 ghost use Rattle.handlebars_base.specs.Bytes.{Text};
 ghost use Rattle.handlebars_base.specs.Reasons.{helper_not_found};
 ghost use Rattle.handlebars_base.specs.RenderRefusals.{plain_refusal};
-ghost use Rattle.handlebars_base.specs.Scoped.{found_of, is_constant};
+ghost use Rattle.handlebars_base.specs.Scoped.{found_of, is_constant, value};
 ghost use Rattle.handlebars_template.specs.Tree.{call_binding, call_body, call_inverse, call_marks, no_binding, no_body};
 ghost use Rattle.handlebars_template.specs.TreeView.{call_view, decorator_view};
 ghost use Rattle.handlebars_scope.specs.Sites.{Site};
@@ -87,7 +88,8 @@ pub fn view_of_call<'a, P: Registered>(
     setting: &Setting<'_, 'a, P>,
     helper: &'a HelperTemplate,
 ) -> Result<Helper<'a>, RenderError>
-    ensures view { (site : Site) (s : State) → Yields (setting_in P.parts setting.now) (view_of_call (setting_in P.parts setting.now) site (call_view helper.now)) s (λ h. (helper_view h).call) result }
+    ensures view { (site : Site) (s : State) → Yields (setting_in P.parts setting.now)
+        (view_of_call (setting_in P.parts setting.now) site (call_view helper.now)) s (λ h. (helper_view h).call) result }
     ensures bodies { IfOk result (λ h. helper_view h ≡ record {
       call = (helper_view h).call;
       binding = call_binding (call_view helper.now);
@@ -107,7 +109,8 @@ pub fn view_of_tag<'a, P: Registered>(
     setting: &Setting<'_, 'a, P>,
     tag: &'a DecoratorTemplate,
 ) -> Result<Called<'a>, RenderError>
-    ensures { (site : Site) (s : State) → Yields (setting_in P.parts setting.now) (view_of_tag (setting_in P.parts setting.now) site (decorator_view tag.now)) s called_view result }
+    ensures { (site : Site) (s : State) → Yields (setting_in P.parts setting.now)
+        (view_of_tag (setting_in P.parts setting.now) site (decorator_view tag.now)) s called_view result }
 {
     let name = expand_as_name(setting, &tag.name)?;
     let params = params_values(setting, &tag.params)?;
@@ -120,16 +123,25 @@ pub fn helped_value<'a, P: Registered>(
     setting: &Setting<P>,
     helper: &Helper,
 ) -> Result<ScopedJson<'a>, RenderError>
-    ensures value { (site : Site) (s : State) → Yields (setting_in P.parts setting.now) (helped_value site ((P.parts setting.now.parts.now).helper (helper_view helper.now).call.name) (helper_view helper.now).call) s found_of result }
+    ensures value { (site : Site) (s : State) → Yields (setting_in P.parts setting.now)
+        (helped_value site ((P.parts setting.now.parts.now).helper (helper_view helper.now).call.name) (helper_view helper.now).call) s found_of result }
     ensures constant { IfOk result (λ found. is_constant found ≡ false) }
 {
     match setting.parts.helper(helper.name()) {
         Some(kind) => match choose(kind, helper) {
-            Ok(_) => Ok(ScopedJson::Derived(Json::String(String::new(setting.alloc)))),
+            Ok(_) => Ok(empty_text(setting.alloc)),
             Err(e) => Err(e),
         },
         None => Err(helper_not_found(setting.alloc, helper.name())),
     }
+}
+
+// The value of what writes nothing.
+fn empty_text<'a>(alloc: Global) -> ScopedJson<'a>
+    ensures value { found_of result ≡ value (string []) }
+    ensures constant { is_constant result ≡ false }
+{
+    ScopedJson::Derived(Json::String(String::new(alloc)))
 }
 
 /// The refusal of a name that no helper has.

@@ -38,7 +38,8 @@ pub fn render_element<'a, O: Output, P: Registered>(
     rc: &mut RenderContext,
     out: &mut O,
 ) -> Result<(), RenderError>
-    ensures renders { (site : Site) → CarriesOut (setting_in P.parts setting.now) (run (render_element (setting_in P.parts setting.now) site (element_view element.now)))
+    ensures renders { (site : Site) → CarriesOut (setting_in P.parts setting.now)
+        (run (render_element (setting_in P.parts setting.now) site (element_view element.now)))
         O.may_give (moment rc.old (O.held out.old)) result (moment rc.new (O.held out.new)) }
     ensures kept { IsKept rc.old rc.new }
 {
@@ -63,7 +64,8 @@ fn render_unescaped<'a, O: Output, P: Registered>(
     rc: &mut RenderContext,
     out: &mut O,
 ) -> Result<(), RenderError>
-    ensures renders { (site : Site) → CarriesOut (setting_in P.parts setting.now) (run (unescaped (render_expression (setting_in P.parts setting.now) site (call_view helper.now))))
+    ensures renders { (site : Site) → CarriesOut (setting_in P.parts setting.now)
+        (run (unescaped (render_expression (setting_in P.parts setting.now) site (call_view helper.now))))
         O.may_give (moment rc.old (O.held out.old)) result (moment rc.new (O.held out.new)) }
     ensures kept { IsKept rc.old rc.new }
 {
@@ -82,7 +84,8 @@ fn render_expression<'a, O: Output, P: Registered>(
     rc: &mut RenderContext,
     out: &mut O,
 ) -> Result<(), RenderError>
-    ensures renders { (site : Site) → CarriesOn (setting_in P.parts setting.now) (render_expression (setting_in P.parts setting.now) site (call_view helper.now))
+    ensures renders { (site : Site) → CarriesOn (setting_in P.parts setting.now)
+        (render_expression (setting_in P.parts setting.now) site (call_view helper.now))
         O.may_give (moment rc.old (O.held out.old)) result (moment rc.new (O.held out.new)) }
     ensures kept { IsKept rc.old rc.new }
 {
@@ -101,7 +104,8 @@ fn render_lone<'a, O: Output, P: Registered>(
     rc: &mut RenderContext,
     out: &mut O,
 ) -> Result<(), RenderError>
-    ensures renders { (site : Site) → CarriesOn (setting_in P.parts setting.now) (render_lone (setting_in P.parts setting.now) site (call_view helper.now))
+    ensures renders { (site : Site) → CarriesOn (setting_in P.parts setting.now)
+        (render_lone (setting_in P.parts setting.now) site (call_view helper.now))
         O.may_give (moment rc.old (O.held out.old)) result (moment rc.new (O.held out.new)) }
     ensures kept { IsKept rc.old rc.new }
 {
@@ -126,7 +130,8 @@ fn render_named<'a, O: Output, P: Registered>(
     out: &mut O,
 ) -> Result<(), RenderError>
     ensures renders { (site : Site) → CarriesOn (setting_in P.parts setting.now)
-        (render_helped site (call_view helper.now) (kind_of kind) (record { name = cow_str_bytes name.entry; params = []; pairs = [] }))
+        (render_helped site (call_view helper.now) (kind_of kind)
+        (record { name = cow_str_bytes name.entry; params = []; pairs = [] }))
         O.may_give (moment rc.old (O.held out.old)) result (moment rc.new (O.held out.new)) }
     ensures kept { IsKept rc.old rc.new }
 {
@@ -159,7 +164,8 @@ fn decorator_not_found<'a, P: Registered>(
     setting: &Setting<'_, 'a, P>,
 ) -> RenderError
     ensures { (site : Site) (s : State) → reason_in result ≢ out_of_memory
-        → RefusesValue (setting_in P.parts setting.now) (render_decorator (setting_in P.parts setting.now) site (decorator_view tag.now)) s (refusal_of result) }
+        → RefusesValue (setting_in P.parts setting.now)
+        (render_decorator (setting_in P.parts setting.now) site (decorator_view tag.now)) s (refusal_of result) }
 {
     match view_of_tag(setting, tag) {
         Ok(view) => no_decorator(setting.alloc, view.name),
@@ -172,7 +178,8 @@ fn partial_not_found<'a, P: Registered>(
     setting: &Setting<'_, 'a, P>,
 ) -> RenderError
     ensures { (site : Site) (s : State) → reason_in result ≢ out_of_memory
-        → RefusesValue (setting_in P.parts setting.now) (render_partial (setting_in P.parts setting.now) site (decorator_view tag.now)) s (refusal_of result) }
+        → RefusesValue (setting_in P.parts setting.now)
+        (render_partial (setting_in P.parts setting.now) site (decorator_view tag.now)) s (refusal_of result) }
 {
     match view_of_tag(setting, tag) {
         Ok(view) => no_partial(setting.alloc, view.name),

@@ -76,7 +76,14 @@ impl Expand for Parameter {
     ) -> Result<PathAndJson<'rc>, RenderError> {
         ready(rc)?;
         let given = data.data();
-        let answer = value::expand(&Setting { alloc, parts: registry, given }, self);
+        let answer = value::expand(
+            &Setting {
+                alloc,
+                parts: registry,
+                given,
+            },
+            self,
+        );
         fail_after(rc, answer)
     }
 
@@ -90,7 +97,14 @@ impl Expand for Parameter {
     ) -> Result<CowStr<'rc>, RenderError> {
         ready(rc)?;
         let given = data.data();
-        let answer = value::expand_as_name(&Setting { alloc, parts: registry, given }, self);
+        let answer = value::expand_as_name(
+            &Setting {
+                alloc,
+                parts: registry,
+                given,
+            },
+            self,
+        );
         fail_after(rc, answer)
     }
 }

@@ -31,7 +31,8 @@ pub fn lone_name<'a, P: Registered>(
     setting: &Setting<'_, 'a, P>,
     name: &'a Parameter,
 ) -> Result<Lone<'a>, RenderError>
-    ensures { (site : Site) (s : State) → Yields (setting_in P.parts setting.now) (lone_name (setting_in P.parts setting.now) site (param_view name.now)) s lone_view result }
+    ensures { (site : Site) (s : State) → Yields (setting_in P.parts setting.now)
+        (lone_name (setting_in P.parts setting.now) site (param_view name.now)) s lone_view result }
 {
     match name {
         Parameter::Name(text) => Ok(Lone {
@@ -62,7 +63,8 @@ pub fn lone_value<'a, P: Registered>(
     name: &'a Parameter,
     made: Option<ScopedJson<'a>>,
 ) -> Result<ScopedJson<'a>, RenderError>
-    ensures { (site : Site) (s : State) → YieldsPresent (setting_in P.parts setting.now) (lone_value (setting_in P.parts setting.now) site (param_view name.now) (option_map found_of made.entry)) s (λ v. present_in (found_of v)) result }
+    ensures { (site : Site) (s : State) → YieldsPresent (setting_in P.parts setting.now)
+        (lone_value (setting_in P.parts setting.now) site (param_view name.now) (option_map found_of made.entry)) s (λ v. present_in (found_of v)) result }
 {
     match made {
         Some(value) => Ok(value),
@@ -75,7 +77,8 @@ fn bare_value<'a, P: Registered>(
     setting: &Setting<'_, 'a, P>,
     parameter: &'a Parameter,
 ) -> Result<ScopedJson<'a>, RenderError>
-    ensures { (site : Site) (s : State) → YieldsPresent (setting_in P.parts setting.now) (expands (setting_in P.parts setting.now) site (param_view parameter.now)) s (λ v. present_in (found_of v)) result }
+    ensures { (site : Site) (s : State) → YieldsPresent (setting_in P.parts setting.now)
+        (expands (setting_in P.parts setting.now) site (param_view parameter.now)) s (λ v. present_in (found_of v)) result }
 {
     match parameter {
         Parameter::Name(_) => Ok(ScopedJson::Missing),

@@ -55,7 +55,8 @@ pub fn render_tree<'a, O: Output, P: Registered>(
     rc: &mut RenderContext,
     out: &mut O,
 ) -> Result<(), RenderError>
-    ensures renders { (at : TreeSite) → CarriesOn (setting_in P.parts setting.now) (perform (Whole at (tree_view template.now)))
+    ensures renders { (at : TreeSite) → CarriesOn (setting_in P.parts setting.now)
+        (perform (Whole at (tree_view template.now)))
         O.may_give (moment rc.old (O.held out.old)) result (moment rc.new (O.held out.new)) }
     ensures kept { IsKept rc.old rc.new }
 {
@@ -73,7 +74,8 @@ fn render_whole<'a, O: Output, P: Registered>(
     rc: &mut RenderContext,
     out: &mut O,
 ) -> Result<(), RenderError>
-    ensures renders { (at : TreeSite) → CarriesOut (setting_in P.parts setting.now) (run (render_whole at (tree_view template.now)))
+    ensures renders { (at : TreeSite) → CarriesOut (setting_in P.parts setting.now)
+        (run (render_whole at (tree_view template.now)))
         O.may_give (moment rc.old (O.held out.old)) result (moment rc.new (O.held out.new)) }
     ensures kept { IsKept rc.old rc.new }
 {
@@ -99,7 +101,8 @@ fn placed(error: RenderError, place: Option<&TemplateMapping>) -> RenderError
 
 // With the name of a template, where it has one and none is known yet.
 fn named(alloc: Global, error: RenderError, name: &Option<String>) -> RenderError
-    ensures spot { reason_in result ≢ out_of_memory → spot_of result ≡ named_as (option_map string_bytes name.now) (spot_of error) }
+    ensures spot { reason_in result ≢ out_of_memory
+        → spot_of result ≡ named_as (option_map string_bytes name.now) (spot_of error) }
     ensures cause { reason_in result ≢ out_of_memory → cause_of result ≡ cause_of error }
     ensures memory { reason_in error ≡ out_of_memory → reason_in result ≡ out_of_memory }
 {

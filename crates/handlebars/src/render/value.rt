@@ -31,7 +31,8 @@ pub fn expands<'a, P: Registered>(
     setting: &Setting<'_, 'a, P>,
     parameter: &'a Parameter,
 ) -> Result<ScopedJson<'a>, RenderError>
-    ensures value { (site : Site) (s : State) → Yields (setting_in P.parts setting.now) (expands (setting_in P.parts setting.now) site (param_view parameter.now)) s found_of result }
+    ensures value { (site : Site) (s : State) → Yields (setting_in P.parts setting.now)
+        (expands (setting_in P.parts setting.now) site (param_view parameter.now)) s found_of result }
     ensures constant { IfOk result (λ found. is_constant found ≡ is_literal (param_view parameter.now)) }
 {
     match parameter {
@@ -48,7 +49,8 @@ pub fn expand<'a, P: Registered>(
     setting: &Setting<'_, 'a, P>,
     parameter: &'a Parameter,
 ) -> Result<PathAndJson<'a>, RenderError>
-    ensures { (site : Site) (s : State) → Yields (setting_in P.parts setting.now) (expand (setting_in P.parts setting.now) site (param_view parameter.now)) s path_and_data result }
+    ensures { (site : Site) (s : State) → Yields (setting_in P.parts setting.now)
+        (expand (setting_in P.parts setting.now) site (param_view parameter.now)) s path_and_data result }
 {
     match expands(setting, parameter) {
         Ok(value) => Ok(PathAndJson::new(written(setting.alloc, parameter)?, value)),
@@ -62,7 +64,8 @@ pub fn expand_as_name<'a, P: Registered>(
     setting: &Setting<'_, 'a, P>,
     parameter: &'a Parameter,
 ) -> Result<CowStr<'a>, RenderError>
-    ensures { (site : Site) (s : State) → Yields (setting_in P.parts setting.now) (expand_as_name (setting_in P.parts setting.now) site (param_view parameter.now)) s cow_str_bytes result }
+    ensures { (site : Site) (s : State) → Yields (setting_in P.parts setting.now)
+        (expand_as_name (setting_in P.parts setting.now) site (param_view parameter.now)) s cow_str_bytes result }
 {
     match parameter {
         Parameter::Name(text) => Ok(CowStr::Borrowed(text.as_str())),
@@ -81,7 +84,8 @@ pub fn inner_value<'a, P: Registered>(
     setting: &Setting<'_, 'a, P>,
     inner: &'a Subexpression,
 ) -> Result<ScopedJson<'a>, RenderError>
-    ensures value { (site : Site) (s : State) → Yields (setting_in P.parts setting.now) (inner_value (setting_in P.parts setting.now) site (subexpression_view inner.now)) s found_of result }
+    ensures value { (site : Site) (s : State) → Yields (setting_in P.parts setting.now)
+        (inner_value (setting_in P.parts setting.now) site (subexpression_view inner.now)) s found_of result }
     ensures constant { IfOk result (λ found. is_constant found ≡ false) }
 {
     match &*inner.element {
@@ -103,7 +107,8 @@ pub fn call_value<'a, P: Registered>(
     setting: &Setting<'_, 'a, P>,
     helper: &'a HelperTemplate,
 ) -> Result<ScopedJson<'a>, RenderError>
-    ensures value { (site : Site) (s : State) → Yields (setting_in P.parts setting.now) (inner_value (setting_in P.parts setting.now) site (expression (call_view helper.now))) s found_of result }
+    ensures value { (site : Site) (s : State) → Yields (setting_in P.parts setting.now)
+        (inner_value (setting_in P.parts setting.now) site (expression (call_view helper.now))) s found_of result }
     ensures constant { IfOk result (λ found. is_constant found ≡ false) }
 {
     match called(setting, helper) {
@@ -118,7 +123,8 @@ pub fn called<'a, P: Registered>(
     setting: &Setting<'_, 'a, P>,
     helper: &'a HelperTemplate,
 ) -> Result<Called<'a>, RenderError>
-    ensures { (site : Site) (s : State) → Yields (setting_in P.parts setting.now) (view_of_call (setting_in P.parts setting.now) site (call_view helper.now)) s called_view result }
+    ensures { (site : Site) (s : State) → Yields (setting_in P.parts setting.now)
+        (view_of_call (setting_in P.parts setting.now) site (call_view helper.now)) s called_view result }
 {
     let name = expand_as_name(setting, &helper.name)?;
     let params = params_values(setting, &helper.params)?;
@@ -132,7 +138,8 @@ pub fn params_values<'a, P: Registered>(
     setting: &Setting<'_, 'a, P>,
     params: &'a Vec<Parameter>,
 ) -> Result<Vec<PathAndJson<'a>>, RenderError>
-    ensures { (site : Site) (s : State) → Yields (setting_in P.parts setting.now) (params_values (setting_in P.parts setting.now) site (params_view params.now.items)) s (λ vs. map path_and_data vs.items) result }
+    ensures { (site : Site) (s : State) → Yields (setting_in P.parts setting.now)
+        (params_values (setting_in P.parts setting.now) site (params_view params.now.items)) s (λ vs. map path_and_data vs.items) result }
 {
     let mut values = Vec::new(setting.alloc);
     for parameter in params {
@@ -147,7 +154,8 @@ pub fn pairs_values<'a, P: Registered>(
     setting: &Setting<'_, 'a, P>,
     pairs: &'a BTreeMap<String, Parameter>,
 ) -> Result<BTreeMap<&'a str, PathAndJson<'a>>, RenderError>
-    ensures { (site : Site) (s : State) → Yields (setting_in P.parts setting.now) (pairs_values (setting_in P.parts setting.now) site (pairs_view pairs.now.entries)) s (λ vs. pairs_seen vs.entries) result }
+    ensures { (site : Site) (s : State) → Yields (setting_in P.parts setting.now)
+        (pairs_values (setting_in P.parts setting.now) site (pairs_view pairs.now.entries)) s (λ vs. pairs_seen vs.entries) result }
 {
     let mut values = BTreeMap::new(setting.alloc);
     for (key, parameter) in pairs.iter() {

@@ -35,7 +35,8 @@ pub(super) fn write_found<O: Output>(
     rc: &mut RenderContext,
     out: &mut O,
 ) -> Result<(), RenderError>
-    ensures puts { Puts (shown_if_any (state_of rc.old).escapes (option_map (λ v. view v.now) value.entry)) O.may_give (moment rc.old (O.held out.old)) result (moment rc.new (O.held out.new)) }
+    ensures puts { Puts (shown_if_any (state_of rc.old).escapes (option_map (λ v. view v.now) value.entry))
+        O.may_give (moment rc.old (O.held out.old)) result (moment rc.new (O.held out.new)) }
     ensures kept { IsKept rc.old rc.new }
 {
     let Some(value) = value else {

@@ -20,4 +20,5 @@ returns-in_err-hash g c = λ site s. rw (view_of_tag-out _ site c.args.tag.now)
 
 pub returns : goal.returns
 returns g c = λ site s. rw (view_of_tag-out _ site c.args.tag.now)
-    (gives-view _ site _ _ _ (c.in_ok-name.ensures site s) (c.in_ok-params.ensures site s) (c.in_ok-hash.ensures site s))
+    (gives-view _ site _ _ _ (c.in_ok-name.ensures site s) (c.in_ok-params.ensures site s)
+    (c.in_ok-hash.ensures site s))

@@ -1,6 +1,6 @@
 use Rattle.std.proofs.Common.{refl}
 use Rattle.handlebars_base.specs.Scoped.{found_of}
-use Rattle.handlebars.proofs.Values.{gives-return}
+use Rattle.handlebars.proofs.Gives.{gives-return}
 use Rattle.handlebars.proofs.render.lone.lone_value.Goals as goal
 
 pub returns-in-Some : goal.returns-in-Some

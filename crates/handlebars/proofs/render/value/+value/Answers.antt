@@ -4,8 +4,9 @@ use Rattle.handlebars_base.specs.Scoped.{found_of}
 use Rattle.handlebars_template.specs.TreeView.{param_view, pairs_view}
 use Rattle.handlebars_template.proofs.Levels.{element_view-Expression, param_view-Path, param_view-Subexpression}
 use Rattle.handlebars.specs.View.{called_view, pairs_seen}
+use Rattle.handlebars.proofs.Gives.{refuses-bind}
 use Rattle.handlebars.proofs.Ordered.{follows-next, inserted-last, map-push, pairs_seen-push}
-use Rattle.handlebars.proofs.Values.{gives-called, gives-view, gives-written, pairs-end, pairs-go, pairs-over, params-end, params-go, params-here, params-over, params-past, refuses-called, refuses-name, refuses-pairs, refuses-params, refuses-written, refuses-first, subexpression_view-out, view_of_call-out, yields-answer, yields-call, yields-handed_on, yields-state}
+use Rattle.handlebars.proofs.Values.{gives-called, gives-view, gives-written, pairs-end, pairs-go, pairs-over, params-end, params-go, params-here, params-over, params-past, refuses-called, refuses-name, refuses-pairs, refuses-params, refuses-written, subexpression_view-out, view_of_call-out, yields-answer, yields-call, yields-handed_on, yields-state}
 use Rattle.handlebars.proofs.render.value.+value.Goals as goal
 
 pub called-returns-in_err-name : goal.called-returns-in_err-name
@@ -26,7 +27,8 @@ called-returns-in_err-hash g t c = λ site s. rw (view_of_call-out _ site c.args
 
 pub called-returns : goal.called-returns
 called-returns g t c = λ site s. rw (view_of_call-out _ site c.args.helper.now)
-    (gives-view _ site _ _ _ (c.in_ok-name.ensures site s) (c.in_ok-params.ensures site s) (c.in_ok-hash.ensures site s))
+    (gives-view _ site _ _ _ (c.in_ok-name.ensures site s) (c.in_ok-params.ensures site s)
+    (c.in_ok-hash.ensures site s))
 
 pub expand-returns-in_ok-written-in-Ok : goal.expand-returns-in_ok-written-in-Ok
 expand-returns-in_ok-written-in-Ok g t c = λ site s. gives-written _ site _ _ _ _ _ c.new.ensures
@@ -57,7 +59,7 @@ call_value-returns-in-Ok-clause-value g t c = λ site s.
     (c.helped_value.ensures.value site s)
 
 pub call_value-returns-in-Err-clause-value : goal.call_value-returns-in-Err-clause-value
-call_value-returns-in-Err-clause-value g t c = λ site s other. refuses-first _ _ _ (c.in-Err.ensures site s other)
+call_value-returns-in-Err-clause-value g t c = λ site s other. refuses-bind _ _ _ (c.in-Err.ensures site s other)
 
 pub inner_value-returns-in-Expression-clause-value : goal.inner_value-returns-in-Expression-clause-value
 inner_value-returns-in-Expression-clause-value g t c = λ site s.
@@ -65,23 +67,29 @@ inner_value-returns-in-Expression-clause-value g t c = λ site s.
     (rw c.deref-in-Expression.ensures at (c.call_value.ensures.value site s))
 
 pub pairs_values-returns-in_err-expand : goal.pairs_values-returns-in_err-expand
-pairs_values-returns-in_err-expand g t c = λ site s. yields-handed_on _ (λ vs. pairs_seen vs.entries) _ _ _ c.from_residual.ensures.1
+pairs_values-returns-in_err-expand g t c = λ site s. yields-handed_on _ (λ vs. pairs_seen vs.entries) _ _ _
+    c.from_residual.ensures.1
     (λ other. pairs-over _ site (ap pairs_view c.in-Some.ensures.steps) (c.loop-key.invariant.left site s)
     (c.in_err-expand.ensures site s other))
 
 pub pairs_values-loop-key-preserved : goal.pairs_values-loop-key-preserved
 pairs_values-loop-key-preserved g t c =
-    let last = inserted-last c.in-Some.key.now c.in-Some.parameter.now c.as_str.result c.in_ok-expand.field-0 c.in-Some.ensures.steps
+    let last = inserted-last c.in-Some.key.now c.in-Some.parameter.now c.as_str.result c.in_ok-expand.field-0
+    c.in-Some.ensures.steps
     c.as_str.ensures.value c.iter-key-items.ensures.ordered c.loop-key.invariant.follows in
     record {
-      follows = follows-next c.in-Some.key.now c.in-Some.parameter.now c.as_str.result c.in_ok-expand.field-0 c.in-Some.ensures.steps
+      follows = follows-next c.in-Some.key.now c.in-Some.parameter.now c.as_str.result c.in_ok-expand.field-0
+          c.in-Some.ensures.steps
           c.as_str.ensures.value c.iter-key-items.ensures.ordered c.loop-key.invariant.follows c.in_ok-put.ensures;
-      left = λ site s. rw (pairs_seen-push _ _ c.as_str.result c.in_ok-expand.field-0 _ (c.in_ok-put.ensures ∙ last) c.as_str.ensures.value)
-          (pairs-go _ site (ap pairs_view c.in-Some.ensures.steps) (c.loop-key.invariant.left site s) _ (c.in_ok-expand.ensures site s));
+      left = λ site s. rw (pairs_seen-push _ _ c.as_str.result c.in_ok-expand.field-0 _
+          (c.in_ok-put.ensures ∙ last) c.as_str.ensures.value)
+          (pairs-go _ site (ap pairs_view c.in-Some.ensures.steps) (c.loop-key.invariant.left site s) _
+          (c.in_ok-expand.ensures site s));
     }
 
 pub pairs_values-returns : goal.pairs_values-returns
-pairs_values-returns g t c = λ site s. pairs-end _ site (ap pairs_view c.in-None.ensures.steps.0) (c.loop-key.invariant.left site s)
+pairs_values-returns g t c = λ site s. pairs-end _ site (ap pairs_view c.in-None.ensures.steps.0)
+    (c.loop-key.invariant.left site s)
 
 pub params_values-returns-in_err-expand : goal.params_values-returns-in_err-expand
 params_values-returns-in_err-expand g t c = λ site s. rw (sym c.deref-parameter-items.ensures.value)
@@ -91,12 +99,14 @@ params_values-returns-in_err-expand g t c = λ site s. rw (sym c.deref-parameter
     (c.loop-parameter.invariant site s) (c.in_err-expand.ensures site s other)))
 
 pub params_values-loop-parameter-preserved : goal.params_values-loop-parameter-preserved
-params_values-loop-parameter-preserved g t c = λ site s. rw (map-push path_and_data _ _ c.in_ok-expand.field-0 c.in_ok-push.ensures.items)
+params_values-loop-parameter-preserved g t c = λ site s. rw (map-push path_and_data _ _ c.in_ok-expand.field-0
+    c.in_ok-push.ensures.items)
     (params-go _ site (params-here c.deref-parameter-items.result.now c.loop-parameter.parameter-index
     c.parameter-item.result c.loop-parameter-test.true c.parameter-item.is)
     (c.loop-parameter.invariant site s) _ (c.in_ok-expand.ensures site s))
 
 pub params_values-returns : goal.params_values-returns
 params_values-returns g t c = λ site s. rw (sym c.deref-parameter-items.ensures.value)
-    (params-end _ site (params-past c.deref-parameter-items.result.now c.loop-parameter.parameter-index c.loop-parameter-test.false)
+    (params-end _ site (params-past c.deref-parameter-items.result.now c.loop-parameter.parameter-index
+    c.loop-parameter-test.false)
     (c.loop-parameter.invariant site s))

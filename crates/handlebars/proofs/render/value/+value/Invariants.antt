@@ -17,6 +17,7 @@ invariant-params_values-loop-parameter g l = (site : Site) (s : State)
 abbrev pub invariant-pairs_values-loop-key : goal.invariant-pairs_values-loop-key
 invariant-pairs_values-loop-key g l = record {
   follows : Follows l.values.entries l.pairs.entries l.key-iterator;
-  left : (site : Site) (s : State) → PairsLeft (setting_in g.P.Registered.parts l.setting) site (pairs_view l.pairs.entries)
+  left : (site : Site) (s : State)
+      → PairsLeft (setting_in g.P.Registered.parts l.setting) site (pairs_view l.pairs.entries)
       (pairs_view l.key-iterator) s (pairs_seen l.values.entries);
 }
