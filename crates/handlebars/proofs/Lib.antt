@@ -10,6 +10,8 @@ pub mod Lists
 pub mod AnswerLaws
 pub mod Stored
 pub mod Texts
+pub mod RunOf
+pub mod WorkedRows
 mod Evaluates
 mod Lone
 mod Ordered

@@ -8,3 +8,4 @@ pub mod Laws
 pub mod Answer
 pub mod Store
 pub mod View
+pub mod Rows

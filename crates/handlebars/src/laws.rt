@@ -1,6 +1,7 @@
 //! Laws that callers may cite. Each is a function that does nothing: its contract is the law.
 
 ghost use Rattle.handlebars.specs.Laws.{OneRun, StopsInBeginning, AllHaveOrigins, ElementHasOrigins};
+ghost use Rattle.handlebars.specs.Rows.{EmptyRow, ValueRow, MarkupRow, MissingRow, EscapedRow, RefusalRow, UnclosedRow, RawRow, CallRow, InnerRow, NameRow, LiteralRow, IfRow, NoInverseRow, ChainRow, NoParamRow, BlockRow, InnerIfRow};
 ghost use Rattle.handlebars.specs.View.{setting_of};
 
 use crate::registry::Registry;
@@ -23,4 +24,27 @@ pub fn laws_of_runs(registry: &Registry, context: &Context)
     ensures beginning { StopsInBeginning (setting_of registry.now context.now) }
     ensures origins { AllHaveOrigins (setting_of registry.now context.now) }
     ensures element { ElementHasOrigins (setting_of registry.now context.now) }
+{}
+
+/// What some sources and some trees answer over some data, with the helpers that every registry
+/// begins with.
+pub fn worked_rows()
+    ensures empty { EmptyRow }
+    ensures value { ValueRow }
+    ensures markup { MarkupRow }
+    ensures missing { MissingRow }
+    ensures escaped { EscapedRow }
+    ensures refusal { RefusalRow }
+    ensures unclosed { UnclosedRow }
+    ensures raw { RawRow }
+    ensures call { CallRow }
+    ensures inner { InnerRow }
+    ensures name { NameRow }
+    ensures literal { LiteralRow }
+    ensures if_else { IfRow }
+    ensures no_inverse { NoInverseRow }
+    ensures chain { ChainRow }
+    ensures no_parameter { NoParamRow }
+    ensures unknown_block { BlockRow }
+    ensures inner_if { InnerIfRow }
 {}
