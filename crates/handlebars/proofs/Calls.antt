@@ -8,13 +8,13 @@ use Rattle.handlebars_base.specs.Reasons.{Reason, Refusal, helper_not_found, out
 use Rattle.handlebars_base.specs.RenderRefusals.{plain_refusal, reason_in, refusal_of}
 use Rattle.handlebars_base.specs.Scoped.{Found, present_in}
 use Rattle.handlebars_base.specs.declared.error.render_error.RenderError.{RenderError}
-use Rattle.handlebars_template.specs.Tree.{Tree, Param, Body, body, no_body, Call, call_name, call_body, call_inverse}
+use Rattle.handlebars_template.specs.Tree.{Param, Body, no_body, Call, call_name, call_body, call_inverse}
 use Rattle.handlebars_scope.specs.Outputs.{Held}
 use Rattle.handlebars_scope.specs.Sites.{TreeSite, body_at, inverse_at, Site}
 use Rattle.handlebars_helpers.specs.CallView.{CallView}
 use Rattle.handlebars_helpers.specs.Choice.{Kind, Choice, the_body, the_inverse, chosen}
 use Rattle.handlebars.specs.State.{Setting, State}
-use Rattle.handlebars.specs.Steps.{Whole, Prog, answer, refuse_for, perform, ◌>>=◌}
+use Rattle.handlebars.specs.Steps.{Prog, answer, refuse_for, ◌>>=◌}
 use Rattle.handlebars.specs.Expand.{render_branch, carry_out, lone_name, lone_value, view_of_call}
 use Rattle.handlebars.specs.Means.{line_in, shown_if_any, value_origin, write_text, write_value, render_chosen, render_helped, render_called, render_call, render_value, render_lone_as, render_lone}
 use Rattle.handlebars.specs.Runs.{Runs, Refused, refused, GivesValue, RefusesValue}
@@ -51,12 +51,6 @@ module _ (p : Setting) (may : Error → Type 0) where
       → CarriesOn p (carry_out site (call_body c) (call_inverse c) x) may before r after
   branch_out site c the_body a = a
   branch_out site c the_inverse a = a
-
-  pub carry_out_some : (site : Site) (c : Call) (x : Choice) (t : Tree) {before after : Moment} {r : Answered}
-      → branch_of c x ≡ body t → CarriesOn p (perform (Whole (side site x) t)) may before r after
-      → CarriesOn p (carry_out site (call_body c) (call_inverse c) x) may before r after
-  carry_out_some site c x t {before = before} {after = after} {r = r} is a = branch_out site c x
-      (subst (λ (b : Body). CarriesOn p (render_branch (side site x) b) may before r after) (sym is) a)
 
   pub carry_out_none : (site : Site) (c : Call) (x : Choice) {s : State} {h : Held} {u : Unit {0}}
       → branch_of c x ≡ no_body

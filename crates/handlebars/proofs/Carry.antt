@@ -106,13 +106,6 @@ module _ (p : Setting) (may : Error → Type 0) where
     | inr other ↦ refused_so e (is other)
   ]
 
-  -- the same of a call that only refuses
-  pub carries-refuses : {r : Refusal} {s next : State} {h : Held} (x : Result (Unit {0}) RenderError)
-      → IsErrAnd x (IsRefusal r)
-      → CarriesOut p (Refuse r) may (at s h) x (at next h)
-  carries-refuses (Ok u) is = absurd is
-  carries-refuses (Err e) is = carries-refuse e is
-
   pub carries-get : {f : State → Steps} {s : State} {h : Held} {last : Moment} {r : Answered}
       → CarriesOut p (f s) may (at s h) r last → CarriesOut p (Get f) may (at s h) r last
   carries-get c = record { pieces = c.pieces; outcome = c.outcome; runs = got c.runs; text = c.text; tells = c.tells }
