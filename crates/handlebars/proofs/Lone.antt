@@ -1,5 +1,5 @@
 -- The name of a lone expression, and its value.
-use Rattle.std.proofs.Common.{◌≡◌, ◌≢◌, Bool, Option, Some, Result, Ok, Err, refl, sym, ap, ◌∙◌, subst}
+use Rattle.std.proofs.Common.{◌≡◌, Option, Some, Result, Ok, Err, refl, sym, ap, ◌∙◌, subst}
 use Rattle.serde_json.specs.Data.{Data}
 use Rattle.handlebars_base.specs.Answers.{Answer, gives, refuses, answer_map}
 use Rattle.handlebars_base.specs.Bytes.{Text}

@@ -7,10 +7,10 @@ use Rattle.serde_json.specs.Data.{string}
 use Rattle.serde_json.specs.View.{view}
 use Rattle.serde_json.specs.declared.value.Value as value
 use Rattle.serde_json.specs.declared.value.Value.{the_lemmas}
-use Rattle.handlebars_base.specs.Answers.{Answer, gives, refuses, Answers, IsRefusal}
+use Rattle.handlebars_base.specs.Answers.{Answer, gives, refuses, Answers}
 use Rattle.handlebars_base.specs.Bytes.{Text}
 use Rattle.handlebars_base.specs.PathAndData.{PathAndData}
-use Rattle.handlebars_base.specs.Reasons.{Reason, Refusal, out_of_memory, helper_not_found}
+use Rattle.handlebars_base.specs.Reasons.{Refusal, out_of_memory, helper_not_found}
 use Rattle.handlebars_base.specs.RenderRefusals.{plain_refusal, reason_in, refusal_of}
 use Rattle.handlebars_base.specs.declared.error.render_error.RenderError.{RenderError}
 use Rattle.handlebars_base.specs.Scoped.{Found, data_in}
@@ -23,14 +23,13 @@ use Rattle.handlebars_template.specs.declared.template.tree.Parameter.{Parameter
 use Rattle.handlebars_template.specs.declared.template.tree.Subexpression.{Subexpression, out-Subexpression}
 use Rattle.handlebars_template.specs.declared.template.tree.BlockParam as tree
 use Rattle.handlebars_template.proofs.Levels.{call_name-view, call_params-view, call_pairs-view, decorator_name-view, decorator_params-view, decorator_pairs-view}
-use Rattle.handlebars_scope.specs.Put.{Piece}
 use Rattle.handlebars_scope.specs.Sites.{Site}
 use Rattle.handlebars_helpers.specs.CallView.{CallView}
 use Rattle.handlebars_helpers.specs.Choice.{Kind, Choice, the_body, the_inverse, chosen}
 use Rattle.handlebars.specs.State.{Setting, State}
-use Rattle.handlebars.specs.Steps.{Prog, return, answer, refuse, refuse_for, state, ◌>>=◌, ◌>>◌}
-use Rattle.handlebars.specs.Expand.{as_written, is_literal, expand, expands, expand_as_name, inner_value, params_values, pairs_values, view_of_call, view_of_tag, helped_value, choice_value}
-use Rattle.handlebars.specs.Runs.{Outcome, Refused, Runs, refused, got, set, done, captured, GivesValue, RefusesValue}
+use Rattle.handlebars.specs.Steps.{Prog, return, answer, refuse, state, ◌>>=◌, ◌>>◌}
+use Rattle.handlebars.specs.Expand.{is_literal, expand, expands, expand_as_name, inner_value, params_values, pairs_values, view_of_call, view_of_tag, helped_value, choice_value}
+use Rattle.handlebars.specs.Runs.{Refused, Runs, refused, got, set, done, captured, GivesValue, RefusesValue}
 use Rattle.handlebars.specs.View.{Yields}
 use Rattle.handlebars.proofs.Gives.{gives-return, gives-bind, gives-answer, refuses-bind, refuses-then, refuses-answer}
 

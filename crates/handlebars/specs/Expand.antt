@@ -1,11 +1,11 @@
 -- What parameters and calls come to: values, or refusals. None of it writes or changes the state.
 use Rattle.std.specs.Prelude.{◌≡◌, Bool, true, false, List, [], ◌∷◌, Option, Some, None}
 use Rattle.serde_json.specs.Data.{Data, string}
-use Rattle.handlebars_base.specs.Answers.{Answer, gives, refuses_for}
+use Rattle.handlebars_base.specs.Answers.{Answer, refuses_for}
 use Rattle.handlebars_base.specs.Bytes.{Text}
 use Rattle.handlebars_base.specs.Path.{Reference, raw_of, IsPath}
 use Rattle.handlebars_base.specs.PathAndData.{PathAndData}
-use Rattle.handlebars_base.specs.Reasons.{Reason, helper_not_found, invalid_json_path}
+use Rattle.handlebars_base.specs.Reasons.{helper_not_found, invalid_json_path}
 use Rattle.handlebars_base.specs.Scoped.{Found, value, missing, data_in}
 use Rattle.handlebars_base.specs.Values.{rendered}
 use Rattle.handlebars_template.specs.Tree.{Element, raw_string, html_expression, expression, helper_block, decorator_expression, decorator_block, partial_expression, partial_block, comment, Call, call, Decorator, decorator, args, Param, name, path, literal, subexpression, Params, no_params, param, Pairs, no_pairs, pair, Body, no_body, body, as_name}
@@ -14,7 +14,7 @@ use Rattle.handlebars_scope.specs.Resolve.{resolved}
 use Rattle.handlebars_scope.specs.Sites.{TreeSite, body_at, inverse_at, Site}
 use Rattle.handlebars_helpers.specs.CallView.{CallView}
 use Rattle.handlebars_helpers.specs.Choice.{Kind, Choice, the_body, the_inverse, chosen}
-use Rattle.handlebars.specs.State.{Setting, State, data_at}
+use Rattle.handlebars.specs.State.{Setting, data_at}
 use Rattle.handlebars.specs.Steps.{Prog, Whole, return, ◌>>=◌, ◌>>◌, refuse_for, answer, state, become, perform, capture}
 
 -- ---- values as they are written

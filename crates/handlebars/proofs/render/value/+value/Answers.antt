@@ -1,7 +1,7 @@
 use Rattle.std.proofs.Common.{map, sym, ap, ◌∙◌}
 use Rattle.handlebars_base.specs.PathAndData.{path_and_data}
 use Rattle.handlebars_base.specs.Scoped.{found_of}
-use Rattle.handlebars_template.specs.TreeView.{param_view, pairs_view}
+use Rattle.handlebars_template.specs.TreeView.{pairs_view}
 use Rattle.handlebars_template.proofs.Levels.{element_view-Expression, param_view-Path, param_view-Subexpression}
 use Rattle.handlebars.specs.View.{called_view, pairs_seen}
 use Rattle.handlebars.proofs.Gives.{refuses-bind}

@@ -1,7 +1,6 @@
-use Rattle.std.proofs.Common.{◌≡◌, ◌++◌, List, map, drop, String, Global, string_bytes}
+use Rattle.std.proofs.Common.{map, drop}
 use Rattle.handlebars_base.specs.PathAndData.{path_and_data}
 use Rattle.handlebars_template.specs.TreeView.{params_view, pairs_view}
-use Rattle.handlebars_template.specs.declared.template.tree.Parameter.{Parameter}
 use Rattle.handlebars_scope.specs.Sites.{Site}
 use Rattle.handlebars.specs.State.{State}
 use Rattle.handlebars.specs.View.{setting_in, pairs_seen}
