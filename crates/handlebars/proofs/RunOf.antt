@@ -1,13 +1,12 @@
 -- A run that is computed, of at most so many steps.
-use Rattle.std.proofs.Common.{◌≡◌, ℕ, zero, suc, List, [], ◌++◌}
+use Rattle.std.proofs.Common.{◌≡◌, ℕ, zero, suc, List}
 use Rattle.handlebars_base.specs.Bytes.{Text}
-use Rattle.handlebars_base.specs.Reasons.{Refusal}
 use Rattle.handlebars_template.specs.Tree.{Tree}
 use Rattle.handlebars_scope.specs.Put.{Piece, join}
 use Rattle.handlebars.specs.State.{Setting, State, first_state}
 use Rattle.handlebars.specs.Steps.{Task, Steps, Done, Refuse, Write, Get, Set, Do, Capture}
 use Rattle.handlebars.specs.Means.{todo, render_tree}
-use Rattle.handlebars.specs.Runs.{Outcome, Ended, Refused, Faulted, NoMemory, marked, Runs, done, refused, wrote, got, set, did, did_over, captured, captured_over, stop}
+use Rattle.handlebars.specs.Runs.{Outcome, Ended, Refused, Faulted, NoMemory, Runs, done, refused, wrote, got, set, did, did_over, captured, captured_over, stop}
 use Rattle.handlebars.specs.Answer.{Beginning, a_tree, rendered, RenderAnswers, GivesText}
 
 -- a run of these steps from this state

@@ -1,5 +1,5 @@
 -- Worked sources, each with its answer over data.
-use Rattle.std.specs.Prelude.{List, [], ◌∷◌, ◌++◌, Some, None, false, codes, Bool, true, false, if◌then◌else◌}
+use Rattle.std.specs.Prelude.{List, [], ◌∷◌, ◌++◌, Some, None, codes, Bool, true, if◌then◌else◌}
 use Rattle.serde_json.specs.Data.{unsigned, Data, null, boolean, number, string, array, object, no_members, member, no_items, item}
 use Rattle.handlebars_base.specs.Bytes.{Text, backslash}
 use Rattle.handlebars_base.specs.Path.{named, relative}
