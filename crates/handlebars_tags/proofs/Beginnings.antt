@@ -1,15 +1,15 @@
 -- What is inside a tag ends its source, and that of a comment stands behind `{{!`.
-use Rattle.std.proofs.Common.{◌≡◌, ◌≢◌, ℕ, Bool, true, false, cond, [], ◌∷◌, ◌++◌, length, drop, take, Option, Some, None, refl, sym, ap, subst, ◌∙◌, append_assoc, codes, inl, inr}
+use Rattle.std.proofs.Common.{◌≡◌, ◌≢◌, ℕ, Bool, true, false, cond, [], ◌∷◌, ◌++◌, drop, take, Some, refl, sym, ap, subst, ◌∙◌, append_assoc, codes, inl, inr}
 use Rattle.std.proofs.lemmas.List.{take-append-drop}
-use Rattle.std.proofs.lemmas.Option.{same_Some, none-some}
-use Rattle.handlebars_base.specs.Bytes.{Text, ampersand, slash, left_brace, right_brace, behind_white}
-use Rattle.handlebars_base.specs.PathReading.{◌>>=◌, with_or, after, behind_symbols}
+use Rattle.std.proofs.lemmas.Option.{same_Some}
+use Rattle.handlebars_base.specs.Bytes.{Text, ampersand, slash, left_brace, behind_white}
+use Rattle.handlebars_base.specs.PathReading.{with_or, after, behind_symbols}
 use Rattle.handlebars_base.specs.Path.{is_symbol}
 use Rattle.std.specs.List.{prefix_len}
-use Rattle.handlebars_base.proofs.OptionBinds.{bind_some, with_or_is, cond_is}
+use Rattle.handlebars_base.proofs.OptionBinds.{bind_some, with_or_is}
 use Rattle.handlebars_base.proofs.PathMarks.{after_takes}
 use Rattle.handlebars_lines.proofs.Fronts.{behind_white-skips}
-use Rattle.handlebars_tags.specs.Kind.{Kind, expression_kind, html_kind, html_sign_kind, block_kind, close_kind, inverse_kind, else_kind, raw_kind, raw_close_kind, comment_kind, other_kind, exclamation, number_sign, caret, tilde, past, Beginning, beginning, tilde_at, starts_other, is_else, block_at, unsigned_at, signed_at, tilded_at, raw_at, braced_at, beginning_of, two_close, four_close, split_close, three_close, closing_of}
+use Rattle.handlebars_tags.specs.Kind.{Kind, expression_kind, html_kind, html_sign_kind, block_kind, close_kind, inverse_kind, else_kind, raw_kind, raw_close_kind, comment_kind, other_kind, exclamation, number_sign, caret, tilde, past, Beginning, beginning, tilde_at, starts_other, is_else, block_at, unsigned_at, signed_at, tilded_at, raw_at, braced_at, beginning_of}
 use Rattle.handlebars_tags.specs.CommentReading.{IsEnd}
 use Rattle.handlebars_tags.proofs.Marks.{past-takes}
 

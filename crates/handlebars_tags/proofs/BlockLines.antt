@@ -1,5 +1,5 @@
 -- The lines of blocks: what is read is one, and there is no other.
-use Rattle.std.proofs.Common.{◌≡◌, ℕ, Bool, true, false, cond, Option, Some, None, refl, sym, ap, subst, ◌∙◌}
+use Rattle.std.proofs.Common.{◌≡◌, ℕ, true, Some, None, refl, sym, ap, subst, ◌∙◌}
 use Rattle.std.specs.List.{list_all}
 use Rattle.std.proofs.lemmas.Option.{same_Some, none-some, cond_some}
 use Rattle.handlebars_base.specs.Bytes.{Text}
@@ -70,7 +70,7 @@ one_block_line t a b rest rest' h k =
     let one = one_line in_block t _ _ h.behind k.behind h.is_line k.is_line in
     let binds = one_binding k.behind a.binding b.binding rest rest' (subst (λ (z : Text). IsBinding z a.binding rest) one.1 h.binds) k.binds in
     let names : Some a.name ≡ Some b.name =
-            sym (some-identifier h.name a.name h.is_name h.is_identifier) ∙ ap (λ (z : Line). identifier_of z.name) one.0 ∙ some-identifier k.name b.name k.is_name k.is_identifier in
+    sym (some-identifier h.name a.name h.is_name h.is_identifier) ∙ ap (λ (z : Line). identifier_of z.name) one.0 ∙ some-identifier k.name b.name k.is_name k.is_identifier in
     let terms : a.terms ≡ b.terms = ap (λ (z : Line). z.terms) one.0 in
     let depths : a.depth ≡ b.depth = ap (λ (z : Line). z.depth) one.0 in
     (same_block a b (same_Some a.name b.name names) terms binds.0 depths, binds.1)

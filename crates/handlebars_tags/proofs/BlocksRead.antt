@@ -1,6 +1,5 @@
 -- The tags that the lines of blocks make.
 use Rattle.std.proofs.Common.{◌≡◌, None, refl}
-use denote.Ref.{Bor}
 use Rattle.handlebars_base.specs.Bytes.{Text, behind_white, is_white}
 use Rattle.std.proofs.Common.{true}
 use Rattle.handlebars_lines.specs.Literal.{starts}

@@ -1,11 +1,10 @@
 -- What is said inside tags and closed: where it isn't read it isn't there, and it is one.
-use Rattle.std.proofs.Common.{◌≡◌, ◌≢◌, ℕ, Bool, true, false, [], ◌∷◌, ◌++◌, Option, Some, None, refl, sym, ap, subst, ◌∙◌, codes, length, ◌⊎◌, inl, inr}
-use Rattle.std.specs.Prelude.{◌==◌}
-use Rattle.std.proofs.lemmas.Option.{same_Some, none-some}
+use Rattle.std.proofs.Common.{◌≡◌, ◌≢◌, Bool, true, false, [], Some, None, refl, sym, ap, ◌∙◌, ◌⊎◌, inl, inr}
+use Rattle.std.proofs.lemmas.Option.{none-some}
 use Rattle.handlebars_base.specs.Bytes.{Text, behind_white, is_white}
-use Rattle.handlebars_base.specs.PathReading.{symbols_of, behind_symbols, after}
+use Rattle.handlebars_base.specs.PathReading.{symbols_of, behind_symbols}
 use Rattle.handlebars_lines.specs.Literal.{starts}
-use Rattle.handlebars_lines.specs.Line.{Line, in_tag, IsLine, NoLine}
+use Rattle.handlebars_lines.specs.Line.{Line, in_tag, IsLine}
 use Rattle.handlebars_lines.proofs.Lines.{one_line}
 use Rattle.handlebars_tags.specs.Kind.{Kind, expression_kind, html_kind, html_sign_kind, block_kind, close_kind, inverse_kind, else_kind, raw_kind, raw_close_kind, comment_kind, other_kind, closing_of}
 use Rattle.handlebars_tags.specs.Comment.{IsComment, NoComment}
@@ -148,11 +147,5 @@ none-inverse t none = none-text inverse_kind t t (λ tag behind says. let s = sa
 pub none-raw_close : (t : Text) → closing_of raw_close_kind (behind_symbols t) ≡ None → NoneClosed raw_close_kind t
 none-raw_close t none = none-text raw_close_kind (behind_symbols t) t (λ tag behind says. let s = said raw_close_kind t tag behind says in s.said.rests) none
 
-pub none-raw_close_name : (t : Text) → symbols_of t ≡ [] → NoneClosed raw_close_kind t
-none-raw_close_name t none tag right rest h = let s = said raw_close_kind t tag h.behind h.says in s.some none
-
 pub none-comment : (t : Text) → NoComment t → NoneClosed comment_kind t
 none-comment t none tag right rest h = let s = said comment_kind t tag h.behind h.says in none s.kept h.behind s.is
-
-pub none-other : (t : Text) → NoneClosed other_kind t
-none-other t tag right rest h = said other_kind t tag h.behind h.says

@@ -2,12 +2,12 @@
 use Rattle.std.proofs.Common.{◌≡◌, ◌≢◌, ℕ, Bool, true, false, [], Option, Some, None, refl, sym, ap, subst, ◌∙◌}
 use Rattle.std.specs.Option.{MatchOption}
 use denote.Ref.{Bor}
-use Rattle.handlebars_base.specs.Bytes.{Text, behind_white}
+use Rattle.handlebars_base.specs.Bytes.{Text}
 use Rattle.handlebars_lines.specs.Line.{Line, in_tag, IsLine}
-use Rattle.handlebars_tags.specs.Kind.{Kind, expression_kind, html_kind, html_sign_kind, block_kind, close_kind, inverse_kind, else_kind, raw_kind, raw_close_kind, comment_kind, closing_of}
+use Rattle.handlebars_tags.specs.Kind.{Kind, expression_kind, html_kind, html_sign_kind, close_kind, inverse_kind, raw_close_kind, comment_kind, closing_of}
 use Rattle.handlebars_tags.specs.Tag.{Tag, tag_depth, expression_tag, html_tag, BlockLine, IsBlockLine, Says, a_value, a_raw_value, a_signed_value, inverse_tag, close_tag, raw_close_tag, close_name_at, a_close, a_raw_close, an_inverse, comment_tag, a_comment}
 use Rattle.handlebars_tags.specs.Comment.{IsComment}
-use Rattle.handlebars_tags.specs.TagReading.{NoClosedLine, NoneClosed, NoBlockLine}
+use Rattle.handlebars_tags.specs.TagReading.{NoClosedLine, NoneClosed}
 use Rattle.handlebars_tags.specs.TagView.{Holds, HoldsLine, HoldsBlock, HasBlock, HasClosing, HasClosedLine, HasInside}
 use Rattle.handlebars_tags.specs.declared.tag.inside.Inside.{Inside}
 use Rattle.handlebars_tags.specs.declared.tag.inside.Content.{Content}
@@ -70,24 +70,29 @@ block_read k of t inside content read None b has none =
     let is : IsBlockLine t has.line read.rest.now = subst (λ (z : Text). IsBlockLine z has.line read.rest.now) has.whole has.is_slice.is_line in
     none_closing-block k of t inside read.rest.now has.line b.only is none
 block_read k of t inside content read (Some i) b has h =
-    let is : IsBlockLine t has.line read.rest.now = subst (λ (z : Text). IsBlockLine z has.line read.rest.now) has.whole has.is_slice.is_line in
-    (record {
-      tag = of has.line;
-      is = record { behind = read.rest.now; says = b.says has.line read.rest.now is; closes = h.closes };
-      deep = b.deep has.line ∙ has.deep ∙ sym h.deep;
-      holds = subst (λ (z : Content). Holds z (of has.line)) (sym h.is_content) (b.holds (of has.line) (record { line = has.line; rest = read.rest.now; is_slice = has.is_slice; gives = refl }));
-    }, h.ahead)
+    let is : IsBlockLine t has.line read.rest.now = subst (λ (z : Text). IsBlockLine z has.line read.rest.now) has.whole has.is_slice.is_line in (
+      record {
+        tag = of has.line;
+        is = record { behind = read.rest.now; says = b.says has.line read.rest.now is; closes = h.closes };
+        deep = b.deep has.line ∙ has.deep ∙ sym h.deep;
+        holds = subst (λ (z : Content). Holds z (of has.line)) (sym h.is_content) (b.holds (of has.line) (record { line = has.line; rest = read.rest.now; is_slice = has.is_slice; gives = refl }));
+      },
+      h.ahead,
+    )
 
 -- ---- texts
 
 pub text_read : (k : Kind) (t behind : Text) (tag : Tag) (content : Content) (i : Inside) → Says k t tag behind → tag_depth tag ≡ 0 → Holds content tag → HasClosing k behind content 0 i
     → HasInside k t i × (i.long_ahead ≡ true)
-text_read k t behind tag content i says deep holds h = (record {
-  tag = tag;
-  is = record { behind = behind; says = says; closes = h.closes };
-  deep = deep ∙ sym h.deep;
-  holds = subst (λ (z : Content). Holds z tag) (sym h.is_content) holds;
-}, h.ahead)
+text_read k t behind tag content i says deep holds h = (
+  record {
+    tag = tag;
+    is = record { behind = behind; says = says; closes = h.closes };
+    deep = deep ∙ sym h.deep;
+    holds = subst (λ (z : Content). Holds z tag) (sym h.is_content) holds;
+  },
+  h.ahead,
+)
 
 pub close_read : (t : Text) (name behind : Bor Text) (r : Option Inside) → texts_of (name, behind) ≡ close_name_at t
     → MatchOption r (closing_of close_kind behind.now ≡ None) (λ i. HasClosing close_kind behind.now (Close name) 0 i)

@@ -1,15 +1,10 @@
 -- With which bytes lines begin, and when their names are identifiers.
-use Rattle.std.proofs.Common.{◌≡◌, ℕ, Bool, true, false, cond, not, ◌||◌, [], ◌∷◌, ◌++◌, Option, Some, None, refl, sym, ap, subst, ◌∙◌}
-use Rattle.std.specs.Prelude.{◌==◌}
+use Rattle.std.proofs.Common.{◌≡◌, true, false, cond, [], ◌∷◌, ◌++◌, Option, Some, None, refl, sym, ap, subst, ◌∙◌}
 use Rattle.std.specs.List.{list_all}
-use Rattle.std.specs.Option.{option_map}
 use Rattle.std.proofs.lemmas.Bool.{false≢true}
-use denote.Ref.{Bor}
 use Rattle.handlebars_base.specs.Bytes.{Text}
-use Rattle.handlebars_base.specs.Path.{is_symbol, Reference, raw_of, meaning, Shape as PathShape, itself, at_root, at_name, in_parts}
+use Rattle.handlebars_base.specs.Path.{is_symbol, raw_of, meaning, Shape as PathShape, itself, at_root, at_name, in_parts}
 use Rattle.handlebars_base.specs.PathReading.{◌>>=◌, stops, slice_at}
-use Rattle.handlebars_base.specs.PathView.{slice_of}
-use Rattle.handlebars_base.specs.declared.json.path.front.PathSlice.{PathSlice}
 use Rattle.handlebars_base.proofs.References.{stops-path}
 use Rattle.handlebars_lines.specs.Literal.{starts}
 use Rattle.handlebars_lines.specs.Parameter.{left_parenthesis, Shape, literal_shape, path_shape, nested_shape, Items, is_name, spelled_shape, spelled_items, Fits, AreItems, term_of}
@@ -64,7 +59,3 @@ name-identifier around (nested_shape w name inner v) items left named fits are c
 pub line-identifier : (around : Enclosure) (t : Text) {left : Text} {line : Line} → IsLine around t line left → identifier_at (slice_at t) ≡ identifier_of line.name
 line-identifier around t {left} x =
     ap (λ (z : Text). identifier_at (slice_at z)) x.whole ∙ name-identifier around x.name x.items left x.is_name x.fits x.are_items x.closes ∙ sym (ap (λ (z : Line). identifier_of z.name) x.gives)
-
-pub identifier_read : (around : Enclosure) (t : Text) (o : Option PathSlice) {left : Text} {line : Line} → option_map slice_of o ≡ slice_at t → IsLine around t line left
-    → identifier_at (option_map slice_of o) ≡ identifier_of line.name
-identifier_read around t o e x = ap identifier_at e ∙ line-identifier around t x

@@ -1,22 +1,22 @@
 -- What follows a tag ends its source.
-use Rattle.std.proofs.Common.{◌≡◌, ℕ, ◌+◌, Bool, true, false, cond, not, [], ◌∷◌, ◌++◌, length, drop, take, Option, Some, None, refl, sym, ap, subst, ◌∙◌, append_assoc, codes, inl, inr}
+use Rattle.std.proofs.Common.{◌≡◌, ℕ, ◌+◌, Bool, true, false, cond, [], ◌∷◌, ◌++◌, length, drop, take, Option, Some, sym, subst, ◌∙◌, append_assoc, codes, inl, inr}
 use Rattle.std.specs.Prelude.{◌==◌, nat_lt}
 use Rattle.std.specs.List.{prefix_len, position_or_len}
 use Rattle.std.proofs.lemmas.Option.{same_Some, none-some}
-use Rattle.handlebars_base.specs.Bytes.{Text, right_brace, right_bracket, left_bracket, single_quote, is_white, behind_white}
+use Rattle.handlebars_base.specs.Bytes.{Text, right_brace, right_bracket, left_bracket, single_quote, behind_white}
 use Rattle.handlebars_base.specs.Path.{is_symbol}
-use Rattle.handlebars_base.specs.PathReading.{◌>>=◌, with_or, after}
+use Rattle.handlebars_base.specs.PathReading.{◌>>=◌, after}
 use Rattle.handlebars_base.proofs.OptionBinds.{bind_some, with_or_is}
 use Rattle.handlebars_lines.specs.Literal.{starts}
 use Rattle.handlebars_lines.specs.Parameter.{spelled_shape, spelled_items}
 use Rattle.handlebars_lines.specs.Line.{Line, Enclosure, IsLine}
 use Rattle.handlebars_lines.specs.Binding.{Binding, bar, IsBinding, is_unbound, is_bound, spelled_names}
-use Rattle.handlebars_tags.specs.Kind.{Kind, expression_kind, html_kind, html_sign_kind, block_kind, close_kind, inverse_kind, else_kind, raw_kind, raw_close_kind, comment_kind, other_kind, tilde, past, tilde_at, two_close, four_close, split_close, three_close, closing_of}
+use Rattle.handlebars_tags.specs.Kind.{Kind, expression_kind, html_kind, html_sign_kind, block_kind, close_kind, inverse_kind, else_kind, raw_kind, raw_close_kind, comment_kind, other_kind, tilde, past, tilde_at, split_close, three_close, closing_of}
 use Rattle.handlebars_tags.specs.Comment.{IsComment, long, compact}
 use Rattle.handlebars_tags.specs.CommentReading.{IsEnd}
 use Rattle.handlebars_tags.specs.Tag.{Tag, BlockLine, IsBlockLine, is_close_symbol, enclosed_at, close_name_at, Says}
 use Rattle.handlebars_tags.specs.TagReading.{IsClosed}
-use Rattle.handlebars_tags.proofs.Beginnings.{end-all, end-behind, end-after, end-past, end-white, end-drop, end-after_white, end-tilde}
+use Rattle.handlebars_tags.proofs.Beginnings.{end-all, end-behind, end-after, end-past, end-white, end-drop, end-tilde}
 use Rattle.handlebars_tags.proofs.Insides.{said}
 
 -- ---- what closes a tag

@@ -1,8 +1,8 @@
 -- Tags: what is read in front of a text stands there, where none is read none stands, and there is one.
-use Rattle.std.proofs.Common.{◌≡◌, Bool, false, ◌++◌, Option, Some, None, refl, sym, ap, subst, ◌∙◌}
+use Rattle.std.proofs.Common.{◌≡◌, Bool, ◌++◌, Some, None, refl, sym, ap, subst, ◌∙◌}
 use Rattle.std.proofs.lemmas.Option.{same_Some, none-some}
 use Rattle.handlebars_base.specs.Bytes.{Text}
-use Rattle.handlebars_tags.specs.Kind.{Kind, Beginning, beginning_of}
+use Rattle.handlebars_tags.specs.Kind.{Beginning, beginning_of}
 use Rattle.handlebars_tags.specs.Tag.{Tag, Tildes, IsTag, NoTag}
 use Rattle.handlebars_tags.specs.TagReading.{IsClosed, NoneClosed}
 use Rattle.handlebars_tags.specs.TagView.{HasInside, HasTag}
@@ -17,9 +17,10 @@ use Rattle.handlebars_tags.proofs.TagEnds.{end-closed}
 pub tag-closed : (left slice rest : Text) (b : Beginning) (t : Tag) (tildes : Tildes) → beginning_of left ≡ Some b → left ≡ slice ++ rest → IsTag slice rest t tildes
     → IsClosed b.kind b.inside t tildes.right rest × (b.tilde ≡ tildes.left)
 tag-closed left slice rest b t tildes e whole is =
-    let same : is.begins ≡ b = same_Some is.begins b (sym is.is_beginning ∙ ap beginning_of (sym whole) ∙ e) in
-    (subst (λ (z : Beginning). IsClosed z.kind z.inside t tildes.right rest) same (record { behind = is.behind; says = is.says; closes = is.closes }),
-    ap (λ (z : Beginning). z.tilde) (sym same) ∙ is.left)
+    let same : is.begins ≡ b = same_Some is.begins b (sym is.is_beginning ∙ ap beginning_of (sym whole) ∙ e) in (
+      subst (λ (z : Beginning). IsClosed z.kind z.inside t tildes.right rest) same (record { behind = is.behind; says = is.says; closes = is.closes }),
+      ap (λ (z : Beginning). z.tilde) (sym same) ∙ is.left,
+    )
 
 -- ---- where none is read
 

@@ -1,5 +1,5 @@
 -- The kind of a tag, by its beginning, and what closes it.
-use Rattle.std.specs.Prelude.{ℕ, Bool, true, false, ◌&&◌, ◌||◌, ◌==◌, if◌then◌else◌, [], ◌∷◌, Option, Some, None, codes, is_some, drop}
+use Rattle.std.specs.Prelude.{ℕ, Bool, true, false, ◌&&◌, ◌||◌, ◌==◌, if◌then◌else◌, [], ◌∷◌, Option, Some, None, codes, is_some}
 use Rattle.std.specs.Str.{bytes_eq}
 use Rattle.handlebars_base.specs.Bytes.{Text, ampersand, slash, greater, left_brace, right_brace, is_white, behind_white}
 use Rattle.handlebars_base.specs.PathReading.{◌>>=◌, with_or, after, symbols_of, behind_symbols}
@@ -114,7 +114,9 @@ four_close t = past (codes "}}}}") (tilde_at t).1 >>= λ r. Some ((tilde_at t).0
 
 -- one brace, a tilde, and two braces
 abbrev pub split_close : Text → Option (Bool × Text)
-split_close t = after right_brace (behind_white t) >>= λ r. after tilde (behind_white r) >>= λ s. past (codes "}}") (behind_white s) >>= λ u. Some (true, u)
+split_close t =
+    after right_brace (behind_white t) >>= λ r. after tilde (behind_white r) >>=
+    λ s. past (codes "}}") (behind_white s) >>= λ u. Some (true, u)
 
 -- three braces behind a tilde, if any, or with a tilde between the first and the others
 abbrev pub three_close : Text → Option (Bool × Text)

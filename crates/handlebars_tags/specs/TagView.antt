@@ -4,7 +4,7 @@ use Rattle.handlebars_base.specs.Bytes.{Text}
 use Rattle.handlebars_lines.specs.Line.{Line, in_tag, IsLine}
 use Rattle.handlebars_lines.specs.BindingView.{binding_of}
 use Rattle.handlebars_tags.specs.Kind.{Kind, closing_of}
-use Rattle.handlebars_tags.specs.Tag.{BlockLine, IsBlockLine, Tag, expression_tag, html_tag, block_tag, inverse_tag, chain_tag, close_tag, raw_tag, raw_close_tag, comment_tag, Tildes, tag_depth, IsTag}
+use Rattle.handlebars_tags.specs.Tag.{BlockLine, IsBlockLine, Tag, expression_tag, html_tag, block_tag, inverse_tag, chain_tag, close_tag, raw_tag, raw_close_tag, comment_tag, tag_depth, IsTag}
 use Rattle.handlebars_tags.specs.TagReading.{IsClosed}
 use Rattle.handlebars_tags.specs.declared.tag.inside.BlockSlice.{BlockSlice}
 use Rattle.handlebars_tags.specs.declared.tag.inside.Content.{Content}

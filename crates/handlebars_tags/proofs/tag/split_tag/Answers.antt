@@ -1,4 +1,4 @@
-use Rattle.std.proofs.Common.{◌≡◌, false, sym, ◌∙◌}
+use Rattle.std.proofs.Common.{sym, ◌∙◌}
 use Rattle.handlebars_tags.specs.KindView.{beginning_view}
 use Rattle.handlebars_tags.proofs.Beginnings.{begun}
 use Rattle.handlebars_tags.proofs.Comments.{HasNoLong-end}
