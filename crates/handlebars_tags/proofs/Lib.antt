@@ -3,7 +3,6 @@ pub mod Texts
 pub mod OneText
 pub mod Marks
 pub mod Comments
-pub mod Trims
 pub mod LineNames
 pub mod BlockLines
 pub mod CloseNames
@@ -15,4 +14,5 @@ pub mod InsideAt
 pub mod TagEnds
 pub mod Tags
 pub mod OneTag
+pub mod Trims
 pub mod TagLengths

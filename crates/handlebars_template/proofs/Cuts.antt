@@ -1,5 +1,5 @@
 -- Two readings of a source are one, as far as both go.
-use Rattle.std.proofs.Common.{◌≡◌, ℕ, zero, suc, ◌<◌, Option, Some, None, List, [], ◌∷◌, ◌++◌, length, drop, true, false, refl, sym, ap, ◌∙◌, subst, append_assoc, arith, ◌⊎◌, inl, inr}
+use Rattle.std.proofs.Common.{◌≡◌, ℕ, zero, suc, ◌<◌, None, List, [], ◌∷◌, ◌++◌, length, drop, refl, sym, ap, ◌∙◌, subst, append_assoc, arith, ◌⊎◌, inl, inr}
 use Rattle.std.specs.Prelude.{◌==◌, nat_lt}
 use Rattle.std.proofs.lemmas.List.{append-nil, drop_at}
 use Rattle.std.proofs.lemmas.Bool.{cases_Bool, eqb-true, eqb-false}
@@ -7,12 +7,13 @@ use Rattle.std.proofs.lemmas.Option.{none-some}
 use borrow.Author.Tests.{ltb-true, ltb-false}
 use Rattle.handlebars_base.specs.Bytes.{Text}
 use Rattle.handlebars_base.specs.PathReading.{after}
-use Rattle.handlebars_tags.specs.Text.{Braces, IsText}
+use Rattle.handlebars_tags.specs.Text.{IsText}
 use Rattle.handlebars_tags.specs.Kind.{beginning_of}
-use Rattle.handlebars_tags.specs.Tag.{Tag, Tildes, IsTag, OneTag}
+use Rattle.handlebars_tags.specs.Tag.{OneTag}
 use Rattle.handlebars_tags.specs.Trim.{Edge, no_edge, braces_behind}
 use Rattle.handlebars_tags.proofs.OneText.{one_text}
-use Rattle.handlebars_template.specs.Place.{Place, place}
+use Rattle.handlebars_tags.proofs.OneTag.{one_tag}
+use Rattle.handlebars_template.specs.Place.{place}
 use Rattle.handlebars_template.specs.Cut.{Slice, text_slice, tag_slice, may_follow, TextAndTag, slices_of, Reads, starts, goes_on, IsCut, spelled, CutsJoin, OneCut}
 use Rattle.handlebars_template.specs.Compile.{NoTagBehind}
 
@@ -37,7 +38,7 @@ same_text e f x y k l a b ef is h g =
 
 -- ---- two beginnings
 
--- how many tags were read
+-- how many were read
 pub count : {s b : Text} {e : Edge} {ps : List Slice} → Reads s b e ps → ℕ
 count starts = zero
 count (goes_on r x) = suc (count r)
@@ -50,21 +51,21 @@ pub record OneBeginning (b c : Text) (e f : Edge) (ps qs : List Slice) : Type 0 
 suc-cancel : (n m : ℕ) → suc n ≡ suc m → n ≡ m
 suc-cancel n m e = omega arith
 
-pub one_beginning : OneTag → {s b c : Text} {e f : Edge} {ps qs : List Slice} → (r : Reads s b e ps) (q : Reads s c f qs) → count r ≡ count q → OneBeginning b c e f ps qs
+pub one_beginning : {s b c : Text} {e f : Edge} {ps qs : List Slice} → (r : Reads s b e ps) (q : Reads s c f qs) → count r ≡ count q → OneBeginning b c e f ps qs
 unfolding count
-one_beginning tags starts starts n = record { here = refl; edge = refl; slices = refl }
-one_beginning tags starts (goes_on q y) n = absurd (omega arith)
-one_beginning tags (goes_on r x) starts n = absurd (omega arith)
-one_beginning tags {s} (goes_on {before = b} {edge = e} {ps = ps} r x) (goes_on {before = c} {edge = f} {ps = qs} q y) n =
-    let a = one_beginning tags r q (suc-cancel (count r) (count q) n) in
+one_beginning starts starts n = record { here = refl; edge = refl; slices = refl }
+one_beginning starts (goes_on q y) n = absurd (omega arith)
+one_beginning (goes_on r x) starts n = absurd (omega arith)
+one_beginning {s} (goes_on {before = b} {edge = e} {ps = ps} r x) (goes_on {before = c} {edge = f} {ps = qs} q y) n =
+    let a = one_beginning r q (suc-cancel (count r) (count q) n) in
     let left : x.text ++ (x.slice ++ x.rest) ≡ y.text ++ (y.slice ++ y.rest) = append-behind s b c (x.text ++ (x.slice ++ x.rest)) (y.text ++ (y.slice ++ y.rest)) a.here x.whole y.whole in
     let texts = same_text e f x.text y.text x.kept y.kept (x.slice ++ x.rest) (y.slice ++ y.rest) a.edge left x.is_text y.is_text in
-    let one = tags (x.slice ++ x.rest) x.slice y.slice x.rest y.rest x.tag y.tag x.tildes y.tildes refl texts.follows x.is_tag y.is_tag in
+    let one = one_tag (x.slice ++ x.rest) x.slice y.slice x.rest y.rest x.tag y.tag x.tildes y.tildes refl texts.follows x.is_tag y.is_tag in
     let bc = a.here in let ef = a.edge in let pq = a.slices in let xy = texts.slices in let kl = texts.kept in
     let slice = one.0 in let rest = one.1 in let tag = one.2 in let tildes = one.3 in
     record { here = cc; edge = cc; slices = cc }
 
--- a shorter beginning, n tags long, on the way to a longer one
+-- a shorter beginning, n long, on the way to a longer one
 pub record Beginning (s : Text) (n : ℕ) (ps : List Slice) : Type 0 where
   pub before : Text
   pub edge : Edge
@@ -112,10 +113,10 @@ ends_not s b c e f x kept left bc ef g h =
     let texts = same_text e f g.text x g.kept kept (g.slice ++ g.rest) left ef is g.is_text h.is_text in
     h.none g.slice g.rest g.tag g.tildes (sym texts.follows) g.is_tag (ap (λ (z : Edge). may_follow z g.tag) (sym ef) ∙ g.may_follow)
 
-pub no_longer : OneTag → {s b c x kept left : Text} {e f : Edge} {ps qs : List Slice} → (r : Reads s b e ps) → Ends s b e x kept left → (q : Reads s c f qs) → count r < count q → ⊥
-no_longer tags {s} {b} {x = x} {kept = kept} {left = left} {e = e} r h q lt =
+pub no_longer : {s b c x kept left : Text} {e f : Edge} {ps qs : List Slice} → (r : Reads s b e ps) → Ends s b e x kept left → (q : Reads s c f qs) → count r < count q → ⊥
+no_longer {s} {b} {x = x} {kept = kept} {left = left} {e = e} r h q lt =
     let k = back q (count r) lt in
-    let a = one_beginning tags k.begins r k.long in
+    let a = one_beginning k.begins r k.long in
     ends_not s k.before b k.edge e x kept left a.here a.edge k.goes h
 
 pub by_order : (n m : ℕ) → (n ≡ m) ⊎ ((n < m) ⊎ (m < n))
@@ -127,12 +128,12 @@ by_order n m = elim (cases_Bool (n == m)) [
   ]
 ]
 
-pub both_end : OneTag → {s b c x y k l left more : Text} {e f : Edge} {ps qs : List Slice} → (r : Reads s b e ps) → Ends s b e x k left → (q : Reads s c f qs) → Ends s c f y l more → OneBeginning b c e f ps qs
-both_end tags r h q k = elim (by_order (count r) (count q)) [
-  | inl same ↦ one_beginning tags r q same
+pub both_end : {s b c x y k l left more : Text} {e f : Edge} {ps qs : List Slice} → (r : Reads s b e ps) → Ends s b e x k left → (q : Reads s c f qs) → Ends s c f y l more → OneBeginning b c e f ps qs
+both_end r h q k = elim (by_order (count r) (count q)) [
+  | inl same ↦ one_beginning r q same
   | inr other ↦ elim other [
-    | inl less ↦ absurd (no_longer tags r h q less)
-    | inr more ↦ absurd (no_longer tags q k r more)
+    | inl less ↦ absurd (no_longer r h q less)
+    | inr more ↦ absurd (no_longer q k r more)
   ]
 ]
 
@@ -159,9 +160,9 @@ cut_ends s ps c = record {
   none = nothing_there c.edge;
 }
 
-pub one_cut : OneTag → OneCut
-one_cut tags s ps qs a b =
-    let at = both_end tags a.begins (cut_ends s ps a) b.begins (cut_ends s qs b) in
+pub one_cut : OneCut
+one_cut s ps qs a b =
+    let at = both_end a.begins (cut_ends s ps a) b.begins (cut_ends s qs b) in
     let texts = same_end s a.before b.before a.text b.text a.kept b.kept [] [] a.edge b.edge at.here at.edge (cut_ends s ps a) (cut_ends s qs b) in
     let here = at.here in let edge = at.edge in let pieces = at.slices in let text = texts.slices in let kept = texts.kept in
     let all : a.slices ++ (text_slice (place a.before) a.edge a.text a.kept no_edge ∷ []) ≡ b.slices ++ (text_slice (place b.before) b.edge b.text b.kept no_edge ∷ []) = cc in

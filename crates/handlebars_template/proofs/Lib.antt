@@ -5,6 +5,8 @@ pub mod Cuts
 pub mod One
 pub mod Trees
 pub mod Levels
+pub mod Running
+pub mod Outcomes
 pub mod Rows
 pub mod LinesBuilt
 pub mod LineImages

@@ -1,14 +1,13 @@
 -- At most one outcome.
-use Rattle.std.proofs.Common.{◌≡◌, ℕ, zero, ◌+◌, ◌<◌, ◌≤◌, Bool, true, false, List, [], ◌∷◌, ◌++◌, refl, sym, ap, ◌∙◌, subst, append_assoc, arith, ◌⊎◌, inl, inr}
+use Rattle.std.proofs.Common.{◌≡◌, ◌<◌, List, [], ◌∷◌, ◌++◌, refl, sym, ap, ◌∙◌, subst, append_assoc, ◌⊎◌, inl, inr}
 use Rattle.std.proofs.lemmas.Bool.{false≢true}
 use Rattle.std.proofs.lemmas.List.{append-nil}
 use Rattle.handlebars_base.specs.Bytes.{Text}
-use Rattle.handlebars_tags.specs.Text.{Braces, two_braces, four_braces, braces}
-use Rattle.handlebars_tags.specs.Tag.{OneTag}
+use Rattle.handlebars_tags.specs.Text.{braces}
 use Rattle.handlebars_tags.specs.Trim.{Edge, no_edge, braces_behind}
 use Rattle.handlebars_tags.proofs.Runs.{braces-none}
 use Rattle.handlebars_template.specs.Place.{Place, place}
-use Rattle.handlebars_template.specs.Nest.{Piece, Fault, Placed, Test, syntax_alone, names_and_literals, Nests, Frame, Opens, none_open, Refuses, LeavesOpen, left_open as still_open}
+use Rattle.handlebars_template.specs.Nest.{Piece, Fault, Placed, syntax_alone, names_and_literals, Nests, Refuses, LeavesOpen, left_open as still_open}
 use Rattle.handlebars_template.specs.Cut.{Slice, text_slice, tag_slice, Reads, IsCut}
 use Rattle.handlebars_template.specs.Compile.{Options, tag_piece, text_pieces, pieces_in, tree_of, unreadable, refusal_for, IsUnreadable, Compilation, compiled, refused, Compiles, whole, no_tag, misplaced, left_open, late, OneCompilation}
 use Rattle.handlebars_template.proofs.NestsSteps.{Refuses-append}
@@ -80,72 +79,72 @@ stuck_ends : (s : Text) (at : Place) → (u : IsUnreadable s at) → Ends s u.be
 stuck_ends s at u = record { whole = u.whole; is_text = u.is_text; none = u.none }
 
 -- a fault in a beginning is there in what goes on behind it
-refuses_longer : OneTag → {s b c : Text} {e f : Edge} {ps qs : List Slice} → (r : Reads s b e ps) (q : Reads s c f qs) (fault : Fault) (more : List Slice)
+refuses_longer : {s b c : Text} {e f : Edge} {ps qs : List Slice} → (r : Reads s b e ps) (q : Reads s c f qs) (fault : Fault) (more : List Slice)
     → Refuses syntax_alone (pieces_in qs) fault → (count q ≡ count r) ⊎ (count q < count r) → Refuses syntax_alone (pieces_in (ps ++ more)) fault
-refuses_longer tags {ps = ps} {qs = qs} r q fault more bad le = elim le [
-  | inl same ↦ let a = one_beginning tags q r same in
+refuses_longer {ps = ps} {qs = qs} r q fault more bad le = elim le [
+  | inl same ↦ let a = one_beginning q r same in
       subst (λ (z : List Slice). Refuses syntax_alone (pieces_in (z ++ more)) fault) a.slices (refuses_more fault qs more bad)
   | inr less ↦
       let k = back r (count q) less in
-      let a = one_beginning tags q k.begins (sym k.long) in
+      let a = one_beginning q k.begins (sym k.long) in
       let all : qs ++ (k.more ++ more) ≡ ps ++ more = ap (λ (z : List Slice). z ++ (k.more ++ more)) a.slices ∙ sym (append_assoc k.slices k.more more) ∙ ap (λ (z : List Slice). z ++ more) (sym k.parts) in
       subst (λ (z : List Slice). Refuses syntax_alone (pieces_in z) fault) all (refuses_more fault qs (k.more ++ more) bad)
 ]
 
 -- where a reading ends, a fault of the syntax is in what was read
-early_refuses : OneTag → {s b c x kept left : Text} {e f : Edge} {ps qs : List Slice} → (r : Reads s b e ps) → Ends s b e x kept left → (q : Reads s c f qs) (fault : Fault) (more : List Slice)
+early_refuses : {s b c x kept left : Text} {e f : Edge} {ps qs : List Slice} → (r : Reads s b e ps) → Ends s b e x kept left → (q : Reads s c f qs) (fault : Fault) (more : List Slice)
     → Refuses syntax_alone (pieces_in qs) fault → Refuses syntax_alone (pieces_in (ps ++ more)) fault
-early_refuses tags r ends q fault more bad = elim (by_order (count q) (count r)) [
-  | inl same ↦ refuses_longer tags r q fault more bad (inl same)
+early_refuses r ends q fault more bad = elim (by_order (count q) (count r)) [
+  | inl same ↦ refuses_longer r q fault more bad (inl same)
   | inr other ↦ elim other [
-    | inl less ↦ refuses_longer tags r q fault more bad (inr less)
-    | inr longer ↦ absurd (no_longer tags r ends q longer)
+    | inl less ↦ refuses_longer r q fault more bad (inr less)
+    | inr longer ↦ absurd (no_longer r ends q longer)
   ]
 ]
 
 -- ---- two of them
 
-two_early : OneTag → {s : Text} {options : Options} {o p : Compilation} → Early s options o → Early s options p → o ≡ p
-two_early tags {s} {options} {o} {p} a b =
+two_early : {s : Text} {options : Options} {o p : Compilation} → Early s options o → Early s options p → o ≡ p
+two_early {s} {options} {o} {p} a b =
     let one : a.fault ≡ b.fault = elim (by_order (count a.begins) (count b.begins)) [
-      | inl same ↦ Refuses-one (refuses_longer tags b.begins a.begins a.fault [] a.refuses (inl same)) (refuses_more b.fault b.slices [] b.refuses)
+      | inl same ↦ Refuses-one (refuses_longer b.begins a.begins a.fault [] a.refuses (inl same)) (refuses_more b.fault b.slices [] b.refuses)
       | inr other ↦ elim other [
-        | inl less ↦ Refuses-one (refuses_longer tags b.begins a.begins a.fault [] a.refuses (inr less)) (refuses_more b.fault b.slices [] b.refuses)
-        | inr more ↦ Refuses-one (refuses_more a.fault a.slices [] a.refuses) (refuses_longer tags a.begins b.begins b.fault [] b.refuses (inr more))
+        | inl less ↦ Refuses-one (refuses_longer b.begins a.begins a.fault [] a.refuses (inr less)) (refuses_more b.fault b.slices [] b.refuses)
+        | inr more ↦ Refuses-one (refuses_more a.fault a.slices [] a.refuses) (refuses_longer a.begins b.begins b.fault [] b.refuses (inr more))
       ]
     ] in
     a.is ∙ ap (λ (z : Fault). refused (refusal_for options z)) one ∙ sym b.is
 
-two_full : OneTag → {s : Text} {options : Options} {o p : Compilation} → Full s options o → Full s options p → o ≡ p
-two_full tags {s} {options} {o} {p} a b =
-    one_verdict options (pieces_in b.slices) o p (subst (λ (z : List Slice). Verdict options (pieces_in z) o) (one_cut tags s a.slices b.slices a.cut b.cut) a.says) b.says
+two_full : {s : Text} {options : Options} {o p : Compilation} → Full s options o → Full s options p → o ≡ p
+two_full {s} {options} {o} {p} a b =
+    one_verdict options (pieces_in b.slices) o p (subst (λ (z : List Slice). Verdict options (pieces_in z) o) (one_cut s a.slices b.slices a.cut b.cut) a.says) b.says
 
-two_stuck : OneTag → {s : Text} {options : Options} {o p : Compilation} → Stuck s options o → Stuck s options p → o ≡ p
-two_stuck tags {s} {options} a b =
+two_stuck : {s : Text} {options : Options} {o p : Compilation} → Stuck s options o → Stuck s options p → o ≡ p
+two_stuck {s} {options} a b =
     let u = a.stands in let v = b.stands in
-    let at = both_end tags u.begins (stuck_ends s a.at u) v.begins (stuck_ends s b.at v) in
+    let at = both_end u.begins (stuck_ends s a.at u) v.begins (stuck_ends s b.at v) in
     let texts = same_end s u.before v.before u.text v.text u.kept v.kept u.left v.left u.edge v.edge at.here at.edge (stuck_ends s a.at u) (stuck_ends s b.at v) in
     let here = at.here in let text = texts.slices in
     let there : u.before ++ u.text ≡ v.before ++ v.text = cc in
     a.is ∙ ap (λ (z : Place). refused (unreadable options z)) (u.there ∙ ap place there ∙ sym v.there) ∙ sym b.is
 
-full_stuck : OneTag → {s : Text} {options : Options} {o p : Compilation} → Full s options o → Stuck s options p → ⊥
-full_stuck tags {s} a b =
+full_stuck : {s : Text} {options : Options} {o p : Compilation} → Full s options o → Stuck s options p → ⊥
+full_stuck {s} a b =
     let c = a.cut in let v = b.stands in
-    let at = both_end tags c.begins (cut_ends s a.slices c) v.begins (stuck_ends s b.at v) in
+    let at = both_end c.begins (cut_ends s a.slices c) v.begins (stuck_ends s b.at v) in
     let texts = same_end s c.before v.before c.text v.text c.kept v.kept [] v.left c.edge v.edge at.here at.edge (cut_ends s a.slices c) (stuck_ends s b.at v) in
     false≢true (sym (braces-none (braces_behind v.edge)) ∙ ap (braces (braces_behind v.edge)) texts.follows ∙ v.marks)
 
-full_early : OneTag → {s : Text} {options : Options} {o p : Compilation} → Full s options o → Early s options p → ⊥
-full_early tags {s} a b =
+full_early : {s : Text} {options : Options} {o p : Compilation} → Full s options o → Early s options p → ⊥
+full_early {s} a b =
     let c = a.cut in
-    let bad = early_refuses tags c.begins (cut_ends s a.slices c) b.begins b.fault (text_slice (place c.before) c.edge c.text c.kept no_edge ∷ []) b.refuses in
+    let bad = early_refuses c.begins (cut_ends s a.slices c) b.begins b.fault (text_slice (place c.before) c.edge c.text c.kept no_edge ∷ []) b.refuses in
     verdict_fair a.says (subst (λ (z : List Slice). Refuses syntax_alone (pieces_in z) b.fault) (sym c.gives) bad)
 
-stuck_early : OneTag → {s : Text} {options : Options} {o p : Compilation} → Stuck s options o → Early s options p → ⊥
-stuck_early tags {s} a b =
+stuck_early : {s : Text} {options : Options} {o p : Compilation} → Stuck s options o → Early s options p → ⊥
+stuck_early {s} a b =
     let u = a.stands in
-    let bad = early_refuses tags u.begins (stuck_ends s a.at u) b.begins b.fault [] b.refuses in
+    let bad = early_refuses u.begins (stuck_ends s a.at u) b.begins b.fault [] b.refuses in
     Opens-Refuses u.nests (subst (λ (z : List Slice). Refuses syntax_alone (pieces_in z) b.fault) (append-nil u.slices) bad)
 
 -- ---- the law
@@ -163,16 +162,16 @@ class_of (misplaced {before = before} {edge = edge} {ps = ps} {f = f} r bad) =
 class_of (left_open {ps = ps} cut bad) = full (record { slices = ps; cut = cut; says = open_block bad })
 class_of (late {ps = ps} cut n bad) = full (record { slices = ps; cut = cut; says = late_fault n bad })
 
-same_class : OneTag → {s : Text} {options : Options} {o p : Compilation} → Class s options o → Class s options p → o ≡ p
-same_class tags (full a) (full b) = two_full tags a b
-same_class tags (full a) (stuck b) = absurd (full_stuck tags a b)
-same_class tags (full a) (early b) = absurd (full_early tags a b)
-same_class tags (stuck a) (full b) = absurd (full_stuck tags b a)
-same_class tags (stuck a) (stuck b) = two_stuck tags a b
-same_class tags (stuck a) (early b) = absurd (stuck_early tags a b)
-same_class tags (early a) (full b) = absurd (full_early tags b a)
-same_class tags (early a) (stuck b) = absurd (stuck_early tags b a)
-same_class tags (early a) (early b) = two_early tags a b
+same_class : {s : Text} {options : Options} {o p : Compilation} → Class s options o → Class s options p → o ≡ p
+same_class (full a) (full b) = two_full a b
+same_class (full a) (stuck b) = absurd (full_stuck a b)
+same_class (full a) (early b) = absurd (full_early a b)
+same_class (stuck a) (full b) = absurd (full_stuck b a)
+same_class (stuck a) (stuck b) = two_stuck a b
+same_class (stuck a) (early b) = absurd (stuck_early a b)
+same_class (early a) (full b) = absurd (full_early b a)
+same_class (early a) (stuck b) = absurd (stuck_early b a)
+same_class (early a) (early b) = two_early a b
 
-pub one_compilation : OneTag → OneCompilation
-one_compilation tags s options a b h k = same_class tags (class_of h) (class_of k)
+pub one_compilation : OneCompilation
+one_compilation s options a b h k = same_class (class_of h) (class_of k)

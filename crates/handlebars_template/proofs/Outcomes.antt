@@ -1,5 +1,5 @@
 -- What running a source's reading and nesting answers, the source compiles to.
-use Rattle.std.proofs.Common.{◌≡◌, ℕ, zero, suc, ◌-◌, Bool, true, false, cond, Option, Some, None, List, [], ◌∷◌, ◌++◌, length, take, refl, sym, ap, ◌∙◌, subst, append_assoc}
+use Rattle.std.proofs.Common.{◌≡◌, ℕ, zero, suc, ◌-◌, true, Option, Some, None, List, [], ◌∷◌, ◌++◌, length, take, refl, sym, ap, ◌∙◌, subst, append_assoc}
 use Rattle.std.specs.Str.{bytes_eq}
 use Rattle.std.proofs.lemmas.List.{append-nil}
 use Rattle.std.proofs.lemmas.Option.{same_Some, none-some}
@@ -7,13 +7,14 @@ use Rattle.std.proofs.lemmas.Slice.Eq.{bytes_eq-Decides}
 use Rattle.handlebars_base.specs.Bytes.{Text}
 use Rattle.handlebars_base.specs.PathReading.{◌>>=◌}
 use Rattle.handlebars_base.proofs.OptionBinds.{bind_some}
-use Rattle.handlebars_tags.specs.Text.{Braces, IsText}
+use Rattle.handlebars_tags.specs.Text.{two_braces, braces, IsText}
+use Rattle.handlebars_tags.specs.Tag.{NoTag}
 use Rattle.handlebars_tags.specs.Trim.{Edge, no_edge, edge_of, braces_behind}
-use Rattle.handlebars_template.specs.Place.{Place, place}
-use Rattle.handlebars_template.specs.Nest.{Piece, Fault, not_closed, Placed, Test, syntax_alone, names_and_literals, Nests, nothing, Frame, Opens, none_open, Refuses, LeavesOpen, left_open as still_open}
+use Rattle.handlebars_template.specs.Place.{place}
+use Rattle.handlebars_template.specs.Nest.{Piece, Fault, not_closed, Placed, Test, syntax_alone, names_and_literals, Nests, nothing, Frame, Opens, none_open, Refuses, left_open as still_open}
 use Rattle.handlebars_template.specs.Machine.{Moved, goes, stops, apply}
-use Rattle.handlebars_template.specs.Cut.{Slice, text_slice, tag_slice, may_follow, TextAndTag, tag_edge, slices_of, Reads, starts, goes_on, IsCut}
-use Rattle.handlebars_template.specs.Compile.{Options, pieces_in, tree_of, refusal_for, Compilation, compiled, refused, Compiles, whole, misplaced, left_open, late}
+use Rattle.handlebars_template.specs.Cut.{Slice, text_slice, tag_slice, may_follow, TextAndTag, Reads, starts, goes_on, IsCut}
+use Rattle.handlebars_template.specs.Compile.{Options, pieces_in, tree_of, refusal_for, Compilation, compiled, refused, unreadable, Compiles, whole, no_tag, misplaced, left_open, late}
 use Rattle.handlebars_template.proofs.NestsSteps.{Opens-step, Refuses-step}
 use Rattle.handlebars_template.proofs.NestsRuns.{run}
 use Rattle.handlebars_template.proofs.Running.{TagFound, tag_at, tag_at-is, text_at, FoundText, text_at-is, guarded, guarded_some}
@@ -86,6 +87,9 @@ pub record IsAt (source : Text) (s : Spot) : Type 0 where
   pub begins : Reads source s.before s.edge s.slices
   pub whole : source ≡ s.before ++ s.left
 
+regroup : (a b c d : Text) → a ++ (b ++ (c ++ d)) ≡ (a ++ (b ++ c)) ++ d
+regroup a b c d = sym (simp append_assoc)
+
 next_at-is : (source : Text) (s : Spot) (x : Next) → next_at s.edge s.left ≡ Some x → IsAt source s → IsAt source (spot_behind s x)
 next_at-is source s x e h =
     let words = bind_some (text_at (braces_behind s.edge) s.left) _ x e in
@@ -113,7 +117,7 @@ next_at-is source s x e h =
     } in
     subst (λ (z : Next). IsAt source (spot_behind s z)) fair.1 (record {
       begins = goes_on h.begins next;
-      whole = all ∙ sym (simp append_assoc);
+      whole = all ∙ regroup s.before words.0.0 slice f.rest;
     })
 
 spot_at-is : (n : ℕ) (source : Text) (s r : Spot) → spot_at n s ≡ Some r → IsAt source s → IsAt source r
@@ -192,3 +196,51 @@ answer_of options n source = answer options n (first_spot source)
 
 pub answer_of-compiles : (options : Options) (n : ℕ) (source : Text) (c : Compilation) → answer_of options n source ≡ Some c → Compiles source options c
 answer_of-compiles options n source c e = answer-compiles options source n (first_spot source) c (record { begins = starts; whole = refl }) e
+
+-- ---- by hand
+
+-- a text and a tag where the source begins
+pub first_tag : (text kept slice rest : Text) (f : TagFound) → IsText two_braces (slice ++ rest) text kept → tag_at (slice ++ rest) ≡ Some f → f.rest ≡ rest
+    → IsAt (text ++ (slice ++ rest)) (record {
+      before = text ++ slice;
+      edge = edge_of text f.tag f.tildes rest;
+      slices = text_slice (place []) no_edge text kept (edge_of text f.tag f.tildes rest) ∷ tag_slice (place text) slice f.tag (edge_of text f.tag f.tildes rest) ∷ [];
+      left = rest;
+    })
+first_tag text kept slice rest f words e is = record {
+  begins = goes_on starts (record {
+    text = text;
+    kept = kept;
+    slice = slice;
+    tag = f.tag;
+    tildes = f.tildes;
+    rest = rest;
+    whole = refl;
+    is_text = words;
+    is_tag = tag_at-is slice rest f e is;
+    may_follow = refl;
+  });
+  whole = sym (append_assoc text slice rest);
+}
+
+-- a text where the source begins, and braces with which no tag begins
+pub first_unreadable : (options : Options) (text left : Text) → IsText two_braces left text text → braces two_braces left ≡ true → NoTag left
+    → Compiles (text ++ left) options (refused (unreadable options (place text)))
+first_unreadable options text left words marks none = no_tag (record {
+  before = [];
+  edge = no_edge;
+  slices = [];
+  begins = starts;
+  depth = 0;
+  frames = [];
+  elements = [];
+  nests = none_open nothing;
+  text = text;
+  kept = text;
+  left = left;
+  whole = refl;
+  is_text = words;
+  marks = marks;
+  none = λ slice rest t tildes is tag may. none slice rest t tildes is tag;
+  there = refl;
+})

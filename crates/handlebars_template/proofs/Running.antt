@@ -1,20 +1,17 @@
 -- A source read by functions, so that running them tells what a worked source compiles to.
-use Rattle.std.proofs.Common.{◌≡◌, ◌≢◌, ℕ, zero, suc, ◌-◌, Bool, true, false, cond, Option, Some, None, List, [], ◌∷◌, ◌++◌, length, take, refl, sym, ap, ◌∙◌, subst, append_assoc, arith, inl, inr}
+use Rattle.std.proofs.Common.{◌≡◌, ℕ, suc, Bool, true, false, cond, Option, Some, None, [], ◌∷◌, ◌++◌, length, refl, sym, ap, ◌∙◌, subst, arith, inl, inr}
 use Rattle.std.specs.List.{list_all}
-use Rattle.std.specs.Str.{bytes_eq}
-use Rattle.std.proofs.lemmas.List.{append-nil}
 use Rattle.std.proofs.lemmas.Option.{same_Some, none-some}
-use Rattle.std.proofs.lemmas.Slice.Eq.{bytes_eq-Decides}
 use Rattle.handlebars_base.specs.Bytes.{Text, is_white, behind_white}
 use Rattle.handlebars_base.specs.Path.{is_symbol, Reference, raw_of}
-use Rattle.handlebars_base.specs.PathReading.{◌>>=◌, with_or, symbols_of, behind_symbols}
-use Rattle.handlebars_base.proofs.OptionBinds.{bind_some, with_or_is, cond_is}
+use Rattle.handlebars_base.specs.PathReading.{◌>>=◌, symbols_of, behind_symbols}
+use Rattle.handlebars_base.proofs.OptionBinds.{bind_some, cond_is}
 use Rattle.handlebars_lines.specs.Literal.{starts}
 use Rattle.handlebars_lines.specs.Runs.{run as steps}
 use Rattle.handlebars_lines.specs.Parameter.{Term, literal_term, path_term, call_term}
 use Rattle.handlebars_lines.specs.Line.{Enclosure, in_tag, in_block, Line, IsLine, NoLine}
-use Rattle.handlebars_lines.specs.LineReading.{Event, State, state, at_name, line_step, line_from}
-use Rattle.handlebars_lines.specs.Binding.{Binding, IsBinding}
+use Rattle.handlebars_lines.specs.LineReading.{state, at_name, line_step, line_from}
+use Rattle.handlebars_lines.specs.Binding.{Binding}
 use Rattle.handlebars_lines.specs.BindingReading.{binding_at}
 use Rattle.handlebars_lines.proofs.Stepping.{run-runs, run-some}
 use Rattle.handlebars_lines.proofs.Lines.{line_made, line_found}

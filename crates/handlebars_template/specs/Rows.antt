@@ -12,10 +12,10 @@ use Rattle.handlebars_template.specs.Compile.{Compiles, compiled, refused, no_op
 abbrev pub at : ℕ → ℕ → Place
 at line column = record { line = line; column = column }
 
--- a text where the source begins, and a value behind it
-abbrev pub text_and_value : Text → Element → Place → Tree
-text_and_value text value there =
-    tree None (element (raw_string text) (element value no_elements)) (at 1 1 ∷ there ∷ [])
+-- a text where the source begins, and an element behind it
+abbrev pub text_and_element : Text → Element → Place → Tree
+text_and_element text e there =
+    tree None (element (raw_string text) (element e no_elements)) (at 1 1 ∷ there ∷ [])
 
 -- the value that these segments lead to, written so
 abbrev pub value_at : List Segment → Text → Element
@@ -28,7 +28,7 @@ EmptyRow = Compiles [] no_options (compiled empty_tree)
 abbrev pub ValueRow : Type 0
 ValueRow =
     Compiles (codes "Hello {{name}}") no_options
-    (compiled (text_and_value (codes "Hello ") (value_at (named (codes "name") ∷ []) (codes "name")) (at 1 7)))
+    (compiled (text_and_element (codes "Hello ") (value_at (named (codes "name") ∷ []) (codes "name")) (at 1 7)))
 
 -- one backslash before `{{a}} `, and two before `{{a}}`
 abbrev pub escaped_source : Text
@@ -39,13 +39,13 @@ abbrev pub EscapedRow : Type 0
 EscapedRow =
     Compiles escaped_source no_options
     (compiled
-    (text_and_value (codes "{{a}} " ++ (backslash ∷ [])) (value_at (named (codes "a") ∷ []) (codes "a")) (at 1 10)))
+    (text_and_element (codes "{{a}} " ++ (backslash ∷ [])) (value_at (named (codes "a") ∷ []) (codes "a")) (at 1 10)))
 
 abbrev pub MemberRow : Type 0
 MemberRow =
     Compiles (codes "x{{a.x}}") no_options
     (compiled
-    (text_and_value (codes "x") (value_at (named (codes "a") ∷ named (codes "x") ∷ []) (codes "a.x")) (at 1 2)))
+    (text_and_element (codes "x") (value_at (named (codes "a") ∷ named (codes "x") ∷ []) (codes "a.x")) (at 1 2)))
 
 -- A tag that isn't closed is refused where it begins.
 abbrev pub UnclosedRow : Type 0
@@ -178,7 +178,7 @@ raw_block =
 abbrev pub RawRow : Type 0
 RawRow =
     Compiles (codes "a{{{{raw}}}}{{content}}{{{{/raw}}}}") no_options
-    (compiled (text_and_value (codes "a") raw_block (at 1 2)))
+    (compiled (text_and_element (codes "a") raw_block (at 1 2)))
 
 -- ---- refusals
 

@@ -3,7 +3,7 @@
 ghost use Rattle.handlebars_template.specs.Compile.{OneCompilation};
 ghost use Rattle.handlebars_template.specs.Cut.{CutsJoin, OneCut};
 ghost use Rattle.handlebars_template.specs.ParameterParsing.{OneParsing};
-ghost use Rattle.handlebars_template.specs.Rows.{EmptyRow, ValueRow, EscapedRow, MemberRow, UnclosedRow, PlaceRow, HtmlRow, AmpersandRow, CallRow, NestedRow, UpRow, ElseRow};
+ghost use Rattle.handlebars_template.specs.Rows.{EmptyRow, ValueRow, EscapedRow, MemberRow, UnclosedRow, PlaceRow, HtmlRow, AmpersandRow, CallRow, NestedRow, UpRow, ChainRow, LinesRow, TildeRow, InverseRow, RawRow, ElseRow, CloseRow, OpenRow, OtherNameRow, NumberRow};
 
 /// The slices of a cut join to its source.
 pub fn cuts_join()
@@ -38,5 +38,14 @@ pub fn worked_sources()
     ensures call_tag { CallRow }
     ensures nested_tag { NestedRow }
     ensures up_tag { UpRow }
+    ensures chain_block { ChainRow }
+    ensures lines_row { LinesRow }
+    ensures tilde_row { TildeRow }
+    ensures inverse_row { InverseRow }
+    ensures raw_block { RawRow }
     ensures else_tag { ElseRow }
+    ensures close_tag { CloseRow }
+    ensures open_block { OpenRow }
+    ensures other_name { OtherNameRow }
+    ensures number_row { NumberRow }
 {}

@@ -1,6 +1,5 @@
-use Rattle.handlebars_tags.proofs.OneTag.{one_tag}
 use Rattle.handlebars_template.proofs.One.{one_compilation}
 use Rattle.handlebars_template.proofs.laws.one_compilation.Goals as goal
 
 pub returns : goal.returns
-returns c = one_compilation one_tag
+returns c = one_compilation

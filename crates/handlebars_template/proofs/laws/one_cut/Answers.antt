@@ -1,6 +1,5 @@
-use Rattle.handlebars_tags.proofs.OneTag.{one_tag}
 use Rattle.handlebars_template.proofs.Cuts.{one_cut}
 use Rattle.handlebars_template.proofs.laws.one_cut.Goals as goal
 
 pub returns : goal.returns
-returns c = one_cut one_tag
+returns c = one_cut
