@@ -149,7 +149,8 @@ fn placed_error(
     ensures refusal { IfOk result (λ e. (template_refusal_of e).reason ≢ template_out_of_memory
         → template_refusal_of e
         ≡ record (syntax_refusal [] (options_view options) (place_of at)) { reason = template_reason_of reason }) }
-    ensures shown { IfOk result (λ e. IsSome (template_refusal_of e).position → IsSome (shown_lines e)) }
+    ensures shown { IfOk result (λ e. template_reason_of reason ≢ template_out_of_memory
+        → IsSome (template_refusal_of e).position → IsSome (shown_lines e)) }
 {
     let name = match options.name {
         Some(name) => name,
