@@ -3,6 +3,4 @@
 #![tactic(auto)]
 
 pub mod built_in;
-#[cfg(test)]
-mod tests;
 pub mod view;

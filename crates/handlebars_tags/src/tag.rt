@@ -13,8 +13,6 @@ mod beginning;
 mod close_name;
 mod closing;
 mod inside;
-#[cfg(test)]
-mod tests;
 
 pub use inside::{BlockSlice, Content};
 
