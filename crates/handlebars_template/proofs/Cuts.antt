@@ -9,7 +9,6 @@ use Rattle.handlebars_base.specs.Bytes.{Text}
 use Rattle.handlebars_base.specs.PathReading.{after}
 use Rattle.handlebars_tags.specs.Text.{IsText}
 use Rattle.handlebars_tags.specs.Kind.{beginning_of}
-use Rattle.handlebars_tags.specs.Tag.{OneTag}
 use Rattle.handlebars_tags.specs.Trim.{Edge, no_edge, braces_behind}
 use Rattle.handlebars_tags.proofs.OneText.{one_text}
 use Rattle.handlebars_tags.proofs.OneTag.{one_tag}

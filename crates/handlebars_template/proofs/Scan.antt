@@ -1,5 +1,5 @@
 -- What was read of a source so far, and what the next tag does.
-use Rattle.std.proofs.Common.{◌≡◌, ◌≢◌, ℕ, Option, Some, None, Bool, true, false, suc, ◌+◌, ◌-◌, ◌<◌, ◌≤◌, List, [], ◌∷◌, ◌++◌, length, take, map, refl, sym, ap, ◌∙◌, subst, append_assoc, arith, length-append, inl, inr}
+use Rattle.std.proofs.Common.{◌≡◌, ℕ, Option, Some, None, Bool, true, false, ◌+◌, ◌-◌, ◌<◌, ◌≤◌, List, [], ◌∷◌, ◌++◌, length, take, refl, sym, ap, ◌∙◌, subst, append_assoc, arith, length-append, inl, inr}
 use Rattle.std.specs.Prelude.{◌==◌, fold, nat_lt, if◌then◌else◌, codes}
 use Rattle.std.specs.Option.{option_or}
 use Rattle.std.specs.Str.{IsUtf8, IsCharBoundary, chars}
@@ -199,7 +199,7 @@ Scans-step {source} {slice} {kept} {left} {at} {fresh} {e} h t tildes spelled re
     let b : Text = h.before in
     let new : List Slice = pair_of at e slice kept q spelled t n in
     let state : State (late_after late' (tag_piece q n t) fs') ((pieces_in h.slices ++ text_pieces at e slice kept n) ++ tag_piece q n t ∷ []) d'' fs'' es'' =
-      State-moves (tag_piece q n t) (Mid-state h n late' d' fs' es' m) moved in
+    State-moves (tag_piece q n t) (Mid-state h n late' d' fs' es' m) moved in
     record {
       before = b ++ (slice ++ spelled);
       slices = h.slices ++ new;

@@ -1,7 +1,7 @@
 -- A template as the code makes it, and the tree that it stands for.
 use Rattle.std.proofs.Common.{◌≡◌, map, rules, option_map}
 use Rattle.handlebars_template.specs.Tree.{tree}
-use Rattle.handlebars_template.specs.TreeView.{text, place_of, element_view, tree_view, elements_view}
+use Rattle.handlebars_template.specs.TreeView.{text, place_of, tree_view, elements_view}
 use Rattle.handlebars_template.specs.declared.template.tree.BlockParam.{BlockParam, the_lemmas}
 use Rattle.handlebars_template.specs.declared.template.tree.BlockParam.TheOpen.{Template-F}
 use Rattle.handlebars_template.specs.declared.template.tree.BlockParam.TheViews.{roll-Template, out-Template}

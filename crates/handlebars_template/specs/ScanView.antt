@@ -1,5 +1,5 @@
 -- What the program builds of tags, and finds a source to be. Only the code's own contracts cite this.
-use Rattle.std.specs.Prelude.{◌≡◌, Bool, true, false, if◌then◌else◌, List, [], ◌∷◌, Option, None, option_map, MatchOption}
+use Rattle.std.specs.Prelude.{◌≡◌, Bool, true, false, if◌then◌else◌, List, [], ◌∷◌, Option, option_map, MatchOption}
 use Rattle.handlebars_base.specs.Bytes.{Text}
 use Rattle.handlebars_lines.specs.Line.{Line}
 use Rattle.handlebars_tags.specs.Tag.{BlockLine}

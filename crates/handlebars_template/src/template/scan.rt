@@ -71,12 +71,7 @@ pub fn scan(alloc: Global, source: &str) -> Result<Found, AllocError>
 }
 
 // What is kept of a text between two edges, which is copied again only where something of it goes.
-fn kept_text(
-    alloc: Global,
-    before: Edge,
-    kept: String,
-    behind: Edge,
-) -> Result<String, AllocError>
+fn kept_text(alloc: Global, before: Edge, kept: String, behind: Edge) -> Result<String, AllocError>
     ensures { IfOk result (λ text. string_bytes text
         ≡ trimmed (edge_view before) (string_bytes kept) (edge_view behind)) }
 {

@@ -1,6 +1,6 @@
 //! Trees of blocks, the texts of comments, and the state of the line.
 
-use crate::tests::helpers::{data_of, repeated, refusal};
+use crate::tests::helpers::{data_of, refusal, repeated};
 use handlebars::template::{
     ExpressionSpec, HelperTemplate, Parameter, Template, TemplateElement, TemplateMapping,
 };
@@ -62,7 +62,10 @@ fn chains_nest_in_their_inverse(rt: HostRuntime) -> Result<(), Fail> {
     let body = branch.template.as_ref().ok_or("no body")?;
     assert!(rt; body.mapping == vec![in alloc; TemplateMapping(2, 15)]?);
     let last = branch.inverse.as_ref().ok_or("no inverse")?;
-    assert!(rt; *last.elements == *vec![in alloc; TemplateElement::RawString(String::from_str(alloc, "3")?)]?);
+    assert!(rt;
+        *last.elements
+            == *vec![in alloc; TemplateElement::RawString(String::from_str(alloc, "3")?)]?
+    );
     Ok(())
 }
 
@@ -98,14 +101,20 @@ fn the_line_goes_along(rt: HostRuntime) -> Result<(), Fail> {
     let mut rc = RenderContext::new(alloc, None)?;
     let mut out = StringOutput::new(alloc);
     template.render(alloc, &registry, &data, &mut rc, &mut out, &Discard)?;
-    assert!(rt; rc.get_trailine_newline() && rc.get_content_produced() && rc.get_indent_before_write());
+    assert!(rt;
+        rc.get_trailine_newline() && rc.get_content_produced() && rc.get_indent_before_write()
+    );
 
     indent_aware_write("y", &mut rc, &mut out)?;
-    assert!(rt; !rc.get_trailine_newline() && rc.get_content_produced() && !rc.get_indent_before_write());
+    assert!(rt;
+        !rc.get_trailine_newline() && rc.get_content_produced() && !rc.get_indent_before_write()
+    );
     rc.set_content_produced(false);
     rc.set_trailing_newline(true);
     rc.set_indent_before_write(true);
-    assert!(rt; rc.get_trailine_newline() && !rc.get_content_produced() && rc.get_indent_before_write());
+    assert!(rt;
+        rc.get_trailine_newline() && !rc.get_content_produced() && rc.get_indent_before_write()
+    );
     assert_eq!(rt; out.into_string().as_str(), "x\ny");
     Ok(())
 }

@@ -1,4 +1,4 @@
-use Rattle.std.proofs.Common.{◌∙◌, sym, ap, refl}
+use Rattle.std.proofs.Common.{◌∙◌, sym, ap}
 use Rattle.handlebars_template.specs.Compile.{binding_of}
 use Rattle.handlebars_template.proofs.TagsBuilt.{said-along}
 use Rattle.handlebars_template.proofs.template.tags.opening.Goals as goal
