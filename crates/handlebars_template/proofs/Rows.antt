@@ -15,7 +15,7 @@ use Rattle.handlebars_lines.specs.Worth.{worth_of, before}
 use Rattle.handlebars_tags.specs.Text.{two_braces, IsText, at_tag, a_byte, two_escaped}
 use Rattle.handlebars_tags.specs.Kind.{beginning_of, closing_of}
 use Rattle.handlebars_template.specs.Compile.{no_options}
-use Rattle.handlebars_template.specs.Rows.{EmptyRow, ValueRow, EscapedRow, MemberRow, UnclosedRow, PlaceRow, HtmlRow, AmpersandRow, CallRow, NestedRow, UpRow, ChainRow, LinesRow, TildeRow, InverseRow, RawRow, ElseRow, CloseRow, OpenRow, OtherNameRow, NumberRow}
+use Rattle.handlebars_template.specs.Rows.{EmptyRow, ValueRow, EscapedRow, MemberRow, UnclosedRow, PlaceRow, HtmlRow, AmpersandRow, CallRow, NestedRow, UpRow, ChainRow, LinesRow, TildeRow, InverseRow, RawRow, ElseRow, CloseRow, OpenRow, DeepRow, OtherNameRow, NumberRow}
 use Rattle.handlebars_template.proofs.Running.{text_at-is, no_line_at, no_value_tag}
 use Rattle.handlebars_template.proofs.Outcomes.{answer_of-compiles, answer-compiles, first_tag, first_unreadable}
 
@@ -117,6 +117,10 @@ close_row = answer_of-compiles no_options 1 _ _ refl
 pub open_row : OpenRow
 unfolding beginning_of closing_of chars line.name_step line.behind_step line.line_step path.after path.plain_at path.part_at path.links_at path.links_of path.unnamed_at path.start_at path.shape_at path.shape_of path.reference_from path.path_at line.key_at line.parameter_step line.item_step literal.literal_at literal.plain_at literal.undoubled_at literal.atom_at literal.value_token literal.token_at behind_bar behind_beginning
 open_row = answer_of-compiles no_options 1 _ _ refl
+
+pub deep_row : DeepRow
+unfolding beginning_of closing_of chars line.name_step line.behind_step line.line_step path.after path.plain_at path.part_at path.links_at path.links_of path.unnamed_at path.start_at path.shape_at path.shape_of path.reference_from path.path_at line.key_at line.parameter_step line.item_step literal.literal_at literal.plain_at literal.undoubled_at literal.atom_at literal.value_token literal.token_at behind_bar behind_beginning
+deep_row = answer_of-compiles no_options 1 _ _ refl
 
 pub other_name_row : OtherNameRow
 unfolding beginning_of closing_of chars line.name_step line.behind_step line.line_step path.after path.plain_at path.part_at path.links_at path.links_of path.unnamed_at path.start_at path.shape_at path.shape_of path.reference_from path.path_at line.key_at line.parameter_step line.item_step literal.literal_at literal.plain_at literal.undoubled_at literal.atom_at literal.value_token literal.token_at behind_bar behind_beginning

@@ -1,8 +1,9 @@
 -- Worked sources, each with its tree or its refusal.
-use Rattle.std.specs.Prelude.{ℕ, Bool, true, false, List, [], ◌∷◌, ◌++◌, None, codes}
+use Rattle.std.specs.Prelude.{ℕ, Bool, true, false, List, [], ◌∷◌, ◌++◌, None, codes, replicate}
 use Rattle.serde_json.specs.Data.{boolean}
 use Rattle.handlebars_base.specs.Bytes.{Text, backslash, newline}
 use Rattle.handlebars_base.specs.Path.{Segment, named, up, relative}
+use Rattle.handlebars_lines.specs.Parameter.{left_parenthesis, right_parenthesis}
 use Rattle.handlebars_template.specs.Place.{Place}
 use Rattle.handlebars_template.specs.Tree.{Tree, tree, empty_tree, Element, no_elements, element, raw_string, html_expression, expression, Param, name, path, literal, subexpression, args, no_params, param, no_pairs, pair, no_binding, no_body}
 use Rattle.handlebars_template.specs.Calls.{plain_call, invalid}
@@ -196,6 +197,14 @@ CloseRow = IsRefused (codes "{{/if}}") (codes "unexpected tag") (at 1 1)
 -- A block that isn't closed is refused where it begins.
 abbrev pub OpenRow : Type 0
 OpenRow = IsRefused (codes "{{#if a}}x") (codes "block not closed") (at 1 1)
+
+-- More than 200 parentheses that are open at once are refused where their tag begins.
+abbrev pub deep_source : Text
+deep_source =
+    codes "{{" ++ (replicate 201 left_parenthesis ++ (codes "a" ++ (replicate 201 right_parenthesis ++ codes "}}")))
+
+abbrev pub DeepRow : Type 0
+DeepRow = IsRefused deep_source (codes "nesting too deep") (at 1 1)
 
 -- A close by another name is refused where it stands.
 abbrev pub OtherNameRow : Type 0

@@ -3,7 +3,7 @@
 ghost use Rattle.handlebars_template.specs.Compile.{OneCompilation};
 ghost use Rattle.handlebars_template.specs.Cut.{CutsJoin, OneCut};
 ghost use Rattle.handlebars_template.specs.ParameterParsing.{OneParsing};
-ghost use Rattle.handlebars_template.specs.Rows.{EmptyRow, ValueRow, EscapedRow, MemberRow, UnclosedRow, PlaceRow, HtmlRow, AmpersandRow, CallRow, NestedRow, UpRow, ChainRow, LinesRow, TildeRow, InverseRow, RawRow, ElseRow, CloseRow, OpenRow, OtherNameRow, NumberRow};
+ghost use Rattle.handlebars_template.specs.Rows.{EmptyRow, ValueRow, EscapedRow, MemberRow, UnclosedRow, PlaceRow, HtmlRow, AmpersandRow, CallRow, NestedRow, UpRow, ChainRow, LinesRow, TildeRow, InverseRow, RawRow, ElseRow, CloseRow, OpenRow, DeepRow, OtherNameRow, NumberRow};
 
 /// The slices of a cut join to its source.
 pub fn cuts_join()
@@ -46,6 +46,7 @@ pub fn worked_sources()
     ensures else_tag { ElseRow }
     ensures close_tag { CloseRow }
     ensures open_block { OpenRow }
+    ensures deep_call { DeepRow }
     ensures other_name { OtherNameRow }
     ensures number_row { NumberRow }
 {}

@@ -1,4 +1,4 @@
-use Rattle.handlebars_template.proofs.Rows.{empty_row, value_row, escaped_row, member_row, unclosed_row, place_row, html_row, ampersand_row, call_row, nested_row, up_row, chain_row, lines_row, tilde_row, inverse_row, raw_row, else_row, close_row, open_row, other_name_row, number_row}
+use Rattle.handlebars_template.proofs.Rows.{empty_row, value_row, escaped_row, member_row, unclosed_row, place_row, html_row, ampersand_row, call_row, nested_row, up_row, chain_row, lines_row, tilde_row, inverse_row, raw_row, else_row, close_row, open_row, deep_row, other_name_row, number_row}
 use Rattle.handlebars_template.proofs.laws.worked_sources.Goals as goal
 
 pub returns-clause-empty : goal.returns-clause-empty
@@ -63,3 +63,6 @@ returns-clause-other_name c = other_name_row
 
 pub returns-clause-number_row : goal.returns-clause-number_row
 returns-clause-number_row c = number_row
+
+pub returns-clause-deep_call : goal.returns-clause-deep_call
+returns-clause-deep_call c = deep_row
