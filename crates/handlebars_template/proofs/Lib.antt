@@ -19,4 +19,3 @@ pub mod NestsSteps
 pub mod NestsStates
 pub mod NestsRuns
 pub mod NestsOne
-pub mod NestsKept

@@ -47,9 +47,6 @@ nil-cons f fs is = absurd cc
 pub Nests-LeavesOpen : {t : Test} {ps : List Piece} {es : List Placed} {f : Fault} → Nests t 0 ps es → LeavesOpen t ps f → ⊥
 Nests-LeavesOpen a (left_open {f = f} {fs = fs} b) = nil-cons f fs (Opens-one (none_open a) b).frames
 
-pub LeavesOpen-Refuses : {t : Test} {ps : List Piece} {f g : Fault} → LeavesOpen t ps f → Refuses t ps g → ⊥
-LeavesOpen-Refuses (left_open a) b = Opens-Refuses a b
-
 -- ---- what nests by its names and literals too nests by its syntax
 
 mutual
