@@ -9,7 +9,8 @@ use Rattle.std.specs.List.{prefix_len}
 use Rattle.handlebars_base.proofs.OptionBinds.{bind_some, with_or_is}
 use Rattle.handlebars_base.proofs.PathMarks.{after_takes}
 use Rattle.handlebars_lines.proofs.Fronts.{behind_white-skips}
-use Rattle.handlebars_tags.specs.Kind.{Kind, expression_kind, html_kind, html_sign_kind, block_kind, close_kind, inverse_kind, else_kind, raw_kind, raw_close_kind, comment_kind, other_kind, exclamation, number_sign, caret, tilde, past, Beginning, beginning, tilde_at, starts_other, is_else, block_at, unsigned_at, signed_at, tilded_at, raw_at, braced_at, beginning_of}
+use Rattle.handlebars_lines.specs.Line.{tilde}
+use Rattle.handlebars_tags.specs.Kind.{Kind, expression_kind, html_kind, html_sign_kind, block_kind, close_kind, inverse_kind, else_kind, raw_kind, raw_close_kind, comment_kind, other_kind, exclamation, number_sign, caret, past, Beginning, beginning, tilde_at, starts_other, is_else, block_at, unsigned_at, signed_at, tilded_at, raw_at, braced_at, beginning_of}
 use Rattle.handlebars_tags.specs.CommentReading.{IsEnd}
 use Rattle.handlebars_tags.proofs.Marks.{past-takes}
 

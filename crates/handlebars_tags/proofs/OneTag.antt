@@ -6,12 +6,12 @@ use Rattle.std.proofs.lemmas.List.{append_cancel_right}
 use Rattle.handlebars_base.specs.Bytes.{Text, right_brace, behind_white}
 use Rattle.handlebars_base.specs.PathReading.{after}
 use Rattle.handlebars_lines.specs.Literal.{starts}
-use Rattle.handlebars_lines.specs.Line.{Line, in_tag}
+use Rattle.handlebars_lines.specs.Line.{Line, in_tag, tilde}
 use Rattle.handlebars_lines.proofs.Fronts.{starts-other, after-not}
 use Rattle.handlebars_lines.proofs.LineMarks.{other_byte}
 use Rattle.handlebars_lines.proofs.LineFronts.{begins}
 use Rattle.handlebars_lines.proofs.Lines.{one_line}
-use Rattle.handlebars_tags.specs.Kind.{Kind, expression_kind, html_kind, html_sign_kind, block_kind, close_kind, inverse_kind, else_kind, raw_kind, raw_close_kind, comment_kind, other_kind, tilde, beginning_of, closing_of}
+use Rattle.handlebars_tags.specs.Kind.{Kind, expression_kind, html_kind, html_sign_kind, block_kind, close_kind, inverse_kind, else_kind, raw_kind, raw_close_kind, comment_kind, other_kind, beginning_of, closing_of}
 use Rattle.handlebars_tags.specs.Tag.{Tag, comment_tag, BlockLine, IsBlockLine, Tildes, OneTag}
 use Rattle.handlebars_tags.specs.TagReading.{IsClosed}
 use Rattle.handlebars_tags.proofs.LineNames.{line_starts}

@@ -3,6 +3,7 @@ use Rattle.std.specs.Prelude.{ℕ, Bool, true, false, ◌&&◌, ◌||◌, ◌==�
 use Rattle.std.specs.Str.{bytes_eq}
 use Rattle.handlebars_base.specs.Bytes.{Text, ampersand, slash, greater, left_brace, right_brace, is_white, behind_white}
 use Rattle.handlebars_base.specs.PathReading.{◌>>=◌, with_or, after, symbols_of, behind_symbols}
+use Rattle.handlebars_lines.specs.Line.{tilde}
 use Rattle.handlebars_lines.specs.Literal.{starts}
 
 abbrev pub exclamation : ℕ
@@ -16,9 +17,6 @@ asterisk = 42
 
 abbrev pub caret : ℕ
 caret = 94
-
-abbrev pub tilde : ℕ
-tilde = 126
 
 -- what follows a mark of several bytes
 abbrev pub past : Text → Text → Option Text
