@@ -7,3 +7,6 @@ pub mod ReferenceLength
 pub mod References
 pub mod PathsInFront
 pub mod Truths
+pub mod Numerals
+pub mod Equality
+pub mod Orders

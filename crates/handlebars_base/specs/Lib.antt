@@ -9,4 +9,8 @@ pub mod PathAndData
 pub mod Path
 pub mod PathView
 pub mod PathReading
+pub mod Written
+pub mod Equal
+pub mod Compare
+pub mod ComparisonLaws
 pub mod Laws

@@ -2,12 +2,19 @@
 
 ghost use Rattle.std.specs.Prelude.{◌≡◌, ◌++◌, Bool, IfOk, OnOk, IsTrue, ◌↔◌, string_bytes, true, false, option_map, map, Some};
 ghost use Rattle.handlebars_base.specs.Bytes.{Text};
+ghost use Rattle.serde_json.specs.Find.{as_str};
 ghost use Rattle.serde_json.specs.View.{view, number_view, items_view};
 ghost use Rattle.handlebars_base.specs.Values.{rendered, rendered_items, rendered_number, truth, truth_of_number};
 ghost use Rattle.handlebars_base.specs.Scoped.{found_of, data_in, present_in, path_in, derived_in, missing, value};
 
+mod convert;
+mod equality;
+mod order;
 mod path_and_json;
 
+pub use convert::to_json;
+pub use equality::equal;
+pub use order::compare;
 pub use path_and_json::PathAndJson;
 use serde_json::{Number, Value};
 use std::alloc::{AllocError, Global};
@@ -85,6 +92,13 @@ impl<'rc> From<Value> for ScopedJson<'rc> {
     fn from(given: Value) -> ScopedJson<'rc> {
         ScopedJson::Derived(given)
     }
+}
+
+/// The text that a value is, where it is one.
+pub fn as_string(value: &Json) -> Option<&str>
+    ensures { option_map (λ s. s.now) result ≡ as_str (view value.now) }
+{
+    value.as_str()
 }
 
 /// What a template writes for a value.
