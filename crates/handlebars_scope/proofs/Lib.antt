@@ -1,3 +1,4 @@
+mod Variables
 mod Indexes
 pub mod Bytes
 mod Runs
@@ -6,3 +7,5 @@ pub mod Numbers
 pub mod Values
 pub mod EscapeLaws
 pub mod Lines
+mod Ways
+mod Fronts

@@ -1,6 +1,8 @@
 pub mod Contexts
 pub mod Wraps
+pub mod Scopes
 pub mod Resolve
+pub mod Fronts
 pub mod Escape
 pub mod EscapeLaws
 pub mod Shown
@@ -8,3 +10,6 @@ pub mod Outputs
 pub mod Sites
 pub mod Put
 pub mod LineView
+pub mod ScopeView
+pub mod WayView
+pub mod Lending

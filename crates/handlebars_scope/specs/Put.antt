@@ -4,11 +4,13 @@ use Rattle.handlebars_base.specs.Bytes.{Text, newline, carriage_return}
 use Rattle.handlebars_base.specs.Scoped.{Found}
 use Rattle.handlebars_scope.specs.Sites.{Site}
 
--- of a text element; of a value that is rendered and escaped; of a value that is rendered and not escaped
+-- of a text element; of a value that is rendered and escaped; of a value that is rendered and not escaped; the word of a
+-- boolean helper
 pub data Origin : Type 0 where
   of_text : Site → Origin
   of_value : Site → Found → Origin
   of_raw : Site → Found → Origin
+  of_word : Site → Bool → Origin
 
 pub record Piece : Type 0 where
   pub origin : Origin

@@ -1,22 +1,12 @@
 -- The data that a context has of any value that serde writes.
-use Rattle.std.specs.Prelude.{◌≡◌, ◌⊎◌, [], Some, true, false}
+use Rattle.std.specs.Prelude.{◌≡◌, ◌⊎◌, true, false}
 use Rattle.serde.specs.Event.{Log}
 use Rattle.serde_json.specs.Data.{Data}
-use Rattle.serde_json.specs.Read.{read}
-use Rattle.serde_json.specs.Sent.{IsTextOf}
 use Rattle.serde_json.specs.Written.{has_float}
 use Rattle.handlebars_base.specs.Reasons.{serde_error, invalid_number}
 use Rattle.handlebars_base.specs.Answers.{Answer, gives, refuses}
-use Rattle.handlebars_base.specs.Bytes.{Text}
 use Rattle.handlebars_base.specs.RenderRefusals.{plain_refusal}
-
--- the value may be written as a text of JSON, from which this data is read
-pub record IsWrittenAs {T : Type 0} (writes : T → Log → Log → Type 0) (x : T) (d : Data) : Type 0 where
-  pub log : Log
-  pub text : Text
-  pub written : writes x (Some []) log
-  pub is_text : IsTextOf log text
-  pub is_read : read text ≡ Some d
+use Rattle.handlebars_base.specs.Written.{IsWrittenAs}
 
 -- the value may be written with a number outside the range
 abbrev pub MayLeaveRange : {T : Type 0} → (T → Log → Log → Type 0) → T → Type 0

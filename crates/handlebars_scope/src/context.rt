@@ -9,12 +9,17 @@ ghost use Rattle.handlebars_base.specs.RenderRefusals.{reason_in, spot_of};
 
 mod range;
 pub mod walk;
+mod way;
 
+use crate::block::BlockContext;
 use crate::context::range::has_float;
+use crate::context::walk::navigate;
 use handlebars_base::error::{RenderError, RenderErrorReason};
-use handlebars_base::json::value::Json;
+use handlebars_base::json::path::PathSeg;
+use handlebars_base::json::value::{Json, ScopedJson};
 use serde::Serialize;
 use std::alloc::Global;
+use std::collections::VecDeque;
 
 /// Data whose numbers are all integers, none below -2^63 and none of 2^64 or more.
 #[derive(Drop)]
@@ -28,7 +33,11 @@ impl Context {
     ghost use Rattle.serde_json.specs.Data.{null};
     ghost use Rattle.serde_json.specs.View.{view};
     ghost use Rattle.serde_json.specs.Written.{has_float};
-    ghost use Rattle.handlebars_base.specs.Answers.{gives, refuses_for};
+    ghost use Rattle.handlebars_base.specs.Answers.{Answers, gives, refuses_for};
+    ghost use Rattle.handlebars_base.specs.PathView.{segments_of};
+    ghost use Rattle.handlebars_base.specs.Scoped.{found_of, is_constant};
+    ghost use Rattle.handlebars_scope.specs.Resolve.{navigated};
+    ghost use Rattle.handlebars_scope.specs.ScopeView.{frames_of};
     ghost use Rattle.handlebars_base.specs.Reasons.{nowhere, out_of_memory};
     ghost use Rattle.handlebars_base.specs.RenderRefusals.{reason_in, spot_of};
     ghost use Rattle.handlebars_scope.specs.Contexts.{data_of, TestsRange};
@@ -66,6 +75,28 @@ impl Context {
         ensures in_range { has_float (view result.now) ≡ false }
     {
         &self.value
+    }
+
+    /// What the segments of a path lead to in these blocks and this data. A value that a block holds
+    /// is copied, one of the data is borrowed.
+    pub fn navigate<'rc>(
+        &'rc self,
+        alloc: Global,
+        relative_path: &[PathSeg],
+        block_contexts: &VecDeque<BlockContext>,
+        recursive_lookup: bool,
+    ) -> Result<ScopedJson<'rc>, RenderError>
+        ensures found { Answers found_of result (navigated recursive_lookup
+            (frames_of block_contexts.now.items) (segments_of relative_path.now) (data_of self.now)) }
+        ensures plain { IfOk result (λ found. is_constant found ≡ false) }
+    {
+        navigate(
+            alloc,
+            &self.value,
+            relative_path,
+            block_contexts,
+            recursive_lookup,
+        )
     }
 
     /// Takes other data. `InvalidNumber` where a number is outside the range. Visits all of it.

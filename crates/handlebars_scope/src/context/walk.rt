@@ -1,71 +1,177 @@
-//! Walking into data along names.
+//! Where paths lead in blocks of scope and data.
 
-ghost use Rattle.std.specs.Prelude.{◌≡◌, false, IfOk, map, option_map, string_bytes};
+ghost use Rattle.std.specs.Prelude.{◌≡◌, ◌≤◌, ◌++◌, ◌∷◌, [], false, length, option_map, string_bytes};
+ghost use Rattle.std.specs.Prelude.{IfOk, IfSome, OnOk};
 ghost use Rattle.serde_json.specs.View.{view};
 ghost use Rattle.handlebars_base.specs.Answers.{Answers, answer_map};
+ghost use Rattle.handlebars_base.specs.PathView.{reference_of, segments_of};
 ghost use Rattle.handlebars_base.specs.Reasons.{invalid_json_index};
 ghost use Rattle.handlebars_base.specs.RenderRefusals.{reason_of};
-ghost use Rattle.handlebars_scope.specs.Resolve.{index_of, member_at, names_of, resolved, value_at};
-ghost use Rattle.handlebars_base.specs.PathView.{reference_of, segments_of};
 ghost use Rattle.handlebars_base.specs.Scoped.{found_of, is_constant, present_in};
+ghost use Rattle.handlebars_scope.specs.Resolve.{found_by, found_within, navigated, resolved, variable_at};
+ghost use Rattle.handlebars_scope.specs.Resolve.{if_any, index_of, longest, member_at, names_of, or_else, value_at};
+ghost use Rattle.handlebars_scope.specs.ScopeView.{frames_of};
+ghost use Rattle.handlebars_scope.specs.WayView.{hit_of, names_in, way_view};
 
+use crate::block::BlockContext;
+use crate::context::way::{Way, way_of};
 use handlebars_base::error::{RenderError, RenderErrorReason};
 use handlebars_base::json::path::{Path, PathSeg};
 use handlebars_base::json::value::{Json, ScopedJson};
 use std::alloc::{AllocError, Global};
+use std::collections::VecDeque;
 
-/// The value that a path leads to from the data, in the one empty block of scope that a rendering
-/// begins with; none where a name has no value, and for a variable of a block.
-pub fn resolve<'a>(
+/// The value that a path leads to; none where it is missing. Nothing is copied.
+pub fn resolve<'v>(
+    alloc: Global,
+    given: &'v Json,
+    path: &Path,
+    blocks: &'v VecDeque<BlockContext>,
+    recursive: bool,
+) -> Result<Option<&'v Json>, RenderError>
+    ensures { Answers (option_map (λ v. view v.now)) result
+        (answer_map present_in
+        (resolved recursive (frames_of blocks.now.items) (reference_of path.now) (view given.now))) }
+{
+    match path {
+        Path::Relative((segments, _)) => follow(alloc, given, way_of(blocks, segments, recursive)),
+        Path::Local((level, name, _)) => Ok(variable_at(blocks, *level, name.as_str())),
+    }
+}
+
+/// The same, with the full path of a value of the data. A value that a block holds is copied.
+pub fn find<'a>(
     alloc: Global,
     given: &'a Json,
     path: &Path,
-) -> Result<Option<&'a Json>, RenderError>
-    ensures { Answers (option_map (λ v. view v.now)) result
-        (answer_map present_in (resolved (reference_of path.now) (view given.now))) }
-{
-    match path {
-        Path::Relative((segments, _)) => along(alloc, given, segments),
-        Path::Local(_) => Ok(None),
-    }
-}
-
-/// The same, with the names as the full path of the value.
-pub fn find<'a>(alloc: Global, given: &'a Json, path: &Path) -> Result<ScopedJson<'a>, RenderError>
-    ensures found { Answers found_of result (resolved (reference_of path.now) (view given.now)) }
+    blocks: &VecDeque<BlockContext>,
+    recursive: bool,
+) -> Result<ScopedJson<'a>, RenderError>
+    ensures found { Answers found_of result
+        (resolved recursive (frames_of blocks.now.items) (reference_of path.now) (view given.now)) }
     ensures plain { IfOk result (λ found. is_constant found ≡ false) }
 {
     match path {
-        Path::Relative((segments, _)) => match along(alloc, given, segments)? {
-            Some(value) => Ok(ScopedJson::Context(value, names_of(alloc, segments)?)),
+        Path::Relative((segments, _)) => navigate(alloc, given, segments, blocks, recursive),
+        Path::Local((level, name, _)) => Ok(copied(variable_at(blocks, *level, name.as_str()))?),
+    }
+}
+
+// The same, for the segments of a path.
+pub(crate) fn navigate<'a>(
+    alloc: Global,
+    given: &'a Json,
+    segments: &[PathSeg],
+    blocks: &VecDeque<BlockContext>,
+    recursive: bool,
+) -> Result<ScopedJson<'a>, RenderError>
+    ensures found { Answers found_of result
+        (navigated recursive (frames_of blocks.now.items) (segments_of segments.now) (view given.now)) }
+    ensures plain { IfOk result (λ found. is_constant found ≡ false) }
+{
+    match way_of(blocks, segments, recursive) {
+        Way::Within(held, rest) => Ok(copied(along_segments(alloc, held, rest)?)?),
+        Way::Along { base, bound, rest } => match along(alloc, given, base, bound, rest)? {
+            Some(value) => Ok(ScopedJson::Context(value, joined(alloc, base, bound, rest)?)),
             None => Ok(ScopedJson::Missing),
         },
-        Path::Local(_) => Ok(ScopedJson::Missing),
+        Way::UnderFront(base, name) => match longest(given, base, name) {
+            Some((kept, value)) => Ok(ScopedJson::Context(
+                value,
+                front(alloc, &base[..kept], name)?,
+            )),
+            None => Ok(ScopedJson::Missing),
+        },
     }
 }
 
-// The names of a path.
-fn names_of(alloc: Global, segments: &Vec<PathSeg>) -> Result<Vec<String>, AllocError>
-    ensures { IfOk result (λ names. map string_bytes names.items ≡ names_of (segments_of segments.now.items)) }
+// The value at the end of a way.
+fn follow<'v>(
+    alloc: Global,
+    given: &'v Json,
+    way: Way<'v, '_>,
+) -> Result<Option<&'v Json>, RenderError>
+    ensures { Answers (option_map (λ v. view v.now)) result
+        (answer_map present_in (found_by (way_view way.entry) (view given.now))) }
 {
-    let mut names = Vec::new(alloc);
-    for segment in segments {
-        match segment {
-            PathSeg::Named(name) => names.push(name.clone()?)?,
-            PathSeg::Ruled(_) => {}
-        }
+    match way {
+        Way::Within(held, rest) => along_segments(alloc, held, rest),
+        Way::Along { base, bound, rest } => along(alloc, given, base, bound, rest),
+        Way::UnderFront(base, name) => match longest(given, base, name) {
+            Some((_, value)) => Ok(Some(value)),
+            None => Ok(None),
+        },
     }
-    Ok(names)
 }
 
-// Along the names of a path; the other segments add nothing.
+// The variable of the block so many blocks up.
+fn variable_at<'b>(blocks: &'b VecDeque<BlockContext>, level: usize, name: &str) -> Option<&'b Json>
+    ensures { option_map (λ v. view v.now) result ≡ variable_at (frames_of blocks.now.items) level name.now }
+{
+    match blocks.get(level) {
+        Some(block) => block.get_local_var(name),
+        None => None,
+    }
+}
+
+// A value of a block has no path.
+fn copied<'a>(found: Option<&Json>) -> Result<ScopedJson<'a>, AllocError>
+    ensures found { IfOk result (λ copy. found_of copy ≡ found_within (option_map (λ v. view v.now) found.entry)) }
+    ensures plain { IfOk result (λ copy. is_constant copy ≡ false) }
+{
+    match found {
+        Some(value) => Ok(ScopedJson::Derived(value.clone()?)),
+        None => Ok(ScopedJson::Missing),
+    }
+}
+
+// ---- along names
+
+// Along a base path, what is bound below it, and the names of segments.
 fn along<'a>(
     alloc: Global,
     given: &'a Json,
-    segments: &Vec<PathSeg>,
+    base: &[String],
+    bound: &[String],
+    rest: &[PathSeg],
 ) -> Result<Option<&'a Json>, RenderError>
     ensures { Answers (option_map (λ v. view v.now)) result
-        (value_at (view given.now) (names_of (segments_of segments.now.items))) }
+        (value_at (view given.now) (names_in base.now ++ (names_in bound.now ++ names_of (segments_of rest.now)))) }
+{
+    let Some(at_base) = along_names(alloc, given, base)? else {
+        return Ok(None);
+    };
+    match along_names(alloc, at_base, bound)? {
+        Some(at_bound) => along_segments(alloc, at_bound, rest),
+        None => Ok(None),
+    }
+}
+
+fn along_names<'a>(
+    alloc: Global,
+    given: &'a Json,
+    names: &[String],
+) -> Result<Option<&'a Json>, RenderError>
+    ensures { Answers (option_map (λ v. view v.now)) result (value_at (view given.now) (names_in names.now)) }
+{
+    let mut here = given;
+    for name in names {
+        match member(alloc, here, name)? {
+            Some(next) => here = next,
+            None => return Ok(None),
+        }
+    }
+    Ok(Some(here))
+}
+
+// Along the names of segments; the others add nothing.
+fn along_segments<'a>(
+    alloc: Global,
+    given: &'a Json,
+    segments: &[PathSeg],
+) -> Result<Option<&'a Json>, RenderError>
+    ensures { Answers (option_map (λ v. view v.now)) result
+        (value_at (view given.now) (names_of (segments_of segments.now))) }
 {
     let mut here = given;
     for segment in segments {
@@ -109,4 +215,108 @@ fn wrong_index(alloc: Global, name: &str) -> Result<RenderErrorReason, AllocErro
     ensures { IfOk result (λ r. reason_of r ≡ invalid_json_index name.now) }
 {
     Ok(RenderErrorReason::InvalidJsonIndex(String::from_str(alloc, name)?))
+}
+
+// ---- under the longest front
+
+// What a name leads to under the longest front of a base path that has it, and how many names of the
+// path that front keeps. The path is walked once, and each value on it remembered until a further one
+// has the name.
+fn longest<'a>(given: &'a Json, base: &[String], name: &String) -> Option<(usize, &'a Json)>
+    ensures longest { option_map hit_of result
+        ≡ longest (view given.now) (names_in base.now) (string_bytes name.now) }
+    ensures kept { IfSome result (λ hit. hit.0 ≤ length base.now) }
+{
+    let mut here = given;
+    let mut best = None;
+    for (kept, link) in base.iter().enumerate() {
+        best = hit_at(here, name, kept, best);
+        match member_if_any(here, link) {
+            Some(next) => here = next,
+            None => return best,
+        }
+    }
+    hit_at(here, name, base.len(), best)
+}
+
+// What the name leads to from here, behind so many names, or what was found before.
+fn hit_at<'a>(
+    here: &'a Json,
+    name: &String,
+    kept: usize,
+    before: Option<(usize, &'a Json)>,
+) -> Option<(usize, &'a Json)>
+    ensures { option_map hit_of result
+        ≡ or_else (option_map (λ d. (kept, d)) (if_any (member_at (view here.now) (string_bytes name.now))))
+        (option_map hit_of before.entry) }
+{
+    match member_if_any(here, name) {
+        Some(value) => Some((kept, value)),
+        None => before,
+    }
+}
+
+// One name further, where a wrong index counts as missing.
+fn member_if_any<'a>(value: &'a Json, name: &String) -> Option<&'a Json>
+    ensures { option_map (λ v. view v.now) result ≡ if_any (member_at (view value.now) (string_bytes name.now)) }
+{
+    match value {
+        Json::Array(_) => match index_of(name.as_str()) {
+            Some(index) => value.get(index),
+            None => None,
+        },
+        Json::Object(_) => value.get(name.as_str()),
+        _ => None,
+    }
+}
+
+// ---- full paths
+
+// The names of a front of a base path, and a name.
+fn front(alloc: Global, kept: &[String], name: &String) -> Result<Vec<String>, AllocError>
+    ensures { IfOk result (λ path. names_in path.items ≡ names_in kept.now ++ string_bytes name.now ∷ []) }
+{
+    let mut path = Vec::new(alloc);
+    push_names(&mut path, kept)?;
+    path.push(name.clone()?)?;
+    Ok(path)
+}
+
+// The names of a base path, of what is bound below it, and of segments.
+fn joined(
+    alloc: Global,
+    base: &[String],
+    bound: &[String],
+    rest: &[PathSeg],
+) -> Result<Vec<String>, AllocError>
+    ensures { IfOk result (λ path. names_in path.items
+        ≡ names_in base.now ++ (names_in bound.now ++ names_of (segments_of rest.now))) }
+{
+    let mut path = Vec::new(alloc);
+    push_names(&mut path, base)?;
+    push_names(&mut path, bound)?;
+    push_segments(&mut path, rest)?;
+    Ok(path)
+}
+
+fn push_names(path: &mut Vec<String>, names: &[String]) -> Result<(), AllocError>
+    ensures { OnOk result (names_in path.new.items ≡ names_in path.old.items ++ names_in names.now) }
+{
+    for name in names {
+        path.push(name.clone()?)?;
+    }
+    Ok(())
+}
+
+// Adds the names of segments.
+fn push_segments(path: &mut Vec<String>, segments: &[PathSeg]) -> Result<(), AllocError>
+    ensures { OnOk result (names_in path.new.items ≡ names_in path.old.items ++ names_of (segments_of segments.now)) }
+{
+    for segment in segments {
+        match segment {
+            PathSeg::Named(name) => path.push(name.clone()?)?,
+            PathSeg::Ruled(_) => {}
+        }
+    }
+    Ok(())
 }

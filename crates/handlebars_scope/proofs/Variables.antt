@@ -1,0 +1,171 @@
+-- Maps by name, and the variables of a block, of which four have a place of their own.
+use Rattle.std.proofs.Common.{◌≡◌, ◌≢◌, Bool, true, false, cond, is_eq, List, [], ◌∷◌, Option, Some, None, option_map, String, Global, string_bytes, string_cmp, nat_cmp, bytes_eq, codes, refl, sym, ap, ◌∙◌}
+use Rattle.std.proofs.lemmas.Bool.{false≢true}
+use Rattle.std.proofs.lemmas.Map.Text.{btree_map_updates_text}
+use Rattle.std.proofs.lemmas.Slice.Eq.{bytes_eq-Decides}
+use Rattle.std.specs.BTreeMap.{BTreeMap, IsClone, Updates, get_by_text, is_at}
+use Rattle.std.specs.Bool.{⊤}
+use Rattle.std.specs.Cmp.Lexicographic.{slice_cmp}
+use Rattle.std.specs.List.{AllZip}
+use Rattle.std.specs.Map.{lookup}
+use Rattle.handlebars_base.specs.Bytes.{Text}
+use Rattle.serde_json.specs.View.{view}
+use Rattle.serde_json.specs.declared.value.Value.{Value}
+use Rattle.handlebars_scope.specs.Scopes.{put_at}
+use Rattle.handlebars_scope.specs.ScopeView.{variables_of}
+use Rattle.handlebars_scope.specs.declared.local_vars.LocalVars.{LocalVars}
+
+pub cond-same : {X : Type 0} (b : Bool) (x : X) → cond b x x ≡ x
+cond-same true x = refl
+cond-same false x = refl
+
+-- where none of five is there
+pub none-of-five : {X : Type 0} (a b c d : Bool) (e : Option X) → e ≡ None
+    → cond a None (cond b None (cond c None (cond d None e))) ≡ None
+none-of-five a b c d e is =
+    ap (λ z. cond a None (cond b None (cond c None (cond d None z)))) is
+    ∙ ap (λ z. cond a None (cond b None (cond c None z))) (cond-same d None)
+    ∙ ap (λ z. cond a None (cond b None z)) (cond-same c None)
+    ∙ ap (λ z. cond a None z) (cond-same b None)
+    ∙ cond-same a None
+
+-- an empty map has nothing under any name
+pub get_by_text-empty : {X Y : Type 0} (f : X → Y) (m : BTreeMap (String Global) X) → m.entries ≡ []
+    → (name : Text) → option_map f (get_by_text m name) ≡ None
+get_by_text-empty f m is name =
+    ap (λ es. option_map f (lookup (is_at (λ k. slice_cmp nat_cmp name (string_bytes k))) es)) is
+
+-- ---- a value put under a name
+
+option_map-cond : {X Y : Type 0} (f : X → Y) (b : Bool) (x : X) (r : Option X)
+    → option_map f (cond b (Some x) r) ≡ cond b (Some (f x)) (option_map f r)
+option_map-cond f true x r = refl
+option_map-cond f false x r = refl
+
+-- a map in which a value was put, as definitions see it
+pub get_by_text-put : {X Y : Type 0} (f : X → Y) (m n : BTreeMap (String Global) X) (key : String Global) (name : Text)
+    (x : X) → string_bytes key ≡ name → Updates string_cmp m n key (Some x)
+    → (λ k. option_map f (get_by_text n k)) ≡ put_at name (f x) (λ k. option_map f (get_by_text m k))
+get_by_text-put f m n key name x same updates =
+    let at : (k : Text) → option_map f (get_by_text n k)
+    ≡ put_at name (f x) (λ q. option_map f (get_by_text m q)) k = λ k.
+    ap (option_map f) (btree_map_updates_text (string_bytes key) m n (Some x) updates k)
+    ∙ option_map-cond f (bytes_eq (string_bytes key) k) x (get_by_text m k)
+    ∙ ap (λ (t : Text). cond (bytes_eq t k) (Some (f x)) (option_map f (get_by_text m k))) same in
+    λ i k. at k i
+
+-- a name that equals one of two different names is not the other
+apart : (name other k : Text) → name ≢ other → bytes_eq name k ≡ true → bytes_eq other k ≡ false
+apart name other k differ here =
+    let go : (b : Bool) → bytes_eq other k ≡ b → b ≡ false = elim [
+      | true ↦ λ there. absurd (differ ((bytes_eq-Decides name k).0 here ∙ sym ((bytes_eq-Decides other k).0 there)))
+      | false ↦ λ there. refl
+    ] in go (bytes_eq other k) refl
+
+-- a value put where its name has a place of its own
+cond-put : {X : Type 0} (own name k : Text) (x : X) (old r : Option X) → name ≡ own
+    → cond (bytes_eq own k) (Some x) r ≡ cond (bytes_eq name k) (Some x) (cond (bytes_eq own k) old r)
+cond-put own name k x old r same =
+    let over : (b : Bool) → cond b (Some x) r ≡ cond b (Some x) (cond b old r) = elim [ true ↦ refl | false ↦ refl ] in
+    over (bytes_eq own k)
+    ∙ ap (λ (t : Text). cond (bytes_eq t k) (Some x) (cond (bytes_eq own k) old r)) (sym same)
+
+cond-past : {X : Type 0} (a b : Bool) (x : X) (held r s : Option X) → (b ≡ true → a ≡ false)
+    → r ≡ cond b (Some x) s → cond a held r ≡ cond b (Some x) (cond a held s)
+cond-past false b x held r s other is = is
+cond-past true false x held r s other is = refl
+cond-past true true x held r s other is = absurd (false≢true (sym (other refl)))
+
+-- a value put behind the place of another name
+cond-behind : {X : Type 0} (own name k : Text) (x : X) (held r s : Option X) → name ≢ own
+    → r ≡ cond (bytes_eq name k) (Some x) s
+    → cond (bytes_eq own k) held r ≡ cond (bytes_eq name k) (Some x) (cond (bytes_eq own k) held s)
+cond-behind own name k x held r s differ is =
+    cond-past (bytes_eq own k) (bytes_eq name k) x held r s (apart name own k differ) is
+
+-- ---- variables
+
+module _ (v : LocalVars) (name : Text) (x : Value) where
+  pub variables_of-last : name ≡ codes "last" → name ≢ codes "first"
+      → variables_of (record v { last = Some x }) ≡ put_at name (view x) (variables_of v)
+  variables_of-last is not-first =
+      let at : (k : Text) → variables_of (record v { last = Some x }) k
+      ≡ put_at name (view x) (variables_of v) k = λ k.
+      cond-behind (codes "first") name k (view x) _ _ _ not-first
+      (cond-put (codes "last") name k (view x) _ _ is) in
+      λ i k. at k i
+
+  pub variables_of-index : name ≡ codes "index" → name ≢ codes "first" → name ≢ codes "last"
+      → variables_of (record v { index = Some x }) ≡ put_at name (view x) (variables_of v)
+  variables_of-index is not-first not-last =
+      let at : (k : Text) → variables_of (record v { index = Some x }) k
+      ≡ put_at name (view x) (variables_of v) k = λ k.
+      cond-behind (codes "first") name k (view x) _ _ _ not-first
+      (cond-behind (codes "last") name k (view x) _ _ _ not-last
+      (cond-put (codes "index") name k (view x) _ _ is)) in
+      λ i k. at k i
+
+  -- a variable that is none of the four
+  pub variables_of-extra : (extra : BTreeMap (String Global) Value) (key : String Global)
+      → string_bytes key ≡ name → Updates string_cmp v.extra extra key (Some x)
+      → name ≢ codes "first" → name ≢ codes "last" → name ≢ codes "index" → name ≢ codes "key"
+      → variables_of (record v { extra = extra }) ≡ put_at name (view x) (variables_of v)
+  variables_of-extra extra key same updates not-first not-last not-index not-key =
+      let put = get_by_text-put view v.extra extra key name x same updates in
+      let at : (k : Text) → variables_of (record v { extra = extra }) k
+      ≡ put_at name (view x) (variables_of v) k = λ k.
+      cond-behind (codes "first") name k (view x) _ _ _ not-first
+      (cond-behind (codes "last") name k (view x) _ _ _ not-last
+      (cond-behind (codes "index") name k (view x) _ _ _ not-index
+      (cond-behind (codes "key") name k (view x) _ _ _ not-key (λ i. put i k)))) in
+      λ i k. at k i
+
+-- ---- copies
+
+option_map-either : {X Y : Type 0} (f : X → Y) (b : Bool) (x y : X) (r s : Option X) → f y ≡ f x
+    → option_map f s ≡ option_map f r → option_map f (cond b (Some y) s) ≡ option_map f (cond b (Some x) r)
+option_map-either f true x y r s here more = ap Some here
+option_map-either f false x y r s here more = more
+
+lookup-copied : (name : Text) (es fs : List (String Global × Value))
+    → AllZip (λ e f. (string_bytes f.0 ≡ string_bytes e.0) × (view f.1 ≡ view e.1)) es fs
+    → option_map view (lookup (is_at (λ k. slice_cmp nat_cmp name (string_bytes k))) fs)
+    ≡ option_map view (lookup (is_at (λ k. slice_cmp nat_cmp name (string_bytes k))) es)
+lookup-copied name [] [] same = refl
+lookup-copied name [] (f ∷ fs) same = absurd same
+lookup-copied name (e ∷ es) [] same = absurd same
+lookup-copied name (e ∷ es) (f ∷ fs) same =
+    let test = is_at (λ (k : String Global). slice_cmp nat_cmp name (string_bytes k)) in
+    ap (λ (t : Text). option_map view (cond (is_eq (slice_cmp nat_cmp name t)) (Some f.1) (lookup test fs))) same.0.0
+    ∙ option_map-either view (test e.0) e.1 f.1 (lookup test es) (lookup test fs) same.0.1
+    (lookup-copied name es fs same.1)
+
+-- what is told of a copy of an option
+abbrev pub IsCopied : Option Value → Option Value → Type 0
+IsCopied None None = ⊤
+IsCopied None (Some y) = ⊥
+IsCopied (Some x) None = ⊥
+IsCopied (Some x) (Some y) = view y ≡ view x
+
+option_map-copied : (x y : Option Value) → IsCopied x y → option_map view y ≡ option_map view x
+option_map-copied None None same = refl
+option_map-copied None (Some y) same = absurd same
+option_map-copied (Some x) None same = absurd same
+option_map-copied (Some x) (Some y) same = ap Some same
+
+-- a copy of a map has the same under each name
+get_by_text-copied : (m n : BTreeMap (String Global) Value)
+    → IsClone (λ s t. string_bytes t ≡ string_bytes s) (λ v w. view w ≡ view v) m n
+    → (name : Text) → option_map view (get_by_text n name) ≡ option_map view (get_by_text m name)
+get_by_text-copied m n same name = lookup-copied name m.entries n.entries same
+
+pub variables_of-copied : (v : LocalVars) (first last index key : Option Value) (extra : BTreeMap (String Global) Value)
+    → IsCopied v.first first → IsCopied v.last last → IsCopied v.index index → IsCopied v.key key
+    → IsClone (λ s t. string_bytes t ≡ string_bytes s) (λ x y. view y ≡ view x) v.extra extra
+    → variables_of (record v { first = first; last = last; index = index; key = key; extra = extra }) ≡ variables_of v
+variables_of-copied v first last index key extra is-first is-last is-index is-key is-extra = λ i name.
+    cond (bytes_eq (codes "first") name) (option_map-copied v.first first is-first i)
+    (cond (bytes_eq (codes "last") name) (option_map-copied v.last last is-last i)
+    (cond (bytes_eq (codes "index") name) (option_map-copied v.index index is-index i)
+    (cond (bytes_eq (codes "key") name) (option_map-copied v.key key is-key i)
+    (get_by_text-copied v.extra extra is-extra name i))))

@@ -1,0 +1,12 @@
+use Rattle.std.proofs.Common.{◌≡◌, string_bytes}
+use Rattle.std.specs.VecDeque.Iter.{deque_iter_rest}
+use Rattle.handlebars_base.specs.PathView.{segments_of}
+use Rattle.handlebars_scope.specs.Resolve.{way_of_name}
+use Rattle.handlebars_scope.specs.ScopeView.{frames_of}
+use Rattle.handlebars_scope.proofs.context.way.way_of_name.Given as goal
+
+-- none of the blocks so far binds the name, so the rest decide
+abbrev pub invariant-loop-block : goal.invariant-loop-block
+invariant-loop-block l =
+    way_of_name (frames_of (deque_iter_rest l.block-iterator)) (string_bytes l.name) (segments_of l.rest)
+    ≡ way_of_name (frames_of l.blocks.items) (string_bytes l.name) (segments_of l.rest)

@@ -1,0 +1,5 @@
+use Rattle.handlebars_scope.proofs.Fronts.{takes_longest}
+use Rattle.handlebars_scope.proofs.laws.recursive_lookup_law.Goals as goal
+
+pub returns : goal.returns
+returns c = takes_longest

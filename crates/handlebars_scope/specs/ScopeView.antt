@@ -1,0 +1,42 @@
+-- What blocks of scope in the code stand for.
+use Rattle.std.specs.Prelude.{List, map, string_bytes, Option, option_map, codes, if◌then◌else◌}
+use Rattle.std.specs.BTreeMap.{get_by_text}
+use Rattle.std.specs.Str.{bytes_eq}
+use Rattle.serde_json.specs.Data.{Data}
+use Rattle.serde_json.specs.View.{view}
+use Rattle.handlebars_base.specs.Bytes.{Text}
+use Rattle.handlebars_template.specs.TreeView.{tree_view}
+use Rattle.handlebars_scope.specs.Scopes.{Bound, bound_path, bound_value, Frame}
+use Rattle.handlebars_scope.specs.declared.local_vars.LocalVars.{LocalVars}
+use Rattle.handlebars_scope.specs.declared.block.BlockContext.{BlockContext}
+use Rattle.handlebars_scope.specs.declared.block.BlockParamHolder.{BlockParamHolder}
+use Rattle.handlebars_scope.specs.declared.block.BlockParamHolder.TheVariants.{Path, Value}
+use Rattle.handlebars_scope.specs.declared.block.BlockParams.{BlockParams}
+
+-- the variables by name; four of them have a place of their own
+abbrev pub variables_of : LocalVars → Text → Option Data
+variables_of v name =
+    if bytes_eq (codes "first") name then option_map view v.first else (
+    if bytes_eq (codes "last") name then option_map view v.last else (
+    if bytes_eq (codes "index") name then option_map view v.index else (
+    if bytes_eq (codes "key") name then option_map view v.key else
+    option_map view (get_by_text v.extra name))))
+
+abbrev pub bound_of : BlockParamHolder → Bound
+bound_of (Path path) = bound_path (map string_bytes path.items)
+bound_of (Value v) = bound_value (view v)
+
+abbrev pub bounds_of : BlockParams → Text → Option Bound
+bounds_of params name = option_map bound_of (get_by_text params.data name)
+
+abbrev pub frame_of : BlockContext → Frame
+frame_of b = record {
+  base_path = map string_bytes b.base_path.items;
+  base_value = option_map view b.base_value;
+  bound = bounds_of b.block_params;
+  variable = variables_of b.local_variables;
+  partial = λ name. option_map (λ t. tree_view t.value) (get_by_text b.local_partials name);
+}
+
+abbrev pub frames_of : List BlockContext → List Frame
+frames_of blocks = map frame_of blocks

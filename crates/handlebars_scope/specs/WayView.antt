@@ -1,0 +1,25 @@
+-- What a way in the code stands for.
+use Rattle.std.specs.Prelude.{ℕ, List, map, ◌++◌, String, string_bytes}
+use Rattle.std.specs.declared.alloc.Global.{Global}
+use denote.Ref.{Bor}
+use Rattle.serde_json.specs.Data.{Data}
+use Rattle.serde_json.specs.declared.value.Value.{Value}
+use Rattle.serde_json.specs.View.{view}
+use Rattle.handlebars_base.specs.Bytes.{Text}
+use Rattle.handlebars_base.specs.PathView.{segments_of}
+use Rattle.handlebars_scope.specs.Resolve.{Way, within, along, under_front, names_of}
+use Rattle.handlebars_scope.specs.declared.context.way.Way.{Way as CodeWay}
+use Rattle.handlebars_scope.specs.declared.context.way.Way.TheVariants.{Within, Along, UnderFront}
+
+-- the names that texts are
+abbrev pub names_in : List (String Global) → List Text
+names_in names = map string_bytes names
+
+abbrev pub way_view : CodeWay → Way
+way_view (Within held rest) = within (view held.now) (names_of (segments_of rest.now))
+way_view (Along base bound rest) = along (names_in base.now ++ (names_in bound.now ++ names_of (segments_of rest.now)))
+way_view (UnderFront base name) = under_front (names_in base.now) (string_bytes name.now)
+
+-- what was found under a front, and how many names that keeps
+abbrev pub hit_of : ℕ × Bor Value → ℕ × Data
+hit_of hit = (hit.0, view hit.1.now)

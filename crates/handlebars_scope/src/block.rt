@@ -1,0 +1,235 @@
+//! Blocks of scope: what `each`, `with` and an inclusion put around what they render.
+
+ghost use Rattle.std.specs.Prelude.{◌≡◌, OnErr, OnOk, Some, map, option_map, string_bytes};
+ghost use Rattle.std.specs.Borrow.{sem};
+ghost use Rattle.serde_json.specs.View.{view};
+ghost use Rattle.handlebars_template.specs.TreeView.{tree_view};
+ghost use Rattle.handlebars_scope.specs.Lending.{LendsPath, LendsVariables};
+ghost use Rattle.handlebars_scope.specs.Scopes.{bound_path, bound_value, empty_frame, nothing_at, put_at};
+ghost use Rattle.handlebars_scope.specs.ScopeView.{bound_of, bounds_of, frame_of, variables_of};
+
+use crate::local_vars::LocalVars;
+use handlebars_base::json::value::Json;
+use handlebars_template::template::Template;
+use std::alloc::{AllocError, Global};
+use std::collections::BTreeMap;
+use std::rc::Rc;
+
+/// What a block binds a name to: a path below its base path, or a value.
+#[derive(Drop)]
+pub enum BlockParamHolder {
+    Path(Vec<String>),
+    Value(Json),
+}
+
+impl BlockParamHolder {
+    /// A value of its own.
+    pub fn value(v: Json) -> BlockParamHolder
+        ensures { bound_of result ≡ bound_value (view v) }
+    {
+        BlockParamHolder::Value(v)
+    }
+
+    /// A path below the base path of the block.
+    pub fn path(r: Vec<String>) -> BlockParamHolder
+        ensures { bound_of result ≡ bound_path (map string_bytes r.items) }
+    {
+        BlockParamHolder::Path(r)
+    }
+}
+
+/// The names that a block binds.
+#[derive(Drop)]
+pub struct BlockParams {
+    data: BTreeMap<String, BlockParamHolder>,
+    alloc: Global,
+}
+
+impl BlockParams {
+    /// No names.
+    pub fn new(alloc: Global) -> BlockParams
+        ensures { bounds_of result ≡ nothing_at }
+    {
+        BlockParams {
+            data: BTreeMap::new(alloc),
+            alloc,
+        }
+    }
+
+    /// Binds a name to a path below the base path of the block. Where memory is refused, nothing is
+    /// changed.
+    pub fn add_path(&mut self, name: &str, path: Vec<String>) -> Result<(), AllocError>
+        ensures ok { OnOk result (bounds_of self.new
+            ≡ put_at name.now (bound_path (map string_bytes path.items)) (bounds_of self.old)) }
+        ensures err { OnErr result (bounds_of self.new ≡ bounds_of self.old) }
+    {
+        self.add(name, BlockParamHolder::Path(path))
+    }
+
+    /// Binds a name to a value. Where memory is refused, nothing is changed.
+    pub fn add_value(&mut self, name: &str, value: Json) -> Result<(), AllocError>
+        ensures ok { OnOk result (bounds_of self.new
+            ≡ put_at name.now (bound_value (view value)) (bounds_of self.old)) }
+        ensures err { OnErr result (bounds_of self.new ≡ bounds_of self.old) }
+    {
+        self.add(name, BlockParamHolder::Value(value))
+    }
+
+    /// What a name is bound to.
+    pub fn get(&self, name: &str) -> Option<&BlockParamHolder>
+        ensures { option_map (λ b. bound_of b.now) result ≡ bounds_of self.now name.now }
+    {
+        self.data.get(name)
+    }
+
+    fn add(&mut self, name: &str, holder: BlockParamHolder) -> Result<(), AllocError>
+        ensures ok { OnOk result (bounds_of self.new ≡ put_at name.now (bound_of holder) (bounds_of self.old)) }
+        ensures err { OnErr result (bounds_of self.new ≡ bounds_of self.old) }
+    {
+        let name = String::from_str(self.alloc, name)?;
+        self.data.insert(name, holder)?;
+        Ok(())
+    }
+}
+
+/// A block of scope. Paths in it lead from its base: a value, where it has one, else a path of the
+/// data.
+#[derive(Drop)]
+pub struct BlockContext {
+    base_path: Vec<String>,
+    base_value: Option<Json>,
+    block_params: BlockParams,
+    local_variables: LocalVars,
+    local_partials: BTreeMap<String, Rc<Template>>,
+    alloc: Global,
+}
+
+impl BlockContext {
+    /// A block at the root of the data, in which nothing is set.
+    pub fn new(alloc: Global) -> BlockContext
+        ensures { frame_of result ≡ empty_frame }
+    {
+        BlockContext {
+            base_path: Vec::new(alloc),
+            base_value: None,
+            block_params: BlockParams::new(alloc),
+            local_variables: LocalVars::new(alloc),
+            local_partials: BTreeMap::new(alloc),
+            alloc,
+        }
+    }
+
+    /// Sets a variable. Where memory is refused, nothing is changed.
+    pub fn set_local_var(&mut self, name: &str, value: Json) -> Result<(), AllocError>
+        ensures ok { OnOk result (frame_of self.new
+            ≡ record (frame_of self.old) { variable = put_at name.now (view value) (frame_of self.old).variable }) }
+        ensures err { OnErr result (frame_of self.new ≡ frame_of self.old) }
+    {
+        self.local_variables.put(name, value)
+    }
+
+    /// The variables.
+    pub fn local_variables(&self) -> &LocalVars
+        ensures { variables_of result.now ≡ (frame_of self.now).variable }
+    {
+        &self.local_variables
+    }
+
+    /// The variables, to be changed.
+    pub fn local_variables_mut(&mut self) -> &mut LocalVars
+        ensures* writes_back { sem 𝓛 (LendsVariables self.entry result) }
+        ensures value { variables_of result.now ≡ (frame_of self.old).variable }
+    {
+        &mut self.local_variables
+    }
+
+    /// Takes other variables, in place of all that were set.
+    pub fn set_local_variables(&mut self, variables: LocalVars)
+        ensures { frame_of self.new ≡ record (frame_of self.old) { variable = variables_of variables } }
+    {
+        self.local_variables = variables;
+    }
+
+    /// The variable of this name, if it is set.
+    pub fn get_local_var(&self, name: &str) -> Option<&Json>
+        ensures { option_map (λ v. view v.now) result ≡ (frame_of self.now).variable name.now }
+    {
+        self.local_variables.get(name)
+    }
+
+    /// The path of the data that paths lead from, where no base value is set. Paths that names are bound
+    /// to stand below it in any case.
+    pub fn base_path(&self) -> &Vec<String>
+        ensures { map string_bytes result.now.items ≡ (frame_of self.now).base_path }
+    {
+        &self.base_path
+    }
+
+    /// The base path, to be changed.
+    pub fn base_path_mut(&mut self) -> &mut Vec<String>
+        ensures* writes_back { sem 𝓛 (LendsPath self.entry result) }
+        ensures value { map string_bytes result.now.items ≡ (frame_of self.old).base_path }
+    {
+        &mut self.base_path
+    }
+
+    /// The value that paths lead from, if one is set.
+    pub fn base_value(&self) -> Option<&Json>
+        ensures { option_map (λ v. view v.now) result ≡ (frame_of self.now).base_value }
+    {
+        self.base_value.as_ref()
+    }
+
+    /// From now on paths lead from this value.
+    pub fn set_base_value(&mut self, value: Json)
+        ensures { frame_of self.new ≡ record (frame_of self.old) { base_value = Some (view value) } }
+    {
+        self.base_value = Some(value);
+    }
+
+    /// The template that stands in this block under a name.
+    pub fn get_local_partial(&self, name: &str) -> Option<&Rc<Template>>
+        ensures { option_map (λ t. tree_view t.now.value) result ≡ (frame_of self.now).partial name.now }
+    {
+        self.local_partials.get(name)
+    }
+
+    /// Puts a template under a name in this block. Where memory is refused, nothing is changed.
+    pub fn set_local_partial(
+        &mut self,
+        name: &str,
+        template: Rc<Template>,
+    ) -> Result<(), AllocError>
+        ensures ok { OnOk result (frame_of self.new
+            ≡ record (frame_of self.old)
+            { partial = put_at name.now (tree_view template.value) (frame_of self.old).partial }) }
+        ensures err { OnErr result (frame_of self.new ≡ frame_of self.old) }
+    {
+        let name = String::from_str(self.alloc, name)?;
+        self.local_partials.insert(name, template)?;
+        Ok(())
+    }
+
+    /// What this block binds a name to.
+    pub fn get_block_param(&self, name: &str) -> Option<&BlockParamHolder>
+        ensures { option_map (λ b. bound_of b.now) result ≡ (frame_of self.now).bound name.now }
+    {
+        self.block_params.get(name)
+    }
+
+    /// Binds these names, and no other.
+    pub fn set_block_params(&mut self, block_params: BlockParams)
+        ensures { frame_of self.new ≡ record (frame_of self.old) { bound = bounds_of block_params } }
+    {
+        self.block_params = block_params;
+    }
+
+    /// Binds a name beside those that are bound. Where memory is refused, nothing is changed.
+    pub fn set_block_param(&mut self, name: &str, value: BlockParamHolder) -> Result<(), AllocError>
+        ensures ok { OnOk result (frame_of self.new
+            ≡ record (frame_of self.old) { bound = put_at name.now (bound_of value) (frame_of self.old).bound }) }
+        ensures err { OnErr result (frame_of self.new ≡ frame_of self.old) }
+    {
+        self.block_params.add(name, value)
+    }
+}
