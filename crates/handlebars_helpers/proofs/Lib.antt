@@ -1,2 +1,6 @@
 mod Pairs
 mod Entries
+mod Names
+mod Turns
+mod Sizes
+mod Values

@@ -1,33 +1,81 @@
 -- Which names have a built-in helper, and what that chooses, by the call's view.
-use Rattle.std.specs.Prelude.{Bool, true, false, not, List, [], ◌∷◌, Option, codes, unwrap_or}
+use Rattle.std.specs.Prelude.{Bool, true, false, not, ◌&&◌, if◌then◌else◌, List, [], ◌∷◌, Option, None, Some, codes, unwrap_or}
 use Rattle.std.specs.Map.{lookup}
 use Rattle.std.specs.Str.{bytes_eq}
-use Rattle.serde_json.specs.Find.{as_bool}
+use Rattle.serde_json.specs.Data.{Data, null, boolean, number, unsigned, string, array, object}
+use Rattle.serde_json.specs.Find.{as_bool, as_number, as_str, as_u64, at, get}
 use Rattle.handlebars_base.specs.Answers.{Answer, gives, refuses_for, answer_map}
 use Rattle.handlebars_base.specs.Bytes.{Text}
-use Rattle.handlebars_base.specs.PathReading.{with_or}
-use Rattle.handlebars_base.specs.Reasons.{param_not_found_for_index}
-use Rattle.handlebars_base.specs.Scoped.{data_in}
+use Rattle.handlebars_base.specs.Equal.{equals}
+use Rattle.handlebars_base.specs.PathAndData.{PathAndData}
+use Rattle.handlebars_base.specs.PathReading.{◌>>=◌, with_or}
+use Rattle.handlebars_base.specs.Reasons.{missing_variable}
+use Rattle.handlebars_base.specs.Scoped.{data_in, path_in}
 use Rattle.handlebars_base.specs.Values.{truth}
-use Rattle.handlebars_helpers.specs.CallView.{CallView, param_at, pair_at}
+use Rattle.handlebars_template.specs.Tree.{Body, no_body, body}
+use Rattle.handlebars_scope.specs.Scopes.{Base, base_of}
+use Rattle.handlebars_scope.specs.Resolve.{or_else}
+use Rattle.handlebars_helpers.specs.CallView.{CallView, HelperView, pair_at}
+use Rattle.handlebars_helpers.specs.Params.{by_param, two_values}
+use Rattle.handlebars_helpers.specs.Boolean.{differ, greater, greater_or_equal, less, less_or_equal, negation, all_true, some_true, len}
+use Rattle.handlebars_helpers.specs.LogLine.{log_line}
+use Rattle.handlebars_helpers.specs.Turns.{Turn, turns_of}
 
 pub data Kind : Type 0 where
   kind_if : Kind
   kind_unless : Kind
+  kind_each : Kind
+  kind_with : Kind
+  kind_lookup : Kind
   kind_raw : Kind
+  kind_log : Kind
+  kind_eq : Kind
+  kind_ne : Kind
+  kind_gt : Kind
+  kind_gte : Kind
+  kind_lt : Kind
+  kind_lte : Kind
+  kind_and : Kind
+  kind_or : Kind
+  kind_not : Kind
+  kind_len : Kind
 
 -- the helpers that every registry begins with
 abbrev pub built_ins : List (Text × Kind)
-built_ins = (codes "if", kind_if) ∷ (codes "unless", kind_unless) ∷ (codes "raw", kind_raw) ∷ []
+built_ins =
+    (codes "if", kind_if) ∷ (codes "unless", kind_unless) ∷ (codes "each", kind_each) ∷ (codes "with", kind_with) ∷
+    (codes "lookup", kind_lookup) ∷ (codes "raw", kind_raw) ∷ (codes "log", kind_log) ∷ (codes "eq", kind_eq) ∷
+    (codes "ne", kind_ne) ∷ (codes "gt", kind_gt) ∷ (codes "gte", kind_gte) ∷ (codes "lt", kind_lt) ∷
+    (codes "lte", kind_lte) ∷ (codes "and", kind_and) ∷ (codes "or", kind_or) ∷ (codes "not", kind_not) ∷
+    (codes "len", kind_len) ∷ []
 
 -- the one of a name
 abbrev pub built_in : Text → Option Kind
 built_in name = lookup (bytes_eq name) built_ins
 
--- what is rendered in the place of a call: its body or its inverse, where it has that one
+-- What is rendered in the place of a call: its body or its inverse, where it has that one; its body in a block at a
+-- base; its body once for each turn, all turns in one block, with the path of what is walked, if it has one; a value; the
+-- word of a boolean helper; or nothing.
 pub data Choice : Type 0 where
   the_body : Choice
   the_inverse : Choice
+  body_in_block : Base → Choice
+  body_in_turns : Option (List Text) → List Turn → Choice
+  the_value : Data → Choice
+  the_word : Bool → Choice
+  nothing : Choice
+
+-- the value that is chosen, if one is; a word is a boolean
+abbrev pub value_in : Choice → Option Data
+value_in the_body = None
+value_in the_inverse = None
+value_in (body_in_block base) = None
+value_in (body_in_turns path ts) = None
+value_in (the_value d) = Some d
+value_in (the_word b) = Some (boolean b)
+value_in nothing = None
+
+-- ---- `if` and `unless`
 
 abbrev pub body_if : Bool → Choice
 body_if true = the_body
@@ -37,16 +85,92 @@ body_if false = the_inverse
 abbrev pub includes_zero : CallView → Bool
 includes_zero v = with_or (pair_at (codes "includeZero") v) (λ p. unwrap_or (as_bool (data_in p.found)) false) false
 
--- Whether a call's first parameter counts as true; a missing value counts as null. Both `if` and `unless` are refused
--- without one, under the name `if`.
+-- Whether a call's first parameter counts as true. Both are refused without one, under the name `if`.
 abbrev pub condition : CallView → Answer Bool
-condition v =
-    with_or (param_at 0 v) (λ p. gives (truth (includes_zero v) (data_in p.found)))
-    (refuses_for (param_not_found_for_index (codes "if") 0))
+condition v = by_param (codes "if") 0 v (λ p. gives (truth (includes_zero v) (data_in p.found)))
 
--- `if` gives the body where its condition is true, `unless` where it is not; each gives the inverse else. `raw` gives the
--- body.
-abbrev pub chosen : Kind → CallView → Answer Choice
-chosen kind_if v = answer_map body_if (condition v)
-chosen kind_unless v = answer_map (λ b. body_if (not b)) (condition v)
-chosen kind_raw v = gives the_body
+-- ---- the inverse, of `each` and `with`
+
+abbrev pub lacks : Body → Bool
+lacks no_body = true
+lacks (body t) = false
+
+-- In strict mode a call without an inverse is refused, by its first parameter as written.
+abbrev pub inverse_or_refusal : Bool → HelperView → PathAndData → Answer Choice
+inverse_or_refusal strict h p =
+    if strict && lacks h.inverse then refuses_for (missing_variable p.relative_path) else gives the_inverse
+
+-- ---- `each`
+
+-- One that has members gives their turns, an empty one the inverse.
+abbrev pub turns_or_inverse : Option (List Text) → List Turn → Choice
+turns_or_inverse path [] = the_inverse
+turns_or_inverse path (t ∷ ts) = body_in_turns path (t ∷ ts)
+
+-- An array or an object is walked; of any other value the inverse is chosen.
+abbrev pub walk_or_inverse : Bool → HelperView → PathAndData → Data → Answer Choice
+walk_or_inverse strict h p null = inverse_or_refusal strict h p
+walk_or_inverse strict h p (boolean b) = inverse_or_refusal strict h p
+walk_or_inverse strict h p (number n) = inverse_or_refusal strict h p
+walk_or_inverse strict h p (string s) = inverse_or_refusal strict h p
+walk_or_inverse strict h p (array ds) = gives (turns_or_inverse (path_in p.found) (turns_of (array ds)))
+walk_or_inverse strict h p (object ms) = gives (turns_or_inverse (path_in p.found) (turns_of (object ms)))
+
+-- A call without a body does nothing.
+abbrev pub each_choice : Bool → HelperView → PathAndData → Answer Choice
+each_choice strict h p = if lacks h.body then gives nothing else walk_or_inverse strict h p (data_in p.found)
+
+-- ---- `with`
+
+abbrev pub with_choice : Bool → HelperView → PathAndData → Answer Choice
+with_choice strict h p =
+    if truth false (data_in p.found) then gives (body_in_block (base_of p.found)) else inverse_or_refusal strict h p
+
+-- ---- `lookup`
+
+-- The member of an object by a text, and the item of an array by a whole number from 0; none by any other key.
+abbrev pub looked_up : Data → Data → Option Data
+looked_up d key = or_else (as_str key >>= λ k. get k d) ((as_number key >>= as_u64) >>= λ i. at i d)
+
+-- none: null, and in strict mode a refusal
+abbrev pub null_or_refusal : Bool → Answer Choice
+null_or_refusal strict = if strict then refuses_for (missing_variable None) else gives (the_value null)
+
+abbrev pub lookup_choice : Bool → Data → Data → Answer Choice
+lookup_choice strict d key = with_or (looked_up d key) (λ x. gives (the_value x)) (null_or_refusal strict)
+
+-- ---- boolean helpers
+
+-- As a block a boolean helper gives its body or its inverse, and anywhere else a word.
+abbrev pub word_or_branch : HelperView → Bool → Choice
+word_or_branch h b = if h.block then body_if b else the_word b
+
+-- what a boolean helper chooses by a test of two values
+abbrev pub of_two : Bool → Text → HelperView → (Data → Data → Bool) → Answer Choice
+of_two strict helper h test = answer_map (λ d. word_or_branch h (test d.0 d.1)) (two_values strict helper h.call)
+
+-- ---- what each helper chooses, in strict mode or not
+
+-- `if` gives the body where its condition is true, `unless` where it is not; both give the inverse otherwise. `each`
+-- gives the body in turns, and `with` in a block. `lookup` and `len` give a value. `raw` gives the body, and `log`
+-- nothing. The others are boolean.
+abbrev pub chosen : Bool → Kind → HelperView → Answer Choice
+chosen strict kind_if h = answer_map body_if (condition h.call)
+chosen strict kind_unless h = answer_map (λ b. body_if (not b)) (condition h.call)
+chosen strict kind_each h = by_param (codes "each") 0 h.call (each_choice strict h)
+chosen strict kind_with h = by_param (codes "with") 0 h.call (with_choice strict h)
+chosen strict kind_lookup h =
+    by_param (codes "lookup") 0 h.call (λ p. by_param (codes "lookup") 1 h.call (λ key.
+    lookup_choice strict (data_in p.found) (data_in key.found)))
+chosen strict kind_raw h = gives the_body
+chosen strict kind_log h = answer_map (λ line. nothing) (log_line h.call)
+chosen strict kind_eq h = of_two strict (codes "eq") h equals
+chosen strict kind_ne h = of_two strict (codes "ne") h differ
+chosen strict kind_gt h = of_two strict (codes "gt") h greater
+chosen strict kind_gte h = of_two strict (codes "gte") h greater_or_equal
+chosen strict kind_lt h = of_two strict (codes "lt") h less
+chosen strict kind_lte h = of_two strict (codes "lte") h less_or_equal
+chosen strict kind_and h = gives (word_or_branch h (all_true h.call.params))
+chosen strict kind_or h = gives (word_or_branch h (some_true h.call.params))
+chosen strict kind_not h = answer_map (word_or_branch h) (negation strict h.call)
+chosen strict kind_len h = answer_map (λ n. the_value (number (unsigned n))) (len strict h.call)

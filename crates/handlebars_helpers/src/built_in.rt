@@ -1,17 +1,11 @@
-//! The built-in helpers, and what they choose.
+//! The built-in helpers, and their names.
 
-ghost use Rattle.std.specs.Prelude.{◌≡◌, ◌≢◌, IfErr, IfOk, OnOk, Some, bytes_eq, map};
+ghost use Rattle.std.specs.Prelude.{◌≡◌, IfOk, OnOk, Some, bytes_eq, map};
 ghost use Rattle.std.specs.Map.{update};
-ghost use Rattle.handlebars_base.specs.Answers.{Answers};
 ghost use Rattle.handlebars_base.specs.Bytes.{Text};
-ghost use Rattle.handlebars_base.specs.Reasons.{out_of_memory};
-ghost use Rattle.handlebars_base.specs.RenderRefusals.{reason_in};
-ghost use Rattle.handlebars_helpers.specs.Choice.{body_if, built_in, built_ins, chosen, condition, includes_zero};
-ghost use Rattle.handlebars_helpers.specs.View.{choice_of, helper_view, kind_at, kind_of};
+ghost use Rattle.handlebars_helpers.specs.Choice.{built_in, built_ins};
+ghost use Rattle.handlebars_helpers.specs.View.{kind_at, kind_of};
 
-use crate::view::Helper;
-use handlebars_base::error::{RenderError, RenderErrorReason};
-use handlebars_base::json::value::JsonTruthy;
 use std::alloc::{AllocError, Global};
 use std::collections::BTreeMap;
 
@@ -22,21 +16,42 @@ pub enum BuiltIn {
     If,
     /// Renders its inverse where its parameter counts as true, else its body.
     Unless,
+    /// Renders its body for each member of its parameter, in a block of scope.
+    Each,
+    /// Renders its body in a block of scope that stands at its parameter.
+    With,
+    /// The member of its first parameter by its second one.
+    Lookup,
     /// Renders its body.
     Raw,
+    /// Writes a line to the logger, and nothing in its place.
+    Log,
+    /// Whether two values are equal.
+    Eq,
+    /// Whether they aren't.
+    Ne,
+    /// Whether the first value is greater.
+    Gt,
+    /// Whether it is greater or equal.
+    Gte,
+    /// Whether it is less.
+    Lt,
+    /// Whether it is less or equal.
+    Lte,
+    /// Whether all parameters count as true.
+    And,
+    /// Whether some parameter does.
+    Or,
+    /// Whether its parameter doesn't.
+    Not,
+    /// The bytes of a text, the members of an array or an object.
+    Len,
 }
 
 /// What stands under a helper's name.
 #[derive(Debug, Drop)]
 pub enum HelperEntry {
     Built(BuiltIn),
-}
-
-/// What is rendered in the place of a call, where the call has it.
-#[derive(Clone, Copy, Debug, PartialEq, Eq)]
-pub enum Choice {
-    Body,
-    Inverse,
 }
 
 /// The built-in helpers under their names.
@@ -50,13 +65,27 @@ pub fn built_ins(alloc: Global) -> Result<BTreeMap<String, HelperEntry>, AllocEr
     Ok(helpers)
 }
 
-fn table() -> [(&'static str, BuiltIn); 3]
+fn table() -> [(&'static str, BuiltIn); 17]
     ensures { map (λ row. (row.0.now, kind_of row.1)) result ≡ built_ins }
 {
     [
         ("if", BuiltIn::If),
         ("unless", BuiltIn::Unless),
+        ("each", BuiltIn::Each),
+        ("with", BuiltIn::With),
+        ("lookup", BuiltIn::Lookup),
         ("raw", BuiltIn::Raw),
+        ("log", BuiltIn::Log),
+        ("eq", BuiltIn::Eq),
+        ("ne", BuiltIn::Ne),
+        ("gt", BuiltIn::Gt),
+        ("gte", BuiltIn::Gte),
+        ("lt", BuiltIn::Lt),
+        ("lte", BuiltIn::Lte),
+        ("and", BuiltIn::And),
+        ("or", BuiltIn::Or),
+        ("not", BuiltIn::Not),
+        ("len", BuiltIn::Len),
     ]
 }
 
@@ -72,43 +101,4 @@ fn put(
 {
     helpers.insert(String::from_str(alloc, name)?, HelperEntry::Built(kind))?;
     Ok(())
-}
-
-/// What a built-in helper chooses for a call. It takes no memory.
-pub fn choose(kind: BuiltIn, helper: &Helper) -> Result<Choice, RenderError>
-    ensures chosen { Answers choice_of result (chosen (kind_of kind) (helper_view helper.now).call) }
-    ensures memory { IfErr result (λ e. reason_in e ≢ out_of_memory) }
-{
-    match kind {
-        BuiltIn::If => Ok(body_if(condition(helper)?)),
-        BuiltIn::Unless => Ok(body_if(!condition(helper)?)),
-        BuiltIn::Raw => Ok(Choice::Body),
-    }
-}
-
-fn body_if(truth: bool) -> Choice
-    ensures { choice_of result ≡ body_if truth }
-{
-    if truth { Choice::Body } else { Choice::Inverse }
-}
-
-// Whether the first parameter counts as true.
-fn condition(helper: &Helper) -> Result<bool, RenderError>
-    ensures answer { Answers (λ b. b) result (condition (helper_view helper.now).call) }
-    ensures memory { IfErr result (λ e. reason_in e ≢ out_of_memory) }
-{
-    match helper.param(0) {
-        Some(param) => Ok(param.value().is_truthy(includes_zero(helper))),
-        None => Err(RenderErrorReason::ParamNotFoundForIndex("if", 0).into()),
-    }
-}
-
-// Whether 0 counts as true.
-fn includes_zero(helper: &Helper) -> bool
-    ensures { result ≡ includes_zero (helper_view helper.now).call }
-{
-    match helper.hash_get("includeZero") {
-        Some(param) => param.value().as_bool().unwrap_or(false),
-        None => false,
-    }
 }

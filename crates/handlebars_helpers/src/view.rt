@@ -125,24 +125,40 @@ impl<'rc> Helper<'rc> {
     pub fn block_param(&self) -> Option<&'rc str>
         ensures { option_map (λ name. name.now) result ≡ single_name (helper_view self.now).binding }
     {
-        match self.block_param {
-            Some(BlockParam::Single(name)) => name.as_name(),
-            Some(BlockParam::Pair(_)) => None,
-            None => None,
-        }
+        single_name(self.block_param)
     }
 
     /// The two names that it binds, where it binds two.
     pub fn block_param_pair(&self) -> Option<(&'rc str, &'rc str)>
         ensures { option_map (λ names. (names.0.now, names.1.now)) result ≡ both_names (helper_view self.now).binding }
     {
-        match self.block_param {
-            Some(BlockParam::Pair(names)) => match (names.0.as_name(), names.1.as_name()) {
-                (Some(first), Some(second)) => Some((first, second)),
-                _ => None,
-            },
-            Some(BlockParam::Single(_)) => None,
-            None => None,
-        }
+        both_names(self.block_param)
+    }
+}
+
+/// The name that is bound, where one is bound alone.
+pub(crate) fn single_name<'t>(binding: Option<&'t BlockParam>) -> Option<&'t str>
+    ensures { option_map (λ name. name.now) result
+        ≡ single_name (binding_of (option_map (λ b. binding_view b.now) binding.entry)) }
+{
+    match binding {
+        Some(BlockParam::Single(name)) => name.as_name(),
+        Some(BlockParam::Pair(_)) => None,
+        None => None,
+    }
+}
+
+/// The names that are bound, where two are.
+pub(crate) fn both_names<'t>(binding: Option<&'t BlockParam>) -> Option<(&'t str, &'t str)>
+    ensures { option_map (λ names. (names.0.now, names.1.now)) result
+        ≡ both_names (binding_of (option_map (λ b. binding_view b.now) binding.entry)) }
+{
+    match binding {
+        Some(BlockParam::Pair(names)) => match (names.0.as_name(), names.1.as_name()) {
+            (Some(first), Some(second)) => Some((first, second)),
+            _ => None,
+        },
+        Some(BlockParam::Single(_)) => None,
+        None => None,
     }
 }

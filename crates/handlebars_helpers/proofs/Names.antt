@@ -1,0 +1,35 @@
+-- Paths that hold the same texts.
+use Rattle.std.proofs.Common.{◌≡◌, ℕ, Bool, true, false, ◌&&◌, length, List, [], ◌∷◌, map, take, String, Global, string_bytes, refl, ap, sym, ◌∙◌}
+use Rattle.std.specs.Cmp.Lexicographic.{same_text}
+use Rattle.std.specs.List.{AllZip, starts_with}
+use Rattle.std.specs.String.{string_eq}
+use lib.Pointwise.{pointwise}
+
+pub map-string_bytes-AllZip : (xs ys : List (String Global)) → AllZip (λ x y. string_bytes y ≡ string_bytes x) xs ys
+    → map string_bytes ys ≡ map string_bytes xs
+map-string_bytes-AllZip [] [] same = refl
+map-string_bytes-AllZip [] (y ∷ ys) same = absurd same
+map-string_bytes-AllZip (x ∷ xs) [] same = absurd same
+map-string_bytes-AllZip (x ∷ xs) (y ∷ ys) same = λ i. same.0 i ∷ map-string_bytes-AllZip xs ys same.1 i
+
+both_true : (a b : Bool) → true ≡ (a && b) → (true ≡ a) × (true ≡ b)
+both_true true b is = (refl, is)
+both_true false b is = cc
+
+pub map-string_bytes-pointwise : (xs ys : List (String Global)) → true ≡ pointwise string_eq xs ys
+    → map string_bytes ys ≡ map string_bytes xs
+map-string_bytes-pointwise [] [] same = refl
+map-string_bytes-pointwise [] (y ∷ ys) same = cc
+map-string_bytes-pointwise (x ∷ xs) [] same = cc
+map-string_bytes-pointwise (x ∷ xs) (y ∷ ys) same =
+    let h = both_true (string_eq x y) (pointwise string_eq xs ys) same in
+    let first = sym (same_text (string_bytes x) (string_bytes y) h.0) in
+    λ i. first i ∷ map-string_bytes-pointwise xs ys h.1 i
+
+-- a path that begins with another one, cut there
+pub map-string_bytes-take : (xs ys zs : List (String Global)) (n : ℕ)
+    → true ≡ starts_with string_eq xs ys → n ≡ length ys → zs ≡ take n xs
+    → map string_bytes zs ≡ map string_bytes ys
+map-string_bytes-take xs ys zs n starts long is =
+    ap (map string_bytes) is ∙ ap (λ m. map string_bytes (take m xs)) long
+    ∙ map-string_bytes-pointwise ys (take (length ys) xs) starts

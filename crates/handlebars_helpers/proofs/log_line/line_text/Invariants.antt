@@ -1,0 +1,10 @@
+use Rattle.std.proofs.Common.{◌≡◌, ◌++◌, drop, map, string_bytes, true}
+use Rattle.handlebars_base.specs.PathAndData.{path_and_data}
+use Rattle.handlebars_helpers.specs.LogLine.{line_text}
+use Rattle.handlebars_helpers.proofs.log_line.line_text.Given as goal
+
+-- the line so far with the text of the parameters left is the whole line
+abbrev pub invariant-params : goal.invariant-params
+invariant-params l =
+    string_bytes l.line ++ line_text l.first (map path_and_data (drop l.param-index l.param-items))
+    ≡ line_text true (map path_and_data l.param-items)

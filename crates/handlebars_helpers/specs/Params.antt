@@ -1,0 +1,30 @@
+-- The parameters that helpers can't do without.
+use Rattle.std.specs.Prelude.{ℕ, Bool, true, false, ◌&&◌, if◌then◌else◌}
+use Rattle.serde_json.specs.Data.{Data}
+use Rattle.handlebars_base.specs.Answers.{Answer, gives, refuses_for}
+use Rattle.handlebars_base.specs.Bytes.{Text}
+use Rattle.handlebars_base.specs.PathAndData.{PathAndData}
+use Rattle.handlebars_base.specs.PathReading.{with_or}
+use Rattle.handlebars_base.specs.Reasons.{param_not_found_for_index}
+use Rattle.handlebars_base.specs.Scoped.{Found, walked, value, missing, data_in}
+use Rattle.handlebars_helpers.specs.CallView.{CallView, param_at}
+
+abbrev pub is_missing : Found → Bool
+is_missing (walked d path) = false
+is_missing (value d) = false
+is_missing missing = true
+
+-- By a parameter, counted from 0. A helper is refused where the call has no such parameter; one with a missing value is
+-- there.
+abbrev pub by_param : {A : Type 0} → Text → ℕ → CallView → (PathAndData → Answer A) → Answer A
+by_param helper i v f = with_or (param_at i v) f (refuses_for (param_not_found_for_index helper i))
+
+-- By the value of a parameter, of which a missing one counts as null, and in strict mode as a parameter that isn't there.
+abbrev pub by_value : {A : Type 0} → Bool → Text → ℕ → CallView → (Data → Answer A) → Answer A
+by_value strict helper i v f =
+    by_param helper i v (λ p. if strict && is_missing p.found then refuses_for (param_not_found_for_index helper i)
+    else f (data_in p.found))
+
+-- the values of the first two parameters; the first is asked for first
+abbrev pub two_values : Bool → Text → CallView → Answer (Data × Data)
+two_values strict helper v = by_value strict helper 0 v (λ x. by_value strict helper 1 v (λ y. gives (x, y)))

@@ -1,0 +1,136 @@
+//! What the boolean helpers say, and `len`.
+
+ghost use Rattle.std.specs.Prelude.{◌≡◌, IfOk, codes, map};
+ghost use Rattle.serde_json.specs.View.{view};
+ghost use Rattle.handlebars_base.specs.Answers.{Answers};
+ghost use Rattle.handlebars_base.specs.PathAndData.{path_and_data};
+ghost use Rattle.handlebars_base.specs.Reasons.{param_not_found_for_name};
+ghost use Rattle.handlebars_base.specs.RenderRefusals.{plain_refusal, refusal_of};
+ghost use Rattle.handlebars_helpers.specs.Boolean.{all_true, differ, greater, greater_or_equal, len, less, less_or_equal, negation, size, some_true};
+ghost use Rattle.handlebars_helpers.specs.View.{helper_view};
+
+use crate::params::parameter_value;
+use crate::view::Helper;
+use handlebars_base::error::{RenderError, RenderErrorReason};
+use handlebars_base::json::value::{Json, JsonTruthy, PathAndJson, compare, equal};
+use std::alloc::{AllocError, Global};
+use std::cmp::Ordering;
+
+/// `ne`.
+pub(crate) fn differ(left: &Json, right: &Json) -> bool
+    ensures { result ≡ differ (view left.now) (view right.now) }
+{
+    !equal(left, right)
+}
+
+/// `gt`.
+pub(crate) fn greater(left: &Json, right: &Json) -> bool
+    ensures { result ≡ greater (view left.now) (view right.now) }
+{
+    match compare(left, right) {
+        Some(Ordering::Greater) => true,
+        Some(Ordering::Less | Ordering::Equal) => false,
+        None => false,
+    }
+}
+
+/// `gte`.
+pub(crate) fn greater_or_equal(left: &Json, right: &Json) -> bool
+    ensures { result ≡ greater_or_equal (view left.now) (view right.now) }
+{
+    match compare(left, right) {
+        Some(Ordering::Greater | Ordering::Equal) => true,
+        Some(Ordering::Less) => false,
+        None => false,
+    }
+}
+
+/// `lt`.
+pub(crate) fn less(left: &Json, right: &Json) -> bool
+    ensures { result ≡ less (view left.now) (view right.now) }
+{
+    match compare(left, right) {
+        Some(Ordering::Less) => true,
+        Some(Ordering::Greater | Ordering::Equal) => false,
+        None => false,
+    }
+}
+
+/// `lte`.
+pub(crate) fn less_or_equal(left: &Json, right: &Json) -> bool
+    ensures { result ≡ less_or_equal (view left.now) (view right.now) }
+{
+    match compare(left, right) {
+        Some(Ordering::Less | Ordering::Equal) => true,
+        Some(Ordering::Greater) => false,
+        None => false,
+    }
+}
+
+/// `not`.
+pub(crate) fn negation(strict: bool, helper: &Helper) -> Result<bool, RenderError>
+    ensures { Answers (λ b. b) result (negation strict (helper_view helper.now).call) }
+{
+    let value = parameter_value(strict, helper, "not", 0)?;
+    Ok(!value.is_truthy(false))
+}
+
+/// `and`.
+pub(crate) fn all_true(params: &Vec<PathAndJson>) -> bool
+    ensures { result ≡ all_true (map path_and_data params.now.items) }
+{
+    'params: for param in params {
+        if !param.value().is_truthy(false) {
+            return false;
+        }
+    }
+    true
+}
+
+/// `or`.
+pub(crate) fn some_true(params: &Vec<PathAndJson>) -> bool
+    ensures { result ≡ some_true (map path_and_data params.now.items) }
+{
+    'params: for param in params {
+        if param.value().is_truthy(false) {
+            return true;
+        }
+    }
+    false
+}
+
+/// `len`: the size of the first parameter.
+pub(crate) fn len(alloc: Global, strict: bool, helper: &Helper) -> Result<usize, RenderError>
+    ensures { Answers (λ n. n) result (len strict (helper_view helper.now).call) }
+{
+    match helper.param(0) {
+        Some(param) => {
+            if strict && param.is_value_missing() {
+                Err(no_x(alloc)?)
+            } else {
+                Ok(size(param.value()))
+            }
+        }
+        None => Err(no_x(alloc)?),
+    }
+}
+
+// The refusal of a call without its parameter.
+fn no_x(alloc: Global) -> Result<RenderError, AllocError>
+    ensures { IfOk result (λ e. refusal_of e ≡ plain_refusal (param_not_found_for_name (codes "len") (codes "x"))) }
+{
+    let name = String::from_str(alloc, "x")?;
+    Ok(RenderErrorReason::ParamNotFoundForName("len", name).into())
+}
+
+// The bytes of a text, the members of an array or an object.
+fn size(value: &Json) -> usize
+    ensures { result ≡ size (view value.now) }
+{
+    match value {
+        Json::Array(items) => items.len(),
+        Json::Object(members) => members.len(),
+        Json::String(text) => text.len(),
+        Json::Null | Json::Bool(_) | Json::Number(_) => 0,
+    }
+}

@@ -1,0 +1,254 @@
+//! What the built-in helpers choose.
+
+ghost use Rattle.std.specs.Prelude.{◌≡◌, IfOk, option_map, string_bytes};
+ghost use Rattle.serde_json.specs.Data.{array, object};
+ghost use Rattle.serde_json.specs.View.{items_view, members_view, view};
+ghost use Rattle.handlebars_base.specs.Answers.{Answers};
+ghost use Rattle.handlebars_base.specs.PathAndData.{path_and_data};
+ghost use Rattle.handlebars_base.specs.Reasons.{missing_variable};
+ghost use Rattle.handlebars_base.specs.RenderRefusals.{plain_refusal, refusal_of};
+ghost use Rattle.handlebars_helpers.specs.Choice.{body_if, chosen, condition, each_choice, includes_zero, inverse_or_refusal, looked_up, lookup_choice, turns_or_inverse, with_choice, word_or_branch};
+ghost use Rattle.handlebars_helpers.specs.Turns.{turns_of};
+ghost use Rattle.handlebars_helpers.specs.View.{choice_of, helper_view, kind_of, path_view};
+
+use crate::boolean::{
+    all_true, differ, greater, greater_or_equal, len, less, less_or_equal, negation, some_true,
+};
+use crate::built_in::BuiltIn;
+use crate::log_line::log_record;
+use crate::params::{parameter, two_values};
+use crate::turn::Base;
+use crate::view::Helper;
+use handlebars_base::error::{RenderError, RenderErrorReason};
+use handlebars_base::json::value::{Json, JsonTruthy, PathAndJson, equal};
+use log::Level;
+use serde_json::Map;
+use std::alloc::{AllocError, Global};
+
+/// What is rendered in the place of a call. It borrows what it is about from the call's view.
+#[derive(Drop)]
+pub enum Choice<'h> {
+    /// The body, where the call has it.
+    Body,
+    /// What stands behind `else`, where the call has it.
+    Inverse,
+    /// The body, in a block of scope that stands here.
+    Block(Base<'h>),
+    /// The body, for each item of an array, which has this path in the data, if it has one.
+    Items(Option<&'h Vec<String>>, &'h Vec<Json>),
+    /// The body, for each member of an object, which has this path in the data, if it has one.
+    Members(Option<&'h Vec<String>>, &'h Map<String, Json>),
+    /// A value; null where there is none.
+    Value(Option<&'h Json>),
+    /// A number.
+    Count(usize),
+    /// The word of a boolean helper.
+    Word(bool),
+    /// A line for the logger, and nothing in its place.
+    Line(Level, String),
+    Nothing,
+}
+
+/// What a built-in helper chooses for a call, in strict mode or not. A refusal and a line for the
+/// logger take memory.
+pub fn choose<'h>(
+    alloc: Global,
+    strict: bool,
+    kind: BuiltIn,
+    helper: &'h Helper,
+) -> Result<Choice<'h>, RenderError>
+    ensures { Answers choice_of result (chosen strict (kind_of kind) (helper_view helper.now)) }
+{
+    match kind {
+        BuiltIn::If => Ok(body_if(condition(helper)?)),
+        BuiltIn::Unless => Ok(body_if(!condition(helper)?)),
+        BuiltIn::Each => each_choice(alloc, strict, helper, parameter(helper, "each", 0)?),
+        BuiltIn::With => with_choice(alloc, strict, helper, parameter(helper, "with", 0)?),
+        BuiltIn::Lookup => {
+            let value = parameter(helper, "lookup", 0)?;
+            let key = parameter(helper, "lookup", 1)?;
+            lookup_choice(strict, value.value(), key.value())
+        }
+        BuiltIn::Raw => Ok(Choice::Body),
+        BuiltIn::Log => {
+            let (level, text) = log_record(alloc, helper)?;
+            Ok(Choice::Line(level, text))
+        }
+        BuiltIn::Eq => {
+            let (left, right) = two_values(strict, helper, "eq")?;
+            Ok(word_or_branch(helper, equal(left, right)))
+        }
+        BuiltIn::Ne => {
+            let (left, right) = two_values(strict, helper, "ne")?;
+            Ok(word_or_branch(helper, differ(left, right)))
+        }
+        BuiltIn::Gt => {
+            let (left, right) = two_values(strict, helper, "gt")?;
+            Ok(word_or_branch(helper, greater(left, right)))
+        }
+        BuiltIn::Gte => {
+            let (left, right) = two_values(strict, helper, "gte")?;
+            Ok(word_or_branch(helper, greater_or_equal(left, right)))
+        }
+        BuiltIn::Lt => {
+            let (left, right) = two_values(strict, helper, "lt")?;
+            Ok(word_or_branch(helper, less(left, right)))
+        }
+        BuiltIn::Lte => {
+            let (left, right) = two_values(strict, helper, "lte")?;
+            Ok(word_or_branch(helper, less_or_equal(left, right)))
+        }
+        BuiltIn::And => Ok(word_or_branch(helper, all_true(helper.params()))),
+        BuiltIn::Or => Ok(word_or_branch(helper, some_true(helper.params()))),
+        BuiltIn::Not => Ok(word_or_branch(helper, negation(strict, helper)?)),
+        BuiltIn::Len => Ok(Choice::Count(len(alloc, strict, helper)?)),
+    }
+}
+
+// The body for each member, where the call has a body and there are members.
+fn each_choice<'h>(
+    alloc: Global,
+    strict: bool,
+    helper: &'h Helper,
+    param: &'h PathAndJson<'h>,
+) -> Result<Choice<'h>, RenderError>
+    ensures { Answers choice_of result (each_choice strict (helper_view helper.now) (path_and_data param.now)) }
+{
+    if helper.template().is_none() {
+        return Ok(Choice::Nothing);
+    }
+    match param.value() {
+        Json::Array(items) => Ok(items_choice(param.context_path(), items)),
+        Json::Object(members) => Ok(members_choice(param.context_path(), members)),
+        Json::Null => inverse_or_refusal(alloc, strict, helper, param),
+        Json::Bool(_) => inverse_or_refusal(alloc, strict, helper, param),
+        Json::Number(_) => inverse_or_refusal(alloc, strict, helper, param),
+        Json::String(_) => inverse_or_refusal(alloc, strict, helper, param),
+    }
+}
+
+// The inverse, which strict mode asks for.
+fn inverse_or_refusal(
+    alloc: Global,
+    strict: bool,
+    helper: &Helper,
+    param: &PathAndJson,
+) -> Result<Choice<'static>, RenderError>
+    ensures { Answers choice_of result
+        (inverse_or_refusal strict (helper_view helper.now) (path_and_data param.now)) }
+{
+    if strict && helper.inverse().is_none() {
+        return Err(missing_variable(alloc, param.relative_path())?);
+    }
+    Ok(Choice::Inverse)
+}
+
+// The refusal of a value that is missing, by its text as written, where it has one.
+fn missing_variable(alloc: Global, path: Option<&String>) -> Result<RenderError, AllocError>
+    ensures { IfOk result (λ e. refusal_of e
+        ≡ plain_refusal (missing_variable (option_map (λ s. string_bytes s.now) path.entry))) }
+{
+    let path = match path {
+        Some(path) => Some(path.clone()?),
+        None => None,
+    };
+    Ok(RenderErrorReason::MissingVariable(path).into())
+}
+
+fn items_choice<'h>(path: Option<&'h Vec<String>>, items: &'h Vec<Json>) -> Choice<'h>
+    ensures { choice_of result
+        ≡ turns_or_inverse (path_view path.entry) (turns_of (array (items_view items.now.items))) }
+{
+    if items.is_empty() {
+        Choice::Inverse
+    } else {
+        Choice::Items(path, items)
+    }
+}
+
+fn members_choice<'h>(path: Option<&'h Vec<String>>, members: &'h Map<String, Json>) -> Choice<'h>
+    ensures { choice_of result
+        ≡ turns_or_inverse (path_view path.entry) (turns_of (object (members_view members.now.entries))) }
+{
+    if members.is_empty() {
+        Choice::Inverse
+    } else {
+        Choice::Members(path, members)
+    }
+}
+
+fn with_choice<'h>(
+    alloc: Global,
+    strict: bool,
+    helper: &Helper,
+    param: &'h PathAndJson<'h>,
+) -> Result<Choice<'h>, RenderError>
+    ensures { Answers choice_of result (with_choice strict (helper_view helper.now) (path_and_data param.now)) }
+{
+    if !param.value().is_truthy(false) {
+        return inverse_or_refusal(alloc, strict, helper, param);
+    }
+    match param.context_path() {
+        Some(path) => Ok(Choice::Block(Base::Path(path))),
+        None => Ok(Choice::Block(Base::Value(param.value()))),
+    }
+}
+
+fn lookup_choice<'h>(strict: bool, value: &'h Json, key: &Json) -> Result<Choice<'h>, RenderError>
+    ensures { Answers choice_of result (lookup_choice strict (view value.now) (view key.now)) }
+{
+    match looked_up(value, key) {
+        Some(found) => Ok(Choice::Value(Some(found))),
+        None if strict => Err(RenderErrorReason::MissingVariable(None).into()),
+        None => Ok(Choice::Value(None)),
+    }
+}
+
+// The member of an object by a text, the item of an array by a whole number.
+fn looked_up<'h>(value: &'h Json, key: &Json) -> Option<&'h Json>
+    ensures { option_map (λ v. view v.now) result ≡ looked_up (view value.now) (view key.now) }
+{
+    match key {
+        Json::String(key) => value.get(key.as_str()),
+        Json::Number(index) => match index.as_u64() {
+            Some(index) => value.get(index as usize),
+            None => None,
+        },
+        Json::Null | Json::Bool(_) | Json::Array(_) | Json::Object(_) => None,
+    }
+}
+
+fn body_if(truth: bool) -> Choice<'static>
+    ensures { choice_of result ≡ body_if truth }
+{
+    if truth { Choice::Body } else { Choice::Inverse }
+}
+
+// Whether the first parameter counts as true.
+fn condition(helper: &Helper) -> Result<bool, RenderError>
+    ensures { Answers (λ b. b) result (condition (helper_view helper.now).call) }
+{
+    let param = parameter(helper, "if", 0)?;
+    Ok(param.value().is_truthy(includes_zero(helper)))
+}
+
+// Whether 0 counts as true.
+fn includes_zero(helper: &Helper) -> bool
+    ensures { result ≡ includes_zero (helper_view helper.now).call }
+{
+    match helper.hash_get("includeZero") {
+        Some(param) => param.value().as_bool().unwrap_or(false),
+        None => false,
+    }
+}
+
+// As a block a boolean helper gives a branch, and anywhere else its word.
+fn word_or_branch(helper: &Helper, truth: bool) -> Choice<'static>
+    ensures { choice_of result ≡ word_or_branch (helper_view helper.now) truth }
+{
+    if helper.is_block() {
+        body_if(truth)
+    } else {
+        Choice::Word(truth)
+    }
+}

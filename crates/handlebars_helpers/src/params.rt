@@ -1,0 +1,63 @@
+//! The parameters that helpers can't do without.
+
+ghost use Rattle.std.specs.Prelude.{◌≡◌, MatchResult, None, Some};
+ghost use Rattle.serde_json.specs.View.{view};
+ghost use Rattle.handlebars_base.specs.Answers.{Answers, gives, refuses};
+ghost use Rattle.handlebars_base.specs.PathAndData.{path_and_data};
+ghost use Rattle.handlebars_base.specs.Reasons.{param_not_found_for_index};
+ghost use Rattle.handlebars_base.specs.RenderRefusals.{plain_refusal, refusal_of};
+ghost use Rattle.handlebars_helpers.specs.CallView.{param_at};
+ghost use Rattle.handlebars_helpers.specs.Params.{by_value, is_missing, two_values};
+ghost use Rattle.handlebars_helpers.specs.View.{helper_view};
+
+use crate::view::Helper;
+use handlebars_base::error::{RenderError, RenderErrorReason};
+use handlebars_base::json::value::{Json, PathAndJson};
+
+/// A parameter, counted from 0; `ParamNotFoundForIndex` where the call has none there.
+pub(crate) fn parameter<'h>(
+    helper: &'h Helper,
+    name: &'static str,
+    index: usize,
+) -> Result<&'h PathAndJson<'h>, RenderError>
+    ensures { MatchResult result
+        (λ p. param_at index (helper_view helper.now).call ≡ Some (path_and_data p.now))
+        (λ e. (param_at index (helper_view helper.now).call ≡ None)
+        × (refusal_of e ≡ plain_refusal (param_not_found_for_index name.now index))) }
+{
+    match helper.param(index) {
+        Some(param) => Ok(param),
+        None => Err(RenderErrorReason::ParamNotFoundForIndex(name, index).into()),
+    }
+}
+
+/// The value of a parameter. In strict mode one that is missing counts as not there.
+pub(crate) fn parameter_value<'h>(
+    strict: bool,
+    helper: &'h Helper,
+    name: &'static str,
+    index: usize,
+) -> Result<&'h Json, RenderError>
+    ensures { Answers (λ v. view v.now) result
+        (by_value strict name.now index (helper_view helper.now).call (λ d. gives d)) }
+{
+    let param = parameter(helper, name, index)?;
+    if strict && param.is_value_missing() {
+        return Err(RenderErrorReason::ParamNotFoundForIndex(name, index).into());
+    }
+    Ok(param.value())
+}
+
+/// The values of the first two parameters.
+pub(crate) fn two_values<'h>(
+    strict: bool,
+    helper: &'h Helper,
+    name: &'static str,
+) -> Result<(&'h Json, &'h Json), RenderError>
+    ensures { Answers (λ d. (view d.0.now, view d.1.now)) result
+        (two_values strict name.now (helper_view helper.now).call) }
+{
+    let first = parameter_value(strict, helper, name, 0)?;
+    let second = parameter_value(strict, helper, name, 1)?;
+    Ok((first, second))
+}

@@ -1,0 +1,226 @@
+//! The blocks of scope of `each` and `with`.
+
+ghost use Rattle.std.specs.Prelude.{◌≡◌, ◌++◌, ◌∷◌, [], IfOk, OnOk, map, option_map, string_bytes};
+ghost use Rattle.serde_json.specs.View.{view};
+ghost use Rattle.handlebars_template.specs.TreeView.{binding_of, binding_view};
+ghost use Rattle.handlebars_scope.specs.ScopeView.{bounds_of, frame_of, variables_of};
+ghost use Rattle.handlebars_scope.specs.Scopes.{based, bound_base, put_at};
+ghost use Rattle.handlebars_helpers.specs.CallView.{single_name};
+ghost use Rattle.handlebars_helpers.specs.Turns.{bind_one, bound_in_turn, turn_base, turn_key, turn_name, turn_variables, turned, with_block};
+ghost use Rattle.handlebars_helpers.specs.View.{base_view, path_view, turn_view};
+
+use crate::view::{both_names, single_name};
+use handlebars_base::json::value::Json;
+use handlebars_scope::block::{BlockContext, BlockParams};
+use handlebars_scope::local_vars::LocalVars;
+use handlebars_template::template::BlockParam;
+use itoa::Buffer;
+use serde_json::Number;
+use std::alloc::{AllocError, Global};
+
+/// What a block stands at: a path of the data, or a value that has none.
+#[derive(Clone, Copy)]
+pub enum Base<'h> {
+    Path(&'h Vec<String>),
+    Value(&'h Json),
+}
+
+/// One turn of `each`: a member, with its index, from 0, and its key, where it is one of an object.
+#[derive(Clone, Copy)]
+pub struct Turn<'h> {
+    pub index: usize,
+    pub key: Option<&'h str>,
+    pub last: bool,
+    pub member: &'h Json,
+}
+
+/// Sets the block of `each` up for a turn of what has this path, if it has one. What has no path is
+/// copied into the block.
+pub fn set_up_turn(
+    alloc: Global,
+    block: &mut BlockContext,
+    binding: Option<&BlockParam>,
+    path: Option<&Vec<String>>,
+    turn: Turn,
+) -> Result<(), AllocError>
+    ensures { OnOk result (frame_of block.new ≡ turned (path_view path.entry)
+        (binding_of (option_map (λ b. binding_view b.now) binding.entry)) (turn_view turn.entry) (frame_of block.old)) }
+{
+    set_turn_base(alloc, block, path, turn)?;
+    block.set_block_params(turn_names(alloc, binding, path, turn)?);
+    set_turn_variables(alloc, block, turn)
+}
+
+/// The block of `with`, which takes these variables. What has no path is copied into the block.
+pub fn with_block(
+    alloc: Global,
+    binding: Option<&BlockParam>,
+    base: Base,
+    variables: LocalVars,
+) -> Result<BlockContext, AllocError>
+    ensures { IfOk result (λ block. frame_of block ≡ with_block (base_view base.entry)
+        (binding_of (option_map (λ b. binding_view b.now) binding.entry)) (variables_of variables)) }
+{
+    let mut block = BlockContext::new(alloc);
+    set_base(alloc, &mut block, base)?;
+    block.set_block_params(with_names(alloc, binding, base)?);
+    block.set_local_variables(variables);
+    Ok(block)
+}
+
+// ---- bases
+
+// The block stands here from now on.
+fn set_base(alloc: Global, block: &mut BlockContext, base: Base) -> Result<(), AllocError>
+    ensures { OnOk result (frame_of block.new ≡ based (base_view base.entry) (frame_of block.old)) }
+{
+    match base {
+        Base::Path(path) => set_path(block.base_path_mut(), path)?,
+        Base::Value(value) => block.set_base_value(value.clone()?),
+    }
+    Ok(())
+}
+
+// The block stands at the turn's member from now on.
+fn set_turn_base(
+    alloc: Global,
+    block: &mut BlockContext,
+    path: Option<&Vec<String>>,
+    turn: Turn,
+) -> Result<(), AllocError>
+    ensures { OnOk result (frame_of block.new
+        ≡ based (turn_base (path_view path.entry) (turn_view turn.entry)) (frame_of block.old)) }
+{
+    match path {
+        Some(path) => set_longer_path(block.base_path_mut(), path, turn_name(alloc, turn)?)?,
+        None => block.set_base_value(turn.member.clone()?),
+    }
+    Ok(())
+}
+
+// Makes this path of another one. In every turn but the first it stands there already, with a name
+// behind it.
+fn set_path(to: &mut Vec<String>, path: &Vec<String>) -> Result<(), AllocError>
+    ensures { OnOk result (map string_bytes to.new.items ≡ map string_bytes path.now.items) }
+{
+    if to.starts_with(path) {
+        to.truncate(path.len());
+    } else {
+        *to = path.clone()?;
+    }
+    Ok(())
+}
+
+// Makes this path, and a name behind it, of another one.
+fn set_longer_path(to: &mut Vec<String>, path: &Vec<String>, name: String) -> Result<(), AllocError>
+    ensures { OnOk result (map string_bytes to.new.items
+        ≡ map string_bytes path.now.items ++ (string_bytes name ∷ [])) }
+{
+    set_path(to, path)?;
+    to.push(name)?;
+    Ok(())
+}
+
+// The name that leads to the member.
+fn turn_name(alloc: Global, turn: Turn) -> Result<String, AllocError>
+    ensures { IfOk result (λ name. string_bytes name ≡ turn_name (turn_view turn.entry)) }
+{
+    match turn.key {
+        Some(key) => String::from_str(alloc, key),
+        None => String::from_str(alloc, Buffer::new().format(turn.index)),
+    }
+}
+
+// ---- names
+
+// The names that are bound in a turn.
+fn turn_names(
+    alloc: Global,
+    binding: Option<&BlockParam>,
+    path: Option<&Vec<String>>,
+    turn: Turn,
+) -> Result<BlockParams, AllocError>
+    ensures { IfOk result (λ names. bounds_of names
+        ≡ bound_in_turn (binding_of (option_map (λ b. binding_view b.now) binding.entry))
+        (bound_base (turn_base (path_view path.entry) (turn_view turn.entry))) (turn_key (turn_view turn.entry))) }
+{
+    let mut names = BlockParams::new(alloc);
+    let base = member_base(path, turn);
+    if let Some(name) = single_name(binding) {
+        bind_base(alloc, &mut names, name, base)?;
+    } else if let Some((first, second)) = both_names(binding) {
+        bind_base(alloc, &mut names, first, base)?;
+        names.add_value(second, key_value(alloc, turn)?)?;
+    }
+    Ok(names)
+}
+
+// The name that is bound in the block of `with`.
+fn with_names(
+    alloc: Global,
+    binding: Option<&BlockParam>,
+    base: Base,
+) -> Result<BlockParams, AllocError>
+    ensures { IfOk result (λ names. bounds_of names
+        ≡ bind_one (single_name (binding_of (option_map (λ b. binding_view b.now) binding.entry)))
+        (bound_base (base_view base.entry))) }
+{
+    let mut names = BlockParams::new(alloc);
+    if let Some(name) = single_name(binding) {
+        bind_base(alloc, &mut names, name, base)?;
+    }
+    Ok(names)
+}
+
+// What a name that stands for the member is bound to: a path, where what is walked has one, else the
+// member.
+fn member_base<'h>(path: Option<&'h Vec<String>>, turn: Turn<'h>) -> Base<'h>
+    ensures { bound_base (base_view result) ≡ bound_base (turn_base (path_view path.entry) (turn_view turn.entry)) }
+{
+    match path {
+        Some(path) => Base::Path(path),
+        None => Base::Value(turn.member),
+    }
+}
+
+// Binds a name to what its own block stands at.
+fn bind_base(
+    alloc: Global,
+    names: &mut BlockParams,
+    name: &str,
+    base: Base,
+) -> Result<(), AllocError>
+    ensures { OnOk result (bounds_of names.new
+        ≡ put_at name.now (bound_base (base_view base.entry)) (bounds_of names.old)) }
+{
+    match base {
+        Base::Path(_) => names.add_path(name, Vec::new(alloc)),
+        Base::Value(value) => names.add_value(name, value.clone()?),
+    }
+}
+
+// The key as a value, or the index.
+fn key_value(alloc: Global, turn: Turn) -> Result<Json, AllocError>
+    ensures { IfOk result (λ v. view v ≡ turn_key (turn_view turn.entry)) }
+{
+    match turn.key {
+        Some(key) => Ok(Json::String(String::from_str(alloc, key)?)),
+        None => Ok(Json::Number(Number::from(turn.index))),
+    }
+}
+
+// ---- variables
+
+fn set_turn_variables(alloc: Global, block: &mut BlockContext, turn: Turn) -> Result<(), AllocError>
+    ensures { OnOk result (frame_of block.new ≡ record (frame_of block.old) {
+      variable = turn_variables (turn_view turn.entry) (frame_of block.old).variable;
+    }) }
+{
+    block.set_local_var("first", Json::Bool(turn.index == 0))?;
+    block.set_local_var("last", Json::Bool(turn.last))?;
+    block.set_local_var("index", Json::Number(Number::from(turn.index)))?;
+    if turn.key.is_some() {
+        block.set_local_var("key", key_value(alloc, turn)?)?;
+    }
+    Ok(())
+}
