@@ -88,8 +88,9 @@ a_tree≢no_tree : {t : Tree} {r : Refusal} → a_tree t ≡ no_tree r → ⊥
 a_tree≢no_tree e = cc
 
 module _ (p : Setting) (begins : Beginning → Type 0) (one : IsOne begins) where
-  Means-tree : {t u : Tree} {ps : List Piece} {o : Outcome} → t ≡ u → Means p u first_state ps o → Means p t first_state ps o
-  Means-tree {ps = ps} {o = o} e r = subst (λ (t : Tree). Means p t first_state ps o) (sym e) r
+  Means-tree : {t u : Tree} {ps : List Piece} {o : Outcome} → t ≡ u → Means p u (first_state p.parts.recursive) ps o
+      → Means p t (first_state p.parts.recursive) ps o
+  Means-tree {ps = ps} {o = o} e r = subst (λ (t : Tree). Means p t (first_state p.parts.recursive) ps o) (sym e) r
 
   pub has_one_answer : HasOneAnswer p begins
   has_one_answer _ _ _ _ (not_begun {r = r} a) (not_begun {r = q} b) h i =
@@ -102,7 +103,8 @@ module _ (p : Setting) (begins : Beginning → Type 0) (one : IsOne begins) wher
   pub answer_has_origins : AnswerHasOrigins p begins
   answer_has_origins t _ _ c (not_begun {r = r} a) = absurd (a_tree≢no_tree (one (a_tree t) (no_tree r) c a))
   answer_has_origins t ps o c (rendered {t = u} a x) =
-      all_have_origins p t first_state ps o refl (Means-tree (a_tree-injective (one (a_tree t) (a_tree u) c a)) x)
+      all_have_origins p t (first_state p.parts.recursive) ps o refl
+      (Means-tree (a_tree-injective (one (a_tree t) (a_tree u) c a)) x)
 
 -- ---- what calls answer
 
@@ -117,7 +119,7 @@ module _ (p : Setting) (begins : Beginning → Type 0) where
   refuses_at_once q (Ok text) b is = absurd is
   refuses_at_once q (Err e) b is = λ other. refuses_before q e b (is other)
 
-  module _ (t : Tree) (first : State) (begun : begins (a_tree t)) (is_first : first ≡ first_state) where
+  module _ (t : Tree) (first : State) (begun : begins (a_tree t)) (is_first : first ≡ first_state p.parts.recursive) where
     pub gives_text : {next : State} {text : Text} → GivesString p (render_tree t) first next text → GivesText p begins text
     gives_text {next = next} g = record {
       pieces = g.pieces;

@@ -6,14 +6,19 @@ use Rattle.handlebars_base.specs.Answers.{IsRefusal}
 use Rattle.handlebars_base.specs.Bytes.{Text}
 use Rattle.handlebars_base.specs.Reasons.{Reason, Spot, Refusal, out_of_memory}
 use Rattle.handlebars_base.specs.RenderRefusals.{reason_in, reason_of, spot_of, cause_of, refusal_of, plain_refusal}
+use Rattle.handlebars_base.specs.Values.{word}
 use Rattle.handlebars_base.specs.declared.error.render_error.RenderError.{RenderError}
 use Rattle.handlebars_scope.specs.Outputs.{Held}
-use Rattle.handlebars_scope.specs.Put.{Origin, Piece, join, pieces_of}
-use Rattle.handlebars.specs.State.{Setting, State}
+use Rattle.handlebars_scope.specs.Put.{Origin, of_word, Piece, join, pieces_of}
+use Rattle.handlebars_scope.specs.Scopes.{Frame}
+use Rattle.handlebars_scope.specs.Sites.{Site}
+use Rattle.handlebars.specs.State.{Setting, State, entered, left}
 use Rattle.handlebars.specs.Steps.{Task, Steps, Done, Refuse, Get, Set, Do, Prog, return, run, refuse_for, state, perform, ◌>>=◌, ◌>>◌}
-use Rattle.handlebars.specs.Means.{write_text, unescaped, line_in, line_out, in_bracket, todo}
-use Rattle.handlebars.specs.Runs.{Fault, plain_fault, Outcome, Ended, Refused, Faulted, NoMemory, mark, cut_off, Runs, done, refused, wrote, got, set, did, did_over, stop, cut, GivesValue, RefusesValue}
-use Rattle.handlebars.specs.View.{Moment, TellsFault, Answered, Tells, ended, refusal, fault, no_memory, CarriesOut, CarriesOn, goes_on, is_over, Puts, all_put, front_put}
+use Rattle.handlebars.specs.Writing.{write_text, write_word}
+use Rattle.handlebars.specs.CarryOut.{change, in_block}
+use Rattle.handlebars.specs.Means.{unescaped, line_in, line_out, in_bracket, todo}
+use Rattle.handlebars.specs.Runs.{Fault, plain_fault, is_word, Outcome, Ended, Refused, Faulted, NoMemory, mark, cut_off, Runs, done, refused, wrote, got, set, did, did_over, stop, cut, GivesValue, RefusesValue}
+use Rattle.handlebars.specs.View.{Moment, TellsCause, TellsFault, Answered, Tells, ended, refusal, fault, no_memory, CarriesOut, CarriesOn, goes_on, is_over, Puts, all_put, front_put, PutsWord, word_put, word_cut}
 use Rattle.handlebars.proofs.RunLaws.{join-append, Runs-short}
 
 -- want of memory, or another reason
@@ -59,11 +64,17 @@ marked-refusal t e d m other =
     ap (λ (r : Reason). record { reason = r; spot = spot_of d }) (marked-reason t e d m other)
     ∙ ap (λ (z : Spot). record { reason = reason_in e; spot = z }) (m.spot other)
 
+-- a cause that an error tells of, and so does another
+cause-as : (cause : Error) (at_word : Bool) (e d : RenderError) → reason_in d ≡ reason_in e → cause_of d ≡ cause_of e
+    → TellsCause cause at_word e → TellsCause cause at_word d
+cause-as cause false e d reason kept tells = (reason ∙ tells.0, kept ∙ tells.1)
+cause-as cause true e d reason kept tells = (tells.0, reason ∙ tells.1)
+
 marked-fault : (t : Task) (e d : RenderError) (cause : Error) (f : Fault) → IsMarked t e d → TellsFault cause f e
     → TellsFault cause (record f { spot = mark t f.spot }) d
 marked-fault t e d cause f m tells = record {
-  reason = λ other. marked-reason t e d m other ∙ tells.reason (λ memory. other (m.memory memory));
-  kept = λ other. m.cause other ∙ tells.kept (λ memory. other (m.memory memory));
+  why = λ other. cause-as cause f.at_word e d (marked-reason t e d m other) (m.cause other)
+      (tells.why (λ memory. other (m.memory memory)));
   where_it_is = λ other. m.spot other ∙ ap (mark t) (tells.where_it_is (λ memory. other (m.memory memory)));
 }
 
@@ -134,10 +145,10 @@ module _ (p : Setting) (may : Error → Type 0) where
   carries_on-get f (goes_on c) = goes_on (λ next r last d. carries-get (c next r last d))
   carries_on-get f (is_over c) = is_over (λ next. carries-get (c next))
 
-  pub carries_on-puts : (o : Origin) (t : Text) {s next : State} {h new : Held} {r : Answered}
+  pub carries_on-puts : (o : Origin) (t : Text) {s next : State} {h new : Held} {r : Answered} → is_word o ≡ false
       → Puts t may (at s h) r (at next new) → CarriesOn p (write_text o t) may (at s h) r (at next new)
   unfolding ◌>>=◌ ◌>>◌
-  carries_on-puts o t {s = s} {h = h} {new = new} (all_put is whole) = goes_on (λ k r last c. record {
+  carries_on-puts o t {s = s} {h = h} {new = new} text_or_value (all_put is whole) = goes_on (λ k r last c. record {
     pieces = pieces_of o t ++ c.pieces;
     outcome = c.outcome;
     runs = got (wrote (set (subst (λ (z : State). Runs p (k tt) z c.pieces c.outcome) is c.runs)));
@@ -145,18 +156,37 @@ module _ (p : Setting) (may : Error → Type 0) where
         (whole.text ∙ ap (λ (z : Text). h.text ++ z) (sym (join-pieces_of o t))) c.text;
     tells = Tells-before whole.faults c.tells;
   })
-  carries_on-puts o [] (front_put cause given cut_short tells) = absurd (omega (arith, cut_short.some))
-  carries_on-puts o (b ∷ t) {h = h} (front_put cause given cut_short tells) = is_over (λ k. record {
+  carries_on-puts o [] text_or_value (front_put cause given cut_short tells) = absurd (omega (arith, cut_short.some))
+  carries_on-puts o (b ∷ t) {h = h} text_or_value (front_put cause given cut_short tells) = is_over (λ k. record {
     pieces = record { origin = o; text = cut_short.front } ∷ [];
-    outcome = Faulted plain_fault;
-    runs = got (cut refl (cut_off cut_short.is_front));
+    outcome = Faulted (plain_fault false);
+    runs = got (cut (ap plain_fault (sym text_or_value)) (cut_off cut_short.is_front));
     text = cut_short.text ∙ ap (λ (z : Text). h.text ++ z) (sym (append-nil cut_short.front));
-    tells = fault cause plain_fault given cut_short.faults tells;
+    tells = fault cause (plain_fault false) given cut_short.faults tells;
   })
 
-  pub carries-puts : (o : Origin) (t : Text) {s next : State} {h new : Held} {r : Answered}
+  pub carries-puts : (o : Origin) (t : Text) {s next : State} {h new : Held} {r : Answered} → is_word o ≡ false
       → Puts t may (at s h) r (at next new) → CarriesOut p (run (write_text o t)) may (at s h) r (at next new)
-  carries-puts o t puts = carries-run (carries_on-puts o t puts)
+  carries-puts o t text_or_value puts = carries-run (carries_on-puts o t text_or_value puts)
+
+  -- the word of a boolean helper, which the state takes no note of
+  pub carries_on-word : (site : Site) (b : Bool) {s next : State} {h new : Held} {r : Answered}
+      → PutsWord b may (at s h) r (at next new) → CarriesOn p (write_word site b) may (at s h) r (at next new)
+  carries_on-word site b {h = h} {new = new} (word_put is whole) = goes_on (λ k r last c. record {
+    pieces = record { origin = of_word site b; text = word b } ∷ c.pieces;
+    outcome = c.outcome;
+    runs = wrote (subst (λ (z : State). Runs p (k tt) z c.pieces c.outcome) is c.runs);
+    text = text-append h.text new.text last.held.text (record { origin = of_word site b; text = word b } ∷ []) c.pieces
+        (whole.text ∙ ap (λ (z : Text). h.text ++ z) (sym (append-nil (word b)))) c.text;
+    tells = Tells-before whole.faults c.tells;
+  })
+  carries_on-word site b {h = h} (word_cut cause given cut_short tells) = is_over (λ k. record {
+    pieces = record { origin = of_word site b; text = cut_short.front } ∷ [];
+    outcome = Faulted (plain_fault true);
+    runs = cut refl (cut_off cut_short.is_front);
+    text = cut_short.text ∙ ap (λ (z : Text). h.text ++ z) (sym (append-nil cut_short.front));
+    tells = fault cause (plain_fault true) given cut_short.faults tells;
+  })
 
   -- ---- values, and what is done with them
 
@@ -204,6 +234,30 @@ module _ (p : Setting) (may : Error → Type 0) where
       → CarriesOn p (refuse_for x) may (at s h) (Err e) (at next h)
   carries_on-refuse e is = is_over (λ k. carries-refuse e is)
 
+  pub carries_on-no_memory : {m : Prog (Unit {0})} {s next : State} {h : Held} (e : RenderError)
+      → reason_in e ≡ out_of_memory → CarriesOn p m may (at s h) (Err e) (at next h)
+  carries_on-no_memory e memory = is_over (λ k. carries-no_memory e memory)
+
+  -- an error that says so, as `?` hands it on
+  pub carries_on-out_of_memory : {m : Prog (Unit {0})} {s next : State} {h : Held} (r : Result (Unit {0}) RenderError)
+      → IsErrAnd r (λ e. refusal_of e ≡ plain_refusal out_of_memory) → CarriesOn p m may (at s h) r (at next h)
+  carries_on-out_of_memory (Ok u) is = absurd is
+  carries_on-out_of_memory (Err e) is = carries_on-no_memory e (ap (λ (f : Refusal). f.reason) is)
+
+  -- ---- one program behind another
+
+  pub carries_on-then : (m n : Prog (Unit {0})) {before mid after : Moment} {u : Unit {0}} {r : Answered}
+      → CarriesOn p m may before (Ok u) mid → CarriesOn p n may mid r after → CarriesOn p (m >> n) may before r after
+  unfolding ◌>>◌
+  carries_on-then m n (goes_on c) (goes_on d) =
+      goes_on (λ k r last e. c (λ v. n k) r last (d k r last e))
+  carries_on-then m n (goes_on c) (is_over {e = e} {after = after} d) = is_over (λ k. c (λ v. n k) (Err e) after (d k))
+
+  pub carries_on-over : (m n : Prog (Unit {0})) {before after : Moment} {e : RenderError}
+      → CarriesOn p m may before (Err e) after → CarriesOn p (m >> n) may before (Err e) after
+  unfolding ◌>>◌
+  carries_on-over m n (is_over c) = is_over (λ k. c (λ v. n k))
+
   -- ---- escaping off, and then as before
 
   -- behind an error the state may be any
@@ -217,6 +271,10 @@ module _ (p : Setting) (may : Error → Type 0) where
       → CarriesOut p k may before (Err e) (at next new) → CarriesOut p k may before (Err e) (at other new)
   carries-elsewhere c =
       record { pieces = c.pieces; outcome = c.outcome; runs = c.runs; text = c.text; tells = Tells-elsewhere c.tells }
+
+  pub carries_on-elsewhere : {m : Prog (Unit {0})} {before : Moment} {e : RenderError} {next other : State} {new : Held}
+      → CarriesOn p m may before (Err e) (at next new) → CarriesOn p m may before (Err e) (at other new)
+  carries_on-elsewhere (is_over c) = is_over (λ k. carries-elsewhere (c k))
 
   pub carries-unescaped : {m : Prog (Unit {0})} {s off next last : State} {h new : Held} {r : Answered}
       → off ≡ record s { escapes = false } → last ≡ record next { escapes = s.escapes }
@@ -246,6 +304,32 @@ module _ (p : Setting) (may : Error → Type 0) where
       let back : Unit {0} → Steps = λ v. Get (λ z. Set (record z { line = line_out s.line z.line }) (k tt)) in
       carries-get (carries-set (subst (λ (z : State). CarriesOut p (m back) may (at z h) (Err e) (at last new)) starts
       (carries-elsewhere (c back)))))
+
+  -- ---- another state
+
+  pub carries_on-change : (f : State → State) {s next : State} {h : Held} {u : Unit {0}} → next ≡ f s
+      → CarriesOn p (change f) may (at s h) (Ok u) (at next h)
+  unfolding ◌>>=◌
+  carries_on-change f {h = h} is = goes_on (λ k r last c.
+      carries-get (carries-set (subst (λ (z : State). CarriesOut p (k tt) may (at z h) r last) is c)))
+
+  -- a state changed, and what is done from there
+  pub carries_on-changed : (f : State → State) (m : Prog (Unit {0})) {s mid : State} {h : Held} {after : Moment}
+      {r : Answered} → mid ≡ f s → CarriesOn p m may (at mid h) r after → CarriesOn p (change f >> m) may (at s h) r after
+  carries_on-changed f m {mid = mid} is a =
+      carries_on-then (change f) m (carries_on-change f {next = mid} {u = tt} is) a
+
+  -- a block of scope around what is done
+  pub carries_on-in_block : (f : Frame) (m : Prog (Unit {0})) {s mid next last : State} {h new : Held} {r : Answered}
+      → mid ≡ entered f s → last ≡ left next
+      → CarriesOn p m may (at mid h) r (at next new) → CarriesOn p (in_block f m) may (at s h) r (at last new)
+  unfolding ◌>>◌
+  carries_on-in_block f m starts ends (goes_on {u = u} c) =
+      carries_on-changed (entered f) (m >> change left) starts
+      (carries_on-then m (change left) (goes_on {u = u} c) (carries_on-change left ends))
+  carries_on-in_block f m starts ends (is_over c) =
+      carries_on-changed (entered f) (m >> change left) starts
+      (carries_on-over m (change left) (carries_on-elsewhere (is_over c)))
 
   -- ---- a part, and what comes next
 

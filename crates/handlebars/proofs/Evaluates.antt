@@ -1,5 +1,5 @@
 -- What a text leads to, as a path.
-use Rattle.std.proofs.Common.{◌≡◌, ◌≢◌, Result, Ok, Err, sym, ap, ◌∙◌, subst}
+use Rattle.std.proofs.Common.{◌≡◌, ◌≢◌, Bool, List, Result, Ok, Err, sym, ap, ◌∙◌, subst}
 use Rattle.std.specs.Prelude.{IsErrAnd, IfOk, IfErr}
 use Rattle.serde_json.specs.Data.{Data}
 use Rattle.handlebars_base.specs.Answers.{gives, refuses, Answers}
@@ -10,27 +10,30 @@ use Rattle.handlebars_base.specs.RenderRefusals.{plain_refusal, reason_in, refus
 use Rattle.handlebars_base.specs.Scoped.{Found}
 use Rattle.handlebars_base.specs.declared.error.render_error.RenderError.{RenderError}
 use Rattle.handlebars_scope.specs.Resolve.{resolved}
+use Rattle.handlebars_scope.specs.Scopes.{Frame}
 use Rattle.handlebars.specs.Expand.{Evaluates, leads, leads_nowhere}
 
-pub evaluates_nowhere : {T : Type 0} (given : Data) (t : Text) (r : Result T RenderError) (e : RenderError)
-    → IsErrAnd r (λ d. d ≡ e)
-    → (reason_in e ≢ out_of_memory → (refusal_of e ≡ plain_refusal (invalid_json_path t))
-    × ((means : Reference) → IsPath t means → ⊥))
-    → IfErr r (λ d. reason_in d ≢ out_of_memory → Evaluates given t (refuses (refusal_of d)))
-evaluates_nowhere given t (Ok x) e is h = absurd is
-evaluates_nowhere given t (Err d) e is h = λ other.
-    let k = h (λ memory. other (ap reason_in is ∙ memory)) in
-    subst (λ (z : Refusal). Evaluates given t (refuses z)) (sym (ap refusal_of is ∙ k.0)) (leads_nowhere k.1)
+module _ (recursive : Bool) (blocks : List Frame) (given : Data) (t : Text) where
+  pub evaluates_nowhere : {T : Type 0} (r : Result T RenderError) (e : RenderError)
+      → IsErrAnd r (λ d. d ≡ e)
+      → (reason_in e ≢ out_of_memory → (refusal_of e ≡ plain_refusal (invalid_json_path t))
+      × ((means : Reference) → IsPath t means → ⊥))
+      → IfErr r (λ d. reason_in d ≢ out_of_memory → Evaluates recursive blocks given t (refuses (refusal_of d)))
+  evaluates_nowhere (Ok x) e is h = absurd is
+  evaluates_nowhere (Err d) e is h = λ other.
+      let k = h (λ memory. other (ap reason_in is ∙ memory)) in
+      subst (λ (z : Refusal). Evaluates recursive blocks given t (refuses z)) (sym (ap refusal_of is ∙ k.0))
+      (leads_nowhere k.1)
 
-pub evaluates_to : {T : Type 0} (given : Data) (t : Text) (seen : T → Found)
-    (r : Result T RenderError) (means : Reference) → IsPath t means
-    → Answers seen r (resolved means given) → IfOk r (λ x. Evaluates given t (gives (seen x)))
-evaluates_to given t seen (Ok x) means path answer = leads path answer
-evaluates_to given t seen (Err e) means path answer = tt
+  module _ {T : Type 0} (seen : T → Found) where
+    pub evaluates_to : (r : Result T RenderError) (means : Reference) → IsPath t means
+        → Answers seen r (resolved recursive blocks means given)
+        → IfOk r (λ x. Evaluates recursive blocks given t (gives (seen x)))
+    evaluates_to (Ok x) means path answer = leads path answer
+    evaluates_to (Err e) means path answer = tt
 
-pub evaluation_refused : {T : Type 0} (given : Data) (t : Text) (seen : T → Found)
-    (r : Result T RenderError) (means : Reference) → IsPath t means
-    → Answers seen r (resolved means given)
-    → IfErr r (λ e. reason_in e ≢ out_of_memory → Evaluates given t (refuses (refusal_of e)))
-evaluation_refused given t seen (Ok x) means path answer = tt
-evaluation_refused given t seen (Err e) means path answer = λ other. leads path (answer other)
+    pub evaluation_refused : (r : Result T RenderError) (means : Reference) → IsPath t means
+        → Answers seen r (resolved recursive blocks means given)
+        → IfErr r (λ e. reason_in e ≢ out_of_memory → Evaluates recursive blocks given t (refuses (refusal_of e)))
+    evaluation_refused (Ok x) means path answer = tt
+    evaluation_refused (Err e) means path answer = λ other. leads path (answer other)

@@ -5,6 +5,7 @@ pub mod Carry
 pub mod Puts
 pub mod Elements
 pub mod Calls
+pub mod Next
 pub mod Kept
 pub mod Lists
 pub mod AnswerLaws
@@ -16,3 +17,10 @@ mod Evaluates
 mod Lone
 mod Ordered
 pub mod Values
+pub mod ScopeRows
+mod Silent
+mod Words
+mod Turns
+mod ScopeTrees
+pub mod HelperRows
+mod HelperTrees

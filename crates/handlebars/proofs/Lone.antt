@@ -12,9 +12,9 @@ use Rattle.handlebars_scope.specs.Sites.{Site}
 use Rattle.handlebars.specs.State.{Setting, State}
 use Rattle.handlebars.specs.Steps.{Prog, answer, state, ◌>>=◌}
 use Rattle.handlebars.specs.Expand.{inner_value, lone_name}
-use Rattle.handlebars.specs.Runs.{got, refused, GivesValue, RefusesValue}
+use Rattle.handlebars.specs.Runs.{got, GivesValue, RefusesValue}
 use Rattle.handlebars.specs.View.{Yields, YieldsPresent}
-use Rattle.handlebars.proofs.Gives.{gives-return, gives-bind, refuses-bind}
+use Rattle.handlebars.proofs.Gives.{gives-return, gives-bind, gives-answer, refuses-bind, refuses-answer}
 
 refuses_or : {A : Type 0} → Refusal → Answer A → Refusal
 refuses_or d (gives x) = d
@@ -39,6 +39,15 @@ gives-injective {x = x} e = ap (gives_or x) e
 gives≢refuses : {A : Type 0} {x : A} {r : Refusal} → gives x ≡ no_value A r → ⊥
 gives≢refuses e = cc
 
+gives-seen : (a : Answer Found) (o : Option Data) → answer_map present_in a ≡ gives o
+    → (found : Found) × (a ≡ gives found) × (present_in found ≡ o)
+gives-seen (gives found) o e = (found, refl, gives-injective e)
+gives-seen (refuses r) o e = absurd (gives≢refuses (sym e))
+
+refuses-seen : (a : Answer Found) (r : Refusal) → answer_map present_in a ≡ refuses r → a ≡ refuses r
+refuses-seen (gives found) r e = absurd (gives≢refuses e)
+refuses-seen (refuses q) r e = ap (no_value Found) (refuses-injective e)
+
 module _ (p : Setting) where
   pub gives-lone : (site : Site) (e : Element) (found : Found) (t : Text) {s : State} → t ≡ rendered (data_in found)
       → GivesValue p (inner_value p site e) s found
@@ -58,17 +67,15 @@ module _ (p : Setting) where
   yields-present seen m s (Ok x) y = (seen x, y, refl)
   yields-present seen m s (Err e) y = y
 
-  pub gives-resolved : (a : Answer Found) (o present : Option Data) (s : State) → answer_map present_in a ≡ gives o
-      → present ≡ o
-      → (found : Found) × GivesValue p (state >>= (λ z. answer a)) s found × (present_in found ≡ present)
-  unfolding ◌>>=◌
-  gives-resolved (gives found) o present s e is = (found, λ k ps q r. got r, gives-injective e ∙ sym is)
-  gives-resolved (refuses r) o present s e is = absurd (gives≢refuses (sym e))
+  module _ (f : State → Answer Found) (s : State) where
+    pub gives-resolved : (o present : Option Data) → answer_map present_in (f s) ≡ gives o → present ≡ o
+        → (found : Found) × GivesValue p (state >>= (λ z. answer (f z))) s found × (present_in found ≡ present)
+    unfolding ◌>>=◌
+    gives-resolved o present e is =
+        let x = gives-seen (f s) o e in
+        (x.0, λ k ps q r. got (gives-answer p x.1 k ps q r), x.2 ∙ sym is)
 
-  pub refuses-resolved : (a : Answer Found) (r : Refusal) (s : State) → answer_map present_in a ≡ refuses r
-      → RefusesValue p (state >>= (λ z. answer a)) s r
-  unfolding ◌>>=◌
-  refuses-resolved (gives found) r s e = absurd (gives≢refuses e)
-  refuses-resolved (refuses q) r s e =
-      subst (λ (z : Refusal). RefusesValue p (state >>= (λ y. answer (no_value Found q))) s z)
-      (refuses-injective e) (λ k. got refused)
+    pub refuses-resolved : (r : Refusal) → answer_map present_in (f s) ≡ refuses r
+        → RefusesValue p (state >>= (λ z. answer (f z))) s r
+    unfolding ◌>>=◌
+    refuses-resolved r e k = got (refuses-answer p (refuses-seen (f s) r e) k)

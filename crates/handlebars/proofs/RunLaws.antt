@@ -5,7 +5,7 @@ use Rattle.handlebars_scope.specs.Outputs.{IsBeginning}
 use Rattle.handlebars_scope.specs.Put.{Piece, join}
 use Rattle.handlebars.specs.State.{Setting, State}
 use Rattle.handlebars.specs.Steps.{Task, Steps}
-use Rattle.handlebars.specs.Runs.{Outcome, Ended, Refused, Faulted, NoMemory, IsOver, IsStop, StopsHere, Front, none, cut_off, more, marked, Runs, done, refused, wrote, got, set, did, did_over, captured, captured_over, stop, cut}
+use Rattle.handlebars.specs.Runs.{Outcome, Ended, Refused, Faulted, NoMemory, IsOver, IsStop, StopsAt, Front, none, cut_off, more, marked, Runs, done, refused, wrote, got, set, did, did_over, captured, captured_over, stop, cut}
 
 pub join-append : (xs ys : List Piece) → join (xs ++ ys) ≡ join xs ++ join ys
 join-append [] ys = refl
@@ -33,11 +33,11 @@ abbrev pub IsWhole : Outcome → Type 0
 IsWhole o = IsStop o → ⊥
 
 -- a stop right here is one
-stops : (o : Outcome) → StopsHere o → IsStop o
-stops (Ended s) h = h
-stops (Refused f) h = h
-stops (Faulted f) h = tt
-stops NoMemory h = tt
+stops : (x : Piece) (o : Outcome) → StopsAt x o → IsStop o
+stops x (Ended s) h = h
+stops x (Refused f) h = h
+stops x (Faulted f) h = tt
+stops x NoMemory h = tt
 
 -- what is marked stops only where it stopped
 pub IsStop-marked : (t : Task) (o : Outcome) → IsStop o → IsStop (marked t o)
@@ -60,9 +60,9 @@ Runs-one refused refused h g = (refl, refl)
 Runs-one refused stop h g = absurd (g tt)
 Runs-one stop q h g = absurd (h tt)
 Runs-one (wrote {xs = xs} r) (wrote q) h g = let e = Runs-one r q h g in (ap (λ zs. xs ++ zs) e.0, e.1)
-Runs-one (wrote r) (cut {o = o} i b) h g = absurd (g (stops o i))
+Runs-one (wrote r) (cut {x = x} {o = o} i b) h g = absurd (g (stops x o i))
 Runs-one (wrote r) stop h g = absurd (g tt)
-Runs-one (cut {o = o} i b) q h g = absurd (h (stops o i))
+Runs-one (cut {x = x} {o = o} i b) q h g = absurd (h (stops x o i))
 Runs-one (got r) (got q) h g = Runs-one r q h g
 Runs-one (got r) stop h g = absurd (g tt)
 Runs-one (set r) (set q) h g = Runs-one r q h g
@@ -107,10 +107,10 @@ Runs-beginning done q h g = absurd h
 Runs-beginning refused q h g = absurd h
 Runs-beginning {qs = qs} stop q h g = (join qs, refl)
 Runs-beginning (wrote {xs = xs} {ps = ps} r) (wrote {ps = qs} q) h g = IsBeginning-join xs ps qs (Runs-beginning r q h g)
-Runs-beginning (wrote r) (cut {o = o} i b) h g = absurd (g (stops o i))
+Runs-beginning (wrote r) (cut {x = x} {o = o} i b) h g = absurd (g (stops x o i))
 Runs-beginning (wrote r) stop h g = absurd (g tt)
 Runs-beginning (cut {x = x} {xs = xs} {ys = ys} i b) (wrote {ps = qs} q) h g = IsBeginning-more ys (x ∷ xs) qs (IsBeginning-front b)
-Runs-beginning (cut i b) (cut {o = o} j c) h g = absurd (g (stops o j))
+Runs-beginning (cut i b) (cut {x = x} {o = o} j c) h g = absurd (g (stops x o j))
 Runs-beginning (cut i b) stop h g = absurd (g tt)
 Runs-beginning (got r) (got q) h g = Runs-beginning r q h g
 Runs-beginning (got r) stop h g = absurd (g tt)

@@ -45,8 +45,8 @@ run_of (suc n) p (Capture m f) s =
     let r = run_of n p m s in behind_capture r.outcome r.runs (run_of n p (f r.pieces) s)
 
 -- the run of a whole tree, where it takes less than a hundred steps in depth
-abbrev pub tree_run : (p : Setting) (t : Tree) → RunFrom p (render_tree t) first_state
-tree_run p t = run_of 99 p (render_tree t) first_state
+abbrev pub tree_run : (p : Setting) (t : Tree) → RunFrom p (render_tree t) (first_state p.parts.recursive)
+tree_run p t = run_of 99 p (render_tree t) (first_state p.parts.recursive)
 
 -- what a run gives as a text
 abbrev pub Gives : List Piece → Outcome → Text → Type 0
@@ -63,5 +63,6 @@ gives_as (Faulted f) h is = elim is [ ]
 gives_as NoMemory h is = elim is [ ]
 
 pub gives_text : {p : Setting} {begins : Beginning → Type 0} {t : Tree} {text : Text} → begins (a_tree t)
-    → (r : RunFrom p (render_tree t) first_state) → Gives r.pieces r.outcome text → GivesText p begins text
+    → (r : RunFrom p (render_tree t) (first_state p.parts.recursive)) → Gives r.pieces r.outcome text
+    → GivesText p begins text
 gives_text b r is = gives_as r.outcome (rendered b r.runs) is

@@ -1,6 +1,8 @@
--- What stands under a name behind a registration.
-use Rattle.std.proofs.Common.{◌≡◌, Bool, true, false, cond, Option, Some, option_map, refl, ap, ◌∙◌, String, Global}
+-- What stands under a name behind a registration, or where one was taken away.
+use Rattle.std.proofs.Common.{◌≡◌, Bool, true, false, cond, Option, Some, None, option_map, refl, ap, ◌∙◌, String, Global}
 use Rattle.std.specs.BTreeMap.{BTreeMap, UpdatesBy, get_by_text}
+use Rattle.std.specs.Cmp.Lexicographic.{slice_cmp}
+use Rattle.std.specs.Ordering.{nat_cmp}
 use Rattle.std.specs.Prelude.{string_bytes}
 use Rattle.std.specs.Str.{bytes_eq}
 use Rattle.std.specs.String.{string_cmp}
@@ -11,6 +13,18 @@ option_map-cond : {A B : Type 0} (f : A → B) (b : Bool) (x : A) (o : Option A)
     → option_map f (cond b (Some x) o) ≡ cond b (Some (f x)) (option_map f o)
 option_map-cond f true x o = refl
 option_map-cond f false x o = refl
+
+option_map-cond_none : {A B : Type 0} (f : A → B) (b : Bool) (o : Option A)
+    → option_map f (cond b None o) ≡ cond b None (option_map f o)
+option_map-cond_none f true o = refl
+option_map-cond_none f false o = refl
+
+pub get_by_text-removed : {A B : Type 0} (f : A → B) (m n : BTreeMap (String Global) A) (name : Text)
+    → UpdatesBy string_cmp (λ k. slice_cmp nat_cmp name (string_bytes k)) m n None
+    → (other : Text) → option_map f (get_by_text n other) ≡ cond (bytes_eq name other) None (option_map f (get_by_text m other))
+get_by_text-removed f m n name updates other =
+    ap (option_map f) (btree_map_updates_text name m n None updates other)
+    ∙ option_map-cond_none f (bytes_eq name other) (get_by_text m other)
 
 pub get_by_text-insert : {A B : Type 0} (f : A → B) (m n : BTreeMap (String Global) A) (key : String Global) (value : A) (name : Text) (t : B)
     → UpdatesBy string_cmp (string_cmp key) m n (Some value) → string_bytes key ≡ name → f value ≡ t

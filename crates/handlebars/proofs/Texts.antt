@@ -1,5 +1,5 @@
 -- What a rendering into a text answers.
-use Rattle.std.proofs.Common.{◌≡◌, ◌≢◌, ℕ, [], ◌++◌, Ok, Err, refl, ap, ◌∙◌, subst}
+use Rattle.std.proofs.Common.{◌≡◌, ◌≢◌, ℕ, Bool, true, false, [], ◌++◌, Ok, Err, refl, ap, ◌∙◌, subst}
 use Rattle.std.specs.declared.io.Error.{Error}
 use Rattle.std.specs.declared.io.ErrorKind.TheVariants.{OutOfMemory}
 use Rattle.std.specs.IoError.{error_kind}
@@ -12,18 +12,25 @@ use Rattle.handlebars_scope.specs.Put.{join}
 use Rattle.handlebars.specs.State.{Setting, State}
 use Rattle.handlebars.specs.Steps.{Steps}
 use Rattle.handlebars.specs.Runs.{Outcome, Ended, Refused, Runs}
-use Rattle.handlebars.specs.View.{Tells, ended, refusal, fault, no_memory, CarriesOut, GivesString, RefusesString}
+use Rattle.handlebars.specs.View.{TellsCause, word_reason, Tells, ended, refusal, fault, no_memory, CarriesOut, GivesString, RefusesString}
 use Rattle.handlebars.proofs.Carry.{at}
 
 ended_so : {may : Error → Type 0} {before after : ℕ} {o : Outcome} {u : Unit {0}} {next : State}
     → Tells may before after o (Ok u) next → o ≡ Ended next
 ended_so (ended same) = refl
 
+-- want of memory keeps its name, at a word too
+memory_kept : (cause : Error) (at_word : Bool) (e : RenderError) → TellsCause cause at_word e
+    → error_kind cause ≡ OutOfMemory → reason_in e ≡ out_of_memory
+memory_kept cause false e tells is = tells.0 ∙ ap write_reason is
+memory_kept cause true e tells is = tells.1 ∙ ap (λ kind. word_reason kind tells.0) is
+
 refused_so : {may : Error → Type 0} {before after : ℕ} {o : Outcome} {e : RenderError} {next : State}
     → ((cause : Error) → may cause → error_kind cause ≡ OutOfMemory) → reason_in e ≢ out_of_memory
     → Tells may before after o (Err e) next → o ≡ Refused (refusal_of e)
 refused_so only other (refusal same) = refl
-refused_so only other (fault cause f given count tells) = absurd (other (tells.reason other ∙ ap write_reason (only cause given)))
+refused_so {e = e} only other (fault cause f given count tells) =
+    absurd (other (memory_kept cause f.at_word e (tells.why other) (only cause given)))
 refused_so only other (no_memory same is) = absurd (other is)
 
 module _ (p : Setting) (k : Steps) (may : Error → Type 0) where

@@ -1,6 +1,6 @@
 -- How the values of calls compose.
-use Rattle.std.proofs.Common.{◌≡◌, ◌≢◌, ◌++◌, ℕ, ◌+◌, ◌<◌, ◌≤◌, List, [], ◌∷◌, length, drop, get_or, Bool, Option, Some, None, Result, Ok, Err, String, Global, rules, refl, sym, ap, ◌∙◌, subst, append_assoc, append-nil}
-use Rattle.std.specs.Prelude.{IsErrAnd}
+use Rattle.std.proofs.Common.{◌≡◌, ◌≢◌, ◌++◌, ℕ, ◌+◌, ◌<◌, ◌≤◌, List, [], ◌∷◌, length, drop, get_or, Bool, false, Option, Some, None, Result, Ok, Err, String, Global, rules, refl, sym, ap, ◌∙◌, subst, append_assoc, append-nil}
+use Rattle.std.specs.Prelude.{IfErr, IfOk, IsErrAnd, unwrap_or}
 use Rattle.std.proofs.lemmas.List.{drop_more, drop_all}
 use Rattle.std.specs.String.{string_bytes}
 use Rattle.serde_json.specs.Data.{string}
@@ -24,14 +24,16 @@ use Rattle.handlebars_template.specs.declared.template.tree.Subexpression.{Subex
 use Rattle.handlebars_template.specs.declared.template.tree.BlockParam as tree
 use Rattle.handlebars_template.proofs.Levels.{call_name-view, call_params-view, call_pairs-view, decorator_name-view, decorator_params-view, decorator_pairs-view}
 use Rattle.handlebars_scope.specs.Sites.{Site}
-use Rattle.handlebars_helpers.specs.CallView.{CallView}
-use Rattle.handlebars_helpers.specs.Choice.{Kind, Choice, the_body, the_inverse, chosen}
-use Rattle.handlebars.specs.State.{Setting, State}
-use Rattle.handlebars.specs.Steps.{Prog, return, answer, refuse, state, ◌>>=◌, ◌>>◌}
+use Rattle.handlebars_helpers.specs.CallView.{CallView, HelperView}
+use Rattle.handlebars_helpers.specs.Choice.{Kind, Choice, the_body, the_inverse, body_in_block, body_in_turns, the_value, the_word, nothing, value_in, chosen}
+use Rattle.handlebars.specs.State.{Setting, State, helper_for}
+use Rattle.handlebars.specs.Steps.{Prog, return, answer, refuse, state, ◌>>=◌}
+use Rattle.handlebars.specs.CarryOut.{inner_call}
 use Rattle.handlebars.specs.Expand.{is_literal, expand, expands, expand_as_name, inner_value, params_values, pairs_values, view_of_call, view_of_tag, helped_value, choice_value}
-use Rattle.handlebars.specs.Runs.{Refused, Runs, refused, got, set, done, captured, GivesValue, RefusesValue}
+use Rattle.handlebars.specs.Runs.{Refused, Runs, refused, got, GivesValue, RefusesValue}
 use Rattle.handlebars.specs.View.{Yields}
 use Rattle.handlebars.proofs.Gives.{gives-return, gives-bind, gives-answer, refuses-bind, refuses-then, refuses-answer}
+use Rattle.handlebars.proofs.Silent.{gives-captured, silent-carry_out}
 
 pub subexpression_view-out : (s : Subexpression)
     → subexpression_view s ≡ element_view (out-Subexpression s).element.value
@@ -48,6 +50,18 @@ params-here qs i q lt is = ap params_view (drop_more qs i q lt)
 
 pub params-past : (qs : List Parameter) (i : ℕ) → length qs ≤ i → params_view (drop i qs) ≡ params_view []
 params-past qs i over = ap params_view (drop_all i qs over)
+
+-- what stands under the name that a call in parentheses shows
+pub named-in_parentheses : {X : Type 0} (named : Text → Option X) (h : HelperView) (v : CallView) (name : Text)
+    {found : Option X}
+    → h ≡ inner_call v → name ≡ h.call.name → named name ≡ found → named v.name ≡ found
+named-in_parentheses named h v name is same stands = ap named (sym (same ∙ ap (λ z. z.call.name) is)) ∙ stands
+
+-- what is chosen for such a call
+pub chosen-in_parentheses : (k : Kind) {h : HelperView} {v : CallView} {mode strict : Bool} {a : Answer Choice}
+    → h ≡ inner_call v → mode ≡ strict → chosen mode k h ≡ a → chosen strict k (inner_call v) ≡ a
+chosen-in_parentheses k {v = v} {mode = mode} is same chooses =
+    ap (λ (z : Bool). chosen z k (inner_call v)) (sym same) ∙ ap (chosen mode k) (sym is) ∙ chooses
 
 module _ (p : Setting) where
   -- a refusal as the code has it
@@ -74,32 +88,51 @@ module _ (p : Setting) where
 
   -- ---- calls in parentheses
 
-  -- what a helper chooses writes nothing there
-  gives-choice : (site : Site) (choice : Choice) {s : State}
-      → GivesValue p (choice_value site choice) s (Found.value (string []))
-  unfolding ◌>>=◌ ◌>>◌
-  gives-choice site the_body = λ k ps o r. captured (got (set done)) r
-  gives-choice site the_inverse = λ k ps o r. captured (got (set done)) r
+  -- a value is itself, and else nothing is captured
+  gives-choice : (site : Site) (v : CallView) (choice : Choice) {s : State}
+      → GivesValue p (choice_value site (inner_call v) choice) s (Found.value (unwrap_or (value_in choice) (string [])))
+  gives-choice site v the_body = gives-captured p (silent-carry_out p site v the_body refl)
+  gives-choice site v the_inverse = gives-captured p (silent-carry_out p site v the_inverse refl)
+  gives-choice site v (body_in_block base) = gives-captured p (silent-carry_out p site v (body_in_block base) refl)
+  gives-choice site v (body_in_turns path ts) =
+      gives-captured p (silent-carry_out p site v (body_in_turns path ts) refl)
+  gives-choice site v (the_value d) = gives-return p
+  gives-choice site v (the_word b) = gives-return p
+  gives-choice site v nothing = gives-captured p (silent-carry_out p site v nothing refl)
 
-  pub gives-helped : (site : Site) (h : Option Kind) (k : Kind) (v : CallView) (choice : Choice)
-      (found : Found) {s : State}
-      → h ≡ Some k → chosen k v ≡ gives choice → found ≡ Found.value (string [])
-      → GivesValue p (helped_value site h v) s found
-  gives-helped site h k v choice found {s = s} is chooses same =
-      subst (λ (z : Option Kind). GivesValue p (helped_value site z v) s found) (sym is)
-      (subst (λ (z : Found). GivesValue p (helped_value site (Some k) v) s z) (sym same)
-      (gives-bind p (answer (chosen k v)) (choice_value site) (gives-answer p chooses) (gives-choice site choice)))
+  module _ (strict : Bool) (site : Site) (h : Option Kind) (v : CallView) where
+    gives-helped : (k : Kind) (choice : Choice) (found : Found) {s : State}
+        → h ≡ Some k → chosen strict k (inner_call v) ≡ gives choice
+        → found ≡ Found.value (unwrap_or (value_in choice) (string []))
+        → GivesValue p (helped_value strict site h (inner_call v)) s found
+    gives-helped k choice found {s = s} is chooses same =
+        subst (λ (z : Option Kind). GivesValue p (helped_value strict site z (inner_call v)) s found) (sym is)
+        (subst (λ (z : Found). GivesValue p (helped_value strict site (Some k) (inner_call v)) s z) (sym same)
+        (gives-bind p (answer (chosen strict k (inner_call v))) (choice_value site (inner_call v)) (gives-answer p chooses)
+        (gives-choice site v choice)))
 
-  pub refuses-helped : (site : Site) (h : Option Kind) (k : Kind) (v : CallView) {s : State} {r : Refusal}
-      → h ≡ Some k → chosen k v ≡ refuses r → RefusesValue p (helped_value site h v) s r
-  refuses-helped site h k v {s = s} {r = r} is refusal =
-      subst (λ (z : Option Kind). RefusesValue p (helped_value site z v) s r) (sym is)
-      (refuses-bind p (answer (chosen k v)) (choice_value site) (refuses-answer p refusal))
+    -- the value that is chosen, where there is memory for it
+    pub yields-helped : {T : Type 0} (seen : T → Found) (k : Kind) (choice : Choice) (s : State)
+        (r : Result T RenderError) → h ≡ Some k → chosen strict k (inner_call v) ≡ gives choice
+        → IfOk r (λ x. seen x ≡ Found.value (unwrap_or (value_in choice) (string [])))
+        → IfErr r (λ e. reason_in e ≡ out_of_memory)
+        → Yields p (helped_value strict site h (inner_call v)) s seen r
+    yields-helped seen k choice s (Ok x) is chooses same memory = gives-helped k choice (seen x) is chooses same
+    yields-helped seen k choice s (Err e) is chooses same memory = λ other. absurd (other memory)
 
-  pub refuses-unknown : (site : Site) (h : Option Kind) (v : CallView) {s : State} (e : RenderError) → h ≡ None
-      → refusal_of e ≡ plain_refusal (helper_not_found v.name) → RefusesValue p (helped_value site h v) s (refusal_of e)
-  refuses-unknown site h v {s = s} e is same =
-      subst (λ (z : Option Kind). RefusesValue p (helped_value site z v) s (refusal_of e)) (sym is) (refuses-so e same)
+    pub refuses-helped : (k : Kind) {s : State} {r : Refusal} → h ≡ Some k → chosen strict k (inner_call v) ≡ refuses r
+        → RefusesValue p (helped_value strict site h (inner_call v)) s r
+    refuses-helped k {s = s} {r = r} is refusal =
+        subst (λ (z : Option Kind). RefusesValue p (helped_value strict site z (inner_call v)) s r) (sym is)
+        (refuses-bind p (answer (chosen strict k (inner_call v))) (choice_value site (inner_call v))
+        (refuses-answer p refusal))
+
+    pub refuses-unknown : {s : State} (e : RenderError) → h ≡ None
+        → refusal_of e ≡ plain_refusal (helper_not_found v.name)
+        → RefusesValue p (helped_value strict site h (inner_call v)) s (refusal_of e)
+    refuses-unknown {s = s} e is same =
+        subst (λ (z : Option Kind). RefusesValue p (helped_value strict site z (inner_call v)) s (refusal_of e)) (sym is)
+        (refuses-so e same)
 
   pub yields-then : {T A B : Type 0} (seen : T → B) (m : Prog A)
       (f : A → Prog B) {s : State} {a : A} (r : Result T RenderError)
@@ -114,14 +147,13 @@ module _ (p : Setting) where
   yields-state seen f s (Err e) y = λ other k. got (y other k)
 
   -- the value of a call, by its view
-  pub yields-call : {T : Type 0} (seen : T → Found)
-      (site : Site) (c : Call) (v w : CallView) {s : State} (r : Result T RenderError)
-      → v ≡ w → GivesValue p (view_of_call p site c) s w
-      → Yields p (helped_value site (p.parts.helper v.name) v) s seen r
+  pub yields-call : {T : Type 0} (seen : T → Found) (site : Site) (c : Call) (v : CallView) {s : State}
+      (r : Result T RenderError)
+      → GivesValue p (view_of_call p site c) s v
+      → Yields p (helped_value p.parts.strict site (helper_for p.parts false v.name) (inner_call v)) s seen r
       → Yields p (inner_value p site (expression c)) s seen r
-  yields-call seen site c v w {s = s} r is g y =
-      yields-then seen (view_of_call p site c) (λ v. helped_value site (p.parts.helper v.name) v) r g
-      (subst (λ (z : CallView). Yields p (helped_value site (p.parts.helper z.name) z) s seen r) is y)
+  yields-call seen site c v r g y = yields-then seen (view_of_call p site c)
+      (λ v. helped_value p.parts.strict site (helper_for p.parts false v.name) (inner_call v)) r g y
 
   -- ---- names
 

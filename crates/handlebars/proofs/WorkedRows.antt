@@ -86,5 +86,7 @@ block_row given b i = rendered (is_stored refl) (tree_run _ _).runs
 
 pub inner_if_row : InnerIfRow
 unfolding ◌>>=◌ ◌>>◌
-inner_if_row true site s k ps o h = got (captured (got (set done)) h)
-inner_if_row false site s k ps o h = got (captured (got (set done)) h)
+inner_if_row true true site s k ps o h = got (captured (got (set done)) h)
+inner_if_row true false site s k ps o h = got (captured (got (set done)) h)
+inner_if_row false true site s k ps o h = got (captured (got (set done)) h)
+inner_if_row false false site s k ps o h = got (captured (got (set done)) h)

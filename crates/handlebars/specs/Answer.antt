@@ -7,8 +7,9 @@ use Rattle.handlebars_template.specs.Tree.{Tree}
 use Rattle.handlebars_template.specs.Compile.{Options, Compiles, compiled, refused}
 use Rattle.handlebars_scope.specs.Put.{Piece, join}
 use Rattle.handlebars.specs.State.{Setting, State, first_state}
+use Rattle.handlebars.specs.Means.{render_tree}
 use Rattle.handlebars.specs.Runs.{Outcome, Ended, Refused, IsStop, Means}
-use Rattle.handlebars.specs.Origins.{HaveOrigins}
+use Rattle.handlebars.specs.Origins.{Comes, HaveOrigins}
 
 -- what a rendering begins with: a tree, or a refusal before anything is written
 pub data Beginning : Type 0 where
@@ -26,10 +27,10 @@ pub data FromName (stored : Text → Option Tree) (name : Text) : Beginning → 
   is_stored : {t : Tree} → stored name ≡ Some t → FromName stored name (a_tree t)
   is_not : stored name ≡ None → FromName stored name (no_tree (plain_refusal (template_not_found name)))
 
--- A tree means its answer, from the first state on.
+-- A tree means its answer, from the first state on, with recursive lookup or without.
 pub data RenderAnswers (p : Setting) (begins : Beginning → Type 0) : List Piece → Outcome → Type 0 where
   not_begun : {r : Refusal} → begins (no_tree r) → RenderAnswers p begins [] (Refused r)
-  rendered : {t : Tree} {ps : List Piece} {o : Outcome} → begins (a_tree t) → Means p t first_state ps o
+  rendered : {t : Tree} {ps : List Piece} {o : Outcome} → begins (a_tree t) → Means p t (first_state p.parts.recursive) ps o
       → RenderAnswers p begins ps o
 
 -- The text is that of the answer, which ends well.
@@ -50,7 +51,9 @@ HasOneAnswer p begins = (ps qs : List Piece) (o q : Outcome)
     → RenderAnswers p begins ps o → RenderAnswers p begins qs q
     → (IsStop o → ⊥) → (IsStop q → ⊥) → (ps ≡ qs) × (o ≡ q)
 
--- Each piece of an answer comes from the tree that it begins with and the data.
+-- Each piece of an answer comes from the tree that it begins with: it is a part of a text of the tree, or of the value
+-- or the boolean helper's word that is written at its site in a state in which the run comes there.
 abbrev pub AnswerHasOrigins : Setting → (Beginning → Type 0) → Type 0
 AnswerHasOrigins p begins = (t : Tree) (ps : List Piece) (o : Outcome)
-    → begins (a_tree t) → RenderAnswers p begins ps o → HaveOrigins p t ps
+    → begins (a_tree t) → RenderAnswers p begins ps o
+    → HaveOrigins p t (Comes p (render_tree t) (first_state p.parts.recursive)) ps

@@ -5,17 +5,20 @@ use Rattle.handlebars_base.specs.Answers.{Answer, refuses_for}
 use Rattle.handlebars_base.specs.Bytes.{Text}
 use Rattle.handlebars_base.specs.Path.{Reference, raw_of, IsPath}
 use Rattle.handlebars_base.specs.PathAndData.{PathAndData}
+use Rattle.handlebars_base.specs.PathReading.{with_or}
 use Rattle.handlebars_base.specs.Reasons.{helper_not_found, invalid_json_path}
 use Rattle.handlebars_base.specs.Scoped.{Found, value, missing, data_in}
 use Rattle.handlebars_base.specs.Values.{rendered}
-use Rattle.handlebars_template.specs.Tree.{Element, raw_string, html_expression, expression, helper_block, decorator_expression, decorator_block, partial_expression, partial_block, comment, Call, call, Decorator, decorator, args, Param, name, path, literal, subexpression, Params, no_params, param, Pairs, no_pairs, pair, Body, no_body, body, as_name}
+use Rattle.handlebars_template.specs.Tree.{Element, raw_string, html_expression, expression, helper_block, decorator_expression, decorator_block, partial_expression, partial_block, comment, Call, call, Decorator, decorator, args, Param, name, path, literal, subexpression, Params, no_params, param, Pairs, no_pairs, pair, as_name}
 use Rattle.handlebars_scope.specs.Put.{join}
 use Rattle.handlebars_scope.specs.Resolve.{resolved}
-use Rattle.handlebars_scope.specs.Sites.{TreeSite, body_at, inverse_at, Site}
-use Rattle.handlebars_helpers.specs.CallView.{CallView}
-use Rattle.handlebars_helpers.specs.Choice.{Kind, Choice, the_body, the_inverse, chosen}
-use Rattle.handlebars.specs.State.{Setting, data_at}
-use Rattle.handlebars.specs.Steps.{Prog, Whole, return, ◌>>=◌, ◌>>◌, refuse_for, answer, state, become, perform, capture}
+use Rattle.handlebars_scope.specs.Scopes.{Frame}
+use Rattle.handlebars_scope.specs.Sites.{Site}
+use Rattle.handlebars_helpers.specs.CallView.{CallView, HelperView}
+use Rattle.handlebars_helpers.specs.Choice.{Kind, Choice, value_in, chosen}
+use Rattle.handlebars.specs.State.{Setting, helper_for, data_at}
+use Rattle.handlebars.specs.CarryOut.{inner_call, carry_out}
+use Rattle.handlebars.specs.Steps.{Prog, return, ◌>>=◌, ◌>>◌, refuse_for, answer, state, become, capture}
 
 -- ---- values as they are written
 
@@ -29,17 +32,7 @@ is_literal (subexpression e) = false
 abbrev pub as_written : Param → Found → PathAndData
 as_written q found = record { relative_path = as_name q; found = found; is_constant = is_literal q }
 
--- ---- what helpers choose
-
--- a body or an inverse is rendered, where there is one
-abbrev pub render_branch : TreeSite → Body → Prog (Unit {0})
-render_branch at no_body = return tt
-render_branch at (body t) = perform (Whole at t)
-
--- What a helper chose is carried out, for a call with this body and this inverse.
-abbrev pub carry_out : Site → Body → Body → Choice → Prog (Unit {0})
-carry_out site b i the_body = render_branch (body_at site) b
-carry_out site b i the_inverse = render_branch (inverse_at site) i
+-- ---- calls in parentheses
 
 -- with escaping off
 abbrev pub raw : Prog (Unit {0}) → Prog (Unit {0})
@@ -54,14 +47,15 @@ captured_text steps = do
   ps ← capture (raw steps)
   return (value (string (join ps)))
 
--- In parentheses a helper's bodies count as absent, so what it chose writes nothing; its value is that text.
-abbrev pub choice_value : Site → Choice → Prog Found
-choice_value site choice = captured_text (carry_out site no_body no_body choice)
+-- In parentheses a value is itself. Of anything else that is chosen the value is the text that it writes there.
+abbrev pub choice_value : Site → HelperView → Choice → Prog Found
+choice_value site h choice =
+    with_or (value_in choice) (λ d. return (value d)) (captured_text (carry_out site h choice))
 
--- the value of a call of this view, where its name stands for this helper
-abbrev pub helped_value : Site → Option Kind → CallView → Prog Found
-helped_value site None v = refuse_for (helper_not_found v.name)
-helped_value site (Some k) v = answer (chosen k v) >>= choice_value site
+-- the value of a call of this view, which calls this helper
+abbrev pub helped_value : Bool → Site → Option Kind → HelperView → Prog Found
+helped_value strict site None h = refuse_for (helper_not_found h.call.name)
+helped_value strict site (Some k) h = answer (chosen strict k h) >>= choice_value site h
 
 -- ---- parameters and calls
 
@@ -70,10 +64,10 @@ abbrev pub called_by : Found → Text
 called_by v = rendered (data_in v)
 
 abbrev mutual
-  -- A name alone has no value. A path leads into the data. A literal is itself.
+  -- A name alone has no value. A path leads where the blocks and the data have it. A literal is itself.
   pub expands : Setting → Site → Param → Prog Found
   expands p site (name n) = return missing
-  expands p site (path r) = state >>= (λ s. answer (resolved r (data_at p s)))
+  expands p site (path r) = state >>= (λ s. answer (resolved s.recursive s.blocks r (data_at p s)))
   expands p site (literal d) = return (value d)
   expands p site (subexpression e) = inner_value p site e
 
@@ -81,7 +75,8 @@ abbrev mutual
   pub inner_value : Setting → Site → Element → Prog Found
   inner_value p site (raw_string t) = return missing
   inner_value p site (html_expression c) = return missing
-  inner_value p site (expression c) = view_of_call p site c >>= (λ v. helped_value site (p.parts.helper v.name) v)
+  inner_value p site (expression c) =
+      view_of_call p site c >>= (λ v. helped_value p.parts.strict site (helper_for p.parts false v.name) (inner_call v))
   inner_value p site (helper_block c) = return missing
   inner_value p site (decorator_expression t) = return missing
   inner_value p site (decorator_block t) = return missing
@@ -137,7 +132,9 @@ lone_value p site q (Some v) = return v
 
 -- ---- texts as paths
 
--- A text that is a path evaluates to what it leads to. Another is refused.
-pub data Evaluates (given : Data) (text : Text) : Answer Found → Type 0 where
-  leads : {r : Reference} {a : Answer Found} → IsPath text r → resolved r given ≡ a → Evaluates given text a
-  leads_nowhere : ((r : Reference) → IsPath text r → ⊥) → Evaluates given text (refuses_for (invalid_json_path text))
+-- A text that is a path evaluates to what it leads to in these blocks and this data. Another is refused.
+pub data Evaluates (recursive : Bool) (blocks : List Frame) (given : Data) (text : Text) : Answer Found → Type 0 where
+  leads : {r : Reference} {a : Answer Found} → IsPath text r → resolved recursive blocks r given ≡ a
+      → Evaluates recursive blocks given text a
+  leads_nowhere : ((r : Reference) → IsPath text r → ⊥)
+      → Evaluates recursive blocks given text (refuses_for (invalid_json_path text))

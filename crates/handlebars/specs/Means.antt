@@ -1,43 +1,21 @@
 -- What a template means: what each of its elements does, step by step.
 use Rattle.std.specs.Prelude.{ℕ, ◌+◌, Bool, true, false, ◌&&◌, ◌||◌, if◌then◌else◌, [], List, Option, None, Some, slice_get}
-use Rattle.serde_json.specs.Data.{Data}
 use Rattle.handlebars_base.specs.Bytes.{Text}
-use Rattle.handlebars_base.specs.Reasons.{helper_not_found, decorator_not_found, partial_not_found}
-use Rattle.handlebars_base.specs.Scoped.{Found, present_in}
+use Rattle.handlebars_base.specs.Reasons.{helper_not_found, missing_variable, decorator_not_found, partial_not_found}
+use Rattle.handlebars_base.specs.Scoped.{Found, walked, value, missing}
 use Rattle.handlebars_template.specs.Place.{Place}
-use Rattle.handlebars_template.specs.Tree.{Tree, tree, Elements, no_elements, element, Element, raw_string, html_expression, expression, helper_block, decorator_expression, decorator_block, partial_expression, partial_block, comment, Call, call_name, call_body, call_inverse, call_marks, is_value, Decorator}
-use Rattle.handlebars_scope.specs.Put.{Origin, of_text, of_value, of_raw, put, LineState}
-use Rattle.handlebars_scope.specs.Shown.{shown}
+use Rattle.handlebars_template.specs.Tree.{Tree, tree, Elements, no_elements, element, Element, raw_string, html_expression, expression, helper_block, decorator_expression, decorator_block, partial_expression, partial_block, comment, Call, call_name, call_marks, is_value, as_name, Decorator}
+use Rattle.handlebars_scope.specs.Put.{of_text, LineState}
 use Rattle.handlebars_scope.specs.Sites.{TreeSite, first_tree, Site, element_in}
-use Rattle.handlebars_helpers.specs.CallView.{CallView}
+use Rattle.handlebars_helpers.specs.CallView.{CallView, HelperView}
 use Rattle.handlebars_helpers.specs.Choice.{Kind, chosen}
-use Rattle.handlebars.specs.State.{Setting}
-use Rattle.handlebars.specs.Expand.{carry_out, lone_name, lone_value, view_of_call, view_of_tag}
-use Rattle.handlebars.specs.Steps.{Task, One, Whole, Steps, Done, Do, Prog, return, ◌>>=◌, ◌>>◌, run, refuse_for, answer, write, state, become, perform}
+use Rattle.handlebars.specs.State.{Setting, hook, helper_for}
+use Rattle.handlebars.specs.Writing.{write_text, write_value}
+use Rattle.handlebars.specs.CarryOut.{helper_call, carry_out}
+use Rattle.handlebars.specs.Expand.{lone_name, lone_value, view_of_call, view_of_tag}
+use Rattle.handlebars.specs.Steps.{Task, One, Whole, Steps, Done, Do, Prog, return, ◌>>=◌, ◌>>◌, run, refuse_for, answer, state, become, perform}
 
--- ---- writing
-
--- A text is written, and the line is then the one behind it.
-abbrev pub write_text : Origin → Text → Prog (Unit {0})
-write_text o t = do
-  s ← state
-  write (put o t s.line).0
-  become (record s { line = (put o t s.line).1 })
-
--- A value is rendered, and escaped where escaping is on. Where there is none, nothing is written.
-abbrev pub shown_if_any : Bool → Option Data → Text
-shown_if_any escapes None = []
-shown_if_any escapes (Some d) = shown escapes d
-
--- where a value that is written comes from
-abbrev pub value_origin : Bool → Site → Found → Origin
-value_origin true site v = of_value site v
-value_origin false site v = of_raw site v
-
-abbrev pub write_value : Site → Found → Prog (Unit {0})
-write_value site v = do
-  s ← state
-  write_text (value_origin s.escapes site v) (shown_if_any s.escapes (present_in v))
+-- ---- brackets
 
 -- with escaping off, which is then as before
 abbrev pub unescaped : Prog (Unit {0}) → Prog (Unit {0})
@@ -47,8 +25,6 @@ unescaped steps = do
   steps
   after ← state
   become (record after { escapes = before.escapes })
-
--- ---- calls
 
 -- Around a call the line takes note: indentation goes before the next text where it did, or where the tag's mark is set
 -- and the last text ended a line; and nothing counts as written yet.
@@ -70,32 +46,58 @@ in_bracket marked steps = do
   new ← state
   become (record new { line = line_out old.line new.line })
 
--- what a helper chooses for a call of this view
-abbrev pub render_chosen : Site → Call → Kind → CallView → Prog (Unit {0})
-render_chosen site c k v = answer (chosen k v) >>= carry_out site (call_body c) (call_inverse c)
+-- ---- calls
 
--- It is carried out in the bracket.
-abbrev pub render_helped : Site → Call → Kind → CallView → Prog (Unit {0})
-render_helped site c k v = in_bracket (call_marks c).indent_before_write (render_chosen site c k v)
+-- What a helper chooses for a call of this view is carried out.
+abbrev pub render_chosen : Bool → Site → Kind → HelperView → Prog (Unit {0})
+render_chosen strict site k h = answer (chosen strict k h) >>= carry_out site h
 
-abbrev pub render_called : Site → Call → Option Kind → CallView → Prog (Unit {0})
-render_called site c None v = refuse_for (helper_not_found v.name)
-render_called site c (Some k) v = render_helped site c k v
+-- A helper is called in the bracket, for a block or an expression.
+abbrev pub render_helped : Bool → Site → Bool → Call → Kind → CallView → Prog (Unit {0})
+render_helped strict site block c k v =
+    in_bracket (call_marks c).indent_before_write (render_chosen strict site k (helper_call block c v))
 
--- A block, and an expression with parameters or pairs, calls the helper of its name.
-abbrev pub render_call : Setting → Site → Call → Prog (Unit {0})
-render_call p site c = do
+abbrev pub render_called : Bool → Site → Bool → Call → Option Kind → CallView → Prog (Unit {0})
+render_called strict site block c None v = refuse_for (helper_not_found v.name)
+render_called strict site block c (Some k) v = render_helped strict site block c k v
+
+-- A block, and an expression with parameters or pairs, calls the helper of its name, else the hook.
+abbrev pub render_call : Setting → Site → Bool → Call → Prog (Unit {0})
+render_call p site block c = do
   v ← view_of_call p site c
-  render_called site c (p.parts.helper v.name) v
+  render_called p.parts.strict site block c (helper_for p.parts block v.name) v
+
+-- ---- lone expressions
+
+-- a name alone, with no parameters
+abbrev pub name_alone : Text → CallView
+name_alone name = record { name = name; params = []; pairs = [] }
+
+-- The hook is called for a missing value, and with no bracket. Without a hook nothing is written.
+abbrev pub render_hook : Bool → Site → Call → Text → Option Kind → Prog (Unit {0})
+render_hook strict site c name None = return tt
+render_hook strict site c name (Some k) = render_chosen strict site k (helper_call false c (name_alone name))
+
+-- Strict mode refuses a missing value, by its text as written.
+abbrev pub render_missing : Setting → Site → Call → Text → Prog (Unit {0})
+render_missing p site c name =
+    if p.parts.strict then refuse_for (missing_variable (as_name (call_name c)))
+    else render_hook p.parts.strict site c name (p.parts.helper (hook false))
+
+-- A value that is there is written.
+abbrev pub render_found : Setting → Site → Call → Text → Found → Prog (Unit {0})
+render_found p site c name (walked d path) = write_value site (walked d path)
+render_found p site c name (value d) = write_value site (value d)
+render_found p site c name missing = render_missing p site c name
 
 -- the value of a lone expression, which may have been made for its name
-abbrev pub render_value : Setting → Site → Call → Option Found → Prog (Unit {0})
-render_value p site c made = lone_value p site (call_name c) made >>= write_value site
+abbrev pub render_value : Setting → Site → Call → Text × Option Found → Prog (Unit {0})
+render_value p site c n = lone_value p site (call_name c) n.1 >>= render_found p site c n.0
 
 -- A lone expression calls the helper of its name, where there is one, and is a value else.
 abbrev pub render_lone_as : Setting → Site → Call → Text × Option Found → Option Kind → Prog (Unit {0})
-render_lone_as p site c n None = render_value p site c n.1
-render_lone_as p site c n (Some k) = render_helped site c k (record { name = n.0; params = []; pairs = [] })
+render_lone_as p site c n None = render_value p site c n
+render_lone_as p site c n (Some k) = render_helped p.parts.strict site false c k (name_alone n.0)
 
 abbrev pub render_lone : Setting → Site → Call → Prog (Unit {0})
 render_lone p site c = do
@@ -105,7 +107,12 @@ render_lone p site c = do
 -- ---- elements
 
 abbrev pub render_expression : Setting → Site → Call → Prog (Unit {0})
-render_expression p site c = if is_value c then render_lone p site c else render_call p site c
+render_expression p site c = if is_value c then render_lone p site c else render_call p site false c
+
+-- a block, or an expression
+abbrev pub render_tag : Setting → Site → Bool → Call → Prog (Unit {0})
+render_tag p site true c = render_call p site true c
+render_tag p site false c = render_expression p site c
 
 abbrev pub render_decorator : Setting → Site → Decorator → Prog (Unit {0})
 render_decorator p site t = do
@@ -123,7 +130,7 @@ abbrev pub render_element : Setting → Site → Element → Prog (Unit {0})
 render_element p site (raw_string t) = write_text (of_text site) t
 render_element p site (html_expression c) = unescaped (render_expression p site c)
 render_element p site (expression c) = render_expression p site c
-render_element p site (helper_block c) = render_call p site c
+render_element p site (helper_block c) = render_call p site true c
 render_element p site (decorator_expression t) = render_decorator p site t
 render_element p site (decorator_block t) = render_decorator p site t
 render_element p site (partial_expression t) = render_partial p site t

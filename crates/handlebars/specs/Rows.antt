@@ -1,5 +1,5 @@
 -- Worked sources, each with its answer over data.
-use Rattle.std.specs.Prelude.{List, [], ◌∷◌, ◌++◌, Some, None, codes, Bool, true, if◌then◌else◌}
+use Rattle.std.specs.Prelude.{List, [], ◌∷◌, ◌++◌, Some, None, codes, Bool, true, false, if◌then◌else◌}
 use Rattle.serde_json.specs.Data.{unsigned, Data, null, boolean, number, string, array, object, no_members, member, no_items, item}
 use Rattle.handlebars_base.specs.Bytes.{Text, backslash}
 use Rattle.handlebars_base.specs.Path.{named, relative}
@@ -11,6 +11,7 @@ use Rattle.handlebars_template.specs.Compile.{no_options, unreadable}
 use Rattle.handlebars_template.specs.Rows.{at, escaped_source}
 use Rattle.handlebars_template.specs.Tree.{Tree, tree, elements_of, Element, html_expression, expression, raw_string, helper_block, Call, call, args, bodies, Body, no_body, body, no_binding, no_pairs, params_of, Param, name, path, literal, subexpression}
 use Rattle.handlebars_scope.specs.Put.{of_text}
+use Rattle.handlebars_scope.specs.Scopes.{empty_frame}
 use Rattle.handlebars_scope.specs.Sites.{first_tree, Site, element_in}
 use Rattle.handlebars_helpers.specs.Choice.{built_in}
 use Rattle.handlebars.specs.State.{Setting, State}
@@ -25,7 +26,7 @@ with key d = object (member key d no_members)
 
 -- a run over data, with the helpers that every registry begins with
 abbrev pub over : Data → Setting
-over given = record { given = given; parts = record { helper = built_in } }
+over given = record { given = given; parts = record { helper = built_in; strict = false; recursive = false } }
 
 -- The empty source gives the empty text, over any data.
 abbrev pub EmptyRow : Type 0
@@ -176,7 +177,11 @@ BlockRow = (given : Data) (b i : Body) → IsRefusedFor given (block (codes "a")
 abbrev pub nested_if : Text → Param
 nested_if key = subexpression (expression (call_of (name (codes "if")) (path_of key ∷ [])))
 
+-- the state, in the one block that a run begins with
+abbrev pub in_first_block : Bool → State → State
+in_first_block recursive s = record s { blocks = empty_frame ∷ []; recursive = recursive }
+
 -- In parentheses an `if` has no body, so its value is the empty text: (if a).
 abbrev pub InnerIfRow : Type 0
-InnerIfRow = (a : Bool) (site : Site) (s : State) → GivesValue (over (one_truth a))
-    (expands (over (one_truth a)) site (nested_if (codes "a"))) s (value (string []))
+InnerIfRow = (a recursive : Bool) (site : Site) (s : State) → GivesValue (over (one_truth a))
+    (expands (over (one_truth a)) site (nested_if (codes "a"))) (in_first_block recursive s) (value (string []))

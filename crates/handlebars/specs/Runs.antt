@@ -1,22 +1,29 @@
 -- How steps are carried out: the pieces that are written, and the outcome.
-use Rattle.std.specs.Prelude.{◌≡◌, List, [], ◌∷◌, ◌++◌, Option, None, Some}
+use Rattle.std.specs.Prelude.{◌≡◌, Bool, true, false, List, [], ◌∷◌, ◌++◌, Option, None, Some}
 use Rattle.handlebars_base.specs.Bytes.{Text}
 use Rattle.handlebars_base.specs.Reasons.{Spot, nowhere, Refusal}
 use Rattle.handlebars_base.specs.RenderRefusals.{name_if_none, place_if_none}
 use Rattle.handlebars_template.specs.Place.{Place}
 use Rattle.handlebars_template.specs.Tree.{Tree, tree_name}
 use Rattle.handlebars_scope.specs.Outputs.{IsBeginning}
-use Rattle.handlebars_scope.specs.Put.{Piece}
+use Rattle.handlebars_scope.specs.Put.{Origin, of_text, of_value, of_raw, of_word, Piece}
 use Rattle.handlebars.specs.State.{Setting, State}
 use Rattle.handlebars.specs.Steps.{Task, One, Whole, Steps, Done, Refuse, Write, Get, Set, Do, Capture, Prog}
 use Rattle.handlebars.specs.Means.{todo, render_tree}
 
--- a write that failed: where, as far as it is known
+-- a write that failed: whether it was of a boolean helper's word, and where, as far as it is known
 pub record Fault : Type 0 where
+  pub at_word : Bool
   pub spot : Spot
 
-abbrev pub plain_fault : Fault
-plain_fault = record { spot = nowhere }
+abbrev pub plain_fault : Bool → Fault
+plain_fault at_word = record { at_word = at_word; spot = nowhere }
+
+abbrev pub is_word : Origin → Bool
+is_word (of_text site) = false
+is_word (of_value site v) = false
+is_word (of_raw site v) = false
+is_word (of_word site b) = true
 
 -- A run ends in a state or is refused. It may also stop on the way, for a fault of the output or for want of memory.
 pub data Outcome : Type 0 where
@@ -37,12 +44,12 @@ IsStop (Refused r) = ⊥
 IsStop (Faulted f) = Unit {0}
 IsStop NoMemory = Unit {0}
 
--- a stop right here, of which no position and no template is known yet
-abbrev pub StopsHere : Outcome → Type 0
-StopsHere (Ended s) = ⊥
-StopsHere (Refused r) = ⊥
-StopsHere (Faulted f) = f ≡ plain_fault
-StopsHere NoMemory = Unit {0}
+-- a stop right here, at a piece, of which no position and no template is known yet
+abbrev pub StopsAt : Piece → Outcome → Type 0
+StopsAt x (Ended s) = ⊥
+StopsAt x (Refused r) = ⊥
+StopsAt x (Faulted f) = f ≡ plain_fault (is_word x.origin)
+StopsAt x NoMemory = Unit {0}
 
 -- An element gives its place to what is refused or fails within it, and a tree its name, where they have one and none
 -- is known.
@@ -93,7 +100,7 @@ pub data Runs (p : Setting) : Steps → State → List Piece → Outcome → Typ
   stop : {s : State} {k : Steps} → Runs p k s [] NoMemory
   -- a stop within a write that isn't empty
   cut : {s : State} {x : Piece} {xs ys : List Piece} {k : Steps} {o : Outcome}
-      → StopsHere o → Front ys (x ∷ xs) → Runs p (Write (x ∷ xs) k) s ys o
+      → StopsAt x o → Front ys (x ∷ xs) → Runs p (Write (x ∷ xs) k) s ys o
 
 -- The value is this: whatever comes next for it comes of the whole, from the same state and with nothing written.
 abbrev pub GivesValue : {A : Type 0} → Setting → Prog A → State → A → Type 0

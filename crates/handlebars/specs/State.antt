@@ -1,29 +1,79 @@
 -- What a run reads and what it changes.
-use Rattle.std.specs.Prelude.{Bool, true, Option, None}
+use Rattle.std.specs.Prelude.{Bool, true, false, List, [], ◌∷◌, Option, None, codes}
 use Rattle.serde_json.specs.Data.{Data}
 use Rattle.handlebars_base.specs.Bytes.{Text}
 use Rattle.handlebars_scope.specs.Put.{LineState, first_line}
+use Rattle.handlebars_scope.specs.Resolve.{or_else}
+use Rattle.handlebars_scope.specs.Scopes.{nothing_at, Frame, empty_frame}
 use Rattle.handlebars_helpers.specs.Choice.{Kind}
 
--- what a run reads of a registry: the helper under a name, if there is one
+-- what a registry has for a run: the helper under a name, if there is one, whether its mode is strict, and whether lookup
+-- is recursive in the runs that it begins
 pub record Parts : Type 0 where
   pub helper : Text → Option Kind
+  pub strict : Bool
+  pub recursive : Bool
+
+-- the name of the hook, which is called where a name has no helper: of blocks, and of all other calls
+abbrev pub hook : Bool → Text
+hook true = codes "blockHelperMissing"
+hook false = codes "helperMissing"
+
+-- What a call by a name calls, a block or not: the helper of the name, else the hook.
+abbrev pub helper_for : Parts → Bool → Text → Option Kind
+helper_for parts block name = or_else (parts.helper name) (parts.helper (hook block))
 
 -- all that stays as it is in a run
 pub record Setting : Type 0 where
   pub given : Data
   pub parts : Parts
 
--- what a run changes: the name of the template that is being rendered, if it has one, the line that is written, and
--- whether escaping is on
+-- What a run changes: the name of the template that is being rendered, if it has one, the blocks of scope, nearest first,
+-- the line that is written, and whether escaping is on. Whether lookup is recursive stays as it is when the run begins.
 pub record State : Type 0 where
   pub current : Option Text
+  pub blocks : List Frame
+  pub recursive : Bool
   pub line : LineState
   pub escapes : Bool
 
-abbrev pub first_state : State
-first_state = record { current = None; line = first_line; escapes = true }
+-- A run begins with one empty block.
+abbrev pub first_state : Bool → State
+first_state recursive = record {
+  current = None;
+  blocks = empty_frame ∷ [];
+  recursive = recursive;
+  line = first_line;
+  escapes = true;
+}
 
--- the data that paths lead into
+-- the data that paths lead into, which no run changes yet
 abbrev pub data_at : Setting → State → Data
 data_at p s = p.given
+
+-- ---- changes of the blocks
+
+-- a block is the nearest one from now on
+abbrev pub entered : Frame → State → State
+entered f s = record s { blocks = f ∷ s.blocks }
+
+-- the blocks but the nearest one
+abbrev pub outer : List Frame → List Frame
+outer [] = []
+outer (f ∷ fs) = fs
+
+abbrev pub left : State → State
+left s = record s { blocks = outer s.blocks }
+
+-- the nearest block is changed, if there is one
+abbrev pub nearest_as : (Frame → Frame) → List Frame → List Frame
+nearest_as change [] = []
+nearest_as change (f ∷ fs) = change f ∷ fs
+
+abbrev pub with_nearest : (Frame → Frame) → State → State
+with_nearest change s = record s { blocks = nearest_as change s.blocks }
+
+-- the variables of the nearest block; without any block there are none
+abbrev pub nearest_variables : List Frame → Text → Option Data
+nearest_variables [] = nothing_at
+nearest_variables (f ∷ fs) = f.variable

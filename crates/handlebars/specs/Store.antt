@@ -1,10 +1,12 @@
--- What a registry keeps under a name.
+-- What a registry keeps under names.
 use Rattle.std.specs.Prelude.{◌≡◌, Option, Some, option_map, cond}
 use Rattle.std.specs.BTreeMap.{get_by_text}
 use Rattle.std.specs.Str.{bytes_eq}
 use Rattle.handlebars_base.specs.Bytes.{Text}
 use Rattle.handlebars_template.specs.Tree.{Tree}
 use Rattle.handlebars_template.specs.TreeView.{tree_view}
+use Rattle.handlebars_helpers.specs.Choice.{Kind}
+use Rattle.handlebars.specs.View.{parts_of}
 use Rattle.handlebars.specs.declared.registry.Registry.{Registry}
 
 -- the tree under a name, if there is one
@@ -16,5 +18,19 @@ abbrev pub Stores : Registry → Registry → Text → Tree → Type 0
 Stores old new name t = (other : Text) → stored new other ≡ cond (bytes_eq name other) (Some t) (stored old other)
 
 -- Under each name stands what stood there.
-abbrev pub IsUnchanged : Registry → Registry → Type 0
-IsUnchanged old new = (name : Text) → stored new name ≡ stored old name
+abbrev pub HasSameTemplates : Registry → Registry → Type 0
+HasSameTemplates old new = (name : Text) → stored new name ≡ stored old name
+
+-- ---- helpers and modes
+
+-- Under each name stands the same helper, and the modes are the same.
+pub record HasSameParts (old new : Registry) : Type 0 where
+  pub helpers : (name : Text) → (parts_of new).helper name ≡ (parts_of old).helper name
+  pub strict : (parts_of new).strict ≡ (parts_of old).strict
+  pub recursive : (parts_of new).recursive ≡ (parts_of old).recursive
+
+-- The helper, or none, stands under the name now, and under each other name what stood there; the modes are the same.
+pub record HasHelper (old new : Registry) (name : Text) (kind : Option Kind) : Type 0 where
+  pub helpers : (other : Text) → (parts_of new).helper other ≡ cond (bytes_eq name other) kind ((parts_of old).helper other)
+  pub strict : (parts_of new).strict ≡ (parts_of old).strict
+  pub recursive : (parts_of new).recursive ≡ (parts_of old).recursive

@@ -1,28 +1,32 @@
 -- What the code's values stand for, and what a call of it says of a run.
-use Rattle.std.specs.Prelude.{◌≡◌, ◌≢◌, ℕ, Option, ◌+◌, ◌^◌, ◌<◌, List, ◌++◌, option_map, Result, Ok, Err, MatchResult, string_bytes, map, Bool}
+use Rattle.std.specs.Prelude.{◌≡◌, ◌≢◌, ℕ, Option, ◌+◌, ◌^◌, ◌<◌, List, ◌++◌, option_map, Result, Ok, Err, MatchResult, string_bytes, map, Bool, true, false}
 use Rattle.std.specs.Cow.{cow_str_bytes}
 use denote.Ref.{Bor}
 use Rattle.std.specs.declared.io.Error.{Error}
+use Rattle.std.specs.declared.io.ErrorKind.{ErrorKind}
+use Rattle.std.specs.declared.io.ErrorKind.TheVariants.{OutOfMemory}
 use Rattle.std.specs.IoError.{error_kind}
 use Rattle.serde_json.specs.Data.{Data}
 use Rattle.serde_json.specs.View.{view}
 use Rattle.handlebars_base.specs.Bytes.{Text}
-use Rattle.handlebars_base.specs.Reasons.{Refusal, out_of_memory}
+use Rattle.handlebars_base.specs.Reasons.{Reason, Refusal, other, out_of_memory}
 use Rattle.handlebars_base.specs.RenderRefusals.{reason_in, spot_of, refusal_of, cause_of}
 use Rattle.handlebars_base.specs.declared.error.render_error.RenderError.{RenderError}
 use Rattle.handlebars_base.specs.PathAndData.{PathAndData, path_and_data}
 use Rattle.handlebars_base.specs.Scoped.{Found, found_of, present_in}
 use Rattle.handlebars_base.specs.declared.json.value.path_and_json.PathAndJson.{PathAndJson}
 use Rattle.handlebars_base.specs.declared.error.render_error.RenderErrorReason.TheVariants.{IOError}
+use Rattle.handlebars_base.specs.Values.{word}
 use Rattle.handlebars_template.specs.Compile.{Options, no_options}
 use Rattle.handlebars_scope.specs.Contexts.{data_of}
 use Rattle.handlebars_scope.specs.LineView.{line_of}
+use Rattle.handlebars_scope.specs.ScopeView.{frames_of}
 use Rattle.handlebars_scope.specs.Outputs.{Held, IsWhole, IsCutOff, write_reason}
 use Rattle.handlebars_scope.specs.Put.{LineState, Piece, join, line_behind}
 use Rattle.handlebars_scope.specs.declared.context.Context.{Context}
 use Rattle.handlebars_helpers.specs.CallView.{CallView}
 use Rattle.handlebars_helpers.specs.View.{kind_at}
-use Rattle.handlebars.specs.State.{Parts, Setting, State}
+use Rattle.handlebars.specs.State.{Parts, Setting, State, outer}
 use Rattle.handlebars.specs.Steps.{Steps, Prog}
 use Rattle.handlebars.specs.Runs.{Fault, plain_fault, Outcome, Ended, Refused, Faulted, NoMemory, Runs, GivesValue, RefusesValue}
 use Rattle.handlebars.specs.declared.registry.Registry.{Registry}
@@ -35,7 +39,7 @@ use Rattle.handlebars.specs.declared.render.setting.Setting as declared
 
 -- what a run reads of a registry
 abbrev pub parts_of : Registry → Parts
-parts_of r = record { helper = λ name. kind_at name r.helpers }
+parts_of r = record { helper = λ name. kind_at name r.helpers; strict = r.strict_mode; recursive = r.recursive_lookup }
 
 -- the setting of a run, with a registry and over a context
 abbrev pub setting_of : Registry → Context → Setting
@@ -67,6 +71,8 @@ options_of r = no_options
 abbrev pub state_of : RenderContext → State
 state_of rc = record {
   current = option_map string_bytes rc.current_template;
+  blocks = frames_of rc.blocks.items;
+  recursive = rc.recursive_lookup;
   line = line_of rc.line;
   escapes = rc.escapes;
 }
@@ -78,10 +84,20 @@ root_of rc = option_map string_bytes rc.root_template
 abbrev pub has_failed : RenderContext → Bool
 has_failed rc = rc.failed
 
--- what no rendering changes: the first template's name, whether escaping is on, and, until the run is over, whether the
--- context has failed
+-- what no rendering changes: the first template's name, the blocks of scope, whether lookup is recursive and escaping is
+-- on, and, until the run is over, whether the context has failed
 pub record IsKept (before after : RenderContext) : Type 0 where
   pub root : root_of after ≡ root_of before
+  pub blocks : (state_of after).blocks ≡ (state_of before).blocks
+  pub recursive : (state_of after).recursive ≡ (state_of before).recursive
+  pub escapes : (state_of after).escapes ≡ (state_of before).escapes
+  pub failed : has_failed after ≡ has_failed before
+
+-- what is kept but for the nearest block
+pub record HasOuter (before after : RenderContext) : Type 0 where
+  pub root : root_of after ≡ root_of before
+  pub blocks : outer (state_of after).blocks ≡ outer (state_of before).blocks
+  pub recursive : (state_of after).recursive ≡ (state_of before).recursive
   pub escapes : (state_of after).escapes ≡ (state_of before).escapes
   pub failed : has_failed after ≡ has_failed before
 
@@ -95,10 +111,19 @@ moment rc held = record { state = state_of rc; held = held }
 
 -- ---- what calls say
 
--- The error tells of a fault of the output: its reason by the kind of its cause, which it keeps, and the place.
+-- why a rendering is refused where a boolean helper's word couldn't be written
+abbrev pub word_reason : ErrorKind → Text → Reason
+word_reason OutOfMemory text = out_of_memory
+word_reason _ text = other text
+
+-- The error tells of a cause: its reason by the kind of the cause, which it keeps; but of a word it keeps a text alone.
+abbrev pub TellsCause : Error → Bool → RenderError → Type 0
+TellsCause cause false e = (reason_in e ≡ write_reason (error_kind cause)) × (cause_of e ≡ IOError cause)
+TellsCause cause true e = (text : Text) × (reason_in e ≡ word_reason (error_kind cause) text)
+
+-- The error tells of a fault of the output: of its cause and of the place.
 pub record TellsFault (cause : Error) (f : Fault) (e : RenderError) : Type 0 where
-  pub reason : reason_in e ≢ out_of_memory → reason_in e ≡ write_reason (error_kind cause)
-  pub kept : reason_in e ≢ out_of_memory → cause_of e ≡ IOError cause
+  pub why : reason_in e ≢ out_of_memory → TellsCause cause f.at_word e
   pub where_it_is : reason_in e ≢ out_of_memory → spot_of e ≡ f.spot
 
 -- what a call that writes answers: that it did, or an error
@@ -162,7 +187,14 @@ pub data Puts (t : Text) (may : Error → Type 0) (before : Moment) : Answered �
   all_put : {after : Moment} {u : Unit {0}} → after.state ≡ behind t before.state → IsWhole t before.held after.held
       → Puts t may before (Ok u) after
   front_put : {after : Moment} {e : RenderError} (cause : Error) → may cause → IsCutOff t before.held after.held
-      → TellsFault cause plain_fault e → Puts t may before (Err e) after
+      → TellsFault cause (plain_fault false) e → Puts t may before (Err e) after
+
+-- A boolean helper's word was written, or a beginning of it, and the output failed. The state is as it was.
+pub data PutsWord (b : Bool) (may : Error → Type 0) (before : Moment) : Answered → Moment → Type 0 where
+  word_put : {after : Moment} {u : Unit {0}} → after.state ≡ before.state → IsWhole (word b) before.held after.held
+      → PutsWord b may before (Ok u) after
+  word_cut : {after : Moment} {e : RenderError} (cause : Error) → may cause → IsCutOff (word b) before.held after.held
+      → TellsFault cause (plain_fault true) e → PutsWord b may before (Err e) after
 
 -- The steps end well from this state, and the text is that of their pieces.
 pub record GivesString (p : Setting) (k : Steps) (s next : State) (text : Text) : Type 0 where

@@ -18,10 +18,15 @@ pub use handlebars_base::error::{
     RenderError, RenderErrorReason, TemplateError, TemplateErrorReason,
 };
 pub use handlebars_base::json::path::{Path, PathRule, PathSeg};
-pub use handlebars_base::json::value::{JsonRender, JsonTruthy, PathAndJson, ScopedJson};
+pub use handlebars_base::json::value::{
+    JsonRender, JsonTruthy, PathAndJson, ScopedJson, as_string, compare, equal, to_json,
+};
 pub use handlebars_helpers::built_in::{BuiltIn, HelperEntry};
+pub use handlebars_helpers::log_line::log_record;
 pub use handlebars_helpers::view::Helper;
+pub use handlebars_scope::block::{BlockContext, BlockParamHolder, BlockParams};
 pub use handlebars_scope::context::Context;
+pub use handlebars_scope::local_vars::LocalVars;
 pub use handlebars_scope::output::{Output, StringOutput};
 pub use handlebars_scope::support::{escape_html, html_escape, no_escape};
 pub use handlebars_template::template;

@@ -1,6 +1,6 @@
 //! The registry, and the calls that render.
 
-ghost use Rattle.std.specs.Prelude.{◌≡◌, ◌≢◌, IfOk, IfErr, OnErr, OnOk, option_map, string_bytes, None, is_some};
+ghost use Rattle.std.specs.Prelude.{◌≡◌, ◌≢◌, IfOk, IfErr, OnErr, OnOk, option_map, string_bytes, None, Some, false, is_some};
 ghost use Rattle.handlebars_base.specs.Bytes.{Text};
 ghost use Rattle.handlebars_base.specs.Reasons.{out_of_memory, template_out_of_memory};
 ghost use Rattle.handlebars_base.specs.RenderRefusals.{refusal_of, reason_in};
@@ -9,11 +9,13 @@ ghost use Rattle.handlebars_template.specs.Compile.{Compiles, compiled, refused,
 ghost use Rattle.handlebars_template.specs.Tree.{Tree};
 ghost use Rattle.handlebars_template.specs.TreeView.{tree_view};
 ghost use Rattle.handlebars_helpers.specs.Choice.{built_in};
+ghost use Rattle.handlebars_helpers.specs.View.{kind_of, kind_of_entry};
 ghost use Rattle.handlebars.specs.Answer.{FromSource, FromName, GivesText, RefusesWith, HasOneAnswer, AnswerHasOrigins};
-ghost use Rattle.handlebars.specs.Store.{stored, Stores, IsUnchanged};
-ghost use Rattle.handlebars.specs.View.{parts_of, setting_of, options_of};
+ghost use Rattle.handlebars.specs.State.{first_state};
+ghost use Rattle.handlebars.specs.Store.{stored, Stores, HasHelper, HasSameParts, HasSameTemplates};
+ghost use Rattle.handlebars.specs.View.{parts_of, setting_of, options_of, state_of, root_of, has_failed};
 
-use crate::render::{Registered, RenderContext, Renderable};
+use crate::render::{RenderContext, Renderable};
 use crate::sources::TemplateReader;
 use handlebars_base::error::{RenderError, RenderErrorReason, TemplateError};
 use handlebars_helpers::built_in::{BuiltIn, HelperEntry, built_ins};
@@ -29,30 +31,89 @@ pub struct Registry {
     alloc: Global,
     templates: BTreeMap<String, Template>,
     helpers: BTreeMap<String, HelperEntry>,
-}
-
-impl Registered for Registry {
-    ghost parts = { parts_of };
-
-    fn helper(&self, name: &str) -> Option<BuiltIn> {
-        match self.helpers.get(name) {
-            Some(HelperEntry::Built(kind)) => Some(*kind),
-            None => None,
-        }
-    }
+    strict_mode: bool,
+    recursive_lookup: bool,
 }
 
 impl Registry {
-    /// A registry with the built-in helpers, and nothing else.
+    /// A registry with the built-in helpers, and nothing else; the mode isn't strict, and lookup isn't
+    /// recursive.
     pub fn new(alloc: Global) -> Result<Registry, AllocError>
         ensures templates { IfOk result (λ r. (name : Text) → stored r name ≡ None) }
         ensures helpers { IfOk result (λ r. (name : Text) → (parts_of r).helper name ≡ built_in name) }
+        ensures strict { IfOk result (λ r. (parts_of r).strict ≡ false) }
+        ensures recursive { IfOk result (λ r. (parts_of r).recursive ≡ false) }
     {
         Ok(Registry {
             alloc,
             templates: BTreeMap::new(alloc),
             helpers: built_ins(alloc)?,
+            strict_mode: false,
+            recursive_lookup: false,
         })
+    }
+
+    /// From now on, or no more, a value that is missing is refused where it would be written, and so
+    /// are values that some helpers can't do without.
+    pub fn set_strict_mode(&mut self, enabled: bool)
+        ensures parts { parts_of self.new ≡ record (parts_of self.old) { strict = enabled } }
+        ensures kept { HasSameTemplates self.old self.new }
+    {
+        self.strict_mode = enabled;
+    }
+
+    /// Whether the mode is strict.
+    pub fn strict_mode(&self) -> bool
+        ensures { result ≡ (parts_of self.now).strict }
+    {
+        self.strict_mode
+    }
+
+    /// From now on, or no more, a plain name that no block binds, in a block that stands at a path of
+    /// the data, is sought under the fronts of that path, the longest first.
+    pub fn set_recursive_lookup(&mut self, enabled: bool)
+        ensures parts { parts_of self.new ≡ record (parts_of self.old) { recursive = enabled } }
+        ensures kept { HasSameTemplates self.old self.new }
+    {
+        self.recursive_lookup = enabled;
+    }
+
+    /// Whether lookup is recursive.
+    pub fn recursive_lookup(&self) -> bool
+        ensures { result ≡ (parts_of self.now).recursive }
+    {
+        self.recursive_lookup
+    }
+
+    /// Registers a helper under a name, in place of one that stood there. A helper named
+    /// `helperMissing` is called by expressions, and one named `blockHelperMissing` by blocks, whose
+    /// name has no helper.
+    pub fn register_helper(&mut self, name: &str, def: HelperEntry) -> Result<(), AllocError>
+        ensures ok { OnOk result (HasHelper self.old self.new name.now (Some (kind_of_entry def))) }
+        ensures err { OnErr result (HasSameParts self.old self.new) }
+        ensures kept { HasSameTemplates self.old self.new }
+    {
+        let name = String::from_str(self.alloc, name)?;
+        self.helpers.insert(name, def)?;
+        Ok(())
+    }
+
+    /// Takes the helper under a name away, where one stands there.
+    pub fn unregister_helper(&mut self, name: &str)
+        ensures helper { HasHelper self.old self.new name.now None }
+        ensures kept { HasSameTemplates self.old self.new }
+    {
+        self.helpers.remove(name);
+    }
+
+    // The helper under a name, if there is one.
+    pub(crate) fn helper(&self, name: &str) -> Option<BuiltIn>
+        ensures { option_map kind_of result ≡ (parts_of self.now).helper name.now }
+    {
+        match self.helpers.get(name) {
+            Some(HelperEntry::Built(kind)) => Some(*kind),
+            None => None,
+        }
     }
 
     /// Compiles a source and registers its tree under the name, in place of one that stood there.
@@ -62,10 +123,12 @@ impl Registry {
         name: &str,
         source: &str,
     ) -> Result<(), TemplateError>
-        ensures ok { OnOk result ((t : Tree) × Compiles source.now (named_options name.now) (compiled t) × Stores self.old self.new name.now t) }
+        ensures ok { OnOk result ((t : Tree) × Compiles source.now (named_options name.now) (compiled t)
+            × Stores self.old self.new name.now t) }
         ensures err { IfErr result (λ e. (template_refusal_of e).reason ≢ template_out_of_memory
             → Compiles source.now (named_options name.now) (refused (template_refusal_of e))) }
-        ensures kept { OnErr result (IsUnchanged self.old self.new) }
+        ensures kept { OnErr result (HasSameTemplates self.old self.new) }
+        ensures parts { parts_of self.new ≡ parts_of self.old }
     {
         let key = String::from_str(self.alloc, name)?;
         let template = Template::compile_with_name(
@@ -94,7 +157,7 @@ impl Registry {
     }
 
     /// Renders the template under the name over a context; `TemplateNotFound` where none stands
-    /// there. The logger and the reader aren't asked.
+    /// there. The logger is given the lines of `log`; the reader isn't asked.
     pub fn render_with_context<L: Log, R: TemplateReader>(
         &self,
         name: &str,
@@ -102,7 +165,8 @@ impl Registry {
         log: &L,
         _files: &mut R,
     ) -> Result<String, RenderError>
-        ensures ok { IfOk result (λ text. GivesText (setting_of self.now ctx.now) (FromName (stored self.now) name.now) (string_bytes text)) }
+        ensures ok { IfOk result (λ text.
+            GivesText (setting_of self.now ctx.now) (FromName (stored self.now) name.now) (string_bytes text)) }
         ensures err { IfErr result (λ e. reason_in e ≢ out_of_memory
             → RefusesWith (setting_of self.now ctx.now) (FromName (stored self.now) name.now) (refusal_of e)) }
         ensures one { HasOneAnswer (setting_of self.now ctx.now) (FromName (stored self.now) name.now) }
@@ -113,11 +177,12 @@ impl Registry {
             let name = String::from_str(self.alloc, name)?;
             return Err(RenderErrorReason::TemplateNotFound(name).into());
         };
-        let mut rc = RenderContext::new(self.alloc, template.name.as_ref())?;
+        let mut rc = self.first_context(template.name.as_ref())?;
         template.renders(self.alloc, self, ctx, &mut rc, log)
     }
 
-    /// Renders a source over a context. The logger and the reader aren't asked.
+    /// Renders a source over a context. The logger is given the lines of `log`; the reader isn't
+    /// asked.
     pub fn render_template_with_context<L: Log, R: TemplateReader>(
         &self,
         source: &str,
@@ -126,7 +191,8 @@ impl Registry {
         _files: &mut R,
     ) -> Result<String, RenderError>
         // The text is the join of the pieces of the one answer that the language's definition gives.
-        ensures ok { IfOk result (λ text. GivesText (setting_of self.now ctx.now) (FromSource (options_of self.now) source.now) (string_bytes text)) }
+        ensures ok { IfOk result (λ text.
+            GivesText (setting_of self.now ctx.now) (FromSource (options_of self.now) source.now) (string_bytes text)) }
 
         // A refusal, but for want of memory, is the definition's: its reason, its position and its name.
         ensures err { IfErr result (λ e. reason_in e ≢ out_of_memory
@@ -138,7 +204,18 @@ impl Registry {
         ensures unread { _files.new ≡ _files.old }
     {
         let template = Template::compile(self.alloc, source)?;
-        let mut rc = RenderContext::new(self.alloc, None)?;
+        let mut rc = self.first_context(None)?;
         template.renders(self.alloc, self, ctx, &mut rc, log)
+    }
+
+    // The first state of a run with this registry, which the template of that name begins, if it has one.
+    fn first_context(&self, root_template: Option<&String>) -> Result<RenderContext, AllocError>
+        ensures state { IfOk result (λ rc. state_of rc ≡ first_state (parts_of self.now).recursive) }
+        ensures root { IfOk result (λ rc. root_of rc ≡ option_map (λ name. string_bytes name.now) root_template.entry) }
+        ensures ready { IfOk result (λ rc. has_failed rc ≡ false) }
+    {
+        let mut rc = RenderContext::new(self.alloc, root_template)?;
+        rc.set_recursive_lookup(self.recursive_lookup);
+        Ok(rc)
     }
 }

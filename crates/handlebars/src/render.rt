@@ -11,9 +11,11 @@ ghost use Rattle.handlebars.specs.View.{setting_of, state_of, root_of, has_faile
 mod block;
 mod called;
 mod context;
+mod each;
 mod element;
 mod expand;
 mod lone;
+mod next;
 mod registered;
 mod setting;
 mod tree;
@@ -21,6 +23,7 @@ mod value;
 mod write;
 
 use crate::registry::Registry;
+use crate::render::registered::Logging;
 use crate::render::setting::Setting;
 use crate::render::tree::{render_alone, render_first};
 pub use context::RenderContext;
@@ -30,7 +33,6 @@ use handlebars_scope::context::Context;
 use handlebars_scope::output::{Output, StringOutput};
 use handlebars_template::template::{Template, TemplateElement};
 use log::Log;
-pub use registered::Registered;
 use std::alloc::Global;
 pub use write::indent_aware_write;
 
@@ -40,7 +42,8 @@ pub trait Renderable {
     ghost steps: { Self → Steps };
 
     /// Renders over the data into an output. After a refusal the render context has failed: it
-    /// answers `Failed` from then on, and nothing more is written.
+    /// answers `Failed` from then on, and nothing more is written. What it tells of the line is then
+    /// what stood where the rendering was refused.
     fn render<L: Log, O: Output>(
         &self,
         alloc: Global,
@@ -55,6 +58,8 @@ pub trait Renderable {
         ensures failed { has_failed rc.old ≡ true → IsErrAnd result (λ e. refusal_of e ≡ plain_refusal failed)
             × (rc.new ≡ rc.old) × (O.held out.new ≡ O.held out.old) }
         ensures root { root_of rc.new ≡ root_of rc.old }
+        ensures blocks { (state_of rc.new).blocks ≡ (state_of rc.old).blocks }
+        ensures recursive { (state_of rc.new).recursive ≡ (state_of rc.old).recursive }
         ensures escapes { (state_of rc.new).escapes ≡ (state_of rc.old).escapes }
         ensures ok { OnOk result (has_failed rc.new ≡ false) }
         ensures err { OnErr result (has_failed rc.new ≡ true) };
@@ -69,11 +74,15 @@ pub trait Renderable {
         log: &L,
     ) -> Result<String, RenderError>
         ensures ok { IfOk result (λ text. (has_failed rc.old ≡ false)
-            × GivesString (setting_of registry.now «data».now) (steps self.now) (state_of rc.old) (state_of rc.new) (string_bytes text)) }
+            × GivesString (setting_of registry.now «data».now) (steps self.now)
+            (state_of rc.old) (state_of rc.new) (string_bytes text)) }
         ensures err { IfErr result (λ e. has_failed rc.old ≡ false → reason_in e ≢ out_of_memory
             → RefusesString (setting_of registry.now «data».now) (steps self.now) (state_of rc.old) (refusal_of e)) }
-        ensures failed { has_failed rc.old ≡ true → IsErrAnd result (λ e. refusal_of e ≡ plain_refusal failed) × (rc.new ≡ rc.old) }
+        ensures failed { has_failed rc.old ≡ true
+            → IsErrAnd result (λ e. refusal_of e ≡ plain_refusal failed) × (rc.new ≡ rc.old) }
         ensures root { root_of rc.new ≡ root_of rc.old }
+        ensures blocks { (state_of rc.new).blocks ≡ (state_of rc.old).blocks }
+        ensures recursive { (state_of rc.new).recursive ≡ (state_of rc.old).recursive }
         ensures escapes { (state_of rc.new).escapes ≡ (state_of rc.old).escapes }
         ensures kept { OnOk result (has_failed rc.new ≡ false) }
         ensures fails { OnErr result (has_failed rc.new ≡ true) };
@@ -89,13 +98,14 @@ impl Renderable for Template {
         data: &Context,
         rc: &mut RenderContext,
         out: &mut O,
-        _log: &L,
+        log: &L,
     ) -> Result<(), RenderError> {
         ready(rc)?;
         let given = data.data();
+        let parts = &Logging { registry, log };
         let setting = Setting {
             alloc,
-            parts: registry,
+            parts,
             given,
         };
         let answer = render_first(self, &setting, rc, out);
@@ -153,13 +163,14 @@ impl Renderable for TemplateElement {
         data: &Context,
         rc: &mut RenderContext,
         out: &mut O,
-        _log: &L,
+        log: &L,
     ) -> Result<(), RenderError> {
         ready(rc)?;
         let given = data.data();
+        let parts = &Logging { registry, log };
         let setting = Setting {
             alloc,
-            parts: registry,
+            parts,
             given,
         };
         let answer = render_alone(self, &setting, rc, out);

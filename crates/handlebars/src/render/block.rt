@@ -1,110 +1,111 @@
-//! Rendering calls of helpers: blocks, and expressions with parameters or pairs.
+//! Rendering blocks and expressions, and what their helpers choose.
 
 ghost use Rattle.std.specs.Prelude.{◌≡◌, Bool};
-ghost use Rattle.handlebars_template.specs.Tree.{call_body, call_inverse};
 ghost use Rattle.handlebars_template.specs.TreeView.{call_view};
 ghost use Rattle.handlebars_scope.specs.Put.{LineState};
-ghost use Rattle.handlebars_scope.specs.Sites.{Site};
-ghost use Rattle.handlebars_helpers.specs.View.{choice_of, helper_view, kind_of};
-ghost use Rattle.handlebars.specs.Expand.{carry_out};
-ghost use Rattle.handlebars.specs.Means.{line_in, line_out, render_call, render_called, render_chosen, render_helped};
-ghost use Rattle.handlebars.specs.View.{setting_in, state_of, moment, CarriesOn, IsKept};
+ghost use Rattle.handlebars_scope.specs.Sites.{Site, inverse_at};
+ghost use Rattle.handlebars_helpers.specs.CallView.{CallView};
+ghost use Rattle.handlebars_helpers.specs.View.{choice_of, kind_of};
+ghost use Rattle.handlebars.specs.CarryOut.{carry_out, helper_call, render_body, render_branch};
+ghost use Rattle.handlebars.specs.Means.{line_in, line_out, render_chosen, render_tag};
+ghost use Rattle.handlebars.specs.Next.{render_next};
+ghost use Rattle.handlebars.specs.View.{setting_in, state_of, moment, called_view, CarriesOn, IsKept};
 
-use crate::render::called::{helper_not_found, view_of_call};
+use crate::render::called::Called;
 use crate::render::context::RenderContext;
+use crate::render::each::{render_each, render_with};
+use crate::render::next::{Next, ToCall, next_of};
 use crate::render::registered::Registered;
 use crate::render::setting::Setting;
 use crate::render::tree::render_tree;
+use crate::render::write::{write_chosen, write_count, write_word};
 use handlebars_base::error::RenderError;
-use handlebars_helpers::built_in::{BuiltIn, Choice, choose};
-use handlebars_helpers::view::Helper;
+use handlebars_helpers::built_in::BuiltIn;
+use handlebars_helpers::choice::{Choice, choose};
+use handlebars_helpers::each_turns::Turns;
 use handlebars_scope::output::Output;
 use handlebars_template::template::HelperTemplate;
 
-/// Renders a call by its name, its parameters and its pairs.
+/// Renders a block, or an expression: a value is written, or a helper is called.
 #[cycle(render)]
-pub fn render_call<'a, O: Output, P: Registered>(
+pub fn render_tag<'a, O: Output, P: Registered>(
     helper: &'a HelperTemplate,
     setting: &Setting<'_, 'a, P>,
+    block: bool,
     rc: &mut RenderContext,
     out: &mut O,
 ) -> Result<(), RenderError>
     ensures renders { (site : Site) → CarriesOn (setting_in P.parts setting.now)
-        (render_call (setting_in P.parts setting.now) site (call_view helper.now))
+        (render_tag (setting_in P.parts setting.now) site block (call_view helper.now))
         O.may_give (moment rc.old (O.held out.old)) result (moment rc.new (O.held out.new)) }
     ensures kept { IsKept rc.old rc.new }
 {
-    match view_of_call(setting, helper) {
-        Ok(view) => render_called(helper, setting, &view, rc, out),
+    match next_of(helper, setting, block, rc, out) {
+        Ok(Next::Done(line)) => {
+            rc.set_line(line);
+            Ok(())
+        }
+        Ok(Next::Call(to_call)) => render_next(helper, setting, block, to_call, rc, out),
         Err(e) => Err(e),
     }
 }
 
-// A call with its view: the helper of its name is looked up.
+// Calls a helper. In the bracket the line takes note of what is written.
 #[cycle(render)]
-fn render_called<'a, O: Output, P: Registered>(
+fn render_next<'a, O: Output, P: Registered>(
     helper: &'a HelperTemplate,
     setting: &Setting<'_, 'a, P>,
-    view: &Helper<'a>,
+    block: bool,
+    to_call: ToCall<'a>,
     rc: &mut RenderContext,
     out: &mut O,
 ) -> Result<(), RenderError>
     ensures renders { (site : Site) → CarriesOn (setting_in P.parts setting.now)
-        (render_called site (call_view helper.now)
-        ((setting_in P.parts setting.now).parts.helper (helper_view view.now).call.name) (helper_view view.now).call)
+        (render_next (setting_in P.parts setting.now).parts.strict site block (call_view helper.now) to_call.entry)
         O.may_give (moment rc.old (O.held out.old)) result (moment rc.new (O.held out.new)) }
     ensures kept { IsKept rc.old rc.new }
 {
-    match setting.parts.helper(view.name()) {
-        Some(kind) => render_helped(helper, setting, kind, view, rc, out),
-        None => Err(helper_not_found(setting.alloc, view.name())),
+    let ToCall {
+        kind,
+        call,
+        bracket,
+    } = to_call;
+    if !bracket {
+        return render_chosen(helper, setting, block, kind, call, rc, out);
     }
-}
-
-/// Renders what a helper chooses for a call of this view. The line takes note of what is written.
-#[cycle(render)]
-pub fn render_helped<'a, O: Output, P: Registered>(
-    helper: &'a HelperTemplate,
-    setting: &Setting<'_, 'a, P>,
-    kind: BuiltIn,
-    view: &Helper<'a>,
-    rc: &mut RenderContext,
-    out: &mut O,
-) -> Result<(), RenderError>
-    ensures renders { (site : Site) → CarriesOn (setting_in P.parts setting.now)
-        (render_helped site (call_view helper.now) (kind_of kind) (helper_view view.now).call)
-        O.may_give (moment rc.old (O.held out.old)) result (moment rc.new (O.held out.new)) }
-    ensures kept { IsKept rc.old rc.new }
-{
     let before = rc.get_indent_before_write();
     let produced = rc.get_content_produced();
     enter_call(rc, helper.indent_before_write);
-    let answer = render_chosen(helper, setting, kind, view, rc, out);
+    let answer = render_chosen(helper, setting, block, kind, call, rc, out);
     leave_call(rc, before, produced);
     answer
 }
 
+// Renders what a helper chooses for a call of this view.
 #[cycle(render)]
 fn render_chosen<'a, O: Output, P: Registered>(
     helper: &'a HelperTemplate,
     setting: &Setting<'_, 'a, P>,
+    block: bool,
     kind: BuiltIn,
-    view: &Helper<'a>,
+    call: Called<'a>,
     rc: &mut RenderContext,
     out: &mut O,
 ) -> Result<(), RenderError>
     ensures renders { (site : Site) → CarriesOn (setting_in P.parts setting.now)
-        (render_chosen site (call_view helper.now) (kind_of kind) (helper_view view.now).call)
+        (render_chosen (setting_in P.parts setting.now).parts.strict site (kind_of kind)
+        (helper_call block (call_view helper.now) (called_view call.entry)))
         O.may_give (moment rc.old (O.held out.old)) result (moment rc.new (O.held out.new)) }
     ensures kept { IsKept rc.old rc.new }
 {
-    match choose(kind, view) {
+    let view = call.of_call(helper, block);
+    match choose(setting.alloc, setting.parts.strict(), kind, &view) {
         Ok(choice) => carry_out(helper, setting, choice, rc, out),
         Err(e) => Err(e),
     }
 }
 
-// Renders the body or the inverse, where the call has it.
+// Does what a helper chose.
 #[cycle(render)]
 fn carry_out<'a, O: Output, P: Registered>(
     helper: &'a HelperTemplate,
@@ -113,16 +114,75 @@ fn carry_out<'a, O: Output, P: Registered>(
     rc: &mut RenderContext,
     out: &mut O,
 ) -> Result<(), RenderError>
-    ensures renders { (site : Site) → CarriesOn (setting_in P.parts setting.now)
-        (carry_out site (call_body (call_view helper.now)) (call_inverse (call_view helper.now)) (choice_of choice))
+    ensures renders { (site : Site) (block : Bool) (v : CallView) → CarriesOn (setting_in P.parts setting.now)
+        (carry_out site (helper_call block (call_view helper.now) v) (choice_of choice.entry))
         O.may_give (moment rc.old (O.held out.old)) result (moment rc.new (O.held out.new)) }
     ensures kept { IsKept rc.old rc.new }
 {
-    let chosen = match choice {
-        Choice::Body => &helper.template,
-        Choice::Inverse => &helper.inverse,
-    };
-    match chosen {
+    match choice {
+        Choice::Body => render_body(helper, setting, rc, out),
+        Choice::Inverse => render_inverse(helper, setting, rc, out),
+        Choice::Block(base) => render_with(helper, setting, base, rc, out),
+        Choice::Items(path, items) => render_each(
+            helper,
+            setting,
+            path,
+            Turns::of_items(items),
+            rc,
+            out,
+        ),
+        Choice::Members(path, members) => render_each(
+            helper,
+            setting,
+            path,
+            Turns::of_members(members),
+            rc,
+            out,
+        ),
+        Choice::Value(value) => write_chosen(value, rc, out),
+        Choice::Count(count) => write_count(count, rc, out),
+        Choice::Word(word) => write_word(setting.alloc, word, out),
+        Choice::Line(level, text) => {
+            setting.parts.log(level, text.as_str());
+            Ok(())
+        }
+        Choice::Nothing => Ok(()),
+    }
+}
+
+// The body, where the call has one.
+#[cycle(render)]
+pub fn render_body<'a, O: Output, P: Registered>(
+    helper: &'a HelperTemplate,
+    setting: &Setting<'_, 'a, P>,
+    rc: &mut RenderContext,
+    out: &mut O,
+) -> Result<(), RenderError>
+    ensures renders { (site : Site) (block : Bool) (v : CallView) → CarriesOn (setting_in P.parts setting.now)
+        (render_body site (helper_call block (call_view helper.now) v))
+        O.may_give (moment rc.old (O.held out.old)) result (moment rc.new (O.held out.new)) }
+    ensures kept { IsKept rc.old rc.new }
+{
+    match &helper.template {
+        Some(template) => render_tree(template, setting, rc, out),
+        None => Ok(()),
+    }
+}
+
+// The inverse, where the call has one.
+#[cycle(render)]
+fn render_inverse<'a, O: Output, P: Registered>(
+    helper: &'a HelperTemplate,
+    setting: &Setting<'_, 'a, P>,
+    rc: &mut RenderContext,
+    out: &mut O,
+) -> Result<(), RenderError>
+    ensures renders { (site : Site) (block : Bool) (v : CallView) → CarriesOn (setting_in P.parts setting.now)
+        (render_branch (inverse_at site) (helper_call block (call_view helper.now) v).inverse)
+        O.may_give (moment rc.old (O.held out.old)) result (moment rc.new (O.held out.new)) }
+    ensures kept { IsKept rc.old rc.new }
+{
+    match &helper.inverse {
         Some(template) => render_tree(template, setting, rc, out),
         None => Ok(()),
     }

@@ -1,29 +1,32 @@
 //! What a call or another tag shows of itself, and what a call in parentheses comes to.
 
-ghost use Rattle.std.specs.Prelude.{◌≡◌, [], IfOk, false, option_map};
+ghost use Rattle.std.specs.Prelude.{◌≡◌, [], IfErr, IfOk, false, unwrap_or};
 ghost use Rattle.std.specs.Cow.{cow_str_bytes};
 ghost use Rattle.serde_json.specs.Data.{string};
 ghost use Rattle.handlebars_base.specs.Answers.{IsRefusal};
-ghost use Rattle.handlebars_base.specs.Bytes.{Text};
-ghost use Rattle.handlebars_base.specs.Reasons.{helper_not_found};
-ghost use Rattle.handlebars_base.specs.RenderRefusals.{plain_refusal};
+ghost use Rattle.handlebars_base.specs.Reasons.{helper_not_found, out_of_memory};
+ghost use Rattle.handlebars_base.specs.RenderRefusals.{plain_refusal, reason_in};
 ghost use Rattle.handlebars_base.specs.Scoped.{found_of, is_constant, value};
-ghost use Rattle.handlebars_template.specs.Tree.{call_binding, call_body, call_inverse, call_marks, no_binding, no_body};
 ghost use Rattle.handlebars_template.specs.TreeView.{call_view, decorator_view};
 ghost use Rattle.handlebars_scope.specs.Sites.{Site};
-ghost use Rattle.handlebars_helpers.specs.View.{helper_view};
-ghost use Rattle.handlebars.specs.State.{State};
-ghost use Rattle.handlebars.specs.Expand.{helped_value, view_of_call, view_of_tag};
-ghost use Rattle.handlebars.specs.View.{setting_in, called_view, Yields};
+ghost use Rattle.handlebars_helpers.specs.Choice.{value_in};
+ghost use Rattle.handlebars_helpers.specs.View.{choice_of, helper_view};
+ghost use Rattle.handlebars.specs.CarryOut.{helper_call, inner_call};
+ghost use Rattle.handlebars.specs.State.{State, helper_for};
+ghost use Rattle.handlebars.specs.Expand.{helped_value, view_of_tag};
+ghost use Rattle.handlebars.specs.Means.{name_alone};
+ghost use Rattle.handlebars.specs.View.{setting_in, state_of, called_view, Yields};
 
-use crate::render::registered::Registered;
+use crate::render::context::RenderContext;
+use crate::render::registered::{Registered, helper_for};
 use crate::render::setting::Setting;
-use crate::render::value::{called, expand_as_name, pairs_values, params_values};
+use crate::render::value::{expand_as_name, pairs_values, params_values};
 use handlebars_base::error::{RenderError, RenderErrorReason};
 use handlebars_base::json::value::{Json, PathAndJson, ScopedJson};
-use handlebars_helpers::built_in::choose;
+use handlebars_helpers::choice::{Choice, choose};
 use handlebars_helpers::view::Helper;
 use handlebars_template::template::{DecoratorTemplate, HelperTemplate};
+use serde_json::Number;
 use std::alloc::{AllocError, Global};
 use std::borrow::CowStr;
 use std::collections::BTreeMap;
@@ -39,7 +42,7 @@ pub struct Called<'a> {
 impl<'a> Called<'a> {
     /// A name alone, with no parameters.
     pub fn alone(alloc: Global, name: CowStr<'a>) -> Called<'a>
-        ensures { called_view result ≡ record { name = cow_str_bytes name.entry; params = []; pairs = [] } }
+        ensures { called_view result ≡ name_alone (cow_str_bytes name.entry) }
     {
         Called {
             name,
@@ -48,15 +51,9 @@ impl<'a> Called<'a> {
         }
     }
 
-    /// What a helper sees of a call: beside its values what a block has.
-    pub fn of_call(self, helper: &'a HelperTemplate) -> Helper<'a>
-        ensures { helper_view result ≡ record {
-          call = called_view self.entry;
-          binding = call_binding (call_view helper.now);
-          body = call_body (call_view helper.now);
-          inverse = call_inverse (call_view helper.now);
-          block = (call_marks (call_view helper.now)).block;
-        } }
+    /// What a helper sees of a call, of a block or of an expression: beside its values its bodies.
+    pub fn of_call(self, helper: &'a HelperTemplate, block: bool) -> Helper<'a>
+        ensures { helper_view result ≡ helper_call block (call_view helper.now) (called_view self.entry) }
     {
         Helper::new(
             self.name,
@@ -65,74 +62,79 @@ impl<'a> Called<'a> {
             helper.template.as_ref(),
             helper.inverse.as_ref(),
             helper.block_param.as_ref(),
-            helper.block,
+            block,
         )
     }
 
     /// What a helper sees of a call in parentheses, which has no bodies and binds no names.
     pub fn in_parentheses(self) -> Helper<'a>
-        ensures { helper_view result ≡ record {
-          call = called_view self.entry;
-          binding = no_binding;
-          body = no_body;
-          inverse = no_body;
-          block = false;
-        } }
+        ensures { helper_view result ≡ inner_call (called_view self.entry) }
     {
         Helper::new(self.name, self.params, self.hash, None, None, None, false)
-    }
-}
-
-/// The view of a call.
-pub fn view_of_call<'a, P: Registered>(
-    setting: &Setting<'_, 'a, P>,
-    helper: &'a HelperTemplate,
-) -> Result<Helper<'a>, RenderError>
-    ensures view { (site : Site) (s : State) → Yields (setting_in P.parts setting.now)
-        (view_of_call (setting_in P.parts setting.now) site (call_view helper.now)) s (λ h. (helper_view h).call) result }
-    ensures bodies { IfOk result (λ h. helper_view h ≡ record {
-      call = (helper_view h).call;
-      binding = call_binding (call_view helper.now);
-      body = call_body (call_view helper.now);
-      inverse = call_inverse (call_view helper.now);
-      block = (call_marks (call_view helper.now)).block;
-    }) }
-{
-    match called(setting, helper) {
-        Ok(call) => Ok(call.of_call(helper)),
-        Err(e) => Err(e),
     }
 }
 
 /// The view of a decorator or an inclusion.
 pub fn view_of_tag<'a, P: Registered>(
     setting: &Setting<'_, 'a, P>,
+    rc: &RenderContext,
     tag: &'a DecoratorTemplate,
 ) -> Result<Called<'a>, RenderError>
-    ensures { (site : Site) (s : State) → Yields (setting_in P.parts setting.now)
-        (view_of_tag (setting_in P.parts setting.now) site (decorator_view tag.now)) s called_view result }
+    ensures { (site : Site) → Yields (setting_in P.parts setting.now)
+        (view_of_tag (setting_in P.parts setting.now) site (decorator_view tag.now)) (state_of rc.now) called_view result }
 {
-    let name = expand_as_name(setting, &tag.name)?;
-    let params = params_values(setting, &tag.params)?;
-    let hash = pairs_values(setting, &tag.hash)?;
+    let name = expand_as_name(setting, rc, &tag.name)?;
+    let params = params_values(setting, rc, &tag.params)?;
+    let hash = pairs_values(setting, rc, &tag.hash)?;
     Ok(Called { name, params, hash })
 }
 
-/// The value of a call in parentheses: what its helper chooses writes nothing there.
+/// The value of a call in parentheses: the one that its helper chooses, which is copied; anything
+/// else that it chooses writes nothing there. A line of `log` goes to the logger.
 pub fn helped_value<'a, P: Registered>(
     setting: &Setting<P>,
-    helper: &Helper,
+    call: Called,
 ) -> Result<ScopedJson<'a>, RenderError>
     ensures value { (site : Site) (s : State) → Yields (setting_in P.parts setting.now)
-        (helped_value site ((P.parts setting.now.parts.now).helper (helper_view helper.now).call.name) (helper_view helper.now).call) s found_of result }
+        (helped_value (P.parts setting.now.parts.now).strict site
+        (helper_for (P.parts setting.now.parts.now) false (called_view call.entry).name)
+        (inner_call (called_view call.entry))) s found_of result }
     ensures constant { IfOk result (λ found. is_constant found ≡ false) }
 {
-    match setting.parts.helper(helper.name()) {
-        Some(kind) => match choose(kind, helper) {
-            Ok(_) => Ok(empty_text(setting.alloc)),
+    let helper = call.in_parentheses();
+    match helper_for(setting.parts, false, helper.name()) {
+        Some(kind) => match choose(setting.alloc, setting.parts.strict(), kind, &helper) {
+            Ok(choice) => chosen_value(setting, choice),
             Err(e) => Err(e),
         },
         None => Err(helper_not_found(setting.alloc, helper.name())),
+    }
+}
+
+// The value that is chosen, or the text that another choice writes in parentheses.
+fn chosen_value<'a, P: Registered>(
+    setting: &Setting<P>,
+    choice: Choice,
+) -> Result<ScopedJson<'a>, RenderError>
+    ensures value { IfOk result (λ found. found_of found ≡ value (unwrap_or (value_in (choice_of choice.entry)) (string []))) }
+    ensures memory { IfErr result (λ e. reason_in e ≡ out_of_memory) }
+    ensures constant { IfOk result (λ found. is_constant found ≡ false) }
+{
+    match choice {
+        Choice::Value(Some(value)) => Ok(ScopedJson::Derived(value.clone()?)),
+        Choice::Value(None) => Ok(ScopedJson::Derived(Json::Null)),
+        Choice::Count(count) => Ok(ScopedJson::Derived(Json::Number(Number::from(count)))),
+        Choice::Word(word) => Ok(ScopedJson::Derived(Json::Bool(word))),
+        Choice::Line(level, text) => {
+            setting.parts.log(level, text.as_str());
+            Ok(empty_text(setting.alloc))
+        }
+        Choice::Body => Ok(empty_text(setting.alloc)),
+        Choice::Inverse => Ok(empty_text(setting.alloc)),
+        Choice::Block(_) => Ok(empty_text(setting.alloc)),
+        Choice::Items(_, _) => Ok(empty_text(setting.alloc)),
+        Choice::Members(_, _) => Ok(empty_text(setting.alloc)),
+        Choice::Nothing => Ok(empty_text(setting.alloc)),
     }
 }
 

@@ -1,30 +1,24 @@
 //! Rendering an element.
 
-ghost use Rattle.std.specs.Prelude.{◌≡◌, ◌≢◌, [], option_map};
+ghost use Rattle.std.specs.Prelude.{◌≡◌, ◌≢◌};
 ghost use Rattle.std.specs.Cow.{cow_str_bytes};
 ghost use Rattle.handlebars_base.specs.Answers.{IsRefusal};
 ghost use Rattle.handlebars_base.specs.Reasons.{out_of_memory, decorator_not_found, partial_not_found};
 ghost use Rattle.handlebars_base.specs.RenderRefusals.{plain_refusal, reason_in, refusal_of};
-ghost use Rattle.handlebars_base.specs.Scoped.{found_of};
 ghost use Rattle.handlebars_template.specs.TreeView.{element_view, call_view, decorator_view};
 ghost use Rattle.handlebars_scope.specs.Sites.{Site};
-ghost use Rattle.handlebars_helpers.specs.View.{kind_of};
-ghost use Rattle.handlebars.specs.State.{State};
-ghost use Rattle.handlebars.specs.Means.{render_decorator, render_element, render_expression, render_helped, render_lone, render_partial, render_value, unescaped};
+ghost use Rattle.handlebars.specs.Means.{render_decorator, render_element, render_expression, render_partial, unescaped};
 ghost use Rattle.handlebars.specs.Steps.{run};
 ghost use Rattle.handlebars.specs.Runs.{RefusesValue};
-ghost use Rattle.handlebars.specs.View.{setting_in, moment, CarriesOn, CarriesOut, IsKept};
+ghost use Rattle.handlebars.specs.View.{setting_in, state_of, moment, CarriesOut, IsKept};
 
-use crate::render::block::{render_call, render_helped};
-use crate::render::called::{Called, view_of_tag};
+use crate::render::block::render_tag;
+use crate::render::called::view_of_tag;
 use crate::render::context::RenderContext;
-use crate::render::lone::{lone_name, lone_value};
 use crate::render::registered::Registered;
 use crate::render::setting::Setting;
-use crate::render::write::{indent_aware_write, write_found};
+use crate::render::write::indent_aware_write;
 use handlebars_base::error::{RenderError, RenderErrorReason};
-use handlebars_base::json::value::ScopedJson;
-use handlebars_helpers::built_in::BuiltIn;
 use handlebars_scope::output::Output;
 use handlebars_template::template::{DecoratorTemplate, HelperTemplate, TemplateElement};
 use std::alloc::{AllocError, Global};
@@ -45,14 +39,14 @@ pub fn render_element<'a, O: Output, P: Registered>(
 {
     match element {
         TemplateElement::RawString(text) => indent_aware_write(text.as_str(), rc, out),
-        TemplateElement::Expression(helper) => render_expression(helper, setting, rc, out),
+        TemplateElement::Expression(helper) => render_tag(helper, setting, false, rc, out),
         TemplateElement::Comment(_) => Ok(()),
         TemplateElement::HtmlExpression(helper) => render_unescaped(helper, setting, rc, out),
-        TemplateElement::HelperBlock(helper) => render_call(helper, setting, rc, out),
-        TemplateElement::DecoratorExpression(tag) => Err(decorator_not_found(tag, setting)),
-        TemplateElement::DecoratorBlock(tag) => Err(decorator_not_found(tag, setting)),
-        TemplateElement::PartialExpression(tag) => Err(partial_not_found(tag, setting)),
-        TemplateElement::PartialBlock(tag) => Err(partial_not_found(tag, setting)),
+        TemplateElement::HelperBlock(helper) => render_tag(helper, setting, true, rc, out),
+        TemplateElement::DecoratorExpression(tag) => Err(decorator_not_found(tag, setting, rc)),
+        TemplateElement::DecoratorBlock(tag) => Err(decorator_not_found(tag, setting, rc)),
+        TemplateElement::PartialExpression(tag) => Err(partial_not_found(tag, setting, rc)),
+        TemplateElement::PartialBlock(tag) => Err(partial_not_found(tag, setting, rc)),
     }
 }
 
@@ -71,103 +65,23 @@ fn render_unescaped<'a, O: Output, P: Registered>(
 {
     let disabled = rc.is_disable_escape();
     rc.set_disable_escape(true);
-    let answer = render_expression(helper, setting, rc, out);
+    let answer = render_tag(helper, setting, false, rc, out);
     rc.set_disable_escape(disabled);
     answer
-}
-
-// Writes a value, or what the helper of its name chooses.
-#[cycle(render)]
-fn render_expression<'a, O: Output, P: Registered>(
-    helper: &'a HelperTemplate,
-    setting: &Setting<'_, 'a, P>,
-    rc: &mut RenderContext,
-    out: &mut O,
-) -> Result<(), RenderError>
-    ensures renders { (site : Site) → CarriesOn (setting_in P.parts setting.now)
-        (render_expression (setting_in P.parts setting.now) site (call_view helper.now))
-        O.may_give (moment rc.old (O.held out.old)) result (moment rc.new (O.held out.new)) }
-    ensures kept { IsKept rc.old rc.new }
-{
-    if helper.is_value() {
-        render_lone(helper, setting, rc, out)
-    } else {
-        render_call(helper, setting, rc, out)
-    }
-}
-
-// An expression with no parameters and no pairs.
-#[cycle(render)]
-fn render_lone<'a, O: Output, P: Registered>(
-    helper: &'a HelperTemplate,
-    setting: &Setting<'_, 'a, P>,
-    rc: &mut RenderContext,
-    out: &mut O,
-) -> Result<(), RenderError>
-    ensures renders { (site : Site) → CarriesOn (setting_in P.parts setting.now)
-        (render_lone (setting_in P.parts setting.now) site (call_view helper.now))
-        O.may_give (moment rc.old (O.held out.old)) result (moment rc.new (O.held out.new)) }
-    ensures kept { IsKept rc.old rc.new }
-{
-    let lone = match lone_name(setting, &helper.name) {
-        Ok(lone) => lone,
-        Err(e) => return Err(e),
-    };
-    match setting.parts.helper(lone.name.as_str()) {
-        Some(kind) => render_named(helper, setting, kind, lone.name, rc, out),
-        None => render_value(helper, setting, lone.value, rc, out),
-    }
-}
-
-// A call by a name alone.
-#[cycle(render)]
-fn render_named<'a, O: Output, P: Registered>(
-    helper: &'a HelperTemplate,
-    setting: &Setting<'_, 'a, P>,
-    kind: BuiltIn,
-    name: CowStr<'a>,
-    rc: &mut RenderContext,
-    out: &mut O,
-) -> Result<(), RenderError>
-    ensures renders { (site : Site) → CarriesOn (setting_in P.parts setting.now)
-        (render_helped site (call_view helper.now) (kind_of kind)
-        (record { name = cow_str_bytes name.entry; params = []; pairs = [] }))
-        O.may_give (moment rc.old (O.held out.old)) result (moment rc.new (O.held out.new)) }
-    ensures kept { IsKept rc.old rc.new }
-{
-    let view = Called::alone(setting.alloc, name).of_call(helper);
-    render_helped(helper, setting, kind, &view, rc, out)
-}
-
-// Writes the value of an expression that no helper has the name of.
-fn render_value<'a, O: Output, P: Registered>(
-    helper: &'a HelperTemplate,
-    setting: &Setting<'_, 'a, P>,
-    made: Option<ScopedJson<'a>>,
-    rc: &mut RenderContext,
-    out: &mut O,
-) -> Result<(), RenderError>
-    ensures renders { (site : Site) → CarriesOn (setting_in P.parts setting.now)
-        (render_value (setting_in P.parts setting.now) site (call_view helper.now) (option_map found_of made.entry))
-        O.may_give (moment rc.old (O.held out.old)) result (moment rc.new (O.held out.new)) }
-    ensures kept { IsKept rc.old rc.new }
-{
-    match lone_value(setting, &helper.name, made) {
-        Ok(value) => write_found(value.as_json(), rc, out),
-        Err(e) => Err(e),
-    }
 }
 
 // The refusals of decorators and inclusions, for which nothing is registered.
 fn decorator_not_found<'a, P: Registered>(
     tag: &'a DecoratorTemplate,
     setting: &Setting<'_, 'a, P>,
+    rc: &RenderContext,
 ) -> RenderError
-    ensures { (site : Site) (s : State) → reason_in result ≢ out_of_memory
+    ensures { (site : Site) → reason_in result ≢ out_of_memory
         → RefusesValue (setting_in P.parts setting.now)
-        (render_decorator (setting_in P.parts setting.now) site (decorator_view tag.now)) s (refusal_of result) }
+        (render_decorator (setting_in P.parts setting.now) site (decorator_view tag.now))
+        (state_of rc.now) (refusal_of result) }
 {
-    match view_of_tag(setting, tag) {
+    match view_of_tag(setting, rc, tag) {
         Ok(view) => no_decorator(setting.alloc, view.name),
         Err(e) => e,
     }
@@ -176,12 +90,14 @@ fn decorator_not_found<'a, P: Registered>(
 fn partial_not_found<'a, P: Registered>(
     tag: &'a DecoratorTemplate,
     setting: &Setting<'_, 'a, P>,
+    rc: &RenderContext,
 ) -> RenderError
-    ensures { (site : Site) (s : State) → reason_in result ≢ out_of_memory
+    ensures { (site : Site) → reason_in result ≢ out_of_memory
         → RefusesValue (setting_in P.parts setting.now)
-        (render_partial (setting_in P.parts setting.now) site (decorator_view tag.now)) s (refusal_of result) }
+        (render_partial (setting_in P.parts setting.now) site (decorator_view tag.now))
+        (state_of rc.now) (refusal_of result) }
 {
-    match view_of_tag(setting, tag) {
+    match view_of_tag(setting, rc, tag) {
         Ok(view) => no_partial(setting.alloc, view.name),
         Err(e) => e,
     }

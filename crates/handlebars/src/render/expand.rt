@@ -13,6 +13,7 @@ ghost use Rattle.handlebars.specs.View.{setting_of, state_of, root_of, has_faile
 
 use crate::registry::Registry;
 use crate::render::context::RenderContext;
+use crate::render::registered::Logging;
 use crate::render::setting::Setting;
 use crate::render::{fail_after, ready, value};
 use handlebars_base::error::RenderError;
@@ -39,8 +40,10 @@ pub trait Expand {
         rc: &mut RenderContext,
         log: &L,
     ) -> Result<PathAndJson<'rc>, RenderError>
-        ensures expands { has_failed rc.old ≡ false → (site : Site) → Yields (setting_of registry.now «data».now) (expand (setting_of registry.now «data».now) site (param self.now)) (state_of rc.old) path_and_data result }
-        ensures failed { has_failed rc.old ≡ true → IsErrAnd result (λ e. refusal_of e ≡ plain_refusal failed) × (rc.new ≡ rc.old) }
+        ensures expands { has_failed rc.old ≡ false → (site : Site) → Yields (setting_of registry.now «data».now)
+            (expand (setting_of registry.now «data».now) site (param self.now)) (state_of rc.old) path_and_data result }
+        ensures failed { has_failed rc.old ≡ true
+            → IsErrAnd result (λ e. refusal_of e ≡ plain_refusal failed) × (rc.new ≡ rc.old) }
         ensures state { state_of rc.new ≡ state_of rc.old }
         ensures root { root_of rc.new ≡ root_of rc.old }
         ensures ok { OnOk result (has_failed rc.new ≡ false) }
@@ -55,8 +58,10 @@ pub trait Expand {
         rc: &mut RenderContext,
         log: &L,
     ) -> Result<CowStr<'rc>, RenderError>
-        ensures expands { has_failed rc.old ≡ false → (site : Site) → Yields (setting_of registry.now «data».now) (expand_as_name (setting_of registry.now «data».now) site (param self.now)) (state_of rc.old) cow_str_bytes result }
-        ensures failed { has_failed rc.old ≡ true → IsErrAnd result (λ e. refusal_of e ≡ plain_refusal failed) × (rc.new ≡ rc.old) }
+        ensures expands { has_failed rc.old ≡ false → (site : Site) → Yields (setting_of registry.now «data».now)
+            (expand_as_name (setting_of registry.now «data».now) site (param self.now)) (state_of rc.old) cow_str_bytes result }
+        ensures failed { has_failed rc.old ≡ true
+            → IsErrAnd result (λ e. refusal_of e ≡ plain_refusal failed) × (rc.new ≡ rc.old) }
         ensures state { state_of rc.new ≡ state_of rc.old }
         ensures root { root_of rc.new ≡ root_of rc.old }
         ensures ok { OnOk result (has_failed rc.new ≡ false) }
@@ -72,16 +77,18 @@ impl Expand for Parameter {
         registry: &Registry,
         data: &'rc Context,
         rc: &mut RenderContext,
-        _log: &L,
+        log: &L,
     ) -> Result<PathAndJson<'rc>, RenderError> {
         ready(rc)?;
         let given = data.data();
+        let parts = &Logging { registry, log };
         let answer = value::expand(
             &Setting {
                 alloc,
-                parts: registry,
+                parts,
                 given,
             },
+            rc,
             self,
         );
         fail_after(rc, answer)
@@ -93,16 +100,18 @@ impl Expand for Parameter {
         registry: &Registry,
         data: &'rc Context,
         rc: &mut RenderContext,
-        _log: &L,
+        log: &L,
     ) -> Result<CowStr<'rc>, RenderError> {
         ready(rc)?;
         let given = data.data();
+        let parts = &Logging { registry, log };
         let answer = value::expand_as_name(
             &Setting {
                 alloc,
-                parts: registry,
+                parts,
                 given,
             },
+            rc,
             self,
         );
         fail_after(rc, answer)

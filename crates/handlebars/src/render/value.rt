@@ -10,16 +10,15 @@ ghost use Rattle.handlebars_base.specs.Scoped.{found_of, is_constant};
 ghost use Rattle.handlebars_template.specs.Tree.{as_name, expression};
 ghost use Rattle.handlebars_template.specs.TreeView.{call_view, param_view, params_view, pairs_view, subexpression_view};
 ghost use Rattle.handlebars_scope.specs.Sites.{Site};
-ghost use Rattle.handlebars.specs.State.{State};
 ghost use Rattle.handlebars.specs.Expand.{expand, expands, expand_as_name, inner_value, is_literal, pairs_values, params_values, view_of_call};
-ghost use Rattle.handlebars.specs.View.{setting_in, called_view, pairs_seen, Yields};
+ghost use Rattle.handlebars.specs.View.{setting_in, state_of, called_view, pairs_seen, Yields};
 
 use crate::render::called::{Called, helped_value};
+use crate::render::context::RenderContext;
 use crate::render::registered::Registered;
 use crate::render::setting::Setting;
 use handlebars_base::error::RenderError;
 use handlebars_base::json::value::{JsonRender, PathAndJson, ScopedJson};
-use handlebars_scope::context::walk::find;
 use handlebars_template::template::{HelperTemplate, Parameter, Subexpression, TemplateElement};
 use std::alloc::{AllocError, Global};
 use std::borrow::CowStr;
@@ -29,17 +28,18 @@ use std::collections::BTreeMap;
 #[cycle(value)]
 pub fn expands<'a, P: Registered>(
     setting: &Setting<'_, 'a, P>,
+    rc: &RenderContext,
     parameter: &'a Parameter,
 ) -> Result<ScopedJson<'a>, RenderError>
-    ensures value { (site : Site) (s : State) → Yields (setting_in P.parts setting.now)
-        (expands (setting_in P.parts setting.now) site (param_view parameter.now)) s found_of result }
+    ensures value { (site : Site) → Yields (setting_in P.parts setting.now)
+        (expands (setting_in P.parts setting.now) site (param_view parameter.now)) (state_of rc.now) found_of result }
     ensures constant { IfOk result (λ found. is_constant found ≡ is_literal (param_view parameter.now)) }
 {
     match parameter {
         Parameter::Name(_) => Ok(ScopedJson::Missing),
-        Parameter::Path(path) => find(setting.alloc, setting.given, path),
+        Parameter::Path(path) => rc.find(setting.given, path),
         Parameter::Literal(value) => Ok(ScopedJson::Constant(value)),
-        Parameter::Subexpression(inner) => inner_value(setting, inner),
+        Parameter::Subexpression(inner) => inner_value(setting, rc, inner),
     }
 }
 
@@ -47,12 +47,13 @@ pub fn expands<'a, P: Registered>(
 #[cycle(value)]
 pub fn expand<'a, P: Registered>(
     setting: &Setting<'_, 'a, P>,
+    rc: &RenderContext,
     parameter: &'a Parameter,
 ) -> Result<PathAndJson<'a>, RenderError>
-    ensures { (site : Site) (s : State) → Yields (setting_in P.parts setting.now)
-        (expand (setting_in P.parts setting.now) site (param_view parameter.now)) s path_and_data result }
+    ensures { (site : Site) → Yields (setting_in P.parts setting.now)
+        (expand (setting_in P.parts setting.now) site (param_view parameter.now)) (state_of rc.now) path_and_data result }
 {
-    match expands(setting, parameter) {
+    match expands(setting, rc, parameter) {
         Ok(value) => Ok(PathAndJson::new(written(setting.alloc, parameter)?, value)),
         Err(e) => Err(e),
     }
@@ -62,16 +63,17 @@ pub fn expand<'a, P: Registered>(
 #[cycle(value)]
 pub fn expand_as_name<'a, P: Registered>(
     setting: &Setting<'_, 'a, P>,
+    rc: &RenderContext,
     parameter: &'a Parameter,
 ) -> Result<CowStr<'a>, RenderError>
-    ensures { (site : Site) (s : State) → Yields (setting_in P.parts setting.now)
-        (expand_as_name (setting_in P.parts setting.now) site (param_view parameter.now)) s cow_str_bytes result }
+    ensures { (site : Site) → Yields (setting_in P.parts setting.now)
+        (expand_as_name (setting_in P.parts setting.now) site (param_view parameter.now)) (state_of rc.now) cow_str_bytes result }
 {
     match parameter {
         Parameter::Name(text) => Ok(CowStr::Borrowed(text.as_str())),
         Parameter::Path(path) => Ok(CowStr::Borrowed(path.raw())),
         Parameter::Literal(value) => Ok(CowStr::Owned(value.render(setting.alloc)?)),
-        Parameter::Subexpression(inner) => match inner_value(setting, inner) {
+        Parameter::Subexpression(inner) => match inner_value(setting, rc, inner) {
             Ok(value) => Ok(CowStr::Owned(value.render(setting.alloc)?)),
             Err(e) => Err(e),
         },
@@ -82,14 +84,15 @@ pub fn expand_as_name<'a, P: Registered>(
 #[cycle(value)]
 pub fn inner_value<'a, P: Registered>(
     setting: &Setting<'_, 'a, P>,
+    rc: &RenderContext,
     inner: &'a Subexpression,
 ) -> Result<ScopedJson<'a>, RenderError>
-    ensures value { (site : Site) (s : State) → Yields (setting_in P.parts setting.now)
-        (inner_value (setting_in P.parts setting.now) site (subexpression_view inner.now)) s found_of result }
+    ensures value { (site : Site) → Yields (setting_in P.parts setting.now)
+        (inner_value (setting_in P.parts setting.now) site (subexpression_view inner.now)) (state_of rc.now) found_of result }
     ensures constant { IfOk result (λ found. is_constant found ≡ false) }
 {
     match &*inner.element {
-        TemplateElement::Expression(helper) => call_value(setting, helper),
+        TemplateElement::Expression(helper) => call_value(setting, rc, helper),
         TemplateElement::RawString(_) => Ok(ScopedJson::Missing),
         TemplateElement::HtmlExpression(_) => Ok(ScopedJson::Missing),
         TemplateElement::HelperBlock(_) => Ok(ScopedJson::Missing),
@@ -105,14 +108,15 @@ pub fn inner_value<'a, P: Registered>(
 #[cycle(value)]
 pub fn call_value<'a, P: Registered>(
     setting: &Setting<'_, 'a, P>,
+    rc: &RenderContext,
     helper: &'a HelperTemplate,
 ) -> Result<ScopedJson<'a>, RenderError>
-    ensures value { (site : Site) (s : State) → Yields (setting_in P.parts setting.now)
-        (inner_value (setting_in P.parts setting.now) site (expression (call_view helper.now))) s found_of result }
+    ensures value { (site : Site) → Yields (setting_in P.parts setting.now)
+        (inner_value (setting_in P.parts setting.now) site (expression (call_view helper.now))) (state_of rc.now) found_of result }
     ensures constant { IfOk result (λ found. is_constant found ≡ false) }
 {
-    match called(setting, helper) {
-        Ok(call) => helped_value(setting, &call.in_parentheses()),
+    match called(setting, rc, helper) {
+        Ok(call) => helped_value(setting, call),
         Err(e) => Err(e),
     }
 }
@@ -121,14 +125,15 @@ pub fn call_value<'a, P: Registered>(
 #[cycle(value)]
 pub fn called<'a, P: Registered>(
     setting: &Setting<'_, 'a, P>,
+    rc: &RenderContext,
     helper: &'a HelperTemplate,
 ) -> Result<Called<'a>, RenderError>
-    ensures { (site : Site) (s : State) → Yields (setting_in P.parts setting.now)
-        (view_of_call (setting_in P.parts setting.now) site (call_view helper.now)) s called_view result }
+    ensures { (site : Site) → Yields (setting_in P.parts setting.now)
+        (view_of_call (setting_in P.parts setting.now) site (call_view helper.now)) (state_of rc.now) called_view result }
 {
-    let name = expand_as_name(setting, &helper.name)?;
-    let params = params_values(setting, &helper.params)?;
-    let hash = pairs_values(setting, &helper.hash)?;
+    let name = expand_as_name(setting, rc, &helper.name)?;
+    let params = params_values(setting, rc, &helper.params)?;
+    let hash = pairs_values(setting, rc, &helper.hash)?;
     Ok(Called { name, params, hash })
 }
 
@@ -136,14 +141,15 @@ pub fn called<'a, P: Registered>(
 #[cycle(value)]
 pub fn params_values<'a, P: Registered>(
     setting: &Setting<'_, 'a, P>,
+    rc: &RenderContext,
     params: &'a Vec<Parameter>,
 ) -> Result<Vec<PathAndJson<'a>>, RenderError>
-    ensures { (site : Site) (s : State) → Yields (setting_in P.parts setting.now)
-        (params_values (setting_in P.parts setting.now) site (params_view params.now.items)) s (λ vs. map path_and_data vs.items) result }
+    ensures { (site : Site) → Yields (setting_in P.parts setting.now)
+        (params_values (setting_in P.parts setting.now) site (params_view params.now.items)) (state_of rc.now) (λ vs. map path_and_data vs.items) result }
 {
     let mut values = Vec::new(setting.alloc);
     for parameter in params {
-        values.push(expand(setting, parameter)?)?;
+        values.push(expand(setting, rc, parameter)?)?;
     }
     Ok(values)
 }
@@ -152,14 +158,15 @@ pub fn params_values<'a, P: Registered>(
 #[cycle(value)]
 pub fn pairs_values<'a, P: Registered>(
     setting: &Setting<'_, 'a, P>,
+    rc: &RenderContext,
     pairs: &'a BTreeMap<String, Parameter>,
 ) -> Result<BTreeMap<&'a str, PathAndJson<'a>>, RenderError>
-    ensures { (site : Site) (s : State) → Yields (setting_in P.parts setting.now)
-        (pairs_values (setting_in P.parts setting.now) site (pairs_view pairs.now.entries)) s (λ vs. pairs_seen vs.entries) result }
+    ensures { (site : Site) → Yields (setting_in P.parts setting.now)
+        (pairs_values (setting_in P.parts setting.now) site (pairs_view pairs.now.entries)) (state_of rc.now) (λ vs. pairs_seen vs.entries) result }
 {
     let mut values = BTreeMap::new(setting.alloc);
     for (key, parameter) in pairs.iter() {
-        put(&mut values, key.as_str(), expand(setting, parameter)?)?;
+        put(&mut values, key.as_str(), expand(setting, rc, parameter)?)?;
     }
     Ok(values)
 }
@@ -177,8 +184,8 @@ fn put<'a>(
     Ok(())
 }
 
-// The text of a name or a path.
-fn written(alloc: Global, parameter: &Parameter) -> Result<Option<String>, AllocError>
+/// The text of a name or a path.
+pub fn written(alloc: Global, parameter: &Parameter) -> Result<Option<String>, AllocError>
     ensures { IfOk result (λ text. option_map string_bytes text ≡ as_name (param_view parameter.now)) }
 {
     match parameter.as_name() {

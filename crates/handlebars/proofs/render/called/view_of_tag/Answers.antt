@@ -3,22 +3,22 @@ use Rattle.handlebars.proofs.Values.{gives-view, refuses-name, refuses-pairs, re
 use Rattle.handlebars.proofs.render.called.view_of_tag.Goals as goal
 
 pub returns-in_err-name : goal.returns-in_err-name
-returns-in_err-name g c = λ site s. rw (view_of_tag-out _ site c.args.tag.now)
+returns-in_err-name g c = λ site. rw (view_of_tag-out _ site c.args.tag.now)
     (yields-handed_on _ called_view _ _ _ c.from_residual.ensures.1
-    (λ other. refuses-name _ site _ _ _ (c.in_err-name.ensures site s other)))
+    (λ other. refuses-name _ site _ _ _ (c.in_err-name.ensures site other)))
 
 pub returns-in_err-params : goal.returns-in_err-params
-returns-in_err-params g c = λ site s. rw (view_of_tag-out _ site c.args.tag.now)
+returns-in_err-params g c = λ site. rw (view_of_tag-out _ site c.args.tag.now)
     (yields-handed_on _ called_view _ _ _ c.from_residual-in_err-params.ensures.1
-    (λ other. refuses-params _ site _ _ _ (c.in_ok-name.ensures site s) (c.in_err-params.ensures site s other)))
+    (λ other. refuses-params _ site _ _ _ (c.in_ok-name.ensures site) (c.in_err-params.ensures site other)))
 
 pub returns-in_err-hash : goal.returns-in_err-hash
-returns-in_err-hash g c = λ site s. rw (view_of_tag-out _ site c.args.tag.now)
+returns-in_err-hash g c = λ site. rw (view_of_tag-out _ site c.args.tag.now)
     (yields-handed_on _ called_view _ _ _ c.from_residual-in_err-hash.ensures.1
-    (λ other. refuses-pairs _ site _ _ _ (c.in_ok-name.ensures site s) (c.in_ok-params.ensures site s)
-    (c.in_err-hash.ensures site s other)))
+    (λ other. refuses-pairs _ site _ _ _ (c.in_ok-name.ensures site) (c.in_ok-params.ensures site)
+    (c.in_err-hash.ensures site other)))
 
 pub returns : goal.returns
-returns g c = λ site s. rw (view_of_tag-out _ site c.args.tag.now)
-    (gives-view _ site _ _ _ (c.in_ok-name.ensures site s) (c.in_ok-params.ensures site s)
-    (c.in_ok-hash.ensures site s))
+returns g c = λ site. rw (view_of_tag-out _ site c.args.tag.now)
+    (gives-view _ site _ _ _ (c.in_ok-name.ensures site) (c.in_ok-params.ensures site)
+    (c.in_ok-hash.ensures site))

@@ -7,9 +7,9 @@ use Rattle.handlebars.proofs.Gives.{refuses-bind}
 use Rattle.handlebars.proofs.render.element.partial_not_found.Goals as goal
 
 pub returns-in-Ok : goal.returns-in-Ok
-returns-in-Ok g c = λ site s other. refuses_named _ (view_of_tag (setting_in g.P.Registered.parts c.args.setting.now) site (decorator_view c.args.tag.now))
-    (λ n. partial_not_found n) (called_view c.in-Ok.view) c.no_partial.result (c.in-Ok.ensures site s) c.no_partial.ensures other
+returns-in-Ok g c = λ site other. refuses_named _ (view_of_tag (setting_in g.P.Registered.parts c.args.setting.now) site (decorator_view c.args.tag.now))
+    (λ n. partial_not_found n) (called_view c.in-Ok.view) c.no_partial.result (c.in-Ok.ensures site) c.no_partial.ensures other
 
 pub returns-in-Err : goal.returns-in-Err
-returns-in-Err g c = λ site s other. refuses-bind _ (view_of_tag (setting_in g.P.Registered.parts c.args.setting.now) site (decorator_view c.args.tag.now))
-    _ (c.in-Err.ensures site s other)
+returns-in-Err g c = λ site other. refuses-bind _ (view_of_tag (setting_in g.P.Registered.parts c.args.setting.now) site (decorator_view c.args.tag.now))
+    _ (c.in-Err.ensures site other)

@@ -7,17 +7,17 @@ use Rattle.handlebars.proofs.Gives.{gives-return}
 use Rattle.handlebars.proofs.render.lone.bare_value.Goals as goal
 
 pub returns-in-Ok : goal.returns-in-Ok
-returns-in-Ok g c = λ site s. rw (c.in-Path.is, param_view-Path)
-    (gives-resolved _ _ _ _ s c.in-Ok.ensures c.borrowed.ensures)
+returns-in-Ok g c = λ site. rw (c.in-Path.is, param_view-Path)
+    (gives-resolved _ _ _ _ _ c.in-Ok.ensures c.borrowed.ensures)
 
 pub returns-in-Err : goal.returns-in-Err
-returns-in-Err g c = λ site s other. rw (c.in-Path.is, param_view-Path)
-    (refuses-resolved _ _ _ s (c.in-Err.ensures other))
+returns-in-Err g c = λ site other. rw (c.in-Path.is, param_view-Path)
+    (refuses-resolved _ _ _ _ (c.in-Err.ensures other))
 
 pub returns-in-Literal : goal.returns-in-Literal
-returns-in-Literal g c = λ site s. rw (c.in-Literal.is, param_view-Literal)
+returns-in-Literal g c = λ site. rw (c.in-Literal.is, param_view-Literal)
     (value (view c.in-Literal.value), gives-return _, refl)
 
 pub returns-in-Subexpression : goal.returns-in-Subexpression
-returns-in-Subexpression g c = λ site s. rw (c.in-Subexpression.is, param_view-Subexpression)
-    (yields-present _ found_of _ s _ (c.inner_value.ensures.value site s))
+returns-in-Subexpression g c = λ site. rw (c.in-Subexpression.is, param_view-Subexpression)
+    (yields-present _ found_of _ _ _ (c.inner_value.ensures.value site))
