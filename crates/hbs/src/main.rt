@@ -1,4 +1,4 @@
-//! `hbs TEMPLATE DATA`: prints what a template gives over JSON data.
+//! `hbs [--strict] TEMPLATE DATA`: prints what a template gives over JSON data.
 #![tactic(auto)]
 
 mod failure;

@@ -1,6 +1,7 @@
 //! A run of the program, over any files and any outputs.
 
-ghost use Rattle.std.specs.Prelude.{◌≡◌, ◌≢◌, ◌≤◌, Err, IfOk, length, vec_len};
+ghost use Rattle.std.specs.Prelude.{◌≡◌, ◌≢◌, ◌≤◌, Err, IfOk, length};
+ghost use Rattle.hbs.specs.Words.{begins_strict, file_words, is_strict};
 
 use crate::failure::Failure;
 use crate::text::text;
@@ -10,9 +11,10 @@ use std::alloc::{AllocError, Global};
 use std::io;
 use std::io::Write;
 
-/// Renders the template that the first word names over the data that the second one names, and
-/// answers the status that the program ends with. `words` is an error where they found no memory.
-/// Other than two words that are texts are refused before any file is read. A run that fails says
+/// Renders the template that the first word names over the data that the second one names, in strict
+/// mode where `--strict` stands before them, and answers the status that the program ends with.
+/// `words` is an error where they found no memory. Other than two words that are texts, behind
+/// `--strict` or not, are refused before any file is read. A run that fails says
 /// why in one line on `err`, and writes nothing to `out` unless writing there is what fails.
 pub fn run<R: TemplateReader, O: Write, E: Write>(
     alloc: Global,
@@ -22,7 +24,7 @@ pub fn run<R: TemplateReader, O: Write, E: Write>(
     err: &mut E,
 ) -> u8
     ensures status { result ≤ 2 }
-    ensures usage { IfOk words (λ given. vec_len given ≢ 2 → result ≡ 2) }
+    ensures usage { IfOk words (λ given. length (file_words given.items) ≢ 2 → result ≡ 2) }
 {
     match words {
         Ok(words) => run_words(alloc, words.as_slice(), files, out, err),
@@ -38,7 +40,7 @@ fn run_words<R: TemplateReader, O: Write, E: Write>(
     err: &mut E,
 ) -> u8
     ensures status { result ≤ 2 }
-    ensures usage { length words.now ≢ 2 → result ≡ 2 }
+    ensures usage { length (file_words words.now) ≢ 2 → result ≡ 2 }
 {
     match print(alloc, words, files, out) {
         Ok(()) => 0,
@@ -61,15 +63,42 @@ fn print<'a, R: TemplateReader, O: Write>(
     files: &mut R,
     out: &mut O,
 ) -> Result<(), Failure<'a>>
-    ensures usage { length words.now ≢ 2 → result ≡ Err Failure.Usage }
+    ensures usage { length (file_words words.now) ≢ 2 → result ≡ Err Failure.Usage }
 {
+    let (strict, words) = split_strict(words);
     let [Word::Text(template), Word::Text(data)] = words else {
         return Err(Failure::Usage);
     };
-    let text = text(alloc, template.as_str(), data.as_str(), files)?;
+    let text = text(alloc, strict, template.as_str(), data.as_str(), files)?;
     match write_text(text.as_str(), out) {
         Ok(()) => Ok(()),
         Err(_) => Err(Failure::CannotWrite),
+    }
+}
+
+// Whether the first word is `--strict`, and the words that name files.
+fn split_strict(words: &[Word]) -> (bool, &[Word])
+    ensures strict { result.0 ≡ begins_strict words.now }
+    ensures words { result.1.now ≡ file_words words.now }
+{
+    match words.split_first() {
+        Some((first, rest)) => {
+            if is_strict(first) {
+                (true, rest)
+            } else {
+                (false, words)
+            }
+        }
+        None => (false, words),
+    }
+}
+
+fn is_strict(word: &Word) -> bool
+    ensures { result ≡ is_strict word.now }
+{
+    match word {
+        Word::Text(text) => text.as_str() == "--strict",
+        Word::Unreadable => false,
     }
 }
 

@@ -228,6 +228,40 @@ fn wants_two_words(rt: HostRuntime) -> Result<(), Fail> {
     Ok(())
 }
 
+const MISSING: &str =
+    r#"Error rendering "Unnamed template" line 2, col 1: Failed to access variable in strict mode Some("x")
+"#;
+
+// `--strict` counts as the first word alone; in another place it is a path like any other.
+#[test]
+fn runs_in_strict_mode(rt: HostRuntime) -> Result<(), Fail> {
+    let alloc = rt.alloc();
+    let usage = "usage: hbs [--strict] TEMPLATE DATA [FOLDER]\n";
+    let table: [(&[&str], u8, &str, &str); 8] = [
+        (&["t.hbs", "d.json"], 0, "a\n", ""),
+        (&["--strict", "t.hbs", "d.json"], 1, "", MISSING),
+        (&["--strict"], 2, "", usage),
+        (&["--strict", "t.hbs"], 2, "", usage),
+        (&["--strict", "t.hbs", "d.json", "d.json"], 2, "", usage),
+        (&["t.hbs", "--strict", "d.json"], 2, "", usage),
+        (&["t.hbs", "--strict"], 2, "", "hbs: cannot read --strict\n"),
+        (
+            &["--strict", "--strict", "d.json"],
+            2,
+            "",
+            "hbs: cannot read --strict\n",
+        ),
+    ];
+    for (given, status, out, err) in table {
+        let mut files = readable(alloc, "a\n{{x}}", "{}");
+        let seen = seen_of(&mut files, words(alloc, given))?;
+        assert_eq!(rt; seen.err.as_str(), err);
+        assert_eq!(rt; seen.out.as_str(), out);
+        assert_eq!(rt; seen.status, status);
+    }
+    Ok(())
+}
+
 #[test]
 fn names_the_path_as_given(rt: HostRuntime) -> Result<(), Fail> {
     let alloc = rt.alloc();

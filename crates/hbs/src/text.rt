@@ -5,9 +5,11 @@ use handlebars::{Context, JsonValue, NoFiles, Registry, TemplateReader};
 use log::sink::Discard;
 use std::alloc::Global;
 
-/// What a template gives over data, both read from their paths: the template first.
+/// What a template gives over data, in strict mode or not, both read from their paths: the template
+/// first.
 pub fn text<'a, R: TemplateReader>(
     alloc: Global,
+    strict: bool,
     template: &'a str,
     data: &'a str,
     files: &mut R,
@@ -15,7 +17,8 @@ pub fn text<'a, R: TemplateReader>(
     let source = read(template, files)?;
     let value = json(alloc, data, read(data, files)?.as_str())?;
     let context = Context::try_from(value)?;
-    let registry = Registry::new(alloc)?;
+    let mut registry = Registry::new(alloc)?;
+    registry.set_strict_mode(strict);
     let text = registry.render_template_with_context(
         source.as_str(),
         &context,
