@@ -4,12 +4,13 @@ ghost use Rattle.std.specs.Prelude.{◌≡◌, IsTrue};
 ghost use Rattle.handlebars_tests.specs.Outcomes.{outcome_view, handed_of, handed_out};
 
 use crate::outcome::{Outcome, Refusal};
-use crate::row::{Rendered, Row};
+use crate::row::{Rendered, Row, helper_named};
 use handlebars::{
-    Context, NoFiles, Registry, RenderContext, RenderError, RenderErrorReason, Renderable,
-    StringOutput, Template,
+    Context, HelperEntry, JsonValue, NoFiles, Registry, RenderContext, RenderError,
+    RenderErrorReason, Renderable, StringOutput, Template,
 };
 use log::sink::Discard;
+use serde_json::Map;
 use std::alloc::{AllocError, Global};
 
 /// What a row comes to, in each of the two ways to render it.
@@ -60,15 +61,35 @@ fn hands_out(handed: &Result<String, Refusal>, wanted: &Outcome) -> bool
     }
 }
 
-// What the row registers, in byte order of name; a template that doesn't compile refuses the row.
+// What the row registers, in byte order of name: helpers, then templates. A template that doesn't compile refuses the
+// row.
 fn registry_of(alloc: Global, row: &Row) -> Result<Registry, RenderError> {
     let mut registry = Registry::new(alloc)?;
+    if let Some(helpers) = &row.helpers {
+        register_helpers(&mut registry, helpers)?;
+    }
+    registry.set_strict_mode(row.strict);
+    registry.set_recursive_lookup(row.recursive);
     if let Some(templates) = &row.templates {
         for (name, source) in templates.iter() {
             registry.register_template_string(name.as_str(), source.as_str().unwrap_or(""))?;
         }
     }
     Ok(registry)
+}
+
+// A name with no helper loses the one that it has.
+fn register_helpers(
+    registry: &mut Registry,
+    helpers: &Map<String, JsonValue>,
+) -> Result<(), AllocError> {
+    for (name, value) in helpers.iter() {
+        match helper_named(value) {
+            Some(kind) => registry.register_helper(name.as_str(), HelperEntry::Built(kind))?,
+            None => registry.unregister_helper(name.as_str()),
+        }
+    }
+    Ok(())
 }
 
 fn registry_text(alloc: Global, row: &Row) -> Result<String, RenderError> {
@@ -110,5 +131,6 @@ fn write_tree(
     out: &mut StringOutput,
 ) -> Result<(), RenderError> {
     let mut rc = RenderContext::new(alloc, template.name.as_ref())?;
+    rc.set_recursive_lookup(registry.recursive_lookup());
     template.render(alloc, registry, data, &mut rc, out, &Discard)
 }

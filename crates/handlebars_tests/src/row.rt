@@ -1,7 +1,7 @@
 //! Rows, read from JSON.
 
 use crate::outcome::{Outcome, Refusal};
-use handlebars::JsonValue;
+use handlebars::{BuiltIn, JsonValue};
 use serde_json::Map;
 use std::fmt;
 use thiserror::Error;
@@ -11,6 +11,12 @@ use thiserror::Error;
 pub struct Row {
     /// Names and sources, which are texts.
     pub templates: Option<Map<String, JsonValue>>,
+    /// Names and built-in helpers, which are texts; a name with null has none.
+    pub helpers: Option<Map<String, JsonValue>>,
+    /// Whether the mode is strict.
+    pub strict: bool,
+    /// Whether lookup is recursive.
+    pub recursive: bool,
     pub rendered: Rendered,
     pub data: JsonValue,
     pub wanted: Outcome,
@@ -44,8 +50,12 @@ pub enum RowFailure {
     NoText(String),
     #[error("{0:?} is no number from 0 on")]
     NoNumber(String),
+    #[error("{0:?} is no boolean")]
+    NoBoolean(String),
     #[error("{0:?} is no object of texts")]
     NoTexts(String),
+    #[error("{0:?} is no object of helpers")]
+    NoHelpers(String),
     #[error("{0:?} is missing")]
     Missing(&'static str),
     #[error("either a source or a name is wanted")]
@@ -73,6 +83,9 @@ impl TryFrom<JsonValue> for Row {
 #[derive(Default, Drop)]
 struct Fields {
     templates: Option<Map<String, JsonValue>>,
+    helpers: Option<Map<String, JsonValue>>,
+    strict: bool,
+    recursive: bool,
     source: Option<String>,
     name: Option<String>,
     data: JsonValue,
@@ -87,6 +100,9 @@ impl Fields {
     fn take(&mut self, name: String, value: JsonValue) -> Result<(), RowFailure> {
         match name.as_str() {
             "templates" => self.templates = Some(texts(name, value)?),
+            "helpers" => self.helpers = Some(helpers(name, value)?),
+            "strict" => self.strict = boolean(name, &value)?,
+            "recursive" => self.recursive = boolean(name, &value)?,
             "source" => self.source = Some(text(name, value)?),
             "name" => self.name = Some(text(name, value)?),
             "data" => self.data = value,
@@ -120,10 +136,53 @@ fn texts(name: String, value: JsonValue) -> Result<Map<String, JsonValue>, RowFa
     Ok(members)
 }
 
+fn helpers(name: String, value: JsonValue) -> Result<Map<String, JsonValue>, RowFailure> {
+    let JsonValue::Object(members) = value else {
+        return Err(RowFailure::NoHelpers(name));
+    };
+    for (_key, member) in members.iter() {
+        if !member.is_null() && helper_named(member).is_none() {
+            return Err(RowFailure::NoHelpers(name));
+        }
+    }
+    Ok(members)
+}
+
+/// The built-in helper that a text names.
+pub fn helper_named(value: &JsonValue) -> Option<BuiltIn> {
+    match value.as_str()? {
+        "if" => Some(BuiltIn::If),
+        "unless" => Some(BuiltIn::Unless),
+        "each" => Some(BuiltIn::Each),
+        "with" => Some(BuiltIn::With),
+        "lookup" => Some(BuiltIn::Lookup),
+        "raw" => Some(BuiltIn::Raw),
+        "log" => Some(BuiltIn::Log),
+        "eq" => Some(BuiltIn::Eq),
+        "ne" => Some(BuiltIn::Ne),
+        "gt" => Some(BuiltIn::Gt),
+        "gte" => Some(BuiltIn::Gte),
+        "lt" => Some(BuiltIn::Lt),
+        "lte" => Some(BuiltIn::Lte),
+        "and" => Some(BuiltIn::And),
+        "or" => Some(BuiltIn::Or),
+        "not" => Some(BuiltIn::Not),
+        "len" => Some(BuiltIn::Len),
+        _ => None,
+    }
+}
+
 fn number(name: String, value: &JsonValue) -> Result<usize, RowFailure> {
     match value.as_u64() {
         Some(number) => Ok(number as usize),
         None => Err(RowFailure::NoNumber(name)),
+    }
+}
+
+fn boolean(name: String, value: &JsonValue) -> Result<bool, RowFailure> {
+    match value.as_bool() {
+        Some(boolean) => Ok(boolean),
+        None => Err(RowFailure::NoBoolean(name)),
     }
 }
 
@@ -133,6 +192,9 @@ impl TryFrom<Fields> for Row {
     fn try_from(fields: Fields) -> Result<Row, RowFailure> {
         let Fields {
             templates,
+            helpers,
+            strict,
+            recursive,
             source,
             name,
             data,
@@ -165,6 +227,9 @@ impl TryFrom<Fields> for Row {
         let wanted = Outcome { text, refusal };
         Ok(Row {
             templates,
+            helpers,
+            strict,
+            recursive,
             rendered,
             data,
             wanted,

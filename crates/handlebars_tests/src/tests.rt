@@ -2,10 +2,12 @@
 
 mod big;
 mod blocks;
+mod blocks_of_scope;
 mod compiling;
 mod errors;
 mod expands;
 mod helpers;
+mod helpers_called;
 mod parameters;
 mod paths;
 mod rendering;

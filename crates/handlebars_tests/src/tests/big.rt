@@ -35,6 +35,11 @@ fn big_inputs(alloc: Global) -> Result<Vec<(String, String, String)>, Fail> {
             String::from_str(alloc, r#""<""#)?,
             repeated(alloc, "&lt;", 100000, "")?,
         ),
+        (
+            String::from_str(alloc, "{{#each .}}{{.}}{{/each}}")?,
+            format!(in alloc; "[{}]", repeated(alloc, "7,", 99999, "8")?)?,
+            repeated(alloc, "7", 99999, "8")?,
+        ),
         (value()?, brackets.clone()?, brackets),
         (value()?, ands, repeated(alloc, "&amp;", 1000000, "")?),
     ]?)

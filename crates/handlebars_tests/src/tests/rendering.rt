@@ -3,8 +3,8 @@
 use crate::caller::rendered_again;
 use crate::tests::helpers::{data_of, refusal, refuses};
 use handlebars::{
-    EntryKind, Output, Registry, RenderContext, RenderErrorReason, Renderable, StringOutput,
-    Template, TemplateReader,
+    Context, EntryKind, Output, Registry, RenderContext, RenderErrorReason, Renderable,
+    StringOutput, Template, TemplateReader,
 };
 use log::sink::Discard;
 use std::io;
@@ -85,11 +85,12 @@ fn fails_from_a_refusal_on(rt: HostRuntime) -> Result<(), Fail> {
     Ok(())
 }
 
-// Takes so many segments, and refuses the next ones.
+// Takes so many segments, and refuses the next ones by a fault of that kind.
 #[derive(Drop)]
 struct Bounded {
     kept: StringOutput,
     room: u64,
+    kind: ErrorKind,
     refused: u64,
 }
 
@@ -104,7 +105,7 @@ impl Output for Bounded {
         }
         if self.room == 0 {
             self.refused = self.refused.saturating_add(1);
-            return Err(io::Error::from(ErrorKind::NotFound));
+            return Err(io::Error::from(self.kind));
         }
         self.room -= 1;
         match self.kept.write(seg) {
@@ -135,6 +136,7 @@ fn tells_of_an_output_that_fails(rt: HostRuntime) -> Result<(), Fail> {
         let mut out = Bounded {
             kept: StringOutput::new(alloc),
             room,
+            kind: ErrorKind::NotFound,
             refused: 0,
         };
         let place = match template.render(alloc, &registry, &data, &mut rc, &mut out, &Discard) {
@@ -148,6 +150,33 @@ fn tells_of_an_output_that_fails(rt: HostRuntime) -> Result<(), Fail> {
         assert_eq!(rt; rc.has_failed(), column.is_some());
         assert_eq!(rt; out.refused, u64::from(column.is_some()));
         assert_eq!(rt; out.kept.into_string().as_str(), written);
+    }
+    Ok(())
+}
+
+// Of the fault of a word its text alone is kept, but for want of memory.
+#[test]
+fn tells_of_a_word_that_fails(rt: HostRuntime) -> Result<(), Fail> {
+    let alloc = rt.alloc();
+    let registry = Registry::new(alloc)?;
+    let template = Template::compile(alloc, "ab{{eq 1 1}}c")?;
+    let table = [
+        (ErrorKind::NotFound, r#"Other("entity not found")"#),
+        (ErrorKind::Interrupted, r#"Other("operation interrupted")"#),
+        (ErrorKind::OutOfMemory, "OutOfMemory"),
+    ];
+    for (kind, reason) in table {
+        let mut rc = RenderContext::new(alloc, None)?;
+        let mut out = Bounded {
+            kept: StringOutput::new(alloc),
+            room: 1,
+            kind,
+            refused: 0,
+        };
+        let data = Context::null();
+        let error = refusal(template.render(alloc, &registry, &data, &mut rc, &mut out, &Discard))?;
+        refuses(&rt, alloc, &error, reason, (Some(1), Some(3)))?;
+        assert_eq!(rt; out.kept.into_string().as_str(), "ab");
     }
     Ok(())
 }

@@ -7,6 +7,7 @@ use handlebars::{
 use handlebars_scope::context::walk::resolve;
 use handlebars_scope::output::output_fault;
 use std::alloc::{AllocError, Global};
+use std::collections::VecDeque;
 use std::io;
 use std::io::ErrorKind;
 use std::test::Fail;
@@ -45,15 +46,17 @@ fn contexts_take_values(rt: HostRuntime) -> Result<(), Fail> {
     Ok(())
 }
 
-// A variable of a block leads nowhere.
+// Without any block paths lead from the data, and a variable leads nowhere.
 #[test]
 fn paths_lead_into_data(rt: HostRuntime) -> Result<(), Fail> {
     let alloc = rt.alloc();
     let context = data_of(alloc, r#"{"x":{"y":1}}"#)?;
     let data = context.data();
-    assert!(rt; resolve(alloc, data, &Path::parse(alloc, ".")?)? == Some(data));
-    assert!(rt; resolve(alloc, data, &Path::parse(alloc, "x.y")?)? == data.pointer("/x/y"));
-    assert!(rt; resolve(alloc, data, &Path::parse(alloc, "@x")?)?.is_none());
+    let blocks = VecDeque::new(alloc);
+    let leads = |path: &str| resolve(alloc, data, &Path::parse(alloc, path)?, &blocks, false);
+    assert!(rt; leads(".")? == Some(data));
+    assert!(rt; leads("x.y")? == data.pointer("/x/y"));
+    assert!(rt; leads("@x")?.is_none());
     Ok(())
 }
 

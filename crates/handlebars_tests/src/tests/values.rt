@@ -1,6 +1,9 @@
 //! Values with where they came from.
 
-use handlebars_base::json::value::{Json, JsonRender, PathAndJson, ScopedJson};
+use handlebars_base::json::value::{
+    Json, JsonRender, PathAndJson, ScopedJson, as_string, compare, equal, to_json,
+};
+use std::cmp::Ordering;
 use std::test::Fail;
 
 // Of a number outside the range, which no data has, nothing is rendered.
@@ -68,5 +71,66 @@ fn values_keep_the_path_as_written(rt: HostRuntime) -> Result<(), Fail> {
     }
     let unnamed = PathAndJson::new(None, ScopedJson::Missing);
     assert!(rt; unnamed.relative_path().is_none());
+    Ok(())
+}
+
+// Two values, whether they are equal, and their order.
+const COMPARED: [(&str, &str, bool, Option<Ordering>); 20] = [
+    ("null", "null", true, None),
+    ("null", "0", false, None),
+    ("1.5", "null", true, None),
+    ("1.5", "2.5", true, None),
+    ("1.5", "1", false, None),
+    ("[1.5]", "[null]", true, None),
+    ("false", "true", false, Some(Ordering::Less)),
+    ("true", "true", true, Some(Ordering::Equal)),
+    ("true", "1", false, None),
+    ("18446744073709551615", "-1", false, Some(Ordering::Greater)),
+    ("5", r#""5""#, false, Some(Ordering::Equal)),
+    (r#""-1""#, "0", false, Some(Ordering::Less)),
+    (r#""-0""#, "0", false, None),
+    (r#""1.00""#, "0", false, None),
+    ("1.5", r#""1""#, false, None),
+    (r#""b""#, r#""ab""#, false, Some(Ordering::Greater)),
+    ("[1, [2]]", "[1, [2]]", true, None),
+    ("[1]", "[1, 2]", false, None),
+    (r#"{"a":1,"b":2}"#, r#"{"b":2,"a":1}"#, true, None),
+    (r#"{"a":null}"#, "{}", false, None),
+];
+
+#[test]
+fn values_are_compared(rt: HostRuntime) -> Result<(), Fail> {
+    let alloc = rt.alloc();
+    for (left, right, are_equal, order) in COMPARED {
+        let x = Json::from_str(alloc, left)?;
+        let y = Json::from_str(alloc, right)?;
+        assert_eq!(rt; equal(&x, &y), are_equal, "{left} and {right}");
+        assert_eq!(rt; equal(&y, &x), are_equal, "{right} and {left}");
+        assert_eq!(rt; compare(&x, &y), order, "{left} and {right}");
+        let reversed = order.map(|order| order.reverse());
+        assert_eq!(rt; compare(&y, &x), reversed, "{right} and {left}");
+    }
+    Ok(())
+}
+
+// What serde writes becomes a value, and what it doesn't write becomes null. Only a text is a string.
+#[test]
+fn values_are_converted(rt: HostRuntime) -> Result<(), Fail> {
+    let alloc = rt.alloc();
+    let text = to_json(alloc, &"é<")?;
+    assert_eq!(rt; as_string(&text), Some("é<"));
+    let list = to_json(alloc, &[Some(1u8), None])?;
+    assert!(rt; list == Json::from_str(alloc, "[1, null]")?);
+    assert!(rt; as_string(&list).is_none());
+    assert!(rt;
+        to_json(alloc, &(1u64 << 63, -1i8))? == Json::from_str(alloc, "[9223372036854775808, -1]")?
+    );
+    assert!(rt; to_json(alloc, &text)? == text);
+
+    let mut deep = Json::Null;
+    for _ in 0..128 {
+        deep = Json::Array(vec![in alloc; deep]?);
+    }
+    assert!(rt; to_json(alloc, &deep)?.is_null());
     Ok(())
 }
