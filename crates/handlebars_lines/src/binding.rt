@@ -10,9 +10,6 @@ ghost use Rattle.handlebars_lines.specs.LineView.{texts_of};
 use crate::marks::starts_white;
 use handlebars_base::json::path::marks::{after, behind_white, symbols};
 
-#[cfg(test)]
-mod tests;
-
 /// The names that a block gives to what it shows.
 #[derive(Clone, Copy, Debug, PartialEq, Eq)]
 pub enum Binding<'a> {

@@ -6,6 +6,4 @@ pub mod laws;
 pub mod line;
 pub mod literal;
 mod marks;
-#[cfg(test)]
-mod tests;
 pub mod worth;

@@ -10,8 +10,6 @@ use std::alloc::{AllocError, Global};
 
 mod marks;
 mod step;
-#[cfg(test)]
-mod tests;
 
 pub use step::{Enclosure, Event, Stand, State, Step, take_step};
 

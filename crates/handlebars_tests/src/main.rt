@@ -3,14 +3,11 @@
 #![tactic(auto)]
 
 mod answer;
-mod caller;
 mod failure;
 mod files;
 mod outcome;
 mod row;
 mod run;
-#[cfg(test)]
-mod tests;
 
 use run::run;
 use std::process::ExitCode;
