@@ -9,7 +9,6 @@ use handlebars_test_support::{refusal, refuses};
 use log::sink::Discard;
 use std::alloc::{AllocError, Global};
 use std::collections::VecDeque;
-use std::rc::Rc;
 use std::test::Fail;
 
 // A block at a path of one name.

@@ -10,7 +10,6 @@ use handlebars_test_support::{refusal, shows};
 use std::alloc::{AllocError, Global};
 use std::collections::VecDeque;
 use std::io;
-use std::io::ErrorKind;
 use std::test::Fail;
 
 // Arrays in one another around null.
