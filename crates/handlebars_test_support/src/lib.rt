@@ -47,10 +47,9 @@ pub fn refuses(
     place: (Option<usize>, Option<usize>),
 ) -> Result<(), Fail> {
     shows(alloc, error.reason(), reason)?;
-    if (error.line_no, error.column_no) != place {
-        return Err("another place".into());
-    }
-    Ok(())
+    let found = format!(in alloc; "{:?}, {:?}", error.line_no, error.column_no)?;
+    let wanted = format!(in alloc; "{:?}, {:?}", place.0, place.1)?;
+    is_same(alloc, found.as_str(), wanted.as_str())
 }
 
 /// A text so many times, and what stands behind it.

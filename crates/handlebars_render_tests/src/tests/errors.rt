@@ -9,7 +9,11 @@ use std::test::Fail;
 #[test]
 fn a_source_prints_its_own_place(rt: HostRuntime) -> Result<(), Fail> {
     let alloc = rt.alloc();
-    for source in ["{{\ntwo", "one\ntwo\nfour {{a\nfive", "one\ncinq é {{"] {
+    for source in [
+        "{{\ntwo\nthree\nfour\nfive\nsix\nseven\neight\n",
+        "one\ntwo\nthree\nfour {{a\nfive\nsix\nseven\neight\n",
+        "one\ntwo\nthree\nfour\ncinq é {{",
+    ] {
         let cause = refusal(Template::compile(alloc, source))?;
         let error = refusal(rendered(alloc, source, "null")?)?;
         assert!(rt; error.template_name.is_none());

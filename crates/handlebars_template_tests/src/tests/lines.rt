@@ -1,7 +1,8 @@
 //! Lines of tags in front of texts.
 
 use handlebars_lines::line::{Enclosure, LineSlice, split_line};
-use std::alloc::AllocError;
+use handlebars_test_support::repeated;
+use std::alloc::Global;
 use std::test::Fail;
 
 const LINES: [(&str, usize, &str); 14] = [
@@ -59,13 +60,6 @@ const UNREADABLE_BLOCKS: [&str; 6] = [
     "as |x|}}",
 ];
 
-fn repeat(text: &mut String, part: &str, times: usize) -> Result<(), AllocError> {
-    for _ in 0..times {
-        text.push_str(part)?;
-    }
-    Ok(())
-}
-
 #[test]
 fn lines_read(rt: HostRuntime) -> Result<(), Fail> {
     for (text, depth, rest) in LINES {
@@ -108,32 +102,27 @@ fn blocks_end_before_their_parameters(rt: HostRuntime) -> Result<(), Fail> {
 
 /// How deep the line is, where one reads: so many of a text, another, and so many of a third.
 fn depth_of(
-    rt: &impl AllocGlobal,
-    times: usize,
+    alloc: Global,
+    times: u32,
     before: &str,
     inner: &str,
     after: &str,
-) -> Result<Option<usize>, AllocError> {
-    let mut text = String::new(rt.alloc());
-    repeat(&mut text, before, times)?;
-    text.push_str(inner)?;
-    repeat(&mut text, after, times)?;
-    text.push_str("}}")?;
-    match split_line(rt.alloc(), Enclosure::Tag, text.as_str())? {
-        Some(slice) => Ok(Some(slice.depth)),
-        None => Ok(None),
-    }
+) -> Result<Option<usize>, Fail> {
+    let behind = repeated(alloc, after, times, "}}")?;
+    let rest = format!(in alloc; "{inner}{behind}")?;
+    let text = repeated(alloc, before, times, rest.as_str())?;
+    Ok(split_line(alloc, Enclosure::Tag, text.as_str())?.map(|slice| slice.depth))
 }
 
 #[test]
 fn depth_is_what_is_open_at_once(rt: HostRuntime) -> Result<(), Fail> {
-    assert!(rt; depth_of(&rt, 200, "(", "a", ")")? == Some(200));
-    assert!(rt; depth_of(&rt, 201, "(", "a", ")")? == Some(201));
+    assert!(rt; depth_of(rt.alloc(), 200, "(", "a", ")")? == Some(200));
+    assert!(rt; depth_of(rt.alloc(), 201, "(", "a", ")")? == Some(201));
     // Far deeper than a stack would bear, and long enough that a time which grows with the square would show.
-    assert!(rt; depth_of(&rt, 100000, "(", "a", ")")? == Some(100000));
-    assert!(rt; depth_of(&rt, 100000, "(", "a", "")?.is_none());
-    assert!(rt; depth_of(&rt, 50000, "(a b=", "[1]", ")")? == Some(50001));
-    assert!(rt; depth_of(&rt, 50000, "(a (", ")", "))")?.is_none());
-    assert!(rt; depth_of(&rt, 100000, "", "a", " (b [])")? == Some(2));
+    assert!(rt; depth_of(rt.alloc(), 100000, "(", "a", ")")? == Some(100000));
+    assert!(rt; depth_of(rt.alloc(), 100000, "(", "a", "")?.is_none());
+    assert!(rt; depth_of(rt.alloc(), 50000, "(a b=", "[1]", ")")? == Some(50001));
+    assert!(rt; depth_of(rt.alloc(), 50000, "(a (", ")", "))")?.is_none());
+    assert!(rt; depth_of(rt.alloc(), 100000, "", "a", " (b [])")? == Some(2));
     Ok(())
 }

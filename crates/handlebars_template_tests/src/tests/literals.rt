@@ -2,18 +2,13 @@
 
 use handlebars_lines::literal::split_literal;
 use handlebars_lines::worth::literal_value;
-use std::alloc::{AllocError, Global};
+use handlebars_test_support::repeated;
+use std::alloc::Global;
 use std::test::Fail;
 
-fn brackets(alloc: Global, opened: usize, closed: usize) -> Result<String, AllocError> {
-    let mut text = String::new(alloc);
-    for _ in 0..opened {
-        text.push_str("[")?;
-    }
-    for _ in 0..closed {
-        text.push_str("]")?;
-    }
-    Ok(text)
+fn brackets(alloc: Global, opened: u32, closed: u32) -> Result<String, Fail> {
+    let behind = repeated(alloc, "]", closed, "")?;
+    repeated(alloc, "[", opened, behind.as_str())
 }
 
 #[test]
