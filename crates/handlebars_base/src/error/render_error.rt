@@ -101,12 +101,24 @@ impl RenderErrorReason {
 
 /// A refusal: why, in which template, and at which line and column, counted from 1, columns in
 /// characters.
-#[derive(Debug, Drop)]
+#[derive(Debug)]
 pub struct RenderError {
     pub template_name: Option<String>,
     pub line_no: Option<usize>,
     pub column_no: Option<usize>,
     reason: RenderErrorReason,
+}
+
+// By hand, so that each place that lets an error go is one call.
+impl Drop for RenderError {
+    fn drop(self) {
+        let RenderError {
+            template_name: _,
+            line_no: _,
+            column_no: _,
+            reason: _,
+        } = self;
+    }
 }
 
 impl RenderError {
@@ -156,12 +168,10 @@ impl RenderError {
         if self.line_no.is_some() {
             return self;
         }
-        RenderError {
-            template_name: self.template_name,
-            line_no: Some(line),
-            column_no: Some(column),
-            reason: self.reason,
-        }
+        let mut error = self;
+        error.line_no = Some(line);
+        error.column_no = Some(column);
+        error
     }
 
     /// With the name of a template, where none is known yet. Where a copy of it finds no memory,
@@ -175,15 +185,26 @@ impl RenderError {
         if self.template_name.is_some() {
             return self;
         }
+        let mut error = self;
         match String::from_str(alloc, name.as_str()) {
-            Ok(name) => RenderError {
-                template_name: Some(name),
-                line_no: self.line_no,
-                column_no: self.column_no,
-                reason: self.reason,
-            },
+            Ok(name) => {
+                error.template_name = Some(name);
+                error
+            }
             Err(AllocError) => RenderErrorReason::OutOfMemory.into(),
         }
+    }
+
+    fn into_reason(self) -> RenderErrorReason
+        ensures { result ≡ cause_of self }
+    {
+        let RenderError {
+            template_name: _,
+            line_no: _,
+            column_no: _,
+            reason: cause,
+        } = self;
+        cause
     }
 }
 
@@ -320,7 +341,7 @@ impl From<RenderError> for RenderErrorReason {
         ensures reason { reason_of result ≡ reason_in error }
         ensures cause { result ≡ cause_of error }
     {
-        error.reason
+        error.into_reason()
     }
 }
 

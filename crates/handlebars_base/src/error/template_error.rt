@@ -36,13 +36,26 @@ pub enum TemplateErrorReason {
 
 /// Why a template has no tree, in which template, and where: line and column count from 1, columns
 /// in characters.
-#[derive(Debug, Drop)]
+#[derive(Debug)]
 pub struct TemplateError {
     reason: TemplateErrorReason,
     template_name: Option<String>,
     line_no: Option<usize>,
     column_no: Option<usize>,
     segment: Option<String>,
+}
+
+// By hand, so that each place that lets an error go is one call.
+impl Drop for TemplateError {
+    fn drop(self) {
+        let TemplateError {
+            reason: _,
+            template_name: _,
+            line_no: _,
+            column_no: _,
+            segment: _,
+        } = self;
+    }
 }
 
 impl TemplateError {
@@ -74,14 +87,14 @@ impl TemplateError {
             → template_refusal_of result ≡ record { reason = template_out_of_memory; name = None; position = None } }
         ensures memory { (template_refusal_of self).reason ≡ template_out_of_memory → (template_refusal_of result).reason ≡ template_out_of_memory }
     {
+        let mut error = self;
         match template_segment(alloc, source, line_no, column_no) {
-            Ok(segment) => TemplateError {
-                reason: self.reason,
-                template_name: self.template_name,
-                line_no: Some(line_no),
-                column_no: Some(column_no),
-                segment: Some(segment),
-            },
+            Ok(segment) => {
+                error.line_no = Some(line_no);
+                error.column_no = Some(column_no);
+                error.segment = Some(segment);
+                error
+            }
             Err(AllocError) => TemplateError::of(TemplateErrorReason::OutOfMemory),
         }
     }
@@ -92,13 +105,9 @@ impl TemplateError {
         ensures cause { template_cause_of result ≡ template_cause_of self }
         ensures shown { shown_lines result ≡ shown_lines self }
     {
-        TemplateError {
-            template_name: Some(name),
-            reason: self.reason,
-            line_no: self.line_no,
-            column_no: self.column_no,
-            segment: self.segment,
-        }
+        let mut error = self;
+        error.template_name = Some(name);
+        error
     }
 
     pub fn reason(&self) -> &TemplateErrorReason

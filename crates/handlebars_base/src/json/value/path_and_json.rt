@@ -9,13 +9,23 @@ use serde_json::Value;
 use std::alloc::{AllocError, Global};
 
 /// A value with where it came from, and its path as the template writes it, where it has one.
-#[derive(Drop)]
 pub struct PathAndJson<'rc> {
     relative_path: Option<String>,
     value: ScopedJson<'rc>,
     // What `value` lends where there is none.
     null: Value,
     ghost is_null: { is_some (as_null (view null)) ≡ true },
+}
+
+// By hand, so that each place that lets one go is one call.
+impl<'rc> Drop for PathAndJson<'rc> {
+    fn drop(self) {
+        let PathAndJson {
+            relative_path: _,
+            value: _,
+            null: _,
+        } = self;
+    }
 }
 
 impl<'rc> PathAndJson<'rc> {
