@@ -206,10 +206,10 @@ impl fmt::Display for TemplateError {
                     Some(name) => name.as_str(),
                     None => "Unnamed template",
                 };
-                writeln!(f, "Template error: {reason}")?;
-                writeln!(f, "    --> Template error in \"{name}\":{line}:{column}")?;
-                writeln!(f, "     |")?;
-                write!(f, "{segment}     |\n     = reason: {reason}\n")
+                write!(
+                    f,
+                    "Template error: {reason}\n    --> Template error in \"{name}\":{line}:{column}\n     |\n{segment}     |\n     = reason: {reason}\n"
+                )
             }
             _ => write!(f, "{reason}"),
         }
