@@ -1,4 +1,9 @@
 pub mod OptionBinds
+pub mod Bytes
+pub mod Runs
+pub mod Fronts
+pub mod Ends
+pub mod Digits
 pub mod PathMarks
 pub mod PathParts
 pub mod PathLinks

@@ -1,15 +1,17 @@
 -- A part, and a link: what is read is spelled so, and what is spelled so is read.
-use Rattle.std.proofs.Common.{◌≡◌, ◌≢◌, ℕ, ◌+◌, ◌<◌, Bool, true, false, cond, not, ◌||◌, ltb, List, [], ◌∷◌, ◌++◌, length, get_or, drop, Some, None, refl, sym, ap, subst, ◌∙◌, append_assoc, arith, ◌⊎◌, inl, inr, length-append}
+use Rattle.std.proofs.Common.{◌≡◌, ℕ, ◌+◌, ◌<◌, Bool, true, false, cond, not, ◌||◌, ltb, List, [], ◌∷◌, ◌++◌, length, get_or, drop, Some, None, refl, sym, ap, subst, ◌∙◌, append_assoc, arith, ◌⊎◌, inl, inr, length-append}
 use Rattle.std.specs.Prelude.{◌==◌}
 use Rattle.std.specs.List.{prefix_len, position_or_len, before_first, after_first, AllByRecursion}
-use Rattle.std.proofs.lemmas.Bool.{eqb-true, ltb-true, or_parts, or_cases, and_parts, not-true, not-false, eqb-false, ne_eqb, lt-ltb}
+use Rattle.std.proofs.lemmas.Bool.{eqb-true, ltb-true, or_parts, or_cases, and_parts, not-true, not-false, ne_eqb, lt-ltb}
 use Rattle.std.proofs.lemmas.Option.{cond_some}
-use Rattle.std.proofs.lemmas.List.{take-append-drop, length-take, take_at, drop_at, nil_from_length}
-use Rattle.std.proofs.lemmas.List.Sums.{prefix_len-le-length, prefix_len_stops, split_at_first}
+use Rattle.std.proofs.lemmas.List.{take-append-drop, take_at, drop_at, nil_from_length}
+use Rattle.std.proofs.lemmas.List.Sums.{prefix_len_stops, split_at_first}
 use Rattle.handlebars_base.specs.Path.{is_symbol, IsIdentifier, Part, dots, plain, bracketed, spelled_part, IsPart, is_dots, Link, joins}
 use Rattle.handlebars_base.specs.PathReading.{◌>>=◌, with_or, after, symbols_of, behind_symbols, bracketed_at, plain_at, part_at, link_by, slash_link, dot_link, link_at}
 use Rattle.handlebars_base.proofs.OptionBinds.{bind_some, with_or_is, guard_some}
-use Rattle.handlebars_base.proofs.PathMarks.{after_takes, after_other, prefix_pass, prefix_again, not_symbol}
+use Rattle.handlebars_base.proofs.Runs.{symbols_some, prefix_pass, prefix_again}
+use Rattle.handlebars_base.proofs.Fronts.{after_takes, after_other}
+use Rattle.handlebars_base.proofs.Bytes.{other_byte}
 
 -- ---- parts
 
@@ -18,18 +20,13 @@ pub record TakesPart (t : List ℕ) (x : Part × List ℕ) : Type 0 where
   pub parts : t ≡ spelled_part x.0 ++ x.1
   pub fits : IsPart x.0
 
-plain_some : (t : List ℕ) → (prefix_len is_symbol t == 0) ≡ false → symbols_of t ≢ []
-plain_some t some none =
-    eqb-false (prefix_len is_symbol t) 0 some
-    (omega (arith, ap length none, length-take (prefix_len is_symbol t) t, prefix_len-le-length is_symbol t))
-
 plain_takes : (t : List ℕ) (x : Part × List ℕ) → plain_at t ≡ Some x → TakesPart t x
 unfolding plain_at
 plain_takes t x e =
     let g = guard_some (prefix_len is_symbol t == 0) (plain (symbols_of t), behind_symbols t) x e in
     subst (λ (y : Part × List ℕ). TakesPart t y) g.1 (record {
       parts = sym (take-append-drop (prefix_len is_symbol t) t);
-      fits = (plain_some t g.0, prefix_pass is_symbol t);
+      fits = (symbols_some t g.0, prefix_pass is_symbol t);
     })
 
 -- a text around its first closing bracket
@@ -147,8 +144,8 @@ unfolding part_at after
 part_again dots rest fits stop = refl
 part_again (plain []) rest fits stop = absurd (fits.0 refl)
 part_again (plain (x ∷ xs)) rest fits stop =
-    let no_point = after_other 46 x (xs ++ rest) (not_symbol x 46 fits.1.0 refl) in
-    let no_bracket = after_other 91 x (xs ++ rest) (not_symbol x 91 fits.1.0 refl) in
+    let no_point = after_other 46 x (xs ++ rest) (other_byte is_symbol 46 refl x fits.1.0) in
+    let no_bracket = after_other 91 x (xs ++ rest) (other_byte is_symbol 91 refl x fits.1.0) in
     rw (no_point, no_bracket) (plain_again (x ∷ xs) rest fits stop)
 part_again (bracketed n) rest fits stop = ap bracketed_at (append_assoc n (93 ∷ []) rest) ∙ bracketed_again n rest fits
 

@@ -4,17 +4,21 @@ use Rattle.std.specs.Prelude.{codes, ◌==◌, ◌&&◌}
 use Rattle.std.specs.List.{prefix_len}
 use Rattle.std.specs.Str.{bytes_eq}
 use Rattle.std.specs.Option.{option_map}
-use Rattle.std.proofs.lemmas.Bool.{or_parts, and_parts, eqb-true, cases_Bool, ne_eqb, both_ways, false_from_ne_true}
+use Rattle.std.proofs.Math.Dec.{eqb-suc-zero}
+use Rattle.std.proofs.lemmas.Bool.{or_parts, and_parts, eqb-true, cases_Bool, both_ways, false_from_ne_true}
 use Rattle.std.proofs.lemmas.Option.{same_Some, cond_some}
 use Rattle.std.proofs.lemmas.List.{take-append-drop, take_at, drop_at, nil_from_length}
 use Rattle.std.proofs.lemmas.Slice.Eq.{bytes_eq-Decides}
 use Rattle.handlebars_base.specs.Path.{Reference, meaning, IsPath, is_symbol, IsIdentifier, Part, dots, plain, bracketed, spelled_part, IsPart, is_dots, Link, spelled_links, AreLinks, ups, Shape, itself, at_root, at_name, in_parts, spelled, IsShape}
 use Rattle.handlebars_base.specs.PathReading.{◌>>=◌, after, is_up_mark, after_up, ups_at, symbols_of, behind_symbols, part_at, link_at, links_of, Start, here, from_root, from_variable, from_part, is_no_name, named_start, named_at, part_start, dot_start, unnamed_at, start_at, links_behind, is_dotted, shape_from, shape_at, shape_of, path_of, reference_from, reference_len}
 use Rattle.handlebars_base.proofs.OptionBinds.{bind_some, with_or_is, guard_some, map_some}
-use Rattle.handlebars_base.proofs.PathMarks.{after_takes, after_other, prefix_pass, prefix_again, not_symbol, ups_again, after_up_other}
+use Rattle.handlebars_base.proofs.PathMarks.{ups_again, after_up_other}
 use Rattle.handlebars_base.proofs.PathParts.{part_takes, part_again}
 use Rattle.handlebars_base.proofs.ReferenceLength.{prefix_len-end, after-end}
 use Rattle.handlebars_base.proofs.PathLinks.{links_of_take, links_stop, links_of_again}
+use Rattle.handlebars_base.proofs.Fronts.{after_takes, after_other}
+use Rattle.handlebars_base.proofs.Runs.{prefix_pass, prefix_again}
+use Rattle.handlebars_base.proofs.Bytes.{other_byte}
 
 -- ---- what is read is spelled so: the start
 
@@ -64,16 +68,13 @@ root_or_name true dotted name ss rest is_root id this fits =
 root_or_name false dotted name ss rest is_root id this fits =
     record { parts = spelled_name 0 name ss rest; fits = (id, this, is_root, fits) }
 
-not_zero : (n : ℕ) → (suc n == 0) ≡ false
-not_zero n = ne_eqb (suc n) 0 (λ e. absurd (omega arith))
-
 name_fits : (dotted : Bool) (n : ℕ) (name : List ℕ) (ss : List Link) (rest : List ℕ) → IsIdentifier name →
     bytes_eq name (codes "this") ≡ false → AreLinks false ss →
     TakesFront (64 ∷ (ups n ++ (name ++ (spelled_links ss ++ rest)))) (shape_from dotted (named_start n name) ss, rest)
 name_fits dotted zero name ss rest id this fits =
     root_or_name (bytes_eq name (codes "root")) dotted name ss rest refl id this fits
 name_fits dotted (suc n) name ss rest id this fits =
-    rw (not_zero n) (record { parts = spelled_name (suc n) name ss rest; fits = (id, this, fits) })
+    rw (eqb-suc-zero n) (record { parts = spelled_name (suc n) name ss rest; fits = (id, this, fits) })
 
 links_behind-named : (n : ℕ) (name t : List ℕ) → links_behind (named_start n name) t ≡ links_of false t
 links_behind-named n name t =
@@ -132,7 +133,7 @@ is_dotted-part : (p : Part) (rest : List ℕ) → IsPart p → is_dotted (spelle
 unfolding after
 is_dotted-part dots rest fits = refl
 is_dotted-part (plain []) rest fits = absurd (fits.0 refl)
-is_dotted-part (plain (x ∷ xs)) rest fits = rw (not_symbol x 46 fits.1.0 refl) refl
+is_dotted-part (plain (x ∷ xs)) rest fits = rw (other_byte is_symbol 46 refl x fits.1.0) refl
 is_dotted-part (bracketed n) rest fits = refl
 
 is_dotted-dot : (t : List ℕ) → is_dotted (46 ∷ 47 ∷ t) ≡ true
@@ -244,7 +245,7 @@ by_start t s r ss rest start links = rw (start, links) refl
 
 not_up : (name rest : List ℕ) → IsIdentifier name → after_up (name ++ rest) ≡ None
 not_up [] rest id = absurd (id.0 refl)
-not_up (x ∷ xs) rest id = after_up_other x (xs ++ rest) (not_symbol x 46 id.1.0 refl)
+not_up (x ∷ xs) rest id = after_up_other x (xs ++ rest) (other_byte is_symbol 46 refl x id.1.0)
 
 named_again : (n : ℕ) (name rest : List ℕ) → IsIdentifier name → bytes_eq name (codes "this") ≡ false →
     prefix_len is_symbol rest ≡ 0 → named_at (n, name ++ rest) ≡ Some (named_start n name, rest)
@@ -278,7 +279,7 @@ no_at : (p : Part) (rest : List ℕ) → IsPart p → after 64 (spelled_part p +
 unfolding after
 no_at dots rest fits = refl
 no_at (plain []) rest fits = absurd (fits.0 refl)
-no_at (plain (x ∷ xs)) rest fits = after_other 64 x (xs ++ rest) (not_symbol x 64 fits.1.0 refl)
+no_at (plain (x ∷ xs)) rest fits = after_other 64 x (xs ++ rest) (other_byte is_symbol 64 refl x fits.1.0)
 no_at (bracketed n) rest fits = refl
 
 start_part : (p : Part) (rest : List ℕ) → IsPart p → prefix_len is_symbol rest ≡ 0 →
@@ -303,7 +304,7 @@ shape_at_again (at_root ss) rest fits e =
 shape_at_again (at_name zero name ss) rest fits e =
     name_again 0 name ss rest fits.0 fits.1 fits.3 e ∙ rw (fits.2) refl
 shape_at_again (at_name (suc n) name ss) rest fits e =
-    name_again (suc n) name ss rest fits.0 fits.1 fits.2 e ∙ rw (not_zero n) refl
+    name_again (suc n) name ss rest fits.0 fits.1 fits.2 e ∙ rw (eqb-suc-zero n) refl
 shape_at_again (in_parts true p ss) rest fits e =
     let behind = spelled_links ss ++ rest in
     let start = start_dotted p behind fits.0 (stop_end (is_dots p) ss rest fits.1 e) in

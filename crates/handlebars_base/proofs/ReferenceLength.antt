@@ -6,7 +6,7 @@ use Rattle.std.specs.Str.{IsCharBoundary}
 use Rattle.std.proofs.lemmas.Bool.{or_parts, eqb-true, ne_eqb, ltb-true, ltb-false, cases_Bool, both_ways}
 use Rattle.handlebars_base.specs.Path.{is_symbol}
 use Rattle.handlebars_base.specs.PathReading.{after, is_reference_byte, one_more, reference_from, reference_len}
-use Rattle.handlebars_base.proofs.PathMarks.{no_symbol_ascii}
+use Rattle.handlebars_base.proofs.Bytes.{no_symbol_ascii}
 
 -- ---- whether it goes on
 

@@ -2,12 +2,12 @@
 use Rattle.std.proofs.Common.{◌≡◌, ℕ, zero, suc, ◌+◌, Bool, true, false, not, List, [], ◌∷◌, ◌++◌, length, take, drop, refl, sym, ap, subst, ◌∙◌, append_assoc, arith, inl, inr, length-append}
 use Rattle.std.specs.Prelude.{◌==◌, codes}
 use Rattle.std.specs.List.{AllByRecursion}
-use Rattle.std.proofs.lemmas.Bool.{ne_eqb, not-true, or_parts}
+use Rattle.std.proofs.lemmas.Bool.{not-true, or_parts}
 use Rattle.handlebars_base.specs.Path.{Reference, IsPath, is_symbol, IsIdentifier, Part, dots, plain, bracketed, spelled_part, IsPart, is_dots, Link, spelled_links, AreLinks, ups, Shape, itself, at_root, at_name, in_parts, spelled, IsShape}
 use Rattle.handlebars_base.specs.PathReading.{is_reference_byte, starts_reference, stops, reference_from, reference_len}
 use Rattle.std.proofs.lemmas.List.{take_at, drop_at}
 use Rattle.handlebars_base.proofs.PathParts.{joins_cases}
-use Rattle.handlebars_base.proofs.PathMarks.{not_symbol}
+use Rattle.handlebars_base.proofs.Bytes.{other_byte}
 
 -- ---- a reference goes over the whole of a path
 
@@ -36,7 +36,7 @@ symbol_passes x h = rw h refl
 passed_symbols : (n : List ℕ) → AllByRecursion (λ b. is_symbol b ≡ true) n → IsPassed n
 passed_symbols [] all = passed_none
 passed_symbols (x ∷ xs) all =
-    passed_byte x xs (symbol_passes x all.0) (not_symbol x 91 all.0 refl) (passed_symbols xs all.1)
+    passed_byte x xs (symbol_passes x all.0) (other_byte is_symbol 91 refl x all.0) (passed_symbols xs all.1)
 
 inside : (n follow : List ℕ) → AllByRecursion (λ b. not (b == 93) ≡ true) n →
     reference_from true (n ++ 93 ∷ follow) ≡ suc (length n + reference_len follow)
@@ -141,8 +141,3 @@ starts_shape (in_parts false p ss) fits = starts_part p (spelled_links ss) fits.
 -- a path begins with a byte that a reference begins with
 pub stops-path : (text : List ℕ) (means : Reference) → IsPath text means → stops text ≡ false
 stops-path text means h = ap stops h.spells ∙ starts_shape h.shape h.fits
-
--- one byte that no reference begins with is no other's
-pub starts_other : (c b : ℕ) → starts_reference c ≡ false → starts_reference b ≡ true → (b == c) ≡ false
-starts_other c b never begins =
-    ne_eqb b c (λ e. let same : starts_reference b ≡ starts_reference c = ap starts_reference e in absurd cc)

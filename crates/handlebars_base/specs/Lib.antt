@@ -1,4 +1,5 @@
 pub mod Bytes
+pub mod Texts
 pub mod Reasons
 pub mod TemplateRefusals
 pub mod RenderRefusals

@@ -1,5 +1,6 @@
 -- What the errors of rendering stand for.
 use Rattle.std.specs.Prelude.{ℕ, Option, Some, None, option_map, Result, Ok, Err, string_bytes}
+use Rattle.std.specs.Option.{option_or}
 use Rattle.std.specs.declared.alloc.AllocError.{AllocError}
 use Rattle.handlebars_base.specs.Bytes.{Text}
 use Rattle.handlebars_base.specs.Reasons.{Reason, Spot, nowhere, Refusal, TemplateRefusal, template_not_found, of_template, missing_variable, partial_not_found, partial_block_not_found, helper_not_found, param_not_found_for_index, param_not_found_for_name, param_type_mismatch_for_name, hash_type_mismatch_for_name, decorator_not_found, cannot_include_self, invalid_logging_level, invalid_param_type, block_content_required, invalid_json_path, invalid_json_index, serde_error, io_error, utf8_error, nested_error, unimplemented, other, inclusion_limit, invalid_number, failed, out_of_memory}
@@ -64,13 +65,9 @@ refusal_of e = record { reason = reason_in e; spot = spot_of e }
 abbrev pub plain_refusal : Reason → Refusal
 plain_refusal r = record { reason = r; spot = nowhere }
 
-abbrev pub or_else : {A : Type 0} → Option A → A → Option A
-or_else None x = Some x
-or_else (Some y) x = Some y
-
 -- the name of the innermost template that has one
 abbrev pub name_if_none : Text → Spot → Spot
-name_if_none n s = record s { name = or_else s.name n }
+name_if_none n s = record s { name = option_or s.name (Some n) }
 
 abbrev pub placed : Spot → Option ℕ → ℕ → ℕ → Spot
 placed s None line column = record s { line = Some line; column = Some column }

@@ -8,19 +8,18 @@ use Rattle.std.proofs.lemmas.Bool.{ne_eqb}
 use Rattle.std.proofs.lemmas.List.{take-append-drop}
 use Rattle.std.proofs.lemmas.Option.{same_Some, none-some}
 use Rattle.std.proofs.lemmas.Slice.Eq.{bytes_eq-Decides}
-use Rattle.handlebars_base.specs.Bytes.{is_white}
+use Rattle.handlebars_base.specs.Bytes.{is_white, behind_white}
 use Rattle.handlebars_base.specs.Path.{is_symbol, IsIdentifier}
 use Rattle.handlebars_base.specs.PathReading.{◌>>=◌, with_or, after, symbols_of, behind_symbols}
 use Rattle.handlebars_base.proofs.OptionBinds.{bind_some, with_or_is, cond_is, guard_bind}
-use Rattle.handlebars_base.proofs.PathMarks.{after_takes, prefix_pass}
-use Rattle.handlebars_lines.specs.Literal.{IsWhite, starts}
-use Rattle.handlebars_lines.specs.LiteralReading.{behind_white}
+use Rattle.handlebars_base.proofs.Fronts.{after_takes, behind_white-skips, behind_white-append, dark_behind, white_some, starts-other, after-not, after-same}
+use Rattle.handlebars_base.proofs.Runs.{prefix_pass, behind_symbols-stops, symbols_some, prefix_len-none, run-front, run-rest}
+use Rattle.handlebars_base.specs.Texts.{IsWhite, starts}
+use Rattle.handlebars_base.proofs.Bytes.{other_byte, symbol_dark, white_symbol}
 use Rattle.handlebars_lines.specs.Binding.{behind_bar, behind_beginning, begins_binding, Binding, unbound, bound, both_bound, Names, one_name, two_names, spelled_names, AreNames, bound_by, IsBound, IsBinding, is_unbound, is_bound, NoBinding, OneBinding}
 use Rattle.handlebars_lines.specs.BindingReading.{symbols_at, name_at, behind_last, other_at, names_at, binding_at}
 use Rattle.handlebars_lines.specs.BindingView.{binding_of, slice_of}
 use Rattle.handlebars_lines.specs.declared.binding.BindingSlice.{BindingSlice}
-use Rattle.handlebars_lines.proofs.Fronts.{behind_white-skips, behind_white-append, dark_behind, white_some, starts-other, after-not, after-same}
-use Rattle.handlebars_lines.proofs.LineMarks.{other_byte, symbol_dark, white_symbol, symbols_of-append, behind_symbols-append, behind_symbols-stops, no_symbols, symbols_some}
 
 -- ---- where they begin
 
@@ -48,7 +47,7 @@ behind_bar-takes t r e = elim (cond_is (bytes_eq (symbols_of t) (codes "as")) (a
 ]
 
 pub no_symbols-white : (w : List ℕ) (b : ℕ) (t : List ℕ) → IsWhite w → is_symbol b ≡ false → prefix_len is_symbol (w ++ b ∷ t) ≡ 0
-no_symbols-white w b t white mark = no_symbols (w ++ b ∷ t) (on w white)
+no_symbols-white w b t white mark = prefix_len-none is_symbol (w ++ b ∷ t) (on w white)
   where
     on : (w : List ℕ) → IsWhite w → starts is_symbol (w ++ b ∷ t) ≡ false
     on [] white = mark
@@ -58,8 +57,8 @@ behind_bar-append : (w r : List ℕ) → IsWhite w → behind_bar (97 ∷ 115 �
 unfolding behind_bar
 behind_bar-append w r white =
     let stop = no_symbols-white w 124 r white refl in
-    let word : symbols_of (97 ∷ 115 ∷ (w ++ 124 ∷ r)) ≡ 97 ∷ 115 ∷ [] = symbols_of-append (97 ∷ 115 ∷ []) (w ++ 124 ∷ r) (refl, (refl, tt)) stop in
-    let rest : behind_symbols (97 ∷ 115 ∷ (w ++ 124 ∷ r)) ≡ w ++ 124 ∷ r = behind_symbols-append (97 ∷ 115 ∷ []) (w ++ 124 ∷ r) (refl, (refl, tt)) stop in
+    let word : symbols_of (97 ∷ 115 ∷ (w ++ 124 ∷ r)) ≡ 97 ∷ 115 ∷ [] = run-front is_symbol (97 ∷ 115 ∷ []) (w ++ 124 ∷ r) (refl, (refl, tt)) stop in
+    let rest : behind_symbols (97 ∷ 115 ∷ (w ++ 124 ∷ r)) ≡ w ++ 124 ∷ r = run-rest is_symbol (97 ∷ 115 ∷ []) (w ++ 124 ∷ r) (refl, (refl, tt)) stop in
     rw (word, rest, behind_white-append w (124 ∷ r) white refl, after-same 124 r) refl
 
 -- white, and `as` and a bar behind it
@@ -127,7 +126,7 @@ name_at-takes t p e =
 
 symbols_at-append : (name r : List ℕ) → IsIdentifier name → prefix_len is_symbol r ≡ 0 → symbols_at (name ++ r) ≡ Some (name, r)
 unfolding symbols_at
-symbols_at-append name r id stop = rw (not_none name id, symbols_of-append name r id.1 stop, behind_symbols-append name r id.1 stop) refl
+symbols_at-append name r id stop = rw (not_none name id, run-front is_symbol name r id.1 stop, run-rest is_symbol name r id.1 stop) refl
   where
     not_none : (name : List ℕ) → IsIdentifier name → (prefix_len is_symbol (name ++ r) == 0) ≡ false
     not_none [] id = absurd (id.0 refl)
@@ -223,7 +222,7 @@ names_at-append (one_name w name v) r are =
     ap names_at (sym (one_group w name v r)) ∙ rw (found, behind_last-append v r are.2) refl
 names_at-append (two_names w name u other v) r are =
     let behind : List ℕ = other ++ (v ++ 124 ∷ r) in
-    let first = name_at-append w name (u ++ behind) are.0 are.1 (no_symbols (u ++ behind) (spaced u are.2 are.3)) in
+    let first = name_at-append w name (u ++ behind) are.0 are.1 (prefix_len-none is_symbol (u ++ behind) (spaced u are.2 are.3)) in
     let second = name_at-append u other (v ++ 124 ∷ r) are.2 are.4 (no_symbols-white v 124 r are.5 refl) in
     ap names_at (sym (two_group w name u other v r))
     ∙ rw (first, behind_last-none u other (v ++ 124 ∷ r) are.2 are.4, second, behind_last-append v r are.5) refl

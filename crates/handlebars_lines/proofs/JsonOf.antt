@@ -4,12 +4,12 @@ use Rattle.std.specs.Prelude.{◌==◌, nat_lt}
 use Rattle.std.proofs.lemmas.Bool.{lt-ltb, eq-eqb}
 use Rattle.std.proofs.lemmas.List.{take_at}
 use Rattle.handlebars_base.specs.PathReading.{after}
+use Rattle.handlebars_base.proofs.Fronts.{after-not, after-same}
 use Rattle.handlebars_lines.specs.Literal.{array, object, Literal, quoted, single_quoted, number, word, empty, filled, spelled_literal, literal_depth, keeps_numbers, IsLiteral}
 use Rattle.handlebars_lines.specs.Worth.{before, json_text, json_of, worth_of}
 use Rattle.serde_json.specs.Read.{read as read_text}
 use Rattle.handlebars_lines.specs.Laws.{HasLiteral, WorthOfLiteral}
 use Rattle.handlebars_lines.specs.LiteralReading.{Slice}
-use Rattle.handlebars_lines.proofs.Fronts.{after-not, after-same}
 use Rattle.handlebars_lines.proofs.Plain.{number_goes_on, word_goes_on}
 use Rattle.handlebars_lines.proofs.LiteralsFound.{plain_begins, no_mark, literal_at-is}
 

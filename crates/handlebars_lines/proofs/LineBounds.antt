@@ -1,10 +1,10 @@
 -- How far a step of a line goes, and how high.
 use Rattle.std.proofs.Common.{◌≡◌, ℕ, suc, ◌+◌, ◌<◌, ◌≤◌, List, ◌∷◌, ◌++◌, length, Option, Some, None, sym, ap, ◌∙◌, append_assoc, arith, length-append}
+use Rattle.handlebars_base.proofs.Fronts.{starts-length}
 use Rattle.handlebars_lines.specs.Runs.{goes}
 use Rattle.handlebars_lines.specs.Literal.{Bracket, spelled_lead, Literal, quoted, single_quoted, number, word, empty, filled, Entries, closing, another, spelled_literal, spelled_entries, literal_depth, entries_depth}
 use Rattle.handlebars_lines.specs.Line.{Enclosure}
 use Rattle.handlebars_lines.specs.LineReading.{Event, State, line_step, height}
-use Rattle.handlebars_lines.proofs.Fronts.{starts-length}
 use Rattle.handlebars_lines.proofs.Stepping.{Shortens}
 use Rattle.handlebars_lines.proofs.LineFronts.{begins_single, path_begins, literal_begins}
 use Rattle.handlebars_lines.proofs.LineSteps.{ParameterStepped, to_nested, to_literal, to_path, LineStepped, to_inner, to_name, to_parameter, to_pair, to_closed, line_stepped}

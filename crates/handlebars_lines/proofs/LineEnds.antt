@@ -1,30 +1,28 @@
 -- Where a line ends no item stands: `as` and a bar behind it are none.
 use Rattle.std.proofs.Common.{◌≡◌, ℕ, Bool, true, false, List, [], ◌∷◌, ◌++◌, None, Some, refl, sym, ap, ◌∙◌, inl, inr}
 use Rattle.std.specs.Prelude.{◌==◌}
-use Rattle.std.proofs.lemmas.Bool.{cases_Bool, both_ways}
-use Rattle.handlebars_base.specs.Bytes.{is_white}
-use Rattle.handlebars_base.specs.Path.{plain, in_parts, IsPath, Reference, meaning}
-use Rattle.handlebars_base.specs.PathReading.{behind_symbols, starts_reference, stops, slice_at}
+use Rattle.std.proofs.lemmas.Bool.{cases_Bool}
+use Rattle.handlebars_base.specs.Bytes.{behind_white}
+use Rattle.handlebars_base.specs.Path.{plain, in_parts, IsPath, Reference, meaning, is_symbol}
+use Rattle.handlebars_base.specs.PathReading.{behind_symbols, stops, slice_at}
+use Rattle.handlebars_base.specs.Texts.{IsWhite, starts}
+use Rattle.handlebars_base.proofs.Fronts.{behind_white-append, starts-other, after-not}
+use Rattle.handlebars_base.proofs.Bytes.{other_byte}
+use Rattle.handlebars_base.proofs.Runs.{run-rest}
 use Rattle.handlebars_lines.specs.Runs.{goes, stuck}
-use Rattle.handlebars_lines.specs.Literal.{IsWhite, Literal, quoted, single_quoted, number, word, empty, filled, array, object, is_number, is_word, IsLiteralAt, goes_on, starts}
-use Rattle.handlebars_lines.specs.LiteralReading.{behind_white, run_of}
+use Rattle.handlebars_lines.specs.Literal.{Literal, quoted, single_quoted, number, word, empty, filled, array, object, is_number, is_word, IsLiteralAt, goes_on}
+use Rattle.handlebars_lines.specs.LiteralReading.{run_of}
 use Rattle.handlebars_lines.specs.Binding.{begins_binding}
 use Rattle.handlebars_lines.specs.Line.{Enclosure, in_tag, in_block, in_parentheses, ends_tag, is_end}
 use Rattle.handlebars_lines.specs.LineReading.{Event, State, key_at, parameter_step, item_step}
-use Rattle.handlebars_lines.proofs.Fronts.{behind_white-append, starts-other, after-not, run_of-append}
+use Rattle.handlebars_lines.proofs.Fronts.{run_of-append, white_goes_on}
 use Rattle.handlebars_lines.proofs.Plain.{number_goes_on, word_goes_on}
 use Rattle.handlebars_lines.proofs.Endings.{goes-not_stuck}
-use Rattle.handlebars_lines.proofs.LineMarks.{other_byte, slice_at-stops, literal_at-missing, key_at-none, behind_symbols-append}
-use Rattle.handlebars_lines.proofs.LineFronts.{begins, begins_no_white, white_stops, goes_on_starts}
+use Rattle.handlebars_lines.proofs.LineMarks.{slice_at-stops, literal_at-missing, key_at-none}
+use Rattle.handlebars_lines.proofs.LineFronts.{begins, begins_no_white, white_stops}
 use Rattle.handlebars_lines.proofs.Bindings.{no_symbols-white, binding_begins}
 
 -- ---- `as` and a bar are no item
-
-white_goes_on : (b : ℕ) → is_white b ≡ true → goes_on b ≡ false
-white_goes_on b h = elim (cases_Bool (goes_on b)) [
-  | inl is ↦ absurd (both_ways (starts_reference b) (white_stops b h) (goes_on_starts b is))
-  | inr other ↦ other
-]
 
 bar_goes_on : (w r : List ℕ) → IsWhite w → starts goes_on (w ++ 124 ∷ r) ≡ false
 bar_goes_on [] r white = refl
@@ -71,7 +69,7 @@ as_slice w r white =
 
 as_no_key : (w r : List ℕ) → IsWhite w → key_at (97 ∷ 115 ∷ (w ++ 124 ∷ r)) ≡ None
 as_no_key w r white =
-    let rest = behind_symbols-append (97 ∷ 115 ∷ []) (w ++ 124 ∷ r) (refl, (refl, tt)) (no_symbols-white w 124 r white refl) in
+    let rest = run-rest is_symbol (97 ∷ 115 ∷ []) (w ++ 124 ∷ r) (refl, (refl, tt)) (no_symbols-white w 124 r white refl) in
     let sign : starts (λ b. b == 61) (behind_white (behind_symbols (97 ∷ 115 ∷ (w ++ 124 ∷ r)))) ≡ false = rw (rest, behind_white-append w (124 ∷ r) white refl) refl in
     key_at-none (97 ∷ 115 ∷ (w ++ 124 ∷ r)) sign
 

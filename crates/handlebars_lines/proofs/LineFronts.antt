@@ -3,20 +3,22 @@ use Rattle.std.proofs.Common.{◌≡◌, ◌≢◌, ℕ, suc, ◌+◌, Bool, tru
 use Rattle.std.specs.Prelude.{◌==◌}
 use Rattle.std.specs.List.{AllByRecursion}
 use Rattle.std.proofs.lemmas.Bool.{eqb-true, cases_Bool, or_cases, or_parts, not-false}
-use Rattle.handlebars_base.specs.Bytes.{is_white}
+use Rattle.handlebars_base.specs.Bytes.{is_white, behind_white}
 use Rattle.handlebars_base.specs.Path.{is_symbol, IsIdentifier, Reference, IsPath}
 use Rattle.handlebars_base.specs.PathReading.{after, behind_symbols, is_reference_byte, starts_reference, stops, reference_from, reference_len}
 use Rattle.handlebars_base.proofs.References.{stops-path, reference_len-append}
-use Rattle.handlebars_lines.specs.Literal.{IsWhite, Literal, quoted, single_quoted, number, word, empty, filled, array, object, spelled_literal, IsLiteral, goes_on, starts}
-use Rattle.handlebars_lines.specs.LiteralReading.{behind_white}
+use Rattle.handlebars_base.specs.Texts.{IsWhite, starts}
+use Rattle.handlebars_base.proofs.Fronts.{behind_white-dark, behind_white-append, starts-other, starts-append, after-not, starts-more}
+use Rattle.handlebars_base.proofs.Bytes.{other_byte}
+use Rattle.handlebars_base.proofs.Runs.{on_symbol, on_mark, prefix_len-none}
+use Rattle.handlebars_lines.specs.Literal.{Literal, quoted, single_quoted, number, word, empty, filled, array, object, spelled_literal, IsLiteral, goes_on}
 use Rattle.handlebars_lines.specs.Parameter.{Shape, literal_shape, path_shape, nested_shape, Items, no_items, parameter_item, pair_item, spelled_shape, spelled_items, Fits, AreItems}
 use Rattle.handlebars_lines.specs.Line.{Enclosure, in_tag, in_block, in_parentheses, ends_tag, Closes}
 use Rattle.handlebars_lines.specs.LineReading.{key_at}
-use Rattle.handlebars_lines.proofs.Fronts.{behind_white-dark, behind_white-append, starts-other, starts-append, after-not}
 use Rattle.handlebars_lines.proofs.Plain.{GoesOn, number_goes_on, word_goes_on}
 use Rattle.handlebars_lines.specs.Binding.{begins_binding}
 use Rattle.handlebars_lines.proofs.Bindings.{BeginsAt, binding_begins}
-use Rattle.handlebars_lines.proofs.LineMarks.{other_byte, on_symbol, on_mark, no_symbols, key_at-none, key_at-dark}
+use Rattle.handlebars_lines.proofs.LineMarks.{key_at-none, key_at-dark}
 
 -- ---- with which bytes parameters begin
 
@@ -55,16 +57,12 @@ goes_on_starts b h = elim (cases_Bool (is_symbol b)) [
   ]
 ]
 
-pub starts_more : (p q : ℕ → Bool) (t : List ℕ) → ((b : ℕ) → p b ≡ true → q b ≡ true) → starts p t ≡ true → starts q t ≡ true
-starts_more p q [] h e = absurd cc
-starts_more p q (b ∷ t) h e = h b e
-
 path_starts : (t : List ℕ) → stops t ≡ false → starts starts_reference t ≡ true
 path_starts [] e = absurd cc
 path_starts (b ∷ t) e = not-false (starts_reference b) e
 
 pub path_begins : (t : List ℕ) (means : Reference) → IsPath t means → starts begins_single t ≡ true
-path_begins t means h = starts_more starts_reference begins_single t reference_single (path_starts t (stops-path t means h))
+path_begins t means h = starts-more starts_reference begins_single t reference_single (path_starts t (stops-path t means h))
 
 plain_begins : (t : List ℕ) → GoesOn t → starts begins_single t ≡ true
 plain_begins [] h = absurd (omega (arith, h.some))
@@ -81,8 +79,8 @@ literal_begins (filled array lead l w more) fits = refl
 literal_begins (filled object lead l w more) fits = refl
 
 pub shape_begins : (p : Shape) (rest : List ℕ) → Fits p rest → starts begins (spelled_shape p) ≡ true
-shape_begins (literal_shape l) rest fits = starts_more begins_single begins (spelled_literal l) single_begins (literal_begins l fits)
-shape_begins (path_shape t means) rest fits = starts_more begins_single begins t single_begins (path_begins t means fits)
+shape_begins (literal_shape l) rest fits = starts-more begins_single begins (spelled_literal l) single_begins (literal_begins l fits)
+shape_begins (path_shape t means) rest fits = starts-more begins_single begins t single_begins (path_begins t means fits)
 shape_begins (nested_shape w name items v) rest fits = refl
 
 pub shape_starts : (p : Shape) (rest t : List ℕ) → Fits p rest → starts begins (spelled_shape p ++ t) ≡ true
@@ -144,7 +142,7 @@ parenthesis_closes b is = let same : b ≡ 41 = eqb-true b 41 is in ap closes_by
 
 binding_follows : (t r : List ℕ) → BeginsAt t r → Follows t
 binding_follows t r h = record {
-  first = starts_more is_white closes_byte t white_closes h.spaced;
+  first = starts-more is_white closes_byte t white_closes h.spaced;
   no_equals = rw h.behind refl;
 }
 
@@ -212,7 +210,7 @@ no_equals_here t h =
 
 no_equals_behind : (t : List ℕ) → Follows t → starts (λ b. b == 61) (behind_white (behind_symbols t)) ≡ false
 no_equals_behind t f =
-    let all : behind_symbols t ≡ t = ap (λ (n : ℕ). drop n t) (no_symbols t (follows_no_symbol t f)) in
+    let all : behind_symbols t ≡ t = ap (λ (n : ℕ). drop n t) (prefix_len-none is_symbol t (follows_no_symbol t f)) in
     rw all f.no_equals
 
 plain_no_equals : (u t : List ℕ) → AllByRecursion (λ b. goes_on b ≡ true) u → Follows t → starts (λ b. b == 61) (behind_white (behind_symbols (u ++ t))) ≡ false

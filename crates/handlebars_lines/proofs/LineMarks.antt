@@ -1,22 +1,24 @@
 -- Paths, literals and keys in front of a text.
-use Rattle.std.proofs.Common.{◌≡◌, ◌≢◌, ℕ, suc, ◌+◌, Bool, true, false, List, [], ◌∷◌, ◌++◌, Option, Some, None, refl, sym, ap, subst, ◌∙◌, arith, inl, inr}
+use Rattle.std.proofs.Common.{◌≡◌, ℕ, ◌+◌, true, false, List, [], ◌∷◌, ◌++◌, Option, Some, None, refl, sym, ap, subst, ◌∙◌, arith, inl, inr}
 use Rattle.std.specs.Prelude.{◌==◌}
-use Rattle.std.specs.List.{prefix_len, AllByRecursion}
+use Rattle.std.specs.List.{prefix_len}
 use Rattle.std.specs.Option.{option_map}
-use Rattle.std.proofs.lemmas.Bool.{ne_eqb, cases_Bool, both_ways}
-use Rattle.std.proofs.lemmas.List.{take-append-drop, take_at, drop_at, append_cancel_right}
+use Rattle.std.proofs.lemmas.Bool.{ne_eqb, cases_Bool}
+use Rattle.std.proofs.lemmas.List.{take-append-drop, append_cancel_right}
 use Rattle.std.proofs.lemmas.Option.{same_Some}
-use Rattle.handlebars_base.specs.Bytes.{is_white}
+use Rattle.handlebars_base.specs.Bytes.{is_white, behind_white}
 use Rattle.handlebars_base.specs.Path.{is_symbol, IsIdentifier, Reference, raw_of, IsPath}
 use Rattle.handlebars_base.specs.PathReading.{◌>>=◌, after, symbols_of, behind_symbols, slice_at, path_at, stops}
 use Rattle.handlebars_base.proofs.OptionBinds.{bind_some, map_some, guard_bind}
-use Rattle.handlebars_base.proofs.PathMarks.{after_takes, prefix_pass, prefix_again}
 use Rattle.handlebars_base.proofs.PathsInFront.{path_at-some, path_at-stops}
-use Rattle.handlebars_lines.specs.Literal.{IsWhite, Literal, spelled_literal, literal_depth, keeps_numbers, starts, IsLiteralAt}
-use Rattle.handlebars_lines.specs.LiteralReading.{behind_white, Slice, literal_at}
+use Rattle.handlebars_base.proofs.Fronts.{after_takes, behind_white-skips, behind_white-append, after-not, after-same}
+use Rattle.handlebars_base.proofs.Runs.{prefix_pass, prefix_len-none, run-front, run-rest, symbols_some}
+use Rattle.handlebars_base.specs.Texts.{IsWhite, starts}
+use Rattle.handlebars_base.proofs.Bytes.{white_symbol}
+use Rattle.handlebars_lines.specs.Literal.{Literal, spelled_literal, literal_depth, keeps_numbers, IsLiteralAt}
+use Rattle.handlebars_lines.specs.LiteralReading.{Slice, literal_at}
 use Rattle.handlebars_lines.specs.Laws.{HasLiteral}
 use Rattle.handlebars_lines.specs.LineReading.{key_at}
-use Rattle.handlebars_lines.proofs.Fronts.{behind_white-skips, behind_white-append, after-not, after-same}
 use Rattle.handlebars_lines.proofs.LiteralsFound.{literal_at-is, literal_at-some}
 
 -- ---- paths
@@ -63,45 +65,6 @@ literal_at-missing t none = on (literal_at t) refl
 
 -- ---- keys
 
--- a byte of a kind is none that is not of it
-pub other_byte : (p : ℕ → Bool) (c : ℕ) → p c ≡ false → (b : ℕ) → p b ≡ true → (b == c) ≡ false
-other_byte p c never b is = ne_eqb b c (λ e. let same : p b ≡ p c = ap p e in absurd cc)
-
-pub symbol_dark : (b : ℕ) → is_symbol b ≡ true → is_white b ≡ false
-symbol_dark b h =
-    rw (other_byte is_symbol 32 refl b h, other_byte is_symbol 9 refl b h, other_byte is_symbol 10 refl b h, other_byte is_symbol 13 refl b h) refl
-
-pub white_symbol : (b : ℕ) → is_white b ≡ true → is_symbol b ≡ false
-white_symbol b h = elim (cases_Bool (is_symbol b)) [
-  | inl is ↦ absurd (both_ways (is_white b) (symbol_dark b is) h)
-  | inr other ↦ other
-]
-
-pub symbols_of-append : (n rest : List ℕ) → AllByRecursion (λ b. is_symbol b ≡ true) n → prefix_len is_symbol rest ≡ 0 → symbols_of (n ++ rest) ≡ n
-symbols_of-append n rest all stop = take_at n rest _ (sym (prefix_again is_symbol n rest all stop))
-
-pub behind_symbols-append : (n rest : List ℕ) → AllByRecursion (λ b. is_symbol b ≡ true) n → prefix_len is_symbol rest ≡ 0 → behind_symbols (n ++ rest) ≡ rest
-behind_symbols-append n rest all stop = drop_at n rest _ (sym (prefix_again is_symbol n rest all stop))
-
-pub no_symbols : (t : List ℕ) → starts is_symbol t ≡ false → prefix_len is_symbol t ≡ 0
-no_symbols [] h = refl
-no_symbols (b ∷ t) h = rw h refl
-
-pub on_symbol : (x : ℕ) (t : List ℕ) → is_symbol x ≡ true → behind_symbols (x ∷ t) ≡ behind_symbols t
-on_symbol x t h =
-    let long : 1 + prefix_len is_symbol t ≡ suc (prefix_len is_symbol t) = omega arith in
-    rw (h, long) refl
-
-pub on_mark : (x : ℕ) (t : List ℕ) → is_symbol x ≡ false → behind_symbols (x ∷ t) ≡ x ∷ t
-on_mark x t h = rw h refl
-
-pub behind_symbols-stops : (t : List ℕ) → starts is_symbol (behind_symbols t) ≡ false
-behind_symbols-stops [] = refl
-behind_symbols-stops (b ∷ t) = elim (cases_Bool (is_symbol b)) [
-  | inl is ↦ rw (on_symbol b t is) (behind_symbols-stops t)
-  | inr mark ↦ rw (on_mark b t mark) mark
-]
-
 pub record TakesKey (t key rest : List ℕ) : Type 0 where
   pub before : List ℕ
   pub behind : List ℕ
@@ -109,18 +72,6 @@ pub record TakesKey (t key rest : List ℕ) : Type 0 where
   pub is : IsIdentifier key
   pub white_before : IsWhite before
   pub white_behind : IsWhite behind
-
-pub symbols_some : (t : List ℕ) → (prefix_len is_symbol t == 0) ≡ false → symbols_of t ≢ []
-symbols_some [] h = absurd cc
-symbols_some (b ∷ t) h = on (is_symbol b) refl
-  where
-    on : (c : Bool) → is_symbol b ≡ c → symbols_of (b ∷ t) ≢ []
-    on true is none =
-        let long : 1 + prefix_len is_symbol t ≡ suc (prefix_len is_symbol t) = omega arith in
-        let first : symbols_of (b ∷ t) ≡ b ∷ symbols_of t = rw (is, long) refl in
-        let e : b ∷ symbols_of t ≡ [] = sym first ∙ none in
-        absurd cc
-    on false is none = let no : (0 == 0) ≡ false = rw is at h in absurd cc
 
 pub key_at-some : (t : List ℕ) (k : List ℕ × List ℕ) → key_at t ≡ Some k → TakesKey t k.0 k.1
 unfolding key_at
@@ -149,15 +100,15 @@ key_at-none t h = elim (cases_Bool (prefix_len is_symbol t == 0)) [
 
 pub key_at-dark : (t : List ℕ) → starts is_symbol t ≡ false → key_at t ≡ None
 unfolding key_at
-key_at-dark t h = rw (no_symbols t h) refl
+key_at-dark t h = rw (prefix_len-none is_symbol t h) refl
 
 pub key_at-append : (key u v t : List ℕ) → IsIdentifier key → IsWhite u → IsWhite v → starts is_white t ≡ false → key_at (key ++ (u ++ 61 ∷ (v ++ t))) ≡ Some (key, t)
 unfolding key_at
 key_at-append key u v t id white-u white-v dark_t =
     let sign_at : List ℕ = u ++ 61 ∷ (v ++ t) in
-    let stop : prefix_len is_symbol sign_at ≡ 0 = no_symbols sign_at (ends_key u white-u) in
-    let take_it = symbols_of-append key sign_at id.1 stop in
-    let drop_it = behind_symbols-append key sign_at id.1 stop in
+    let stop : prefix_len is_symbol sign_at ≡ 0 = prefix_len-none is_symbol sign_at (ends_key u white-u) in
+    let take_it = run-front is_symbol key sign_at id.1 stop in
+    let drop_it = run-rest is_symbol key sign_at id.1 stop in
     let some : (prefix_len is_symbol (key ++ sign_at) == 0) ≡ false = not_none key id in
     let sign = behind_white-append u (61 ∷ (v ++ t)) white-u refl in
     let dark = behind_white-append v t white-v dark_t in

@@ -1,17 +1,17 @@
 -- What each step of a line takes from the text, and how far it goes.
 use Rattle.std.proofs.Common.{◌≡◌, ◌≢◌, ℕ, zero, suc, ◌+◌, ◌-◌, Bool, true, false, cond, List, [], ◌∷◌, ◌++◌, Option, Some, None, refl, sym, ap, subst, ◌∙◌, arith, inl, inr}
 use Rattle.std.proofs.Math.Dec.{eqb-suc-zero}
-use Rattle.handlebars_base.specs.Bytes.{is_white}
+use Rattle.handlebars_base.specs.Bytes.{is_white, behind_white}
 use Rattle.handlebars_base.specs.Path.{IsIdentifier, Reference, IsPath}
 use Rattle.handlebars_base.specs.PathReading.{with_or, after, slice_at}
-use Rattle.handlebars_base.proofs.PathMarks.{after_takes}
 use Rattle.handlebars_base.proofs.OptionBinds.{with_or_is, cond_is}
+use Rattle.handlebars_base.proofs.Fronts.{after_takes, behind_white-skips, white_some, dark_behind}
+use Rattle.handlebars_base.specs.Texts.{IsWhite, starts}
 use Rattle.handlebars_lines.specs.Runs.{Next, goes, ends, stuck}
-use Rattle.handlebars_lines.specs.Literal.{IsWhite, Literal, spelled_literal, literal_depth, starts, IsLiteralAt}
-use Rattle.handlebars_lines.specs.LiteralReading.{behind_white, Slice, literal_at}
+use Rattle.handlebars_lines.specs.Literal.{Literal, spelled_literal, literal_depth, IsLiteralAt}
+use Rattle.handlebars_lines.specs.LiteralReading.{Slice, literal_at}
 use Rattle.handlebars_lines.specs.Line.{Enclosure, is_end, Closes}
 use Rattle.handlebars_lines.specs.LineReading.{Event, opened, literal_event, path_event, closed, Stand, at_name, at_items, at_end, State, state, key_at, behind_name, open_step, name_step, is_excluded, path_step, parameter_step, item_step, next_step, outer_step, inner_step, behind_step, line_step}
-use Rattle.handlebars_lines.proofs.Fronts.{behind_white-skips, white_some, dark_behind}
 use Rattle.handlebars_lines.proofs.Stepping.{goes-parts}
 use Rattle.handlebars_lines.proofs.Endings.{goes-not_stuck, goes-not_ends}
 use Rattle.handlebars_lines.proofs.LiteralsFound.{literal_at-some}

@@ -4,21 +4,23 @@ use Rattle.std.specs.Prelude.{◌==◌}
 use Rattle.std.specs.List.{list_all}
 use Rattle.std.proofs.Math.Dec.{eqb-suc-zero}
 use Rattle.std.proofs.lemmas.Bool.{eqb-true}
-use Rattle.handlebars_base.specs.Bytes.{is_white}
+use Rattle.handlebars_base.specs.Bytes.{is_white, behind_white}
 use Rattle.handlebars_base.specs.Path.{is_symbol, IsIdentifier, Reference, IsPath}
 use Rattle.handlebars_base.specs.PathReading.{after}
+use Rattle.handlebars_base.specs.Texts.{IsWhite, starts}
+use Rattle.handlebars_base.proofs.Fronts.{behind_white-skips, behind_white-append, starts-other, starts-append, after-not, after-same}
+use Rattle.handlebars_base.proofs.Bytes.{other_byte}
+use Rattle.handlebars_base.proofs.Ends.{regroup_four}
 use Rattle.handlebars_lines.specs.Runs.{goes, ends}
-use Rattle.handlebars_lines.specs.Literal.{IsWhite, Literal, spelled_literal, IsLiteral, literal_depth, goes_on, starts}
-use Rattle.handlebars_lines.specs.LiteralReading.{behind_white}
+use Rattle.handlebars_lines.specs.Literal.{Literal, spelled_literal, IsLiteral, literal_depth, goes_on}
 use Rattle.handlebars_lines.specs.Parameter.{Shape, literal_shape, path_shape, nested_shape, Items, no_items, parameter_item, pair_item, spelled_shape, spelled_items, is_name, IsChosen, Fits, AreItems}
 use Rattle.handlebars_lines.specs.Line.{Enclosure, in_parentheses, is_end, Closes}
 use Rattle.handlebars_lines.specs.LineReading.{Event, opened, literal_event, path_event, closed, Stand, at_name, at_items, at_end, State, state, behind_name, name_step, is_excluded, parameter_step, item_step, behind_step, line_step}
-use Rattle.handlebars_lines.proofs.Fronts.{behind_white-skips, behind_white-append, starts-other, starts-append, after-not, after-same}
 use Rattle.handlebars_lines.proofs.Stepping.{Runs, last, onward}
-use Rattle.handlebars_lines.proofs.LineMarks.{other_byte, slice_at-stops, literal_at-finds, literal_at-missing, key_at-append}
+use Rattle.handlebars_lines.proofs.LineMarks.{slice_at-stops, literal_at-finds, literal_at-missing, key_at-append}
 use Rattle.handlebars_lines.proofs.LineFronts.{begins, begins_single, begins_no_white, path_begins, literal_begins, shape_starts, key_starts, single_no_parenthesis, Follows, follows_stops, items_follow, no_key}
 use Rattle.handlebars_lines.proofs.LineEnds.{item_no_end}
-use Rattle.handlebars_lines.proofs.LinesRead.{events, item_events, IsAllowed, nested_group, events_group, parameter_group, pair_group}
+use Rattle.handlebars_lines.proofs.LinesRead.{events, item_events, IsAllowed, nested_group, events_group, pair_group}
 
 -- ---- steps: a parenthesis, a literal, a path
 
@@ -218,7 +220,7 @@ mutual
       let follow = items_follow (enclosed around n) more rest fits.5 closes in
       let others = items_run around more n rest xs e fits.5 closes runs in
       let first = parameter_runs around p None n behind (item_events n more ++ xs) e (state at_items n) (w ++ (spelled_shape p ++ behind)) fits.3 fits.2 fits.4 follow others (parameter_at around n w p behind fits.0 fits.1 fits.4 follow) in
-      subst (λ (z : List ℕ). Runs (line_step around) (state at_items n) z (item_events n (parameter_item w p more) ++ xs) e) (parameter_group w (spelled_shape p) (spelled_items more) rest)
+      subst (λ (z : List ℕ). Runs (line_step around) (state at_items n) z (item_events n (parameter_item w p more) ++ xs) e) (regroup_four w (spelled_shape p) (spelled_items more) rest)
       (subst (λ (z : List Event). Runs (line_step around) (state at_items n) (w ++ (spelled_shape p ++ behind)) z e) (sym (append_assoc (events n None p) (item_events n more) xs)) first)
   items_run around (pair_item w key u v p more) n rest xs e fits closes runs =
       let behind : List ℕ = spelled_items more ++ rest in

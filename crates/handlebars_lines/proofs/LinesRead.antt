@@ -4,8 +4,10 @@ use Rattle.std.specs.List.{list_all}
 use Rattle.std.proofs.Math.Bool.{or-true}
 use Rattle.std.proofs.lemmas.Option.{none-some}
 use Rattle.handlebars_base.specs.Path.{is_symbol, IsIdentifier, Reference, IsPath}
+use Rattle.handlebars_base.specs.Texts.{IsWhite, starts}
+use Rattle.handlebars_base.proofs.Ends.{regroup_four}
 use Rattle.handlebars_lines.specs.Runs.{ends}
-use Rattle.handlebars_lines.specs.Literal.{IsWhite, Literal, spelled_literal, literal_depth, goes_on, starts}
+use Rattle.handlebars_lines.specs.Literal.{Literal, spelled_literal, literal_depth, goes_on}
 use Rattle.handlebars_lines.specs.LiteralReading.{literal_at}
 use Rattle.handlebars_lines.specs.Parameter.{Shape, literal_shape, path_shape, nested_shape, Items, no_items, parameter_item, pair_item, spelled_shape, spelled_items, is_name, IsFree, IsChosen, Fits, AreItems}
 use Rattle.handlebars_lines.specs.Line.{Enclosure, Closes}
@@ -228,9 +230,6 @@ name_then around n raw t t' means xs e whole h after = on (list_all is_symbol ra
 
 -- ---- one step back: an item
 
-pub parameter_group : (w p items rest : List ℕ) → w ++ (p ++ (items ++ rest)) ≡ (w ++ (p ++ items)) ++ rest
-parameter_group w p items rest = simp append_assoc
-
 pub pair_group : (w key u v p items rest : List ℕ) → w ++ (key ++ (u ++ 61 ∷ (v ++ (p ++ (items ++ rest))))) ≡ (w ++ (key ++ (u ++ 61 ∷ (v ++ (p ++ items))))) ++ rest
 pair_group w key u v p items rest = simp append_assoc
 
@@ -240,7 +239,7 @@ parameter_item_then around n w r t xs e white some whole p = record {
   rest = p.rest;
   others = p.others;
   are_items = (white, some, p.allowed, p.chosen, p.fits, p.are_items);
-  whole = whole ∙ ap (λ (z : List ℕ). w ++ z) p.whole ∙ parameter_group w (spelled_shape p.first) (spelled_items p.items) p.rest;
+  whole = whole ∙ ap (λ (z : List ℕ). w ++ z) p.whole ∙ regroup_four w (spelled_shape p.first) (spelled_items p.items) p.rest;
   found = p.found ∙ sym (append_assoc (events n None p.first) (item_events n p.items) p.others);
   shuts = p.shuts;
 }

@@ -5,8 +5,9 @@ use Rattle.std.specs.Option.{option_map, MatchOption}
 use Rattle.std.proofs.Common.{Result, Ok, Err, IfOk}
 use Rattle.std.specs.Str.{IsCharBoundary}
 use Rattle.std.proofs.lemmas.List.{take_at, drop_at, get_or-drop, reverse-append, length-reverse, length-map}
+use Rattle.handlebars_base.specs.Texts.{starts}
 use Rattle.handlebars_lines.specs.Runs.{goes, ends, stuck}
-use Rattle.handlebars_lines.specs.Literal.{Bracket, goes_on, starts}
+use Rattle.handlebars_lines.specs.Literal.{Bracket, goes_on}
 use Rattle.handlebars_lines.specs.LiteralReading.{Token, token_at, Place, ahead, innermost, outer, Find, taken, literal_step, most, all_kept, cut_to, literal_at}
 use Rattle.handlebars_lines.specs.LiteralView.{bracket_of, stack_of, place_of, slice_of}
 use Rattle.handlebars_lines.specs.Laws.{HasLiteral, NoLiteral}

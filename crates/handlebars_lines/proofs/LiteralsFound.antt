@@ -1,17 +1,19 @@
 -- What is spelled as a literal is read, and a text has at most one literal in front.
-use Rattle.std.proofs.Common.{is_some, ◌≡◌, ℕ, suc, ◌+◌, ◌-◌, ◌≤◌, Bool, true, false, not, ◌&&◌, ◌||◌, List, [], ◌∷◌, ◌++◌, length, take, Some, None, refl, sym, ap, subst, ◌∙◌, append_assoc, arith, inl, inr, length-append, max}
+use Rattle.std.proofs.Common.{is_some, ◌≡◌, ℕ, suc, ◌+◌, ◌-◌, ◌≤◌, Bool, true, false, not, ◌&&◌, ◌||◌, List, [], ◌∷◌, ◌++◌, length, take, Some, None, refl, sym, ap, subst, ◌∙◌, append_assoc, arith, max}
 use Rattle.std.specs.Prelude.{◌==◌}
-use Rattle.std.proofs.lemmas.Bool.{ne_eqb, cases_Bool}
-use Rattle.std.proofs.lemmas.List.{take_at}
 use Rattle.std.proofs.lemmas.Option.{same_Some}
-use Rattle.handlebars_base.specs.Bytes.{is_white}
+use Rattle.handlebars_base.specs.Bytes.{is_white, behind_white}
 use Rattle.handlebars_base.specs.PathReading.{after}
 use Rattle.handlebars_base.proofs.OptionBinds.{bind_some, guard_some}
+use Rattle.handlebars_base.specs.Texts.{IsWhite, starts}
+use Rattle.handlebars_base.proofs.Fronts.{behind_white-append, starts-other, starts-append, after-not, after-same}
+use Rattle.handlebars_base.proofs.Bytes.{other_byte}
+use Rattle.handlebars_base.proofs.Ends.{take-front}
 use Rattle.handlebars_lines.specs.Runs.{goes, run}
-use Rattle.handlebars_lines.specs.Literal.{IsWhite, is_inner, is_number, is_kept, is_word, Bracket, array, object, opener, closer, Lead, unnamed, keyed, spelled_lead, IsLead, Literal, quoted, single_quoted, number, word, empty, filled, Entries, closing, another, spelled_literal, spelled_entries, is_element, IsLiteral, AreEntries, literal_depth, entries_depth, keeps_numbers, keeps_numbers_in, goes_on, starts}
-use Rattle.handlebars_lines.specs.LiteralReading.{behind_white, behind_quote, plain_at, undoubled_at, atom_at, keeps_at, key_at, behind_lead, Token, atom, hollow, opening, next, shutting, finished, misfit, bracket_token, value_token, entry_token, Place, ahead, behind, innermost, Find, opens, reads, taken, literal_step, most, all_kept, Slice, cut_to, slice_in, literal_at}
+use Rattle.handlebars_lines.specs.Literal.{is_inner, is_number, is_kept, is_word, Bracket, array, object, opener, closer, Lead, unnamed, keyed, spelled_lead, IsLead, Literal, quoted, single_quoted, number, word, empty, filled, Entries, closing, another, spelled_literal, spelled_entries, is_element, IsLiteral, AreEntries, literal_depth, entries_depth, keeps_numbers, keeps_numbers_in, goes_on}
+use Rattle.handlebars_lines.specs.LiteralReading.{behind_quote, plain_at, undoubled_at, atom_at, keeps_at, key_at, behind_lead, Token, atom, hollow, opening, next, shutting, finished, misfit, bracket_token, value_token, entry_token, Place, ahead, behind, innermost, Find, opens, reads, taken, literal_step, most, all_kept, Slice, cut_to, slice_in, literal_at}
 use Rattle.handlebars_lines.specs.Laws.{HasLiteral, NoLiteral}
-use Rattle.handlebars_lines.proofs.Fronts.{behind_white-append, starts-other, starts-append, after-not, after-same, run_of-append, behind_run-append, behind_quote-append}
+use Rattle.handlebars_lines.proofs.Fronts.{run_of-append, behind_run-append, behind_quote-append, white_goes_on}
 use Rattle.handlebars_lines.proofs.Stepping.{Runs, last, onward, Shortens, run-runs, run-some}
 use Rattle.handlebars_lines.proofs.Plain.{GoesOn, plain_goes_on, number_goes_on, word_goes_on, word_no_number}
 use Rattle.handlebars_lines.proofs.Tokens.{keeps_at-quote, lead_regroup, Shorter, value_shorter, value_tells, entry_shorter, entry_tells, left_of}
@@ -63,28 +65,13 @@ literal_begins (filled object lead l w more) fits = refl
 literal_starts : (l : Literal) (rest : List ℕ) → IsLiteral l → starts begins_literal (spelled_literal l ++ rest) ≡ true
 literal_starts l rest fits = starts-append begins_literal (spelled_literal l) rest (literal_begins l fits)
 
--- a byte with which a literal begins is none of the others
-begins_other : (c : ℕ) → begins_literal c ≡ false → (b : ℕ) → begins_literal b ≡ true → (b == c) ≡ false
-begins_other c never b begins = ne_eqb b c (λ e. let same : begins_literal b ≡ begins_literal c = ap begins_literal e in absurd cc)
-
 begins_dark : (b : ℕ) → begins_literal b ≡ true → is_white b ≡ false
-begins_dark b h = rw (begins_other 32 refl b h, begins_other 9 refl b h, begins_other 10 refl b h, begins_other 13 refl b h) refl
-
-goes_other : (c : ℕ) → goes_on c ≡ false → (b : ℕ) → goes_on b ≡ true → (b == c) ≡ false
-goes_other c never b is = ne_eqb b c (λ e. let same : goes_on b ≡ goes_on c = ap goes_on e in absurd cc)
-
-white_stops : (b : ℕ) → is_white b ≡ true → goes_on b ≡ false
-white_stops b h = elim (cases_Bool (goes_on b)) [
-  | inl is ↦
-      let dark : is_white b ≡ false = rw (goes_other 32 refl b is, goes_other 9 refl b is, goes_other 10 refl b is, goes_other 13 refl b is) refl in
-      absurd cc
-  | inr other ↦ other
-]
+begins_dark b h = rw (other_byte begins_literal 32 refl b h, other_byte begins_literal 9 refl b h, other_byte begins_literal 10 refl b h, other_byte begins_literal 13 refl b h) refl
 
 -- nothing goes on behind white where nothing does before what follows
 white_then : (v t : List ℕ) → IsWhite v → starts goes_on t ≡ false → starts goes_on (v ++ t) ≡ false
 white_then [] t white h = h
-white_then (b ∷ v) t white h = white_stops b white.0
+white_then (b ∷ v) t white h = white_goes_on b white.0
 
 entries_begin : (k : Bracket) (es : Entries) (rest : List ℕ) → starts goes_on (spelled_entries k es ++ rest) ≡ false
 entries_begin array closing rest = refl
@@ -94,7 +81,7 @@ entries_begin k (another lead l w more) rest = refl
 -- ---- tokens: a literal with no brackets
 
 pub no_mark : (c : ℕ) (t : List ℕ) → goes_on c ≡ false → starts goes_on t ≡ true → after c t ≡ None
-no_mark c t never h = after-not c t (starts-other goes_on (λ b. b == c) t (goes_other c never) h)
+no_mark c t never h = after-not c t (starts-other goes_on (λ b. b == c) t (other_byte goes_on c never) h)
 
 atom_plain : (inside kept : Bool) (n rest : List ℕ) → (is_number n || is_word n) ≡ true → (not (is_number n) || is_kept n) ≡ kept → starts goes_on rest ≡ false → value_token inside (n ++ rest) ≡ atom kept rest
 unfolding value_token atom_at undoubled_at plain_at keeps_at
@@ -149,7 +136,7 @@ reads_key key u v t fits white white' dark =
 reads_lead : (k : Bracket) (lead : Lead) (t : List ℕ) → IsLead k lead → starts begins_literal t ≡ true → ReadsLead k (behind_white (spelled_lead lead ++ t)) t
 reads_lead array (unnamed w) t fits begins =
     let dark = behind_white-append w t fits (starts-other begins_literal is_white t begins_dark begins) in
-    let no_shut = after-not 93 t (starts-other begins_literal (λ b. b == 93) t (begins_other 93 refl) begins) in
+    let no_shut = after-not 93 t (starts-other begins_literal (λ b. b == 93) t (other_byte begins_literal 93 refl) begins) in
     record { leads = ap (λ (z : List ℕ). Some z) dark; no_closer = ap (after 93) dark ∙ no_shut }
 reads_lead array (keyed w key u v) t fits begins = absurd fits
 reads_lead object (unnamed w) t fits begins = absurd fits
@@ -285,11 +272,6 @@ kept-whole : (l : Literal) → all_kept true (heights 0 l ++ []) ≡ keeps_numbe
 kept-whole l = kept-literal l 0 true []
 
 -- ---- the literal in front
-
-take-front : (t a rest : List ℕ) → t ≡ a ++ rest → take (length t - length rest) t ≡ a
-take-front t a rest whole =
-    ap (λ (z : List ℕ). take (length t - length rest) z) whole
-    ∙ take_at a rest (length t - length rest) (omega (arith, ap length whole, length-append a rest))
 
 pub literal_at-some : (t : List ℕ) (f : Slice) → literal_at t ≡ Some f → HasLiteral t f
 unfolding literal_at

@@ -1,8 +1,10 @@
 -- What the steps read is spelled as a literal.
 use Rattle.std.proofs.Common.{is_some, ◌≡◌, ℕ, suc, Bool, true, List, [], ◌∷◌, ◌++◌, length, refl, sym, ap, subst, ◌∙◌, append_assoc}
+use Rattle.handlebars_base.specs.Texts.{IsWhite}
+use Rattle.handlebars_base.specs.Bytes.{behind_white}
 use Rattle.handlebars_lines.specs.Runs.{goes, ends}
-use Rattle.handlebars_lines.specs.Literal.{IsWhite, Bracket, opener, closer, spelled_lead, Literal, quoted, single_quoted, number, word, empty, filled, Entries, closing, another, spelled_literal, spelled_entries, IsLiteral, is_element, AreEntries, is_kept, keeps_numbers}
-use Rattle.handlebars_lines.specs.LiteralReading.{behind_white, Token, atom, hollow, opening, next, shutting, finished, misfit, value_token, entry_token, Place, ahead, behind, innermost, Find, opens, reads, taken, literal_step}
+use Rattle.handlebars_lines.specs.Literal.{Bracket, opener, closer, spelled_lead, Literal, quoted, single_quoted, number, word, empty, filled, Entries, closing, another, spelled_literal, spelled_entries, IsLiteral, is_element, AreEntries, is_kept, keeps_numbers}
+use Rattle.handlebars_lines.specs.LiteralReading.{Token, atom, hollow, opening, next, shutting, finished, misfit, value_token, entry_token, Place, ahead, behind, innermost, Find, opens, reads, taken, literal_step}
 use Rattle.handlebars_lines.proofs.Stepping.{goes-parts, Runs, last, onward}
 use Rattle.handlebars_lines.proofs.Tokens.{is_flat, ValueTells, value_tells, EntryTells, entry_tells}
 

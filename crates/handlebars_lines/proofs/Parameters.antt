@@ -4,14 +4,15 @@ use Rattle.std.specs.Prelude.{◌==◌}
 use Rattle.std.proofs.lemmas.Option.{same_Some, none-some}
 use Rattle.handlebars_base.specs.Path.{Reference}
 use Rattle.handlebars_base.specs.PathReading.{after, path_of}
-use Rattle.handlebars_base.proofs.PathMarks.{after_takes}
 use Rattle.handlebars_base.proofs.PathShapes.{path_known, path_is}
-use Rattle.handlebars_lines.specs.Literal.{spelled_literal, starts, IsLiteralAt}
-use Rattle.handlebars_lines.specs.LiteralReading.{behind_white, Slice, literal_at}
+use Rattle.handlebars_base.proofs.Fronts.{after_takes, behind_white-skips, behind_white-append, after-same}
+use Rattle.handlebars_base.specs.Texts.{starts}
+use Rattle.handlebars_base.specs.Bytes.{behind_white}
+use Rattle.handlebars_lines.specs.Literal.{spelled_literal, IsLiteralAt}
+use Rattle.handlebars_lines.specs.LiteralReading.{Slice, literal_at}
 use Rattle.handlebars_lines.specs.Parameter.{Term, literal_term, path_term, call_term, Shape, literal_shape, path_shape, nested_shape, spelled_shape, spelled_items, IsChosen, Fits, AreItems, term_of, terms_of, depth_of, items_depth, IsParameter, NoParameter}
 use Rattle.handlebars_lines.specs.Line.{in_parentheses, Line, IsLine, NoLine}
 use Rattle.handlebars_lines.specs.LineLaws.{HasLine, OneParameter}
-use Rattle.handlebars_lines.proofs.Fronts.{behind_white-skips, behind_white-append, after-same}
 use Rattle.handlebars_lines.proofs.LiteralsFound.{literal_at-some}
 use Rattle.handlebars_lines.proofs.LineMarks.{literal_at-finds, literal_at-missing}
 use Rattle.handlebars_lines.proofs.LineFronts.{begins_no_white, path_begins, literal_begins, shape_starts, single_no_parenthesis}

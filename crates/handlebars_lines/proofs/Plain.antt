@@ -4,7 +4,7 @@ use Rattle.std.specs.Prelude.{◌==◌, codes}
 use Rattle.std.specs.Char.{is_ascii_digit, is_ascii_alphanumeric}
 use Rattle.std.specs.List.{AllByRecursion, list_all, position_or_len}
 use Rattle.std.specs.Str.{bytes_eq}
-use Rattle.std.proofs.lemmas.Bool.{eqb-true, ltb-true, or_cases, and_parts}
+use Rattle.std.proofs.lemmas.Bool.{eqb-true, ltb-true, or_cases, and_parts, or_left, or_right}
 use Rattle.std.proofs.lemmas.Slice.Eq.{bytes_eq-Decides}
 use Rattle.std.proofs.lemmas.List.Sums.{split_at_first, passes_at_first}
 use Rattle.handlebars_base.specs.Path.{is_symbol}
@@ -15,17 +15,10 @@ pub record GoesOn (t : List ℕ) : Type 0 where
   pub all : AllByRecursion (λ b. goes_on b ≡ true) t
   pub some : 0 < length t
 
-or-left : (a b : Bool) → a ≡ true → (a || b) ≡ true
-or-left a b h = rw h refl
-
-or-right : (a b : Bool) → b ≡ true → (a || b) ≡ true
-or-right true b h = refl
-or-right false b h = h
-
 digit_goes_on : (b : ℕ) → is_ascii_digit b ≡ true → goes_on b ≡ true
 digit_goes_on b h =
-    let letter : is_ascii_alphanumeric b ≡ true = or-left _ _ (or-left (is_ascii_digit b) _ h) in
-    or-left (is_symbol b) _ (or-right _ _ (or-left (is_ascii_alphanumeric b) _ letter))
+    let letter : is_ascii_alphanumeric b ≡ true = or_left _ _ (or_left (is_ascii_digit b) _ h) in
+    or_left (is_symbol b) _ (or_right _ _ (or_left (is_ascii_alphanumeric b) _ letter))
 
 all_digits_go_on : (t : List ℕ) → list_all is_ascii_digit t ≡ true → AllByRecursion (λ b. goes_on b ≡ true) t
 all_digits_go_on [] h = tt

@@ -5,8 +5,8 @@ use Rattle.std.specs.List.{AllByRecursion, position_or_len, before_first, after_
 use Rattle.std.proofs.lemmas.Bool.{eqb-true, not-true}
 use Rattle.std.proofs.lemmas.List.{take_all}
 use Rattle.std.proofs.lemmas.List.Sums.{split_at_first, passes_at_first}
-use Rattle.handlebars_base.proofs.PathMarks.{prefix_pass}
-use Rattle.handlebars_lines.specs.Literal.{starts}
+use Rattle.handlebars_base.proofs.Runs.{prefix_pass}
+use Rattle.handlebars_base.specs.Texts.{starts}
 use Rattle.handlebars_lines.specs.Worth.{plain_singles, escaped_doubles}
 
 abbrev pub Lacks : ℕ → List ℕ → Type 0

@@ -4,7 +4,7 @@ use Rattle.std.specs.Str.{bytes_eq}
 use Rattle.handlebars_base.specs.Bytes.{Text, is_white, behind_white}
 use Rattle.handlebars_base.specs.Path.{IsIdentifier}
 use Rattle.handlebars_base.specs.PathReading.{after, symbols_of, behind_symbols}
-use Rattle.handlebars_lines.specs.Literal.{IsWhite, starts}
+use Rattle.handlebars_base.specs.Texts.{IsWhite, starts}
 
 abbrev pub bar : ℕ
 bar = 124

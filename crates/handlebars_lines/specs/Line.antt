@@ -1,7 +1,7 @@
 -- Lines: a name with parameters and pairs behind it, or a path or a line in parentheses alone.
 use Rattle.std.specs.Prelude.{◌≡◌, ℕ, Bool, true, ◌||◌, ◌==◌, max, ◌++◌}
 use Rattle.handlebars_base.specs.Bytes.{Text, right_brace, behind_white}
-use Rattle.handlebars_lines.specs.Literal.{starts}
+use Rattle.handlebars_base.specs.Texts.{starts}
 use Rattle.handlebars_lines.specs.Binding.{begins_binding}
 use Rattle.handlebars_lines.specs.Parameter.{right_parenthesis, Term, Terms, Shape, Items, spelled_shape, spelled_items, is_name, Fits, AreItems, term_of, terms_of, depth_of, items_depth}
 

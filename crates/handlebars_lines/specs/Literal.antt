@@ -1,21 +1,19 @@
 -- The literals of tags: what each spells, when it fits, how deep its brackets nest, and whether its numbers are kept.
 use Rattle.std.specs.Prelude.{◌≡◌, ℕ, suc, ◌^◌, Bool, true, false, not, ◌&&◌, ◌||◌, ◌==◌, nat_lt, nat_le, if◌then◌else◌, max, [], ◌∷◌, ◌++◌, length, Option, Some, None, is_some, codes}
 use Rattle.std.specs.Char.{is_ascii_digit}
-use Rattle.std.specs.List.{AllByRecursion, list_all, position_or_len, before_first, after_first}
+use Rattle.std.specs.List.{list_all, position_or_len, before_first, after_first}
 use Rattle.std.specs.Str.{bytes_eq}
 use Rattle.std.specs.Str.Parse.{digits_value}
-use Rattle.handlebars_base.specs.Bytes.{Text, double_quote, single_quote, hyphen, dot, slash, colon, left_bracket, backslash, right_bracket, left_brace, right_brace, is_white}
+use Rattle.handlebars_base.specs.Bytes.{Text, double_quote, single_quote, hyphen, dot, slash, colon, left_bracket, backslash, right_bracket, left_brace, right_brace}
 use Rattle.handlebars_base.specs.Path.{is_symbol}
 use Rattle.handlebars_base.specs.PathReading.{with_or, after}
+use Rattle.handlebars_base.specs.Texts.{IsWhite, starts}
 
 abbrev pub comma : ℕ
 comma = 44
 
 abbrev pub capital_e : ℕ
 capital_e = 69
-
-abbrev pub IsWhite : Text → Type 0
-IsWhite w = AllByRecursion (λ b. is_white b ≡ true) w
 
 -- ---- texts in quotes
 
@@ -194,11 +192,6 @@ abbrev mutual
 -- a byte that no literal stands in front of: a symbol, `.` or `/`
 abbrev pub goes_on : ℕ → Bool
 goes_on b = is_symbol b || (b == dot || b == slash)
-
--- a byte of that kind stands in front
-abbrev pub starts : (ℕ → Bool) → Text → Bool
-starts p [] = false
-starts p (b ∷ t) = p b
 
 -- The text is that of a literal, and then a rest in which nothing goes on with it.
 pub record IsLiteralAt (text : Text) (l : Literal) (rest : Text) : Type 0 where

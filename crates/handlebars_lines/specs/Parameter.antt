@@ -5,7 +5,8 @@ use Rattle.std.specs.List.{list_all}
 use Rattle.std.specs.Str.{bytes_eq}
 use Rattle.handlebars_base.specs.Bytes.{Text, equals_sign}
 use Rattle.handlebars_base.specs.Path.{is_symbol, IsIdentifier, IsPath, Reference}
-use Rattle.handlebars_lines.specs.Literal.{IsWhite, Literal, spelled_literal, IsLiteral, literal_depth, goes_on, starts, IsLiteralAt}
+use Rattle.handlebars_base.specs.Texts.{IsWhite, starts}
+use Rattle.handlebars_lines.specs.Literal.{Literal, spelled_literal, IsLiteral, literal_depth, goes_on, IsLiteralAt}
 
 abbrev pub left_parenthesis : ℕ
 left_parenthesis = 40

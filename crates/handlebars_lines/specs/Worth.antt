@@ -4,7 +4,8 @@ use Rattle.serde_json.specs.Data.{Data}
 use Rattle.serde_json.specs.Read.{read as read_text}
 use Rattle.handlebars_base.specs.Bytes.{Text, double_quote, single_quote, backslash}
 use Rattle.handlebars_base.specs.PathReading.{◌>>=◌, with_or, after}
-use Rattle.handlebars_lines.specs.Literal.{Literal, quoted, single_quoted, number, word, empty, filled, spelled_literal, starts}
+use Rattle.handlebars_base.specs.Texts.{starts}
+use Rattle.handlebars_lines.specs.Literal.{Literal, quoted, single_quoted, number, word, empty, filled, spelled_literal}
 use Rattle.handlebars_lines.specs.LiteralReading.{Slice, literal_at}
 
 -- the text with each `\'` made `'`

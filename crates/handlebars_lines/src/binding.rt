@@ -7,8 +7,7 @@ ghost use Rattle.handlebars_lines.specs.BindingReading.{symbols_at, other_at, na
 ghost use Rattle.handlebars_lines.specs.BindingView.{binding_of, slice_of};
 ghost use Rattle.handlebars_lines.specs.LineView.{texts_of};
 
-use crate::marks::starts_white;
-use handlebars_base::json::path::marks::{after, behind_white, symbols};
+use handlebars_base::json::path::marks::{after, behind_white, starts_white, symbols};
 
 /// The names that a block gives to what it shows.
 #[derive(Clone, Copy, Debug, PartialEq, Eq)]

@@ -1,22 +1,13 @@
-//! White, runs and quotes at the front of a text.
+//! Runs and quotes at the front of a text.
 
 ghost use Rattle.std.specs.Prelude.{◌≡◌, ◌<◌, false};
 ghost use Rattle.std.specs.List.{prefix_len};
 ghost use Rattle.std.specs.Option.{option_map};
-ghost use Rattle.handlebars_base.specs.Bytes.{is_white};
-ghost use Rattle.handlebars_lines.specs.Literal.{goes_on, starts};
+ghost use Rattle.handlebars_base.specs.Texts.{starts};
+ghost use Rattle.handlebars_lines.specs.Literal.{goes_on};
 ghost use Rattle.handlebars_lines.specs.LiteralReading.{behind_quote, run_of, behind_run};
 
-use handlebars_base::json::path::marks::{is_symbol, is_white};
-
-pub fn starts_white(text: &str) -> bool
-    ensures { result ≡ starts is_white text.now }
-{
-    match text.as_bytes() {
-        [first, ..] => is_white(*first),
-        [] => false,
-    }
-}
+use handlebars_base::json::path::marks::is_symbol;
 
 /// Whether no literal stands in front of this byte.
 fn goes_on(byte: u8) -> bool

@@ -5,7 +5,7 @@ ghost use Rattle.std.specs.Option.{option_map};
 ghost use Rattle.serde_json.specs.Read.{read as read_text};
 ghost use Rattle.serde_json.specs.View.{view};
 ghost use Rattle.handlebars_base.specs.Bytes.{single_quote};
-ghost use Rattle.handlebars_lines.specs.Literal.{starts};
+ghost use Rattle.handlebars_base.specs.Texts.{starts};
 ghost use Rattle.handlebars_lines.specs.LiteralView.{slice_of};
 ghost use Rattle.handlebars_lines.specs.Worth.{plain_singles, escaped_doubles, double_quoted, before, unquoted, worth, worth_of};
 

@@ -1,41 +1,21 @@
 -- What is inside a tag ends its source, and that of a comment stands behind `{{!`.
-use Rattle.std.proofs.Common.{◌≡◌, ◌≢◌, ℕ, Bool, true, false, cond, [], ◌∷◌, ◌++◌, drop, take, Some, refl, sym, ap, subst, ◌∙◌, append_assoc, codes, inl, inr}
-use Rattle.std.proofs.lemmas.List.{take-append-drop}
+use Rattle.std.proofs.Common.{◌≡◌, ◌≢◌, ℕ, Bool, true, false, cond, [], ◌∷◌, ◌++◌, Some, refl, ap, subst, ◌∙◌, codes, inl, inr}
 use Rattle.std.proofs.lemmas.Option.{same_Some}
 use Rattle.handlebars_base.specs.Bytes.{Text, ampersand, slash, left_brace, behind_white}
 use Rattle.handlebars_base.specs.PathReading.{with_or, after, behind_symbols}
 use Rattle.handlebars_base.specs.Path.{is_symbol}
 use Rattle.std.specs.List.{prefix_len}
 use Rattle.handlebars_base.proofs.OptionBinds.{bind_some, with_or_is}
-use Rattle.handlebars_base.proofs.PathMarks.{after_takes}
-use Rattle.handlebars_lines.proofs.Fronts.{behind_white-skips}
+use Rattle.handlebars_base.specs.Texts.{IsEnd}
+use Rattle.handlebars_base.proofs.Ends.{end-all, end-behind, end-after, end-white, end-drop, end-after_white}
 use Rattle.handlebars_lines.specs.Line.{tilde}
 use Rattle.handlebars_tags.specs.Kind.{Kind, expression_kind, html_kind, html_sign_kind, block_kind, close_kind, inverse_kind, else_kind, raw_kind, raw_close_kind, comment_kind, other_kind, exclamation, number_sign, caret, past, Beginning, beginning, tilde_at, starts_other, is_else, block_at, unsigned_at, signed_at, tilded_at, raw_at, braced_at, beginning_of}
-use Rattle.handlebars_tags.specs.CommentReading.{IsEnd}
 use Rattle.handlebars_tags.proofs.Marks.{past-takes}
 
 -- ---- ends of a text
 
-pub end-all : (t : Text) → IsEnd t t
-end-all t = ([], refl)
-
-pub end-behind : (t r s : Text) → IsEnd t r → IsEnd r s → IsEnd t s
-end-behind t r s h k = (h.0 ++ k.0, h.1 ∙ ap (λ (z : Text). h.0 ++ z) k.1 ∙ sym (append_assoc h.0 k.0 s))
-
-pub end-after : (c : ℕ) (t r : Text) → after c t ≡ Some r → IsEnd t r
-end-after c t r e = (c ∷ [], after_takes c t r e)
-
 pub end-past : (mark t r : Text) → past mark t ≡ Some r → IsEnd t r
 end-past mark t r e = (mark, past-takes mark t r e)
-
-pub end-white : (t : Text) → IsEnd t (behind_white t)
-end-white t = let h = behind_white-skips t in (h.white, h.whole)
-
-pub end-drop : (n : ℕ) (t : Text) → IsEnd t (drop n t)
-end-drop n t = (take n t, sym (take-append-drop n t))
-
-pub end-after_white : (c : ℕ) (t r : Text) → after c t ≡ Some r → IsEnd t (behind_white r)
-end-after_white c t r e = end-behind t r (behind_white r) (end-after c t r e) (end-white r)
 
 pub end-tilde : (t : Text) → IsEnd t (tilde_at t).1
 end-tilde t = elim (with_or_is (after tilde (behind_white t)) (λ r. (true, behind_white r)) (false, behind_white t) (tilde_at t) refl) [

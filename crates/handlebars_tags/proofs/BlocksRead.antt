@@ -1,8 +1,8 @@
 -- The tags that the lines of blocks make.
 use Rattle.std.proofs.Common.{◌≡◌, None, refl}
 use Rattle.handlebars_base.specs.Bytes.{Text, behind_white, is_white}
+use Rattle.handlebars_base.specs.Texts.{starts}
 use Rattle.std.proofs.Common.{true}
-use Rattle.handlebars_lines.specs.Literal.{starts}
 use Rattle.handlebars_tags.specs.Kind.{block_kind, else_kind, raw_kind, closing_of}
 use Rattle.handlebars_tags.specs.Tag.{block_tag, chain_tag, raw_tag, a_block, a_chain, a_raw_block}
 use Rattle.handlebars_tags.specs.declared.tag.inside.BlockRead.{BlockRead}

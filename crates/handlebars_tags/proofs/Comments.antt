@@ -1,46 +1,34 @@
 -- Where comments end.
-use Rattle.std.proofs.Common.{◌≡◌, ℕ, ◌-◌, ◌<◌, length, get_or, drop, Bool, true, false, [], ◌∷◌, ◌++◌, Option, Some, None, option_map, refl, sym, ap, subst, ◌∙◌, append_assoc, arith, length-append, inl, inr}
-use Rattle.std.specs.Prelude.{◌==◌, not, codes}
+use Rattle.std.proofs.Common.{◌≡◌, ◌<◌, length, get_or, drop, Bool, true, false, [], ◌∷◌, ◌++◌, Option, Some, None, option_map, refl, sym, ap, subst, ◌∙◌, append_assoc, arith, inl, inr}
+use Rattle.std.specs.Prelude.{not, codes}
 use Rattle.std.specs.Option.{is_some}
 use denote.Ref.{Bor}
 use Rattle.std.specs.Str.{IsCharBoundary, IsUtf8}
-use Rattle.std.proofs.lemmas.Str.{IsCharBoundary-at_seam, IsCharBoundary-after_ascii}
-use Rattle.std.proofs.lemmas.Bool.{cases_Bool, ne_eqb}
+use Rattle.std.proofs.lemmas.Str.{IsCharBoundary-after_ascii}
+use Rattle.std.proofs.lemmas.Bool.{cases_Bool}
 use Rattle.std.proofs.lemmas.Option.{same_Some, none-some}
 use Rattle.std.proofs.lemmas.List.{append_cancel_right}
 use Rattle.handlebars_base.specs.Bytes.{Text, right_brace, is_white, behind_white}
 use Rattle.handlebars_base.specs.PathReading.{after}
 use Rattle.handlebars_base.proofs.OptionBinds.{bind_some, none_or_some}
-use Rattle.handlebars_base.proofs.PathMarks.{after_other}
+use Rattle.handlebars_base.proofs.Fronts.{after_other}
+use Rattle.handlebars_base.specs.Texts.{IsEnd}
+use Rattle.handlebars_base.proofs.Ends.{end-behind, end-white}
+use Rattle.handlebars_base.proofs.Bytes.{other_byte}
 use Rattle.handlebars_tags.specs.Kind.{past}
 use Rattle.handlebars_tags.specs.Comment.{behind_mark, behind_long, behind_compact, long_text, compact_text, HasNoLong, IsComment, long, compact, OneComment}
-use Rattle.handlebars_tags.specs.CommentReading.{EndsComment, comment_text, IsEnd}
+use Rattle.handlebars_tags.specs.CommentReading.{EndsComment, comment_text}
 use Rattle.handlebars_tags.proofs.Marks.{past-takes, behind_mark-cut, behind_mark-end}
 
 -- ---- ends of a text
 
-IsEnd-append : (x y z : Text) → IsEnd x y → IsEnd y z → IsEnd x z
-IsEnd-append x y z a b = (a.0 ++ b.0, a.1 ∙ ap (λ (u : Text). a.0 ++ u) b.1 ∙ sym (append_assoc a.0 b.0 z))
-
-pub IsCharBoundary-end : (t v : Text) → IsUtf8 v → IsEnd t v → IsCharBoundary t (length t - length v)
-IsCharBoundary-end t v utf8 cut =
-    let len : length t - length v ≡ length cut.0 = omega (arith, ap length cut.1, length-append cut.0 v) in
-    rw len (IsCharBoundary-at_seam t cut.0 v cut.1 utf8)
-
-behind_white-end : (t : Text) → IsEnd t (behind_white t)
-behind_white-end [] = ([], refl)
-behind_white-end (b ∷ t) = elim (cases_Bool (is_white b)) [
-  | inl white ↦ let more = behind_white-end t in rw white (b ∷ more.0, ap (λ (z : Text). b ∷ z) more.1)
-  | inr dark ↦ rw dark ([], refl)
-]
-
 dashes-end : (t d : Text) → past (codes "--") (behind_white t) ≡ Some d → IsEnd t d
-dashes-end t d e = IsEnd-append t (behind_white t) d (behind_white-end t) (codes "--", past-takes (codes "--") (behind_white t) d e)
+dashes-end t d e = end-behind t (behind_white t) d (end-white t) (codes "--", past-takes (codes "--") (behind_white t) d e)
 
 behind_long-end : (t rest : Text) → behind_long t ≡ Some rest → IsEnd t rest
 behind_long-end t rest e =
     let b = bind_some (past (codes "--") (behind_white t)) (behind_mark (codes "--}}")) rest e in
-    IsEnd-append t b.0 rest (dashes-end t b.0 b.1) (behind_mark-cut (codes "--}}") b.0 rest b.2)
+    end-behind t b.0 rest (dashes-end t b.0 b.1) (behind_mark-cut (codes "--}}") b.0 rest b.2)
 
 pub EndsComment-end : (inside : Text) (is_long : Bool) (rest : Text) → EndsComment inside is_long rest → IsEnd inside rest
 EndsComment-end inside true rest e = behind_long-end inside rest e
@@ -86,7 +74,7 @@ begins-boundary source utf8 e =
     IsCharBoundary-after_ascii source 2 utf8 long low
 
 pub inside-end : (source rest : Text) → past (codes "{{!") source ≡ Some (drop 3 source) → IsEnd (drop 3 source) rest → IsEnd source rest
-inside-end source rest e cut = IsEnd-append source (drop 3 source) rest (codes "{{!", begins-whole source e) cut
+inside-end source rest e cut = end-behind source (drop 3 source) rest (codes "{{!", begins-whole source e) cut
 
 pub IsComment-begins : (source slice rest : Text) (is_long : Bool) → past (codes "{{!") source ≡ Some (drop 3 source) → source ≡ slice ++ rest → EndsComment (drop 3 source) is_long rest
     → IsComment (drop 3 source) (comment_text is_long slice) rest
@@ -94,15 +82,12 @@ IsComment-begins source slice rest is_long e whole ends = IsComment-made source 
 
 -- ---- where no long comment ends further on
 
-white_brace : (b : ℕ) → is_white b ≡ true → (b == right_brace) ≡ false
-white_brace b white = ne_eqb b right_brace (λ e. let same : is_white b ≡ is_white right_brace = ap is_white e in cc)
-
 -- the end of a compact comment stands behind white and dashes
 behind_compact-white : (t : Text) → behind_compact (behind_white t) ≡ behind_compact t
 behind_compact-white [] = refl
 behind_compact-white (b ∷ t) = elim (cases_Bool (is_white b)) [
   | inl white ↦
-      let none : past (codes "}}") (b ∷ t) ≡ None = rw (after_other right_brace b t (white_brace b white)) refl in
+      let none : past (codes "}}") (b ∷ t) ≡ None = rw (after_other right_brace b t (other_byte is_white right_brace refl b white)) refl in
       rw (white, none) (behind_compact-white t)
   | inr dark ↦ rw dark refl
 ]

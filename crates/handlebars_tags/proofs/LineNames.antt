@@ -6,7 +6,7 @@ use Rattle.handlebars_base.specs.Bytes.{Text}
 use Rattle.handlebars_base.specs.Path.{is_symbol, raw_of, meaning, Shape as PathShape, itself, at_root, at_name, in_parts}
 use Rattle.handlebars_base.specs.PathReading.{◌>>=◌, stops, slice_at}
 use Rattle.handlebars_base.proofs.References.{stops-path}
-use Rattle.handlebars_lines.specs.Literal.{starts}
+use Rattle.handlebars_base.specs.Texts.{starts}
 use Rattle.handlebars_lines.specs.Parameter.{left_parenthesis, Shape, literal_shape, path_shape, nested_shape, Items, is_name, spelled_shape, spelled_items, Fits, AreItems, term_of}
 use Rattle.handlebars_lines.specs.Line.{Line, Enclosure, IsLine, Closes}
 use Rattle.handlebars_lines.proofs.LineMarks.{slice_at-some, slice_at-stops}

@@ -6,9 +6,8 @@ use Rattle.std.specs.Str.Pattern.{FindsText, SplitsAroundMatch, StripsPrefix, Fi
 use denote.Ref.{Bor}
 use Rattle.handlebars_base.specs.Bytes.{Text}
 use Rattle.handlebars_base.specs.PathReading.{after}
-use Rattle.handlebars_base.proofs.PathMarks.{after_takes}
 use Rattle.handlebars_base.proofs.OptionBinds.{none_or_some, bind_some, with_or_is}
-use Rattle.handlebars_lines.proofs.Fronts.{after-same}
+use Rattle.handlebars_base.proofs.Fronts.{after_takes, after-same}
 use Rattle.handlebars_tags.specs.Kind.{past}
 use Rattle.handlebars_tags.specs.Comment.{behind_mark, without_fronts, without_front, without_back}
 

@@ -5,10 +5,10 @@ use Rattle.std.proofs.lemmas.Option.{same_Some, none-some}
 use Rattle.std.proofs.lemmas.List.{append_cancel_right}
 use Rattle.handlebars_base.specs.Bytes.{Text, right_brace, behind_white}
 use Rattle.handlebars_base.specs.PathReading.{after}
-use Rattle.handlebars_lines.specs.Literal.{starts}
+use Rattle.handlebars_base.specs.Texts.{starts}
+use Rattle.handlebars_base.proofs.Fronts.{starts-other, after-not}
+use Rattle.handlebars_base.proofs.Bytes.{other_byte}
 use Rattle.handlebars_lines.specs.Line.{Line, in_tag, tilde}
-use Rattle.handlebars_lines.proofs.Fronts.{starts-other, after-not}
-use Rattle.handlebars_lines.proofs.LineMarks.{other_byte}
 use Rattle.handlebars_lines.proofs.LineFronts.{begins}
 use Rattle.handlebars_lines.proofs.Lines.{one_line}
 use Rattle.handlebars_tags.specs.Kind.{Kind, expression_kind, html_kind, html_sign_kind, block_kind, close_kind, inverse_kind, else_kind, raw_kind, raw_close_kind, comment_kind, other_kind, beginning_of, closing_of}

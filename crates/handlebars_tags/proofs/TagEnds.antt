@@ -7,16 +7,16 @@ use Rattle.handlebars_base.specs.Bytes.{Text, right_brace, right_bracket, left_b
 use Rattle.handlebars_base.specs.Path.{is_symbol}
 use Rattle.handlebars_base.specs.PathReading.{◌>>=◌, after}
 use Rattle.handlebars_base.proofs.OptionBinds.{bind_some, with_or_is}
-use Rattle.handlebars_lines.specs.Literal.{starts}
+use Rattle.handlebars_base.specs.Texts.{starts, IsEnd}
+use Rattle.handlebars_base.proofs.Ends.{end-all, end-behind, end-after, end-white, end-drop}
 use Rattle.handlebars_lines.specs.Parameter.{spelled_shape, spelled_items}
 use Rattle.handlebars_lines.specs.Line.{Line, Enclosure, IsLine, tilde}
 use Rattle.handlebars_lines.specs.Binding.{Binding, bar, IsBinding, is_unbound, is_bound, spelled_names}
 use Rattle.handlebars_tags.specs.Kind.{Kind, expression_kind, html_kind, html_sign_kind, block_kind, close_kind, inverse_kind, else_kind, raw_kind, raw_close_kind, comment_kind, other_kind, past, tilde_at, split_close, three_close, closing_of}
 use Rattle.handlebars_tags.specs.Comment.{IsComment, long, compact}
-use Rattle.handlebars_tags.specs.CommentReading.{IsEnd}
 use Rattle.handlebars_tags.specs.Tag.{Tag, BlockLine, IsBlockLine, is_close_symbol, enclosed_at, close_name_at, Says}
 use Rattle.handlebars_tags.specs.TagReading.{IsClosed}
-use Rattle.handlebars_tags.proofs.Beginnings.{end-all, end-behind, end-after, end-past, end-white, end-drop, end-tilde}
+use Rattle.handlebars_tags.proofs.Beginnings.{end-past, end-tilde}
 use Rattle.handlebars_tags.proofs.Insides.{said}
 
 -- ---- what closes a tag

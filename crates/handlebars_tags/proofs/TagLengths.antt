@@ -3,15 +3,12 @@ use Rattle.std.proofs.Common.{◌≡◌, ◌∙◌, ◌++◌, ◌<◌, ◌≤◌
 use Rattle.std.proofs.lemmas.Option.{same_Some}
 use Rattle.handlebars_base.specs.Bytes.{Text}
 use Rattle.handlebars_base.proofs.OptionBinds.{bind_some}
+use Rattle.handlebars_base.proofs.Ends.{length-end}
 use Rattle.handlebars_tags.specs.Kind.{past, Beginning, braced_at, beginning_of}
 use Rattle.handlebars_tags.specs.Tag.{Tag, Tildes, IsTag}
-use Rattle.handlebars_tags.specs.CommentReading.{IsEnd}
 use Rattle.handlebars_tags.proofs.Marks.{past-takes}
 use Rattle.handlebars_tags.proofs.Beginnings.{braced}
 use Rattle.handlebars_tags.proofs.TagEnds.{end-closed}
-
-length-end : (t r : Text) → IsEnd t r → length r ≤ length t
-length-end t r h = omega (arith, ap length h.1, length-append h.0 r)
 
 length-inside : (left : Text) (b : Beginning) → beginning_of left ≡ Some b → length b.inside < length left
 unfolding beginning_of

@@ -2,13 +2,14 @@
 use Rattle.std.proofs.Common.{◌≡◌, Bool, ◌++◌, Some, None, refl, sym, ap, subst, ◌∙◌}
 use Rattle.std.proofs.lemmas.Option.{same_Some, none-some}
 use Rattle.handlebars_base.specs.Bytes.{Text}
+use Rattle.handlebars_base.specs.Texts.{IsEnd}
+use Rattle.handlebars_base.proofs.Ends.{end-behind}
 use Rattle.handlebars_tags.specs.Kind.{Beginning, beginning_of}
 use Rattle.handlebars_tags.specs.Tag.{Tag, Tildes, IsTag, NoTag}
 use Rattle.handlebars_tags.specs.TagReading.{IsClosed, NoneClosed}
 use Rattle.handlebars_tags.specs.TagView.{HasInside, HasTag}
-use Rattle.handlebars_tags.specs.CommentReading.{IsEnd}
 use Rattle.handlebars_tags.specs.declared.tag.inside.Inside.{Inside}
-use Rattle.handlebars_tags.proofs.Beginnings.{end-behind, begun}
+use Rattle.handlebars_tags.proofs.Beginnings.{begun}
 use Rattle.handlebars_tags.proofs.TagEnds.{end-closed}
 
 -- ---- what is inside a tag is closed

@@ -6,7 +6,7 @@ use Rattle.std.specs.Str.{IsCharBoundary}
 use Rattle.std.proofs.lemmas.Bool.{or_cases, eqb-true, cases_Bool}
 use Rattle.std.proofs.lemmas.List.Sums.{fold-append}
 use Rattle.handlebars_base.specs.Bytes.{Text, space, tab}
-use Rattle.handlebars_lines.specs.Literal.{starts}
+use Rattle.handlebars_base.specs.Texts.{starts}
 use Rattle.handlebars_tags.specs.Trim.{is_blank, is_break, is_fresh_behind, is_fresh, breaks, behind_blanks}
 
 pub is_blank-ascii : (b : ℕ) → is_blank b ≡ true → b < 128

@@ -1,5 +1,5 @@
 -- How a comment is read: first where it ends, then its text. Only the code's own contracts cite this.
-use Rattle.std.specs.Prelude.{◌≡◌, Bool, true, false, ◌++◌, Some, None}
+use Rattle.std.specs.Prelude.{◌≡◌, Bool, true, false, Some, None}
 use Rattle.handlebars_base.specs.Bytes.{Text}
 use Rattle.handlebars_tags.specs.Comment.{behind_long, behind_compact, long_text, compact_text}
 
@@ -11,7 +11,3 @@ EndsComment inside false rest = (behind_long inside ≡ None) × (behind_compact
 abbrev pub comment_text : Bool → Text → Text
 comment_text true slice = long_text slice
 comment_text false slice = compact_text slice
-
--- the rest is an end of the source
-abbrev pub IsEnd : Text → Text → Type 0
-IsEnd source rest = (front : Text) × (source ≡ front ++ rest)

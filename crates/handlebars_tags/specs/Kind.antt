@@ -3,8 +3,8 @@ use Rattle.std.specs.Prelude.{ℕ, Bool, true, false, ◌&&◌, ◌||◌, ◌==�
 use Rattle.std.specs.Str.{bytes_eq}
 use Rattle.handlebars_base.specs.Bytes.{Text, ampersand, slash, greater, left_brace, right_brace, is_white, behind_white}
 use Rattle.handlebars_base.specs.PathReading.{◌>>=◌, with_or, after, symbols_of, behind_symbols}
+use Rattle.handlebars_base.specs.Texts.{starts}
 use Rattle.handlebars_lines.specs.Line.{tilde}
-use Rattle.handlebars_lines.specs.Literal.{starts}
 
 abbrev pub exclamation : ℕ
 exclamation = 33

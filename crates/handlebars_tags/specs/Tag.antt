@@ -4,7 +4,7 @@ use Rattle.std.specs.List.{list_all, prefix_len, position_or_len}
 use Rattle.handlebars_base.specs.Bytes.{Text, slash, dot, at_sign, left_bracket, right_bracket, single_quote, is_white, behind_white}
 use Rattle.handlebars_base.specs.Path.{is_symbol, Reference, raw_of}
 use Rattle.handlebars_base.specs.PathReading.{symbols_of, behind_symbols}
-use Rattle.handlebars_lines.specs.Literal.{starts}
+use Rattle.handlebars_base.specs.Texts.{starts}
 use Rattle.handlebars_lines.specs.Parameter.{Terms, path_term}
 use Rattle.handlebars_lines.specs.Line.{Line, in_tag, in_block, IsLine}
 use Rattle.handlebars_lines.specs.Binding.{Binding, IsBinding}

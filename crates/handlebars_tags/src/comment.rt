@@ -3,9 +3,10 @@
 ghost use Rattle.std.specs.Prelude.{◌≡◌, ◌<◌, ◌++◌, None, IfSome, MatchOption, codes, drop, length, Some};
 ghost use Rattle.std.specs.Option.{option_map};
 ghost use Rattle.handlebars_base.specs.Bytes.{behind_white};
+ghost use Rattle.handlebars_base.specs.Texts.{IsEnd};
 ghost use Rattle.handlebars_tags.specs.Kind.{past};
 ghost use Rattle.handlebars_tags.specs.Comment.{behind_mark, behind_long, HasNoLong, IsComment, NoComment};
-ghost use Rattle.handlebars_tags.specs.CommentReading.{EndsComment, comment_text, IsEnd};
+ghost use Rattle.handlebars_tags.specs.CommentReading.{EndsComment, comment_text};
 
 use handlebars_base::json::path::marks::behind_white;
 

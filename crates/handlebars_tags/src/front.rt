@@ -2,12 +2,10 @@
 
 ghost use Rattle.std.specs.Prelude.{◌≡◌};
 ghost use Rattle.std.specs.Option.{option_map};
-ghost use Rattle.handlebars_base.specs.Bytes.{is_white};
-ghost use Rattle.handlebars_lines.specs.Literal.{starts};
 ghost use Rattle.handlebars_tags.specs.Kind.{past, tilde_at};
 ghost use Rattle.handlebars_tags.specs.KindView.{tilded};
 
-use handlebars_base::json::path::marks::{after, behind_white, is_white};
+use handlebars_base::json::path::marks::{after, behind_white};
 
 /// What follows a mark, where it stands at the front.
 pub fn past<'a>(mark: &str, text: &'a str) -> Option<&'a str>
@@ -24,14 +22,5 @@ pub fn tilde_at(text: &str) -> (bool, &str)
     match after(b'~', dark) {
         Some(rest) => (true, behind_white(rest)),
         None => (false, dark),
-    }
-}
-
-pub fn starts_white(text: &str) -> bool
-    ensures { result ≡ starts is_white text.now }
-{
-    match text.as_bytes() {
-        [first, ..] => is_white(*first),
-        [] => false,
     }
 }

@@ -4,11 +4,11 @@ use Rattle.std.proofs.lemmas.Bool.{eqb-true, eqb-false}
 use Rattle.std.proofs.lemmas.Option.{same_Some, none-some}
 use Rattle.std.specs.Prelude.{true, false, ◌==◌, option_map}
 use Rattle.serde_json.specs.Data.{Data}
-use Rattle.handlebars_base.specs.Bytes.{Text}
+use Rattle.handlebars_base.specs.Bytes.{Text, behind_white}
 use Rattle.handlebars_base.specs.Path.{Reference}
 use Rattle.handlebars_base.specs.PathReading.{with_or, after, path_of}
 use Rattle.handlebars_lines.specs.Laws.{HasLiteral, NoLiteral}
-use Rattle.handlebars_lines.specs.LiteralReading.{behind_white, Slice, literal_at}
+use Rattle.handlebars_lines.specs.LiteralReading.{Slice, literal_at}
 use Rattle.handlebars_lines.specs.Parameter.{Term, literal_term, path_term, call_term, IsParameter}
 use Rattle.handlebars_lines.specs.Line.{in_parentheses, Line, IsLine, NoLine}
 use Rattle.handlebars_lines.specs.LineLaws.{HasLine}

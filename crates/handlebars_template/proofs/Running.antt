@@ -6,7 +6,7 @@ use Rattle.handlebars_base.specs.Bytes.{Text, is_white, behind_white}
 use Rattle.handlebars_base.specs.Path.{is_symbol, Reference, raw_of}
 use Rattle.handlebars_base.specs.PathReading.{◌>>=◌, symbols_of, behind_symbols}
 use Rattle.handlebars_base.proofs.OptionBinds.{bind_some, cond_is}
-use Rattle.handlebars_lines.specs.Literal.{starts}
+use Rattle.handlebars_base.specs.Texts.{starts}
 use Rattle.handlebars_lines.specs.Runs.{run as steps}
 use Rattle.handlebars_lines.specs.Parameter.{Term, literal_term, path_term, call_term}
 use Rattle.handlebars_lines.specs.Line.{Enclosure, in_tag, in_block, Line, IsLine, NoLine}

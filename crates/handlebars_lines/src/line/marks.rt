@@ -1,10 +1,8 @@
-//! Symbols, keys and ends at the front of a text.
+//! Keys and ends at the front of a text.
 
 ghost use Rattle.std.specs.Prelude.{◌≡◌, ◌==◌};
-ghost use Rattle.std.specs.List.{list_all};
 ghost use Rattle.std.specs.Option.{option_map};
-ghost use Rattle.handlebars_base.specs.Path.{is_symbol};
-ghost use Rattle.handlebars_lines.specs.Literal.{starts};
+ghost use Rattle.handlebars_base.specs.Texts.{starts};
 ghost use Rattle.handlebars_lines.specs.Parameter.{right_parenthesis};
 ghost use Rattle.handlebars_lines.specs.Line.{ends_tag, is_end};
 ghost use Rattle.handlebars_lines.specs.LineReading.{key_at};
@@ -12,13 +10,7 @@ ghost use Rattle.handlebars_lines.specs.LineView.{enclosure_of, texts_of};
 
 use super::step::Enclosure;
 use crate::binding::behind_beginning;
-use handlebars_base::json::path::marks::{after, behind_white, is_symbol, symbols};
-
-pub fn all_symbols(text: &str) -> bool
-    ensures { result ≡ list_all is_symbol text.now }
-{
-    text.as_bytes().iter().all(|byte| is_symbol(*byte))
-}
+use handlebars_base::json::path::marks::{after, behind_white, symbols};
 
 fn ends_tag(byte: u8) -> bool
     ensures { result ≡ ends_tag byte }

@@ -5,10 +5,9 @@ ghost use Rattle.handlebars_lines.specs.Parameter.{is_reserved};
 ghost use Rattle.handlebars_lines.specs.LineReading.{at_name, state, behind_name, open_step, name_step, is_excluded, path_step, parameter_step, item_step, may_follow, next_step, outer_step, inner_step, behind_step, is_at_name, line_step};
 ghost use Rattle.handlebars_lines.specs.LineView.{enclosure_of, key_of, stand_of, state_of, step_of, height_of};
 
-use super::marks::{all_symbols, is_end, key_at};
+use super::marks::{is_end, key_at};
 use crate::literal::literal_at;
-use crate::marks::starts_white;
-use handlebars_base::json::path::marks::{after, behind_white};
+use handlebars_base::json::path::marks::{after, all_symbols, behind_white, starts_white};
 use handlebars_base::json::path::split_path;
 use std::alloc::{AllocError, Global};
 

@@ -3,7 +3,7 @@
 ghost use Rattle.std.specs.Prelude.{◌≡◌, ◌||◌, ◌==◌};
 ghost use Rattle.std.specs.Option.{option_map};
 ghost use Rattle.handlebars_base.specs.Bytes.{is_white};
-ghost use Rattle.handlebars_lines.specs.Literal.{starts};
+ghost use Rattle.handlebars_base.specs.Texts.{starts};
 ghost use Rattle.handlebars_tags.specs.Kind.{starts_other, ends_else, is_else, block_at, signed_at, unsigned_at, tilde_at, tilded_at, raw_at, braced_at, beginning_of};
 ghost use Rattle.handlebars_tags.specs.KindView.{beginning_view};
 

@@ -2,7 +2,7 @@
 
 ghost use Rattle.std.specs.Prelude.{◌≡◌, ◌==◌, ◌<◌, ◌≤◌, drop, length};
 ghost use Rattle.std.specs.List.{prefix_len, position};
-ghost use Rattle.handlebars_lines.specs.Literal.{starts};
+ghost use Rattle.handlebars_base.specs.Texts.{starts};
 ghost use Rattle.handlebars_tags.specs.Tag.{is_close_symbol, enclosed_at, close_name_at};
 ghost use Rattle.handlebars_lines.specs.LineView.{texts_of};
 

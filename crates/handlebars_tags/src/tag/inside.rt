@@ -1,10 +1,8 @@
 //! What stands inside tags, with what closes it.
 
 ghost use Rattle.std.specs.Prelude.{◌≡◌, true, IfOk, IfSome, MatchOption, Some, None, codes, drop};
-ghost use Rattle.std.specs.List.{list_all};
 ghost use Rattle.std.specs.Option.{option_map};
 ghost use Rattle.handlebars_base.specs.Bytes.{Text};
-ghost use Rattle.handlebars_base.specs.Path.{is_symbol};
 ghost use Rattle.handlebars_lines.specs.Line.{Line, in_block, IsLine};
 ghost use Rattle.handlebars_tags.specs.Comment.{HasNoLong};
 ghost use Rattle.handlebars_tags.specs.Kind.{past, closing_of, comment_kind, else_kind, block_kind, raw_kind, raw_close_kind, close_kind};
@@ -16,8 +14,7 @@ use super::beginning::{Beginning, Kind};
 use super::close_name::close_name_at;
 use super::closing::closing_of;
 use crate::comment::split_comment;
-use crate::front::starts_white;
-use handlebars_base::json::path::marks::{behind_white, is_symbol, symbols};
+use handlebars_base::json::path::marks::{all_symbols, behind_white, starts_white, symbols};
 use handlebars_base::json::path::split_path;
 use handlebars_lines::binding::{Binding, split_binding};
 use handlebars_lines::line::{Enclosure, split_line};
@@ -259,10 +256,4 @@ fn identifier(text: &str) -> Option<&str>
     } else {
         None
     }
-}
-
-fn all_symbols(text: &str) -> bool
-    ensures { result ≡ list_all is_symbol text.now }
-{
-    text.as_bytes().iter().all(|byte| is_symbol(*byte))
 }

@@ -1,10 +1,11 @@
 //! Symbols, white and single marks at the front of a text.
 
 ghost use Rattle.std.specs.Prelude.{◌≡◌, ◌<◌};
-ghost use Rattle.std.specs.List.{prefix_len};
+ghost use Rattle.std.specs.List.{list_all, prefix_len};
 ghost use Rattle.std.specs.Option.{option_map};
 ghost use Rattle.handlebars_base.specs.Bytes.{is_white, behind_white};
 ghost use Rattle.handlebars_base.specs.Path.{is_symbol};
+ghost use Rattle.handlebars_base.specs.Texts.{starts};
 ghost use Rattle.handlebars_base.specs.PathReading.{after, symbols_of, behind_symbols, after_up, ups_at};
 
 /// Whether a byte belongs to a symbol.
@@ -17,6 +18,12 @@ pub fn is_symbol(byte: u8) -> bool
         || byte == b'-'
         || byte == b'$'
         || byte == b':'
+}
+
+pub fn all_symbols(text: &str) -> bool
+    ensures { result ≡ list_all is_symbol text.now }
+{
+    text.as_bytes().iter().all(|byte| is_symbol(*byte))
 }
 
 fn symbols_len(bytes: &[u8]) -> usize
@@ -41,6 +48,15 @@ pub fn is_white(byte: u8) -> bool
     ensures { result ≡ is_white byte }
 {
     byte == b' ' || byte == b'\t' || byte == b'\n' || byte == b'\r'
+}
+
+pub fn starts_white(text: &str) -> bool
+    ensures { result ≡ starts is_white text.now }
+{
+    match text.as_bytes() {
+        [first, ..] => is_white(*first),
+        [] => false,
+    }
 }
 
 pub fn behind_white(text: &str) -> &str

@@ -1,4 +1,4 @@
-use Rattle.handlebars_tags.proofs.Comments.{IsCharBoundary-end}
+use Rattle.handlebars_base.proofs.Ends.{IsCharBoundary-end}
 use Rattle.handlebars_tags.proofs.comment.before.Goals as goal
 
 pub split_at-requires : goal.split_at-requires

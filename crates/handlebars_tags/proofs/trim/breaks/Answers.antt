@@ -1,5 +1,5 @@
 use Rattle.std.proofs.Common.{◌∙◌, sym, ap}
-use Rattle.handlebars_lines.specs.Literal.{starts}
+use Rattle.handlebars_base.specs.Texts.{starts}
 use Rattle.handlebars_tags.specs.Trim.{is_break}
 use Rattle.handlebars_tags.proofs.Trims.{breaks-behind}
 use Rattle.handlebars_tags.proofs.trim.breaks.Goals as goal

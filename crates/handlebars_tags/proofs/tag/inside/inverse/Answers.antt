@@ -1,6 +1,6 @@
 use Rattle.std.proofs.Common.{◌≡◌, refl, sym, ◌∙◌, true}
 use Rattle.handlebars_base.specs.Bytes.{behind_white, is_white}
-use Rattle.handlebars_lines.specs.Literal.{starts}
+use Rattle.handlebars_base.specs.Texts.{starts}
 use Rattle.handlebars_tags.specs.Kind.{else_kind}
 use Rattle.handlebars_tags.specs.Tag.{inverse_tag, chain_tag, an_else}
 use Rattle.handlebars_tags.specs.declared.tag.inside.Content.TheVariants.{Chain, Inverse}

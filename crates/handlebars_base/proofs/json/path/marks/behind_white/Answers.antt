@@ -1,7 +1,7 @@
 use Rattle.std.proofs.Common.{arith, sym, ◌∙◌}
 use Rattle.std.proofs.lemmas.Str.{IsCharBoundary-after_ascii}
-use Rattle.handlebars_base.proofs.PathMarks.{is_white-ascii}
 use Rattle.handlebars_base.proofs.json.path.marks.behind_white.Goals as goal
+use Rattle.handlebars_base.proofs.Bytes.{is_white-ascii}
 
 pub split_at-requires : goal.split_at-requires
 split_at-requires c =
