@@ -3,24 +3,19 @@ use Rattle.std.proofs.Common.{◌≡◌, ◌<◌, List, [], ◌∷◌, ◌++◌,
 use Rattle.std.proofs.lemmas.Bool.{false≢true}
 use Rattle.std.proofs.lemmas.List.{append-nil}
 use Rattle.handlebars_base.specs.Bytes.{Text}
+use Rattle.handlebars_template.proofs.Scan.{pieces_in-append}
 use Rattle.handlebars_tags.specs.Text.{braces}
 use Rattle.handlebars_tags.specs.Trim.{Edge, no_edge, braces_behind}
 use Rattle.handlebars_tags.proofs.Runs.{braces-none}
 use Rattle.handlebars_template.specs.Place.{Place, place}
 use Rattle.handlebars_template.specs.Nest.{Piece, Fault, Placed, syntax_alone, names_and_literals, Nests, Refuses, LeavesOpen, left_open as still_open}
-use Rattle.handlebars_template.specs.Cut.{Slice, text_slice, tag_slice, Reads, IsCut}
-use Rattle.handlebars_template.specs.Compile.{Options, tag_piece, text_pieces, pieces_in, tree_of, unreadable, refusal_for, IsUnreadable, Compilation, compiled, refused, Compiles, whole, no_tag, misplaced, left_open, late, OneCompilation}
+use Rattle.handlebars_template.specs.Cut.{Slice, text_slice, Reads, IsCut}
+use Rattle.handlebars_template.specs.Compile.{Options, pieces_in, tree_of, unreadable, refusal_for, IsUnreadable, Compilation, compiled, refused, Compiles, whole, no_tag, misplaced, left_open, late, OneCompilation}
 use Rattle.handlebars_template.proofs.NestsSteps.{Refuses-append}
 use Rattle.handlebars_template.proofs.NestsOne.{Opens-Refuses, Nests-one, Refuses-one, LeavesOpen-one, Nests-Refuses, Nests-LeavesOpen, Nests-loose}
 use Rattle.handlebars_template.proofs.Cuts.{count, one_beginning, back, Ends, no_longer, by_order, both_end, same_end, cut_ends, one_cut}
 
 -- ---- the pieces of slices
-
-pieces_in-append : (ps qs : List Slice) → pieces_in (ps ++ qs) ≡ pieces_in ps ++ pieces_in qs
-pieces_in-append [] qs = refl
-pieces_in-append (text_slice p e slice kept n ∷ ps) qs =
-    ap (λ (z : List Piece). text_pieces p e slice kept n ++ z) (pieces_in-append ps qs) ∙ sym (append_assoc (text_pieces p e slice kept n) (pieces_in ps) (pieces_in qs))
-pieces_in-append (tag_slice p slice t e ∷ ps) qs = ap (λ (z : List Piece). tag_piece p e t ∷ z) (pieces_in-append ps qs)
 
 refuses_more : (f : Fault) (ps more : List Slice) → Refuses syntax_alone (pieces_in ps) f → Refuses syntax_alone (pieces_in (ps ++ more)) f
 refuses_more f ps more h = subst (λ (z : List Piece). Refuses syntax_alone z f) (sym (pieces_in-append ps more)) (Refuses-append (pieces_in more) h)

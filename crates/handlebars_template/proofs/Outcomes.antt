@@ -7,6 +7,7 @@ use Rattle.std.proofs.lemmas.Slice.Eq.{bytes_eq-Decides}
 use Rattle.handlebars_base.specs.Bytes.{Text}
 use Rattle.handlebars_base.specs.PathReading.{◌>>=◌}
 use Rattle.handlebars_base.proofs.OptionBinds.{bind_some}
+use Rattle.handlebars_base.proofs.Ends.{regroup_four}
 use Rattle.handlebars_tags.specs.Text.{two_braces, braces, IsText}
 use Rattle.handlebars_tags.specs.Tag.{NoTag}
 use Rattle.handlebars_tags.specs.Trim.{Edge, no_edge, edge_of, braces_behind}
@@ -87,9 +88,6 @@ pub record IsAt (source : Text) (s : Spot) : Type 0 where
   pub begins : Reads source s.before s.edge s.slices
   pub whole : source ≡ s.before ++ s.left
 
-regroup : (a b c d : Text) → a ++ (b ++ (c ++ d)) ≡ (a ++ (b ++ c)) ++ d
-regroup a b c d = sym (simp append_assoc)
-
 next_at-is : (source : Text) (s : Spot) (x : Next) → next_at s.edge s.left ≡ Some x → IsAt source s → IsAt source (spot_behind s x)
 next_at-is source s x e h =
     let words = bind_some (text_at (braces_behind s.edge) s.left) _ x e in
@@ -117,7 +115,7 @@ next_at-is source s x e h =
     } in
     subst (λ (z : Next). IsAt source (spot_behind s z)) fair.1 (record {
       begins = goes_on h.begins next;
-      whole = all ∙ regroup s.before words.0.0 slice f.rest;
+      whole = all ∙ regroup_four s.before words.0.0 slice f.rest;
     })
 
 spot_at-is : (n : ℕ) (source : Text) (s r : Spot) → spot_at n s ≡ Some r → IsAt source s → IsAt source r

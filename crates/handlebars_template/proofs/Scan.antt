@@ -1,14 +1,15 @@
 -- What was read of a source so far, and what the next tag does.
-use Rattle.std.proofs.Common.{◌≡◌, ℕ, Option, Some, None, Bool, true, false, ◌+◌, ◌-◌, ◌<◌, ◌≤◌, List, [], ◌∷◌, ◌++◌, length, take, refl, sym, ap, ◌∙◌, subst, append_assoc, arith, length-append, inl, inr}
+use Rattle.std.proofs.Common.{◌≡◌, ℕ, Option, Some, None, Bool, true, false, ◌+◌, ◌-◌, ◌<◌, ◌≤◌, List, [], ◌∷◌, ◌++◌, length, refl, sym, ap, ◌∙◌, subst, append_assoc, arith, length-append, inl, inr}
 use Rattle.std.specs.Prelude.{◌==◌, fold, nat_lt, if◌then◌else◌, codes}
 use Rattle.std.specs.Option.{option_or}
 use Rattle.std.specs.Str.{IsUtf8, IsCharBoundary, chars}
 use Rattle.std.proofs.lemmas.Bool.{cases_Bool, false≢true}
-use Rattle.std.proofs.lemmas.List.{append-nil, nil_from_length, take_at}
+use Rattle.std.proofs.lemmas.List.{append-nil, nil_from_length}
 use Rattle.std.proofs.lemmas.List.Sums.{fold-append}
 use Rattle.std.proofs.lemmas.Str.{chars-append, chars-nil, IsUtf8-append, IsUtf8-nil, IsUtf8-take, IsCharBoundary-at_seam, length-le-encodes, encodes-chars}
 use borrow.Author.Tests.{ltb-true}
 use Rattle.handlebars_base.specs.Bytes.{Text}
+use Rattle.handlebars_base.proofs.Ends.{length-front, take-front}
 use Rattle.handlebars_tags.specs.Comment.{behind_mark, HasNoLong}
 use Rattle.handlebars_tags.proofs.Marks.{behind_mark-end}
 use Rattle.handlebars_tags.specs.Text.{Braces, IsText, at_end, at_tag, a_byte, two_escaped, four_escaped, braces}
@@ -28,7 +29,7 @@ use Rattle.handlebars_template.proofs.NestsStates.{State, State-start, State-mov
 pub behind-append : (p : Place) (x y : Text) → IsUtf8 x → behind p (x ++ y) ≡ behind (behind p x) y
 behind-append p x y h = ap (fold behind_char p) (chars-append x y h) ∙ fold-append behind_char p (chars x) (chars y)
 
-pieces_in-append : (ps qs : List Slice) → pieces_in (ps ++ qs) ≡ pieces_in ps ++ pieces_in qs
+pub pieces_in-append : (ps qs : List Slice) → pieces_in (ps ++ qs) ≡ pieces_in ps ++ pieces_in qs
 pieces_in-append [] qs = refl
 pieces_in-append (text_slice p e x k n ∷ ps) qs = ap (λ (z : List Piece). text_pieces p e x k n ++ z) (pieces_in-append ps qs) ∙ sym (append_assoc (text_pieces p e x k n) (pieces_in ps) (pieces_in qs))
 pieces_in-append (tag_slice p x t e ∷ ps) qs = ap (λ (z : List Piece). tag_piece p e t ∷ z) (pieces_in-append ps qs)
@@ -342,17 +343,11 @@ Scans-fits_behind {source} {slice} {kept} {left} {at} h u q is k le =
 
 -- ---- the tag's slice, as it is split off
 
-length-seam : (left s rest : Text) → left ≡ s ++ rest → length left - length rest ≡ length s
-length-seam left s rest e = omega (arith, ap length e, length-append s rest)
-
-pub take-seam : (left s rest : Text) → left ≡ s ++ rest → take (length left - length rest) left ≡ s
-take-seam left s rest e = rw (length-seam left s rest e, e) (take_at s rest (length s) refl)
-
 pub IsCharBoundary-seam : (left s rest : Text) → left ≡ s ++ rest → IsUtf8 rest → IsCharBoundary left (length left - length rest)
-IsCharBoundary-seam left s rest e u = rw (length-seam left s rest e) (IsCharBoundary-at_seam left s rest e u)
+IsCharBoundary-seam left s rest e u = rw (length-front left s rest e) (IsCharBoundary-at_seam left s rest e u)
 
 pub IsUtf8-front : (left s rest : Text) → left ≡ s ++ rest → IsUtf8 left → IsUtf8 rest → IsUtf8 s
-IsUtf8-front left s rest e u v = subst IsUtf8 (take-seam left s rest e) (IsUtf8-take left (length left - length rest) u (IsCharBoundary-seam left s rest e v))
+IsUtf8-front left s rest e u v = subst IsUtf8 (take-front left s rest e) (IsUtf8-take left (length left - length rest) u (IsCharBoundary-seam left s rest e v))
 
 pub length-rest : (left spelled rest x y : Text) (t : Tag) (tildes : Tildes) → left ≡ spelled ++ rest → IsTag spelled rest t tildes → rest ≡ x ++ y → length y < length left
 length-rest left spelled rest x y t tildes is fits cut =

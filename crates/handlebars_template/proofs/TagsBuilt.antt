@@ -1,6 +1,6 @@
 -- What is built of tags, and what it stands for.
-use Rattle.std.proofs.Common.{◌≡◌, ℕ, Bool, false, refl, sym, ap, subst, ◌∙◌, rules, Result, Ok, Err, Option, option_map}
-use Rattle.std.specs.Prelude.{OnOk, String}
+use Rattle.std.proofs.Common.{◌≡◌, ℕ, Bool, false, refl, sym, ap, subst, ◌∙◌, rules, Option, option_map}
+use Rattle.std.specs.Prelude.{String}
 use Rattle.std.specs.declared.alloc.Global.{Global}
 use Rattle.handlebars_base.specs.Bytes.{Text}
 use Rattle.handlebars_lines.specs.Line.{Line, in_tag, IsLine}
@@ -22,10 +22,6 @@ use Rattle.handlebars_template.specs.declared.template.tags.BuiltOpening.{BuiltO
 use Rattle.handlebars_template.specs.declared.template.tree.BlockParam.{the_lemmas}
 use Rattle.handlebars_template.specs.declared.template.tree.BlockParam.TheViews.{Pair}
 use Rattle.handlebars_template.specs.declared.template.tree.BlockParam.TheBlock.{Name}
-
-pub OnOk-map : {A E P Q : Type 0} → (r : Result A E) → (P → Q) → OnOk r P → OnOk r Q
-OnOk-map (Ok x) f h = f h
-OnOk-map (Err e) f h = tt
 
 pub binding_view-Pair : (x y : String Global) → binding_view (Pair (Name x, Name y)) ≡ both (name (text x)) (name (text y))
 binding_view-Pair x y = search (rules, the_lemmas)

@@ -2,6 +2,7 @@ use Rattle.std.proofs.Common.{◌≡◌, ◌≤◌, arith, rules, sym, ap, ◌�
 use Rattle.std.specs.List.{fold}
 use Rattle.std.specs.Str.{IsUtf8}
 use Rattle.handlebars_base.proofs.OptionBinds.{empty, nonempty}
+use Rattle.handlebars_base.proofs.Ends.{take-front}
 use Rattle.handlebars_tags.specs.Trim.{is_fresh_behind}
 use Rattle.handlebars_tags.specs.TrimView.{edge_view}
 use Rattle.handlebars_tags.proofs.OneTag.{one_tag}
@@ -9,7 +10,7 @@ use Rattle.handlebars_template.specs.Place.{behind}
 use Rattle.handlebars_template.specs.TreeView.{place_of}
 use Rattle.handlebars_template.specs.Machine.{complete, unclosed, refused}
 use Rattle.handlebars_template.specs.NestView.{placed_view, frames, late_of, late_fault, syntax_fault}
-use Rattle.handlebars_template.proofs.Scan.{HasNoLong-behind, Scans-at, Scans-fits, Scans-fits_behind, Scans-step, Scans-end, Compiles-unreadable, Compiles-misplaced, NoTagBehind-none, NoTagBehind-other, IsCharBoundary-seam, take-seam, IsUtf8-front, length-rest}
+use Rattle.handlebars_template.proofs.Scan.{HasNoLong-behind, Scans-at, Scans-fits, Scans-fits_behind, Scans-step, Scans-end, Compiles-unreadable, Compiles-misplaced, NoTagBehind-none, NoTagBehind-other, IsCharBoundary-seam, IsUtf8-front, length-rest}
 use Rattle.handlebars_template.proofs.template.scan.scan.Goals as goal
 
 pub tags-init : goal.tags-init
@@ -92,7 +93,7 @@ tags-preserved c =
     let last = c.take_tag.new.nesting in
     let rest_utf8 : IsUtf8 rest = search rules in
     let done = c.in_ok-take_tag.ensures f.tag f.holds (rw c.in_default-look.is at (c.look.ensures at next f.tag f.holds f.deep)) in
-    let same : c.split_at.result.0.now ≡ f.slice = c.split_at.ensures.front ∙ take-seam left f.slice rest f.whole in
+    let same : c.split_at.result.0.now ≡ f.slice = c.split_at.ensures.front ∙ take-front left f.slice rest f.whole in
     record {
       slice_utf8 = search rules;
       rest_utf8 = search rules;
