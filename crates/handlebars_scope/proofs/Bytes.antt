@@ -1,7 +1,7 @@
 -- What escaping does to a byte, and to a join.
-use Rattle.std.proofs.Common.{◌≡◌, ◌≢◌, ℕ, ◌<◌, ◌≤◌, ◌==◌, false, ⊎_elim, [], ◌∷◌, ◌++◌, refl, sym, ap, ◌∙◌, subst, arith, append_assoc, None, Some, unwrap_or}
-use Rattle.std.proofs.lemmas.Bool.Decides.{nat_tests, eqb_tells}
-use Rattle.std.proofs.lemmas.Bool.{cases_lt}
+use Rattle.std.proofs.Common.{◌≡◌, ◌≢◌, ℕ, ◌<◌, ◌≤◌, ◌==◌, ⊎_elim, [], ◌∷◌, ◌++◌, refl, sym, ap, ◌∙◌, subst, arith, append_assoc, None, Some, unwrap_or}
+use Rattle.std.proofs.lemmas.Bool.Decides.{eqb_tells}
+use Rattle.std.proofs.lemmas.Bool.{cases_lt, ne_eqb}
 use Rattle.handlebars_scope.specs.Escape.{entity_of, escaped_byte, escaped}
 use Rattle.handlebars_base.specs.Bytes.{Text}
 
@@ -31,19 +31,16 @@ by_bytes P less greater quote ampersand apostrophe back equals others b =
     decide (P b) b 61 (at 61 equals) (λ h7.
     others b (record { less = h1; greater = h2; quote = h3; ampersand = h4; apostrophe = h5; back = h6; equals = h7 }))))))))
 
-eqb-other : (b k : ℕ) → b ≢ k → (b == k) ≡ false
-eqb-other b k h = grind (arith, nat_tests)
-
 -- another byte stands for itself
 pub entity_of-other : (b : ℕ) → IsOther b → entity_of b ≡ None
 entity_of-other b o = rw (
-  eqb-other b 60 o.less,
-  eqb-other b 62 o.greater,
-  eqb-other b 34 o.quote,
-  eqb-other b 38 o.ampersand,
-  eqb-other b 39 o.apostrophe,
-  eqb-other b 96 o.back,
-  eqb-other b 61 o.equals,
+  ne_eqb b 60 o.less,
+  ne_eqb b 62 o.greater,
+  ne_eqb b 34 o.quote,
+  ne_eqb b 38 o.ampersand,
+  ne_eqb b 39 o.apostrophe,
+  ne_eqb b 96 o.back,
+  ne_eqb b 61 o.equals,
 )
 
 pub escaped_byte-other : (b : ℕ) → IsOther b → escaped_byte b ≡ b ∷ []

@@ -1,16 +1,12 @@
 -- What `parse` gives is the index that a name spells.
 use Rattle.std.proofs.Common.{◌≡◌, ℕ, Some, None, Result, Ok, Err, Bool, true, false, ◌&&◌, cond, Decides, refl, ap}
 use Rattle.std.specs.Result.{OkIff, result_ok}
-use Rattle.std.specs.Str.{all_ascii_digits}
-use Rattle.std.specs.Str.Parse.{ParsesUnsigned, digits_value, without_leading_plus}
+use Rattle.std.specs.Str.Parse.{ParsesUnsigned, without_leading_plus}
 use Rattle.std.proofs.lemmas.Bool.{false≢true}
 use Rattle.std.proofs.lemmas.Bool.Decides.{Decides-ltb}
-use Rattle.std.proofs.lemmas.Str.Parse.{numerals_by_value, tells_all_ascii_digits, IsNumeralModel}
 use Rattle.handlebars_scope.specs.Resolve.{index_of}
 use Rattle.handlebars_base.specs.Bytes.{Text}
-
-digits : IsNumeralModel (λ ds. all_ascii_digits ds ≡ true) (digits_value 10)
-digits = numerals_by_value _ tells_all_ascii_digits
+use Rattle.handlebars_base.proofs.Digits.{digits}
 
 -- what succeeds where three tests hold is the option that the tests choose
 by_tests : {E : Type 0} (a b c : Bool) (v : ℕ) (P Q R : Type 0) (r : Result ℕ E) → OkIff r ((Q × P) × R) v

@@ -9,6 +9,7 @@ use Rattle.std.specs.Cmp.Lexicographic.{slice_cmp}
 use Rattle.std.specs.List.{AllZip}
 use Rattle.std.specs.Map.{lookup}
 use Rattle.handlebars_base.specs.Bytes.{Text}
+use Rattle.handlebars_base.proofs.OptionBinds.{option_map-cond}
 use Rattle.serde_json.specs.View.{view}
 use Rattle.serde_json.specs.declared.value.Value.{Value}
 use Rattle.handlebars_scope.specs.Scopes.{put_at}
@@ -36,11 +37,6 @@ get_by_text-empty f m is name =
     ap (λ es. option_map f (lookup (is_at (λ k. slice_cmp nat_cmp name (string_bytes k))) es)) is
 
 -- ---- a value put under a name
-
-option_map-cond : {X Y : Type 0} (f : X → Y) (b : Bool) (x : X) (r : Option X)
-    → option_map f (cond b (Some x) r) ≡ cond b (Some (f x)) (option_map f r)
-option_map-cond f true x r = refl
-option_map-cond f false x r = refl
 
 -- a map in which a value was put, as definitions see it
 pub get_by_text-put : {X Y : Type 0} (f : X → Y) (m n : BTreeMap (String Global) X) (key : String Global) (name : Text)
