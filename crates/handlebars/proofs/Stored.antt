@@ -1,5 +1,5 @@
 -- What stands under a name behind a registration, or where one was taken away.
-use Rattle.std.proofs.Common.{◌≡◌, Bool, true, false, cond, Option, Some, None, option_map, refl, ap, ◌∙◌, String, Global}
+use Rattle.std.proofs.Common.{◌≡◌, cond, Some, None, option_map, ap, ◌∙◌, String, Global}
 use Rattle.std.specs.BTreeMap.{BTreeMap, UpdatesBy, get_by_text}
 use Rattle.std.specs.Cmp.Lexicographic.{slice_cmp}
 use Rattle.std.specs.Ordering.{nat_cmp}
@@ -8,16 +8,7 @@ use Rattle.std.specs.Str.{bytes_eq}
 use Rattle.std.specs.String.{string_cmp}
 use Rattle.std.proofs.lemmas.Map.Text.{btree_map_updates_text}
 use Rattle.handlebars_base.specs.Bytes.{Text}
-
-option_map-cond : {A B : Type 0} (f : A → B) (b : Bool) (x : A) (o : Option A)
-    → option_map f (cond b (Some x) o) ≡ cond b (Some (f x)) (option_map f o)
-option_map-cond f true x o = refl
-option_map-cond f false x o = refl
-
-option_map-cond_none : {A B : Type 0} (f : A → B) (b : Bool) (o : Option A)
-    → option_map f (cond b None o) ≡ cond b None (option_map f o)
-option_map-cond_none f true o = refl
-option_map-cond_none f false o = refl
+use Rattle.handlebars_base.proofs.OptionBinds.{option_map-cond, option_map-cond_none}
 
 pub get_by_text-removed : {A B : Type 0} (f : A → B) (m n : BTreeMap (String Global) A) (name : Text)
     → UpdatesBy string_cmp (λ k. slice_cmp nat_cmp name (string_bytes k)) m n None

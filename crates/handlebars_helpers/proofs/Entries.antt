@@ -8,10 +8,10 @@ use Rattle.std.specs.BTreeMap.{BTreeMap, UpdatesBy, get_by_text}
 use Rattle.std.specs.Map.{keys_of, update, update_all}
 use Rattle.std.specs.String.{string_cmp}
 use Rattle.handlebars_base.specs.Bytes.{Text}
+use Rattle.handlebars_base.proofs.OptionBinds.{option_map-cond}
 use Rattle.handlebars_helpers.specs.Choice.{Kind, built_ins, built_in}
 use Rattle.handlebars_helpers.specs.View.{kind_at, kind_of_entry}
 use Rattle.handlebars_helpers.specs.declared.built_in.HelperEntry.{HelperEntry}
-use Rattle.handlebars_helpers.proofs.Pairs.{option_map-cond}
 
 pub kind_at-insert : (m n : BTreeMap (String Global) HelperEntry) (key : String Global) (entry : HelperEntry) (name : Text)
     → UpdatesBy string_cmp (string_cmp key) m n (Some entry) → string_bytes key ≡ name

@@ -1,20 +1,16 @@
 -- Pairs by key, as a map at `&str` keys and as plain data.
-use Rattle.std.proofs.Common.{◌≡◌, Bool, true, false, cond, List, [], ◌∷◌, map, Option, Some, None, option_map, Bor, bytes_eq, nat_cmp, refl, ap, ◌∙◌}
+use Rattle.std.proofs.Common.{◌≡◌, cond, List, [], ◌∷◌, map, Option, Some, None, option_map, Bor, bytes_eq, nat_cmp, refl, ap, ◌∙◌}
 use Rattle.std.proofs.lemmas.Map.Text.{is_eq-slice_cmp}
 use Rattle.std.specs.BTreeMap.{is_at}
 use Rattle.std.specs.Cmp.Lexicographic.{slice_cmp}
 use Rattle.std.specs.Map.{lookup}
 use Rattle.std.specs.Option.{option_copied}
 use Rattle.handlebars_base.specs.Bytes.{Text}
+use Rattle.handlebars_base.proofs.OptionBinds.{option_map-cond}
 
 pub option_map-now : {A B : Type 0} (f : A → B) (r : Option (Bor A)) → option_map (λ x. f x.now) r ≡ option_map f (option_copied r)
 option_map-now f None = refl
 option_map-now f (Some x) = refl
-
-pub option_map-cond : {A B : Type 0} (f : A → B) (b : Bool) (x : A) (o : Option A)
-    → option_map f (cond b (Some x) o) ≡ cond b (Some (f x)) (option_map f o)
-option_map-cond f true x o = refl
-option_map-cond f false x o = refl
 
 pub option_map-lookup : {A B : Type 0} (f : A → B) (key : Text) (es : List (Bor Text × A))
     → option_map f (lookup (is_at (λ k. slice_cmp nat_cmp key k.now)) es) ≡ lookup (bytes_eq key) (map (λ e. (e.0.now, f e.1)) es)

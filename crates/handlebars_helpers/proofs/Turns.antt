@@ -1,5 +1,5 @@
 -- The turns of a value that has members, and the block of a turn.
-use Rattle.std.proofs.Common.{◌≡◌, ◌==◌, true, false, length, List, [], ◌∷◌, Option, Result, Ok, Err, OnOk, String, Global, refl, ap, sym, ◌∙◌, true≢false}
+use Rattle.std.proofs.Common.{◌≡◌, ◌==◌, true, false, length, List, [], ◌∷◌, Option, String, Global, refl, ap, sym, ◌∙◌, true≢false}
 use Rattle.serde_json.specs.Data.{Data}
 use Rattle.serde_json.specs.View.{items_view, members_view}
 use Rattle.serde_json.specs.declared.value.Value.{Value}
@@ -44,7 +44,3 @@ turned-is path binding t f g h k bound at_base is_bound with_bound with_variable
     λ v. record (based base f) { bound = names; variable = turn_variables t v } in
     with_variables ∙ ap own with_bound ∙ ap (over g) is_bound ∙ ap (λ x. over x names) at_base
     ∙ ap last (variable-based base f)
-
-pub OnOk-map : {A E P Q : Type 0} → (r : Result A E) → (P → Q) → OnOk r P → OnOk r Q
-OnOk-map (Ok x) f h = f h
-OnOk-map (Err e) f h = h
