@@ -8,7 +8,7 @@ ghost use Rattle.handlebars_base.specs.PathAndData.{path_and_data};
 ghost use Rattle.handlebars_base.specs.Reasons.{missing_variable};
 ghost use Rattle.handlebars_base.specs.RenderRefusals.{plain_refusal, refusal_of};
 ghost use Rattle.handlebars_helpers.specs.Choice.{body_if, chosen, condition, each_choice, includes_zero, inverse_or_refusal, looked_up, lookup_choice, of_two, turns_or_inverse, with_choice, word_or_branch};
-ghost use Rattle.handlebars_helpers.specs.Choice.{kind_each, kind_if, kind_len, kind_log, kind_lookup, kind_not, kind_unless, kind_with};
+ghost use Rattle.handlebars_helpers.specs.Choice.{kind_and, kind_each, kind_if, kind_len, kind_log, kind_lookup, kind_not, kind_or, kind_unless, kind_with};
 ghost use Rattle.handlebars_helpers.specs.Turns.{turns_of};
 ghost use Rattle.handlebars_helpers.specs.View.{choice_of, helper_view, kind_of, path_view, test_of};
 
@@ -72,8 +72,8 @@ pub fn choose<'h>(
         BuiltIn::Gte => choose_by_test(strict, helper, "gte", Test::GreaterOrEqual),
         BuiltIn::Lt => choose_by_test(strict, helper, "lt", Test::Less),
         BuiltIn::Lte => choose_by_test(strict, helper, "lte", Test::LessOrEqual),
-        BuiltIn::And => Ok(word_or_branch(helper, all_true(helper.params()))),
-        BuiltIn::Or => Ok(word_or_branch(helper, some_true(helper.params()))),
+        BuiltIn::And => choose_and(helper),
+        BuiltIn::Or => choose_or(helper),
         BuiltIn::Not => choose_not(strict, helper),
         BuiltIn::Len => choose_len(alloc, strict, helper),
     }
@@ -81,13 +81,13 @@ pub fn choose<'h>(
 
 // ---- what each kind chooses, a function each
 
-fn choose_if(helper: &Helper) -> Result<Choice<'static>, RenderError>
+fn choose_if<'h>(helper: &Helper) -> Result<Choice<'h>, RenderError>
     ensures { Answers choice_of result (chosen false kind_if (helper_view helper.now)) }
 {
     Ok(body_if(condition(helper)?))
 }
 
-fn choose_unless(helper: &Helper) -> Result<Choice<'static>, RenderError>
+fn choose_unless<'h>(helper: &Helper) -> Result<Choice<'h>, RenderError>
     ensures { Answers choice_of result (chosen false kind_unless (helper_view helper.now)) }
 {
     Ok(body_if(!condition(helper)?))
@@ -121,32 +121,44 @@ fn choose_lookup<'h>(strict: bool, helper: &'h Helper) -> Result<Choice<'h>, Ren
     lookup_choice(strict, value.value(), key.value())
 }
 
-fn choose_line(alloc: Global, helper: &Helper) -> Result<Choice<'static>, RenderError>
+fn choose_line<'h>(alloc: Global, helper: &Helper) -> Result<Choice<'h>, RenderError>
     ensures { Answers choice_of result (chosen false kind_log (helper_view helper.now)) }
 {
     let (level, text) = log_record(alloc, helper)?;
     Ok(Choice::Line(level, text))
 }
 
-fn choose_by_test(
+fn choose_by_test<'h>(
     strict: bool,
     helper: &Helper,
     name: &'static str,
     test: Test,
-) -> Result<Choice<'static>, RenderError>
+) -> Result<Choice<'h>, RenderError>
     ensures { Answers choice_of result (of_two strict name.now (helper_view helper.now) (test_of test)) }
 {
     let (left, right) = two_values(strict, helper, name)?;
     Ok(word_or_branch(helper, test.holds(left, right)))
 }
 
-fn choose_not(strict: bool, helper: &Helper) -> Result<Choice<'static>, RenderError>
+fn choose_and<'h>(helper: &Helper) -> Result<Choice<'h>, RenderError>
+    ensures { Answers choice_of result (chosen false kind_and (helper_view helper.now)) }
+{
+    Ok(word_or_branch(helper, all_true(helper.params())))
+}
+
+fn choose_or<'h>(helper: &Helper) -> Result<Choice<'h>, RenderError>
+    ensures { Answers choice_of result (chosen false kind_or (helper_view helper.now)) }
+{
+    Ok(word_or_branch(helper, some_true(helper.params())))
+}
+
+fn choose_not<'h>(strict: bool, helper: &Helper) -> Result<Choice<'h>, RenderError>
     ensures { Answers choice_of result (chosen strict kind_not (helper_view helper.now)) }
 {
     Ok(word_or_branch(helper, negation(strict, helper)?))
 }
 
-fn choose_len(alloc: Global, strict: bool, helper: &Helper) -> Result<Choice<'static>, RenderError>
+fn choose_len<'h>(alloc: Global, strict: bool, helper: &Helper) -> Result<Choice<'h>, RenderError>
     ensures { Answers choice_of result (chosen strict kind_len (helper_view helper.now)) }
 {
     Ok(Choice::Count(len(alloc, strict, helper)?))
@@ -177,12 +189,12 @@ fn each_choice<'h>(
 }
 
 // The inverse, which strict mode asks for.
-fn inverse_or_refusal(
+fn inverse_or_refusal<'h>(
     alloc: Global,
     strict: bool,
     helper: &Helper,
     param: &PathAndJson,
-) -> Result<Choice<'static>, RenderError>
+) -> Result<Choice<'h>, RenderError>
     ensures { Answers choice_of result
         (inverse_or_refusal strict (helper_view helper.now) (path_and_data param.now)) }
 {
