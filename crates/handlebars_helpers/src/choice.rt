@@ -80,6 +80,8 @@ pub fn choose<'h>(
 }
 
 // ---- what each kind chooses, a function each
+//
+// Where strict mode changes nothing, the clause says `chosen false`, which is `chosen true` as well.
 
 fn choose_if<'h>(helper: &Helper) -> Result<Choice<'h>, RenderError>
     ensures { Answers choice_of result (chosen false kind_if (helper_view helper.now)) }
