@@ -1,21 +1,25 @@
 -- What the code's values stand for.
-use Rattle.std.specs.Prelude.{List, map, Option, option_map, unwrap_or, String, string_bytes, Vec}
+use Rattle.std.specs.Prelude.{Bool, List, map, Option, option_map, unwrap_or, String, string_bytes, Vec}
 use denote.Ref.{Bor}
 use Rattle.std.specs.declared.alloc.Global.{Global}
 use Rattle.std.specs.BTreeMap.{BTreeMap, get_by_text}
 use Rattle.std.specs.Cow.{cow_str_bytes}
-use Rattle.serde_json.specs.Data.{null, number, unsigned, array, object}
+use Rattle.serde_json.specs.Data.{Data, null, number, unsigned, array, object}
 use Rattle.serde_json.specs.View.{view, items_view, members_view}
 use Rattle.log.specs.declared.level.Level.{Level}
 use Rattle.handlebars_base.specs.Bytes.{Text}
+use Rattle.handlebars_base.specs.Equal.{equals}
 use Rattle.handlebars_base.specs.PathAndData.{path_and_data}
 use Rattle.handlebars_template.specs.TreeView.{tree_view, binding_view, body_of, binding_of}
+use Rattle.handlebars_helpers.specs.Boolean.{differ, greater, greater_or_equal, less, less_or_equal}
 use Rattle.handlebars_helpers.specs.CallView.{HelperView}
 use Rattle.handlebars_scope.specs.Scopes.{Base, at_path, at_value}
 use Rattle.handlebars_helpers.specs.Turns.{Turn, turns_of}
 use Rattle.handlebars_helpers.specs.TurnsLeft.{left_turns}
 use Rattle.handlebars_helpers.specs.Choice.{Kind, kind_if, kind_unless, kind_each, kind_with, kind_lookup, kind_raw, kind_log, kind_eq, kind_ne, kind_gt, kind_gte, kind_lt, kind_lte, kind_and, kind_or, kind_not, kind_len, the_body, the_inverse, body_in_block, body_in_turns, the_value, the_word, nothing}
 use Rattle.handlebars_helpers.specs.Choice as plain
+use Rattle.handlebars_helpers.specs.declared.boolean.Test.{Test}
+use Rattle.handlebars_helpers.specs.declared.boolean.Test.TheVariants as test
 use Rattle.handlebars_helpers.specs.declared.built_in.BuiltIn.{BuiltIn}
 use Rattle.handlebars_helpers.specs.declared.built_in.BuiltIn.TheVariants.{If, Unless, Each, With, Lookup, Raw, Log, Eq, Ne, Gt, Gte, Lt, Lte, And, Or, Not, Len}
 use Rattle.handlebars_helpers.specs.declared.choice.Choice.{Choice}
@@ -59,6 +63,15 @@ kind_of And = kind_and
 kind_of Or = kind_or
 kind_of Not = kind_not
 kind_of Len = kind_len
+
+-- a test of two values
+abbrev pub test_of : Test → Data → Data → Bool
+test_of test.Equal = equals
+test_of test.Differ = differ
+test_of test.Greater = greater
+test_of test.GreaterOrEqual = greater_or_equal
+test_of test.Less = less
+test_of test.LessOrEqual = less_or_equal
 
 -- the kind of what stands under a name
 abbrev pub kind_of_entry : HelperEntry → Kind

@@ -7,7 +7,7 @@ ghost use Rattle.handlebars_base.specs.PathAndData.{path_and_data};
 ghost use Rattle.handlebars_base.specs.Reasons.{param_not_found_for_name};
 ghost use Rattle.handlebars_base.specs.RenderRefusals.{plain_refusal, refusal_of};
 ghost use Rattle.handlebars_helpers.specs.Boolean.{all_true, differ, greater, greater_or_equal, len, less, less_or_equal, negation, size, some_true};
-ghost use Rattle.handlebars_helpers.specs.View.{helper_view};
+ghost use Rattle.handlebars_helpers.specs.View.{helper_view, test_of};
 
 use crate::params::parameter_value;
 use crate::view::Helper;
@@ -16,15 +16,41 @@ use handlebars_base::json::value::{Json, JsonTruthy, PathAndJson, compare, equal
 use std::alloc::{AllocError, Global};
 use std::cmp::Ordering;
 
-/// `ne`.
-pub(crate) fn differ(left: &Json, right: &Json) -> bool
+/// A test of two values.
+#[derive(Clone, Copy)]
+pub(crate) enum Test {
+    Equal,
+    Differ,
+    Greater,
+    GreaterOrEqual,
+    Less,
+    LessOrEqual,
+}
+
+impl Test {
+    pub(crate) fn holds(self, left: &Json, right: &Json) -> bool
+        ensures { result ≡ test_of self (view left.now) (view right.now) }
+    {
+        match self {
+            Test::Equal => equal(left, right),
+            Test::Differ => differ(left, right),
+            Test::Greater => greater(left, right),
+            Test::GreaterOrEqual => greater_or_equal(left, right),
+            Test::Less => less(left, right),
+            Test::LessOrEqual => less_or_equal(left, right),
+        }
+    }
+}
+
+// `ne`.
+fn differ(left: &Json, right: &Json) -> bool
     ensures { result ≡ differ (view left.now) (view right.now) }
 {
     !equal(left, right)
 }
 
-/// `gt`.
-pub(crate) fn greater(left: &Json, right: &Json) -> bool
+// `gt`.
+fn greater(left: &Json, right: &Json) -> bool
     ensures { result ≡ greater (view left.now) (view right.now) }
 {
     match compare(left, right) {
@@ -34,8 +60,8 @@ pub(crate) fn greater(left: &Json, right: &Json) -> bool
     }
 }
 
-/// `gte`.
-pub(crate) fn greater_or_equal(left: &Json, right: &Json) -> bool
+// `gte`.
+fn greater_or_equal(left: &Json, right: &Json) -> bool
     ensures { result ≡ greater_or_equal (view left.now) (view right.now) }
 {
     match compare(left, right) {
@@ -45,8 +71,8 @@ pub(crate) fn greater_or_equal(left: &Json, right: &Json) -> bool
     }
 }
 
-/// `lt`.
-pub(crate) fn less(left: &Json, right: &Json) -> bool
+// `lt`.
+fn less(left: &Json, right: &Json) -> bool
     ensures { result ≡ less (view left.now) (view right.now) }
 {
     match compare(left, right) {
@@ -56,8 +82,8 @@ pub(crate) fn less(left: &Json, right: &Json) -> bool
     }
 }
 
-/// `lte`.
-pub(crate) fn less_or_equal(left: &Json, right: &Json) -> bool
+// `lte`.
+fn less_or_equal(left: &Json, right: &Json) -> bool
     ensures { result ≡ less_or_equal (view left.now) (view right.now) }
 {
     match compare(left, right) {

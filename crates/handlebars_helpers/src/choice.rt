@@ -1,26 +1,25 @@
 //! What the built-in helpers choose.
 
-ghost use Rattle.std.specs.Prelude.{◌≡◌, IfOk, option_map, string_bytes};
+ghost use Rattle.std.specs.Prelude.{◌≡◌, IfOk, false, option_map, string_bytes};
 ghost use Rattle.serde_json.specs.Data.{array, object};
 ghost use Rattle.serde_json.specs.View.{items_view, members_view, view};
 ghost use Rattle.handlebars_base.specs.Answers.{Answers};
 ghost use Rattle.handlebars_base.specs.PathAndData.{path_and_data};
 ghost use Rattle.handlebars_base.specs.Reasons.{missing_variable};
 ghost use Rattle.handlebars_base.specs.RenderRefusals.{plain_refusal, refusal_of};
-ghost use Rattle.handlebars_helpers.specs.Choice.{body_if, chosen, condition, each_choice, includes_zero, inverse_or_refusal, looked_up, lookup_choice, turns_or_inverse, with_choice, word_or_branch};
+ghost use Rattle.handlebars_helpers.specs.Choice.{body_if, chosen, condition, each_choice, includes_zero, inverse_or_refusal, looked_up, lookup_choice, of_two, turns_or_inverse, with_choice, word_or_branch};
+ghost use Rattle.handlebars_helpers.specs.Choice.{kind_and, kind_each, kind_if, kind_len, kind_log, kind_lookup, kind_not, kind_or, kind_unless, kind_with};
 ghost use Rattle.handlebars_helpers.specs.Turns.{turns_of};
-ghost use Rattle.handlebars_helpers.specs.View.{choice_of, helper_view, kind_of, path_view};
+ghost use Rattle.handlebars_helpers.specs.View.{choice_of, helper_view, kind_of, path_view, test_of};
 
-use crate::boolean::{
-    all_true, differ, greater, greater_or_equal, len, less, less_or_equal, negation, some_true,
-};
+use crate::boolean::{Test, all_true, len, negation, some_true};
 use crate::built_in::BuiltIn;
 use crate::log_line::log_record;
 use crate::params::{parameter, two_values};
 use crate::turn::Base;
 use crate::view::Helper;
 use handlebars_base::error::{RenderError, RenderErrorReason};
-use handlebars_base::json::value::{Json, JsonTruthy, PathAndJson, equal};
+use handlebars_base::json::value::{Json, JsonTruthy, PathAndJson};
 use log::Level;
 use serde_json::Map;
 use std::alloc::{AllocError, Global};
@@ -60,50 +59,114 @@ pub fn choose<'h>(
     ensures { Answers choice_of result (chosen strict (kind_of kind) (helper_view helper.now)) }
 {
     match kind {
-        BuiltIn::If => Ok(body_if(condition(helper)?)),
-        BuiltIn::Unless => Ok(body_if(!condition(helper)?)),
-        BuiltIn::Each => each_choice(alloc, strict, helper, parameter(helper, "each", 0)?),
-        BuiltIn::With => with_choice(alloc, strict, helper, parameter(helper, "with", 0)?),
-        BuiltIn::Lookup => {
-            let value = parameter(helper, "lookup", 0)?;
-            let key = parameter(helper, "lookup", 1)?;
-            lookup_choice(strict, value.value(), key.value())
-        }
+        BuiltIn::If => choose_if(helper),
+        BuiltIn::Unless => choose_unless(helper),
+        BuiltIn::Each => choose_each(alloc, strict, helper),
+        BuiltIn::With => choose_with(alloc, strict, helper),
+        BuiltIn::Lookup => choose_lookup(strict, helper),
         BuiltIn::Raw => Ok(Choice::Body),
-        BuiltIn::Log => {
-            let (level, text) = log_record(alloc, helper)?;
-            Ok(Choice::Line(level, text))
-        }
-        BuiltIn::Eq => {
-            let (left, right) = two_values(strict, helper, "eq")?;
-            Ok(word_or_branch(helper, equal(left, right)))
-        }
-        BuiltIn::Ne => {
-            let (left, right) = two_values(strict, helper, "ne")?;
-            Ok(word_or_branch(helper, differ(left, right)))
-        }
-        BuiltIn::Gt => {
-            let (left, right) = two_values(strict, helper, "gt")?;
-            Ok(word_or_branch(helper, greater(left, right)))
-        }
-        BuiltIn::Gte => {
-            let (left, right) = two_values(strict, helper, "gte")?;
-            Ok(word_or_branch(helper, greater_or_equal(left, right)))
-        }
-        BuiltIn::Lt => {
-            let (left, right) = two_values(strict, helper, "lt")?;
-            Ok(word_or_branch(helper, less(left, right)))
-        }
-        BuiltIn::Lte => {
-            let (left, right) = two_values(strict, helper, "lte")?;
-            Ok(word_or_branch(helper, less_or_equal(left, right)))
-        }
-        BuiltIn::And => Ok(word_or_branch(helper, all_true(helper.params()))),
-        BuiltIn::Or => Ok(word_or_branch(helper, some_true(helper.params()))),
-        BuiltIn::Not => Ok(word_or_branch(helper, negation(strict, helper)?)),
-        BuiltIn::Len => Ok(Choice::Count(len(alloc, strict, helper)?)),
+        BuiltIn::Log => choose_line(alloc, helper),
+        BuiltIn::Eq => choose_by_test(strict, helper, "eq", Test::Equal),
+        BuiltIn::Ne => choose_by_test(strict, helper, "ne", Test::Differ),
+        BuiltIn::Gt => choose_by_test(strict, helper, "gt", Test::Greater),
+        BuiltIn::Gte => choose_by_test(strict, helper, "gte", Test::GreaterOrEqual),
+        BuiltIn::Lt => choose_by_test(strict, helper, "lt", Test::Less),
+        BuiltIn::Lte => choose_by_test(strict, helper, "lte", Test::LessOrEqual),
+        BuiltIn::And => choose_and(helper),
+        BuiltIn::Or => choose_or(helper),
+        BuiltIn::Not => choose_not(strict, helper),
+        BuiltIn::Len => choose_len(alloc, strict, helper),
     }
 }
+
+// ---- what each kind chooses, a function each
+//
+// Where strict mode changes nothing, the clause says `chosen false`, which is `chosen true` as well.
+
+fn choose_if<'h>(helper: &Helper) -> Result<Choice<'h>, RenderError>
+    ensures { Answers choice_of result (chosen false kind_if (helper_view helper.now)) }
+{
+    Ok(body_if(condition(helper)?))
+}
+
+fn choose_unless<'h>(helper: &Helper) -> Result<Choice<'h>, RenderError>
+    ensures { Answers choice_of result (chosen false kind_unless (helper_view helper.now)) }
+{
+    Ok(body_if(!condition(helper)?))
+}
+
+fn choose_each<'h>(
+    alloc: Global,
+    strict: bool,
+    helper: &'h Helper,
+) -> Result<Choice<'h>, RenderError>
+    ensures { Answers choice_of result (chosen strict kind_each (helper_view helper.now)) }
+{
+    each_choice(alloc, strict, helper, parameter(helper, "each", 0)?)
+}
+
+fn choose_with<'h>(
+    alloc: Global,
+    strict: bool,
+    helper: &'h Helper,
+) -> Result<Choice<'h>, RenderError>
+    ensures { Answers choice_of result (chosen strict kind_with (helper_view helper.now)) }
+{
+    with_choice(alloc, strict, helper, parameter(helper, "with", 0)?)
+}
+
+fn choose_lookup<'h>(strict: bool, helper: &'h Helper) -> Result<Choice<'h>, RenderError>
+    ensures { Answers choice_of result (chosen strict kind_lookup (helper_view helper.now)) }
+{
+    let value = parameter(helper, "lookup", 0)?;
+    let key = parameter(helper, "lookup", 1)?;
+    lookup_choice(strict, value.value(), key.value())
+}
+
+fn choose_line<'h>(alloc: Global, helper: &Helper) -> Result<Choice<'h>, RenderError>
+    ensures { Answers choice_of result (chosen false kind_log (helper_view helper.now)) }
+{
+    let (level, text) = log_record(alloc, helper)?;
+    Ok(Choice::Line(level, text))
+}
+
+fn choose_by_test<'h>(
+    strict: bool,
+    helper: &Helper,
+    name: &'static str,
+    test: Test,
+) -> Result<Choice<'h>, RenderError>
+    ensures { Answers choice_of result (of_two strict name.now (helper_view helper.now) (test_of test)) }
+{
+    let (left, right) = two_values(strict, helper, name)?;
+    Ok(word_or_branch(helper, test.holds(left, right)))
+}
+
+fn choose_and<'h>(helper: &Helper) -> Result<Choice<'h>, RenderError>
+    ensures { Answers choice_of result (chosen false kind_and (helper_view helper.now)) }
+{
+    Ok(word_or_branch(helper, all_true(helper.params())))
+}
+
+fn choose_or<'h>(helper: &Helper) -> Result<Choice<'h>, RenderError>
+    ensures { Answers choice_of result (chosen false kind_or (helper_view helper.now)) }
+{
+    Ok(word_or_branch(helper, some_true(helper.params())))
+}
+
+fn choose_not<'h>(strict: bool, helper: &Helper) -> Result<Choice<'h>, RenderError>
+    ensures { Answers choice_of result (chosen strict kind_not (helper_view helper.now)) }
+{
+    Ok(word_or_branch(helper, negation(strict, helper)?))
+}
+
+fn choose_len<'h>(alloc: Global, strict: bool, helper: &Helper) -> Result<Choice<'h>, RenderError>
+    ensures { Answers choice_of result (chosen strict kind_len (helper_view helper.now)) }
+{
+    Ok(Choice::Count(len(alloc, strict, helper)?))
+}
+
+// ---- `each`
 
 // The body for each member, where the call has a body and there are members.
 fn each_choice<'h>(
@@ -128,12 +191,12 @@ fn each_choice<'h>(
 }
 
 // The inverse, which strict mode asks for.
-fn inverse_or_refusal(
+fn inverse_or_refusal<'h>(
     alloc: Global,
     strict: bool,
     helper: &Helper,
     param: &PathAndJson,
-) -> Result<Choice<'static>, RenderError>
+) -> Result<Choice<'h>, RenderError>
     ensures { Answers choice_of result
         (inverse_or_refusal strict (helper_view helper.now) (path_and_data param.now)) }
 {
@@ -177,6 +240,8 @@ fn members_choice<'h>(path: Option<&'h Vec<String>>, members: &'h Map<String, Js
     }
 }
 
+// ---- `with` and `lookup`
+
 fn with_choice<'h>(
     alloc: Global,
     strict: bool,
@@ -217,6 +282,8 @@ fn looked_up<'h>(value: &'h Json, key: &Json) -> Option<&'h Json>
         Json::Null | Json::Bool(_) | Json::Array(_) | Json::Object(_) => None,
     }
 }
+
+// ---- words and conditions
 
 fn body_if(truth: bool) -> Choice<'static>
     ensures { choice_of result ≡ body_if truth }

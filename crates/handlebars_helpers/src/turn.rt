@@ -1,10 +1,10 @@
 //! The blocks of scope of `each` and `with`.
 
-ghost use Rattle.std.specs.Prelude.{◌≡◌, ◌++◌, ◌∷◌, [], IfOk, OnOk, map, option_map, string_bytes};
+ghost use Rattle.std.specs.Prelude.{◌≡◌, ◌++◌, ◌∷◌, [], IfOk, OnOk, codes, map, option_map, string_bytes};
 ghost use Rattle.serde_json.specs.View.{view};
 ghost use Rattle.handlebars_template.specs.TreeView.{binding_of, binding_view};
 ghost use Rattle.handlebars_scope.specs.ScopeView.{bounds_of, frame_of, variables_of};
-ghost use Rattle.handlebars_scope.specs.Scopes.{based, bound_base, put_at};
+ghost use Rattle.handlebars_scope.specs.Scopes.{based, bound_base, bound_value, put_at};
 ghost use Rattle.handlebars_helpers.specs.CallView.{single_name};
 ghost use Rattle.handlebars_helpers.specs.Turns.{bind_one, bound_in_turn, turn_base, turn_key, turn_name, turn_variables, turned, with_block};
 ghost use Rattle.handlebars_helpers.specs.View.{base_view, path_view, turn_view};
@@ -150,7 +150,7 @@ fn turn_names(
         bind_base(alloc, &mut names, name, base)?;
     } else if let Some((first, second)) = both_names(binding) {
         bind_base(alloc, &mut names, first, base)?;
-        names.add_value(second, key_value(alloc, turn)?)?;
+        bind_key(alloc, &mut names, second, turn)?;
     }
     Ok(names)
 }
@@ -199,6 +199,19 @@ fn bind_base(
     }
 }
 
+// Binds a name to the turn's key, or its index.
+fn bind_key(
+    alloc: Global,
+    names: &mut BlockParams,
+    name: &str,
+    turn: Turn,
+) -> Result<(), AllocError>
+    ensures { OnOk result (bounds_of names.new
+        ≡ put_at name.now (bound_value (turn_key (turn_view turn.entry))) (bounds_of names.old)) }
+{
+    names.add_value(name, key_value(alloc, turn)?)
+}
+
 // The key as a value, or the index.
 fn key_value(alloc: Global, turn: Turn) -> Result<Json, AllocError>
     ensures { IfOk result (λ v. view v ≡ turn_key (turn_view turn.entry)) }
@@ -220,7 +233,16 @@ fn set_turn_variables(alloc: Global, block: &mut BlockContext, turn: Turn) -> Re
     block.set_local_var("last", Json::Bool(turn.last))?;
     block.set_local_var("index", Json::Number(Number::from(turn.index)))?;
     if turn.key.is_some() {
-        block.set_local_var("key", key_value(alloc, turn)?)?;
+        set_key(alloc, block, turn)?;
     }
     Ok(())
+}
+
+// The variable of an object's member alone.
+fn set_key(alloc: Global, block: &mut BlockContext, turn: Turn) -> Result<(), AllocError>
+    ensures { OnOk result (frame_of block.new ≡ record (frame_of block.old) {
+      variable = put_at (codes "key") (turn_key (turn_view turn.entry)) (frame_of block.old).variable;
+    }) }
+{
+    block.set_local_var("key", key_value(alloc, turn)?)
 }

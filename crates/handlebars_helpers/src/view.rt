@@ -13,7 +13,6 @@ use std::borrow::CowStr;
 use std::collections::BTreeMap;
 
 /// A call, as its helper sees it: the values of its parameters and pairs, and what a block has.
-#[derive(Drop)]
 pub struct Helper<'rc> {
     name: CowStr<'rc>,
     params: Vec<PathAndJson<'rc>>,
@@ -22,6 +21,21 @@ pub struct Helper<'rc> {
     inverse: Option<&'rc Template>,
     block_param: Option<&'rc BlockParam>,
     block: bool,
+}
+
+// By hand, so that whoever lets one go makes one call.
+impl Drop for Helper<'_> {
+    fn drop(self) {
+        let Helper {
+            name: _,
+            params: _,
+            hash: _,
+            template: _,
+            inverse: _,
+            block_param: _,
+            block: _,
+        } = self;
+    }
 }
 
 impl<'rc> Helper<'rc> {

@@ -4,7 +4,6 @@ use Rattle.std.proofs.lemmas.Bool.{false≢true}
 use Rattle.std.proofs.lemmas.Map.Text.{btree_map_updates_text}
 use Rattle.std.proofs.lemmas.Slice.Eq.{bytes_eq-Decides}
 use Rattle.std.specs.BTreeMap.{BTreeMap, IsClone, Updates, get_by_text, is_at}
-use Rattle.std.specs.Bool.{⊤}
 use Rattle.std.specs.Cmp.Lexicographic.{slice_cmp}
 use Rattle.std.specs.List.{AllZip}
 use Rattle.std.specs.Map.{lookup}
@@ -13,7 +12,7 @@ use Rattle.handlebars_base.proofs.OptionBinds.{option_map-cond}
 use Rattle.serde_json.specs.View.{view}
 use Rattle.serde_json.specs.declared.value.Value.{Value}
 use Rattle.handlebars_scope.specs.Scopes.{put_at}
-use Rattle.handlebars_scope.specs.ScopeView.{variables_of}
+use Rattle.handlebars_scope.specs.ScopeView.{values_of, variables_of}
 use Rattle.handlebars_scope.specs.declared.local_vars.LocalVars.{LocalVars}
 
 pub cond-same : {X : Type 0} (b : Bool) (x : X) → cond b x x ≡ x
@@ -102,12 +101,11 @@ module _ (v : LocalVars) (name : Text) (x : Value) where
       λ i k. at k i
 
   -- a variable that is none of the four
-  pub variables_of-extra : (extra : BTreeMap (String Global) Value) (key : String Global)
-      → string_bytes key ≡ name → Updates string_cmp v.extra extra key (Some x)
+  pub variables_of-extra : (extra : BTreeMap (String Global) Value)
+      → values_of extra ≡ put_at name (view x) (values_of v.extra)
       → name ≢ codes "first" → name ≢ codes "last" → name ≢ codes "index" → name ≢ codes "key"
       → variables_of (record v { extra = extra }) ≡ put_at name (view x) (variables_of v)
-  variables_of-extra extra key same updates not-first not-last not-index not-key =
-      let put = get_by_text-put view v.extra extra key name x same updates in
+  variables_of-extra extra put not-first not-last not-index not-key =
       let at : (k : Text) → variables_of (record v { extra = extra }) k
       ≡ put_at name (view x) (variables_of v) k = λ k.
       cond-behind (codes "first") name k (view x) _ _ _ not-first
@@ -115,6 +113,15 @@ module _ (v : LocalVars) (name : Text) (x : Value) where
       (cond-behind (codes "index") name k (view x) _ _ _ not-index
       (cond-behind (codes "key") name k (view x) _ _ _ not-key (λ i. put i k)))) in
       λ i k. at k i
+
+-- the same variables, where those that are none of the four are the same
+pub variables_of-same : (v : LocalVars) (extra : BTreeMap (String Global) Value) → values_of extra ≡ values_of v.extra
+    → variables_of (record v { extra = extra }) ≡ variables_of v
+variables_of-same v extra same = λ i name.
+    cond (bytes_eq (codes "first") name) (option_map view v.first)
+    (cond (bytes_eq (codes "last") name) (option_map view v.last)
+    (cond (bytes_eq (codes "index") name) (option_map view v.index)
+    (cond (bytes_eq (codes "key") name) (option_map view v.key) (same i name))))
 
 -- ---- copies
 
@@ -136,19 +143,6 @@ lookup-copied name (e ∷ es) (f ∷ fs) same =
     ∙ option_map-either view (test e.0) e.1 f.1 (lookup test es) (lookup test fs) same.0.1
     (lookup-copied name es fs same.1)
 
--- what is told of a copy of an option
-abbrev pub IsCopied : Option Value → Option Value → Type 0
-IsCopied None None = ⊤
-IsCopied None (Some y) = ⊥
-IsCopied (Some x) None = ⊥
-IsCopied (Some x) (Some y) = view y ≡ view x
-
-option_map-copied : (x y : Option Value) → IsCopied x y → option_map view y ≡ option_map view x
-option_map-copied None None same = refl
-option_map-copied None (Some y) same = absurd same
-option_map-copied (Some x) None same = absurd same
-option_map-copied (Some x) (Some y) same = ap Some same
-
 -- a copy of a map has the same under each name
 get_by_text-copied : (m n : BTreeMap (String Global) Value)
     → IsClone (λ s t. string_bytes t ≡ string_bytes s) (λ v w. view w ≡ view v) m n
@@ -156,12 +150,13 @@ get_by_text-copied : (m n : BTreeMap (String Global) Value)
 get_by_text-copied m n same name = lookup-copied name m.entries n.entries same
 
 pub variables_of-copied : (v : LocalVars) (first last index key : Option Value) (extra : BTreeMap (String Global) Value)
-    → IsCopied v.first first → IsCopied v.last last → IsCopied v.index index → IsCopied v.key key
+    → option_map view first ≡ option_map view v.first → option_map view last ≡ option_map view v.last
+    → option_map view index ≡ option_map view v.index → option_map view key ≡ option_map view v.key
     → IsClone (λ s t. string_bytes t ≡ string_bytes s) (λ x y. view y ≡ view x) v.extra extra
     → variables_of (record v { first = first; last = last; index = index; key = key; extra = extra }) ≡ variables_of v
 variables_of-copied v first last index key extra is-first is-last is-index is-key is-extra = λ i name.
-    cond (bytes_eq (codes "first") name) (option_map-copied v.first first is-first i)
-    (cond (bytes_eq (codes "last") name) (option_map-copied v.last last is-last i)
-    (cond (bytes_eq (codes "index") name) (option_map-copied v.index index is-index i)
-    (cond (bytes_eq (codes "key") name) (option_map-copied v.key key is-key i)
+    cond (bytes_eq (codes "first") name) (is-first i)
+    (cond (bytes_eq (codes "last") name) (is-last i)
+    (cond (bytes_eq (codes "index") name) (is-index i)
+    (cond (bytes_eq (codes "key") name) (is-key i)
     (get_by_text-copied v.extra extra is-extra name i))))

@@ -1,9 +1,11 @@
 -- What blocks of scope in the code stand for.
-use Rattle.std.specs.Prelude.{List, map, string_bytes, Option, option_map, codes, if◌then◌else◌}
-use Rattle.std.specs.BTreeMap.{get_by_text}
+use Rattle.std.specs.Prelude.{List, map, String, string_bytes, Option, option_map, codes, if◌then◌else◌}
+use Rattle.std.specs.BTreeMap.{BTreeMap, get_by_text}
+use Rattle.std.specs.declared.alloc.Global.{Global}
 use Rattle.std.specs.Str.{bytes_eq}
 use Rattle.serde_json.specs.Data.{Data}
 use Rattle.serde_json.specs.View.{view}
+use Rattle.serde_json.specs.declared.value.Value as json
 use Rattle.handlebars_base.specs.Bytes.{Text}
 use Rattle.handlebars_template.specs.TreeView.{tree_view}
 use Rattle.handlebars_scope.specs.Scopes.{Bound, bound_path, bound_value, Frame}
@@ -13,6 +15,10 @@ use Rattle.handlebars_scope.specs.declared.block.BlockParamHolder.{BlockParamHol
 use Rattle.handlebars_scope.specs.declared.block.BlockParamHolder.TheVariants.{Path, Value}
 use Rattle.handlebars_scope.specs.declared.block.BlockParams.{BlockParams}
 
+-- the values of a map by name
+abbrev pub values_of : BTreeMap (String Global) json.Value → Text → Option Data
+values_of values name = option_map view (get_by_text values name)
+
 -- the variables by name; four of them have a place of their own
 abbrev pub variables_of : LocalVars → Text → Option Data
 variables_of v name =
@@ -20,7 +26,7 @@ variables_of v name =
     if bytes_eq (codes "last") name then option_map view v.last else (
     if bytes_eq (codes "index") name then option_map view v.index else (
     if bytes_eq (codes "key") name then option_map view v.key else
-    option_map view (get_by_text v.extra name))))
+    values_of v.extra name)))
 
 abbrev pub bound_of : BlockParamHolder → Bound
 bound_of (Path path) = bound_path (map string_bytes path.items)

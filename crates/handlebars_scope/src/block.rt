@@ -39,10 +39,16 @@ impl BlockParamHolder {
 }
 
 /// The names that a block binds.
-#[derive(Drop)]
 pub struct BlockParams {
     data: BTreeMap<String, BlockParamHolder>,
     alloc: Global,
+}
+
+// By hand, so that whoever lets one go makes one call.
+impl Drop for BlockParams {
+    fn drop(self) {
+        let BlockParams { data: _, alloc: _ } = self;
+    }
 }
 
 impl BlockParams {
@@ -94,7 +100,6 @@ impl BlockParams {
 
 /// A block of scope. Paths in it lead from its base: a value, where it has one, else a path of the
 /// data.
-#[derive(Drop)]
 pub struct BlockContext {
     base_path: Vec<String>,
     base_value: Option<Json>,
@@ -102,6 +107,20 @@ pub struct BlockContext {
     local_variables: LocalVars,
     local_partials: BTreeMap<String, Rc<Template>>,
     alloc: Global,
+}
+
+// By hand, so that whoever lets one go makes one call.
+impl Drop for BlockContext {
+    fn drop(self) {
+        let BlockContext {
+            base_path: _,
+            base_value: _,
+            block_params: _,
+            local_variables: _,
+            local_partials: _,
+            alloc: _,
+        } = self;
+    }
 }
 
 impl BlockContext {

@@ -1,16 +1,15 @@
 //! The variables of a block of scope.
 
-ghost use Rattle.std.specs.Prelude.{◌≡◌, IfOk, OnErr, OnOk, option_map};
+ghost use Rattle.std.specs.Prelude.{◌≡◌, IfOk, OnErr, OnOk, Some, option_map};
 ghost use Rattle.serde_json.specs.View.{view};
 ghost use Rattle.handlebars_scope.specs.Scopes.{nothing_at, put_at};
-ghost use Rattle.handlebars_scope.specs.ScopeView.{variables_of};
+ghost use Rattle.handlebars_scope.specs.ScopeView.{values_of, variables_of};
 
 use handlebars_base::json::value::Json;
 use std::alloc::{AllocError, Global};
 use std::collections::BTreeMap;
 
 /// The variables of a block by name, without the `@` that templates write before it.
-#[derive(Drop)]
 pub struct LocalVars {
     // Those that `each` sets have a place of their own, so that a turn makes no key.
     first: Option<Json>,
@@ -19,6 +18,20 @@ pub struct LocalVars {
     key: Option<Json>,
     extra: BTreeMap<String, Json>,
     alloc: Global,
+}
+
+// By hand, so that whoever lets one go makes one call.
+impl Drop for LocalVars {
+    fn drop(self) {
+        let LocalVars {
+            first: _,
+            last: _,
+            index: _,
+            key: _,
+            extra: _,
+            alloc: _,
+        } = self;
+    }
 }
 
 impl LocalVars {
@@ -55,14 +68,11 @@ impl LocalVars {
         ensures err { OnErr result (variables_of self.new ≡ variables_of self.old) }
     {
         match key {
-            "first" => self.first = Some(value),
-            "last" => self.last = Some(value),
-            "index" => self.index = Some(value),
-            "key" => self.key = Some(value),
-            _ => {
-                let name = String::from_str(self.alloc, key)?;
-                self.extra.insert(name, value)?;
-            }
+            "first" => set(&mut self.first, value),
+            "last" => set(&mut self.last, value),
+            "index" => set(&mut self.index, value),
+            "key" => set(&mut self.key, value),
+            _ => put_extra(self.alloc, &mut self.extra, key, value)?,
         }
         Ok(())
     }
@@ -71,13 +81,40 @@ impl LocalVars {
     pub fn clone(&self) -> Result<LocalVars, AllocError>
         ensures { IfOk result (λ copy. variables_of copy ≡ variables_of self.now) }
     {
-        Ok(LocalVars {
-            first: self.first.clone()?,
-            last: self.last.clone()?,
-            index: self.index.clone()?,
-            key: self.key.clone()?,
-            extra: self.extra.clone()?,
-            alloc: self.alloc,
-        })
+        let mut copy = LocalVars::new(self.alloc);
+        copy_to(&mut copy.first, &self.first)?;
+        copy_to(&mut copy.last, &self.last)?;
+        copy_to(&mut copy.index, &self.index)?;
+        copy_to(&mut copy.key, &self.key)?;
+        copy.extra = self.extra.clone()?;
+        Ok(copy)
     }
+}
+
+fn set(place: &mut Option<Json>, value: Json)
+    ensures { place.new ≡ Some value }
+{
+    *place = Some(value);
+}
+
+// Puts a value under a name that has no place of its own. Where memory is refused, nothing is changed.
+fn put_extra(
+    alloc: Global,
+    extra: &mut BTreeMap<String, Json>,
+    key: &str,
+    value: Json,
+) -> Result<(), AllocError>
+    ensures ok { OnOk result (values_of extra.new ≡ put_at key.now (view value) (values_of extra.old)) }
+    ensures err { OnErr result (values_of extra.new ≡ values_of extra.old) }
+{
+    let name = String::from_str(alloc, key)?;
+    extra.insert(name, value)?;
+    Ok(())
+}
+
+fn copy_to(to: &mut Option<Json>, from: &Option<Json>) -> Result<(), AllocError>
+    ensures { OnOk result (option_map view to.new ≡ option_map view from.now) }
+{
+    *to = from.clone()?;
+    Ok(())
 }

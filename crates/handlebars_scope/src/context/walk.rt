@@ -8,7 +8,7 @@ ghost use Rattle.handlebars_base.specs.PathView.{reference_of, segments_of};
 ghost use Rattle.handlebars_base.specs.Reasons.{invalid_json_index};
 ghost use Rattle.handlebars_base.specs.RenderRefusals.{reason_of};
 ghost use Rattle.handlebars_base.specs.Scoped.{found_of, is_constant, present_in};
-ghost use Rattle.handlebars_scope.specs.Resolve.{found_by, found_within, navigated, resolved, variable_at};
+ghost use Rattle.handlebars_scope.specs.Resolve.{along, found_by, found_front, found_within, navigated, resolved, variable_at};
 ghost use Rattle.handlebars_scope.specs.Resolve.{if_any, index_of, longest, member_at, names_of, or_else, value_at};
 ghost use Rattle.handlebars_scope.specs.ScopeView.{frames_of};
 ghost use Rattle.handlebars_scope.specs.WayView.{hit_of, names_in, way_view};
@@ -69,19 +69,68 @@ pub(crate) fn navigate<'a>(
         (navigated recursive (frames_of blocks.now.items) (segments_of segments.now) (view given.now)) }
     ensures plain { IfOk result (λ found. is_constant found ≡ false) }
 {
-    match way_of(blocks, segments, recursive) {
-        Way::Within(held, rest) => Ok(copied(along_segments(alloc, held, rest)?)?),
-        Way::Along { base, bound, rest } => match along(alloc, given, base, bound, rest)? {
-            Some(value) => Ok(ScopedJson::Context(value, joined(alloc, base, bound, rest)?)),
-            None => Ok(ScopedJson::Missing),
-        },
-        Way::UnderFront(base, name) => match longest(given, base, name) {
-            Some((kept, value)) => Ok(ScopedJson::Context(
-                value,
-                front(alloc, &base[..kept], name)?,
-            )),
-            None => Ok(ScopedJson::Missing),
-        },
+    found_by(alloc, given, way_of(blocks, segments, recursive))
+}
+
+// What stands at the end of a way.
+fn found_by<'a>(
+    alloc: Global,
+    given: &'a Json,
+    way: Way<'_, '_>,
+) -> Result<ScopedJson<'a>, RenderError>
+    ensures found { Answers found_of result (found_by (way_view way.entry) (view given.now)) }
+    ensures plain { IfOk result (λ found. is_constant found ≡ false) }
+{
+    match way {
+        Way::Within(held, rest) => found_within(alloc, held, rest),
+        Way::Along { base, bound, rest } => found_along(alloc, given, base, bound, rest),
+        Way::UnderFront(base, name) => Ok(found_front(alloc, given, base, name)?),
+    }
+}
+
+fn found_within<'a>(
+    alloc: Global,
+    held: &Json,
+    rest: &[PathSeg],
+) -> Result<ScopedJson<'a>, RenderError>
+    ensures found { Answers found_of result
+        (answer_map found_within (value_at (view held.now) (names_of (segments_of rest.now)))) }
+    ensures plain { IfOk result (λ found. is_constant found ≡ false) }
+{
+    Ok(copied(along_segments(alloc, held, rest)?)?)
+}
+
+fn found_along<'a>(
+    alloc: Global,
+    given: &'a Json,
+    base: &[String],
+    bound: &[String],
+    rest: &[PathSeg],
+) -> Result<ScopedJson<'a>, RenderError>
+    ensures found { Answers found_of result (found_by
+        (along (names_in base.now ++ (names_in bound.now ++ names_of (segments_of rest.now))))
+        (view given.now)) }
+    ensures plain { IfOk result (λ found. is_constant found ≡ false) }
+{
+    match along(alloc, given, base, bound, rest)? {
+        Some(value) => Ok(ScopedJson::Context(value, joined(alloc, base, bound, rest)?)),
+        None => Ok(ScopedJson::Missing),
+    }
+}
+
+fn found_front<'a>(
+    alloc: Global,
+    given: &'a Json,
+    base: &[String],
+    name: &String,
+) -> Result<ScopedJson<'a>, AllocError>
+    ensures found { IfOk result (λ found. found_of found ≡ found_front (names_in base.now) (string_bytes name.now)
+        (longest (view given.now) (names_in base.now) (string_bytes name.now))) }
+    ensures plain { IfOk result (λ found. is_constant found ≡ false) }
+{
+    match longest(given, base, name) {
+        Some((kept, value)) => Ok(ScopedJson::Context(value, front(alloc, &base[..kept], name)?)),
+        None => Ok(ScopedJson::Missing),
     }
 }
 

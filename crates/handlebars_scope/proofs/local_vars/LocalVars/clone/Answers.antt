@@ -3,7 +3,7 @@ use Rattle.handlebars_scope.proofs.local_vars.LocalVars.clone.Goals as goal
 
 pub returns : goal.returns
 returns c =
-    variables_of-copied c.args.self.now c.in_ok-clone.field-0 c.in_ok-clone-2.field-0 c.in_ok-clone-3.field-0
-    c.in_ok-clone-4.field-0 c.in_ok-clone-5.field-0
-    c.in_ok-clone.ensures.cases c.in_ok-clone-2.ensures.cases c.in_ok-clone-3.ensures.cases
-    c.in_ok-clone-4.ensures.cases c.in_ok-clone-5.ensures.cases
+    variables_of-copied c.args.self.now c.copy_to.new.to c.copy_to-2.new.to c.copy_to-3.new.to
+    c.copy_to-4.new.to c.in_ok-copy.field-0
+    c.in_ok-copy_to.ensures c.in_ok-copy_to-2.ensures c.in_ok-copy_to-3.ensures c.in_ok-copy_to-4.ensures
+    c.in_ok-copy.ensures.cases
