@@ -11,13 +11,13 @@ use Rattle.handlebars_template.specs.Tree.{Tree}
 use Rattle.handlebars_template.specs.Compile.{Options, Compilation, Compiles, compiled, refused}
 use Rattle.handlebars_template.proofs.One.{one_compilation}
 use Rattle.handlebars_scope.specs.Put.{Piece}
-use Rattle.handlebars.specs.State.{Setting, State, first_state}
-use Rattle.handlebars.specs.Means.{render_tree}
-use Rattle.handlebars.specs.Runs.{Outcome, Ended, Refused, Means}
-use Rattle.handlebars.specs.View.{GivesString, RefusesString}
-use Rattle.handlebars.specs.Answer.{Beginning, a_tree, no_tree, FromSource, compiles, does_not, FromName, is_stored, is_not, not_begun, rendered, GivesText, RefusesWith, HasOneAnswer, AnswerHasOrigins}
-use Rattle.handlebars.proofs.RunLaws.{Runs-one}
-use Rattle.handlebars.proofs.RunOrigins.{all_have_origins}
+use Rattle.handlebars_meaning.specs.State.{Setting, State, first_state}
+use Rattle.handlebars_meaning.specs.Means.{render_tree}
+use Rattle.handlebars_meaning.specs.Runs.{Outcome, Ended, Refused, Means}
+use Rattle.handlebars_render.specs.View.{GivesString, RefusesString}
+use Rattle.handlebars_meaning.specs.Answer.{Beginning, a_tree, no_tree, FromSource, compiles, does_not, FromName, is_stored, is_not, not_begun, rendered, GivesText, RefusesWith, HasOneAnswer, AnswerHasOrigins}
+use Rattle.handlebars_laws.proofs.RunLaws.{Runs-one}
+use Rattle.handlebars_laws.proofs.RunOrigins.{all_have_origins}
 
 -- ---- at most one beginning
 

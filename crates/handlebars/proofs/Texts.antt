@@ -9,11 +9,11 @@ use Rattle.handlebars_base.specs.RenderRefusals.{reason_in, refusal_of}
 use Rattle.handlebars_base.specs.declared.error.render_error.RenderError.{RenderError}
 use Rattle.handlebars_scope.specs.Outputs.{Held, write_reason}
 use Rattle.handlebars_scope.specs.Put.{join}
-use Rattle.handlebars.specs.State.{Setting, State}
-use Rattle.handlebars.specs.Steps.{Steps}
-use Rattle.handlebars.specs.Runs.{Outcome, Ended, Refused, Runs}
-use Rattle.handlebars.specs.View.{TellsCause, word_reason, Tells, ended, refusal, fault, no_memory, CarriesOut, GivesString, RefusesString}
-use Rattle.handlebars.proofs.Carry.{at}
+use Rattle.handlebars_meaning.specs.State.{Setting, State}
+use Rattle.handlebars_meaning.specs.Steps.{Steps}
+use Rattle.handlebars_meaning.specs.Runs.{Outcome, Ended, Refused, Runs}
+use Rattle.handlebars_render.specs.View.{TellsCause, word_reason, Tells, ended, refusal, fault, no_memory, CarriesOut, GivesString, RefusesString}
+use Rattle.handlebars_render.proofs.Carry.{at}
 
 ended_so : {may : Error → Type 0} {before after : ℕ} {o : Outcome} {u : Unit {0}} {next : State}
     → Tells may before after o (Ok u) next → o ≡ Ended next

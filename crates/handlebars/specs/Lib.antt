@@ -1,17 +1,2 @@
-pub mod State
-pub mod Steps
-pub mod Writing
-pub mod CarryOut
-pub mod Expand
-pub mod Means
-pub mod Runs
-pub mod Origins
-pub mod Laws
-pub mod Answer
 pub mod View
 pub mod Store
-pub mod Lending
-pub mod Next
-pub mod Rows
-pub mod ScopeRows
-pub mod HelperRows

@@ -24,6 +24,8 @@ pub use handlebars_base::json::value::{
 pub use handlebars_helpers::built_in::{BuiltIn, HelperEntry};
 pub use handlebars_helpers::log_line::log_record;
 pub use handlebars_helpers::view::Helper;
+pub use handlebars_render::context::RenderContext;
+pub use handlebars_render::write::indent_aware_write;
 pub use handlebars_scope::block::{BlockContext, BlockParamHolder, BlockParams};
 pub use handlebars_scope::context::Context;
 pub use handlebars_scope::local_vars::LocalVars;
@@ -32,6 +34,6 @@ pub use handlebars_scope::support::{escape_html, html_escape, no_escape};
 pub use handlebars_template::template;
 pub use handlebars_template::template::Template;
 pub use registry::{Registry, Registry as Handlebars};
-pub use render::{Expand, RenderContext, Renderable, indent_aware_write};
+pub use render::{Expand, Renderable};
 pub use serde_json::Value as JsonValue;
 pub use sources::{EntryKind, NoFiles, TemplateReader};

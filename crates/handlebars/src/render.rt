@@ -1,40 +1,30 @@
-//! Rendering: carrying out what a template means.
+//! Rendering with a registry: carrying out what a template means.
 
 ghost use Rattle.std.specs.Prelude.{◌≡◌, ◌≢◌, IfOk, IfErr, IsErrAnd, OnErr, OnOk, string_bytes, true, false};
 ghost use Rattle.handlebars_base.specs.Reasons.{out_of_memory, failed};
 ghost use Rattle.handlebars_base.specs.RenderRefusals.{refusal_of, plain_refusal, reason_in};
 ghost use Rattle.handlebars_template.specs.TreeView.{tree_view, element_view};
-ghost use Rattle.handlebars.specs.Steps.{Steps};
-ghost use Rattle.handlebars.specs.Means.{render_tree, render_alone};
-ghost use Rattle.handlebars.specs.View.{setting_of, state_of, root_of, has_failed, moment, CarriesOut, GivesString, RefusesString};
+ghost use Rattle.handlebars_meaning.specs.Steps.{Steps};
+ghost use Rattle.handlebars_meaning.specs.Means.{render_tree, render_alone};
+ghost use Rattle.handlebars_render.specs.View.{state_of, root_of, has_failed, moment, CarriesOut, GivesString, RefusesString};
+ghost use Rattle.handlebars.specs.View.{setting_of};
 
-mod block;
-mod called;
-mod context;
-mod each;
-mod element;
 mod expand;
-mod lone;
-mod next;
-mod registered;
-mod setting;
-mod tree;
-mod value;
-mod write;
+mod logging;
 
 use crate::registry::Registry;
-use crate::render::registered::Logging;
-use crate::render::setting::Setting;
-use crate::render::tree::{render_alone, render_first};
-pub use context::RenderContext;
+use crate::render::logging::Logging;
 pub use expand::Expand;
-use handlebars_base::error::{RenderError, RenderErrorReason};
+use handlebars_base::error::RenderError;
+use handlebars_render::context::RenderContext;
+use handlebars_render::failure::{fail_after, ready};
+use handlebars_render::setting::Setting;
+use handlebars_render::tree::{render_alone, render_first};
 use handlebars_scope::context::Context;
 use handlebars_scope::output::{Output, StringOutput};
 use handlebars_template::template::{Template, TemplateElement};
 use log::Log;
 use std::alloc::Global;
-pub use write::indent_aware_write;
 
 /// What can be rendered.
 pub trait Renderable {
@@ -126,30 +116,6 @@ impl Renderable for Template {
             Err(e) => Err(e),
         }
     }
-}
-
-// A context that has failed is refused.
-fn ready(rc: &RenderContext) -> Result<(), RenderError>
-    ensures ok { IfOk result (λ _. has_failed rc.now ≡ false) }
-    ensures err { IfErr result (λ e. (has_failed rc.now ≡ true) × (refusal_of e ≡ plain_refusal failed)) }
-{
-    if rc.has_failed() {
-        Err(RenderErrorReason::Failed.into())
-    } else {
-        Ok(())
-    }
-}
-
-// After a refusal the context has failed.
-fn fail_after<T>(rc: &mut RenderContext, answer: Result<T, RenderError>) -> Result<T, RenderError>
-    ensures answer { result ≡ answer }
-    ensures ok { OnOk result (rc.new ≡ rc.old) }
-    ensures err { OnErr result (rc.new ≡ record rc.old { failed = true }) }
-{
-    if answer.is_err() {
-        rc.fail();
-    }
-    answer
 }
 
 /// An element alone, which has no position: a refusal of it has none either.

@@ -7,7 +7,6 @@ pub mod Trees
 pub mod Levels
 pub mod Running
 pub mod Outcomes
-pub mod Rows
 pub mod LinesBuilt
 pub mod LineImages
 pub mod LineCalls

@@ -13,4 +13,3 @@ pub mod ParameterParsingView
 pub mod NestView
 pub mod ScanView
 pub mod OptionsView
-pub mod Rows

@@ -8,16 +8,18 @@ ghost use Rattle.handlebars_base.specs.RenderRefusals.{refusal_of, plain_refusal
 ghost use Rattle.handlebars_template.specs.Tree.{Param};
 ghost use Rattle.handlebars_template.specs.TreeView.{param_view};
 ghost use Rattle.handlebars_scope.specs.Sites.{Site};
-ghost use Rattle.handlebars.specs.Expand.{expand, expand_as_name};
-ghost use Rattle.handlebars.specs.View.{setting_of, state_of, root_of, has_failed, Yields};
+ghost use Rattle.handlebars_meaning.specs.Expand.{expand, expand_as_name};
+ghost use Rattle.handlebars_render.specs.View.{state_of, root_of, has_failed, Yields};
+ghost use Rattle.handlebars.specs.View.{setting_of};
 
 use crate::registry::Registry;
-use crate::render::context::RenderContext;
-use crate::render::registered::Logging;
-use crate::render::setting::Setting;
-use crate::render::{fail_after, ready, value};
+use crate::render::logging::Logging;
 use handlebars_base::error::RenderError;
 use handlebars_base::json::value::PathAndJson;
+use handlebars_render::context::RenderContext;
+use handlebars_render::failure::{fail_after, ready};
+use handlebars_render::setting::Setting;
+use handlebars_render::value;
 use handlebars_scope::context::Context;
 use handlebars_template::template::Parameter;
 use log::Log;

@@ -1,5 +1,5 @@
-use Rattle.handlebars.proofs.RunLaws.{Runs-one, Runs-beginning}
-use Rattle.handlebars.proofs.RunOrigins.{all_have_origins, element_has_origins}
+use Rattle.handlebars_laws.proofs.RunLaws.{Runs-one, Runs-beginning}
+use Rattle.handlebars_laws.proofs.RunOrigins.{all_have_origins, element_has_origins}
 use Rattle.handlebars.specs.View.{setting_of}
 use Rattle.handlebars.proofs.laws.laws_of_runs.Goals as goal
 

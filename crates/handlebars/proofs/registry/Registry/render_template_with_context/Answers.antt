@@ -1,6 +1,6 @@
 use Rattle.std.proofs.lemmas.Result.{IfOk-weaker, IfErr-weaker}
 use Rattle.handlebars_base.specs.TemplateRefusals.{template_refusal_of}
-use Rattle.handlebars.specs.Answer.{compiles}
+use Rattle.handlebars_meaning.specs.Answer.{compiles}
 use Rattle.handlebars.proofs.AnswerLaws.{FromSource-one, has_one_answer, answer_has_origins, compile_refused, gives_text, refuses_with}
 use Rattle.handlebars.proofs.registry.Registry.render_template_with_context.Goals as goal
 

@@ -2,7 +2,7 @@ use Rattle.std.proofs.Common.{◌∙◌, sym, ap}
 use Rattle.std.proofs.lemmas.Result.{IfOk-weaker, IfErr-weaker}
 use Rattle.handlebars_base.specs.Reasons.{template_not_found}
 use Rattle.handlebars_base.specs.RenderRefusals.{plain_refusal}
-use Rattle.handlebars.specs.Answer.{is_stored, is_not}
+use Rattle.handlebars_meaning.specs.Answer.{is_stored, is_not}
 use Rattle.handlebars.proofs.AnswerLaws.{FromName-one, has_one_answer, answer_has_origins, refuses_before, gives_text, refuses_with}
 use Rattle.handlebars.proofs.registry.Registry.render_with_context.Goals as goal
 

@@ -1,7 +1,0 @@
-use Rattle.std.proofs.Common.{refl}
-use Rattle.handlebars_base.specs.Scoped.{found_of}
-use Rattle.handlebars.proofs.Gives.{gives-return}
-use Rattle.handlebars.proofs.render.lone.lone_value.Goals as goal
-
-pub returns-in-Some : goal.returns-in-Some
-returns-in-Some g c = λ site. rw c.in-Some.is (found_of c.in-Some.value, gives-return _, refl)

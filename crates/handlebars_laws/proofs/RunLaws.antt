@@ -1,0 +1,131 @@
+-- What is written is determined: two whole runs are one, and a run that stopped wrote a beginning of the whole one.
+use Rattle.std.proofs.Common.{◌≡◌, List, [], ◌∷◌, ◌++◌, refl, sym, ap, ◌∙◌, subst, append_assoc, append-nil}
+use Rattle.handlebars_scope.specs.Outputs.{IsBeginning}
+use Rattle.handlebars_scope.specs.Put.{Piece, join}
+use Rattle.handlebars_meaning.specs.State.{Setting, State}
+use Rattle.handlebars_meaning.specs.Steps.{Task, Steps}
+use Rattle.handlebars_meaning.specs.Runs.{Outcome, Ended, Refused, Faulted, NoMemory, IsOver, IsStop, StopsAt, Front, none, cut_off, more, marked, Runs, done, refused, wrote, got, set, did, did_over, captured, captured_over, stop, cut}
+use Rattle.handlebars_meaning.proofs.Runs.{join-append}
+
+state_or : State → Outcome → State
+state_or d (Ended s) = s
+state_or d (Refused f) = d
+state_or d (Faulted f) = d
+state_or d NoMemory = d
+
+Ended-injective : {s t : State} → Ended s ≡ Ended t → s ≡ t
+unfolding state_or
+Ended-injective {s = s} e = ap (state_or s) e
+
+Runs-state : {p : Setting} {k : Steps} {s t : State} {ps : List Piece} {o : Outcome} → s ≡ t → Runs p k t ps o
+    → Runs p k s ps o
+Runs-state {p = p} {k = k} {ps = ps} {o = o} e r = subst (λ (t : State). Runs p k t ps o) (sym e) r
+
+Runs-pieces : {p : Setting} (f : List Piece → Steps) {s : State} {xs ys ps : List Piece} {o : Outcome} → xs ≡ ys
+    → Runs p (f ys) s ps o → Runs p (f xs) s ps o
+Runs-pieces {p = p} f {s = s} {ps = ps} {o = o} e r = subst (λ (zs : List Piece). Runs p (f zs) s ps o) (sym e) r
+
+abbrev pub IsWhole : Outcome → Type 0
+IsWhole o = IsStop o → ⊥
+
+-- a stop right here is one
+stops : (x : Piece) (o : Outcome) → StopsAt x o → IsStop o
+stops x (Ended s) h = h
+stops x (Refused f) h = h
+stops x (Faulted f) h = tt
+stops x NoMemory h = tt
+
+-- what is marked stops only where it stopped
+pub IsStop-marked : (t : Task) (o : Outcome) → IsStop o → IsStop (marked t o)
+IsStop-marked t (Ended s) h = h
+IsStop-marked t (Refused f) h = h
+IsStop-marked t (Faulted f) h = h
+IsStop-marked t NoMemory h = h
+
+pub marked-IsStop : (t : Task) (o : Outcome) → IsStop (marked t o) → IsStop o
+marked-IsStop t (Ended s) h = h
+marked-IsStop t (Refused f) h = h
+marked-IsStop t (Faulted f) h = h
+marked-IsStop t NoMemory h = h
+
+pub Runs-one : {p : Setting} {k : Steps} {s : State} {ps qs : List Piece} {o q : Outcome}
+    → Runs p k s ps o → Runs p k s qs q → IsWhole o → IsWhole q → (ps ≡ qs) × (o ≡ q)
+Runs-one done done h g = (refl, refl)
+Runs-one done stop h g = absurd (g tt)
+Runs-one refused refused h g = (refl, refl)
+Runs-one refused stop h g = absurd (g tt)
+Runs-one stop q h g = absurd (h tt)
+Runs-one (wrote {xs = xs} r) (wrote q) h g = let e = Runs-one r q h g in (ap (λ zs. xs ++ zs) e.0, e.1)
+Runs-one (wrote r) (cut {x = x} {o = o} i b) h g = absurd (g (stops x o i))
+Runs-one (wrote r) stop h g = absurd (g tt)
+Runs-one (cut {x = x} {o = o} i b) q h g = absurd (h (stops x o i))
+Runs-one (got r) (got q) h g = Runs-one r q h g
+Runs-one (got r) stop h g = absurd (g tt)
+Runs-one (set r) (set q) h g = Runs-one r q h g
+Runs-one (set r) stop h g = absurd (g tt)
+Runs-one (did {ps = xs} {qs = ys} a b) (did {ps = zs} c d) h g =
+    let e = Runs-one a c (λ x. x) (λ x. x) in
+    let f = Runs-one b (Runs-state (Ended-injective e.1) d) h g in
+    (ap (λ ws. ws ++ ys) e.0 ∙ ap (λ ws. zs ++ ws) f.0, f.1)
+Runs-one (did a b) (did_over {t = t} {o = o} c over) h g =
+    absurd (subst IsOver (sym (Runs-one a c (λ x. x) (λ i. g (IsStop-marked t o i))).1) over)
+Runs-one (did a b) stop h g = absurd (g tt)
+Runs-one (did_over {t = t} {o = o} a over) (did c d) h g =
+    absurd (subst IsOver (Runs-one a c (λ i. h (IsStop-marked t o i)) (λ x. x)).1 over)
+Runs-one (did_over {t = t} {o = o} a over) (did_over {o = o'} c over') h g =
+    let e = Runs-one a c (λ i. h (IsStop-marked t o i)) (λ i. g (IsStop-marked t o' i)) in (e.0, ap (marked t) e.1)
+Runs-one (did_over a over) stop h g = absurd (g tt)
+Runs-one (captured {f = f} a b) (captured c d) h g =
+    let e = Runs-one a c (λ x. x) (λ x. x) in Runs-one b (Runs-pieces f e.0 d) h g
+Runs-one (captured a b) (captured_over c over) h g = absurd (subst IsOver (sym (Runs-one a c (λ x. x) g).1) over)
+Runs-one (captured a b) stop h g = absurd (g tt)
+Runs-one (captured_over a over) (captured c d) h g = absurd (subst IsOver (Runs-one a c h (λ x. x)).1 over)
+Runs-one (captured_over a over) (captured_over c over') h g = (refl, (Runs-one a c h g).1)
+Runs-one (captured_over a over) stop h g = absurd (g tt)
+
+IsBeginning-join : (xs ys zs : List Piece) → IsBeginning (join ys) (join zs)
+    → IsBeginning (join (xs ++ ys)) (join (xs ++ zs))
+IsBeginning-join [] ys zs b = b
+IsBeginning-join (x ∷ xs) ys zs b = let d = IsBeginning-join xs ys zs b in (d.0, ap (λ ws. x.text ++ ws) d.1 ∙ sym (append_assoc x.text (join (xs ++ ys)) d.0))
+
+IsBeginning-more : (xs ys zs : List Piece) → IsBeginning (join xs) (join ys) → IsBeginning (join xs) (join (ys ++ zs))
+IsBeginning-more xs ys zs b = (b.0 ++ join zs, join-append ys zs ∙ ap (λ ws. ws ++ join zs) b.1 ∙ append_assoc (join xs) b.0 (join zs))
+
+IsBeginning-front : {xs ys : List Piece} → Front xs ys → IsBeginning (join xs) (join ys)
+IsBeginning-front (none {ps = ps}) = (join ps, refl)
+IsBeginning-front (cut_off {p = p} {t = t} {ps = ps} b) = (b.0 ++ join ps, ap (λ ws. ws ++ join ps) b.1 ∙ append_assoc t b.0 (join ps) ∙ ap (λ ws. ws ++ (b.0 ++ join ps)) (sym (append-nil t)))
+IsBeginning-front (more {p = p} {qs = qs} {ps = ps} f) = let b = IsBeginning-front f in (b.0, ap (λ ws. p.text ++ ws) b.1 ∙ sym (append_assoc p.text (join qs) b.0))
+
+-- a run that stopped wrote a beginning of the whole one
+pub Runs-beginning : {p : Setting} {k : Steps} {s : State} {ps qs : List Piece} {o q : Outcome}
+    → Runs p k s ps o → Runs p k s qs q → IsStop o → IsWhole q → IsBeginning (join ps) (join qs)
+Runs-beginning done q h g = absurd h
+Runs-beginning refused q h g = absurd h
+Runs-beginning {qs = qs} stop q h g = (join qs, refl)
+Runs-beginning (wrote {xs = xs} {ps = ps} r) (wrote {ps = qs} q) h g = IsBeginning-join xs ps qs (Runs-beginning r q h g)
+Runs-beginning (wrote r) (cut {x = x} {o = o} i b) h g = absurd (g (stops x o i))
+Runs-beginning (wrote r) stop h g = absurd (g tt)
+Runs-beginning (cut {x = x} {xs = xs} {ys = ys} i b) (wrote {ps = qs} q) h g = IsBeginning-more ys (x ∷ xs) qs (IsBeginning-front b)
+Runs-beginning (cut i b) (cut {x = x} {o = o} j c) h g = absurd (g (stops x o j))
+Runs-beginning (cut i b) stop h g = absurd (g tt)
+Runs-beginning (got r) (got q) h g = Runs-beginning r q h g
+Runs-beginning (got r) stop h g = absurd (g tt)
+Runs-beginning (set r) (set q) h g = Runs-beginning r q h g
+Runs-beginning (set r) stop h g = absurd (g tt)
+Runs-beginning (did {ps = xs} {qs = ys} a b) (did {ps = zs} {qs = ws} c d) h g =
+    let e = Runs-one a c (λ x. x) (λ x. x) in
+    subst (λ (us : List Piece). IsBeginning (join (xs ++ ys)) (join (us ++ ws))) e.0
+    (IsBeginning-join xs ys ws (Runs-beginning b (Runs-state (Ended-injective e.1) d) h g))
+Runs-beginning (did a b) (did_over {t = t} {o = o} c over) h g =
+    absurd (subst IsOver (sym (Runs-one a c (λ x. x) (λ i. g (IsStop-marked t o i))).1) over)
+Runs-beginning (did a b) stop h g = absurd (g tt)
+Runs-beginning (did_over {t = t} {ps = xs} {o = o} a over) (did {ps = zs} {qs = ws} c d) h g =
+    IsBeginning-more xs zs ws (Runs-beginning a c (marked-IsStop t o h) (λ x. x))
+Runs-beginning (did_over {t = t} {o = o} a over) (did_over {o = o'} c over') h g =
+    Runs-beginning a c (marked-IsStop t o h) (λ i. g (IsStop-marked t o' i))
+Runs-beginning (did_over a over) stop h g = absurd (g tt)
+Runs-beginning (captured {f = f} a b) (captured c d) h g =
+    let e = Runs-one a c (λ x. x) (λ x. x) in Runs-beginning b (Runs-pieces f e.0 d) h g
+Runs-beginning (captured a b) (captured_over c over) h g = absurd (subst IsOver (sym (Runs-one a c (λ x. x) g).1) over)
+Runs-beginning (captured a b) stop h g = absurd (g tt)
+Runs-beginning {qs = qs} (captured_over a over) q h g = (join qs, refl)

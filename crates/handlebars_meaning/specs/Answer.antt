@@ -1,0 +1,59 @@
+-- What a rendering answers, at a setting, from a source or from a registered template.
+use Rattle.std.specs.Prelude.{◌≡◌, List, [], Option, None, Some}
+use Rattle.handlebars_base.specs.Bytes.{Text}
+use Rattle.handlebars_base.specs.Reasons.{Refusal, TemplateRefusal, of_template, template_not_found}
+use Rattle.handlebars_base.specs.RenderRefusals.{plain_refusal}
+use Rattle.handlebars_template.specs.Tree.{Tree}
+use Rattle.handlebars_template.specs.Compile.{Options, Compiles, compiled, refused}
+use Rattle.handlebars_scope.specs.Put.{Piece, join}
+use Rattle.handlebars_meaning.specs.State.{Setting, State, first_state}
+use Rattle.handlebars_meaning.specs.Means.{render_tree}
+use Rattle.handlebars_meaning.specs.Runs.{Outcome, Ended, Refused, IsStop, Means}
+use Rattle.handlebars_meaning.specs.Origins.{Comes, HaveOrigins}
+
+-- what a rendering begins with: a tree, or a refusal before anything is written
+pub data Beginning : Type 0 where
+  a_tree : Tree → Beginning
+  no_tree : Refusal → Beginning
+
+-- a source's tree; one that doesn't compile is refused
+pub data FromSource (options : Options) (source : Text) : Beginning → Type 0 where
+  compiles : {t : Tree} → Compiles source options (compiled t) → FromSource options source (a_tree t)
+  does_not : {r : TemplateRefusal} → Compiles source options (refused r)
+      → FromSource options source (no_tree (plain_refusal (of_template r)))
+
+-- the tree that is stored under a name; a name without one is refused
+pub data FromName (stored : Text → Option Tree) (name : Text) : Beginning → Type 0 where
+  is_stored : {t : Tree} → stored name ≡ Some t → FromName stored name (a_tree t)
+  is_not : stored name ≡ None → FromName stored name (no_tree (plain_refusal (template_not_found name)))
+
+-- A tree means its answer, from the first state on, with recursive lookup or without.
+pub data RenderAnswers (p : Setting) (begins : Beginning → Type 0) : List Piece → Outcome → Type 0 where
+  not_begun : {r : Refusal} → begins (no_tree r) → RenderAnswers p begins [] (Refused r)
+  rendered : {t : Tree} {ps : List Piece} {o : Outcome} → begins (a_tree t) → Means p t (first_state p.parts.recursive) ps o
+      → RenderAnswers p begins ps o
+
+-- The text is that of the answer, which ends well.
+pub record GivesText (p : Setting) (begins : Beginning → Type 0) (text : Text) : Type 0 where
+  pub pieces : List Piece
+  pub last : State
+  pub answers : RenderAnswers p begins pieces (Ended last)
+  pub is : text ≡ join pieces
+
+-- The answer is this refusal, with its reason, position and name, perhaps behind pieces.
+pub record RefusesWith (p : Setting) (begins : Beginning → Type 0) (r : Refusal) : Type 0 where
+  pub pieces : List Piece
+  pub answers : RenderAnswers p begins pieces (Refused r)
+
+-- There is at most one answer, but for runs that stop on the way.
+abbrev pub HasOneAnswer : Setting → (Beginning → Type 0) → Type 0
+HasOneAnswer p begins = (ps qs : List Piece) (o q : Outcome)
+    → RenderAnswers p begins ps o → RenderAnswers p begins qs q
+    → (IsStop o → ⊥) → (IsStop q → ⊥) → (ps ≡ qs) × (o ≡ q)
+
+-- Each piece of an answer comes from the tree that it begins with: it is a part of a text of the tree, or of the value
+-- or the boolean helper's word that is written at its site in a state in which the run comes there.
+abbrev pub AnswerHasOrigins : Setting → (Beginning → Type 0) → Type 0
+AnswerHasOrigins p begins = (t : Tree) (ps : List Piece) (o : Outcome)
+    → begins (a_tree t) → RenderAnswers p begins ps o
+    → HaveOrigins p t (Comes p (render_tree t) (first_state p.parts.recursive)) ps

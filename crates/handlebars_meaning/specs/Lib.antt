@@ -1,0 +1,10 @@
+pub mod State
+pub mod Steps
+pub mod Writing
+pub mod CarryOut
+pub mod Expand
+pub mod Means
+pub mod Runs
+pub mod Origins
+pub mod Laws
+pub mod Answer

@@ -1,0 +1,115 @@
+-- How steps are carried out: the pieces that are written, and the outcome.
+use Rattle.std.specs.Prelude.{◌≡◌, Bool, true, false, List, [], ◌∷◌, ◌++◌, Option, None, Some}
+use Rattle.handlebars_base.specs.Bytes.{Text}
+use Rattle.handlebars_base.specs.Reasons.{Spot, nowhere, Refusal}
+use Rattle.handlebars_base.specs.RenderRefusals.{name_if_none, place_if_none}
+use Rattle.handlebars_template.specs.Place.{Place}
+use Rattle.handlebars_template.specs.Tree.{Tree, tree_name}
+use Rattle.handlebars_scope.specs.Outputs.{IsBeginning}
+use Rattle.handlebars_scope.specs.Put.{Origin, of_text, of_value, of_raw, of_word, Piece}
+use Rattle.handlebars_meaning.specs.State.{Setting, State}
+use Rattle.handlebars_meaning.specs.Steps.{Task, One, Whole, Steps, Done, Refuse, Write, Get, Set, Do, Capture, Prog}
+use Rattle.handlebars_meaning.specs.Means.{todo, render_tree}
+
+-- a write that failed: whether it was of a boolean helper's word, and where, as far as it is known
+pub record Fault : Type 0 where
+  pub at_word : Bool
+  pub spot : Spot
+
+abbrev pub plain_fault : Bool → Fault
+plain_fault at_word = record { at_word = at_word; spot = nowhere }
+
+abbrev pub is_word : Origin → Bool
+is_word (of_text site) = false
+is_word (of_value site v) = false
+is_word (of_raw site v) = false
+is_word (of_word site b) = true
+
+-- A run ends in a state or is refused. It may also stop on the way, for a fault of the output or for want of memory.
+pub data Outcome : Type 0 where
+  Ended : State → Outcome
+  Refused : Refusal → Outcome
+  Faulted : Fault → Outcome
+  NoMemory : Outcome
+
+abbrev pub IsOver : Outcome → Type 0
+IsOver (Ended s) = ⊥
+IsOver (Refused r) = Unit {0}
+IsOver (Faulted f) = Unit {0}
+IsOver NoMemory = Unit {0}
+
+abbrev pub IsStop : Outcome → Type 0
+IsStop (Ended s) = ⊥
+IsStop (Refused r) = ⊥
+IsStop (Faulted f) = Unit {0}
+IsStop NoMemory = Unit {0}
+
+-- a stop right here, at a piece, of which no position and no template is known yet
+abbrev pub StopsAt : Piece → Outcome → Type 0
+StopsAt x (Ended s) = ⊥
+StopsAt x (Refused r) = ⊥
+StopsAt x (Faulted f) = f ≡ plain_fault (is_word x.origin)
+StopsAt x NoMemory = Unit {0}
+
+-- An element gives its place to what is refused or fails within it, and a tree its name, where they have one and none
+-- is known.
+abbrev pub placed_at : Option Place → Spot → Spot
+placed_at None spot = spot
+placed_at (Some p) spot = place_if_none p.line p.column spot
+
+abbrev pub named_as : Option Text → Spot → Spot
+named_as None spot = spot
+named_as (Some n) spot = name_if_none n spot
+
+abbrev pub mark : Task → Spot → Spot
+mark (One site place e) spot = placed_at place spot
+mark (Whole at t) spot = named_as (tree_name t) spot
+
+abbrev pub marked : Task → Outcome → Outcome
+marked t (Ended s) = Ended s
+marked t (Refused r) = Refused (record r { spot = mark t r.spot })
+marked t (Faulted f) = Faulted (record f { spot = mark t f.spot })
+marked t NoMemory = NoMemory
+
+-- the first of the pieces, the last of them perhaps in part
+pub data Front : List Piece → List Piece → Type 0 where
+  none : {ps : List Piece} → Front [] ps
+  cut_off : {p : Piece} {t : Text} {ps : List Piece}
+      → IsBeginning t p.text → Front (record p { text = t } ∷ []) (p ∷ ps)
+  more : {p : Piece} {qs ps : List Piece} → Front qs ps → Front (p ∷ qs) (p ∷ ps)
+
+-- Runs p k s ps o: from the state s the steps k write the pieces ps and come to the outcome o.
+pub data Runs (p : Setting) : Steps → State → List Piece → Outcome → Type 0 where
+  done : {s : State} → Runs p Done s [] (Ended s)
+  refused : {s : State} {r : Refusal} → Runs p (Refuse r) s [] (Refused r)
+  wrote : {s : State} {xs ps : List Piece} {k : Steps} {o : Outcome}
+      → Runs p k s ps o → Runs p (Write xs k) s (xs ++ ps) o
+  got : {s : State} {f : State → Steps} {ps : List Piece} {o : Outcome} → Runs p (f s) s ps o → Runs p (Get f) s ps o
+  set : {s next : State} {k : Steps} {ps : List Piece} {o : Outcome} → Runs p k next ps o → Runs p (Set next k) s ps o
+  -- a part is done, or is over before its end, and then nothing follows
+  did : {s next : State} {t : Task} {k : Steps} {ps qs : List Piece} {o : Outcome}
+      → Runs p (todo p t) s ps (Ended next) → Runs p k next qs o → Runs p (Do t k) s (ps ++ qs) o
+  did_over : {s : State} {t : Task} {k : Steps} {ps : List Piece} {o : Outcome}
+      → Runs p (todo p t) s ps o → IsOver o → Runs p (Do t k) s ps (marked t o)
+  -- what was captured is told, and the state is as it was before; a capture that is over before its end wrote nothing
+  captured : {s next : State} {m : Steps} {f : List Piece → Steps} {ps qs : List Piece} {o : Outcome}
+      → Runs p m s ps (Ended next) → Runs p (f ps) s qs o → Runs p (Capture m f) s qs o
+  captured_over : {s : State} {m : Steps} {f : List Piece → Steps} {ps : List Piece} {o : Outcome}
+      → Runs p m s ps o → IsOver o → Runs p (Capture m f) s [] o
+  -- want of memory between two steps
+  stop : {s : State} {k : Steps} → Runs p k s [] NoMemory
+  -- a stop within a write that isn't empty
+  cut : {s : State} {x : Piece} {xs ys : List Piece} {k : Steps} {o : Outcome}
+      → StopsAt x o → Front ys (x ∷ xs) → Runs p (Write (x ∷ xs) k) s ys o
+
+-- The value is this: whatever comes next for it comes of the whole, from the same state and with nothing written.
+abbrev pub GivesValue : {A : Type 0} → Setting → Prog A → State → A → Type 0
+GivesValue p m s a = (k : _) (ps : List Piece) (o : Outcome) → Runs p (k a) s ps o → Runs p (m k) s ps o
+
+-- There is no value, but this refusal, whatever were to come next.
+abbrev pub RefusesValue : {A : Type 0} → Setting → Prog A → State → Refusal → Type 0
+RefusesValue p m s r = (k : _) → Runs p (m k) s [] (Refused r)
+
+-- the meaning of a tree
+abbrev pub Means : Setting → Tree → State → List Piece → Outcome → Type 0
+Means p t s ps o = Runs p (render_tree t) s ps o

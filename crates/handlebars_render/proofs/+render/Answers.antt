@@ -1,0 +1,269 @@
+use Rattle.std.proofs.Common.{◌∙◌, sym, ap, map, Option, option_map, List, refl}
+use Rattle.std.specs.Prelude.{slice_get, unwrap_or}
+use Rattle.serde_json.specs.Data.{null, number, unsigned}
+use Rattle.serde_json.specs.View.{view}
+use Rattle.handlebars_base.specs.RenderRefusals.{spot_of}
+use Rattle.handlebars_template.specs.Place.{Place}
+use Rattle.handlebars_template.specs.Tree.{Tree, tree_name, CallMarks, call_marks}
+use Rattle.handlebars_template.specs.TreeView.{body_view, call_view, element_view, place_of}
+use Rattle.handlebars_template.specs.declared.template.tree.TemplateMapping.{TemplateMapping}
+use Rattle.handlebars_template.proofs.Levels.{call_body-view, call_inverse-view, call_marks-view, element_view-Expression, element_view-HelperBlock, element_view-DecoratorExpression, element_view-DecoratorBlock, element_view-PartialExpression, element_view-PartialBlock, element_view-Comment, element_view-RawString}
+use Rattle.handlebars_template.proofs.Trees.{tree_view-out}
+use Rattle.handlebars_scope.specs.Put.{of_text}
+use Rattle.handlebars_scope.specs.Sites.{body_at, inverse_at, element_in}
+use Rattle.handlebars_helpers.specs.View.{kind_of, base_view, path_view, turn_view}
+use Rattle.handlebars_scope.specs.Scopes.{Frame, empty_frame}
+use Rattle.handlebars_meaning.specs.CarryOut.{helper_call}
+use Rattle.handlebars_meaning.specs.Means.{render_chosen}
+use Rattle.handlebars_meaning.specs.Runs.{named_as, placed_at}
+use Rattle.handlebars_render.specs.View.{called_view, state_of}
+use Rattle.handlebars_render.proofs.Calls.{branch_none, carry_out_value, chosen_ok, chosen_err, entered_as}
+use Rattle.handlebars_render.proofs.Leaves.{carries_on-leaves}
+use Rattle.handlebars_render.proofs.Carry.{carries-done, carries-no_value, carries-out_of_memory, carries-puts, carries-run, carries-unescaped, carries_on-bracket, carries_on-done, carries_on-task, carries_on-task_over, carries_on-word, restored, carries_on-in_block, carries_on-out_of_memory}
+use Rattle.handlebars_meaning.specs.State.{entered}
+use Rattle.handlebars_render.proofs.Elements.{left_starts, left_goes, left_over, left_ends, whole_with}
+use Rattle.handlebars_render.proofs.Kept.{kept-refl, kept-trans, outer-kept, outer-trans}
+use Rattle.handlebars_render.proofs.Lists.{get_or-seen, below-seen, over-seen, place_there, looked_up, placed_marks}
+use Rattle.handlebars_render.proofs.Turns.{binding-seen, carries_on-turn, carries_on-with, entered-with, turns-end, turns-go, turns-no_memory, turns-over}
+use Rattle.handlebars_render.proofs.+render.Goals as goal
+
+-- ---- calls
+
+pub block::render_tag-returns-in-Ok-Done-clause-renders : goal.block::render_tag-returns-in-Ok-Done-clause-renders
+block::render_tag-returns-in-Ok-Done-clause-renders g t c = λ site.
+    rw c.set_line.ensures.state (rw c.in-Ok-Done.field-0-is at (c.in-Ok-Done.ensures site))
+
+pub block::render_tag-returns-in-Ok-Call-clause-renders : goal.block::render_tag-returns-in-Ok-Call-clause-renders
+block::render_tag-returns-in-Ok-Call-clause-renders g t c = λ site.
+    let left = rw c.in-Ok-Call.field-0-is at (c.in-Ok-Call.ensures site) in
+    carries_on-leaves _ _ _ _ left.0 left.1 (c.render_next.ensures.renders site)
+
+pub block::render_tag-returns-in-Err-clause-renders : goal.block::render_tag-returns-in-Err-clause-renders
+block::render_tag-returns-in-Err-clause-renders g t c = λ site. c.in-Err.ensures site
+
+pub block::render_next-returns-then-not-bracket-clause-renders : goal.block::render_next-returns-then-not-bracket-clause-renders
+block::render_next-returns-then-not-bracket-clause-renders g t c = λ site.
+    rw c.if-not-bracket.true (rw c.into_call-call.ensures at (c.render_chosen.ensures.renders site))
+
+pub block::render_next-returns-clause-renders : goal.block::render_next-returns-clause-renders
+block::render_next-returns-clause-renders g t c = λ site.
+    let marked = ap (λ (m : CallMarks). m.indent_before_write) (call_marks-view c.args.helper.now) in
+    rw c.if-not-bracket.false (carries_on-bracket _ _ (call_marks (call_view c.args.helper.now)).indent_before_write
+    (render_chosen (g.P.Registered.parts c.args.setting.now.parts.now).strict site (kind_of c.args.to_call.kind)
+    (helper_call c.args.block (call_view c.args.helper.now) (called_view c.args.to_call.call)))
+    (entered_as (state_of c.args.rc.now) (state_of c.enter_call.new.rc) _ _ marked c.enter_call.ensures.state)
+    (c.leave_call.ensures.state (state_of c.args.rc.now).line (sym c.get_indent_before_write-before.ensures)
+    (sym c.get_content_produced-produced.ensures))
+    (rw c.into_call-call.ensures at (c.render_chosen-answer.ensures.renders site)))
+
+pub block::render_chosen-returns-in-Ok-clause-renders : goal.block::render_chosen-returns-in-Ok-clause-renders
+block::render_chosen-returns-in-Ok-clause-renders g t c = λ site.
+    chosen_ok _ _ _ _ site (kind_of c.args.kind) _
+    (helper_call c.args.block (call_view c.args.helper.now) (called_view c.args.call)) _
+    c.strict.ensures c.of_call-view.ensures c.in-Ok.ensures
+    (c.carry_out.ensures.renders site c.args.block (called_view c.args.call))
+
+pub block::render_chosen-returns-clause-renders : goal.block::render_chosen-returns-clause-renders
+block::render_chosen-returns-clause-renders g t c = λ site.
+    chosen_err _ _ _ _ site (kind_of c.args.kind) _
+    (helper_call c.args.block (call_view c.args.helper.now) (called_view c.args.call)) c.in-Err.e
+    c.strict.ensures c.of_call-view.ensures c.in-Err.ensures
+
+pub block::carry_out-returns-in-Body-clause-renders : goal.block::carry_out-returns-in-Body-clause-renders
+block::carry_out-returns-in-Body-clause-renders g t c = λ site block v. rw c.in-Body.is (c.render_body.ensures.renders site block v)
+
+pub block::carry_out-returns-in-Inverse-clause-renders : goal.block::carry_out-returns-in-Inverse-clause-renders
+block::carry_out-returns-in-Inverse-clause-renders g t c = λ site block v. rw c.in-Inverse.is (c.render_inverse.ensures.renders site block v)
+
+pub block::carry_out-returns-in-Value-clause-renders : goal.block::carry_out-returns-in-Value-clause-renders
+block::carry_out-returns-in-Value-clause-renders g t c = λ site block v. rw c.in-Value.is
+    (carry_out_value _ _ site (helper_call block (call_view c.args.helper.now) v) (unwrap_or (option_map (λ x. view x.now) c.in-Value.value) null)
+    c.write_chosen.ensures.puts)
+
+pub block::carry_out-returns-in-Count-clause-renders : goal.block::carry_out-returns-in-Count-clause-renders
+block::carry_out-returns-in-Count-clause-renders g t c = λ site block v. rw c.in-Count.is
+    (carry_out_value _ _ site (helper_call block (call_view c.args.helper.now) v) (number (unsigned c.in-Count.count))
+    c.write_count.ensures.puts)
+
+pub block::carry_out-returns-in-Word-clause-renders : goal.block::carry_out-returns-in-Word-clause-renders
+block::carry_out-returns-in-Word-clause-renders g t c = λ site block v. rw c.in-Word.is
+    (carries_on-word _ _ site c.in-Word.word (c.write_word.ensures (state_of c.args.rc.now)))
+
+pub block::carry_out-returns-in-Line-clause-renders : goal.block::carry_out-returns-in-Line-clause-renders
+block::carry_out-returns-in-Line-clause-renders g t c = λ site block v. rw c.in-Line.is (carries_on-done _ _)
+
+pub block::carry_out-returns-in-Nothing-clause-renders : goal.block::carry_out-returns-in-Nothing-clause-renders
+block::carry_out-returns-in-Nothing-clause-renders g t c = λ site block v. rw c.in-Nothing.is (carries_on-done _ _)
+
+pub block::render_body-returns-in-None-clause-renders : goal.block::render_body-returns-in-None-clause-renders
+block::render_body-returns-in-None-clause-renders g t c = λ site block v.
+    branch_none _ _ (body_at site) _ (call_body-view c.args.helper.now ∙ ap body_view c.in-None.is)
+
+pub block::render_inverse-returns-in-None-clause-renders : goal.block::render_inverse-returns-in-None-clause-renders
+block::render_inverse-returns-in-None-clause-renders g t c = λ site block v.
+    branch_none _ _ (inverse_at site) _ (call_inverse-view c.args.helper.now ∙ ap body_view c.in-None.is)
+
+-- ---- elements
+
+pub element::render_element-returns-in-RawString-clause-renders : goal.element::render_element-returns-in-RawString-clause-renders
+element::render_element-returns-in-RawString-clause-renders g t c = λ site. rw (c.in-RawString.is, element_view-RawString)
+    (carries-puts _ _ (of_text site) _ refl (rw c.as_str.ensures.value at c.indent_aware_write.ensures.puts))
+
+pub element::render_element-returns-in-Expression-clause-renders : goal.element::render_element-returns-in-Expression-clause-renders
+element::render_element-returns-in-Expression-clause-renders g t c = λ site. rw (c.in-Expression.is, element_view-Expression)
+    (carries-run _ _ (rw c.deref.ensures at (c.render_tag.ensures.renders site)))
+
+pub element::render_element-returns-in-Comment-clause-renders : goal.element::render_element-returns-in-Comment-clause-renders
+element::render_element-returns-in-Comment-clause-renders g t c = λ site. rw (c.in-Comment.is, element_view-Comment) (carries-done _ _)
+
+pub element::render_element-returns-in-HelperBlock-clause-renders : goal.element::render_element-returns-in-HelperBlock-clause-renders
+element::render_element-returns-in-HelperBlock-clause-renders g t c = λ site. rw (c.in-HelperBlock.is, element_view-HelperBlock)
+    (carries-run _ _ (rw c.deref-in-HelperBlock.ensures at (c.render_tag-in-HelperBlock.ensures.renders site)))
+
+pub element::render_element-returns-in-DecoratorExpression-clause-renders : goal.element::render_element-returns-in-DecoratorExpression-clause-renders
+element::render_element-returns-in-DecoratorExpression-clause-renders g t c = λ site. rw (c.in-DecoratorExpression.is, element_view-DecoratorExpression)
+    (carries-no_value _ _ _ _ c.decorator_not_found.result
+    (rw c.deref-in-DecoratorExpression.ensures at (c.decorator_not_found.ensures site)))
+
+pub element::render_element-returns-in-DecoratorBlock-clause-renders : goal.element::render_element-returns-in-DecoratorBlock-clause-renders
+element::render_element-returns-in-DecoratorBlock-clause-renders g t c = λ site. rw (c.in-DecoratorBlock.is, element_view-DecoratorBlock)
+    (carries-no_value _ _ _ _ c.decorator_not_found-in-DecoratorBlock.result
+    (rw c.deref-in-DecoratorBlock.ensures at (c.decorator_not_found-in-DecoratorBlock.ensures site)))
+
+pub element::render_element-returns-in-PartialExpression-clause-renders : goal.element::render_element-returns-in-PartialExpression-clause-renders
+element::render_element-returns-in-PartialExpression-clause-renders g t c = λ site. rw (c.in-PartialExpression.is, element_view-PartialExpression)
+    (carries-no_value _ _ _ _ c.partial_not_found.result
+    (rw c.deref-in-PartialExpression.ensures at (c.partial_not_found.ensures site)))
+
+pub element::render_element-returns-in-PartialBlock-clause-renders : goal.element::render_element-returns-in-PartialBlock-clause-renders
+element::render_element-returns-in-PartialBlock-clause-renders g t c = λ site. rw (c.in-PartialBlock.is, element_view-PartialBlock)
+    (carries-no_value _ _ _ _ c.partial_not_found-in-PartialBlock.result
+    (rw c.deref-in-PartialBlock.ensures at (c.partial_not_found-in-PartialBlock.ensures site)))
+
+pub element::render_unescaped-returns-clause-renders : goal.element::render_unescaped-returns-clause-renders
+element::render_unescaped-returns-clause-renders g t c = λ site. carries-unescaped _ _ c.set_disable_escape.ensures.state
+    (c.set_disable_escape-2.ensures.state ∙ restored (state_of c.render_tag-answer.new.rc) (state_of c.args.rc.now).escapes _ c.is_disable_escape-disabled.ensures)
+    (c.render_tag-answer.ensures.renders site)
+
+-- ---- trees
+
+pub tree::render_tree-returns-in-Ok-clause-renders : goal.tree::render_tree-returns-in-Ok-clause-renders
+tree::render_tree-returns-in-Ok-clause-renders g t c = λ at. carries_on-task _ _ (c.in-Ok.ensures.renders at)
+
+pub tree::render_tree-returns-in-Err-clause-renders : goal.tree::render_tree-returns-in-Err-clause-renders
+tree::render_tree-returns-in-Err-clause-renders g t c = λ at. carries_on-task_over _ _ c.in-Err.e c.named.result
+    (record {
+      spot = λ other. c.named.ensures.spot other
+          ∙ ap (λ (z : Tree). named_as (tree_name z) (spot_of c.in-Err.e)) (sym (tree_view-out c.args.template.now));
+      cause = c.named.ensures.cause;
+      memory = c.named.ensures.memory;
+    })
+    (c.in-Err.ensures.renders at)
+
+pub tree::render_whole-returns-in_err-enter-clause-renders : goal.tree::render_whole-returns-in_err-enter-clause-renders
+tree::render_whole-returns-in_err-enter-clause-renders g t c = λ at. carries-out_of_memory _ _ c.from_residual.result c.from_residual.ensures.1
+
+pub tree::render_whole-elements-init : goal.tree::render_whole-elements-init
+tree::render_whole-elements-init g t c = record { left = λ at. left_starts _ _ at _ _ _; kept = kept-refl _ }
+
+pub tree::render_whole-elements-preserved : goal.tree::render_whole-elements-preserved
+tree::render_whole-elements-preserved g t c = record {
+  left = λ at. left_goes _ _ at (map element_view c.deref-element-items.result.now) (map place_of c.args.template.now.mapping.items)
+      c.elements.index (element_view c.element-item.result) (element_view c.element-item.result) _ _ _
+      (below-seen element_view c.deref-element-items.result.now c.elements.index c.elements-test.true)
+      (get_or-seen element_view c.deref-element-items.result.now c.elements.index c.element-item.result c.element-item.is)
+      (c.elements.invariant.left at)
+      (c.in_default.ensures.renders (element_in at c.elements.index));
+  kept = kept-trans c.elements.invariant.kept c.in_default.ensures.kept;
+}
+
+pub tree::render_whole-returns-in-Err-clause-renders : goal.tree::render_whole-returns-in-Err-clause-renders
+tree::render_whole-returns-in-Err-clause-renders g t c = λ at.
+    let found = looked_up (λ m. m.now) c.deref.result.now c.elements.index _ c.get.result c.get.ensures.lookup.1 c.get.ensures.lookup.3
+    ∙ ap (λ (z : List TemplateMapping). slice_get z c.elements.index) c.deref.ensures.value in
+    let place = place_there c.args.template.now.mapping.items c.elements.index c.get.result found in
+    rw (tree_view-out c.args.template.now) (whole_with _ _ at _ _ _ c.in_ok-enter.ensures.ok (rw (sym c.deref-element-items.ensures.value)
+    (left_over _ _ at (map element_view c.deref-element-items.result.now) (map place_of c.args.template.now.mapping.items)
+    c.elements.index (element_view c.element-item.result) (element_view c.element-item.result) _ _ _ c.in-Err.e c.placed.result
+    (below-seen element_view c.deref-element-items.result.now c.elements.index c.elements-test.true)
+    (get_or-seen element_view c.deref-element-items.result.now c.elements.index c.element-item.result c.element-item.is)
+    (c.elements.invariant.left at)
+    (placed_marks _ _ _ _ _ (c.placed.ensures.spot ∙ ap (λ (z : Option Place). placed_at z (spot_of c.in-Err.e)) place) c.placed.ensures.cause)
+    (c.in-Err.ensures.renders (element_in at c.elements.index)))))
+
+pub tree::render_whole-returns-in-Err-clause-kept : goal.tree::render_whole-returns-in-Err-clause-kept
+tree::render_whole-returns-in-Err-clause-kept g t c = kept-trans c.in_ok-enter.ensures.kept (kept-trans c.elements.invariant.kept c.in-Err.ensures.kept)
+
+pub tree::render_whole-returns-clause-renders : goal.tree::render_whole-returns-clause-renders
+tree::render_whole-returns-clause-renders g t c = λ at.
+    rw (tree_view-out c.args.template.now) (whole_with _ _ at _ _ _ c.in_ok-enter.ensures.ok (rw (sym c.deref-element-items.ensures.value)
+    (left_ends _ _ at (map element_view c.deref-element-items.result.now) (map place_of c.args.template.now.mapping.items) c.elements.index _ _
+    (over-seen element_view c.deref-element-items.result.now c.elements.index c.elements-test.false) (c.elements.invariant.left at))))
+
+pub tree::render_whole-returns-clause-kept : goal.tree::render_whole-returns-clause-kept
+tree::render_whole-returns-clause-kept g t c = kept-trans c.in_ok-enter.ensures.kept c.elements.invariant.kept
+
+-- ---- turns
+
+-- ---- blocks of scope
+
+pub each::render_with-returns-in_err-variables-clause-renders : goal.each::render_with-returns-in_err-variables-clause-renders
+each::render_with-returns-in_err-variables-clause-renders g t c = λ site block v.
+    carries_on-out_of_memory _ _ c.from_residual.result c.from_residual.ensures.1
+
+pub each::render_with-returns-in_err-block-clause-renders : goal.each::render_with-returns-in_err-block-clause-renders
+each::render_with-returns-in_err-block-clause-renders g t c = λ site block v.
+    carries_on-out_of_memory _ _ c.from_residual-in_err-block.result c.from_residual-in_err-block.ensures.1
+
+pub each::render_with-returns-in_err-push_block-clause-renders : goal.each::render_with-returns-in_err-push_block-clause-renders
+each::render_with-returns-in_err-push_block-clause-renders g t c = λ site block v.
+    carries_on-out_of_memory _ _ c.from_residual-in_err-push_block.result c.from_residual-in_err-push_block.ensures.1
+
+pub each::render_with-returns-clause-renders : goal.each::render_with-returns-clause-renders
+each::render_with-returns-clause-renders g t c = λ site block v.
+    carries_on-with _ _ site (helper_call block (call_view c.args.helper.now) v) (base_view c.args.base)
+    (entered-with (base_view c.args.base) c.in_ok-push_block.ensures.ok c.in_ok-block.ensures
+    (binding-seen c.args.helper.now c.as_ref.result c.as_ref.ensures.value) c.in_ok-variables.ensures)
+    c.pop_block.ensures.state (c.render_body-answer.ensures.renders site block v)
+
+pub each::render_each-returns-in_err-push_block-clause-renders : goal.each::render_each-returns-in_err-push_block-clause-renders
+each::render_each-returns-in_err-push_block-clause-renders g t c = λ site block v.
+    carries_on-out_of_memory _ _ c.from_residual.result c.from_residual.ensures.1
+
+pub each::render_each-returns-clause-renders : goal.each::render_each-returns-clause-renders
+each::render_each-returns-clause-renders g t c = λ site block v.
+    carries_on-in_block _ _ empty_frame _
+    (c.in_ok-push_block.ensures.ok ∙ ap (λ (f : Frame). entered f (state_of c.args.rc.now)) c.new.ensures)
+    c.pop_block.ensures.state (c.take_turns-answer.ensures.renders site block v)
+
+-- ---- turns
+
+pub each::take_turns-returns-in_err-set_up_turn-clause-renders : goal.each::take_turns-returns-in_err-set_up_turn-clause-renders
+each::take_turns-returns-in_err-set_up_turn-clause-renders g t c = λ site block v.
+    turns-no_memory _ _ site (helper_call block (call_view c.args.helper.now) v) (path_view c.args.path) _ _ c.from_residual.result
+    c.in-Some.ensures (c.turns.invariant.left site block v) c.from_residual.ensures.1
+
+pub each::take_turns-returns-in-Err-clause-renders : goal.each::take_turns-returns-in-Err-clause-renders
+each::take_turns-returns-in-Err-clause-renders g t c = λ site block v.
+    turns-over _ _ site (helper_call block (call_view c.args.helper.now) v) (path_view c.args.path) _
+    c.in-Some.ensures (c.turns.invariant.left site block v)
+    (carries_on-turn _ _ site (helper_call block (call_view c.args.helper.now) v) (path_view c.args.path) (turn_view c.in-Some.turn)
+    (rw (sym (binding-seen c.args.helper.now c.as_ref.result c.as_ref.ensures.value)) c.in_ok-set_up_turn.ensures.ok)
+    (c.in-Err.ensures.renders site block v))
+
+pub each::take_turns-turns-preserved : goal.each::take_turns-turns-preserved
+each::take_turns-turns-preserved g t c = record {
+  left = λ site block v.
+      turns-go _ _ site (helper_call block (call_view c.args.helper.now) v) (path_view c.args.path) _
+      c.in-Some.ensures (c.turns.invariant.left site block v)
+      (carries_on-turn _ _ site (helper_call block (call_view c.args.helper.now) v) (path_view c.args.path) (turn_view c.in-Some.turn)
+      (rw (sym (binding-seen c.args.helper.now c.as_ref.result c.as_ref.ensures.value)) c.in_ok-set_up_turn.ensures.ok)
+      (c.in_default-render_body.ensures.renders site block v));
+  outer = outer-trans c.turns.invariant.outer
+      (outer-trans c.in_ok-set_up_turn.ensures.outer (outer-kept c.in_default-render_body.ensures.kept));
+}
+
+pub each::take_turns-returns-clause-renders : goal.each::take_turns-returns-clause-renders
+each::take_turns-returns-clause-renders g t c = λ site block v.
+    turns-end _ _ site (helper_call block (call_view c.args.helper.now) v) (path_view c.args.path) _
+    c.in_default.ensures (c.turns.invariant.left site block v)

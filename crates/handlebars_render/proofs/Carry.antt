@@ -1,0 +1,416 @@
+-- How the answers of calls compose, for the proofs of the rendering functions.
+use Rattle.std.proofs.Common.{◌≡◌, ◌≢◌, ℕ, Bool, true, false, not, List, [], ◌∷◌, ◌++◌, Result, Ok, Err, refl, sym, ap, ◌∙◌, subst, append_assoc, append-nil, ◌⊎◌, inl, inr, arith}
+use Rattle.std.specs.declared.io.Error.{Error}
+use Rattle.std.specs.Result.{IsErrAnd}
+use Rattle.handlebars_base.specs.Answers.{IsRefusal}
+use Rattle.handlebars_base.specs.Bytes.{Text}
+use Rattle.handlebars_base.specs.Reasons.{Reason, Spot, Refusal, out_of_memory}
+use Rattle.handlebars_base.specs.RenderRefusals.{reason_in, reason_of, spot_of, cause_of, refusal_of, plain_refusal}
+use Rattle.handlebars_base.specs.Values.{word}
+use Rattle.handlebars_base.specs.declared.error.render_error.RenderError.{RenderError}
+use Rattle.handlebars_scope.specs.Outputs.{Held}
+use Rattle.handlebars_scope.specs.Put.{Origin, of_word, Piece, join, pieces_of}
+use Rattle.handlebars_scope.specs.Scopes.{Frame}
+use Rattle.handlebars_scope.specs.Sites.{Site}
+use Rattle.handlebars_meaning.specs.State.{Setting, State, entered, left}
+use Rattle.handlebars_meaning.specs.Steps.{Task, Steps, Done, Refuse, Get, Set, Do, Prog, return, run, refuse_for, state, perform, ◌>>=◌, ◌>>◌}
+use Rattle.handlebars_meaning.specs.Writing.{write_text, write_word}
+use Rattle.handlebars_meaning.specs.CarryOut.{change, in_block}
+use Rattle.handlebars_meaning.specs.Means.{unescaped, line_in, line_out, in_bracket, todo}
+use Rattle.handlebars_meaning.specs.Runs.{Fault, plain_fault, is_word, Outcome, Ended, Refused, Faulted, NoMemory, mark, cut_off, Runs, done, refused, wrote, got, set, did, did_over, stop, cut, GivesValue, RefusesValue}
+use Rattle.handlebars_render.specs.View.{Moment, TellsCause, TellsFault, Answered, Tells, ended, refusal, fault, no_memory, CarriesOut, CarriesOn, goes_on, is_over, Puts, all_put, front_put, PutsWord, word_put, word_cut}
+use Rattle.handlebars_meaning.proofs.Runs.{join-append, Runs-short}
+
+-- want of memory, or another reason
+pub memory_or : (r : Reason) → (r ≡ out_of_memory) ⊎ (r ≢ out_of_memory)
+memory_or out_of_memory = inl refl
+memory_or _ = inr (λ e. cc)
+
+abbrev pub at : State → Held → Moment
+at s h = record { state = s; held = h }
+
+Tells-before : {may : Error → Type 0} {before between after : ℕ} {o : Outcome} {r : Result (Unit {0}) RenderError} {next : State}
+    → between ≡ before → Tells may between after o r next → Tells may before after o r next
+Tells-before {may = may} {after = after} {o = o} {r = r} {next = next} e t = subst (λ (n : ℕ). Tells may n after o r next) e t
+
+text-append : (T U V : Text) (xs ys : List Piece) → U ≡ T ++ join xs → V ≡ U ++ join ys → V ≡ T ++ join (xs ++ ys)
+text-append T U V xs ys a b =
+    b ∙ ap (λ (z : Text). z ++ join ys) a ∙ append_assoc T (join xs) (join ys) ∙ ap (λ (z : Text). T ++ z) (sym (join-append xs ys))
+
+-- the steps came to their end
+pub record Ends (p : Setting) (k : Steps) (before after : Moment) : Type 0 where
+  pub pieces : List Piece
+  pub runs : Runs p k before.state pieces (Ended after.state)
+  pub text : after.held.text ≡ before.held.text ++ join pieces
+  pub faults : after.held.faults ≡ before.held.faults
+
+-- An error becomes another, which has the mark of the task, or says that memory ran out.
+pub record IsMarked (t : Task) (e d : RenderError) : Type 0 where
+  pub spot : reason_in d ≢ out_of_memory → spot_of d ≡ mark t (spot_of e)
+  pub cause : reason_in d ≢ out_of_memory → cause_of d ≡ cause_of e
+  pub memory : reason_in e ≡ out_of_memory → reason_in d ≡ out_of_memory
+
+-- an error that a task leaves as it is
+pub unmarked : (t : Task) (e : RenderError) → mark t (spot_of e) ≡ spot_of e → IsMarked t e e
+unmarked t e is = record { spot = λ _. sym is; cause = λ _. refl; memory = λ m. m }
+
+marked-reason : (t : Task) (e d : RenderError) → IsMarked t e d → reason_in d ≢ out_of_memory
+    → reason_in d ≡ reason_in e
+marked-reason t e d m other = ap reason_of (m.cause other)
+
+marked-refusal : (t : Task) (e d : RenderError) → IsMarked t e d → reason_in d ≢ out_of_memory
+    → refusal_of d ≡ record { reason = reason_in e; spot = mark t (spot_of e) }
+marked-refusal t e d m other =
+    ap (λ (r : Reason). record { reason = r; spot = spot_of d }) (marked-reason t e d m other)
+    ∙ ap (λ (z : Spot). record { reason = reason_in e; spot = z }) (m.spot other)
+
+-- a cause that an error tells of, and so does another
+cause-as : (cause : Error) (at_word : Bool) (e d : RenderError) → reason_in d ≡ reason_in e → cause_of d ≡ cause_of e
+    → TellsCause cause at_word e → TellsCause cause at_word d
+cause-as cause false e d reason kept tells = (reason ∙ tells.0, kept ∙ tells.1)
+cause-as cause true e d reason kept tells = (tells.0, reason ∙ tells.1)
+
+marked-fault : (t : Task) (e d : RenderError) (cause : Error) (f : Fault) → IsMarked t e d → TellsFault cause f e
+    → TellsFault cause (record f { spot = mark t f.spot }) d
+marked-fault t e d cause f m tells = record {
+  why = λ other. cause-as cause f.at_word e d (marked-reason t e d m other) (m.cause other)
+      (tells.why (λ memory. other (m.memory memory)));
+  where_it_is = λ other. m.spot other ∙ ap (mark t) (tells.where_it_is (λ memory. other (m.memory memory)));
+}
+
+join-pieces_of : (o : Origin) (t : Text) → join (pieces_of o t) ≡ t
+join-pieces_of o [] = refl
+join-pieces_of o (b ∷ t) = append-nil (b ∷ t)
+
+not-not : (b : Bool) → not (not b) ≡ b
+not-not true = refl
+not-not false = refl
+
+-- what was turned off is as before
+pub restored : (s : State) (b off : Bool) → off ≡ not b → record s { escapes = not off } ≡ record s { escapes = b }
+restored s b off is = ap (λ (z : Bool). record s { escapes = z }) (ap not is ∙ not-not b)
+
+module _ (p : Setting) (may : Error → Type 0) where
+  pub carries-done : {s : State} {h : Held} {u : Unit {0}} → CarriesOut p Done may (at s h) (Ok u) (at s h)
+  carries-done {s = s} {h = h} =
+      record { pieces = []; outcome = Ended s; runs = done; text = sym (append-nil h.text); tells = ended refl }
+
+  pub carries-no_memory : {k : Steps} {s next : State} {h : Held} (e : RenderError) → reason_in e ≡ out_of_memory
+      → CarriesOut p k may (at s h) (Err e) (at next h)
+  carries-no_memory {h = h} e memory =
+      record { pieces = []; outcome = NoMemory; runs = stop; text = sym (append-nil h.text); tells = no_memory refl memory }
+
+  refused_so : {r : Refusal} {s next : State} {h : Held} (e : RenderError) → refusal_of e ≡ r
+      → CarriesOut p (Refuse r) may (at s h) (Err e) (at next h)
+  refused_so {r = r} {s = s} {h = h} e is = record {
+    pieces = [];
+    outcome = Refused (refusal_of e);
+    runs = subst (λ (z : Refusal). Runs p (Refuse r) s [] (Refused z)) (sym is) refused;
+    text = sym (append-nil h.text);
+    tells = refusal refl;
+  }
+
+  pub carries-refuse : {r : Refusal} {s next : State} {h : Held} (e : RenderError) → IsRefusal r e
+      → CarriesOut p (Refuse r) may (at s h) (Err e) (at next h)
+  carries-refuse e is = elim (memory_or (reason_in e)) [
+    | inl memory ↦ carries-no_memory e memory
+    | inr other ↦ refused_so e (is other)
+  ]
+
+  pub carries-get : {f : State → Steps} {s : State} {h : Held} {last : Moment} {r : Answered}
+      → CarriesOut p (f s) may (at s h) r last → CarriesOut p (Get f) may (at s h) r last
+  carries-get c = record { pieces = c.pieces; outcome = c.outcome; runs = got c.runs; text = c.text; tells = c.tells }
+
+  pub carries-set : {k : Steps} {s mid : State} {h : Held} {last : Moment} {r : Answered}
+      → CarriesOut p k may (at mid h) r last → CarriesOut p (Set mid k) may (at s h) r last
+  carries-set c = record { pieces = c.pieces; outcome = c.outcome; runs = set c.runs; text = c.text; tells = c.tells }
+
+  -- an error that says so, as `?` hands it on
+  pub carries-out_of_memory : {k : Steps} {s next : State} {h : Held} (r : Result (Unit {0}) RenderError)
+      → IsErrAnd r (λ e. refusal_of e ≡ plain_refusal out_of_memory) → CarriesOut p k may (at s h) r (at next h)
+  carries-out_of_memory (Ok u) is = absurd is
+  carries-out_of_memory (Err e) is = carries-no_memory e (ap (λ (f : Refusal). f.reason) is)
+
+  -- ---- writing
+
+  -- what was carried out alone
+  pub carries-run : {m : Prog (Unit {0})} {before after : Moment} {r : Answered} → CarriesOn p m may before r after
+      → CarriesOut p (run m) may before r after
+  carries-run (goes_on {u = u} {after = after} c) = c (λ v. Done) (Ok u) after carries-done
+  carries-run (is_over c) = c (λ v. Done)
+
+  pub carries_on-get : (f : State → Prog (Unit {0})) {s : State} {h : Held} {after : Moment} {r : Answered}
+      → CarriesOn p (f s) may (at s h) r after → CarriesOn p (state >>= f) may (at s h) r after
+  unfolding ◌>>=◌
+  carries_on-get f (goes_on c) = goes_on (λ next r last d. carries-get (c next r last d))
+  carries_on-get f (is_over c) = is_over (λ next. carries-get (c next))
+
+  pub carries_on-puts : (o : Origin) (t : Text) {s next : State} {h new : Held} {r : Answered} → is_word o ≡ false
+      → Puts t may (at s h) r (at next new) → CarriesOn p (write_text o t) may (at s h) r (at next new)
+  unfolding ◌>>=◌ ◌>>◌
+  carries_on-puts o t {s = s} {h = h} {new = new} text_or_value (all_put is whole) = goes_on (λ k r last c. record {
+    pieces = pieces_of o t ++ c.pieces;
+    outcome = c.outcome;
+    runs = got (wrote (set (subst (λ (z : State). Runs p (k tt) z c.pieces c.outcome) is c.runs)));
+    text = text-append h.text new.text last.held.text (pieces_of o t) c.pieces
+        (whole.text ∙ ap (λ (z : Text). h.text ++ z) (sym (join-pieces_of o t))) c.text;
+    tells = Tells-before whole.faults c.tells;
+  })
+  carries_on-puts o [] text_or_value (front_put cause given cut_short tells) = absurd (omega (arith, cut_short.some))
+  carries_on-puts o (b ∷ t) {h = h} text_or_value (front_put cause given cut_short tells) = is_over (λ k. record {
+    pieces = record { origin = o; text = cut_short.front } ∷ [];
+    outcome = Faulted (plain_fault false);
+    runs = got (cut (ap plain_fault (sym text_or_value)) (cut_off cut_short.is_front));
+    text = cut_short.text ∙ ap (λ (z : Text). h.text ++ z) (sym (append-nil cut_short.front));
+    tells = fault cause (plain_fault false) given cut_short.faults tells;
+  })
+
+  pub carries-puts : (o : Origin) (t : Text) {s next : State} {h new : Held} {r : Answered} → is_word o ≡ false
+      → Puts t may (at s h) r (at next new) → CarriesOut p (run (write_text o t)) may (at s h) r (at next new)
+  carries-puts o t text_or_value puts = carries-run (carries_on-puts o t text_or_value puts)
+
+  -- the word of a boolean helper, which the state takes no note of
+  pub carries_on-word : (site : Site) (b : Bool) {s next : State} {h new : Held} {r : Answered}
+      → PutsWord b may (at s h) r (at next new) → CarriesOn p (write_word site b) may (at s h) r (at next new)
+  carries_on-word site b {h = h} {new = new} (word_put is whole) = goes_on (λ k r last c. record {
+    pieces = record { origin = of_word site b; text = word b } ∷ c.pieces;
+    outcome = c.outcome;
+    runs = wrote (subst (λ (z : State). Runs p (k tt) z c.pieces c.outcome) is c.runs);
+    text = text-append h.text new.text last.held.text (record { origin = of_word site b; text = word b } ∷ []) c.pieces
+        (whole.text ∙ ap (λ (z : Text). h.text ++ z) (sym (append-nil (word b)))) c.text;
+    tells = Tells-before whole.faults c.tells;
+  })
+  carries_on-word site b {h = h} (word_cut cause given cut_short tells) = is_over (λ k. record {
+    pieces = record { origin = of_word site b; text = cut_short.front } ∷ [];
+    outcome = Faulted (plain_fault true);
+    runs = cut refl (cut_off cut_short.is_front);
+    text = cut_short.text ∙ ap (λ (z : Text). h.text ++ z) (sym (append-nil cut_short.front));
+    tells = fault cause (plain_fault true) given cut_short.faults tells;
+  })
+
+  -- ---- values, and what is done with them
+
+  carries-value : {A : Type 0} (m : Prog A) (k : A → Steps) {s : State} {a : A} {h : Held} {after : Moment} {r : Answered}
+      → GivesValue p m s a → CarriesOut p (k a) may (at s h) r after → CarriesOut p (m k) may (at s h) r after
+  carries-value m k g c = record {
+    pieces = c.pieces;
+    outcome = c.outcome;
+    runs = g k c.pieces c.outcome c.runs;
+    text = c.text;
+    tells = c.tells;
+  }
+
+  pub carries_on-value : {A : Type 0} (m : Prog A) (f : A → Prog (Unit {0})) {s : State} {a : A} {h : Held} {after : Moment}
+      {r : Answered} → GivesValue p m s a → CarriesOn p (f a) may (at s h) r after
+      → CarriesOn p (m >>= f) may (at s h) r after
+  unfolding ◌>>=◌
+  carries_on-value m f g (goes_on c) = goes_on (λ k r last d. carries-value m (λ a. f a k) g (c k r last d))
+  carries_on-value m f g (is_over c) = is_over (λ k. carries-value m (λ a. f a k) g (c k))
+
+  pub carries-no_value : {A : Type 0} (m : Prog A) (k : A → Steps) {s next : State} {h : Held} (e : RenderError)
+      → (reason_in e ≢ out_of_memory → RefusesValue p m s (refusal_of e))
+      → CarriesOut p (m k) may (at s h) (Err e) (at next h)
+  carries-no_value m k {h = h} e is = elim (memory_or (reason_in e)) [
+    | inl memory ↦ carries-no_memory e memory
+    | inr other ↦ record {
+      pieces = [];
+      outcome = Refused (refusal_of e);
+      runs = is other k;
+      text = sym (append-nil h.text);
+      tells = refusal refl;
+    }
+  ]
+
+  pub carries_on-no_value : {A : Type 0} (m : Prog A) (f : A → Prog (Unit {0})) {s next : State} {h : Held} (e : RenderError)
+      → (reason_in e ≢ out_of_memory → RefusesValue p m s (refusal_of e))
+      → CarriesOn p (m >>= f) may (at s h) (Err e) (at next h)
+  unfolding ◌>>=◌
+  carries_on-no_value m f e is = is_over (λ k. carries-no_value m (λ a. f a k) e is)
+
+  pub carries_on-done : {s : State} {h : Held} {u : Unit {0}} → CarriesOn p (return tt) may (at s h) (Ok u) (at s h)
+  carries_on-done = goes_on (λ k r last c. c)
+
+  pub carries_on-refuse : {x : Reason} {s next : State} {h : Held} (e : RenderError) → IsRefusal (plain_refusal x) e
+      → CarriesOn p (refuse_for x) may (at s h) (Err e) (at next h)
+  carries_on-refuse e is = is_over (λ k. carries-refuse e is)
+
+  pub carries_on-no_memory : {m : Prog (Unit {0})} {s next : State} {h : Held} (e : RenderError)
+      → reason_in e ≡ out_of_memory → CarriesOn p m may (at s h) (Err e) (at next h)
+  carries_on-no_memory e memory = is_over (λ k. carries-no_memory e memory)
+
+  -- an error that says so, as `?` hands it on
+  pub carries_on-out_of_memory : {m : Prog (Unit {0})} {s next : State} {h : Held} (r : Result (Unit {0}) RenderError)
+      → IsErrAnd r (λ e. refusal_of e ≡ plain_refusal out_of_memory) → CarriesOn p m may (at s h) r (at next h)
+  carries_on-out_of_memory (Ok u) is = absurd is
+  carries_on-out_of_memory (Err e) is = carries_on-no_memory e (ap (λ (f : Refusal). f.reason) is)
+
+  -- ---- one program behind another
+
+  pub carries_on-then : (m n : Prog (Unit {0})) {before mid after : Moment} {u : Unit {0}} {r : Answered}
+      → CarriesOn p m may before (Ok u) mid → CarriesOn p n may mid r after → CarriesOn p (m >> n) may before r after
+  unfolding ◌>>◌
+  carries_on-then m n (goes_on c) (goes_on d) =
+      goes_on (λ k r last e. c (λ v. n k) r last (d k r last e))
+  carries_on-then m n (goes_on c) (is_over {e = e} {after = after} d) = is_over (λ k. c (λ v. n k) (Err e) after (d k))
+
+  pub carries_on-over : (m n : Prog (Unit {0})) {before after : Moment} {e : RenderError}
+      → CarriesOn p m may before (Err e) after → CarriesOn p (m >> n) may before (Err e) after
+  unfolding ◌>>◌
+  carries_on-over m n (is_over c) = is_over (λ k. c (λ v. n k))
+
+  -- ---- escaping off, and then as before
+
+  -- behind an error the state may be any
+  Tells-elsewhere : {before after : ℕ} {o : Outcome} {e : RenderError} {s next : State}
+      → Tells may before after o (Err e) s → Tells may before after o (Err e) next
+  Tells-elsewhere (refusal same) = refusal same
+  Tells-elsewhere (fault cause f given counted tells) = fault cause f given counted tells
+  Tells-elsewhere (no_memory same is) = no_memory same is
+
+  pub carries-elsewhere : {k : Steps} {before : Moment} {e : RenderError} {next other : State} {new : Held}
+      → CarriesOut p k may before (Err e) (at next new) → CarriesOut p k may before (Err e) (at other new)
+  carries-elsewhere c =
+      record { pieces = c.pieces; outcome = c.outcome; runs = c.runs; text = c.text; tells = Tells-elsewhere c.tells }
+
+  pub carries_on-elsewhere : {m : Prog (Unit {0})} {before : Moment} {e : RenderError} {next other : State} {new : Held}
+      → CarriesOn p m may before (Err e) (at next new) → CarriesOn p m may before (Err e) (at other new)
+  carries_on-elsewhere (is_over c) = is_over (λ k. carries-elsewhere (c k))
+
+  pub carries-unescaped : {m : Prog (Unit {0})} {s off next last : State} {h new : Held} {r : Answered}
+      → off ≡ record s { escapes = false } → last ≡ record next { escapes = s.escapes }
+      → CarriesOn p m may (at off h) r (at next new) → CarriesOut p (run (unescaped m)) may (at s h) r (at last new)
+  unfolding ◌>>=◌ ◌>>◌
+  carries-unescaped {m = m} {s = s} {last = last} {h = h} {new = new} starts ends (goes_on {u = u} c) =
+      let restore : Unit {0} → Steps = λ v. Get (λ z. Set (record z { escapes = s.escapes }) Done) in
+      let over : CarriesOut p Done may (at last new) (Ok u) (at last new) = carries-done in
+      let restored = carries-get (carries-set (subst (λ (z : State). CarriesOut p Done may (at z new) (Ok u) (at last new)) ends over)) in
+      carries-get (carries-set (subst (λ (z : State). CarriesOut p (m restore) may (at z h) (Ok u) (at last new)) starts
+      (c restore (Ok u) (at last new) restored)))
+  carries-unescaped {m = m} {s = s} {last = last} {h = h} {new = new} starts ends (is_over {e = e} c) =
+      let restore : Unit {0} → Steps = λ v. Get (λ z. Set (record z { escapes = s.escapes }) Done) in
+      carries-get (carries-set (subst (λ (z : State). CarriesOut p (m restore) may (at z h) (Err e) (at last new)) starts
+      (carries-elsewhere (c restore))))
+
+  -- the line around a call
+  pub carries_on-bracket : (marked : Bool) (m : Prog (Unit {0})) {s mid next last : State} {h new : Held} {r : Answered}
+      → mid ≡ record s { line = line_in marked s.line } → last ≡ record next { line = line_out s.line next.line }
+      → CarriesOn p m may (at mid h) r (at next new) → CarriesOn p (in_bracket marked m) may (at s h) r (at last new)
+  unfolding ◌>>=◌ ◌>>◌
+  carries_on-bracket marked m {s = s} {h = h} {new = new} starts ends (goes_on c) = goes_on (λ k r last d.
+      let back : Unit {0} → Steps = λ v. Get (λ z. Set (record z { line = line_out s.line z.line }) (k tt)) in
+      let behind = carries-get (carries-set (subst (λ (z : State). CarriesOut p (k tt) may (at z new) r last) ends d)) in
+      carries-get (carries-set (subst (λ (z : State). CarriesOut p (m back) may (at z h) r last) starts (c back r last behind))))
+  carries_on-bracket marked m {s = s} {last = last} {h = h} {new = new} starts ends (is_over {e = e} c) = is_over (λ k.
+      let back : Unit {0} → Steps = λ v. Get (λ z. Set (record z { line = line_out s.line z.line }) (k tt)) in
+      carries-get (carries-set (subst (λ (z : State). CarriesOut p (m back) may (at z h) (Err e) (at last new)) starts
+      (carries-elsewhere (c back)))))
+
+  -- ---- another state
+
+  pub carries_on-change : (f : State → State) {s next : State} {h : Held} {u : Unit {0}} → next ≡ f s
+      → CarriesOn p (change f) may (at s h) (Ok u) (at next h)
+  unfolding ◌>>=◌
+  carries_on-change f {h = h} is = goes_on (λ k r last c.
+      carries-get (carries-set (subst (λ (z : State). CarriesOut p (k tt) may (at z h) r last) is c)))
+
+  -- a state changed, and what is done from there
+  pub carries_on-changed : (f : State → State) (m : Prog (Unit {0})) {s mid : State} {h : Held} {after : Moment}
+      {r : Answered} → mid ≡ f s → CarriesOn p m may (at mid h) r after → CarriesOn p (change f >> m) may (at s h) r after
+  carries_on-changed f m {mid = mid} is a =
+      carries_on-then (change f) m (carries_on-change f {next = mid} {u = tt} is) a
+
+  -- a block of scope around what is done
+  pub carries_on-in_block : (f : Frame) (m : Prog (Unit {0})) {s mid next last : State} {h new : Held} {r : Answered}
+      → mid ≡ entered f s → last ≡ left next
+      → CarriesOn p m may (at mid h) r (at next new) → CarriesOn p (in_block f m) may (at s h) r (at last new)
+  unfolding ◌>>◌
+  carries_on-in_block f m starts ends (goes_on {u = u} c) =
+      carries_on-changed (entered f) (m >> change left) starts
+      (carries_on-then m (change left) (goes_on {u = u} c) (carries_on-change left ends))
+  carries_on-in_block f m starts ends (is_over c) =
+      carries_on-changed (entered f) (m >> change left) starts
+      (carries_on-over m (change left) (carries_on-elsewhere (is_over c)))
+
+  -- ---- a part, and what comes next
+
+  Tells-ended : (o : Outcome) {k : Steps} {s next : State} {old new : Held} {u : Unit {0}} (ps : List Piece)
+      → Runs p k s ps o
+      → new.text ≡ old.text ++ join ps → Tells may old.faults new.faults o (Ok u) next
+      → Ends p k (at s old) (at next new)
+  Tells-ended _ ps r t (ended same) = record { pieces = ps; runs = r; text = t; faults = same }
+
+  pub ends : {k : Steps} {s next : State} {old new : Held} {u : Unit {0}}
+      → CarriesOut p k may (at s old) (Ok u) (at next new) → Ends p k (at s old) (at next new)
+  ends c = Tells-ended c.outcome c.pieces c.runs c.text c.tells
+
+  pub carries-then : {t : Task} {k : Steps} {s mid next : State} {h between new : Held} {u : Unit {0}} {r : Result (Unit {0}) RenderError}
+      → CarriesOut p (todo p t) may (at s h) (Ok u) (at mid between)
+      → CarriesOut p k may (at mid between) r (at next new)
+      → CarriesOut p (Do t k) may (at s h) r (at next new)
+  carries-then {h = h} {between = between} {new = new} a b =
+      let e = ends a in
+      record {
+        pieces = e.pieces ++ b.pieces;
+        outcome = b.outcome;
+        runs = did e.runs b.runs;
+        text = text-append h.text between.text new.text e.pieces b.pieces e.text b.text;
+        tells = Tells-before e.faults b.tells;
+      }
+
+  Tells-over : (o : Outcome) {t : Task} {k : Steps} {s next : State} {old new : Held} (e d : RenderError)
+      → IsMarked t e d
+      → (ps : List Piece) → Runs p (todo p t) s ps o → new.text ≡ old.text ++ join ps
+      → Tells may old.faults new.faults o (Err e) next → CarriesOut p (Do t k) may (at s old) (Err d) (at next new)
+  Tells-over _ {t = t} {k = k} {s = s} e d m ps r x (refusal same) = elim (memory_or (reason_in d)) [
+    | inl memory ↦ record {
+      pieces = ps;
+      outcome = NoMemory;
+      runs = did_over (Runs-short r refl) tt;
+      text = x;
+      tells = no_memory same memory;
+    }
+    | inr other ↦ record {
+      pieces = ps;
+      outcome = Refused (refusal_of d);
+      runs = subst (λ (f : Refusal). Runs p (Do t k) s ps (Refused f)) (sym (marked-refusal t e d m other)) (did_over r tt);
+      text = x;
+      tells = refusal same;
+    }
+  ]
+  Tells-over _ {t = t} e d m ps r x (fault cause f given counted tells) = record {
+    pieces = ps;
+    outcome = Faulted (record f { spot = mark t f.spot });
+    runs = did_over r tt;
+    text = x;
+    tells = fault cause (record f { spot = mark t f.spot }) given counted (marked-fault t e d cause f m tells);
+  }
+  Tells-over _ e d m ps r x (no_memory same memory) =
+      record { pieces = ps; outcome = NoMemory; runs = did_over r tt; text = x; tells = no_memory same (m.memory memory) }
+
+  pub carries-over : {t : Task} {k : Steps} {s next : State} {h new : Held} (e d : RenderError) → IsMarked t e d
+      → CarriesOut p (todo p t) may (at s h) (Err e) (at next new)
+      → CarriesOut p (Do t k) may (at s h) (Err d) (at next new)
+  carries-over e d m c = Tells-over c.outcome e d m c.pieces c.runs c.text c.tells
+
+  pub carries_on-task : {t : Task} {s next : State} {h new : Held} {u : Unit {0}}
+      → CarriesOut p (todo p t) may (at s h) (Ok u) (at next new)
+      → CarriesOn p (perform t) may (at s h) (Ok u) (at next new)
+  carries_on-task a = goes_on (λ k r last c. carries-then a c)
+
+  pub carries_on-task_over : {t : Task} {s next : State} {h new : Held} (e d : RenderError) → IsMarked t e d
+      → CarriesOut p (todo p t) may (at s h) (Err e) (at next new)
+      → CarriesOn p (perform t) may (at s h) (Err d) (at next new)
+  carries_on-task_over e d m a = is_over (λ k. carries-over e d m a)
+
+  -- the last part
+  pub carries-last : {t : Task} {s next : State} {h new : Held} {u : Unit {0}}
+      → CarriesOut p (todo p t) may (at s h) (Ok u) (at next new)
+      → CarriesOut p (Do t Done) may (at s h) (Ok u) (at next new)
+  carries-last c = carries-then c carries-done
+
+  -- a part alone that leaves its errors as they are
+  pub carries-only : {t : Task} {s next : State} {h new : Held} (r : Result (Unit {0}) RenderError)
+      → ((spot : Spot) → mark t spot ≡ spot)
+      → CarriesOut p (todo p t) may (at s h) r (at next new) → CarriesOut p (Do t Done) may (at s h) r (at next new)
+  carries-only (Ok u) is c = carries-last c
+  carries-only {t = t} (Err e) is c = carries-over e e (unmarked t e (is (spot_of e))) c

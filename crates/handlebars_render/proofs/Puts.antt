@@ -1,0 +1,79 @@
+-- What the calls that write a text say.
+use Rattle.std.proofs.Common.{◌≡◌, ◌≢◌, Bool, true, false, [], Option, None, Some, Ok, Err, refl, sym, ap, ◌∙◌, subst, append-nil}
+use Rattle.std.specs.Prelude.{unwrap_or}
+use Rattle.std.specs.declared.io.Error.{Error}
+use Rattle.std.specs.declared.io.ErrorKind.TheVariants.{OutOfMemory}
+use Rattle.std.specs.IoError.{error_kind}
+use Rattle.serde_json.specs.Data.{Data, null}
+use Rattle.handlebars_base.specs.Bytes.{Text}
+use Rattle.handlebars_base.specs.Reasons.{Refusal, out_of_memory}
+use Rattle.handlebars_base.specs.RenderRefusals.{cause_of, reason_in, refusal_of, plain_refusal}
+use Rattle.handlebars_base.specs.declared.error.render_error.RenderError.{RenderError}
+use Rattle.handlebars_base.specs.declared.error.render_error.RenderErrorReason.TheVariants.{IOError}
+use Rattle.handlebars_base.specs.Values.{word}
+use Rattle.handlebars_scope.specs.Outputs.{Held, IsWhole, IsCutOff, write_reason}
+use Rattle.handlebars_scope.specs.Escape.{escaped}
+use Rattle.handlebars_scope.specs.Put.{LineState, line_behind}
+use Rattle.handlebars_scope.specs.Shown.{shown}
+use Rattle.handlebars_meaning.specs.State.{State}
+use Rattle.handlebars_meaning.specs.Writing.{shown_if_any}
+use Rattle.handlebars_render.specs.View.{Moment, Answered, Puts, all_put, front_put, PutsWord, word_put, word_cut, word_reason, behind, with_line}
+use Rattle.handlebars_render.proofs.Carry.{at}
+
+-- a missing value is written as null is
+pub shown_or_null : (escapes : Bool) (o : Option Data) → shown_if_any escapes o ≡ shown escapes (unwrap_or o null)
+unfolding escaped
+shown_or_null true None = refl
+shown_or_null false None = refl
+shown_or_null escapes (Some d) = refl
+
+module _ (may : Error → Type 0) where
+  -- the same text, and the same state behind it
+  pub puts_as : {t x : Text} {before : Moment} {next other : State} {new : Held} {r : Answered}
+      → t ≡ x → other ≡ next → Puts t may before r (at next new) → Puts x may before r (at other new)
+  puts_as {x = x} {before = before} {next = next} {new = new} {r = r} same is puts =
+      subst (λ (z : State). Puts x may before r (at z new)) (sym is)
+      (subst (λ (z : Text). Puts z may before r (at next new)) same puts)
+
+  -- nothing is written, and the line is as it was
+  pub puts_none : (line : LineState) {s : State} {h : Held} {u : Unit {0}} → line ≡ s.line
+      → Puts [] may (at s h) (Ok u) (at (with_line line s) h)
+  puts_none line {s = s} {h = h} is =
+      all_put (ap (λ (z : LineState). with_line z s) is) (record { text = sym (append-nil h.text); faults = refl })
+
+  -- a text is written, and the line is the one behind it
+  pub puts_line : (t : Text) (line : LineState) {s : State} {h new : Held} {u : Unit {0}}
+      → line ≡ line_behind t s.line → IsWhole t h new → Puts t may (at s h) (Ok u) (at (with_line line s) new)
+  puts_line t line {s = s} is whole = all_put (ap (λ (z : LineState). with_line z s) is) whole
+
+  pub puts_all : (t : Text) {s next : State} {h new : Held} {u : Unit {0}} → next ≡ behind t s → IsWhole t h new
+      → Puts t may (at s h) (Ok u) (at next new)
+  puts_all t is whole = all_put is whole
+
+  pub puts_front : (t : Text) {s next : State} {h new : Held} (cause : Error) (e : RenderError) → may cause → IsCutOff t h new
+      → refusal_of e ≡ plain_refusal (write_reason (error_kind cause)) → (error_kind cause ≢ OutOfMemory → cause_of e ≡ IOError cause)
+      → Puts t may (at s h) (Err e) (at next new)
+  puts_front t cause e given cut is kept = front_put cause given cut (record {
+    why = λ other. (
+      ap (λ (r : Refusal). r.reason) is,
+      kept (λ memory. other (ap (λ (r : Refusal). r.reason) is ∙ ap write_reason memory)),
+    );
+    where_it_is = λ other. ap (λ (r : Refusal). r.spot) is;
+  })
+
+  -- ---- words
+
+  pub puts_word : (b : Bool) (t : Text) {s : State} {h new : Held} {u : Unit {0}} → t ≡ word b → IsWhole t h new
+      → PutsWord b may (at s h) (Ok u) (at s new)
+  puts_word b t {h = h} {new = new} is whole = word_put refl (subst (λ (z : Text). IsWhole z h new) is whole)
+
+  -- the refusal has a text of its own
+  pub puts_word_front : (b : Bool) (t : Text) {s : State} {h new : Held} (cause : Error) (e : RenderError) → t ≡ word b
+      → may cause → IsCutOff t h new
+      → (reason_in e ≢ out_of_memory → (text : Text) × (refusal_of e ≡ plain_refusal (word_reason (error_kind cause) text)))
+      → PutsWord b may (at s h) (Err e) (at s new)
+  puts_word_front b t {h = h} {new = new} cause e is given cut why =
+      word_cut cause given (subst (λ (z : Text). IsCutOff z h new) is cut) (record {
+        why = λ other. ((why other).0, ap (λ (r : Refusal). r.reason) (why other).1);
+        where_it_is = λ other. ap (λ (r : Refusal). r.spot) (why other).1;
+      })

@@ -1,0 +1,10 @@
+use Rattle.std.proofs.Common.{false, refl}
+use Rattle.handlebars_template.specs.TreeView.{call_view}
+use Rattle.handlebars_render.proofs.Leaves.{comes_to-leaves, comes_to-settles, leaves-expression}
+use Rattle.handlebars_render.proofs.next.next_of_expression.Goals as goal
+
+pub returns-else-is_value : goal.returns-else-is_value
+returns-else-is_value g c = λ site.
+    comes_to-leaves _ _ site false (call_view c.args.helper.now) _ _ _ _ _ c.next_of_call.result
+    (leaves-expression _ site (call_view c.args.helper.now) c.if-is_value.ensures)
+    (comes_to-settles _ _ site false (call_view c.args.helper.now) _ _ _ _ c.next_of_call.result refl (c.next_of_call.ensures site))

@@ -1,0 +1,191 @@
+-- What the code's values stand for, and what a call of it says of a run.
+use Rattle.std.specs.Prelude.{◌≡◌, ◌≢◌, ℕ, Option, ◌+◌, ◌^◌, ◌<◌, List, ◌++◌, option_map, Result, Ok, Err, MatchResult, string_bytes, map, Bool, true, false}
+use Rattle.std.specs.Cow.{cow_str_bytes}
+use denote.Ref.{Bor}
+use Rattle.std.specs.declared.io.Error.{Error}
+use Rattle.std.specs.declared.io.ErrorKind.{ErrorKind}
+use Rattle.std.specs.declared.io.ErrorKind.TheVariants.{OutOfMemory}
+use Rattle.std.specs.IoError.{error_kind}
+use Rattle.serde_json.specs.Data.{Data}
+use Rattle.serde_json.specs.View.{view}
+use Rattle.handlebars_base.specs.Bytes.{Text}
+use Rattle.handlebars_base.specs.Reasons.{Reason, Refusal, other, out_of_memory}
+use Rattle.handlebars_base.specs.RenderRefusals.{reason_in, spot_of, refusal_of, cause_of}
+use Rattle.handlebars_base.specs.declared.error.render_error.RenderError.{RenderError}
+use Rattle.handlebars_base.specs.PathAndData.{PathAndData, path_and_data}
+use Rattle.handlebars_base.specs.Scoped.{Found, found_of, present_in}
+use Rattle.handlebars_base.specs.declared.json.value.path_and_json.PathAndJson.{PathAndJson}
+use Rattle.handlebars_base.specs.declared.error.render_error.RenderErrorReason.TheVariants.{IOError}
+use Rattle.handlebars_base.specs.Values.{word}
+use Rattle.handlebars_scope.specs.LineView.{line_of}
+use Rattle.handlebars_scope.specs.ScopeView.{frames_of}
+use Rattle.handlebars_scope.specs.Outputs.{Held, IsWhole, IsCutOff, write_reason}
+use Rattle.handlebars_scope.specs.Put.{LineState, Piece, join, line_behind}
+use Rattle.handlebars_helpers.specs.CallView.{CallView}
+use Rattle.handlebars_meaning.specs.State.{Parts, Setting, State, outer}
+use Rattle.handlebars_meaning.specs.Steps.{Steps, Prog}
+use Rattle.handlebars_meaning.specs.Runs.{Fault, plain_fault, Outcome, Ended, Refused, Faulted, NoMemory, Runs, GivesValue, RefusesValue}
+use Rattle.handlebars_render.specs.declared.context.RenderContext.{RenderContext}
+use Rattle.handlebars_render.specs.declared.called.Called.{Called}
+use Rattle.handlebars_render.specs.declared.lone.Lone.{Lone}
+use Rattle.handlebars_render.specs.declared.setting.Setting as declared
+
+-- ---- what a run reads and changes
+
+-- the setting of a run, as the code of a rendering has it, with what it sees of a registry
+abbrev pub setting_in : {P : Type 0} → (P → Parts) → declared.Setting P → Setting
+setting_in parts x = record { given = view x.given.now; parts = parts x.parts.now }
+
+-- what a call or another tag shows
+abbrev pub pairs_seen : List (Bor Text × PathAndJson) → List (Text × PathAndData)
+pairs_seen hs = map (λ h. (h.0.now, path_and_data h.1)) hs
+
+abbrev pub called_view : Called → CallView
+called_view c = record {
+  name = cow_str_bytes c.name;
+  params = map path_and_data c.params.items;
+  pairs = pairs_seen c.hash.entries;
+}
+
+-- the name of a lone expression, and the value that was made for it
+abbrev pub lone_view : Lone → Text × Option Found
+lone_view x = (cow_str_bytes x.name, option_map found_of x.value)
+
+abbrev pub state_of : RenderContext → State
+state_of rc = record {
+  current = option_map string_bytes rc.current_template;
+  blocks = frames_of rc.blocks.items;
+  recursive = rc.recursive_lookup;
+  line = line_of rc.line;
+  escapes = rc.escapes;
+}
+
+-- the name of the template that the run began with, if it has one
+abbrev pub root_of : RenderContext → Option Text
+root_of rc = option_map string_bytes rc.root_template
+
+abbrev pub has_failed : RenderContext → Bool
+has_failed rc = rc.failed
+
+-- what no rendering changes: the first template's name, the blocks of scope, whether lookup is recursive and escaping is
+-- on, and, until the run is over, whether the context has failed
+pub record IsKept (before after : RenderContext) : Type 0 where
+  pub root : root_of after ≡ root_of before
+  pub blocks : (state_of after).blocks ≡ (state_of before).blocks
+  pub recursive : (state_of after).recursive ≡ (state_of before).recursive
+  pub escapes : (state_of after).escapes ≡ (state_of before).escapes
+  pub failed : has_failed after ≡ has_failed before
+
+-- what is kept but for the nearest block
+pub record HasOuter (before after : RenderContext) : Type 0 where
+  pub root : root_of after ≡ root_of before
+  pub blocks : outer (state_of after).blocks ≡ outer (state_of before).blocks
+  pub recursive : (state_of after).recursive ≡ (state_of before).recursive
+  pub escapes : (state_of after).escapes ≡ (state_of before).escapes
+  pub failed : has_failed after ≡ has_failed before
+
+-- the state of a run and what its output holds, at one moment
+pub record Moment : Type 0 where
+  pub state : State
+  pub held : Held
+
+abbrev pub moment : RenderContext → Held → Moment
+moment rc held = record { state = state_of rc; held = held }
+
+-- ---- what calls say
+
+-- why a rendering is refused where a boolean helper's word couldn't be written
+abbrev pub word_reason : ErrorKind → Text → Reason
+word_reason OutOfMemory text = out_of_memory
+word_reason _ text = other text
+
+-- The error tells of a cause: its reason by the kind of the cause, which it keeps; but of a word it keeps a text alone.
+abbrev pub TellsCause : Error → Bool → RenderError → Type 0
+TellsCause cause false e = (reason_in e ≡ write_reason (error_kind cause)) × (cause_of e ≡ IOError cause)
+TellsCause cause true e = (text : Text) × (reason_in e ≡ word_reason (error_kind cause) text)
+
+-- The error tells of a fault of the output: of its cause and of the place.
+pub record TellsFault (cause : Error) (f : Fault) (e : RenderError) : Type 0 where
+  pub why : reason_in e ≢ out_of_memory → TellsCause cause f.at_word e
+  pub where_it_is : reason_in e ≢ out_of_memory → spot_of e ≡ f.spot
+
+-- what a call that writes answers: that it did, or an error
+abbrev pub Answered : Type 0
+Answered = Result (Unit {0}) RenderError
+
+-- How the answer of a call goes with the outcome of a run. A write that failed is counted; a refusal has the run's
+-- reason, position and name; want of memory may come anywhere.
+pub data Tells (may : Error → Type 0) (before after : ℕ) : Outcome → Answered → State → Type 0 where
+  ended : {s : State} {u : Unit {0}} → after ≡ before → Tells may before after (Ended s) (Ok u) s
+  refusal : {s : State} {e : RenderError} → after ≡ before → Tells may before after (Refused (refusal_of e)) (Err e) s
+  fault : {s : State} {e : RenderError} (cause : Error) (f : Fault) → may cause
+      → (before + 1 < 2 ^ 64 → after ≡ before + 1) → TellsFault cause f e
+      → Tells may before after (Faulted f) (Err e) s
+  no_memory : {s : State} {e : RenderError} → after ≡ before → reason_in e ≡ out_of_memory
+      → Tells may before after NoMemory (Err e) s
+
+-- The steps were carried out from one moment to another: the output has gained the text of their pieces, and the result
+-- and the next state tell the outcome.
+pub record CarriesOut (p : Setting) (k : Steps) (may : Error → Type 0) (before : Moment) (r : Answered) (after : Moment)
+    : Type 0 where
+  pub pieces : List Piece
+  pub outcome : Outcome
+  pub runs : Runs p k before.state pieces outcome
+  pub text : after.held.text ≡ before.held.text ++ join pieces
+  pub tells : Tells may before.held.faults after.held.faults outcome r after.state
+
+-- The program was carried out: what comes next is carried out from the moment behind it, or never.
+pub data CarriesOn (p : Setting) (m : Prog (Unit {0})) (may : Error → Type 0) (before : Moment)
+    : Answered → Moment → Type 0 where
+  goes_on : {u : Unit {0}} {after : Moment}
+      → ((next : Unit {0} → Steps) (r : Answered) (last : Moment)
+      → CarriesOut p (next tt) may after r last → CarriesOut p (m next) may before r last)
+      → CarriesOn p m may before (Ok u) after
+  is_over : {e : RenderError} {after : Moment}
+      → ((next : Unit {0} → Steps) → CarriesOut p (m next) may before (Err e) after)
+      → CarriesOn p m may before (Err e) after
+
+-- What a call that has a value says: its value is that of the program in this state, or it is refused as the program is,
+-- or for want of memory.
+abbrev pub Yields : {T A : Type 0} → Setting → Prog A → State → (T → A) → Result T RenderError → Type 0
+Yields p m s value r =
+    MatchResult r (λ x. GivesValue p m s (value x)) (λ e. reason_in e ≢ out_of_memory → RefusesValue p m s (refusal_of e))
+
+-- The same of a call that tells nothing of where its value came from.
+abbrev pub YieldsPresent : {T : Type 0} → Setting → Prog Found → State → (T → Option Data) → Result T RenderError → Type 0
+YieldsPresent p m s present r =
+    MatchResult r (λ x. (found : Found) × GivesValue p m s found × (present_in found ≡ present x))
+    (λ e. reason_in e ≢ out_of_memory → RefusesValue p m s (refusal_of e))
+
+-- the state with another line
+abbrev pub with_line : LineState → State → State
+with_line line s = record s { line = line }
+
+-- the state behind a text
+abbrev pub behind : Text → State → State
+behind t s = record s { line = line_behind t s.line }
+
+-- A text was written, whatever the setting, or a beginning of it, and the output failed.
+pub data Puts (t : Text) (may : Error → Type 0) (before : Moment) : Answered → Moment → Type 0 where
+  all_put : {after : Moment} {u : Unit {0}} → after.state ≡ behind t before.state → IsWhole t before.held after.held
+      → Puts t may before (Ok u) after
+  front_put : {after : Moment} {e : RenderError} (cause : Error) → may cause → IsCutOff t before.held after.held
+      → TellsFault cause (plain_fault false) e → Puts t may before (Err e) after
+
+-- A boolean helper's word was written, or a beginning of it, and the output failed. The state is as it was.
+pub data PutsWord (b : Bool) (may : Error → Type 0) (before : Moment) : Answered → Moment → Type 0 where
+  word_put : {after : Moment} {u : Unit {0}} → after.state ≡ before.state → IsWhole (word b) before.held after.held
+      → PutsWord b may before (Ok u) after
+  word_cut : {after : Moment} {e : RenderError} (cause : Error) → may cause → IsCutOff (word b) before.held after.held
+      → TellsFault cause (plain_fault true) e → PutsWord b may before (Err e) after
+
+-- The steps end well from this state, and the text is that of their pieces.
+pub record GivesString (p : Setting) (k : Steps) (s next : State) (text : Text) : Type 0 where
+  pub pieces : List Piece
+  pub runs : Runs p k s pieces (Ended next)
+  pub is : text ≡ join pieces
+
+-- The steps are refused so from this state.
+pub record RefusesString (p : Setting) (k : Steps) (s : State) (r : Refusal) : Type 0 where
+  pub pieces : List Piece
+  pub runs : Runs p k s pieces (Refused r)

@@ -1,0 +1,213 @@
+//! Rendering blocks and expressions, and what their helpers choose.
+
+ghost use Rattle.std.specs.Prelude.{◌≡◌, Bool};
+ghost use Rattle.handlebars_template.specs.TreeView.{call_view};
+ghost use Rattle.handlebars_scope.specs.Put.{LineState};
+ghost use Rattle.handlebars_scope.specs.Sites.{Site, inverse_at};
+ghost use Rattle.handlebars_helpers.specs.CallView.{CallView};
+ghost use Rattle.handlebars_helpers.specs.View.{choice_of, kind_of};
+ghost use Rattle.handlebars_meaning.specs.CarryOut.{carry_out, helper_call, render_body, render_branch};
+ghost use Rattle.handlebars_meaning.specs.Means.{line_in, line_out, render_chosen, render_tag};
+ghost use Rattle.handlebars_render.specs.Next.{render_next};
+ghost use Rattle.handlebars_render.specs.View.{setting_in, state_of, moment, called_view, CarriesOn, IsKept};
+
+use crate::called::Called;
+use crate::context::RenderContext;
+use crate::each::{render_each, render_with};
+use crate::next::{Next, ToCall, next_of};
+use crate::registered::Registered;
+use crate::setting::Setting;
+use crate::tree::render_tree;
+use crate::write::{write_chosen, write_count, write_word};
+use handlebars_base::error::RenderError;
+use handlebars_helpers::built_in::BuiltIn;
+use handlebars_helpers::choice::{Choice, choose};
+use handlebars_helpers::each_turns::Turns;
+use handlebars_scope::output::Output;
+use handlebars_template::template::HelperTemplate;
+
+/// Renders a block, or an expression: a value is written, or a helper is called.
+#[cycle(render)]
+pub fn render_tag<'a, O: Output, P: Registered>(
+    helper: &'a HelperTemplate,
+    setting: &Setting<'_, 'a, P>,
+    block: bool,
+    rc: &mut RenderContext,
+    out: &mut O,
+) -> Result<(), RenderError>
+    ensures renders { (site : Site) → CarriesOn (setting_in P.parts setting.now)
+        (render_tag (setting_in P.parts setting.now) site block (call_view helper.now))
+        O.may_give (moment rc.old (O.held out.old)) result (moment rc.new (O.held out.new)) }
+    ensures kept { IsKept rc.old rc.new }
+{
+    match next_of(helper, setting, block, rc, out) {
+        Ok(Next::Done(line)) => {
+            rc.set_line(line);
+            Ok(())
+        }
+        Ok(Next::Call(to_call)) => render_next(helper, setting, block, to_call, rc, out),
+        Err(e) => Err(e),
+    }
+}
+
+// Calls a helper. In the bracket the line takes note of what is written.
+#[cycle(render)]
+fn render_next<'a, O: Output, P: Registered>(
+    helper: &'a HelperTemplate,
+    setting: &Setting<'_, 'a, P>,
+    block: bool,
+    to_call: ToCall<'a>,
+    rc: &mut RenderContext,
+    out: &mut O,
+) -> Result<(), RenderError>
+    ensures renders { (site : Site) → CarriesOn (setting_in P.parts setting.now)
+        (render_next (setting_in P.parts setting.now).parts.strict site block (call_view helper.now) to_call.entry)
+        O.may_give (moment rc.old (O.held out.old)) result (moment rc.new (O.held out.new)) }
+    ensures kept { IsKept rc.old rc.new }
+{
+    let kind = to_call.kind;
+    let bracket = to_call.bracket;
+    let call = to_call.into_call();
+    if !bracket {
+        return render_chosen(helper, setting, block, kind, call, rc, out);
+    }
+    let before = rc.get_indent_before_write();
+    let produced = rc.get_content_produced();
+    enter_call(rc, helper.indent_before_write);
+    let answer = render_chosen(helper, setting, block, kind, call, rc, out);
+    leave_call(rc, before, produced);
+    answer
+}
+
+// Renders what a helper chooses for a call of this view.
+#[cycle(render)]
+fn render_chosen<'a, O: Output, P: Registered>(
+    helper: &'a HelperTemplate,
+    setting: &Setting<'_, 'a, P>,
+    block: bool,
+    kind: BuiltIn,
+    call: Called<'a>,
+    rc: &mut RenderContext,
+    out: &mut O,
+) -> Result<(), RenderError>
+    ensures renders { (site : Site) → CarriesOn (setting_in P.parts setting.now)
+        (render_chosen (setting_in P.parts setting.now).parts.strict site (kind_of kind)
+        (helper_call block (call_view helper.now) (called_view call.entry)))
+        O.may_give (moment rc.old (O.held out.old)) result (moment rc.new (O.held out.new)) }
+    ensures kept { IsKept rc.old rc.new }
+{
+    let view = call.of_call(helper, block);
+    match choose(setting.alloc, setting.parts.strict(), kind, &view) {
+        Ok(choice) => carry_out(helper, setting, choice, rc, out),
+        Err(e) => Err(e),
+    }
+}
+
+// Does what a helper chose.
+#[cycle(render)]
+fn carry_out<'a, O: Output, P: Registered>(
+    helper: &'a HelperTemplate,
+    setting: &Setting<'_, 'a, P>,
+    choice: Choice,
+    rc: &mut RenderContext,
+    out: &mut O,
+) -> Result<(), RenderError>
+    ensures renders { (site : Site) (block : Bool) (v : CallView) → CarriesOn (setting_in P.parts setting.now)
+        (carry_out site (helper_call block (call_view helper.now) v) (choice_of choice.entry))
+        O.may_give (moment rc.old (O.held out.old)) result (moment rc.new (O.held out.new)) }
+    ensures kept { IsKept rc.old rc.new }
+{
+    match choice {
+        Choice::Body => render_body(helper, setting, rc, out),
+        Choice::Inverse => render_inverse(helper, setting, rc, out),
+        Choice::Block(base) => render_with(helper, setting, base, rc, out),
+        Choice::Items(path, items) => render_each(
+            helper,
+            setting,
+            path,
+            Turns::of_items(items),
+            rc,
+            out,
+        ),
+        Choice::Members(path, members) => render_each(
+            helper,
+            setting,
+            path,
+            Turns::of_members(members),
+            rc,
+            out,
+        ),
+        Choice::Value(value) => write_chosen(value, rc, out),
+        Choice::Count(count) => write_count(count, rc, out),
+        Choice::Word(word) => write_word(setting.alloc, word, out),
+        Choice::Line(level, text) => {
+            setting.parts.log(level, text.as_str());
+            Ok(())
+        }
+        Choice::Nothing => Ok(()),
+    }
+}
+
+// The body, where the call has one.
+#[cycle(render)]
+pub fn render_body<'a, O: Output, P: Registered>(
+    helper: &'a HelperTemplate,
+    setting: &Setting<'_, 'a, P>,
+    rc: &mut RenderContext,
+    out: &mut O,
+) -> Result<(), RenderError>
+    ensures renders { (site : Site) (block : Bool) (v : CallView) → CarriesOn (setting_in P.parts setting.now)
+        (render_body site (helper_call block (call_view helper.now) v))
+        O.may_give (moment rc.old (O.held out.old)) result (moment rc.new (O.held out.new)) }
+    ensures kept { IsKept rc.old rc.new }
+{
+    match &helper.template {
+        Some(template) => render_tree(template, setting, rc, out),
+        None => Ok(()),
+    }
+}
+
+// The inverse, where the call has one.
+#[cycle(render)]
+fn render_inverse<'a, O: Output, P: Registered>(
+    helper: &'a HelperTemplate,
+    setting: &Setting<'_, 'a, P>,
+    rc: &mut RenderContext,
+    out: &mut O,
+) -> Result<(), RenderError>
+    ensures renders { (site : Site) (block : Bool) (v : CallView) → CarriesOn (setting_in P.parts setting.now)
+        (render_branch (inverse_at site) (helper_call block (call_view helper.now) v).inverse)
+        O.may_give (moment rc.old (O.held out.old)) result (moment rc.new (O.held out.new)) }
+    ensures kept { IsKept rc.old rc.new }
+{
+    match &helper.inverse {
+        Some(template) => render_tree(template, setting, rc, out),
+        None => Ok(()),
+    }
+}
+
+// The line where a call begins, whose tag is marked or not.
+fn enter_call(rc: &mut RenderContext, marked: bool)
+    ensures state { state_of rc.new ≡ record (state_of rc.old) { line = line_in marked (state_of rc.old).line } }
+    ensures kept { IsKept rc.old rc.new }
+{
+    if marked && rc.get_trailine_newline() {
+        rc.set_indent_before_write(true);
+    }
+    rc.set_content_produced(false);
+}
+
+// The line behind a call, by what it was before.
+fn leave_call(rc: &mut RenderContext, before: bool, produced: bool)
+    ensures state { (old : LineState) → old.before ≡ before → old.produced ≡ produced
+        → state_of rc.new ≡ record (state_of rc.old) { line = line_out old (state_of rc.old).line } }
+    ensures kept { IsKept rc.old rc.new }
+{
+    if rc.get_content_produced() {
+        let trailing = rc.get_trailine_newline();
+        rc.set_indent_before_write(trailing);
+    } else {
+        rc.set_indent_before_write(before);
+        rc.set_content_produced(produced);
+    }
+}

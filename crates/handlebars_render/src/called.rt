@@ -1,0 +1,181 @@
+//! What a call or another tag shows of itself, and what a call in parentheses comes to.
+
+ghost use Rattle.std.specs.Prelude.{◌≡◌, [], IfErr, IfOk, false, unwrap_or};
+ghost use Rattle.std.specs.Cow.{cow_str_bytes};
+ghost use Rattle.serde_json.specs.Data.{string};
+ghost use Rattle.handlebars_base.specs.Answers.{IsRefusal};
+ghost use Rattle.handlebars_base.specs.Reasons.{helper_not_found, out_of_memory};
+ghost use Rattle.handlebars_base.specs.RenderRefusals.{plain_refusal, reason_in};
+ghost use Rattle.handlebars_base.specs.Scoped.{found_of, is_constant, value};
+ghost use Rattle.handlebars_template.specs.TreeView.{call_view, decorator_view};
+ghost use Rattle.handlebars_scope.specs.Sites.{Site};
+ghost use Rattle.handlebars_helpers.specs.Choice.{value_in};
+ghost use Rattle.handlebars_helpers.specs.View.{choice_of, helper_view};
+ghost use Rattle.handlebars_meaning.specs.CarryOut.{helper_call, inner_call};
+ghost use Rattle.handlebars_meaning.specs.State.{State, helper_for};
+ghost use Rattle.handlebars_meaning.specs.Expand.{helped_value, view_of_tag};
+ghost use Rattle.handlebars_meaning.specs.Means.{name_alone};
+ghost use Rattle.handlebars_render.specs.View.{setting_in, state_of, called_view, Yields};
+
+use crate::context::RenderContext;
+use crate::registered::{Registered, helper_for};
+use crate::setting::Setting;
+use crate::value::{expand_as_name, pairs_values, params_values};
+use handlebars_base::error::{RenderError, RenderErrorReason};
+use handlebars_base::json::value::{Json, PathAndJson, ScopedJson};
+use handlebars_helpers::choice::{Choice, choose};
+use handlebars_helpers::view::Helper;
+use handlebars_template::template::{DecoratorTemplate, HelperTemplate};
+use serde_json::Number;
+use std::alloc::{AllocError, Global};
+use std::borrow::CowStr;
+use std::collections::BTreeMap;
+
+/// The name of a call or of another tag, and the values of its parameters and pairs.
+pub struct Called<'a> {
+    pub name: CowStr<'a>,
+    pub params: Vec<PathAndJson<'a>>,
+    pub hash: BTreeMap<&'a str, PathAndJson<'a>>,
+}
+
+// By hand, so that each place that lets one go is one call.
+impl<'a> Drop for Called<'a> {
+    fn drop(self) {
+        let Called {
+            name: _,
+            params: _,
+            hash: _,
+        } = self;
+    }
+}
+
+impl<'a> Called<'a> {
+    /// A name alone, with no parameters.
+    pub fn alone(alloc: Global, name: CowStr<'a>) -> Called<'a>
+        ensures { called_view result ≡ name_alone (cow_str_bytes name.entry) }
+    {
+        Called {
+            name,
+            params: Vec::new(alloc),
+            hash: BTreeMap::new(alloc),
+        }
+    }
+
+    /// What a helper sees of a call, of a block or of an expression: beside its values its bodies.
+    pub fn of_call(self, helper: &'a HelperTemplate, block: bool) -> Helper<'a>
+        ensures { helper_view result ≡ helper_call block (call_view helper.now) (called_view self.entry) }
+    {
+        let Called { name, params, hash } = self;
+        Helper::new(
+            name,
+            params,
+            hash,
+            helper.template.as_ref(),
+            helper.inverse.as_ref(),
+            helper.block_param.as_ref(),
+            block,
+        )
+    }
+
+    /// What a helper sees of a call in parentheses, which has no bodies and binds no names.
+    pub fn in_parentheses(self) -> Helper<'a>
+        ensures { helper_view result ≡ inner_call (called_view self.entry) }
+    {
+        let Called { name, params, hash } = self;
+        Helper::new(name, params, hash, None, None, None, false)
+    }
+
+    /// The name alone.
+    pub fn into_name(self) -> CowStr<'a>
+        ensures { result ≡ self.entry.name }
+    {
+        let Called {
+            name,
+            params: _,
+            hash: _,
+        } = self;
+        name
+    }
+}
+
+/// The view of a decorator or an inclusion.
+pub fn view_of_tag<'a, P: Registered>(
+    setting: &Setting<'_, 'a, P>,
+    rc: &RenderContext,
+    tag: &'a DecoratorTemplate,
+) -> Result<Called<'a>, RenderError>
+    ensures { (site : Site) → Yields (setting_in P.parts setting.now)
+        (view_of_tag (setting_in P.parts setting.now) site (decorator_view tag.now)) (state_of rc.now) called_view result }
+{
+    let name = expand_as_name(setting, rc, &tag.name)?;
+    let params = params_values(setting, rc, &tag.params)?;
+    let hash = pairs_values(setting, rc, &tag.hash)?;
+    Ok(Called { name, params, hash })
+}
+
+/// The value of a call in parentheses: the one that its helper chooses, which is copied; anything
+/// else that it chooses writes nothing there. A line of `log` goes to the logger.
+pub fn helped_value<'a, P: Registered>(
+    setting: &Setting<P>,
+    call: Called,
+) -> Result<ScopedJson<'a>, RenderError>
+    ensures value { (site : Site) (s : State) → Yields (setting_in P.parts setting.now)
+        (helped_value (P.parts setting.now.parts.now).strict site
+        (helper_for (P.parts setting.now.parts.now) false (called_view call.entry).name)
+        (inner_call (called_view call.entry))) s found_of result }
+    ensures constant { IfOk result (λ found. is_constant found ≡ false) }
+{
+    let helper = call.in_parentheses();
+    match helper_for(setting.parts, false, helper.name()) {
+        Some(kind) => match choose(setting.alloc, setting.parts.strict(), kind, &helper) {
+            Ok(choice) => chosen_value(setting, choice),
+            Err(e) => Err(e),
+        },
+        None => Err(helper_not_found(setting.alloc, helper.name())),
+    }
+}
+
+// The value that is chosen, or the text that another choice writes in parentheses.
+fn chosen_value<'a, P: Registered>(
+    setting: &Setting<P>,
+    choice: Choice,
+) -> Result<ScopedJson<'a>, RenderError>
+    ensures value { IfOk result (λ found. found_of found ≡ value (unwrap_or (value_in (choice_of choice.entry)) (string []))) }
+    ensures memory { IfErr result (λ e. reason_in e ≡ out_of_memory) }
+    ensures constant { IfOk result (λ found. is_constant found ≡ false) }
+{
+    match choice {
+        Choice::Value(Some(value)) => Ok(ScopedJson::Derived(value.clone()?)),
+        Choice::Value(None) => Ok(ScopedJson::Derived(Json::Null)),
+        Choice::Count(count) => Ok(ScopedJson::Derived(Json::Number(Number::from(count)))),
+        Choice::Word(word) => Ok(ScopedJson::Derived(Json::Bool(word))),
+        Choice::Line(level, text) => {
+            setting.parts.log(level, text.as_str());
+            Ok(empty_text(setting.alloc))
+        }
+        Choice::Body => Ok(empty_text(setting.alloc)),
+        Choice::Inverse => Ok(empty_text(setting.alloc)),
+        Choice::Block(_) => Ok(empty_text(setting.alloc)),
+        Choice::Items(_, _) => Ok(empty_text(setting.alloc)),
+        Choice::Members(_, _) => Ok(empty_text(setting.alloc)),
+        Choice::Nothing => Ok(empty_text(setting.alloc)),
+    }
+}
+
+// The value of what writes nothing.
+fn empty_text<'a>(alloc: Global) -> ScopedJson<'a>
+    ensures value { found_of result ≡ value (string []) }
+    ensures constant { is_constant result ≡ false }
+{
+    ScopedJson::Derived(Json::String(String::new(alloc)))
+}
+
+/// The refusal of a name that no helper has.
+pub fn helper_not_found(alloc: Global, name: &str) -> RenderError
+    ensures { IsRefusal (plain_refusal (helper_not_found name.now)) result }
+{
+    match String::from_str(alloc, name) {
+        Ok(name) => RenderErrorReason::HelperNotFound(name).into(),
+        Err(AllocError) => RenderErrorReason::OutOfMemory.into(),
+    }
+}

@@ -1,0 +1,358 @@
+//! The state of a rendering.
+
+ghost use Rattle.std.specs.Prelude.{◌≡◌, ◌≢◌, not, IfOk, IfErr, OnOk, OnErr, true, false, option_map, slice_get, string_bytes};
+ghost use Rattle.std.specs.Borrow.{sem};
+ghost use Rattle.serde_json.specs.View.{view};
+ghost use Rattle.handlebars_base.specs.Answers.{Answers, answer_map, gives, refuses};
+ghost use Rattle.handlebars_base.specs.PathView.{reference_of};
+ghost use Rattle.handlebars_base.specs.Reasons.{out_of_memory};
+ghost use Rattle.handlebars_base.specs.RenderRefusals.{reason_in, refusal_of};
+ghost use Rattle.handlebars_base.specs.Scoped.{found_of, is_constant, present_in};
+ghost use Rattle.handlebars_template.specs.TreeView.{binding_of, binding_view};
+ghost use Rattle.handlebars_scope.specs.Contexts.{data_of};
+ghost use Rattle.handlebars_scope.specs.LineView.{line_of};
+ghost use Rattle.handlebars_scope.specs.Resolve.{resolved};
+ghost use Rattle.handlebars_scope.specs.ScopeView.{frame_of, frames_of, variables_of};
+ghost use Rattle.handlebars_helpers.specs.Turns.{turned};
+ghost use Rattle.handlebars_helpers.specs.View.{path_view, turn_view};
+ghost use Rattle.handlebars_meaning.specs.Expand.{Evaluates};
+ghost use Rattle.handlebars_render.specs.Lending.{LendsBlock};
+ghost use Rattle.handlebars_meaning.specs.State.{entered, first_state, left, nearest_variables, with_nearest};
+ghost use Rattle.handlebars_render.specs.View.{state_of, root_of, has_failed, behind, with_line, HasOuter, IsKept};
+
+use handlebars_base::error::RenderError;
+use handlebars_base::json::path::Path;
+use handlebars_base::json::value::{Json, ScopedJson};
+use handlebars_helpers::turn::{Turn, set_up_turn};
+use handlebars_scope::block::BlockContext;
+use handlebars_scope::context::{Context, walk};
+use handlebars_scope::line::Line;
+use handlebars_scope::local_vars::LocalVars;
+use handlebars_template::template::BlockParam;
+use std::alloc::{AllocError, Global};
+use std::collections::VecDeque;
+use std::mem;
+
+/// The state of a rendering: what templates change as they are rendered, beside their data.
+pub struct RenderContext {
+    alloc: Global,
+    root_template: Option<String>,
+    current_template: Option<String>,
+    // Nearest first.
+    blocks: VecDeque<BlockContext>,
+    recursive_lookup: bool,
+    line: Line,
+    escapes: bool,
+    failed: bool,
+}
+
+// By hand, so that each place that lets one go is one call.
+impl Drop for RenderContext {
+    fn drop(self) {
+        let RenderContext {
+            alloc: _,
+            root_template: _,
+            current_template: _,
+            blocks: _,
+            recursive_lookup: _,
+            line: _,
+            escapes: _,
+            failed: _,
+        } = self;
+    }
+}
+
+impl RenderContext {
+    /// The first state of a run, which the template of that name begins, if it has one.
+    pub fn new(alloc: Global, root_template: Option<&String>) -> Result<RenderContext, AllocError>
+        ensures state { IfOk result (λ rc. state_of rc ≡ first_state false) }
+        ensures root { IfOk result (λ rc. root_of rc ≡ option_map (λ name. string_bytes name.now) root_template.entry) }
+        ensures ready { IfOk result (λ rc. has_failed rc ≡ false) }
+    {
+        let root_template = match root_template {
+            Some(name) => Some(name.clone()?),
+            None => None,
+        };
+        let mut blocks = VecDeque::new(alloc);
+        blocks.push_front(BlockContext::new(alloc))?;
+        Ok(RenderContext {
+            alloc,
+            root_template,
+            current_template: None,
+            blocks,
+            recursive_lookup: false,
+            line: Line::first(),
+            escapes: true,
+            failed: false,
+        })
+    }
+
+    /// Whether a rendering in this context was refused: the next ones are then refused too.
+    pub fn has_failed(&self) -> bool
+        ensures { result ≡ has_failed self.now }
+    {
+        self.failed
+    }
+
+    /// Makes a block of scope the nearest one. Where memory is refused, nothing is changed here, and
+    /// the block is gone.
+    pub fn push_block(&mut self, block: BlockContext) -> Result<(), AllocError>
+        ensures ok { OnOk result (state_of self.new ≡ entered (frame_of block) (state_of self.old)) }
+        ensures err { OnErr result (state_of self.new ≡ state_of self.old) }
+        ensures root { root_of self.new ≡ root_of self.old }
+        ensures failed { has_failed self.new ≡ has_failed self.old }
+    {
+        self.blocks.push_front(block)?;
+        Ok(())
+    }
+
+    /// Takes the nearest block of scope away, where there is one.
+    pub fn pop_block(&mut self)
+        ensures state { state_of self.new ≡ left (state_of self.old) }
+        ensures root { root_of self.new ≡ root_of self.old }
+        ensures failed { has_failed self.new ≡ has_failed self.old }
+    {
+        self.blocks.pop_front();
+    }
+
+    /// The nearest block of scope.
+    pub fn block(&self) -> Option<&BlockContext>
+        ensures { option_map (λ b. frame_of b.now) result ≡ slice_get (state_of self.now).blocks 0 }
+    {
+        self.blocks.front()
+    }
+
+    /// The nearest block of scope, to be changed.
+    pub fn block_mut(&mut self) -> Option<&mut BlockContext>
+        ensures* writes_back { sem 𝓛 (LendsBlock self.entry result) }
+        ensures value { option_map (λ b. frame_of b.now) result ≡ slice_get (state_of self.old).blocks 0 }
+    {
+        self.blocks.front_mut()
+    }
+
+    /// Other blocks of scope, nearest first, take the place of those that are there, which are given
+    /// back.
+    pub fn replace_blocks(&mut self, blocks: VecDeque<BlockContext>) -> VecDeque<BlockContext>
+        ensures replaced { frames_of result.items ≡ (state_of self.old).blocks }
+        ensures state { state_of self.new ≡ record (state_of self.old) { blocks = frames_of blocks.items } }
+        ensures root { root_of self.new ≡ root_of self.old }
+        ensures failed { has_failed self.new ≡ has_failed self.old }
+    {
+        mem::replace(&mut self.blocks, blocks)
+    }
+
+    /// From now on lookup is recursive, or isn't.
+    pub fn set_recursive_lookup(&mut self, enabled: bool)
+        ensures state { state_of self.new ≡ record (state_of self.old) { recursive = enabled } }
+        ensures root { root_of self.new ≡ root_of self.old }
+        ensures failed { has_failed self.new ≡ has_failed self.old }
+    {
+        self.recursive_lookup = enabled;
+    }
+
+    // Sets the nearest block up for a turn of `each`.
+    pub(super) fn set_up_turn(
+        &mut self,
+        binding: Option<&BlockParam>,
+        path: Option<&Vec<String>>,
+        turn: Turn,
+    ) -> Result<(), AllocError>
+        ensures ok { OnOk result (state_of self.new ≡ with_nearest (turned (path_view path.entry)
+            (binding_of (option_map (λ b. binding_view b.now) binding.entry)) (turn_view turn.entry))
+            (state_of self.old)) }
+        ensures outer { HasOuter self.old self.new }
+    {
+        match self.blocks.front_mut() {
+            Some(block) => set_up_turn(self.alloc, block, binding, path, turn),
+            None => Ok(()),
+        }
+    }
+
+    // The variables of the nearest block; without any block there are none.
+    pub(super) fn nearest_variables(&self) -> Result<LocalVars, AllocError>
+        ensures { IfOk result (λ variables. variables_of variables ≡ nearest_variables (state_of self.now).blocks) }
+    {
+        match self.blocks.front() {
+            Some(block) => block.local_variables().clone(),
+            None => Ok(LocalVars::new(self.alloc)),
+        }
+    }
+
+    // What a path leads to in these blocks and this data; nothing is copied.
+    pub(super) fn resolve<'v>(
+        &'v self,
+        given: &'v Json,
+        path: &Path,
+    ) -> Result<Option<&'v Json>, RenderError>
+        ensures { Answers (option_map (λ v. view v.now)) result
+            (answer_map present_in (resolved (state_of self.now).recursive (state_of self.now).blocks
+            (reference_of path.now) (view given.now))) }
+    {
+        walk::resolve(self.alloc, given, path, &self.blocks, self.recursive_lookup)
+    }
+
+    // The same, with the full path of a value of the data. A value that a block holds is copied.
+    pub(super) fn find<'a>(
+        &self,
+        given: &'a Json,
+        path: &Path,
+    ) -> Result<ScopedJson<'a>, RenderError>
+        ensures found { Answers found_of result
+            (resolved (state_of self.now).recursive (state_of self.now).blocks
+            (reference_of path.now) (view given.now)) }
+        ensures plain { IfOk result (λ found. is_constant found ≡ false) }
+    {
+        walk::find(self.alloc, given, path, &self.blocks, self.recursive_lookup)
+    }
+
+    /// Whether values are written as they are, and not escaped.
+    pub fn is_disable_escape(&self) -> bool
+        ensures { result ≡ not (state_of self.now).escapes }
+    {
+        !self.escapes
+    }
+
+    /// From now on values are written as they are, or escaped.
+    pub fn set_disable_escape(&mut self, disable: bool)
+        ensures state { state_of self.new ≡ record (state_of self.old) { escapes = not disable } }
+        ensures root { root_of self.new ≡ root_of self.old }
+        ensures failed { has_failed self.new ≡ has_failed self.old }
+    {
+        self.escapes = !disable;
+    }
+
+    /// Whether indentation goes before the next text.
+    pub fn get_indent_before_write(&self) -> bool
+        ensures { result ≡ (state_of self.now).line.before }
+    {
+        self.line.before
+    }
+
+    /// From now on indentation goes before the next text, or doesn't.
+    pub fn set_indent_before_write(&mut self, indent: bool)
+        ensures state { state_of self.new
+            ≡ with_line (record (state_of self.old).line { before = indent }) (state_of self.old) }
+        ensures kept { IsKept self.old self.new }
+    {
+        self.line.before = indent;
+    }
+
+    /// Whether the last text ended a line.
+    pub fn get_trailine_newline(&self) -> bool
+        ensures { result ≡ (state_of self.now).line.trailing }
+    {
+        self.line.trailing
+    }
+
+    /// From now on the last text counts as one that ended a line, or didn't.
+    pub fn set_trailing_newline(&mut self, trailing: bool)
+        ensures state { state_of self.new
+            ≡ with_line (record (state_of self.old).line { trailing = trailing }) (state_of self.old) }
+        ensures kept { IsKept self.old self.new }
+    {
+        self.line.trailing = trailing;
+    }
+
+    /// Whether a text was written.
+    pub fn get_content_produced(&self) -> bool
+        ensures { result ≡ (state_of self.now).line.produced }
+    {
+        self.line.produced
+    }
+
+    /// From now on a text counts as written, or as not written yet.
+    pub fn set_content_produced(&mut self, produced: bool)
+        ensures state { state_of self.new
+            ≡ with_line (record (state_of self.old).line { produced = produced }) (state_of self.old) }
+        ensures kept { IsKept self.old self.new }
+    {
+        self.line.produced = produced;
+    }
+
+    // Whether values are escaped.
+    pub(super) fn escapes(&self) -> bool
+        ensures { result ≡ (state_of self.now).escapes }
+    {
+        self.escapes
+    }
+
+    /// What a text leads to, as a path, in the blocks of scope and the data. A refusal changes nothing
+    /// here.
+    pub fn evaluate<'rc>(
+        &self,
+        context: &'rc Context,
+        path: &str,
+    ) -> Result<ScopedJson<'rc>, RenderError>
+        ensures ok { IfOk result (λ found. Evaluates (state_of self.now).recursive (state_of self.now).blocks
+            (data_of context.now) path.now (gives (found_of found))) }
+        ensures err { IfErr result (λ e. reason_in e ≢ out_of_memory
+            → Evaluates (state_of self.now).recursive (state_of self.now).blocks
+            (data_of context.now) path.now (refuses (refusal_of e))) }
+        ensures plain { IfOk result (λ found. is_constant found ≡ false) }
+    {
+        let reference = Path::parse(self.alloc, path)?;
+        self.find(context.data(), &reference)
+    }
+
+    // From now on renderings are refused.
+    pub(super) fn fail(&mut self)
+        ensures { self.new ≡ record self.old { failed = true } }
+    {
+        self.failed = true;
+    }
+
+    // Makes a name the current one, or none. A name that is the current one isn't copied again.
+    pub(super) fn enter(&mut self, name: &Option<String>) -> Result<(), AllocError>
+        ensures ok { OnOk result (state_of self.new
+            ≡ record (state_of self.old) { current = option_map string_bytes name.now }) }
+        ensures err { OnErr result (state_of self.new ≡ state_of self.old) }
+        ensures kept { IsKept self.old self.new }
+    {
+        match name {
+            Some(name) => self.enter_name(name),
+            None => {
+                self.current_template = None;
+                Ok(())
+            }
+        }
+    }
+
+    fn enter_name(&mut self, name: &String) -> Result<(), AllocError>
+        ensures ok { OnOk result (state_of self.new
+            ≡ record (state_of self.old) { current = Some (string_bytes name.now) }) }
+        ensures err { OnErr result (state_of self.new ≡ state_of self.old) }
+        ensures kept { IsKept self.old self.new }
+    {
+        let is_current = match &self.current_template {
+            Some(current) => current.as_str() == name.as_str(),
+            None => false,
+        };
+        if !is_current {
+            self.current_template = Some(name.clone()?);
+        }
+        Ok(())
+    }
+
+    // A text was written.
+    pub(super) fn pass_text(&mut self, text: &str)
+        ensures state { state_of self.new ≡ behind text.now (state_of self.old) }
+        ensures kept { IsKept self.old self.new }
+    {
+        self.line = self.line.behind(text);
+    }
+
+    // The line that is being written.
+    pub(super) fn line(&self) -> Line
+        ensures { line_of result ≡ (state_of self.now).line }
+    {
+        self.line
+    }
+
+    // From now on this is the line that is being written.
+    pub(super) fn set_line(&mut self, line: Line)
+        ensures state { state_of self.new ≡ with_line (line_of line) (state_of self.old) }
+        ensures kept { IsKept self.old self.new }
+    {
+        self.line = line;
+    }
+}

@@ -1,0 +1,90 @@
+//! Rendering in blocks of scope: `each` and `with`.
+
+ghost use Rattle.std.specs.Prelude.{◌≡◌, Bool};
+ghost use Rattle.handlebars_template.specs.TreeView.{call_view};
+ghost use Rattle.handlebars_scope.specs.Scopes.{empty_frame};
+ghost use Rattle.handlebars_scope.specs.Sites.{Site};
+ghost use Rattle.handlebars_helpers.specs.CallView.{CallView};
+ghost use Rattle.handlebars_helpers.specs.View.{base_view, path_view, turns_left};
+ghost use Rattle.handlebars_meaning.specs.CarryOut.{helper_call, in_block, render_with, take_turns};
+ghost use Rattle.handlebars_render.specs.View.{setting_in, moment, CarriesOn, HasOuter, IsKept};
+
+use crate::block::render_body;
+use crate::context::RenderContext;
+use crate::registered::Registered;
+use crate::setting::Setting;
+use handlebars_base::error::RenderError;
+use handlebars_helpers::each_turns::Turns;
+use handlebars_helpers::turn::{Base, with_block};
+use handlebars_scope::block::BlockContext;
+use handlebars_scope::output::Output;
+use handlebars_template::template::HelperTemplate;
+
+/// The body, in a block that stands at a base.
+#[cycle(render)]
+pub fn render_with<'a, O: Output, P: Registered>(
+    helper: &'a HelperTemplate,
+    setting: &Setting<'_, 'a, P>,
+    base: Base,
+    rc: &mut RenderContext,
+    out: &mut O,
+) -> Result<(), RenderError>
+    ensures renders { (site : Site) (block : Bool) (v : CallView) → CarriesOn (setting_in P.parts setting.now)
+        (render_with site (helper_call block (call_view helper.now) v) (base_view base.entry))
+        O.may_give (moment rc.old (O.held out.old)) result (moment rc.new (O.held out.new)) }
+    ensures kept { IsKept rc.old rc.new }
+{
+    let variables = rc.nearest_variables()?;
+    let block = with_block(setting.alloc, helper.block_param.as_ref(), base, variables)?;
+    rc.push_block(block)?;
+    let answer = render_body(helper, setting, rc, out);
+    rc.pop_block();
+    answer
+}
+
+/// The body for each member, in one block.
+#[cycle(render)]
+pub fn render_each<'a, O: Output, P: Registered>(
+    helper: &'a HelperTemplate,
+    setting: &Setting<'_, 'a, P>,
+    path: Option<&Vec<String>>,
+    turns: Turns,
+    rc: &mut RenderContext,
+    out: &mut O,
+) -> Result<(), RenderError>
+    ensures renders { (site : Site) (block : Bool) (v : CallView) → CarriesOn (setting_in P.parts setting.now)
+        (in_block empty_frame (take_turns site (helper_call block (call_view helper.now) v) (path_view path.entry)
+        (turns_left turns.entry)))
+        O.may_give (moment rc.old (O.held out.old)) result (moment rc.new (O.held out.new)) }
+    ensures kept { IsKept rc.old rc.new }
+{
+    rc.push_block(BlockContext::new(setting.alloc))?;
+    let answer = take_turns(helper, setting, path, turns, rc, out);
+    rc.pop_block();
+    answer
+}
+
+// The turns that are left. In each one the nearest block is set up for it, and the body is rendered.
+#[cycle(render)]
+fn take_turns<'a, O: Output, P: Registered>(
+    helper: &'a HelperTemplate,
+    setting: &Setting<'_, 'a, P>,
+    path: Option<&Vec<String>>,
+    turns: Turns,
+    rc: &mut RenderContext,
+    out: &mut O,
+) -> Result<(), RenderError>
+    ensures renders { (site : Site) (block : Bool) (v : CallView) → CarriesOn (setting_in P.parts setting.now)
+        (take_turns site (helper_call block (call_view helper.now) v) (path_view path.entry) (turns_left turns.entry))
+        O.may_give (moment rc.old (O.held out.old)) result (moment rc.new (O.held out.new)) }
+    ensures outer { HasOuter rc.old rc.new }
+{
+    let mut left = turns;
+    'turns: while let Some(turn) = left.next() {
+        rc.set_up_turn(helper.block_param.as_ref(), path, turn)?;
+        if let Err(e) = render_body(helper, setting, rc, out) {
+            return Err(e);
+        }
+    }
+    Ok(())
+}

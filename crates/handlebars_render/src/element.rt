@@ -1,0 +1,122 @@
+//! Rendering an element.
+
+ghost use Rattle.std.specs.Prelude.{◌≡◌, ◌≢◌};
+ghost use Rattle.std.specs.Cow.{cow_str_bytes};
+ghost use Rattle.handlebars_base.specs.Answers.{IsRefusal};
+ghost use Rattle.handlebars_base.specs.Reasons.{out_of_memory, decorator_not_found, partial_not_found};
+ghost use Rattle.handlebars_base.specs.RenderRefusals.{plain_refusal, reason_in, refusal_of};
+ghost use Rattle.handlebars_template.specs.TreeView.{element_view, call_view, decorator_view};
+ghost use Rattle.handlebars_scope.specs.Sites.{Site};
+ghost use Rattle.handlebars_meaning.specs.Means.{render_decorator, render_element, render_expression, render_partial, unescaped};
+ghost use Rattle.handlebars_meaning.specs.Steps.{run};
+ghost use Rattle.handlebars_meaning.specs.Runs.{RefusesValue};
+ghost use Rattle.handlebars_render.specs.View.{setting_in, state_of, moment, CarriesOut, IsKept};
+
+use crate::block::render_tag;
+use crate::called::view_of_tag;
+use crate::context::RenderContext;
+use crate::registered::Registered;
+use crate::setting::Setting;
+use crate::write::indent_aware_write;
+use handlebars_base::error::{RenderError, RenderErrorReason};
+use handlebars_scope::output::Output;
+use handlebars_template::template::{DecoratorTemplate, HelperTemplate, TemplateElement};
+use std::alloc::{AllocError, Global};
+use std::borrow::CowStr;
+
+/// Renders one element of a tree.
+#[cycle(render)]
+pub fn render_element<'a, O: Output, P: Registered>(
+    element: &'a TemplateElement,
+    setting: &Setting<'_, 'a, P>,
+    rc: &mut RenderContext,
+    out: &mut O,
+) -> Result<(), RenderError>
+    ensures renders { (site : Site) → CarriesOut (setting_in P.parts setting.now)
+        (run (render_element (setting_in P.parts setting.now) site (element_view element.now)))
+        O.may_give (moment rc.old (O.held out.old)) result (moment rc.new (O.held out.new)) }
+    ensures kept { IsKept rc.old rc.new }
+{
+    match element {
+        TemplateElement::RawString(text) => indent_aware_write(text.as_str(), rc, out),
+        TemplateElement::Expression(helper) => render_tag(helper, setting, false, rc, out),
+        TemplateElement::Comment(_) => Ok(()),
+        TemplateElement::HtmlExpression(helper) => render_unescaped(helper, setting, rc, out),
+        TemplateElement::HelperBlock(helper) => render_tag(helper, setting, true, rc, out),
+        TemplateElement::DecoratorExpression(tag) => Err(decorator_not_found(tag, setting, rc)),
+        TemplateElement::DecoratorBlock(tag) => Err(decorator_not_found(tag, setting, rc)),
+        TemplateElement::PartialExpression(tag) => Err(partial_not_found(tag, setting, rc)),
+        TemplateElement::PartialBlock(tag) => Err(partial_not_found(tag, setting, rc)),
+    }
+}
+
+// An expression with escaping off, which is restored before a refusal goes on.
+#[cycle(render)]
+fn render_unescaped<'a, O: Output, P: Registered>(
+    helper: &'a HelperTemplate,
+    setting: &Setting<'_, 'a, P>,
+    rc: &mut RenderContext,
+    out: &mut O,
+) -> Result<(), RenderError>
+    ensures renders { (site : Site) → CarriesOut (setting_in P.parts setting.now)
+        (run (unescaped (render_expression (setting_in P.parts setting.now) site (call_view helper.now))))
+        O.may_give (moment rc.old (O.held out.old)) result (moment rc.new (O.held out.new)) }
+    ensures kept { IsKept rc.old rc.new }
+{
+    let disabled = rc.is_disable_escape();
+    rc.set_disable_escape(true);
+    let answer = render_tag(helper, setting, false, rc, out);
+    rc.set_disable_escape(disabled);
+    answer
+}
+
+// The refusals of decorators and inclusions, for which nothing is registered.
+fn decorator_not_found<'a, P: Registered>(
+    tag: &'a DecoratorTemplate,
+    setting: &Setting<'_, 'a, P>,
+    rc: &RenderContext,
+) -> RenderError
+    ensures { (site : Site) → reason_in result ≢ out_of_memory
+        → RefusesValue (setting_in P.parts setting.now)
+        (render_decorator (setting_in P.parts setting.now) site (decorator_view tag.now))
+        (state_of rc.now) (refusal_of result) }
+{
+    match view_of_tag(setting, rc, tag) {
+        Ok(view) => no_decorator(setting.alloc, view.into_name()),
+        Err(e) => e,
+    }
+}
+
+fn partial_not_found<'a, P: Registered>(
+    tag: &'a DecoratorTemplate,
+    setting: &Setting<'_, 'a, P>,
+    rc: &RenderContext,
+) -> RenderError
+    ensures { (site : Site) → reason_in result ≢ out_of_memory
+        → RefusesValue (setting_in P.parts setting.now)
+        (render_partial (setting_in P.parts setting.now) site (decorator_view tag.now))
+        (state_of rc.now) (refusal_of result) }
+{
+    match view_of_tag(setting, rc, tag) {
+        Ok(view) => no_partial(setting.alloc, view.into_name()),
+        Err(e) => e,
+    }
+}
+
+fn no_decorator(alloc: Global, name: CowStr) -> RenderError
+    ensures { IsRefusal (plain_refusal (decorator_not_found (cow_str_bytes name.entry))) result }
+{
+    match name.into_owned(alloc) {
+        Ok(name) => RenderErrorReason::DecoratorNotFound(name).into(),
+        Err(AllocError) => RenderErrorReason::OutOfMemory.into(),
+    }
+}
+
+fn no_partial(alloc: Global, name: CowStr) -> RenderError
+    ensures { IsRefusal (plain_refusal (partial_not_found (cow_str_bytes name.entry))) result }
+{
+    match name.into_owned(alloc) {
+        Ok(name) => RenderErrorReason::PartialNotFound(name).into(),
+        Err(AllocError) => RenderErrorReason::OutOfMemory.into(),
+    }
+}

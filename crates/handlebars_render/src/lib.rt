@@ -1,0 +1,17 @@
+//! Rendering: carrying out what a template means, with whatever is registered. Its callers are the calls of `handlebars`
+//! that take a registry.
+#![tactic(auto)]
+
+mod block;
+mod called;
+pub mod context;
+mod each;
+mod element;
+pub mod failure;
+mod lone;
+mod next;
+pub mod registered;
+pub mod setting;
+pub mod tree;
+pub mod value;
+pub mod write;

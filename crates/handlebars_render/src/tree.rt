@@ -1,0 +1,113 @@
+//! Rendering a tree.
+
+ghost use Rattle.std.specs.Prelude.{◌≡◌, ◌≢◌, option_map, string_bytes};
+ghost use Rattle.handlebars_base.specs.Reasons.{out_of_memory};
+ghost use Rattle.handlebars_base.specs.RenderRefusals.{reason_in, spot_of, cause_of};
+ghost use Rattle.handlebars_template.specs.TreeView.{tree_view, element_view, place_of};
+ghost use Rattle.handlebars_scope.specs.Sites.{TreeSite};
+ghost use Rattle.handlebars_meaning.specs.Means.{render_tree, render_whole, render_alone};
+ghost use Rattle.handlebars_meaning.specs.Runs.{placed_at, named_as};
+ghost use Rattle.handlebars_meaning.specs.Steps.{Whole, perform, run};
+ghost use Rattle.handlebars_render.specs.View.{setting_in, moment, CarriesOn, CarriesOut, IsKept};
+
+use crate::context::RenderContext;
+use crate::element::render_element;
+use crate::registered::Registered;
+use crate::setting::Setting;
+use handlebars_base::error::RenderError;
+use handlebars_scope::output::Output;
+use handlebars_template::template::{Template, TemplateElement, TemplateMapping};
+use std::alloc::Global;
+
+/// Renders the tree that a run begins with.
+pub fn render_first<'a, O: Output, P: Registered>(
+    template: &'a Template,
+    setting: &Setting<'_, 'a, P>,
+    rc: &mut RenderContext,
+    out: &mut O,
+) -> Result<(), RenderError>
+    ensures renders { CarriesOut (setting_in P.parts setting.now) (render_tree (tree_view template.now))
+        O.may_give (moment rc.old (O.held out.old)) result (moment rc.new (O.held out.new)) }
+    ensures kept { IsKept rc.old rc.new }
+{
+    render_tree(template, setting, rc, out)
+}
+
+/// Renders an element that stands in no tree.
+pub fn render_alone<'a, O: Output, P: Registered>(
+    element: &'a TemplateElement,
+    setting: &Setting<'_, 'a, P>,
+    rc: &mut RenderContext,
+    out: &mut O,
+) -> Result<(), RenderError>
+    ensures renders { CarriesOut (setting_in P.parts setting.now) (render_alone (element_view element.now))
+        O.may_give (moment rc.old (O.held out.old)) result (moment rc.new (O.held out.new)) }
+    ensures kept { IsKept rc.old rc.new }
+{
+    render_element(element, setting, rc, out)
+}
+
+/// Renders a tree, a body or an inverse too; a refusal takes its name, where none is known yet.
+#[cycle(render)]
+pub fn render_tree<'a, O: Output, P: Registered>(
+    template: &'a Template,
+    setting: &Setting<'_, 'a, P>,
+    rc: &mut RenderContext,
+    out: &mut O,
+) -> Result<(), RenderError>
+    ensures renders { (at : TreeSite) → CarriesOn (setting_in P.parts setting.now)
+        (perform (Whole at (tree_view template.now)))
+        O.may_give (moment rc.old (O.held out.old)) result (moment rc.new (O.held out.new)) }
+    ensures kept { IsKept rc.old rc.new }
+{
+    match render_whole(template, setting, rc, out) {
+        Ok(()) => Ok(()),
+        Err(e) => Err(named(setting.alloc, e, &template.name)),
+    }
+}
+
+// The name and the elements of a tree.
+#[cycle(render)]
+fn render_whole<'a, O: Output, P: Registered>(
+    template: &'a Template,
+    setting: &Setting<'_, 'a, P>,
+    rc: &mut RenderContext,
+    out: &mut O,
+) -> Result<(), RenderError>
+    ensures renders { (at : TreeSite) → CarriesOut (setting_in P.parts setting.now)
+        (run (render_whole at (tree_view template.now)))
+        O.may_give (moment rc.old (O.held out.old)) result (moment rc.new (O.held out.new)) }
+    ensures kept { IsKept rc.old rc.new }
+{
+    rc.enter(&template.name)?;
+    'elements: for (index, element) in template.elements.iter().enumerate() {
+        if let Err(e) = render_element(element, setting, rc, out) {
+            return Err(placed(e, template.mapping.get(index)));
+        }
+    }
+    Ok(())
+}
+
+// With the position of an element, where it has one and none is known yet.
+fn placed(error: RenderError, place: Option<&TemplateMapping>) -> RenderError
+    ensures spot { spot_of result ≡ placed_at (option_map (λ m. place_of m.now) place.entry) (spot_of error) }
+    ensures cause { cause_of result ≡ cause_of error }
+{
+    match place {
+        Some(place) => error.at(place.0, place.1),
+        None => error,
+    }
+}
+
+// With the name of a template, where it has one and none is known yet.
+fn named(alloc: Global, error: RenderError, name: &Option<String>) -> RenderError
+    ensures spot { reason_in result ≢ out_of_memory
+        → spot_of result ≡ named_as (option_map string_bytes name.now) (spot_of error) }
+    ensures cause { reason_in result ≢ out_of_memory → cause_of result ≡ cause_of error }
+    ensures memory { reason_in error ≡ out_of_memory → reason_in result ≡ out_of_memory }
+{
+    match name {
+        Some(name) => error.in_template(alloc, name),
+        None => error,
+    }
+}

@@ -1,0 +1,195 @@
+//! Values of parameters, and the calls in parentheses among them.
+
+ghost use Rattle.std.specs.Prelude.{◌≡◌, IfOk, OnOk, false, option_map, map, string_bytes};
+ghost use Rattle.std.specs.BTreeMap.{insert_entry};
+ghost use Rattle.std.specs.Cmp.Lexicographic.{slice_cmp};
+ghost use Rattle.std.specs.Cow.{cow_str_bytes};
+ghost use Rattle.std.specs.Ordering.{nat_cmp};
+ghost use Rattle.handlebars_base.specs.PathAndData.{path_and_data};
+ghost use Rattle.handlebars_base.specs.Scoped.{found_of, is_constant};
+ghost use Rattle.handlebars_template.specs.Tree.{as_name, expression};
+ghost use Rattle.handlebars_template.specs.TreeView.{call_view, param_view, params_view, pairs_view, subexpression_view};
+ghost use Rattle.handlebars_scope.specs.Sites.{Site};
+ghost use Rattle.handlebars_meaning.specs.Expand.{expand, expands, expand_as_name, inner_value, is_literal, pairs_values, params_values, view_of_call};
+ghost use Rattle.handlebars_render.specs.View.{setting_in, state_of, called_view, pairs_seen, Yields};
+
+use crate::called::{Called, helped_value};
+use crate::context::RenderContext;
+use crate::registered::Registered;
+use crate::setting::Setting;
+use handlebars_base::error::RenderError;
+use handlebars_base::json::value::{JsonRender, PathAndJson, ScopedJson};
+use handlebars_template::template::{HelperTemplate, Parameter, Subexpression, TemplateElement};
+use std::alloc::{AllocError, Global};
+use std::borrow::CowStr;
+use std::collections::BTreeMap;
+
+/// The value of a parameter.
+#[cycle(value)]
+pub fn expands<'a, P: Registered>(
+    setting: &Setting<'_, 'a, P>,
+    rc: &RenderContext,
+    parameter: &'a Parameter,
+) -> Result<ScopedJson<'a>, RenderError>
+    ensures value { (site : Site) → Yields (setting_in P.parts setting.now)
+        (expands (setting_in P.parts setting.now) site (param_view parameter.now)) (state_of rc.now) found_of result }
+    ensures constant { IfOk result (λ found. is_constant found ≡ is_literal (param_view parameter.now)) }
+{
+    match parameter {
+        Parameter::Name(_) => Ok(ScopedJson::Missing),
+        Parameter::Path(path) => rc.find(setting.given, path),
+        Parameter::Literal(value) => Ok(ScopedJson::Constant(value)),
+        Parameter::Subexpression(inner) => inner_value(setting, rc, inner),
+    }
+}
+
+/// The value of a parameter, as it is written.
+#[cycle(value)]
+pub fn expand<'a, P: Registered>(
+    setting: &Setting<'_, 'a, P>,
+    rc: &RenderContext,
+    parameter: &'a Parameter,
+) -> Result<PathAndJson<'a>, RenderError>
+    ensures { (site : Site) → Yields (setting_in P.parts setting.now)
+        (expand (setting_in P.parts setting.now) site (param_view parameter.now)) (state_of rc.now) path_and_data result }
+{
+    match expands(setting, rc, parameter) {
+        Ok(value) => Ok(PathAndJson::new(written(setting.alloc, parameter)?, value)),
+        Err(e) => Err(e),
+    }
+}
+
+/// The text that a parameter is called by, which is borrowed where it is written.
+#[cycle(value)]
+pub fn expand_as_name<'a, P: Registered>(
+    setting: &Setting<'_, 'a, P>,
+    rc: &RenderContext,
+    parameter: &'a Parameter,
+) -> Result<CowStr<'a>, RenderError>
+    ensures { (site : Site) → Yields (setting_in P.parts setting.now)
+        (expand_as_name (setting_in P.parts setting.now) site (param_view parameter.now)) (state_of rc.now) cow_str_bytes result }
+{
+    match parameter {
+        Parameter::Name(text) => Ok(CowStr::Borrowed(text.as_str())),
+        Parameter::Path(path) => Ok(CowStr::Borrowed(path.raw())),
+        Parameter::Literal(value) => Ok(CowStr::Owned(value.render(setting.alloc)?)),
+        Parameter::Subexpression(inner) => match inner_value(setting, rc, inner) {
+            Ok(value) => Ok(CowStr::Owned(value.render(setting.alloc)?)),
+            Err(e) => Err(e),
+        },
+    }
+}
+
+/// The value of what stands in parentheses: only a call has one.
+#[cycle(value)]
+pub fn inner_value<'a, P: Registered>(
+    setting: &Setting<'_, 'a, P>,
+    rc: &RenderContext,
+    inner: &'a Subexpression,
+) -> Result<ScopedJson<'a>, RenderError>
+    ensures value { (site : Site) → Yields (setting_in P.parts setting.now)
+        (inner_value (setting_in P.parts setting.now) site (subexpression_view inner.now)) (state_of rc.now) found_of result }
+    ensures constant { IfOk result (λ found. is_constant found ≡ false) }
+{
+    match &*inner.element {
+        TemplateElement::Expression(helper) => call_value(setting, rc, helper),
+        TemplateElement::RawString(_) => Ok(ScopedJson::Missing),
+        TemplateElement::HtmlExpression(_) => Ok(ScopedJson::Missing),
+        TemplateElement::HelperBlock(_) => Ok(ScopedJson::Missing),
+        TemplateElement::DecoratorExpression(_) => Ok(ScopedJson::Missing),
+        TemplateElement::DecoratorBlock(_) => Ok(ScopedJson::Missing),
+        TemplateElement::PartialExpression(_) => Ok(ScopedJson::Missing),
+        TemplateElement::PartialBlock(_) => Ok(ScopedJson::Missing),
+        TemplateElement::Comment(_) => Ok(ScopedJson::Missing),
+    }
+}
+
+/// The value of a call in parentheses.
+#[cycle(value)]
+pub fn call_value<'a, P: Registered>(
+    setting: &Setting<'_, 'a, P>,
+    rc: &RenderContext,
+    helper: &'a HelperTemplate,
+) -> Result<ScopedJson<'a>, RenderError>
+    ensures value { (site : Site) → Yields (setting_in P.parts setting.now)
+        (inner_value (setting_in P.parts setting.now) site (expression (call_view helper.now))) (state_of rc.now) found_of result }
+    ensures constant { IfOk result (λ found. is_constant found ≡ false) }
+{
+    match called(setting, rc, helper) {
+        Ok(call) => helped_value(setting, call),
+        Err(e) => Err(e),
+    }
+}
+
+/// The name of a call and the values of its parameters and pairs.
+#[cycle(value)]
+pub fn called<'a, P: Registered>(
+    setting: &Setting<'_, 'a, P>,
+    rc: &RenderContext,
+    helper: &'a HelperTemplate,
+) -> Result<Called<'a>, RenderError>
+    ensures { (site : Site) → Yields (setting_in P.parts setting.now)
+        (view_of_call (setting_in P.parts setting.now) site (call_view helper.now)) (state_of rc.now) called_view result }
+{
+    let name = expand_as_name(setting, rc, &helper.name)?;
+    let params = params_values(setting, rc, &helper.params)?;
+    let hash = pairs_values(setting, rc, &helper.hash)?;
+    Ok(Called { name, params, hash })
+}
+
+/// The values of parameters, in order.
+#[cycle(value)]
+pub fn params_values<'a, P: Registered>(
+    setting: &Setting<'_, 'a, P>,
+    rc: &RenderContext,
+    params: &'a Vec<Parameter>,
+) -> Result<Vec<PathAndJson<'a>>, RenderError>
+    ensures { (site : Site) → Yields (setting_in P.parts setting.now)
+        (params_values (setting_in P.parts setting.now) site (params_view params.now.items)) (state_of rc.now) (λ vs. map path_and_data vs.items) result }
+{
+    let mut values = Vec::new(setting.alloc);
+    for parameter in params {
+        values.push(expand(setting, rc, parameter)?)?;
+    }
+    Ok(values)
+}
+
+/// The values of pairs, by key.
+#[cycle(value)]
+pub fn pairs_values<'a, P: Registered>(
+    setting: &Setting<'_, 'a, P>,
+    rc: &RenderContext,
+    pairs: &'a BTreeMap<String, Parameter>,
+) -> Result<BTreeMap<&'a str, PathAndJson<'a>>, RenderError>
+    ensures { (site : Site) → Yields (setting_in P.parts setting.now)
+        (pairs_values (setting_in P.parts setting.now) site (pairs_view pairs.now.entries)) (state_of rc.now) (λ vs. pairs_seen vs.entries) result }
+{
+    let mut values = BTreeMap::new(setting.alloc);
+    for (key, parameter) in pairs.iter() {
+        put(&mut values, key.as_str(), expand(setting, rc, parameter)?)?;
+    }
+    Ok(values)
+}
+
+// Puts a value under a key.
+fn put<'a>(
+    values: &mut BTreeMap<&'a str, PathAndJson<'a>>,
+    key: &'a str,
+    value: PathAndJson<'a>,
+) -> Result<(), AllocError>
+    ensures { OnOk result (values.new.entries
+        ≡ insert_entry (λ a b. slice_cmp nat_cmp a.now b.now) values.old.entries key.entry value.entry) }
+{
+    values.insert(key, value)?;
+    Ok(())
+}
+
+/// The text of a name or a path.
+pub fn written(alloc: Global, parameter: &Parameter) -> Result<Option<String>, AllocError>
+    ensures { IfOk result (λ text. option_map string_bytes text ≡ as_name (param_view parameter.now)) }
+{
+    match parameter.as_name() {
+        Some(text) => Ok(Some(String::from_str(alloc, text)?)),
+        None => Ok(None),
+    }
+}

@@ -1,0 +1,132 @@
+//! Writing texts and values into an output, by the line's state.
+
+ghost use Rattle.std.specs.Prelude.{◌≡◌, ◌≢◌, MatchResult, Ok, Err, Some, option_map, unwrap_or};
+ghost use Rattle.std.specs.IoError.{error_kind};
+ghost use Rattle.serde_json.specs.Data.{null, number, unsigned};
+ghost use Rattle.serde_json.specs.View.{view};
+ghost use Rattle.handlebars_base.specs.Bytes.{Text};
+ghost use Rattle.handlebars_base.specs.Reasons.{out_of_memory};
+ghost use Rattle.handlebars_base.specs.RenderRefusals.{plain_refusal, reason_in, refusal_of};
+ghost use Rattle.handlebars_base.specs.Values as values;
+ghost use Rattle.handlebars_scope.specs.LineView.{line_of};
+ghost use Rattle.handlebars_meaning.specs.Writing.{shown_if_any};
+ghost use Rattle.handlebars_meaning.specs.State.{State};
+ghost use Rattle.handlebars_render.specs.View.{state_of, moment, with_line, word_reason, Puts, PutsWord, IsKept};
+
+use crate::context::RenderContext;
+use handlebars_base::error::{RenderError, RenderErrorReason};
+use handlebars_base::json::value::Json;
+use handlebars_scope::line::Line;
+use handlebars_scope::output::{Output, output_fault};
+use handlebars_scope::value::write_value;
+use serde_json::Number;
+use std::alloc::Global;
+use std::io;
+use std::io::ErrorKind;
+
+/// Writes a text, and takes note of the line behind it.
+pub fn indent_aware_write<O: Output>(
+    text: &str,
+    rc: &mut RenderContext,
+    out: &mut O,
+) -> Result<(), RenderError>
+    ensures puts { Puts text.now O.may_give (moment rc.old (O.held out.old)) result (moment rc.new (O.held out.new)) }
+    ensures kept { IsKept rc.old rc.new }
+{
+    match out.write(text) {
+        Ok(()) => {
+            rc.pass_text(text);
+            Ok(())
+        }
+        Err(fault) => Err(output_fault(fault)),
+    }
+}
+
+/// Writes a value, rendered, and escaped where escaping is on, and answers the line behind it; nothing
+/// where there is none. The value may be one of a block, so the context is left to the caller.
+pub(super) fn write_found<O: Output>(
+    value: Option<&Json>,
+    rc: &RenderContext,
+    out: &mut O,
+) -> Result<Line, RenderError>
+    ensures puts { MatchResult result
+        (λ line. Puts (shown_if_any (state_of rc.now).escapes (option_map (λ v. view v.now) value.entry)) O.may_give
+        (moment rc.now (O.held out.old)) (Ok tt)
+        (record { state = with_line (line_of line) (state_of rc.now); held = O.held out.new }))
+        (λ e. Puts (shown_if_any (state_of rc.now).escapes (option_map (λ v. view v.now) value.entry)) O.may_give
+        (moment rc.now (O.held out.old)) (Err e) (moment rc.now (O.held out.new))) }
+{
+    let Some(value) = value else {
+        return Ok(rc.line());
+    };
+    match write_value(out, value, rc.escapes()) {
+        Ok(()) => Ok(rc.line().behind_value(value)),
+        Err(cause) => Err(output_fault(cause)),
+    }
+}
+
+/// Writes a value that a helper chose, as one that has no path; a missing one counts as null.
+pub(super) fn write_chosen<O: Output>(
+    value: Option<&Json>,
+    rc: &mut RenderContext,
+    out: &mut O,
+) -> Result<(), RenderError>
+    ensures puts { Puts
+        (shown_if_any (state_of rc.old).escapes (Some (unwrap_or (option_map (λ v. view v.now) value.entry) null)))
+        O.may_give (moment rc.old (O.held out.old)) result (moment rc.new (O.held out.new)) }
+    ensures kept { IsKept rc.old rc.new }
+{
+    let line = write_found(value, rc, out)?;
+    rc.set_line(line);
+    Ok(())
+}
+
+/// Writes a number that a helper chose.
+pub(super) fn write_count<O: Output>(
+    count: usize,
+    rc: &mut RenderContext,
+    out: &mut O,
+) -> Result<(), RenderError>
+    ensures puts { Puts (shown_if_any (state_of rc.old).escapes (Some (number (unsigned count))))
+        O.may_give (moment rc.old (O.held out.old)) result (moment rc.new (O.held out.new)) }
+    ensures kept { IsKept rc.old rc.new }
+{
+    let value = Json::Number(Number::from(count));
+    write_chosen(Some(&value), rc, out)
+}
+
+/// Writes the word of a boolean helper, as it is, whatever the line.
+pub(super) fn write_word<O: Output>(
+    alloc: Global,
+    word: bool,
+    out: &mut O,
+) -> Result<(), RenderError>
+    ensures { (s : State) → PutsWord word O.may_give (record { state = s; held = O.held out.old })
+        result (record { state = s; held = O.held out.new }) }
+{
+    match out.write(word_text(word)) {
+        Ok(()) => Ok(()),
+        Err(fault) => Err(word_fault(alloc, fault)),
+    }
+}
+
+fn word_text(word: bool) -> &'static str
+    ensures { result.now ≡ values.word word }
+{
+    if word { "true" } else { "false" }
+}
+
+// The refusal for a word that couldn't be written: `OutOfMemory` for want of memory, and else `Other`
+// of the fault's text.
+fn word_fault(alloc: Global, fault: io::Error) -> RenderError
+    ensures { reason_in result ≢ out_of_memory
+        → (text : Text) × (refusal_of result ≡ plain_refusal (word_reason (error_kind fault) text)) }
+{
+    match fault.kind() {
+        ErrorKind::OutOfMemory => RenderErrorReason::OutOfMemory.into(),
+        _ => match format!(in alloc; "{fault}") {
+            Ok(text) => RenderErrorReason::Other(text).into(),
+            Err(_) => RenderErrorReason::OutOfMemory.into(),
+        },
+    }
+}

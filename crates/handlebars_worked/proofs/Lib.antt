@@ -1,0 +1,7 @@
+mod SourceRows
+mod RunOf
+mod WorkedRows
+mod ScopeTrees
+mod ScopeRows
+mod HelperTrees
+mod HelperRows

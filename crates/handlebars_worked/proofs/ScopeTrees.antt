@@ -1,0 +1,189 @@
+-- What the worked sources of scopes compile to.
+use Rattle.std.proofs.Common.{ℕ, List, [], ◌∷◌, None, true, refl, codes}
+use Rattle.std.specs.Str.{chars}
+use Rattle.handlebars_base.specs.Bytes.{Text}
+use Rattle.handlebars_base.specs.Path.{Segment, named, up, relative, variable}
+use Rattle.handlebars_base.specs.PathReading as path
+use Rattle.handlebars_lines.specs.Binding.{behind_bar, behind_beginning}
+use Rattle.handlebars_lines.specs.BindingReading.{symbols_at}
+use Rattle.handlebars_lines.specs.LineReading as line
+use Rattle.handlebars_lines.specs.LiteralReading as literal
+use Rattle.handlebars_tags.specs.Kind.{beginning_of, closing_of}
+use Rattle.handlebars_template.specs.Calls.{plain_call, plain_marks}
+use Rattle.handlebars_template.specs.Compile.{Compiles, compiled, no_options}
+use Rattle.handlebars_template.specs.Place.{Place}
+use Rattle.handlebars_worked.specs.SourceRows.{at, alone, path_to}
+use Rattle.handlebars_template.specs.Tree.{Tree, tree, elements_of, Element, raw_string, expression, helper_block, call, args, bodies, Body, no_body, body, Binding, no_binding, single, both, no_params, param, no_pairs, Param, name, path}
+use Rattle.handlebars_template.proofs.Outcomes.{answer_of-compiles}
+
+-- a path by its segments, and one to a variable of the block so many blocks up, as written
+abbrev along : List Segment → Text → Param
+along segments written = path (relative segments written)
+
+abbrev variable_of : ℕ → Text → Text → Param
+variable_of level n written = path (variable level n written)
+
+abbrev this : Param
+this = along [] (codes "this")
+
+-- what is written of a parameter
+abbrev show : Param → Element
+show q = expression (plain_call q no_params no_pairs)
+
+abbrev lookup : Param → Param → Element
+lookup q key = expression (plain_call (name (codes "lookup")) (param q (param key no_params)) no_pairs)
+
+-- elements at their places
+abbrev inside : List Element → List Place → Tree
+inside es places = tree None (elements_of es) places
+
+-- a block: its name, its parameter, the names that it binds, its body and its inverse
+abbrev scope : Text → Param → Binding → Tree → Body → Element
+scope n q names t i =
+    helper_block (call (name n) (args (param q no_params) no_pairs) names (bodies (body t) i)
+    (record plain_marks { block = true }))
+
+abbrev pub array_name_tree : Tree
+array_name_tree = alone (scope (codes "each") (path_to (codes "a")) no_binding
+    (inside (show (path_to (codes "x")) ∷ []) (at 1 12 ∷ [])) no_body)
+
+pub array_name_source : Compiles (codes "{{#each a}}{{x}}{{/each}}") no_options (compiled array_name_tree)
+unfolding beginning_of closing_of chars line.name_step line.behind_step line.line_step path.after path.plain_at path.part_at path.links_at path.links_of path.unnamed_at path.start_at path.shape_at path.shape_of path.reference_from path.path_at line.key_at line.parameter_step line.item_step literal.literal_at literal.plain_at literal.undoubled_at literal.atom_at literal.value_token literal.token_at behind_bar behind_beginning
+array_name_source = answer_of-compiles no_options 3 _ _ refl
+
+abbrev pub two_names_tree : Tree
+two_names_tree = alone (scope (codes "each") (path_to (codes "a")) (both (name (codes "v")) (name (codes "k")))
+    (inside (show (path_to (codes "k")) ∷ show (path_to (codes "v")) ∷ raw_string (codes ";") ∷ [])
+    (at 1 21 ∷ at 1 26 ∷ at 1 31 ∷ [])) no_body)
+
+pub two_names_source : Compiles (codes "{{#each a as |v k|}}{{k}}{{v}};{{/each}}") no_options (compiled two_names_tree)
+unfolding beginning_of closing_of chars line.name_step line.behind_step line.line_step path.after path.plain_at path.part_at path.links_at path.links_of path.unnamed_at path.start_at path.shape_at path.shape_of path.reference_from path.path_at line.key_at line.parameter_step line.item_step literal.literal_at literal.plain_at literal.undoubled_at literal.atom_at literal.value_token literal.token_at behind_bar behind_beginning symbols_at
+two_names_source = answer_of-compiles no_options 4 _ _ refl
+
+abbrev pub shadow_tree : Tree
+shadow_tree = alone (scope (codes "each") (path_to (codes "a")) (single (name (codes "x")))
+    (inside (show (path_to (codes "x")) ∷ []) (at 1 19 ∷ [])) no_body)
+
+pub shadow_source : Compiles (codes "{{#each a as |x|}}{{x}}{{/each}}") no_options (compiled shadow_tree)
+unfolding beginning_of closing_of chars line.name_step line.behind_step line.line_step path.after path.plain_at path.part_at path.links_at path.links_of path.unnamed_at path.start_at path.shape_at path.shape_of path.reference_from path.path_at line.key_at line.parameter_step line.item_step literal.literal_at literal.plain_at literal.undoubled_at literal.atom_at literal.value_token literal.token_at behind_bar behind_beginning symbols_at
+shadow_source = answer_of-compiles no_options 3 _ _ refl
+
+abbrev pub last_tree : Tree
+last_tree = alone (scope (codes "each") (path_to (codes "a")) no_binding
+    (inside
+    (show (variable_of 0 (codes "first") (codes "@first"))
+    ∷ show (variable_of 0 (codes "last") (codes "@last")) ∷ [])
+    (at 1 12 ∷ at 1 22 ∷ [])) no_body)
+
+pub last_source : Compiles (codes "{{#each a}}{{@first}}{{@last}}{{/each}}") no_options (compiled last_tree)
+unfolding beginning_of closing_of chars line.name_step line.behind_step line.line_step path.after path.plain_at path.part_at path.links_at path.links_of path.unnamed_at path.start_at path.shape_at path.shape_of path.reference_from path.path_at line.key_at line.parameter_step line.item_step literal.literal_at literal.plain_at literal.undoubled_at literal.atom_at literal.value_token literal.token_at behind_bar behind_beginning path.named_at path.after_up path.ups_at
+last_source = answer_of-compiles no_options 4 _ _ refl
+
+abbrev pub keys_tree : Tree
+keys_tree = alone (scope (codes "each") this no_binding
+    (inside
+    (show (variable_of 0 (codes "key") (codes "@key"))
+    ∷ show (variable_of 0 (codes "index") (codes "@index")) ∷ [])
+    (at 1 15 ∷ at 1 23 ∷ [])) no_body)
+
+pub keys_source : Compiles (codes "{{#each this}}{{@key}}{{@index}}{{/each}}") no_options (compiled keys_tree)
+unfolding beginning_of closing_of chars line.name_step line.behind_step line.line_step path.after path.plain_at path.part_at path.links_at path.links_of path.unnamed_at path.start_at path.shape_at path.shape_of path.reference_from path.path_at line.key_at line.parameter_step line.item_step literal.literal_at literal.plain_at literal.undoubled_at literal.atom_at literal.value_token literal.token_at behind_bar behind_beginning path.named_at path.after_up path.ups_at
+keys_source = answer_of-compiles no_options 4 _ _ refl
+
+abbrev pub indices_tree : Tree
+indices_tree = alone (scope (codes "each") (path_to (codes "a")) no_binding
+    (inside
+    (scope (codes "each") this no_binding
+    (inside
+    (show (variable_of 0 (codes "index") (codes "@index"))
+    ∷ show (variable_of 1 (codes "index") (codes "@../index")) ∷ [])
+    (at 1 26 ∷ at 1 36 ∷ [])) no_body ∷ [])
+    (at 1 12 ∷ [])) no_body)
+
+pub indices_source : Compiles (codes "{{#each a}}{{#each this}}{{@index}}{{@../index}}{{/each}}{{/each}}") no_options
+    (compiled indices_tree)
+unfolding beginning_of closing_of chars line.name_step line.behind_step line.line_step path.after path.plain_at path.part_at path.links_at path.links_of path.unnamed_at path.start_at path.shape_at path.shape_of path.reference_from path.path_at line.key_at line.parameter_step line.item_step literal.literal_at literal.plain_at literal.undoubled_at literal.atom_at literal.value_token literal.token_at behind_bar behind_beginning path.link_at path.after_up path.ups_at path.named_at
+indices_source = answer_of-compiles no_options 6 _ _ refl
+
+abbrev pub no_members_tree : Tree
+no_members_tree = alone (scope (codes "each") (path_to (codes "a")) no_binding
+    (inside (raw_string (codes "x") ∷ []) (at 1 12 ∷ [])) no_body)
+
+pub no_members_source : Compiles (codes "{{#each a}}x{{/each}}") no_options (compiled no_members_tree)
+unfolding beginning_of closing_of chars line.name_step line.behind_step line.line_step path.after path.plain_at path.part_at path.links_at path.links_of path.unnamed_at path.start_at path.shape_at path.shape_of path.reference_from path.path_at line.key_at line.parameter_step line.item_step literal.literal_at literal.plain_at literal.undoubled_at literal.atom_at literal.value_token literal.token_at behind_bar behind_beginning
+no_members_source = answer_of-compiles no_options 2 _ _ refl
+
+abbrev pub each_inverse_tree : Tree
+each_inverse_tree = alone (scope (codes "each") (path_to (codes "a")) no_binding
+    (inside (raw_string (codes "x") ∷ []) (at 1 12 ∷ [])) (body (inside (raw_string (codes "y") ∷ []) (at 1 21 ∷ []))))
+
+pub each_inverse_source : Compiles (codes "{{#each a}}x{{else}}y{{/each}}") no_options (compiled each_inverse_tree)
+unfolding beginning_of closing_of chars line.name_step line.behind_step line.line_step path.after path.plain_at path.part_at path.links_at path.links_of path.unnamed_at path.start_at path.shape_at path.shape_of path.reference_from path.path_at line.key_at line.parameter_step line.item_step literal.literal_at literal.plain_at literal.undoubled_at literal.atom_at literal.value_token literal.token_at behind_bar behind_beginning
+each_inverse_source = answer_of-compiles no_options 3 _ _ refl
+
+abbrev pub with_inverse_tree : Tree
+with_inverse_tree = alone (scope (codes "with") (path_to (codes "a")) no_binding
+    (inside (raw_string (codes "x") ∷ []) (at 1 12 ∷ [])) (body (inside (raw_string (codes "y") ∷ []) (at 1 21 ∷ []))))
+
+pub with_inverse_source : Compiles (codes "{{#with a}}x{{else}}y{{/with}}") no_options (compiled with_inverse_tree)
+unfolding beginning_of closing_of chars line.name_step line.behind_step line.line_step path.after path.plain_at path.part_at path.links_at path.links_of path.unnamed_at path.start_at path.shape_at path.shape_of path.reference_from path.path_at line.key_at line.parameter_step line.item_step literal.literal_at literal.plain_at literal.undoubled_at literal.atom_at literal.value_token literal.token_at behind_bar behind_beginning
+with_inverse_source = answer_of-compiles no_options 3 _ _ refl
+
+abbrev pub too_far_up_tree : Tree
+too_far_up_tree = alone (scope (codes "with") (path_to (codes "a")) no_binding
+    (inside (show (along (up ∷ up ∷ named (codes "d") ∷ []) (codes "../../d")) ∷ []) (at 1 12 ∷ [])) no_body)
+
+pub too_far_up_source : Compiles (codes "{{#with a}}{{../../d}}{{/with}}") no_options (compiled too_far_up_tree)
+unfolding beginning_of closing_of chars line.name_step line.behind_step line.line_step path.after path.plain_at path.part_at path.links_at path.links_of path.unnamed_at path.start_at path.shape_at path.shape_of path.reference_from path.path_at line.key_at line.parameter_step line.item_step literal.literal_at literal.plain_at literal.undoubled_at literal.atom_at literal.value_token literal.token_at behind_bar behind_beginning path.link_at path.after_up path.ups_at
+too_far_up_source = answer_of-compiles no_options 3 _ _ refl
+
+abbrev pub bound_up_tree : Tree
+bound_up_tree = alone (scope (codes "with") (path_to (codes "a")) (single (name (codes "z")))
+    (inside (show (along (up ∷ named (codes "z") ∷ named (codes "x") ∷ []) (codes "../z.x")) ∷ [])
+    (at 1 19 ∷ [])) no_body)
+
+pub bound_up_source : Compiles (codes "{{#with a as |z|}}{{../z.x}}{{/with}}") no_options (compiled bound_up_tree)
+unfolding beginning_of closing_of chars line.name_step line.behind_step line.line_step path.after path.plain_at path.part_at path.links_at path.links_of path.unnamed_at path.start_at path.shape_at path.shape_of path.reference_from path.path_at line.key_at line.parameter_step line.item_step literal.literal_at literal.plain_at literal.undoubled_at literal.atom_at literal.value_token literal.token_at behind_bar behind_beginning path.link_at path.after_up path.ups_at symbols_at
+bound_up_source = answer_of-compiles no_options 3 _ _ refl
+
+abbrev pub up_tree : Tree
+up_tree = alone (scope (codes "with") (path_to (codes "a")) no_binding
+    (inside
+    (scope (codes "each") (path_to (codes "b")) no_binding
+    (inside (show (along (up ∷ named (codes "x") ∷ []) (codes "../x")) ∷ []) (at 1 23 ∷ [])) no_body ∷ [])
+    (at 1 12 ∷ [])) no_body)
+
+pub up_source : Compiles (codes "{{#with a}}{{#each b}}{{../x}}{{/each}}{{/with}}") no_options (compiled up_tree)
+unfolding beginning_of closing_of chars line.name_step line.behind_step line.line_step path.after path.plain_at path.part_at path.links_at path.links_of path.unnamed_at path.start_at path.shape_at path.shape_of path.reference_from path.path_at line.key_at line.parameter_step line.item_step literal.literal_at literal.plain_at literal.undoubled_at literal.atom_at literal.value_token literal.token_at behind_bar behind_beginning path.link_at path.after_up path.ups_at
+up_source = answer_of-compiles no_options 5 _ _ refl
+
+abbrev pub recursive_tree : Tree
+recursive_tree = alone (scope (codes "with") (path_to (codes "a")) no_binding
+    (inside
+    (scope (codes "with") (path_to (codes "b")) no_binding
+    (inside (show (path_to (codes "x")) ∷ []) (at 1 23 ∷ [])) no_body ∷ [])
+    (at 1 12 ∷ [])) no_body)
+
+pub recursive_source : Compiles (codes "{{#with a}}{{#with b}}{{x}}{{/with}}{{/with}}") no_options
+    (compiled recursive_tree)
+unfolding beginning_of closing_of chars line.name_step line.behind_step line.line_step path.after path.plain_at path.part_at path.links_at path.links_of path.unnamed_at path.start_at path.shape_at path.shape_of path.reference_from path.path_at line.key_at line.parameter_step line.item_step literal.literal_at literal.plain_at literal.undoubled_at literal.atom_at literal.value_token literal.token_at behind_bar behind_beginning
+recursive_source = answer_of-compiles no_options 5 _ _ refl
+
+abbrev pub whole_tree : Tree
+whole_tree = alone (scope (codes "with") this (single (name (codes "t")))
+    (inside (show (path_to (codes "t")) ∷ []) (at 1 22 ∷ [])) no_body)
+
+pub whole_source : Compiles (codes "{{#with this as |t|}}{{t}}{{/with}}") no_options (compiled whole_tree)
+unfolding beginning_of closing_of chars line.name_step line.behind_step line.line_step path.after path.plain_at path.part_at path.links_at path.links_of path.unnamed_at path.start_at path.shape_at path.shape_of path.reference_from path.path_at line.key_at line.parameter_step line.item_step literal.literal_at literal.plain_at literal.undoubled_at literal.atom_at literal.value_token literal.token_at behind_bar behind_beginning symbols_at
+whole_source = answer_of-compiles no_options 3 _ _ refl
+
+abbrev pub lookup_tree : Tree
+lookup_tree = alone (scope (codes "each") (path_to (codes "v1")) no_binding
+    (inside
+    (lookup (along (up ∷ named (codes "v2") ∷ []) (codes "../v2"))
+    (variable_of 0 (codes "index") (codes "@index")) ∷ [])
+    (at 1 13 ∷ [])) no_body)
+
+pub lookup_source : Compiles (codes "{{#each v1}}{{lookup ../v2 @index}}{{/each}}") no_options (compiled lookup_tree)
+unfolding beginning_of closing_of chars line.name_step line.behind_step line.line_step path.after path.plain_at path.part_at path.links_at path.links_of path.unnamed_at path.start_at path.shape_at path.shape_of path.reference_from path.path_at line.key_at line.parameter_step line.item_step literal.literal_at literal.plain_at literal.undoubled_at literal.atom_at literal.value_token literal.token_at behind_bar behind_beginning path.link_at path.after_up path.ups_at path.named_at
+lookup_source = answer_of-compiles no_options 3 _ _ refl

@@ -1,0 +1,92 @@
+-- The worked sources answer as stated: each run is computed.
+use Rattle.std.proofs.Common.{refl, true, false}
+use Rattle.std.specs.Fmt.{digits}
+use Rattle.handlebars_worked.proofs.SourceRows as compiling
+use Rattle.handlebars_scope.specs.Escape.{escaped}
+use Rattle.handlebars_meaning.specs.Steps.{◌>>=◌, ◌>>◌}
+use Rattle.handlebars_meaning.specs.Runs.{captured, got, set, done}
+use Rattle.handlebars_meaning.specs.Answer.{compiles, does_not, is_stored, not_begun, rendered}
+use Rattle.handlebars_worked.specs.Rows.{EmptyRow, ValueRow, MarkupRow, MissingRow, EscapedRow, RefusalRow, UnclosedRow, RawRow, CallRow, InnerRow, NameRow, LiteralRow, IfRow, NoInverseRow, ChainRow, NoParamRow, BlockRow, InnerIfRow}
+use Rattle.handlebars_worked.proofs.RunOf.{tree_run, gives_text}
+
+pub empty_row : EmptyRow
+unfolding ◌>>=◌ ◌>>◌
+empty_row given = gives_text (compiles compiling.empty_row) (tree_run _ _) refl
+
+pub value_row : ValueRow
+unfolding ◌>>=◌ ◌>>◌ escaped
+value_row = gives_text (compiles compiling.value_row) (tree_run _ _) refl
+
+pub markup_row : MarkupRow
+unfolding ◌>>=◌ ◌>>◌ escaped
+markup_row = gives_text (compiles compiling.value_row) (tree_run _ _) refl
+
+pub missing_row : MissingRow
+unfolding ◌>>=◌ ◌>>◌
+missing_row = gives_text (compiles compiling.value_row) (tree_run _ _) refl
+
+pub escaped_row : EscapedRow
+unfolding ◌>>=◌ ◌>>◌ escaped digits
+escaped_row = gives_text (compiles compiling.escaped_row) (tree_run _ _) refl
+
+pub refusal_row : RefusalRow
+unfolding ◌>>=◌ ◌>>◌
+refusal_row = rendered (compiles compiling.member_row) (tree_run _ _).runs
+
+pub unclosed_row : UnclosedRow
+unclosed_row given = not_begun (does_not compiling.unclosed_row)
+
+-- ---- trees by hand
+
+pub raw_row : RawRow
+unfolding ◌>>=◌ ◌>>◌ escaped
+raw_row = gives_text (is_stored refl) (tree_run _ _) refl
+
+pub call_row : CallRow
+unfolding ◌>>=◌ ◌>>◌
+call_row given = rendered (is_stored refl) (tree_run _ _).runs
+
+pub inner_row : InnerRow
+unfolding ◌>>=◌ ◌>>◌
+inner_row given = rendered (is_stored refl) (tree_run _ _).runs
+
+pub name_row : NameRow
+unfolding ◌>>=◌ ◌>>◌
+name_row given = rendered (is_stored refl) (tree_run _ _).runs
+
+pub literal_row : LiteralRow
+unfolding ◌>>=◌ ◌>>◌ digits
+literal_row given = rendered (is_stored refl) (tree_run _ _).runs
+
+-- ---- blocks
+
+pub if_row : IfRow
+unfolding ◌>>=◌ ◌>>◌
+if_row true = gives_text (is_stored refl) (tree_run _ _) refl
+if_row false = gives_text (is_stored refl) (tree_run _ _) refl
+
+pub no_inverse_row : NoInverseRow
+unfolding ◌>>=◌ ◌>>◌
+no_inverse_row true = gives_text (is_stored refl) (tree_run _ _) refl
+no_inverse_row false = gives_text (is_stored refl) (tree_run _ _) refl
+
+pub chain_row : ChainRow
+unfolding ◌>>=◌ ◌>>◌
+chain_row true b = gives_text (is_stored refl) (tree_run _ _) refl
+chain_row false true = gives_text (is_stored refl) (tree_run _ _) refl
+chain_row false false = gives_text (is_stored refl) (tree_run _ _) refl
+
+pub no_param_row : NoParamRow
+unfolding ◌>>=◌ ◌>>◌
+no_param_row given b i = rendered (is_stored refl) (tree_run _ _).runs
+
+pub block_row : BlockRow
+unfolding ◌>>=◌ ◌>>◌
+block_row given b i = rendered (is_stored refl) (tree_run _ _).runs
+
+pub inner_if_row : InnerIfRow
+unfolding ◌>>=◌ ◌>>◌
+inner_if_row true true site s k ps o h = got (captured (got (set done)) h)
+inner_if_row true false site s k ps o h = got (captured (got (set done)) h)
+inner_if_row false true site s k ps o h = got (captured (got (set done)) h)
+inner_if_row false false site s k ps o h = got (captured (got (set done)) h)

@@ -1,0 +1,4 @@
+pub mod SourceRows
+pub mod Rows
+pub mod ScopeRows
+pub mod HelperRows
