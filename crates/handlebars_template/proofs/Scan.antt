@@ -18,10 +18,10 @@ use Rattle.handlebars_tags.proofs.TagLengths.{length-tag}
 use Rattle.handlebars_template.specs.Place.{Place, origin, behind_char, behind, place}
 use Rattle.handlebars_template.specs.Tree.{raw_string}
 use Rattle.handlebars_template.specs.Calls.{max_nesting}
-use Rattle.handlebars_template.specs.Nest.{Piece, leaf, Fault, not_closed, Placed, Branch, Test, syntax_alone, Chains, no_more, a_branch, Frame, Inside, in_its_body, in_a_branch, in_its_inverse, Opens, none_open, one_more, Refuses}
+use Rattle.handlebars_template.specs.Nest.{Piece, leaf, Fault, Placed, Branch, Test, syntax_alone, Chains, no_more, a_branch, Frame, Inside, in_its_body, in_a_branch, in_its_inverse, Opens, none_open, one_more, Refuses}
 use Rattle.handlebars_template.specs.Machine.{Moved, goes, stops, checked, apply, late_after, at_end as ended, End}
 use Rattle.handlebars_template.specs.Cut.{Slice, text_slice, tag_slice, may_follow, Reads, starts, goes_on, IsCut}
-use Rattle.handlebars_template.specs.Compile.{Options, tag_piece, text_pieces, pieces_in, tree_of, unreadable, refusal_for, NoTagBehind, Compiles, compiled, refused, whole, no_tag, misplaced, left_open, late}
+use Rattle.handlebars_template.specs.Compile.{Options, tag_piece, text_pieces, pieces_in, unreadable, refusal_for, NoTagBehind, Compiles, refused, whole, no_tag, misplaced, left_open, late}
 use Rattle.handlebars_template.specs.ScanView.{text_placed, ComesTo}
 use Rattle.handlebars_template.proofs.NestsStates.{State, State-start, State-moves, State-stops, State-whole, State-late, State-open}
 
