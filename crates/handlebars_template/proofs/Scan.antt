@@ -19,11 +19,11 @@ use Rattle.handlebars_tags.proofs.TagLengths.{length-tag}
 use Rattle.handlebars_template.specs.Place.{Place, origin, behind_char, behind, place}
 use Rattle.handlebars_template.specs.Tree.{raw_string}
 use Rattle.handlebars_template.specs.Calls.{max_nesting}
-use Rattle.handlebars_template.specs.Nest.{Piece, leaf, Fault, not_closed, Placed, Branch, Test, syntax_alone, Chains, no_more, a_branch, Frame, Inside, in_its_body, in_a_branch, in_its_inverse, Opens, none_open, one_more, Refuses}
-use Rattle.handlebars_template.specs.Machine.{Moved, goes, stops, checked, apply, late_after, at_end as ended, End, complete, unclosed, refused as refused_end}
+use Rattle.handlebars_template.specs.Nest.{Piece, leaf, Fault, Placed, Branch, Test, syntax_alone, Chains, no_more, a_branch, Frame, Inside, in_its_body, in_a_branch, in_its_inverse, Opens, none_open, one_more, Refuses}
+use Rattle.handlebars_template.specs.Machine.{Moved, goes, stops, checked, apply, late_after, at_end as ended, End}
 use Rattle.handlebars_template.specs.Cut.{Slice, text_slice, tag_slice, may_follow, Reads, starts, goes_on, IsCut}
-use Rattle.handlebars_template.specs.Compile.{Options, tag_piece, text_pieces, pieces_in, tree_of, unreadable, refusal_for, NoTagBehind, Compiles, compiled, refused, whole, no_tag, misplaced, left_open, late}
-use Rattle.handlebars_template.specs.ScanView.{text_placed}
+use Rattle.handlebars_template.specs.Compile.{Options, tag_piece, text_pieces, pieces_in, unreadable, refusal_for, NoTagBehind, Compiles, refused, whole, no_tag, misplaced, left_open, late}
+use Rattle.handlebars_template.specs.ScanView.{text_placed, ComesTo}
 use Rattle.handlebars_template.proofs.NestsStates.{State, State-start, State-moves, State-stops, State-whole, State-late, State-open}
 
 pub behind-append : (p : Place) (x y : Text) → IsUtf8 x → behind p (x ++ y) ≡ behind (behind p x) y
@@ -285,23 +285,17 @@ Scans-cut {source} {slice} {kept} {left} {at} {fresh} {e} h over =
 pieces_in-last : (ps : List Slice) (p : Place) (e : Edge) (x k : Text) (n : Edge) → pieces_in (ps ++ text_slice p e x k n ∷ []) ≡ pieces_in ps ++ text_pieces p e x k n
 pieces_in-last ps p e x k n = pieces_in-append ps (text_slice p e x k n ∷ []) ∙ ap (λ (z : List Piece). pieces_in ps ++ z) (append-nil (text_pieces p e x k n))
 
--- what a source comes to whose end is such
-abbrev pub Comes : Text → End → Type 0
-Comes source (complete es) = (options : Options) → Compiles source options (compiled (tree_of options es))
-Comes source (unclosed p) = (options : Options) → Compiles source options (refused (refusal_for options (not_closed p)))
-Comes source (refused_end f) = (options : Options) → Compiles source options (refused (refusal_for options f))
-
-Cut-comes : {source : Text} {ps : List Slice} {d : ℕ} {es : List Placed} → (late : Option Fault) (fs : List Frame) → IsCut source ps → State late (pieces_in ps) d fs es → Comes source (ended fs late es)
+Cut-comes : {source : Text} {ps : List Slice} {d : ℕ} {es : List Placed} → (late : Option Fault) (fs : List Frame) → IsCut source ps → State late (pieces_in ps) d fs es → ComesTo source (ended fs late es)
 Cut-comes late' (f ∷ fs) cut s = λ options. left_open cut (State-open s)
 Cut-comes (Some f) [] cut s = λ options. (let both = State-late s in late cut both.0 both.1)
 Cut-comes None [] cut s = λ options. whole cut (State-whole s)
 
 pub Scans-end : {source slice kept left : Text} {at : Place} {fresh : Bool} {e : Edge} {late : Option Fault} {d : ℕ} {fs : List Frame} {es : List Placed}
     → (h : Scans source slice kept left at fresh e late d fs es) → length left ≡ 0 → (n : Edge) → n ≡ no_edge → (late' : Option Fault) (d' : ℕ) (fs' : List Frame) (es' : List Placed) → Mid h n late' d' fs' es'
-    → (end : End) → end ≡ ended fs' late' es' → Comes source end
+    → (end : End) → end ≡ ended fs' late' es' → ComesTo source end
 Scans-end {source} {slice} {kept} {left} {at} {fresh} {e} h over n ne late' d' fs' es' m end is =
     let state : State late' (pieces_in h.slices ++ text_pieces at e slice kept no_edge) d' fs' es' = subst (λ (z : Edge). State late' (pieces_in h.slices ++ text_pieces at e slice kept z) d' fs' es') ne (Mid-state h n late' d' fs' es' m) in
-    subst (Comes source) (sym is) (Cut-comes late' fs' (Scans-cut h over) (subst (λ (z : List Piece). State late' z d' fs' es') (sym (pieces_in-last h.slices at e slice kept no_edge)) state))
+    subst (ComesTo source) (sym is) (Cut-comes late' fs' (Scans-cut h over) (subst (λ (z : List Piece). State late' z d' fs' es') (sym (pieces_in-last h.slices at e slice kept no_edge)) state))
 
 -- ---- lines and columns fit
 

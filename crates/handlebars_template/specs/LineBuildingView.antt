@@ -1,6 +1,7 @@
 -- What the code builds of a line stands for, and what a line is built to.
-use Rattle.std.specs.Prelude.{◌≡◌, List, map, reverse, Option, option_map, MatchOption, string_bytes}
+use Rattle.std.specs.Prelude.{◌≡◌, Bool, true, false, List, map, reverse, Option, None, Some, option_map, MatchOption}
 use Rattle.handlebars_lines.specs.Line.{Line}
+use Rattle.handlebars_lines.specs.LineView.{key_of}
 use Rattle.handlebars_template.specs.Tree.{no_pairs}
 use Rattle.handlebars_template.specs.TreeView.{param_view, params_view, pairs_view}
 use Rattle.handlebars_template.specs.Calls.{name_of, params_in, pairs_in, first_refused, line_literals}
@@ -11,7 +12,7 @@ use Rattle.handlebars_template.specs.declared.template.line.BuiltLine.{BuiltLine
 
 abbrev pub open_view : BuiltCall → OpenCall
 open_view f =
-    open_call (option_map string_bytes f.key) (option_map param_view f.name) (params_view f.params.items)
+    open_call (key_of f.key) (option_map param_view f.name) (params_view f.params.items)
     (pairs_view f.hash.entries)
 
 -- the innermost first
@@ -20,6 +21,11 @@ around_view fs = reverse (map open_view fs)
 
 abbrev pub calls_view : BuiltCalls → OpenCalls
 calls_view fs = open_calls (open_view fs.top) (around_view fs.around.items) (option_map (λ t. t.now) fs.refused)
+
+-- the open calls behind a step, if it could be taken
+abbrev pub calls_after : Bool → BuiltCalls → Option OpenCalls
+calls_after true fs = Some (calls_view fs)
+calls_after false fs = None
 
 abbrev pub line_view : BuiltLine → LineCall
 line_view built = record {

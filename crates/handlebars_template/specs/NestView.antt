@@ -1,13 +1,15 @@
 -- What the program's open blocks stand for.
-use Rattle.std.specs.Prelude.{◌≡◌, List, [], ◌∷◌, map, reverse, Option, None, Some}
+use Rattle.std.specs.Prelude.{◌≡◌, Bool, true, false, List, [], ◌∷◌, map, reverse, Option, None, Some}
 use Rattle.handlebars_template.specs.Place.{Place}
-use Rattle.handlebars_template.specs.Tree.{args}
-use Rattle.handlebars_template.specs.TreeView.{text, place_of, element_view, params_view, pairs_view, block_param_view}
+use Rattle.handlebars_template.specs.Tree.{args, name, Binding, no_binding, single, both}
+use Rattle.handlebars_template.specs.TreeView.{text, place_of, element_view, params_view, pairs_view}
 use Rattle.handlebars_template.specs.Nest.{Opening, Piece, Fault, unexpected, too_deep, mismatched, no_value, Placed, Branch, syntax_alone, Stage, in_first, in_branch, in_inverse, Frame}
 use Rattle.handlebars_template.specs.Machine.{Moved, goes, stops, MayGo, apply, late_after, End, complete, unclosed, refused}
 use Rattle.handlebars_template.specs.declared.template.tree.TemplateMapping.{TemplateMapping}
 use Rattle.handlebars_template.specs.declared.template.tree.TemplateElement.{TemplateElement}
 use Rattle.handlebars_template.specs.declared.template.placed.PlacedElements.{PlacedElements}
+use Rattle.handlebars_template.specs.declared.template.chain.BlockNames.{BlockNames}
+use Rattle.handlebars_template.specs.declared.template.chain.BlockNames.TheVariants as names
 use Rattle.handlebars_template.specs.declared.template.chain.BlockOpening.{BlockOpening}
 use Rattle.handlebars_template.specs.declared.template.chain.Branch.{Branch as BuiltBranch}
 use Rattle.handlebars_template.specs.declared.template.chain.Stage.{Stage as BuiltStage}
@@ -30,12 +32,17 @@ paired (e ∷ es) (m ∷ ms) = record { place = place_of m; element = element_vi
 abbrev pub placed_view : PlacedElements → List Placed
 placed_view b = paired b.elements.items b.mapping.items
 
+abbrev pub names_view : BlockNames → Binding
+names_view names.Unbound = no_binding
+names_view (names.Bound x) = single (name (text x))
+names_view (names.BothBound x y) = both (name (text x)) (name (text y))
+
 abbrev pub opening_view : BlockOpening → Opening
 opening_view o = record {
   name = text o.name;
   is_raw = o.is_raw;
   arguments = args (params_view o.params.items) (pairs_view o.hash.entries);
-  binding = block_param_view o.block_param;
+  binding = names_view o.names;
   indent = o.indent_before_write;
 }
 
@@ -57,6 +64,11 @@ frame_view b = record {
   stage = stage_view b.stage;
   outside = placed_view b.outside;
 }
+
+-- the open block in another stage, if that may stand behind its own
+abbrev pub frame_after : Bool → Open → Option Frame
+frame_after true b = Some (frame_view b)
+frame_after false b = None
 
 -- the innermost first
 abbrev pub stack_view : List Open → List Frame

@@ -9,7 +9,8 @@ use Rattle.handlebars_template.specs.Tree.{Element, raw_string, html_expression,
 use Rattle.handlebars_template.specs.TreeView.{place_of}
 use Rattle.handlebars_template.specs.Calls.{call_of, first_refused, literals_in, line_literals}
 use Rattle.handlebars_template.specs.Nest.{Piece, leaf, opens, chains, not_closed, Placed}
-use Rattle.handlebars_template.specs.NestView.{placed_view, opening_view, late_fault, syntax_fault}
+use Rattle.handlebars_template.specs.Machine.{End, complete, unclosed, refused as refused_end}
+use Rattle.handlebars_template.specs.NestView.{opening_view, syntax_fault, end_view}
 use Rattle.handlebars_template.specs.Compile.{Options, opening_of, tree_of, unreadable, refusal_for, Compiles, compiled, refused}
 use Rattle.handlebars_template.specs.declared.template.tags.BuiltOpening.{BuiltOpening}
 use Rattle.handlebars_template.specs.declared.template.scan.Found.{Found}
@@ -51,15 +52,19 @@ text_placed p e slice kept n =
 
 -- ---- a source
 
+-- The source comes to this, whatever its options are, where this stands at its end.
+abbrev pub ComesTo : Text → End → Type 0
+ComesTo source (complete es) =
+    (options : Options) → Compiles source options (compiled (tree_of options es))
+ComesTo source (unclosed p) =
+    (options : Options) → Compiles source options (refused (refusal_for options (not_closed p)))
+ComesTo source (refused_end f) =
+    (options : Options) → Compiles source options (refused (refusal_for options f))
+
 -- The source comes to this, whatever its options are.
 abbrev pub IsFound : Text → Found → Type 0
-IsFound source (found.Whole es) =
-    (options : Options) → Compiles source options (compiled (tree_of options (placed_view es)))
+IsFound source (found.Through nested) = ComesTo source (end_view nested)
 IsFound source (found.Unreadable p) =
     (options : Options) → Compiles source options (refused (unreadable options (place_of p)))
 IsFound source (found.Misplaced f p) =
     (options : Options) → Compiles source options (refused (refusal_for options (syntax_fault (place_of p) f)))
-IsFound source (found.NotClosed p) =
-    (options : Options) → Compiles source options (refused (refusal_for options (not_closed (place_of p))))
-IsFound source (found.Late l) =
-    (options : Options) → Compiles source options (refused (refusal_for options (late_fault l)))

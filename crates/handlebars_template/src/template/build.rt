@@ -1,7 +1,7 @@
 //! The call that a line is, from its steps: the calls that are not yet closed stand in a list, so that no function
 //! calls itself.
 
-ghost use Rattle.std.specs.Prelude.{◌≡◌, IfOk, None, option_map, string_bytes};
+ghost use Rattle.std.specs.Prelude.{◌≡◌, [], IfOk, OnOk, None, option_map, string_bytes};
 ghost use Rattle.handlebars_base.specs.Path.{raw_of};
 ghost use Rattle.handlebars_base.specs.PathReading.{path_of};
 ghost use Rattle.handlebars_base.specs.PathView.{reference_of};
@@ -9,8 +9,8 @@ ghost use Rattle.handlebars_lines.specs.LineView.{key_of, event_of};
 ghost use Rattle.handlebars_template.specs.Tree.{no_params, no_pairs};
 ghost use Rattle.handlebars_template.specs.Calls.{put_pair};
 ghost use Rattle.handlebars_template.specs.TreeView.{param_view, params_view, pairs_view};
-ghost use Rattle.handlebars_template.specs.LineBuilding.{open_call, add_behind, add, is_alone, named, closed_name, called, begin, close, add_literal, add_path, take, first_calls, finish};
-ghost use Rattle.handlebars_template.specs.LineBuildingView.{open_view, calls_view, line_view};
+ghost use Rattle.handlebars_template.specs.LineBuilding.{open_call, add_behind, add, is_alone, named, closed_name, called, open_calls, begin, close, add_literal, add_path, take, first_calls, finish};
+ghost use Rattle.handlebars_template.specs.LineBuildingView.{open_view, calls_view, calls_after, line_view};
 
 use crate::template::line::BuiltLine;
 use crate::template::tree::{Parameter, Subexpression};
@@ -20,27 +20,47 @@ use handlebars_lines::line::Event;
 use handlebars_lines::worth::literal_value;
 use std::alloc::{AllocError, Global};
 use std::collections::BTreeMap;
+use std::mem;
 
 /// A call that is not yet closed: the key before it, its name, its parameters and its pairs so far. A path stays a
 /// path until it is known whether anything follows it.
-#[derive(Drop)]
-pub struct OpenCall {
-    pub key: Option<String>,
+pub struct OpenCall<'a> {
+    pub key: Option<&'a str>,
     pub name: Option<Parameter>,
     pub params: Vec<Parameter>,
     pub hash: BTreeMap<String, Parameter>,
 }
 
+impl Drop for OpenCall<'_> {
+    fn drop(self) {
+        let OpenCall {
+            key: _,
+            name: _,
+            params: _,
+            hash: _,
+        } = self;
+    }
+}
+
 /// The innermost call, those around it, the outermost first, and the first literal that was refused.
-#[derive(Drop)]
 pub struct OpenCalls<'a> {
-    pub top: OpenCall,
-    pub around: Vec<OpenCall>,
+    pub top: OpenCall<'a>,
+    pub around: Vec<OpenCall<'a>>,
     pub refused: Option<&'a str>,
 }
 
-fn new_call(alloc: Global, key: Option<String>) -> OpenCall
-    ensures { open_view result ≡ open_call (option_map string_bytes key) None no_params no_pairs }
+impl Drop for OpenCalls<'_> {
+    fn drop(self) {
+        let OpenCalls {
+            top: _,
+            around: _,
+            refused: _,
+        } = self;
+    }
+}
+
+fn new_call<'a>(alloc: Global, key: Option<&'a str>) -> OpenCall<'a>
+    ensures { open_view result ≡ open_call (key_of key.entry) None no_params no_pairs }
 {
     OpenCall {
         key,
@@ -61,6 +81,7 @@ pub fn first_calls<'a>(alloc: Global, _text: &'a str) -> OpenCalls<'a>
     }
 }
 
+// The pair counts in place of an earlier one with its key.
 fn key_text(alloc: Global, key: Option<&str>) -> Result<Option<String>, AllocError>
     ensures { IfOk result (λ text. option_map string_bytes text ≡ key_of key.entry) }
 {
@@ -73,70 +94,15 @@ fn key_text(alloc: Global, key: Option<&str>) -> Result<Option<String>, AllocErr
 // The pair counts in place of an earlier one with its key.
 #[tactic(auto, using(crate::proofs::LinesBuilt::pairs_view_insert))]
 fn put_pair(
-    hash: BTreeMap<String, Parameter>,
+    hash: &mut BTreeMap<String, Parameter>,
     key: String,
     value: Parameter,
-) -> Result<BTreeMap<String, Parameter>, AllocError>
-    ensures { IfOk result (λ more. pairs_view more.entries
-        ≡ put_pair (string_bytes key) (param_view value) (pairs_view hash.entries)) }
+) -> Result<(), AllocError>
+    ensures { OnOk result (pairs_view hash.new.entries
+        ≡ put_pair (string_bytes key) (param_view value) (pairs_view hash.old.entries)) }
 {
-    let mut hash = hash;
     hash.insert(key, value)?;
-    Ok(hash)
-}
-
-#[tactic(auto, using(crate::proofs::LinesBuilt::params_view_push))]
-fn add_behind(call: OpenCall, key: Option<String>, value: Parameter) -> Result<OpenCall, AllocError>
-    ensures { IfOk result (λ more. open_view more
-        ≡ add_behind (option_map string_bytes key) (param_view value) (open_view call)) }
-{
-    let OpenCall {
-        key: own,
-        name,
-        mut params,
-        hash,
-    } = call;
-    match key {
-        None => {
-            params.push(value)?;
-            Ok(OpenCall {
-                key: own,
-                name,
-                params,
-                hash,
-            })
-        }
-        Some(key) => {
-            let hash = put_pair(hash, key, value)?;
-            Ok(OpenCall {
-                key: own,
-                name,
-                params,
-                hash,
-            })
-        }
-    }
-}
-
-fn add(call: OpenCall, key: Option<String>, value: Parameter) -> Result<OpenCall, AllocError>
-    ensures { IfOk result (λ more. open_view more
-        ≡ add (option_map string_bytes key) (param_view value) (open_view call)) }
-{
-    if call.name.is_some() {
-        return add_behind(call, key, value);
-    }
-    let OpenCall {
-        key: own,
-        name: _,
-        params,
-        hash,
-    } = call;
-    Ok(OpenCall {
-        key: own,
-        name: Some(value),
-        params,
-        hash,
-    })
+    Ok(())
 }
 
 // The text of a path, as written.
@@ -195,84 +161,72 @@ fn called(
     Ok(Parameter::Subexpression(call))
 }
 
-#[tactic(auto, using(crate::proofs::LinesBuilt::around_view_push))]
-fn begin<'a>(
-    alloc: Global,
-    calls: OpenCalls<'a>,
-    key: Option<&str>,
-) -> Result<OpenCalls<'a>, AllocError>
-    ensures { IfOk result (λ more. calls_view more ≡ begin (key_of key.entry) (calls_view calls.entry)) }
-{
-    let OpenCalls {
-        top,
-        mut around,
-        refused,
-    } = calls;
-    around.push(top)?;
-    let top = new_call(alloc, key_text(alloc, key)?);
-    Ok(OpenCalls {
-        top,
-        around,
-        refused,
-    })
-}
+impl<'a> OpenCall<'a> {
+    #[tactic(auto, using(crate::proofs::LinesBuilt::params_view_push))]
+    fn add_behind(&mut self, key: Option<String>, value: Parameter) -> Result<(), AllocError>
+        ensures { OnOk result (open_view self.new
+            ≡ add_behind (option_map string_bytes key) (param_view value) (open_view self.old)) }
+    {
+        match key {
+            None => {
+                self.params.push(value)?;
+                Ok(())
+            }
+            Some(key) => put_pair(&mut self.hash, key, value),
+        }
+    }
 
-#[tactic(auto, using(crate::proofs::LinesBuilt::around_view_push))]
-fn close<'a>(alloc: Global, calls: OpenCalls<'a>) -> Result<Option<OpenCalls<'a>>, AllocError>
-    ensures { IfOk result (λ read. option_map calls_view read
-        ≡ close (calls_view calls.entry).top (calls_view calls.entry).around (calls_view calls.entry).refused) }
-{
-    let OpenCalls {
-        top,
-        mut around,
-        refused,
-    } = calls;
-    let Some(outer) = around.pop() else {
-        return Ok(None);
-    };
-    let OpenCall {
-        key,
-        name,
-        params,
-        hash,
-    } = top;
-    let Some(name) = name else {
-        return Ok(None);
-    };
-    let call = called(alloc, name, params, hash)?;
-    let top = add(outer, key, call)?;
-    Ok(Some(OpenCalls {
-        top,
-        around,
-        refused,
-    }))
-}
+    // The first term is the name.
+    fn add(&mut self, key: Option<String>, value: Parameter) -> Result<(), AllocError>
+        ensures { OnOk result (open_view self.new
+            ≡ add (option_map string_bytes key) (param_view value) (open_view self.old)) }
+    {
+        if self.name.is_some() {
+            return self.add_behind(key, value);
+        }
+        self.name = Some(value);
+        Ok(())
+    }
 
-// What is refused stands as null. The first one refused stays.
-fn add_literal<'a>(
-    alloc: Global,
-    calls: OpenCalls<'a>,
-    key: Option<&str>,
-    raw: &'a str,
-) -> Result<OpenCalls<'a>, AllocError>
-    ensures { IfOk result (λ more. calls_view more
-        ≡ add_literal (key_of key.entry) raw.now (calls_view calls.entry)) }
-{
-    let OpenCalls {
-        top,
-        around,
-        refused,
-    } = calls;
-    let (value, refused) = match literal_value(alloc, raw)? {
-        Some(value) => (value, refused),
-        None => (Json::Null, Some(refused.unwrap_or(raw))),
-    };
-    let top = add(top, key_text(alloc, key)?, Parameter::Literal(value))?;
-    Ok(OpenCalls {
-        top,
-        around,
-        refused,
-    })
+    // As a term of the call around it, once its name is there.
+    fn term(self, alloc: Global) -> Result<Option<Parameter>, AllocError>
+        ensures { IfOk result (λ call. option_map param_view call
+            ≡ option_map (λ n. called n (params_view self.entry.params.items) (pairs_view self.entry.hash.entries))
+            (option_map param_view self.entry.name)) }
+    {
+        let OpenCall {
+            key: _,
+            name,
+            params,
+            hash,
+        } = self;
+        match name {
+            Some(name) => Ok(Some(called(alloc, name, params, hash)?)),
+            None => Ok(None),
+        }
+    }
+
+    // As the outermost call of a line, once its name is there.
+    fn line(self, refused: Option<&'a str>) -> Option<BuiltLine<'a>>
+        ensures { option_map line_view result ≡ finish (open_calls (open_view self.entry) [] (key_of refused.entry)) }
+    {
+        let OpenCall {
+            key: _,
+            name,
+            params,
+            hash,
+        } = self;
+        let Some(name) = name else {
+            return None;
+        };
+        let name = closed_name(name, &params, &hash);
+        Some(BuiltLine {
+            name,
+            params,
+            hash,
+            refused,
+        })
+    }
 }
 
 /// The path that the whole text is.
@@ -285,70 +239,96 @@ pub fn path_of(alloc: Global, raw: &str) -> Result<Option<Path>, AllocError>
     }
 }
 
-fn add_path<'a>(
-    alloc: Global,
-    calls: OpenCalls<'a>,
-    key: Option<&str>,
-    raw: &str,
-) -> Result<Option<OpenCalls<'a>>, AllocError>
-    ensures { IfOk result (λ read. option_map calls_view read
-        ≡ add_path (key_of key.entry) raw.now (calls_view calls.entry)) }
-{
-    let Some(path) = path_of(alloc, raw)? else {
-        return Ok(None);
-    };
-    let OpenCalls {
-        top,
-        around,
-        refused,
-    } = calls;
-    let top = add(top, key_text(alloc, key)?, Parameter::Path(path))?;
-    Ok(Some(OpenCalls {
-        top,
-        around,
-        refused,
-    }))
-}
-
-/// The open calls, with what a step takes.
-pub fn take<'a>(
-    alloc: Global,
-    calls: OpenCalls<'a>,
-    event: Event<'a>,
-) -> Result<Option<OpenCalls<'a>>, AllocError>
-    ensures { IfOk result (λ read. option_map calls_view read ≡ take (calls_view calls.entry) (event_of event.entry)) }
-{
-    match event {
-        Event::Opened(key, _) => Ok(Some(begin(alloc, calls, key)?)),
-        Event::Literal(key, raw, _) => Ok(Some(add_literal(alloc, calls, key, raw)?)),
-        Event::Path(key, raw, _) => add_path(alloc, calls, key, raw),
-        Event::Closed => close(alloc, calls),
+impl<'a> OpenCalls<'a> {
+    #[tactic(auto, using(crate::proofs::LinesBuilt::around_view_push))]
+    fn begin(&mut self, alloc: Global, key: Option<&'a str>) -> Result<(), AllocError>
+        ensures { OnOk result (calls_view self.new ≡ begin (key_of key.entry) (calls_view self.old)) }
+    {
+        let outer = mem::replace(&mut self.top, new_call(alloc, key));
+        self.around.push(outer)?;
+        Ok(())
     }
-}
 
-/// The line of the innermost call, once its name is there.
-pub fn finish<'a>(calls: OpenCalls<'a>) -> Option<BuiltLine<'a>>
-    ensures { option_map line_view result ≡ finish (calls_view calls.entry) }
-{
-    let OpenCalls {
-        top,
-        around: _,
-        refused,
-    } = calls;
-    let OpenCall {
-        key: _,
-        name,
-        params,
-        hash,
-    } = top;
-    let Some(name) = name else {
-        return None;
-    };
-    let name = closed_name(name, &params, &hash);
-    Some(BuiltLine {
-        name,
-        params,
-        hash,
-        refused,
-    })
+    // Whether there is a call to close, and one around it.
+    #[tactic(auto, using(crate::proofs::LinesBuilt::around_view_push))]
+    fn close(&mut self, alloc: Global) -> Result<bool, AllocError>
+        ensures { IfOk result (λ taken. calls_after taken self.new
+            ≡ close (calls_view self.old).top (calls_view self.old).around (calls_view self.old).refused) }
+    {
+        let Some(outer) = self.around.pop() else {
+            return Ok(false);
+        };
+        let inner = mem::replace(&mut self.top, outer);
+        let key = key_text(alloc, inner.key)?;
+        let Some(call) = inner.term(alloc)? else {
+            return Ok(false);
+        };
+        self.top.add(key, call)?;
+        Ok(true)
+    }
+
+    // What is refused stands as null. The first one refused stays.
+    fn add_literal(
+        &mut self,
+        alloc: Global,
+        key: Option<&str>,
+        raw: &'a str,
+    ) -> Result<(), AllocError>
+        ensures { OnOk result (calls_view self.new
+            ≡ add_literal (key_of key.entry) raw.now (calls_view self.old)) }
+    {
+        let key = key_text(alloc, key)?;
+        let value = match literal_value(alloc, raw)? {
+            Some(value) => value,
+            None => {
+                self.refused = Some(self.refused.unwrap_or(raw));
+                Json::Null
+            }
+        };
+        self.top.add(key, Parameter::Literal(value))
+    }
+
+    // Whether the text is a path.
+    fn add_path(&mut self, alloc: Global, key: Option<&str>, raw: &str) -> Result<bool, AllocError>
+        ensures { IfOk result (λ taken. calls_after taken self.new
+            ≡ add_path (key_of key.entry) raw.now (calls_view self.old)) }
+    {
+        let key = key_text(alloc, key)?;
+        let Some(path) = path_of(alloc, raw)? else {
+            return Ok(false);
+        };
+        self.top.add(key, Parameter::Path(path))?;
+        Ok(true)
+    }
+
+    /// A step is taken, where it can be.
+    pub fn take(&mut self, alloc: Global, event: Event<'a>) -> Result<bool, AllocError>
+        ensures { IfOk result (λ taken. calls_after taken self.new
+            ≡ take (calls_view self.old) (event_of event.entry)) }
+    {
+        match event {
+            Event::Opened(key, _) => {
+                self.begin(alloc, key)?;
+                Ok(true)
+            }
+            Event::Literal(key, raw, _) => {
+                self.add_literal(alloc, key, raw)?;
+                Ok(true)
+            }
+            Event::Path(key, raw, _) => self.add_path(alloc, key, raw),
+            Event::Closed => self.close(alloc),
+        }
+    }
+
+    /// The line of the innermost call, once its name is there.
+    pub fn finish(self) -> Option<BuiltLine<'a>>
+        ensures { option_map line_view result ≡ finish (calls_view self.entry) }
+    {
+        let OpenCalls {
+            top,
+            around: _,
+            refused,
+        } = self;
+        top.line(refused)
+    }
 }

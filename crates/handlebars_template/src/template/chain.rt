@@ -2,32 +2,60 @@
 
 ghost use Rattle.std.specs.Prelude.{◌≡◌, ◌∷◌, [], IfOk, map};
 ghost use Rattle.handlebars_template.specs.Tree.{helper_block, body};
-ghost use Rattle.handlebars_template.specs.TreeView.{tree_view, call_view, body_view};
-ghost use Rattle.handlebars_template.specs.Nest.{block_call, inverse_of};
+ghost use Rattle.handlebars_template.specs.TreeView.{tree_view, call_view, body_view, block_param_view};
+ghost use Rattle.handlebars_template.specs.Nest.{block_call, inverse_of, in_branch, in_inverse};
 ghost use Rattle.handlebars_template.specs.Machine.{closed_block};
-ghost use Rattle.handlebars_template.specs.NestView.{placed_view, opening_view, branch_view, stage_view};
+ghost use Rattle.handlebars_template.specs.NestView.{placed_view, names_view, opening_view, branch_view, stage_view};
 
 use crate::template::placed::PlacedElements;
 use crate::template::tree::{BlockParam, HelperTemplate, Parameter, Template, TemplateElement};
 use std::alloc::{AllocError, Global};
 use std::collections::BTreeMap;
 
-/// What the tag of a block or of a chained inverse says.
+/// The names that a block binds, as texts: they are parameters only in its tree.
 #[derive(Drop)]
+pub enum BlockNames {
+    Unbound,
+    Bound(String),
+    BothBound(String, String),
+}
+
+/// What the tag of a block or of a chained inverse says.
 pub struct BlockOpening {
     pub name: String,
     pub params: Vec<Parameter>,
     pub hash: BTreeMap<String, Parameter>,
-    pub block_param: Option<BlockParam>,
+    pub names: BlockNames,
     pub is_raw: bool,
     pub indent_before_write: bool,
 }
 
+impl Drop for BlockOpening {
+    fn drop(self) {
+        let BlockOpening {
+            name: _,
+            params: _,
+            hash: _,
+            names: _,
+            is_raw: _,
+            indent_before_write: _,
+        } = self;
+    }
+}
+
 /// A whole chained inverse.
-#[derive(Drop)]
 pub struct Branch {
     pub opening: BlockOpening,
     pub elements: PlacedElements,
+}
+
+impl Drop for Branch {
+    fn drop(self) {
+        let Branch {
+            opening: _,
+            elements: _,
+        } = self;
+    }
 }
 
 /// Where an open block stands: in its first body, in a chained inverse, or in its inverse.
@@ -38,45 +66,67 @@ pub enum Stage {
     Inverse,
 }
 
-// A block, or a chained inverse.
-fn block(
-    opening: BlockOpening,
-    elements: PlacedElements,
-    inverse: Option<Template>,
-    chain: bool,
-) -> HelperTemplate
-    ensures { call_view result
-        ≡ block_call (opening_view opening) (placed_view elements) (body_view inverse) chain }
+fn block_param(names: BlockNames) -> Option<BlockParam>
+    ensures { block_param_view result ≡ names_view names }
 {
-    HelperTemplate {
-        name: Parameter::Name(opening.name),
-        params: opening.params,
-        hash: opening.hash,
-        block_param: opening.block_param,
-        template: Some(elements.template()),
-        inverse,
-        block: true,
-        chain,
-        indent_before_write: opening.indent_before_write,
+    match names {
+        BlockNames::Unbound => None,
+        BlockNames::Bound(name) => Some(BlockParam::Single(Parameter::Name(name))),
+        BlockNames::BothBound(name, other) => Some(BlockParam::Pair((
+            Parameter::Name(name),
+            Parameter::Name(other),
+        ))),
     }
 }
 
-// A chained inverse as the inverse of what stands before it.
-fn chained_inverse(
-    alloc: Global,
-    branch: Branch,
-    inverse: Option<Template>,
-) -> Result<Template, AllocError>
-    ensures { IfOk result (λ t. body (tree_view t) ≡ inverse_of (branch_view branch ∷ []) (body_view inverse)) }
-{
-    let call = Box::new(alloc, block(branch.opening, branch.elements, inverse, true))?;
-    let mut elements = Vec::new(alloc);
-    elements.push(TemplateElement::HelperBlock(call))?;
-    Ok(Template {
-        name: None,
-        elements,
-        mapping: Vec::new(alloc),
-    })
+impl BlockOpening {
+    /// A block, or a chained inverse.
+    pub fn block(
+        self,
+        elements: PlacedElements,
+        inverse: Option<Template>,
+        chain: bool,
+    ) -> HelperTemplate
+        ensures { call_view result
+            ≡ block_call (opening_view self) (placed_view elements) (body_view inverse) chain }
+    {
+        let BlockOpening {
+            name,
+            params,
+            hash,
+            names,
+            is_raw: _,
+            indent_before_write,
+        } = self;
+        HelperTemplate {
+            name: Parameter::Name(name),
+            params,
+            hash,
+            block_param: block_param(names),
+            template: Some(elements.template()),
+            inverse,
+            block: true,
+            chain,
+            indent_before_write,
+        }
+    }
+}
+
+impl Branch {
+    // As the inverse of what stands before it.
+    fn inverse(self, alloc: Global, inverse: Option<Template>) -> Result<Template, AllocError>
+        ensures { IfOk result (λ t. body (tree_view t) ≡ inverse_of (branch_view self ∷ []) (body_view inverse)) }
+    {
+        let Branch { opening, elements } = self;
+        let call = Box::new(alloc, opening.block(elements, inverse, true))?;
+        let mut elements = Vec::new(alloc);
+        elements.push(TemplateElement::HelperBlock(call))?;
+        Ok(Template {
+            name: None,
+            elements,
+            mapping: Vec::new(alloc),
+        })
+    }
 }
 
 // The branches, each in the inverse of the one before it: from the last to the first.
@@ -89,9 +139,44 @@ fn nested_inverse(
     ensures { IfOk result (λ t. body_view t ≡ inverse_of (map branch_view branches.items) (body_view inverse)) }
 {
     'branches: while let Some(branch) = branches.pop() {
-        inverse = Some(chained_inverse(alloc, branch, inverse)?);
+        inverse = Some(branch.inverse(alloc, inverse)?);
     }
     Ok(inverse)
+}
+
+// A block whose last chained inverse is this one.
+fn chained_block(
+    alloc: Global,
+    last: Branch,
+    opening: BlockOpening,
+    first: PlacedElements,
+    branches: Vec<Branch>,
+) -> Result<HelperTemplate, AllocError>
+    ensures { IfOk result (λ h. helper_block (call_view h)
+        ≡ closed_block (in_branch (opening_view last.opening)) (opening_view opening) (placed_view first)
+        (map branch_view branches.items) (placed_view last.elements)) }
+{
+    let mut branches = branches;
+    branches.push(last)?;
+    let inverse = nested_inverse(alloc, branches, None)?;
+    Ok(opening.block(first, inverse, true))
+}
+
+// A block whose inverse these elements are.
+fn inverse_block(
+    alloc: Global,
+    opening: BlockOpening,
+    first: PlacedElements,
+    branches: Vec<Branch>,
+    elements: PlacedElements,
+) -> Result<HelperTemplate, AllocError>
+    ensures { IfOk result (λ h. helper_block (call_view h)
+        ≡ closed_block in_inverse (opening_view opening) (placed_view first) (map branch_view branches.items)
+        (placed_view elements)) }
+{
+    let chain = !branches.is_empty();
+    let inverse = nested_inverse(alloc, branches, Some(elements.template()))?;
+    Ok(opening.block(first, inverse, chain))
 }
 
 /// The whole block, from what was kept of it and the elements that stand behind that. In time linear in its branches.
@@ -108,20 +193,14 @@ pub fn closed_block(
         (placed_view elements)) }
 {
     match stage {
-        Stage::First => Ok(block(opening, elements, None, false)),
+        Stage::First => Ok(opening.block(elements, None, false)),
         Stage::Chained(last) => {
-            let mut branches = branches;
-            branches.push(Branch {
+            let last = Branch {
                 opening: last,
                 elements,
-            })?;
-            let inverse = nested_inverse(alloc, branches, None)?;
-            Ok(block(opening, first, inverse, true))
+            };
+            chained_block(alloc, last, opening, first, branches)
         }
-        Stage::Inverse => {
-            let chain = !branches.is_empty();
-            let inverse = nested_inverse(alloc, branches, Some(elements.template()))?;
-            Ok(block(opening, first, inverse, chain))
-        }
+        Stage::Inverse => inverse_block(alloc, opening, first, branches, elements),
     }
 }

@@ -3,13 +3,14 @@
 ghost use Rattle.std.specs.Prelude.{◌≡◌, ◌≢◌, [], IfOk, IfErr, IsSome, string_bytes};
 ghost use Rattle.handlebars_base.specs.Reasons.{template_out_of_memory};
 ghost use Rattle.handlebars_base.specs.TemplateRefusals.{template_reason_of, template_refusal_of, shown_lines};
-ghost use Rattle.handlebars_template.specs.Compile.{Compiles, compiled, refused, no_options, named_options, tree_of, syntax_refusal, refusal_for};
+ghost use Rattle.handlebars_template.specs.Compile.{Options, Compiles, compiled, refused, no_options, named_options, syntax_refusal, refusal_for};
 ghost use Rattle.handlebars_template.specs.OptionsView.{options_view};
-ghost use Rattle.handlebars_template.specs.NestView.{placed_view, late_fault};
+ghost use Rattle.handlebars_template.specs.NestView.{late_fault, syntax_fault, end_view};
+ghost use Rattle.handlebars_template.specs.ScanView.{ComesTo};
+ghost use Rattle.handlebars_template.specs.Place.{Place};
 ghost use Rattle.handlebars_template.specs.TreeView.{tree_view, place_of};
 
-use crate::template::nest::{Late, SyntaxFault};
-use crate::template::placed::PlacedElements;
+use crate::template::nest::{Late, Nested, SyntaxFault};
 use crate::template::scan::{Found, scan};
 use crate::template::tree::{Template, TemplateMapping};
 use handlebars_base::error::{TemplateError, TemplateErrorReason};
@@ -74,31 +75,45 @@ impl Template {
         ensures shown { IfErr result (λ e. IsSome (template_refusal_of e).position → IsSome (shown_lines e)) }
     {
         match scan(alloc, source)? {
-            Found::Whole(elements) => Ok(named_tree(options, elements)),
+            Found::Through(nested) => nested_tree(alloc, source, options, nested),
             Found::Unreadable(at) => {
                 Err(syntax_error(alloc, source, options, at, "unreadable tag")?)
             }
-            Found::Misplaced(SyntaxFault::Unexpected, at) => {
-                Err(syntax_error(alloc, source, options, at, "unexpected tag")?)
+            Found::Misplaced(fault, at) => {
+                Err(syntax_error(alloc, source, options, at, message(fault))?)
             }
-            Found::Misplaced(SyntaxFault::TooDeep, at) => {
-                Err(syntax_error(alloc, source, options, at, "nesting too deep")?)
-            }
-            Found::NotClosed(at) => {
-                Err(syntax_error(alloc, source, options, at, "block not closed")?)
-            }
-            Found::Late(late) => Err(late_error(alloc, source, options, late)?),
         }
     }
 }
 
-fn named_tree(options: TemplateOptions, elements: PlacedElements) -> Template
-    ensures { tree_view result ≡ tree_of (options_view options) (placed_view elements) }
+fn message(fault: SyntaxFault) -> &'static str
+    ensures { (options : Options) (p : Place)
+        → syntax_refusal result.now options p ≡ refusal_for options (syntax_fault p fault) }
 {
-    Template {
-        name: options.name,
-        elements: elements.elements,
-        mapping: elements.mapping,
+    match fault {
+        SyntaxFault::Unexpected => "unexpected tag",
+        SyntaxFault::TooDeep => "nesting too deep",
+    }
+}
+
+// What the source comes to by what stands at its end.
+fn nested_tree(
+    alloc: Global,
+    source: &str,
+    options: TemplateOptions,
+    nested: Nested,
+) -> Result<Template, TemplateError>
+    ensures ok { IfOk result (λ template. ComesTo source.now (end_view nested)
+        → Compiles source.now (options_view options) (compiled (tree_view template))) }
+    ensures err { IfErr result (λ e. (template_refusal_of e).reason ≢ template_out_of_memory
+        → ComesTo source.now (end_view nested)
+        → Compiles source.now (options_view options) (refused (template_refusal_of e))) }
+    ensures shown { IfErr result (λ e. IsSome (template_refusal_of e).position → IsSome (shown_lines e)) }
+{
+    match nested {
+        Nested::Whole(elements) => Ok(elements.named_tree(options)),
+        Nested::NotClosed(at) => Err(syntax_error(alloc, source, options, at, "block not closed")?),
+        Nested::Late(late) => Err(late_error(alloc, source, options, late)?),
     }
 }
 

@@ -1,15 +1,20 @@
 //! The call that a line is.
 
-ghost use Rattle.std.specs.Prelude.{◌≡◌, IfOk, IfSome};
+ghost use Rattle.std.specs.Prelude.{◌≡◌, IfOk, IfSome, string_bytes};
 ghost use Rattle.handlebars_base.specs.Bytes.{Text};
 ghost use Rattle.handlebars_lines.specs.Line.{Line, IsLine};
 ghost use Rattle.handlebars_lines.specs.LineView.{enclosure_of};
 ghost use Rattle.handlebars_base.specs.PathView.{reference_of};
 ghost use Rattle.handlebars_template.specs.LineBuilding.{line_call, path_call};
-ghost use Rattle.handlebars_template.specs.LineBuildingView.{line_view, IsBuilt};
+ghost use Rattle.handlebars_template.specs.LineBuildingView.{line_view, IsBuilt, IsCallOf};
+ghost use Rattle.handlebars_template.specs.Tree.{expression, args};
+ghost use Rattle.handlebars_template.specs.TreeView.{call_view, param_view, params_view, pairs_view, subexpression_view};
+ghost use Rattle.handlebars_template.specs.Calls.{call_of, plain_call};
+ghost use Rattle.handlebars_template.specs.NestView.{names_view, opening_view};
 
-use crate::template::build::{finish, first_calls, path_of, take};
-use crate::template::tree::Parameter;
+use crate::template::build::{first_calls, path_of};
+use crate::template::chain::{BlockNames, BlockOpening};
+use crate::template::tree::{HelperTemplate, Parameter, Subexpression};
 use handlebars_base::json::path::Path;
 use handlebars_lines::line::{Enclosure, Event, State, Step, take_step};
 use std::alloc::{AllocError, Global};
@@ -19,12 +24,95 @@ use std::collections::BTreeMap;
 pub const MAX_NESTING: usize = 200;
 
 /// A line's name, parameters and pairs, and the first of its literals that is refused, by its text.
-#[derive(Debug, PartialEq, Drop)]
 pub struct BuiltLine<'a> {
     pub name: Parameter,
     pub params: Vec<Parameter>,
     pub hash: BTreeMap<String, Parameter>,
     pub refused: Option<&'a str>,
+}
+
+impl Drop for BuiltLine<'_> {
+    fn drop(self) {
+        let BuiltLine {
+            name: _,
+            params: _,
+            hash: _,
+            refused: _,
+        } = self;
+    }
+}
+
+impl BuiltLine<'_> {
+    /// The call of a value, or of a helper.
+    pub fn call(self) -> HelperTemplate
+        ensures { (means : Line) → IsCallOf means self.entry → call_view result ≡ call_of means.name means.terms }
+    {
+        let BuiltLine {
+            name,
+            params,
+            hash,
+            refused: _,
+        } = self;
+        HelperTemplate {
+            name,
+            params,
+            hash,
+            block_param: None,
+            template: None,
+            inverse: None,
+            block: false,
+            chain: false,
+            indent_before_write: false,
+        }
+    }
+
+    /// The call in parentheses.
+    pub fn subexpression(self, alloc: Global) -> Result<Subexpression, AllocError>
+        ensures { IfOk result (λ call. subexpression_view call
+            ≡ expression (plain_call (param_view self.entry.name) (params_view self.entry.params.items)
+            (pairs_view self.entry.hash.entries))) }
+    {
+        let BuiltLine {
+            name,
+            params,
+            hash,
+            refused: _,
+        } = self;
+        Subexpression::new(alloc, name, params, hash)
+    }
+
+    /// The opening of a block by this name.
+    pub fn opening(
+        self,
+        name: String,
+        names: BlockNames,
+        is_raw: bool,
+        indent_before_write: bool,
+    ) -> BlockOpening
+        ensures { opening_view result
+            ≡ record {
+              name = string_bytes name;
+              is_raw = is_raw;
+              arguments = args (params_view self.entry.params.items) (pairs_view self.entry.hash.entries);
+              binding = names_view names;
+              indent = indent_before_write;
+            } }
+    {
+        let BuiltLine {
+            name: _,
+            params,
+            hash,
+            refused: _,
+        } = self;
+        BlockOpening {
+            name,
+            params,
+            hash,
+            names,
+            is_raw,
+            indent_before_write,
+        }
+    }
 }
 
 // The path that is alone in the line in front, as it is in most lines: no call is opened for it.
@@ -84,17 +172,17 @@ fn build_terms<'a>(
     let mut rest = text;
     let mut calls = first_calls(alloc, text);
     'building: loop {
-        let (event, next, behind) = match take_step(alloc, around, state, rest)? {
-            Step::Goes(event, next, behind) => (event, next, behind),
+        match take_step(alloc, around, state, rest)? {
+            Step::Goes(event, next, behind) => {
+                if !calls.take(alloc, event)? {
+                    return Ok(None);
+                }
+                state = next;
+                rest = behind;
+            }
             Step::Ends => break,
             Step::Stuck => return Ok(None),
-        };
-        let Some(more) = take(alloc, calls, event)? else {
-            return Ok(None);
-        };
-        calls = more;
-        state = next;
-        rest = behind;
+        }
     }
-    Ok(finish(calls))
+    Ok(calls.finish())
 }

@@ -1,6 +1,6 @@
 //! The open blocks, and how each element and tag changes them.
 
-ghost use Rattle.std.specs.Prelude.{◌≡◌, ◌+◌, ◌<◌, suc, ℕ, [], None, Option, IfOk, OnOk, nat_lt, option_map};
+ghost use Rattle.std.specs.Prelude.{◌≡◌, ◌+◌, ◌<◌, ◌∷◌, ◌++◌, suc, ℕ, [], None, Option, IfOk, OnOk, nat_lt, option_map};
 ghost use Rattle.std.specs.Option.{option_or};
 ghost use Rattle.std.specs.Str.{bytes_eq};
 ghost use Rattle.handlebars_base.specs.Bytes.{Text};
@@ -9,8 +9,8 @@ ghost use Rattle.handlebars_template.specs.Tree.{Element};
 ghost use Rattle.handlebars_template.specs.Calls.{max_nesting};
 ghost use Rattle.handlebars_template.specs.TreeView.{element_view, place_of};
 ghost use Rattle.handlebars_template.specs.Nest.{Opening, leaf, opens, turns, chains, closes};
-ghost use Rattle.handlebars_template.specs.Machine.{at_end, next_stage, late_literal, late_name};
-ghost use Rattle.handlebars_template.specs.NestView.{placed_view, opening_view, stage_view, frame_view, frames, late_view, late_of, moved, Looks, Does, end_view};
+ghost use Rattle.handlebars_template.specs.Machine.{at_end, closed, new_frame, next_stage, late_literal, late_name};
+ghost use Rattle.handlebars_template.specs.NestView.{placed_view, opening_view, stage_view, frame_view, frame_after, frames, late_view, late_of, moved, Looks, Does, end_view};
 
 use crate::template::chain::{BlockOpening, Branch, Stage, closed_block};
 use crate::template::line::MAX_NESTING;
@@ -21,7 +21,6 @@ use std::mem;
 
 /// An open block: its place, what its tag says, how much is open around it, its first body and its whole chained
 /// inverses, where it stands, and what stood before it.
-#[derive(Drop)]
 pub struct Open {
     pub place: TemplateMapping,
     pub opening: BlockOpening,
@@ -30,6 +29,20 @@ pub struct Open {
     pub branches: Vec<Branch>,
     pub stage: Stage,
     pub outside: PlacedElements,
+}
+
+impl Drop for Open {
+    fn drop(self) {
+        let Open {
+            place: _,
+            opening: _,
+            around: _,
+            first: _,
+            branches: _,
+            stage: _,
+            outside: _,
+        } = self;
+    }
 }
 
 /// Why a tag may not stand where it stands.
@@ -57,12 +70,22 @@ pub enum Nested {
 
 /// How much is open, the open blocks, the outermost first, the elements of the innermost, and what is refused first of
 /// what comes late. A chained inverse is open too.
-#[derive(Drop)]
 pub struct Nesting {
     pub depth: usize,
     pub stack: Vec<Open>,
     pub elements: PlacedElements,
     pub late: Option<Late>,
+}
+
+impl Drop for Nesting {
+    fn drop(self) {
+        let Nesting {
+            depth: _,
+            stack: _,
+            elements: _,
+            late: _,
+        } = self;
+    }
 }
 
 // Whether this many are too many, with others open around them.
@@ -116,50 +139,76 @@ fn late_name(
     Ok(Some(Late::Mismatched(opened, closing, place)))
 }
 
-// The open block in this stage next, where one may stand behind its stage.
-fn next_stage(
-    block: Open,
-    elements: PlacedElements,
-    next: Stage,
-) -> Result<Option<Open>, AllocError>
-    ensures { IfOk result (λ moved. option_map frame_view moved
-        ≡ next_stage (stage_view block.stage) (frame_view block) (placed_view elements) (stage_view next)) }
-{
-    let Open {
-        place,
-        opening,
-        around,
-        first,
-        mut branches,
-        stage,
-        outside,
-    } = block;
-    match stage {
-        Stage::First => Ok(Some(Open {
+impl Open {
+    fn new(
+        alloc: Global,
+        place: TemplateMapping,
+        opening: BlockOpening,
+        around: usize,
+        outside: PlacedElements,
+    ) -> Open
+        ensures { frame_view result
+            ≡ new_frame (place_of place) (opening_view opening) around (placed_view outside) }
+    {
+        Open {
             place,
             opening,
             around,
-            first: elements,
-            branches,
-            stage: next,
+            first: PlacedElements::new(alloc),
+            branches: Vec::new(alloc),
+            stage: Stage::First,
             outside,
-        })),
-        Stage::Chained(last) => {
-            branches.push(Branch {
-                opening: last,
-                elements,
-            })?;
-            Ok(Some(Open {
-                place,
-                opening,
-                around,
-                first,
-                branches,
-                stage: next,
-                outside,
-            }))
         }
-        Stage::Inverse => Ok(None),
+    }
+
+    // In this stage next, if one may stand behind its stage.
+    fn enter(&mut self, elements: PlacedElements, next: Stage) -> Result<bool, AllocError>
+        ensures { IfOk result (λ moved. frame_after moved self.new
+            ≡ next_stage (stage_view self.old.stage) (frame_view self.old) (placed_view elements) (stage_view next)) }
+    {
+        match mem::replace(&mut self.stage, next) {
+            Stage::First => {
+                self.first = elements;
+                Ok(true)
+            }
+            Stage::Chained(opening) => {
+                self.branches.push(Branch { opening, elements })?;
+                Ok(true)
+            }
+            Stage::Inverse => Ok(false),
+        }
+    }
+
+    // The whole block, when its close comes.
+    fn closed(self, alloc: Global, elements: PlacedElements) -> Result<TemplateElement, AllocError>
+        ensures { IfOk result (λ e. element_view e ≡ (closed (frame_view self) (placed_view elements)).element) }
+    {
+        let Open {
+            place: _,
+            opening,
+            around: _,
+            first,
+            branches,
+            stage,
+            outside: _,
+        } = self;
+        let call = closed_block(alloc, stage, opening, first, branches, elements)?;
+        Ok(TemplateElement::HelperBlock(Box::new(alloc, call)?))
+    }
+
+    // It stands next in what is outside, at its place.
+    fn end(
+        self,
+        alloc: Global,
+        elements: PlacedElements,
+        outside: &mut PlacedElements,
+    ) -> Result<(), AllocError>
+        ensures { OnOk result (placed_view outside.new
+            ≡ placed_view outside.old ++ closed (frame_view self) (placed_view elements) ∷ []) }
+    {
+        let at = self.place;
+        let element = self.closed(alloc, elements)?;
+        outside.push(alloc, at, element)
     }
 }
 
@@ -265,9 +314,8 @@ impl Nesting {
             → Does self.old (leaf (place_of place) (element_view element) n (option_map (λ t. t.now) refused.entry))
             self.new) }
     {
+        self.elements.push(alloc, place, element)?;
         self.keep(late_literal(alloc, refused)?);
-        let elements = mem::replace(&mut self.elements, PlacedElements::new(alloc));
-        self.elements = elements.with(place, element)?;
         Ok(())
     }
 
@@ -283,19 +331,12 @@ impl Nesting {
             → Does self.old (opens (place_of place) (opening_view opening) n (option_map (λ t. t.now) refused.entry))
             self.new) }
     {
-        self.keep(late_literal(alloc, refused)?);
         let outside = mem::replace(&mut self.elements, PlacedElements::new(alloc));
         let around = self.depth;
-        self.stack.push(Open {
-            place,
-            opening,
-            around,
-            first: PlacedElements::new(alloc),
-            branches: Vec::new(alloc),
-            stage: Stage::First,
-            outside,
-        })?;
+        self.stack
+            .push(Open::new(alloc, place, opening, around, outside))?;
         self.depth = one_more(around);
+        self.keep(late_literal(alloc, refused)?);
         Ok(())
     }
 
@@ -303,13 +344,13 @@ impl Nesting {
     pub fn turn(&mut self, alloc: Global, place: TemplateMapping) -> Result<(), AllocError>
         ensures { OnOk result (Does self.old (turns (place_of place)) self.new) }
     {
-        let Some(block) = self.stack.pop() else {
+        let Some(mut block) = self.stack.pop() else {
             return Ok(());
         };
         let elements = mem::replace(&mut self.elements, PlacedElements::new(alloc));
-        let Some(block) = next_stage(block, elements, Stage::Inverse)? else {
+        if !block.enter(elements, Stage::Inverse)? {
             return Ok(());
-        };
+        }
         self.stack.push(block)?;
         Ok(())
     }
@@ -326,16 +367,16 @@ impl Nesting {
             → Does self.old (chains (place_of place) (opening_view opening) n (option_map (λ t. t.now) refused.entry))
             self.new) }
     {
-        self.keep(late_literal(alloc, refused)?);
-        let Some(block) = self.stack.pop() else {
+        let Some(mut block) = self.stack.pop() else {
             return Ok(());
         };
         let elements = mem::replace(&mut self.elements, PlacedElements::new(alloc));
-        let Some(block) = next_stage(block, elements, Stage::Chained(opening))? else {
+        if !block.enter(elements, Stage::Chained(opening))? {
             return Ok(());
-        };
+        }
         self.stack.push(block)?;
         self.depth = one_more(self.depth);
+        self.keep(late_literal(alloc, refused)?);
         Ok(())
     }
 
@@ -349,25 +390,14 @@ impl Nesting {
     ) -> Result<(), AllocError>
         ensures { OnOk result (Does self.old (closes (place_of place) is_raw name.now) self.new) }
     {
-        let Some(block) = self.stack.pop() else {
+        let Some(mut block) = self.stack.pop() else {
             return Ok(());
         };
-        let Open {
-            place: at,
-            opening,
-            around,
-            first,
-            branches,
-            stage,
-            outside,
-        } = block;
-        self.keep(late_name(alloc, opening.name.as_str(), name, place)?);
-        let elements = mem::replace(&mut self.elements, PlacedElements::new(alloc));
-        let call = closed_block(alloc, stage, opening, first, branches, elements)?;
-        let element = TemplateElement::HelperBlock(Box::new(alloc, call)?);
-        self.elements = outside.with(at, element)?;
-        self.depth = around;
-        Ok(())
+        self.keep(late_name(alloc, block.opening.name.as_str(), name, place)?);
+        self.depth = block.around;
+        let outside = mem::replace(&mut block.outside, PlacedElements::new(alloc));
+        let elements = mem::replace(&mut self.elements, outside);
+        block.end(alloc, elements, &mut self.elements)
     }
 
     /// What stands at the end of the source.

@@ -97,7 +97,7 @@ fn read_nested<'a>(alloc: Global, text: &'a str, inside: &'a str) -> Result<Read
     if let Some(raw) = built.refused {
         return Ok(Reading::Refuses(raw));
     }
-    let call = Subexpression::new(alloc, built.name, built.params, built.hash)?;
+    let call = built.subexpression(alloc)?;
     Ok(Reading::Reads(Parameter::Subexpression(call)))
 }
 

@@ -1,16 +1,26 @@
 //! The elements of a body, each with its place.
 
-ghost use Rattle.std.specs.Prelude.{◌≡◌, ◌++◌, ◌∷◌, [], IfOk, length};
+ghost use Rattle.std.specs.Prelude.{◌≡◌, ◌++◌, ◌∷◌, [], IfOk, OnOk, length};
 
+use crate::template::compile::TemplateOptions;
 use crate::template::tree::{Template, TemplateElement, TemplateMapping};
 use std::alloc::{AllocError, Global};
+use std::mem;
 
 /// Elements and as many places, in the same order.
-#[derive(Drop)]
 pub struct PlacedElements {
     pub elements: Vec<TemplateElement>,
     pub mapping: Vec<TemplateMapping>,
     ghost as_many: { length elements.items ≡ length mapping.items },
+}
+
+impl Drop for PlacedElements {
+    fn drop(self) {
+        let PlacedElements {
+            elements: _,
+            mapping: _,
+        } = self;
+    }
 }
 
 impl PlacedElements {
@@ -18,6 +28,8 @@ impl PlacedElements {
     ghost use Rattle.handlebars_template.specs.TreeView.{tree_view, element_view, place_of};
     ghost use Rattle.handlebars_template.specs.Nest.{body_with};
     ghost use Rattle.handlebars_template.specs.NestView.{placed_view};
+    ghost use Rattle.handlebars_template.specs.Compile.{tree_of};
+    ghost use Rattle.handlebars_template.specs.OptionsView.{options_view};
 
     /// No elements.
     pub fn new(alloc: Global) -> PlacedElements
@@ -29,8 +41,8 @@ impl PlacedElements {
         }
     }
 
-    /// With one more at the end.
-    pub fn with(
+    // With one more at the end.
+    fn with(
         self,
         place: TemplateMapping,
         element: TemplateElement,
@@ -47,14 +59,42 @@ impl PlacedElements {
         Ok(PlacedElements { elements, mapping })
     }
 
+    /// One more at the end.
+    pub fn push(
+        &mut self,
+        alloc: Global,
+        place: TemplateMapping,
+        element: TemplateElement,
+    ) -> Result<(), AllocError>
+        ensures { OnOk result (placed_view self.new
+            ≡ placed_view self.old ++ record { place = place_of place; element = element_view element } ∷ []) }
+    {
+        let elements = mem::replace(self, PlacedElements::new(alloc));
+        *self = elements.with(place, element)?;
+        Ok(())
+    }
+
     /// The body that they are.
     pub fn template(self) -> Template
         ensures { body (tree_view result) ≡ body_with (placed_view self) }
     {
+        let PlacedElements { elements, mapping } = self;
         Template {
             name: None,
-            elements: self.elements,
-            mapping: self.mapping,
+            elements,
+            mapping,
+        }
+    }
+
+    /// The whole tree that they are.
+    pub fn named_tree(self, options: TemplateOptions) -> Template
+        ensures { tree_view result ≡ tree_of (options_view options) (placed_view self) }
+    {
+        let PlacedElements { elements, mapping } = self;
+        Template {
+            name: options.name,
+            elements,
+            mapping,
         }
     }
 }

@@ -7,25 +7,21 @@ ghost use Rattle.handlebars_template.specs.NestView.{placed_view, frames, late_o
 ghost use Rattle.handlebars_tags.specs.Trim.{trimmed};
 ghost use Rattle.handlebars_template.specs.ScanView.{text_placed, IsFound};
 
-use crate::template::nest::{Late, Nested, Nesting, SyntaxFault};
+use crate::template::nest::{Nested, Nesting, SyntaxFault};
 use crate::template::place::advance;
-use crate::template::placed::PlacedElements;
 use crate::template::tags::{edge_behind, look, may_follow, take_tag};
 use crate::template::tree::{TemplateElement, TemplateMapping};
 use handlebars_tags::tag::split_tag;
 use handlebars_tags::text::{TextFront, text};
 use handlebars_tags::trim::{Edge, braces_behind, fresh_behind, has_element, no_edge, trimmed};
 use std::alloc::{AllocError, Global};
-use std::mem;
 
-/// What a source is: its elements, or what is refused first.
+/// What a source is: what stands at its end, or the place of the tag that is refused first.
 #[derive(Drop)]
 pub enum Found {
-    Whole(PlacedElements),
+    Through(Nested),
     Unreadable(TemplateMapping),
     Misplaced(SyntaxFault, TemplateMapping),
-    NotClosed(TemplateMapping),
-    Late(Late),
 }
 
 /// The elements of a source, or what is refused first. In time linear in the source, but for the order of keys and the
@@ -63,11 +59,7 @@ pub fn scan(alloc: Global, source: &str) -> Result<Found, AllocError>
         front = text(alloc, braces_behind(edge), tag.rest)?;
     }
     add_text(alloc, &mut nesting, place, edge, front, no_edge())?;
-    match nesting.finish() {
-        Nested::Whole(elements) => Ok(Found::Whole(elements)),
-        Nested::NotClosed(at) => Ok(Found::NotClosed(at)),
-        Nested::Late(late) => Ok(Found::Late(late)),
-    }
+    Ok(Found::Through(nesting.finish()))
 }
 
 // What is kept of a text between two edges, which is copied again only where something of it goes.
@@ -102,7 +94,7 @@ fn add_text(
         return Ok(());
     }
     let kept = kept_text(alloc, before, front.kept, behind)?;
-    let elements = mem::replace(&mut nesting.elements, PlacedElements::new(alloc));
-    nesting.elements = elements.with(place, TemplateElement::RawString(kept))?;
-    Ok(())
+    nesting
+        .elements
+        .push(alloc, place, TemplateElement::RawString(kept))
 }

@@ -1,6 +1,6 @@
 //! What is built of tags, and how they stand in the nesting.
 
-ghost use Rattle.std.specs.Prelude.{◌≡◌, ◌&&◌, not, IfOk, OnOk};
+ghost use Rattle.std.specs.Prelude.{◌≡◌, ◌&&◌, not, None, IfOk, OnOk};
 ghost use Rattle.handlebars_base.specs.Bytes.{Text};
 ghost use Rattle.handlebars_lines.specs.Line.{Line, in_tag, IsLine};
 ghost use Rattle.handlebars_lines.specs.BindingView.{binding_of as means_of};
@@ -9,20 +9,18 @@ ghost use Rattle.handlebars_tags.specs.Trim.{Edge as TextEdge, may_stand_alone, 
 ghost use Rattle.handlebars_tags.specs.TrimView.{edge_view};
 ghost use Rattle.handlebars_tags.specs.TagView.{Holds, IsBlockSlice};
 ghost use Rattle.handlebars_template.specs.Place.{Place};
-ghost use Rattle.handlebars_template.specs.TreeView.{call_view, element_view, block_param_view, place_of};
-ghost use Rattle.handlebars_template.specs.Calls.{call_of};
-ghost use Rattle.handlebars_template.specs.LineBuildingView.{IsCallOf};
-ghost use Rattle.handlebars_template.specs.NestView.{moved, Looks, Does};
+ghost use Rattle.handlebars_template.specs.TreeView.{call_view, element_view, place_of};
+ghost use Rattle.handlebars_template.specs.Tree.{comment};
+ghost use Rattle.handlebars_template.specs.Nest.{leaf};
+ghost use Rattle.handlebars_template.specs.NestView.{names_view, moved, Looks, Does};
 ghost use Rattle.handlebars_template.specs.Cut.{may_follow};
 ghost use Rattle.handlebars_template.specs.ScanView.{value_element, value_piece, block_piece, chain_piece, IsOpening};
 ghost use Rattle.handlebars_template.specs.Compile.{binding_of, tag_piece};
 
-use crate::template::chain::BlockOpening;
-use crate::template::line::{BuiltLine, build_line};
+use crate::template::chain::{BlockNames, BlockOpening};
+use crate::template::line::build_line;
 use crate::template::nest::{Nesting, SyntaxFault};
-use crate::template::tree::{
-    BlockParam, HelperTemplate, Parameter, TemplateElement, TemplateMapping,
-};
+use crate::template::tree::{HelperTemplate, TemplateElement, TemplateMapping};
 use handlebars_lines::binding::Binding;
 use handlebars_lines::line::Enclosure;
 use handlebars_tags::tag::{BlockSlice, Content, TagSlice};
@@ -117,36 +115,16 @@ pub fn look(nesting: &Nesting, content: Content<'_>, depth: usize) -> Option<Syn
     }
 }
 
-// The call of a value, or of a helper.
-fn call(alloc: Global, line: BuiltLine) -> HelperTemplate
-    ensures { (means : Line) → IsCallOf means line.entry → call_view result ≡ call_of means.name means.terms }
-{
-    HelperTemplate {
-        name: line.name,
-        params: line.params,
-        hash: line.hash,
-        block_param: None,
-        template: None,
-        inverse: None,
-        block: false,
-        chain: false,
-        indent_before_write: false,
-    }
-}
-
-fn block_param(alloc: Global, binding: Binding<'_>) -> Result<Option<BlockParam>, AllocError>
-    ensures { IfOk result (λ param. block_param_view param ≡ binding_of (means_of binding.entry)) }
+fn block_names(alloc: Global, binding: Binding<'_>) -> Result<BlockNames, AllocError>
+    ensures { IfOk result (λ names. names_view names ≡ binding_of (means_of binding.entry)) }
 {
     match binding {
-        Binding::Unbound => Ok(None),
-        Binding::Bound(name) => {
-            let name = Parameter::Name(String::from_str(alloc, name)?);
-            Ok(Some(BlockParam::Single(name)))
-        }
+        Binding::Unbound => Ok(BlockNames::Unbound),
+        Binding::Bound(name) => Ok(BlockNames::Bound(String::from_str(alloc, name)?)),
         Binding::BothBound(name, other) => {
-            let name = Parameter::Name(String::from_str(alloc, name)?);
-            let other = Parameter::Name(String::from_str(alloc, other)?);
-            Ok(Some(BlockParam::Pair((name, other))))
+            let name = String::from_str(alloc, name)?;
+            let other = String::from_str(alloc, other)?;
+            Ok(BlockNames::BothBound(name, other))
         }
     }
 }
@@ -178,18 +156,11 @@ fn opening<'a>(
     let Some(line) = build_line(alloc, Enclosure::Block, block.line)? else {
         return Ok(None);
     };
-    let opening = BlockOpening {
-        name: String::from_str(alloc, block.name)?,
-        params: line.params,
-        hash: line.hash,
-        block_param: block_param(alloc, block.binding)?,
-        is_raw,
-        indent_before_write: is_indented(edge),
-    };
-    Ok(Some(BuiltOpening {
-        opening,
-        refused: line.refused,
-    }))
+    let name = String::from_str(alloc, block.name)?;
+    let names = block_names(alloc, block.binding)?;
+    let refused = line.refused;
+    let opening = line.opening(name, names, is_raw, is_indented(edge));
+    Ok(Some(BuiltOpening { opening, refused }))
 }
 
 fn value_element(is_escaped: bool, call: Box<HelperTemplate>) -> TemplateElement
@@ -216,7 +187,7 @@ fn add_value(
         return Ok(());
     };
     let refused = line.refused;
-    let call = Box::new(alloc, call(alloc, line))?;
+    let call = Box::new(alloc, line.call())?;
     nesting.add(alloc, at, value_element(is_escaped, call), refused)
 }
 
@@ -253,6 +224,18 @@ fn chain(
     }
 }
 
+fn add_comment(
+    alloc: Global,
+    nesting: &mut Nesting,
+    at: TemplateMapping,
+    text: &str,
+) -> Result<(), AllocError>
+    ensures { OnOk result (Does nesting.old (leaf (place_of at) (comment text.now) 0 None) nesting.new) }
+{
+    let text = TemplateElement::Comment(String::from_str(alloc, text)?);
+    nesting.add(alloc, at, text, None)
+}
+
 /// A tag stands next, at this place and with this edge.
 pub fn take_tag(
     alloc: Global,
@@ -273,9 +256,6 @@ pub fn take_tag(
         Content::Close(name) => nesting.close(alloc, at, false, name),
         Content::RawBlock(block) => begin(alloc, nesting, at, block, true, edge),
         Content::RawClose(name) => nesting.close(alloc, at, true, name),
-        Content::Comment(text) => {
-            let text = TemplateElement::Comment(String::from_str(alloc, text)?);
-            nesting.add(alloc, at, text, None)
-        }
+        Content::Comment(text) => add_comment(alloc, nesting, at, text),
     }
 }

@@ -13,7 +13,7 @@ building-preserved c =
     let bounds = line_bounds (enclosure_of c.args.around) (state_of c.building.state) c.building.rest.now (event_of c.in-Goes.event) (state_of c.in-Goes.next) c.in-Goes.behind.now step in
     record {
       text = search rules;
-      takes = take-goes (enclosure_of c.args.around) c.args.text.now (state_of c.building.state) c.building.rest.now (calls_view c.building.calls) (event_of c.in-Goes.event) (state_of c.in-Goes.next) c.in-Goes.behind.now (calls_view c.in-Some.more) step (rw c.in-Some.is at c.in_ok-more.ensures) c.building.invariant.takes;
+      takes = take-goes (enclosure_of c.args.around) c.args.text.now (state_of c.building.state) c.building.rest.now (calls_view c.building.calls) (event_of c.in-Goes.event) (state_of c.in-Goes.next) c.in-Goes.behind.now (calls_view c.take.new.self) step (rw c.if-not-branch.false at c.in_ok-take-in-Goes.ensures) c.building.invariant.takes;
       within = omega (arith, bounds.level_within, c.building.invariant.within);
     }
 
@@ -27,10 +27,10 @@ returns-in-Stuck c line left l =
     take-stuck (enclosure_of c.args.around) c.args.text.now (state_of c.building.state) c.building.rest.now (calls_view c.building.calls) line left
     (rw c.in-Stuck.is at c.in_ok-event.ensures) c.building.invariant.takes l
 
-pub returns-in_default : goal.returns-in_default
-returns-in_default c line left l =
+pub returns-then-not-branch : goal.returns-then-not-branch
+returns-then-not-branch c line left l =
     take-lost (enclosure_of c.args.around) c.args.text.now (state_of c.building.state) c.building.rest.now (calls_view c.building.calls) (event_of c.in-Goes.event) (state_of c.in-Goes.next) c.in-Goes.behind.now line left
-    (rw c.in-Goes.is at c.in_ok-event.ensures) (rw c.in_default.is at c.in_ok-more.ensures) c.building.invariant.takes l
+    (rw c.in-Goes.is at c.in_ok-event.ensures) (rw c.if-not-branch.true at c.in_ok-take-in-Goes.ensures) c.building.invariant.takes l
 
 pub returns : goal.returns
 returns c line left l =

@@ -8,8 +8,7 @@ use Rattle.handlebars_tags.specs.TrimView.{edge_view}
 use Rattle.handlebars_tags.proofs.OneTag.{one_tag}
 use Rattle.handlebars_template.specs.Place.{behind}
 use Rattle.handlebars_template.specs.TreeView.{place_of}
-use Rattle.handlebars_template.specs.Machine.{complete, unclosed, refused}
-use Rattle.handlebars_template.specs.NestView.{placed_view, frames, late_of, late_fault, syntax_fault}
+use Rattle.handlebars_template.specs.NestView.{placed_view, frames, late_of, syntax_fault, end_view}
 use Rattle.handlebars_template.proofs.Scan.{HasNoLong-behind, Scans-at, Scans-fits, Scans-fits_behind, Scans-step, Scans-end, Compiles-unreadable, Compiles-misplaced, NoTagBehind-none, NoTagBehind-other, IsCharBoundary-seam, IsUtf8-front, length-rest}
 use Rattle.handlebars_template.proofs.template.scan.scan.Goals as goal
 
@@ -118,23 +117,9 @@ tags-preserved c =
           c.tags.invariant.slice_utf8 (IsUtf8-front left f.slice rest f.whole c.tags.invariant.rest_utf8 rest_utf8);
     }
 
-pub returns-in-Whole : goal.returns-in-Whole
-returns-in-Whole c =
+pub returns : goal.returns
+returns c =
     let state = c.add_text-2.new.nesting in
     Scans-end c.tags.invariant.scans (empty c.tags.front.rest.now c.tags-test.ensures) (edge_view c.no_edge.result) c.no_edge.ensures (late_of state) state.depth (frames state) (placed_view state.elements)
     (record { depth = c.in_ok-add_text-2.ensures.depth; frames = c.in_ok-add_text-2.ensures.frames; kept_late = c.in_ok-add_text-2.ensures.late; elements = c.in_ok-add_text-2.ensures.elements })
-    (complete (placed_view c.in-Whole.elements)) (rw c.in-Whole.is at c.finish.ensures)
-
-pub returns-in-NotClosed : goal.returns-in-NotClosed
-returns-in-NotClosed c =
-    let state = c.add_text-2.new.nesting in
-    Scans-end c.tags.invariant.scans (empty c.tags.front.rest.now c.tags-test.ensures) (edge_view c.no_edge.result) c.no_edge.ensures (late_of state) state.depth (frames state) (placed_view state.elements)
-    (record { depth = c.in_ok-add_text-2.ensures.depth; frames = c.in_ok-add_text-2.ensures.frames; kept_late = c.in_ok-add_text-2.ensures.late; elements = c.in_ok-add_text-2.ensures.elements })
-    (unclosed (place_of c.in-NotClosed.at)) (rw c.in-NotClosed.is at c.finish.ensures)
-
-pub returns-in-Late : goal.returns-in-Late
-returns-in-Late c =
-    let state = c.add_text-2.new.nesting in
-    Scans-end c.tags.invariant.scans (empty c.tags.front.rest.now c.tags-test.ensures) (edge_view c.no_edge.result) c.no_edge.ensures (late_of state) state.depth (frames state) (placed_view state.elements)
-    (record { depth = c.in_ok-add_text-2.ensures.depth; frames = c.in_ok-add_text-2.ensures.frames; kept_late = c.in_ok-add_text-2.ensures.late; elements = c.in_ok-add_text-2.ensures.elements })
-    (refused (late_fault c.in-Late.late)) (rw c.in-Late.is at c.finish.ensures)
+    (end_view c.finish.result) c.finish.ensures

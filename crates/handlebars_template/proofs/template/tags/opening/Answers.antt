@@ -11,6 +11,6 @@ pub returns : goal.returns
 returns c line rest is =
     let built = rw c.in-Some.is at c.in_ok-line.ensures _ is.is_line.behind is.is_line.is_line in
     record {
-      opening = said-along _ line.name c.args.is_raw _ _ _ _ _ _ _ _ (c.in_ok-from_str.ensures.ok ∙ sym is.is_name) built.params built.pairs (c.in_ok-block_param.ensures ∙ ap binding_of (sym is.is_binding)) c.is_indented.ensures;
+      opening = c.opening-opening.ensures ∙ said-along _ line.name c.args.is_raw _ _ _ _ _ _ _ _ (c.in_ok-name.ensures.ok ∙ sym is.is_name) built.params built.pairs (c.in_ok-names.ensures ∙ ap binding_of (sym is.is_binding)) c.is_indented.ensures;
       refused = built.refused;
     }

@@ -11,18 +11,18 @@ use Rattle.handlebars_template.proofs.template.nest.Nesting.chain.Goals as goal
 pub returns : goal.returns
 returns c n may =
     let old = c.args.self.now in
+    let new = c.keep.new.self in
     let behind = stack_view c.pop.new.self.items in
-    let front : frames old ≡ frame_view c.in-Some.block ∷ behind =
-    sym c.keep.ensures.frames ∙ search (rules, stack_view_push) in
+    let front : frames old ≡ frame_view c.in-Some.block ∷ behind = search (rules, stack_view_push) in
     let elements : placed_view c.replace-elements.result ≡ placed_view old.elements = search rules in
-    let next : Some (frame_view c.in-Some-2.block) ≡ next_stage (stage_view c.in-Some.block.stage) (frame_view c.in-Some.block) (placed_view old.elements) (in_branch (opening_view c.args.opening)) =
-    (rw c.in-Some-2.is at c.in_ok-block.ensures)
+    let next : Some (frame_view c.enter.new.self) ≡ next_stage (stage_view c.in-Some.block.stage) (frame_view c.in-Some.block) (placed_view old.elements) (in_branch (opening_view c.args.opening)) =
+    (rw c.if-not-branch.false at c.in_ok-enter.ensures)
     ∙ ap (λ (z : List Placed). next_stage (stage_view c.in-Some.block.stage) (frame_view c.in-Some.block) z (in_branch (opening_view c.args.opening))) elements in
-    let more : old.depth < max_nesting → c.one_more-self.result ≡ suc old.depth = rw c.keep.ensures.depth at c.one_more-self.ensures in
-    let stack : stack_view c.push.new.self.items ≡ frame_view c.in-Some-2.block ∷ behind = search (rules, stack_view_push) in
-    let none : placed_view c.replace-elements.new.dest ≡ [] = search rules in
+    let more : old.depth < max_nesting → c.one_more-self.result ≡ suc old.depth = c.one_more-self.ensures in
+    let stack : frames new ≡ frame_view c.enter.new.self ∷ behind = c.keep.ensures.frames ∙ search (rules, stack_view_push) in
+    let none : placed_view new.elements ≡ [] = c.keep.ensures.elements ∙ search rules in
     record {
-      goes_on = chains-goes _ _ n _ old.depth c.one_more-self.result (frame_view c.in-Some.block) (frame_view c.in-Some-2.block) (frames old) behind (placed_view old.elements) front next more may
-          ∙ ap (λ (z : List Frame). goes c.one_more-self.result z []) (sym stack) ∙ ap (goes c.one_more-self.result (stack_view c.push.new.self.items)) (sym none);
+      goes_on = chains-goes _ _ n _ old.depth new.depth (frame_view c.in-Some.block) (frame_view c.enter.new.self) (frames old) behind (placed_view old.elements) front next (rw (c.keep.ensures.depth) more) may
+          ∙ ap (λ (z : List Frame). goes new.depth z []) (sym stack) ∙ ap (goes new.depth (frames new)) (sym none);
       late = c.keep.ensures.late ∙ ap (option_or (late_of old)) c.in_ok-late_literal.ensures;
     }
