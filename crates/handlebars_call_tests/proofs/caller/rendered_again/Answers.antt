@@ -1,6 +1,6 @@
 use Rattle.std.proofs.Common.{◌∙◌, sym, ap}
 use Rattle.handlebars_scope.specs.Put.{join}
-use Rattle.handlebars_render_tests.proofs.caller.rendered_again.Goals as goal
+use Rattle.handlebars_call_tests.proofs.caller.rendered_again.Goals as goal
 
 pub returns : goal.returns
 returns g c =
