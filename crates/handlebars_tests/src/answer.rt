@@ -1,52 +1,97 @@
-//! What a row answers.
+//! What a rendering answers.
 
-ghost use Rattle.std.specs.Prelude.{◌≡◌, IsTrue};
+ghost use Rattle.std.specs.Prelude.{◌≡◌, IsTrue, IfSome, Some, option_map, string_bytes};
 ghost use Rattle.handlebars_tests.specs.Outcomes.{outcome_view, handed_of, handed_out};
 
+use crate::bounded::Bounded;
+use crate::helpers::helper_named;
 use crate::outcome::{Outcome, Refusal};
-use crate::row::{Rendered, Row, helper_named};
+use crate::rendering::{Rendered, Rendering};
+use crate::told::{Told, Wanted};
 use handlebars::{
     Context, HelperEntry, JsonValue, NoFiles, Registry, RenderContext, RenderError,
-    RenderErrorReason, Renderable, StringOutput, Template,
+    RenderErrorReason, Renderable, Template,
 };
-use log::sink::Discard;
+use log::sink::Memory;
 use serde_json::Map;
 use std::alloc::{AllocError, Global};
+use std::fmt;
 
 /// What a row comes to, in each of the two ways to render it.
 #[derive(Drop)]
 pub struct Answer {
-    /// What the registry hands out: the whole text, or none of it.
-    pub registry: Result<String, Refusal>,
+    /// What the registry hands out; it isn't asked where the output is bounded.
+    pub registry: Option<Handed>,
     /// What the template writes.
-    pub template: Outcome,
+    pub template: Written,
+}
+
+/// The whole text, or none of it.
+#[derive(Drop)]
+pub struct Handed {
+    pub text: Result<String, Refusal>,
+    pub told: Told,
+}
+
+/// The text up to the end, or up to the refusal.
+#[derive(Drop)]
+pub struct Written {
+    pub outcome: Outcome,
+    pub told: Told,
 }
 
 impl Answer {
     /// Renders a row.
-    pub fn of(alloc: Global, row: &Row) -> Result<Answer, AllocError> {
-        let registry = match registry_text(alloc, row) {
+    pub fn of(alloc: Global, row: &Rendering) -> Result<Answer, AllocError> {
+        let registry = match row.takes {
+            Some(_) => None,
+            None => Some(Handed::of(alloc, row)?),
+        };
+        let template = Written::of(alloc, row)?;
+        Ok(Answer { registry, template })
+    }
+
+    /// Whether both ways come to what is wanted.
+    pub fn comes_to(&self, wanted: &Wanted) -> bool
+        ensures template { IsTrue result
+            → outcome_view self.now.template.outcome ≡ outcome_view wanted.now.outcome }
+        ensures registry { IsTrue result → IfSome self.now.registry
+            (λ handed. handed_of handed.text ≡ handed_out (outcome_view wanted.now.outcome)) }
+        ensures printed { IsTrue result → IfSome wanted.now.printed
+            (λ text. option_map string_bytes self.now.template.told.printed ≡ Some (string_bytes text)) }
+    {
+        all_handed_out(&self.registry, wanted) && self.template.comes_to(wanted)
+    }
+}
+
+fn all_handed_out(registry: &Option<Handed>, wanted: &Wanted) -> bool
+    ensures { IsTrue result → IfSome registry.now
+        (λ handed. handed_of handed.text ≡ handed_out (outcome_view wanted.now.outcome)) }
+{
+    match registry {
+        Some(handed) => handed.comes_to(wanted),
+        None => true,
+    }
+}
+
+impl Handed {
+    fn of(alloc: Global, row: &Rendering) -> Result<Handed, AllocError> {
+        let log = Memory::new(alloc);
+        let answer = registry_text(alloc, row, &log);
+        let told = Told::of(alloc, &answer, log)?;
+        let text = match answer {
             Ok(text) => Ok(text),
             Err(error) => Err(Refusal::of(alloc, &error)?),
         };
-        let mut out = StringOutput::new(alloc);
-        let refusal = match write_template(alloc, row, &mut out) {
-            Ok(()) => None,
-            Err(error) => Some(Refusal::of(alloc, &error)?),
-        };
-        let text = out.into_string();
-        Ok(Answer {
-            registry,
-            template: Outcome { text, refusal },
-        })
+        Ok(Handed { text, told })
     }
 
-    /// Whether both ways come to the outcome.
-    pub fn comes_to(&self, wanted: &Outcome) -> bool
-        ensures template { IsTrue result → outcome_view self.now.template ≡ outcome_view wanted.now }
-        ensures registry { IsTrue result → handed_of self.now.registry ≡ handed_out (outcome_view wanted.now) }
+    fn comes_to(&self, wanted: &Wanted) -> bool
+        ensures text { IsTrue result → handed_of self.now.text ≡ handed_out (outcome_view wanted.now.outcome) }
+        ensures printed { IsTrue result → IfSome wanted.now.printed
+            (λ text. option_map string_bytes self.now.told.printed ≡ Some (string_bytes text)) }
     {
-        hands_out(&self.registry, wanted) && self.template.equals(wanted)
+        hands_out(&self.text, &wanted.outcome) && self.told.comes_to(wanted)
     }
 }
 
@@ -61,9 +106,35 @@ fn hands_out(handed: &Result<String, Refusal>, wanted: &Outcome) -> bool
     }
 }
 
+impl Written {
+    fn of(alloc: Global, row: &Rendering) -> Result<Written, AllocError> {
+        let log = Memory::new(alloc);
+        let mut out = Bounded::new(alloc, row.takes.unwrap_or(usize::MAX), row.fault);
+        let answer = write_template(alloc, row, &mut out, &log);
+        let told = Told::of(alloc, &answer, log)?;
+        let refusal = match &answer {
+            Ok(()) => None,
+            Err(error) => Some(Refusal::of(alloc, error)?),
+        };
+        let text = out.into_string();
+        Ok(Written {
+            outcome: Outcome { text, refusal },
+            told,
+        })
+    }
+
+    fn comes_to(&self, wanted: &Wanted) -> bool
+        ensures outcome { IsTrue result → outcome_view self.now.outcome ≡ outcome_view wanted.now.outcome }
+        ensures printed { IsTrue result → IfSome wanted.now.printed
+            (λ text. option_map string_bytes self.now.told.printed ≡ Some (string_bytes text)) }
+    {
+        self.outcome.equals(&wanted.outcome) && self.told.comes_to(wanted)
+    }
+}
+
 // What the row registers, in byte order of name: helpers, then templates. A template that doesn't compile refuses the
 // row.
-fn registry_of(alloc: Global, row: &Row) -> Result<Registry, RenderError> {
+fn registry_of(alloc: Global, row: &Rendering) -> Result<Registry, RenderError> {
     let mut registry = Registry::new(alloc)?;
     if let Some(helpers) = &row.helpers {
         register_helpers(&mut registry, helpers)?;
@@ -92,45 +163,71 @@ fn register_helpers(
     Ok(())
 }
 
-fn registry_text(alloc: Global, row: &Row) -> Result<String, RenderError> {
+fn registry_text(alloc: Global, row: &Rendering, log: &Memory) -> Result<String, RenderError> {
     let registry = registry_of(alloc, row)?;
     let data = Context::try_from(row.data.clone()?)?;
     match &row.rendered {
-        Rendered::Source(source) => registry.render_template_with_context(
-            source.as_str(),
-            &data,
-            &Discard,
-            &mut NoFiles,
-        ),
+        Rendered::Source(source) => {
+            registry.render_template_with_context(source.as_str(), &data, log, &mut NoFiles)
+        }
         Rendered::Name(name) => {
-            registry.render_with_context(name.as_str(), &data, &Discard, &mut NoFiles)
+            registry.render_with_context(name.as_str(), &data, log, &mut NoFiles)
         }
     }
 }
 
-fn write_template(alloc: Global, row: &Row, out: &mut StringOutput) -> Result<(), RenderError> {
+fn write_template(
+    alloc: Global,
+    row: &Rendering,
+    out: &mut Bounded,
+    log: &Memory,
+) -> Result<(), RenderError> {
     let registry = registry_of(alloc, row)?;
     let data = Context::try_from(row.data.clone()?)?;
     match &row.rendered {
         Rendered::Source(source) => {
             let template = Template::compile(alloc, source.as_str())?;
-            write_tree(alloc, &registry, &template, &data, out)
+            write_tree(alloc, &registry, &template, &data, out, log)
         }
         Rendered::Name(name) => match registry.get_template(name.as_str()) {
-            Some(template) => write_tree(alloc, &registry, template, &data, out),
+            Some(template) => write_tree(alloc, &registry, template, &data, out, log),
             None => Err(RenderErrorReason::TemplateNotFound(name.clone()?).into()),
         },
     }
 }
 
+// Where the context doesn't tell of a refusal, or an output is asked again that has refused a segment, this is another
+// refusal, which no row wants.
 fn write_tree(
     alloc: Global,
     registry: &Registry,
     template: &Template,
     data: &Context,
-    out: &mut StringOutput,
+    out: &mut Bounded,
+    log: &Memory,
 ) -> Result<(), RenderError> {
     let mut rc = RenderContext::new(alloc, template.name.as_ref())?;
     rc.set_recursive_lookup(registry.recursive_lookup());
-    template.render(alloc, registry, data, &mut rc, out, &Discard)
+    let answer = template.render(alloc, registry, data, &mut rc, out, log);
+    let failed = answer.is_err();
+    if rc.has_failed() == failed && out.refused() <= u64::from(failed) {
+        answer
+    } else {
+        Err(RenderError::new(alloc, "not told, or asked again"))
+    }
+}
+
+impl fmt::Display for Answer {
+    fn fmt<W: fmt::Write>(&self, f: &mut fmt::Formatter<W>) -> fmt::Result {
+        if let Some(handed) = &self.registry {
+            let told = &handed.told;
+            match &handed.text {
+                Ok(text) => writeln!(f, "    registry: {text:?}{told}")?,
+                Err(refusal) => writeln!(f, "    registry: {refusal}{told}")?,
+            }
+        }
+        let outcome = &self.template.outcome;
+        let told = &self.template.told;
+        write!(f, "    template: {outcome}{told}")
+    }
 }

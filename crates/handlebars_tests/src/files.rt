@@ -64,7 +64,7 @@ pub fn rows<R: Files + AllocGlobal>(rt: &R, path: &str) -> Result<Vec<Row>, Fail
     let mut rows = Vec::new(rt.alloc());
     for (index, value) in values.into_iter().enumerate() {
         let number = index.saturating_add(1);
-        let row = Row::try_from(value).map_err(|cause| Failure::NoRow(number, cause))?;
+        let row = Row::read(rt.alloc(), value).map_err(|cause| Failure::NoRow(number, cause))?;
         rows.push(row)?;
     }
     Ok(rows)

@@ -1,13 +1,20 @@
-//! `handlebars_tests [FILE ..]`: renders the rows of files, and tells which differ from what is wanted. A folder stands
-//! for its `.json` files, and `data` is run where no word is given. `docs/ROWS.md` has the format.
+//! `handlebars_tests [FILE ..]`: runs the rows of files, and tells which differ from what is wanted. A folder stands for
+//! its `.json` files, and `data` is run where no word is given. `docs/ROWS.md` has the format.
 #![tactic(auto)]
 
 mod answer;
+mod bounded;
+mod call;
+mod calls;
 mod failure;
+mod fields;
 mod files;
+mod helpers;
 mod outcome;
+mod rendering;
 mod row;
 mod run;
+mod told;
 
 use run::run;
 use std::process::ExitCode;

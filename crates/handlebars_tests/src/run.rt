@@ -1,8 +1,10 @@
 //! A run of the program.
 
 use crate::answer::Answer;
+use crate::call::{Call, Reply};
 use crate::failure::Failure;
 use crate::files::{file_paths, rows, words};
+use crate::rendering::Rendering;
 use crate::row::Row;
 use std::alloc::{AllocError, Global};
 use std::fmt;
@@ -58,14 +60,46 @@ fn run_file<R: Files + Print + AllocGlobal>(rt: &R, path: &str) -> Result<bool, 
 struct Difference {
     number: usize,
     row: Row,
-    answer: Answer,
+    answer: Answered,
+}
+
+// What a row comes to.
+#[derive(Drop)]
+enum Answered {
+    Rendering(Answer),
+    Call(Reply),
+}
+
+impl Answered {
+    // What the row comes to, if that isn't what it wants.
+    fn otherwise(alloc: Global, row: &Row) -> Result<Option<Answered>, AllocError> {
+        match row {
+            Row::Rendering(rendering) => of_rendering(alloc, rendering),
+            Row::Call(call) => of_call(alloc, call),
+        }
+    }
+}
+
+fn of_rendering(alloc: Global, row: &Rendering) -> Result<Option<Answered>, AllocError> {
+    let answer = Answer::of(alloc, row)?;
+    if answer.comes_to(&row.wanted) {
+        return Ok(None);
+    }
+    Ok(Some(Answered::Rendering(answer)))
+}
+
+fn of_call(alloc: Global, call: &Call) -> Result<Option<Answered>, AllocError> {
+    let reply = call.reply(alloc)?;
+    if reply.equals(&call.wanted) {
+        return Ok(None);
+    }
+    Ok(Some(Answered::Call(reply)))
 }
 
 fn differences(alloc: Global, rows: Vec<Row>) -> Result<Vec<Difference>, AllocError> {
     let mut differences = Vec::new(alloc);
     for (index, row) in rows.into_iter().enumerate() {
-        let answer = Answer::of(alloc, &row)?;
-        if !answer.comes_to(&row.wanted) {
+        if let Some(answer) = Answered::otherwise(alloc, &row)? {
             let number = index.saturating_add(1);
             differences.push(Difference {
                 number,
@@ -80,15 +114,17 @@ fn differences(alloc: Global, rows: Vec<Row>) -> Result<Vec<Difference>, AllocEr
 impl fmt::Display for Difference {
     fn fmt<W: fmt::Write>(&self, f: &mut fmt::Formatter<W>) -> fmt::Result {
         let number = self.number;
-        let rendered = &self.row.rendered;
-        let wanted = &self.row.wanted;
-        let template = &self.answer.template;
-        writeln!(f, "  row {number}: {rendered}")?;
-        writeln!(f, "    wanted:   {wanted}")?;
-        match &self.answer.registry {
-            Ok(text) => writeln!(f, "    registry: {text:?}")?,
-            Err(refusal) => writeln!(f, "    registry: {refusal}")?,
+        let row = &self.row;
+        writeln!(f, "  row {number}: {row}")?;
+        match (row, &self.answer) {
+            (Row::Rendering(row), Answered::Rendering(answer)) => {
+                write!(f, "{}{answer}", row.wanted)
+            }
+            (Row::Call(call), Answered::Call(reply)) => {
+                let wanted = &call.wanted;
+                write!(f, "    wanted:   {wanted}\n    answered: {reply}")
+            }
+            _ => Ok(()),
         }
-        write!(f, "    template: {template}")
     }
 }

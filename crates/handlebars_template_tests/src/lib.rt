@@ -1,5 +1,0 @@
-//! Tests of paths, lines, literals, values, errors and trees.
-#![tactic(auto)]
-
-#[cfg(test)]
-mod tests;

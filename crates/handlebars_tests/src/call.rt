@@ -1,0 +1,178 @@
+//! Rows that ask one call.
+
+use crate::calls::{TextCall, ValueCall};
+use crate::fields;
+use crate::row::RowFailure;
+use handlebars::JsonValue;
+use serde_json::Map;
+use std::alloc::Global;
+use std::fmt;
+
+/// What is asked of a call, and what it is to answer.
+pub struct Call {
+    /// The call's name.
+    pub call: String,
+    pub asked: Asked,
+    /// The name that the call takes.
+    pub name: Option<String>,
+    pub data: JsonValue,
+    pub wanted: Reply,
+}
+
+impl Drop for Call {
+    fn drop(self) {
+        let Call {
+            call: _,
+            asked: _,
+            name: _,
+            data: _,
+            wanted: _,
+        } = self;
+    }
+}
+
+/// A call, and what it is asked of.
+#[derive(Debug, Drop)]
+pub enum Asked {
+    Text(TextCall, String),
+    Value(ValueCall, JsonValue),
+}
+
+/// What a call answers, printed.
+#[derive(PartialEq, Drop)]
+pub enum Reply {
+    Gives(String),
+    /// The whole text of the error.
+    Prints(String),
+}
+
+impl Reply {
+    ghost use Rattle.std.specs.Prelude.{◌≡◌, IsTrue};
+    ghost use Rattle.handlebars_tests.specs.Outcomes.{reply_view};
+
+    /// Whether both are one reply.
+    pub fn equals(&self, wanted: &Reply) -> bool
+        ensures { IsTrue result → reply_view self.now ≡ reply_view wanted.now }
+    {
+        match (self, wanted) {
+            (Reply::Gives(own), Reply::Gives(wanted)) => *own == *wanted,
+            (Reply::Prints(own), Reply::Prints(wanted)) => *own == *wanted,
+            _ => false,
+        }
+    }
+}
+
+impl fmt::Display for Reply {
+    fn fmt<W: fmt::Write>(&self, f: &mut fmt::Formatter<W>) -> fmt::Result {
+        match self {
+            Reply::Gives(text) => write!(f, "gives {text:?}"),
+            Reply::Prints(text) => write!(f, "prints {text:?}"),
+        }
+    }
+}
+
+impl fmt::Display for Call {
+    fn fmt<W: fmt::Write>(&self, f: &mut fmt::Formatter<W>) -> fmt::Result {
+        let call = &self.call;
+        match &self.asked {
+            Asked::Text(_, text) => write!(f, "{call} of {text:?}"),
+            Asked::Value(_, value) => write!(f, "{call} of {value:?}"),
+        }
+    }
+}
+
+impl Call {
+    /// The row of an object's members.
+    pub fn read(alloc: Global, members: Map<String, JsonValue>) -> Result<Call, RowFailure> {
+        let mut fields = Fields::default();
+        for (name, value) in members {
+            fields.take(alloc, name, value)?;
+        }
+        fields.into_call(alloc)
+    }
+}
+
+// The fields that the object has.
+#[derive(Default)]
+struct Fields {
+    call: Option<String>,
+    of: Option<JsonValue>,
+    name: Option<String>,
+    data: JsonValue,
+    gives: Option<String>,
+    printed: Option<String>,
+}
+
+impl Drop for Fields {
+    fn drop(self) {
+        let Fields {
+            call: _,
+            of: _,
+            name: _,
+            data: _,
+            gives: _,
+            printed: _,
+        } = self;
+    }
+}
+
+impl Fields {
+    fn take(&mut self, alloc: Global, name: String, value: JsonValue) -> Result<(), RowFailure> {
+        match name.as_str() {
+            "call" => self.call = Some(fields::text(alloc, name, value)?),
+            "of" => self.of = Some(value),
+            "name" => self.name = Some(fields::text(alloc, name, value)?),
+            "data" => self.data = value,
+            "gives" => self.gives = Some(fields::text(alloc, name, value)?),
+            "printed" => self.printed = Some(fields::text(alloc, name, value)?),
+            _ => return Err(RowFailure::UnknownField(name)),
+        }
+        Ok(())
+    }
+
+    fn into_call(self, alloc: Global) -> Result<Call, RowFailure> {
+        let mut fields = self;
+        let call = fields.call.take().ok_or(RowFailure::Missing("call"))?;
+        let of = fields.of.take().ok_or(RowFailure::Missing("of"))?;
+        let asked = call_asked(alloc, call.as_str(), of)?;
+        let wanted = wanted(fields.gives.take(), fields.printed.take())?;
+        Ok(fields.call(call, asked, wanted))
+    }
+
+    fn call(self, call: String, asked: Asked, wanted: Reply) -> Call {
+        let Fields {
+            call: _,
+            of: _,
+            name,
+            data,
+            gives: _,
+            printed: _,
+        } = self;
+        Call {
+            call,
+            asked,
+            name,
+            data,
+            wanted,
+        }
+    }
+}
+
+fn call_asked(alloc: Global, call: &str, of: JsonValue) -> Result<Asked, RowFailure> {
+    if let Some(call) = TextCall::named(call) {
+        let text = fields::text(alloc, String::from_str(alloc, "of")?, of)?;
+        return Ok(Asked::Text(call, text));
+    }
+    match ValueCall::named(call) {
+        Some(call) => Ok(Asked::Value(call, of)),
+        None => Err(RowFailure::UnknownCall(String::from_str(alloc, call)?)),
+    }
+}
+
+fn wanted(gives: Option<String>, printed: Option<String>) -> Result<Reply, RowFailure> {
+    match (gives, printed) {
+        (Some(text), None) => Ok(Reply::Gives(text)),
+        (None, Some(text)) => Ok(Reply::Prints(text)),
+        _ => Err(RowFailure::NoReply),
+    }
+}

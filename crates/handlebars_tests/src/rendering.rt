@@ -1,0 +1,241 @@
+//! Rows that render a template.
+
+use crate::fields;
+use crate::outcome::{Outcome, Refusal};
+use crate::row::RowFailure;
+use crate::told::Wanted;
+use handlebars::JsonValue;
+use serde_json::Map;
+use std::alloc::Global;
+use std::fmt;
+use std::io::ErrorKind;
+
+/// What is rendered over what, and what is wanted of it.
+pub struct Rendering {
+    /// Names and sources, which are texts.
+    pub templates: Option<Map<String, JsonValue>>,
+    /// Names and built-in helpers, which are texts; a name with null has none.
+    pub helpers: Option<Map<String, JsonValue>>,
+    /// Whether the mode is strict.
+    pub strict: bool,
+    /// Whether lookup is recursive.
+    pub recursive: bool,
+    pub rendered: Rendered,
+    pub data: JsonValue,
+    /// How many bytes the output takes, if not all.
+    pub takes: Option<usize>,
+    /// The fault of the output when it takes no more.
+    pub fault: ErrorKind,
+    pub wanted: Wanted,
+}
+
+impl Drop for Rendering {
+    fn drop(self) {
+        let Rendering {
+            templates: _,
+            helpers: _,
+            strict: _,
+            recursive: _,
+            rendered: _,
+            data: _,
+            takes: _,
+            fault: _,
+            wanted: _,
+        } = self;
+    }
+}
+
+/// What a row renders.
+#[derive(Drop)]
+pub enum Rendered {
+    Source(String),
+    /// The registered template of that name.
+    Name(String),
+}
+
+impl fmt::Display for Rendered {
+    fn fmt<W: fmt::Write>(&self, f: &mut fmt::Formatter<W>) -> fmt::Result {
+        match self {
+            Rendered::Source(source) => write!(f, "{source:?}"),
+            Rendered::Name(name) => write!(f, "template {name:?}"),
+        }
+    }
+}
+
+impl Rendering {
+    /// The row of an object's members.
+    pub fn read(alloc: Global, members: Map<String, JsonValue>) -> Result<Rendering, RowFailure> {
+        let mut fields = Fields::default();
+        for (name, value) in members {
+            fields.take(alloc, name, value)?;
+        }
+        fields.into_rendering()
+    }
+}
+
+// The fields that the object has.
+#[derive(Default)]
+struct Fields {
+    templates: Option<Map<String, JsonValue>>,
+    helpers: Option<Map<String, JsonValue>>,
+    strict: bool,
+    recursive: bool,
+    source: Option<String>,
+    name: Option<String>,
+    data: Option<JsonValue>,
+    takes: Option<usize>,
+    fault: Option<ErrorKind>,
+    text: Option<String>,
+    reason: Option<String>,
+    line: Option<usize>,
+    column: Option<usize>,
+    template: Option<String>,
+    printed: Option<String>,
+    logged: Option<Vec<JsonValue>>,
+}
+
+impl Drop for Fields {
+    fn drop(self) {
+        let Fields {
+            templates: _,
+            helpers: _,
+            strict: _,
+            recursive: _,
+            source: _,
+            name: _,
+            data: _,
+            takes: _,
+            fault: _,
+            text: _,
+            reason: _,
+            line: _,
+            column: _,
+            template: _,
+            printed: _,
+            logged: _,
+        } = self;
+    }
+}
+
+impl Fields {
+    fn take(&mut self, alloc: Global, name: String, value: JsonValue) -> Result<(), RowFailure> {
+        match name.as_str() {
+            "templates" => self.templates = Some(fields::texts(name, value)?),
+            "helpers" => self.helpers = Some(fields::helpers(name, value)?),
+            "strict" => self.strict = fields::boolean(name, &value)?,
+            "recursive" => self.recursive = fields::boolean(name, &value)?,
+            "source" => self.source = Some(fields::text(alloc, name, value)?),
+            "name" => self.name = Some(fields::text(alloc, name, value)?),
+            "data" => self.set_data(value)?,
+            "json" => self.set_data(fields::json(alloc, name, value)?)?,
+            "takes" => self.takes = Some(fields::number(name, &value)?),
+            "fault" => self.fault = Some(fields::fault(name, &value)?),
+            _ => return self.take_wanted(alloc, name, value),
+        }
+        Ok(())
+    }
+
+    fn set_data(&mut self, value: JsonValue) -> Result<(), RowFailure> {
+        if self.data.is_some() {
+            return Err(RowFailure::TwoData);
+        }
+        self.data = Some(value);
+        Ok(())
+    }
+
+    fn take_wanted(
+        &mut self,
+        alloc: Global,
+        name: String,
+        value: JsonValue,
+    ) -> Result<(), RowFailure> {
+        match name.as_str() {
+            "text" => self.text = Some(fields::text(alloc, name, value)?),
+            "reason" => self.reason = Some(fields::text(alloc, name, value)?),
+            "line" => self.line = Some(fields::number(name, &value)?),
+            "column" => self.column = Some(fields::number(name, &value)?),
+            "template" => self.template = Some(fields::text(alloc, name, value)?),
+            "printed" => self.printed = Some(fields::text(alloc, name, value)?),
+            "logged" => self.logged = Some(fields::lines(name, value)?),
+            _ => return Err(RowFailure::UnknownField(name)),
+        }
+        Ok(())
+    }
+
+    // What only stands beside another field.
+    fn check(&self) -> Result<(), RowFailure> {
+        if self.reason.is_none() && self.tells_of_refusal() {
+            return Err(RowFailure::NoReason);
+        }
+        if self.takes.is_none() && self.fault.is_some() {
+            return Err(RowFailure::NoOutput);
+        }
+        Ok(())
+    }
+
+    fn tells_of_refusal(&self) -> bool {
+        self.line.is_some()
+            || self.column.is_some()
+            || self.template.is_some()
+            || self.printed.is_some()
+    }
+
+    fn into_rendering(self) -> Result<Rendering, RowFailure> {
+        let mut fields = self;
+        fields.check()?;
+        let rendered = template_of(fields.source.take(), fields.name.take())?;
+        let text = fields.text.take().ok_or(RowFailure::Missing("text"))?;
+        Ok(fields.rendering(rendered, text))
+    }
+
+    // Of fields that may stand together.
+    fn rendering(self, rendered: Rendered, text: String) -> Rendering {
+        let Fields {
+            templates,
+            helpers,
+            strict,
+            recursive,
+            source: _,
+            name: _,
+            data,
+            takes,
+            fault,
+            text: _,
+            reason,
+            line,
+            column,
+            template,
+            printed,
+            logged,
+        } = self;
+        let refusal = reason.map(|reason| Refusal {
+            reason,
+            line,
+            column,
+            template,
+        });
+        Rendering {
+            templates,
+            helpers,
+            strict,
+            recursive,
+            rendered,
+            data: data.unwrap_or(JsonValue::Null),
+            takes,
+            fault: fault.unwrap_or(ErrorKind::NotFound),
+            wanted: Wanted {
+                outcome: Outcome { text, refusal },
+                printed,
+                logged,
+            },
+        }
+    }
+}
+
+fn template_of(source: Option<String>, name: Option<String>) -> Result<Rendered, RowFailure> {
+    match (source, name) {
+        (Some(source), None) => Ok(Rendered::Source(source)),
+        (None, Some(name)) => Ok(Rendered::Name(name)),
+        _ => Err(RowFailure::NoTemplate),
+    }
+}

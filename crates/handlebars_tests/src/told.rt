@@ -1,0 +1,130 @@
+//! What a rendering tells beside its outcome, and what is wanted of all of it.
+
+ghost use Rattle.std.specs.Prelude.{◌≡◌, IsTrue, IfSome, Some, option_map, string_bytes};
+
+use crate::fields::line;
+use crate::outcome::Outcome;
+use handlebars::{JsonValue, RenderError};
+use log::sink::{Lines, Memory};
+use std::alloc::{AllocError, Global};
+use std::fmt;
+
+/// What is wanted of a rendering.
+#[derive(Drop)]
+pub struct Wanted {
+    pub outcome: Outcome,
+    /// The whole text of the error, if that is wanted.
+    pub printed: Option<String>,
+    /// The lines that the logger sees, each a level and a text, if they are wanted.
+    pub logged: Option<Vec<JsonValue>>,
+}
+
+/// The whole text of the error, if there is one, and the lines that the logger saw.
+#[derive(Drop)]
+pub struct Told {
+    pub printed: Option<String>,
+    pub lines: Lines,
+}
+
+impl Told {
+    /// What a rendering told that ended so.
+    pub fn of<T>(
+        alloc: Global,
+        answer: &Result<T, RenderError>,
+        log: Memory,
+    ) -> Result<Told, AllocError> {
+        let printed = printed(alloc, answer)?;
+        Ok(Told {
+            printed,
+            lines: log.into_lines(),
+        })
+    }
+
+    /// Whether it is what is wanted, as far as anything is.
+    pub fn comes_to(&self, wanted: &Wanted) -> bool
+        ensures { IsTrue result → IfSome wanted.now.printed
+            (λ text. option_map string_bytes self.now.printed ≡ Some (string_bytes text)) }
+    {
+        prints(&self.printed, &wanted.printed) && logs(self.lines.as_slice(), &wanted.logged)
+    }
+}
+
+fn printed<T>(
+    alloc: Global,
+    answer: &Result<T, RenderError>,
+) -> Result<Option<String>, AllocError> {
+    match answer {
+        Ok(_) => Ok(None),
+        Err(error) => Ok(Some(error.to_string(alloc)?)),
+    }
+}
+
+fn prints(printed: &Option<String>, wanted: &Option<String>) -> bool
+    ensures { IsTrue result → IfSome wanted.now
+        (λ text. option_map string_bytes printed.now ≡ Some (string_bytes text)) }
+{
+    match (printed, wanted) {
+        (_, None) => true,
+        (Some(printed), Some(wanted)) => *printed == *wanted,
+        (None, Some(_)) => false,
+    }
+}
+
+fn logs(lines: &[String], wanted: &Option<Vec<JsonValue>>) -> bool {
+    match wanted {
+        None => true,
+        Some(wanted) => {
+            lines.len() == wanted.len()
+                && lines
+                    .iter()
+                    .zip(wanted.iter())
+                    .all(|(line, wanted)| shows(line.as_str(), wanted))
+        }
+    }
+}
+
+// A line of the logger begins with its level, and ends with the text.
+fn shows(logged: &str, wanted: &JsonValue) -> bool {
+    match line(wanted) {
+        Some((level, text)) => match logged.strip_prefix("[") {
+            Some(rest) => rest.starts_with(level) && ends_behind_bracket(rest, text),
+            None => false,
+        },
+        None => false,
+    }
+}
+
+fn ends_behind_bracket(logged: &str, text: &str) -> bool {
+    match logged.strip_suffix(text) {
+        Some(front) => front.ends_with("] "),
+        None => false,
+    }
+}
+
+impl fmt::Display for Told {
+    fn fmt<W: fmt::Write>(&self, f: &mut fmt::Formatter<W>) -> fmt::Result {
+        if let Some(text) = &self.printed {
+            write!(f, "\n      printed: {text:?}")?;
+        }
+        for line in self.lines.as_slice() {
+            write!(f, "\n      logged: {line:?}")?;
+        }
+        Ok(())
+    }
+}
+
+impl fmt::Display for Wanted {
+    fn fmt<W: fmt::Write>(&self, f: &mut fmt::Formatter<W>) -> fmt::Result {
+        let outcome = &self.outcome;
+        writeln!(f, "    wanted:   {outcome}")?;
+        if let Some(text) = &self.printed {
+            writeln!(f, "      printed: {text:?}")?;
+        }
+        if let Some(lines) = &self.logged {
+            for line in lines {
+                writeln!(f, "      logged: {line}")?;
+            }
+        }
+        Ok(())
+    }
+}
