@@ -128,7 +128,7 @@ pub fn helped_value<'a, P: Registered>(
     let helper = call.in_parentheses();
     match helper_for(setting.parts, false, helper.name()) {
         Some(kind) => match choose(setting.alloc, setting.parts.strict(), kind, &helper) {
-            Ok(choice) => chosen_value(setting, choice),
+            Ok(choice) => chosen_value(setting, &choice),
             Err(e) => Err(e),
         },
         None => Err(helper_not_found(setting.alloc, helper.name())),
@@ -138,19 +138,19 @@ pub fn helped_value<'a, P: Registered>(
 // The value that is chosen, or the text that another choice writes in parentheses.
 fn chosen_value<'a, P: Registered>(
     setting: &Setting<P>,
-    choice: Choice,
+    choice: &Choice,
 ) -> Result<ScopedJson<'a>, RenderError>
-    ensures value { IfOk result (λ found. found_of found ≡ value (unwrap_or (value_in (choice_of choice.entry)) (string []))) }
+    ensures value { IfOk result (λ found. found_of found ≡ value (unwrap_or (value_in (choice_of choice.now)) (string []))) }
     ensures memory { IfErr result (λ e. reason_in e ≡ out_of_memory) }
     ensures constant { IfOk result (λ found. is_constant found ≡ false) }
 {
     match choice {
-        Choice::Value(Some(value)) => Ok(ScopedJson::Derived(value.clone()?)),
+        Choice::Value(Some(value)) => Ok(ScopedJson::Derived((*value).clone()?)),
         Choice::Value(None) => Ok(ScopedJson::Derived(Json::Null)),
-        Choice::Count(count) => Ok(ScopedJson::Derived(Json::Number(Number::from(count)))),
-        Choice::Word(word) => Ok(ScopedJson::Derived(Json::Bool(word))),
+        Choice::Count(count) => Ok(ScopedJson::Derived(Json::Number(Number::from(*count)))),
+        Choice::Word(word) => Ok(ScopedJson::Derived(Json::Bool(*word))),
         Choice::Line(level, text) => {
-            setting.parts.log(level, text.as_str());
+            setting.parts.log(*level, text.as_str());
             Ok(empty_text(setting.alloc))
         }
         Choice::Body => Ok(empty_text(setting.alloc)),
