@@ -1,6 +1,6 @@
 //! What a rendering answers.
 
-ghost use Rattle.std.specs.Prelude.{◌≡◌, IsTrue, IfSome, Some, option_map, string_bytes};
+ghost use Rattle.std.specs.Prelude.{◌≡◌, IfOk, IsTrue, IfSome, Some, is_some, not, option_map, string_bytes};
 ghost use Rattle.handlebars_tests.specs.Outcomes.{outcome_view, handed_of, handed_out};
 
 use crate::bounded::Bounded;
@@ -41,8 +41,10 @@ pub struct Written {
 }
 
 impl Answer {
-    /// Renders a row.
-    pub fn of(alloc: Global, row: &Rendering) -> Result<Answer, AllocError> {
+    /// Renders a row: in the registry's way unless the output is bounded, and always in the template's.
+    pub fn of(alloc: Global, row: &Rendering) -> Result<Answer, AllocError>
+        ensures asked { IfOk result (λ answer. is_some answer.registry ≡ not (is_some row.now.takes)) }
+    {
         let registry = match row.takes {
             Some(_) => None,
             None => Some(Handed::of(alloc, row)?),
