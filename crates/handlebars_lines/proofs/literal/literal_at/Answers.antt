@@ -1,8 +1,8 @@
-use Rattle.std.proofs.Common.{rules, arith, refl, sym, ◌&&◌, ◌∙◌, ap, ◌≡◌, ◌+◌, ◌≤◌, length, suc, ◌-◌, ℕ, List, [], ◌∷◌, Some, take, vec_len, length-append}
+use Rattle.std.proofs.Common.{rules, arith, refl, sym, ◌&&◌, ◌∙◌, ap, ◌≡◌, ◌+◌, ◌≤◌, length, suc, ◌-◌, ℕ, List, [], ◌∷◌, take, vec_len, length-append}
 use Rattle.std.proofs.lemmas.List.{length-take}
 use Rattle.handlebars_lines.specs.Runs.{goes}
 use Rattle.handlebars_lines.specs.Literal.{Bracket}
-use Rattle.handlebars_lines.specs.LiteralReading.{outer, opens, reads, Slice, atom, hollow, opening, next, shutting, finished, misfit, ahead, behind}
+use Rattle.handlebars_lines.specs.LiteralReading.{outer, opens, reads, atom, hollow, opening, next, shutting, finished, misfit, ahead, behind}
 use Rattle.handlebars_lines.specs.LiteralView.{bracket_of, stack_of, place_of}
 use Rattle.handlebars_lines.proofs.LiteralsFound.{step_shorter, and_true}
 use Rattle.handlebars_lines.proofs.LiteralLoop.{stack-push, stack-pop, stack-length, loop_step, Holds, loop_goes, loop_ends, ends_within, loop_misfit}
