@@ -2,13 +2,13 @@
 use Rattle.std.proofs.Common.{◌≡◌, ℕ, zero, suc, ◌+◌, ◌-◌, ◌<◌, ◌≤◌, Bool, true, false, ◌&&◌, List, [], ◌∷◌, ◌++◌, length, get_or, take, drop, map, reverse, Option, Some, None, refl, sym, ap, ◌∙◌, append_assoc, arith, ◌⊎◌, inl, inr, length-append, max}
 use Rattle.std.specs.List.{slice_get}
 use Rattle.std.specs.Option.{option_map, MatchOption}
-use Rattle.std.proofs.Common.{Result, Ok, Err, IfOk}
+use Rattle.std.proofs.Common.{Result, Ok, Err, IfOk, IfSome}
 use Rattle.std.specs.Str.{IsCharBoundary}
 use Rattle.std.proofs.lemmas.List.{take_at, drop_at, get_or-drop, reverse-append, length-reverse, length-map}
 use Rattle.handlebars_base.specs.Texts.{starts}
 use Rattle.handlebars_lines.specs.Runs.{goes, ends, stuck}
 use Rattle.handlebars_lines.specs.Literal.{Bracket, goes_on}
-use Rattle.handlebars_lines.specs.LiteralReading.{Token, token_at, Place, ahead, innermost, outer, Find, taken, literal_step, most, all_kept, cut_to, literal_at}
+use Rattle.handlebars_lines.specs.LiteralReading.{Token, token_at, Place, ahead, innermost, outer, Find, taken, literal_step, most, all_kept, slice_to, literal_at}
 use Rattle.handlebars_lines.specs.LiteralView.{bracket_of, stack_of, place_of, slice_of}
 use Rattle.handlebars_lines.specs.Laws.{HasLiteral, NoLiteral}
 use Rattle.handlebars_lines.specs.declared.literal.Bracket.{Bracket as ReadBracket}
@@ -63,12 +63,16 @@ unfolding token_at
 step_at true items t = refl
 step_at false items t = refl
 
-pub loop_step : (b : Bool) (items slice : List ReadBracket) (o : Option ReadBracket) (t : List ℕ) (token : Token) → token ≡ token_at b (option_map bracket_of o) t
-    → o ≡ slice_get slice (length slice - 1) → slice ≡ items → literal_step (place_of b items) t ≡ taken (stack_of items) token
-loop_step b items slice o t token is top same =
+pub top_token : (b : Bool) (items slice : List ReadBracket) (o : Option ReadBracket) (t : List ℕ) (token : Token) → token ≡ token_at b (option_map bracket_of o) t
+    → o ≡ slice_get slice (length slice - 1) → slice ≡ items → token ≡ token_at b (innermost (stack_of items)) t
+top_token b items slice o t token is top same =
     let at_items : slice_get slice (length slice - 1) ≡ slice_get items (length items - 1) = ap (λ (z : List ReadBracket). slice_get z (length z - 1)) same in
     let inner : option_map bracket_of o ≡ innermost (stack_of items) = ap (option_map bracket_of) (top ∙ at_items) ∙ stack-innermost items in
-    step_at b items t ∙ sym (ap (taken (stack_of items)) (is ∙ ap (λ (z : Option Bracket). token_at b z t) inner))
+    is ∙ ap (λ (z : Option Bracket). token_at b z t) inner
+
+pub loop_step : (b : Bool) (items : List ReadBracket) (t : List ℕ) (token : Token) → token ≡ token_at b (innermost (stack_of items)) t
+    → literal_step (place_of b items) t ≡ taken (stack_of items) token
+loop_step b items t token is = step_at b items t ∙ sym (ap (taken (stack_of items)) is)
 
 -- what these tell on top of what is known
 abbrev pub tally : ℕ → Bool → List Find → ℕ × Bool
@@ -103,6 +107,9 @@ end_ascii : (rest : List ℕ) → starts goes_on rest ≡ false → 0 < length r
 end_ascii [] h some = absurd (omega arith)
 end_ascii (b ∷ rest) h some = goes_on-ascii b h
 
+pub end_shorter : (t rest : List ℕ) → ((front : List ℕ) × (t ≡ front ++ rest)) → length rest ≤ length t
+end_shorter t rest h = omega (arith, ap length h.1, length-append h.0 rest)
+
 pub end_boundary : (t rest : List ℕ) → ((front : List ℕ) × (t ≡ front ++ rest)) → starts goes_on rest ≡ false → IsCharBoundary t (length t - length rest)
 end_boundary t rest h stop =
     let k = length t - length rest in
@@ -117,22 +124,19 @@ end_boundary t rest h stop =
           absurd (omega arith),
     )
 
-pub loop_found : (t rest : List ℕ) (s : Place) (depth : ℕ) (kept : Bool) → Still literal_step (ahead []) t (tally 0 true) s rest (tally depth kept) → literal_step s rest ≡ ends → starts goes_on rest ≡ false
-    → literal_at t ≡ Some (cut_to t rest depth kept)
+pub loop_ends : (t rest : List ℕ) (s : Place) (depth : ℕ) (kept : Bool) → Still literal_step (ahead []) t (tally 0 true) s rest (tally depth kept) → literal_step s rest ≡ ends
+    → literal_at t ≡ slice_to t rest depth kept
 unfolding literal_at
-loop_found t rest s depth kept still is stop =
+loop_ends t rest s depth kept still is =
     let h = still.ran [] rest (last is) in
     let goes_so = run-some literal_step shortens (length t + 1) (ahead []) t h.0 rest (omega arith) h.1 in
     let depth_is : most 0 h.0 ≡ depth = ap (λ (z : ℕ × Bool). z.0) h.2 in
     let kept_is : all_kept true h.0 ≡ kept = ap (λ (z : ℕ × Bool). z.1) h.2 in
-    rw (goes_so, stop, depth_is, kept_is) refl
+    rw (goes_so, depth_is, kept_is) refl
 
-pub loop_goes_on : (t rest : List ℕ) (s : Place) (depth : ℕ) (kept : Bool) → Still literal_step (ahead []) t (tally 0 true) s rest (tally depth kept) → literal_step s rest ≡ ends → starts goes_on rest ≡ true → literal_at t ≡ None
-unfolding literal_at
-loop_goes_on t rest s depth kept still is stop =
-    let h = still.ran [] rest (last is) in
-    let goes_so = run-some literal_step shortens (length t + 1) (ahead []) t h.0 rest (omega arith) h.1 in
-    rw (goes_so, stop) refl
+pub ends_within : (n depth : ℕ) (read : Option LiteralSlice) → depth ≤ n → IfSome read (λ slice. slice.depth ≡ depth) → IfSome read (λ slice. slice.depth ≤ n)
+ends_within n depth None le h = h
+ends_within n depth (Some slice) le h = omega (arith, le, h)
 
 pub loop_misfit : (t rest : List ℕ) (s : Place) (depth : ℕ) (kept : Bool) → Still literal_step (ahead []) t (tally 0 true) s rest (tally depth kept) → literal_step s rest ≡ stuck → literal_at t ≡ None
 unfolding literal_at

@@ -154,8 +154,12 @@ pub record Slice : Type 0 where
 abbrev pub cut_to : Text → Text → ℕ → Bool → Slice
 cut_to t rest depth kept = record { raw = take (length t - length rest) t; rest = rest; depth = depth; kept = kept }
 
+-- the literal that ends ahead of this rest, unless its last word goes on there
+abbrev pub slice_to : Text → Text → ℕ → Bool → Option Slice
+slice_to t rest depth kept = if starts goes_on rest then None else Some (cut_to t rest depth kept)
+
 abbrev pub slice_in : Text → List Find × Text → Option Slice
-slice_in t r = if starts goes_on r.1 then None else Some (cut_to t r.1 (most 0 r.0) (all_kept true r.0))
+slice_in t r = slice_to t r.1 (most 0 r.0) (all_kept true r.0)
 
 unfoldable pub literal_at : Text → Option Slice
 literal_at t = run literal_step (length t + 1) (ahead []) t >>= slice_in t

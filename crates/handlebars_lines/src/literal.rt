@@ -1,12 +1,13 @@
 //! Literals, without recursion: one token after the other, and the kinds of the open brackets.
 
-ghost use Rattle.std.specs.Prelude.{◌≡◌, ◌<◌, ◌≤◌, length, max, IfOk, IfSome, MatchOption};
+ghost use Rattle.std.specs.Prelude.{◌≡◌, ◌<◌, ◌≤◌, ◌++◌, ◌∷◌, [], length, max, IfOk, OnOk, IfSome, MatchOption};
 ghost use Rattle.std.specs.List.{list_all};
 ghost use Rattle.std.specs.Char.{is_ascii_digit};
 ghost use Rattle.std.specs.Option.{option_map};
+ghost use Rattle.handlebars_base.specs.Texts.{IsEnd};
 ghost use Rattle.handlebars_lines.specs.Literal.{is_digits, is_integer, is_decimal, is_number, number_of, is_kept_below, is_kept, is_word, closer};
-ghost use Rattle.handlebars_lines.specs.LiteralReading.{plain_at, undoubled_at, atom_at, keeps_at, behind_colon, key_at, behind_lead, bracket_token, value_token, comma_token, entry_token, token_at, literal_at};
-ghost use Rattle.handlebars_lines.specs.LiteralView.{bracket_of, token_of, slice_of};
+ghost use Rattle.handlebars_lines.specs.LiteralReading.{plain_at, undoubled_at, atom_at, keeps_at, behind_colon, key_at, behind_lead, bracket_token, value_token, comma_token, entry_token, token_at, innermost, slice_to, literal_at};
+ghost use Rattle.handlebars_lines.specs.LiteralView.{bracket_of, stack_of, token_of, slice_of};
 ghost use Rattle.handlebars_lines.specs.Laws.{HasLiteral, NoLiteral};
 
 use crate::marks::{behind_quote, run, starts_run};
@@ -281,10 +282,48 @@ fn token_at(ahead: bool, innermost: Option<Bracket>, text: &str) -> Token<'_>
     }
 }
 
+/// What stands next inside these brackets, the outermost first.
+fn token_in<'a>(ahead: bool, around: &Vec<Bracket>, text: &'a str) -> Token<'a>
+    ensures { token_of result ≡ token_at ahead (innermost (stack_of around.now.items)) text.now }
+{
+    token_at(ahead, around.last().copied(), text)
+}
+
 pub(crate) fn larger(a: usize, b: usize) -> usize
     ensures { result ≡ max a b }
 {
     if a < b { b } else { a }
+}
+
+/// Opens a bracket: the most that were open at once.
+fn open_bracket(
+    around: &mut Vec<Bracket>,
+    bracket: Bracket,
+    depth: usize,
+) -> Result<usize, AllocError>
+    ensures around { OnOk result (around.new.items ≡ around.old.items ++ bracket ∷ []) }
+    ensures depth { IfOk result (λ deeper. deeper ≡ max depth (length around.new.items)) }
+{
+    around.push(bracket)?;
+    Ok(larger(depth, around.len()))
+}
+
+/// The literal that ends ahead of this rest, unless its last word goes on there.
+fn slice_to<'a>(text: &'a str, rest: &'a str, depth: usize, kept: bool) -> Option<LiteralSlice<'a>>
+    requires { IsEnd text.now rest.now }
+    ensures reads { option_map slice_of result ≡ slice_to text.now rest.now depth kept }
+    ensures depth { IfSome result (λ slice. slice.depth ≡ depth) }
+{
+    if starts_run(rest) {
+        return None;
+    }
+    let raw = text.split_at(text.len() - rest.len()).0;
+    Some(LiteralSlice {
+        raw,
+        rest,
+        depth,
+        kept,
+    })
 }
 
 /// The literal in front, by its tokens.
@@ -298,7 +337,7 @@ pub(crate) fn literal_at(alloc: Global, text: &str) -> Result<Option<LiteralSlic
     let mut depth = 0;
     let mut kept = true;
     'reading: loop {
-        match token_at(ahead, around.last().copied(), rest) {
+        match token_in(ahead, &around, rest) {
             Token::Atom(keeps, behind) => {
                 kept &= keeps;
                 ahead = false;
@@ -310,8 +349,7 @@ pub(crate) fn literal_at(alloc: Global, text: &str) -> Result<Option<LiteralSlic
                 rest = behind;
             }
             Token::Opening(bracket, behind) => {
-                around.push(bracket)?;
-                depth = larger(depth, around.len());
+                depth = open_bracket(&mut around, bracket, depth)?;
                 ahead = true;
                 rest = behind;
             }
@@ -324,18 +362,7 @@ pub(crate) fn literal_at(alloc: Global, text: &str) -> Result<Option<LiteralSlic
                 ahead = false;
                 rest = behind;
             }
-            Token::Finished => {
-                if starts_run(rest) {
-                    return Ok(None);
-                }
-                let raw = text.split_at(text.len() - rest.len()).0;
-                return Ok(Some(LiteralSlice {
-                    raw,
-                    rest,
-                    depth,
-                    kept,
-                }));
-            }
+            Token::Finished => return Ok(slice_to(text, rest, depth, kept)),
             Token::Misfit => return Ok(None),
         }
     }

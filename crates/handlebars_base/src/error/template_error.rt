@@ -175,13 +175,25 @@ fn template_segment(
             break;
         }
         if number >= first {
-            writeln!(out, "{number:4} | {content}")?;
-            if line > 0 && number == line - 1 {
-                mark(&mut out, content, column)?;
-            }
+            push_line(&mut out, number, content, line, column)?;
         }
     }
     Ok(out)
+}
+
+// One of these lines, with the marker if it is that of the position.
+fn push_line(
+    out: &mut String,
+    number: usize,
+    content: &str,
+    line: usize,
+    column: usize,
+) -> Result<(), AllocError> {
+    writeln!(out, "{number:4} | {content}")?;
+    if line > 0 && number == line - 1 {
+        mark(out, content, column)?;
+    }
+    Ok(())
 }
 
 // A sign for each byte of the line, `^` for that of the column.

@@ -1,6 +1,6 @@
 //! What a path starts with, and what it means with the links behind it.
 
-ghost use Rattle.std.specs.Prelude.{◌≡◌, IfOk};
+ghost use Rattle.std.specs.Prelude.{◌≡◌, ◌++◌, IfOk, OnOk};
 ghost use Rattle.std.specs.Option.{option_map};
 ghost use Rattle.handlebars_base.specs.PathView.{segments_of, start_of, started_at, reference_of};
 ghost use Rattle.handlebars_base.specs.PathReading.{named_at, unnamed_at, dot_start, start_at, links_behind, start_segments, start_meaning, ups_at};
@@ -91,18 +91,31 @@ pub fn start_segments<'a>(
     ensures rest { IfOk result (λ read. read.1.now ≡ (links_behind (start_of start.entry) text.now).1) }
 {
     let mut segs = Vec::new(alloc);
+    let rest = push_start(alloc, &mut segs, start, text)?;
+    Ok((segs, rest))
+}
+
+/// Adds the segments of a start and of the links behind it: what follows these.
+fn push_start<'a>(
+    alloc: Global,
+    segs: &mut Vec<PathSeg>,
+    start: Start<'_>,
+    text: &'a str,
+) -> Result<&'a str, AllocError>
+    ensures segments { OnOk result (segments_of segs.new.items ≡ segments_of segs.old.items
+        ++ start_segments (start_of start.entry) (links_behind (start_of start.entry) text.now).0) }
+    ensures rest { IfOk result (λ rest. rest.now ≡ (links_behind (start_of start.entry) text.now).1) }
+{
     match start {
-        Start::Here => Ok((segs, text)),
-        Start::Variable(_, _) => Ok((segs, behind_links(false, text))),
+        Start::Here => Ok(text),
+        Start::Variable(_, _) => Ok(behind_links(false, text)),
         Start::Root => {
             segs.push(PathSeg::Ruled(PathRule::Root))?;
-            let rest = push_links(alloc, &mut segs, false, text)?;
-            Ok((segs, rest))
+            push_links(alloc, segs, false, text)
         }
         Start::Part(first) => {
-            push(alloc, &mut segs, first)?;
-            let rest = push_links(alloc, &mut segs, is_up(first), text)?;
-            Ok((segs, rest))
+            push(alloc, segs, first)?;
+            push_links(alloc, segs, is_up(first), text)
         }
     }
 }
