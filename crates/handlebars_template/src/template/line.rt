@@ -180,9 +180,8 @@ fn build_terms<'a>(
                 state = next;
                 rest = behind;
             }
-            Step::Ends => break,
+            Step::Ends => return Ok(calls.finish()),
             Step::Stuck => return Ok(None),
         }
     }
-    Ok(calls.finish())
 }

@@ -32,8 +32,8 @@ returns-then-not-branch c line left l =
     take-lost (enclosure_of c.args.around) c.args.text.now (state_of c.building.state) c.building.rest.now (calls_view c.building.calls) (event_of c.in-Goes.event) (state_of c.in-Goes.next) c.in-Goes.behind.now line left
     (rw c.in-Goes.is at c.in_ok-event.ensures) (rw c.if-not-branch.true at c.in_ok-take-in-Goes.ensures) c.building.invariant.takes l
 
-pub returns : goal.returns
-returns c line left l =
+pub returns-in-Ends : goal.returns-in-Ends
+returns-in-Ends c line left l =
     IsBuilt-finished line c.finish.result
     (c.finish.ensures ∙ take-ends (enclosure_of c.args.around) c.args.text.now (state_of c.building.state) c.building.rest.now (calls_view c.building.calls)
     (rw c.in-Ends.is at c.in_ok-event.ensures) c.building.invariant.takes line left l)
