@@ -3,7 +3,8 @@
 ghost use Rattle.std.specs.Prelude.{◌≡◌, option_map};
 ghost use Rattle.serde_json.specs.View.{view};
 ghost use Rattle.handlebars_base.specs.Scoped.{found_of, present_in};
-ghost use Rattle.handlebars_template.specs.TreeView.{param_view};
+ghost use Rattle.handlebars_template.specs.Tree.{subexpression};
+ghost use Rattle.handlebars_template.specs.TreeView.{param_view, subexpression_view};
 ghost use Rattle.handlebars_scope.specs.Sites.{Site};
 ghost use Rattle.handlebars_meaning.specs.Expand.{expands, lone_name, lone_value};
 ghost use Rattle.handlebars_render.specs.View.{setting_in, state_of, lone_view, Yields, YieldsPresent};
@@ -14,7 +15,7 @@ use crate::setting::Setting;
 use crate::value::inner_value;
 use handlebars_base::error::RenderError;
 use handlebars_base::json::value::{Json, JsonRender, ScopedJson};
-use handlebars_template::template::Parameter;
+use handlebars_template::template::{Parameter, Subexpression};
 use std::borrow::CowStr;
 
 /// The name of a lone expression, and its value, where that was made for the name.
@@ -46,13 +47,25 @@ pub fn lone_name<'a, P: Registered>(
             name: CowStr::Owned(value.render(setting.alloc)?),
             value: Some(ScopedJson::Constant(value)),
         }),
-        Parameter::Subexpression(inner) => match inner_value(setting, rc, inner) {
-            Ok(value) => Ok(Lone {
-                name: CowStr::Owned(value.render(setting.alloc)?),
-                value: Some(value),
-            }),
-            Err(e) => Err(e),
-        },
+        Parameter::Subexpression(inner) => made_name(setting, rc, inner),
+    }
+}
+
+// The name of a lone call in parentheses is the text of its value, which is made once.
+fn made_name<'a, P: Registered>(
+    setting: &Setting<'_, 'a, P>,
+    rc: &RenderContext,
+    inner: &'a Subexpression,
+) -> Result<Lone<'a>, RenderError>
+    ensures { (site : Site) → Yields (setting_in P.parts setting.now)
+        (lone_name (setting_in P.parts setting.now) site (subexpression (subexpression_view inner.now))) (state_of rc.now) lone_view result }
+{
+    match inner_value(setting, rc, inner) {
+        Ok(value) => Ok(Lone {
+            name: CowStr::Owned(value.render(setting.alloc)?),
+            value: Some(value),
+        }),
+        Err(e) => Err(e),
     }
 }
 

@@ -1,11 +1,5 @@
 use Rattle.handlebars_template.proofs.Levels.{param_view-Subexpression}
-use Rattle.handlebars_render.proofs.LoneValues.{gives-lone, refuses-lone}
 use Rattle.handlebars_render.proofs.lone.lone_name.Goals as goal
 
-pub returns-in_ok-render-in-Ok : goal.returns-in_ok-render-in-Ok
-returns-in_ok-render-in-Ok g c = λ site. rw (c.in-Subexpression.is, param_view-Subexpression)
-    (gives-lone _ site _ _ _ c.in_ok-render-in-Ok.ensures (c.in-Ok.ensures.value site))
-
-pub returns-in-Err : goal.returns-in-Err
-returns-in-Err g c = λ site other. rw (c.in-Subexpression.is, param_view-Subexpression)
-    (refuses-lone _ site _ (c.in-Err.ensures.value site other))
+pub returns-in-Subexpression : goal.returns-in-Subexpression
+returns-in-Subexpression g c = λ site. rw (c.in-Subexpression.is, param_view-Subexpression) (c.made_name.ensures site)
