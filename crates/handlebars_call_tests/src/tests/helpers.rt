@@ -1,61 +1,190 @@
-//! What the tests share. Each of these fails, and so the test, where something else comes than is wanted.
+//! What the tests share. Each of these ends the test where something else comes than is wanted: an owned value that is
+//! kept across an early return writes out at each how it is let go, and ending needs none.
 
-use handlebars::{Context, JsonValue, RenderError};
+use handlebars::template::Parameter;
+use handlebars::{
+    Context, JsonValue, Registry, RenderContext, RenderError, Renderable, StringOutput, Template,
+};
+use log::sink::Discard;
 use std::alloc::Global;
 use std::fmt::{Debug, Display};
-use std::test::Fail;
+use std::process::Abort;
+
+/// A value that is let go by one call, whatever it is made of.
+pub struct Held<T> {
+    pub value: T,
+}
+
+impl<T: Drop> Drop for Held<T> {
+    fn drop(self) {
+        let Held { value: _ } = self;
+    }
+}
+
+/// A registry, data and a render context, in which templates are rendered.
+pub struct Bench {
+    pub registry: Registry,
+    pub data: Context,
+    pub rc: RenderContext,
+}
+
+impl Drop for Bench {
+    fn drop(self) {
+        let Bench {
+            registry: _,
+            data: _,
+            rc: _,
+        } = self;
+    }
+}
+
+impl Bench {
+    /// One over the data of a text in JSON.
+    pub fn new(rt: &impl Abort, alloc: Global, data: &str) -> Bench {
+        Bench {
+            registry: Registry::new(alloc).expect(rt, "memory"),
+            data: data_of(rt, alloc, data),
+            rc: RenderContext::new(alloc, None).expect(rt, "memory"),
+        }
+    }
+
+    /// The text that is wanted.
+    pub fn gives(
+        &mut self,
+        rt: &impl Abort,
+        alloc: Global,
+        rendered: &impl Renderable,
+        wanted: &str,
+    ) {
+        let answer = rendered.renders(alloc, &self.registry, &self.data, &mut self.rc, &Discard);
+        gives(rt, answer, wanted);
+    }
+
+    /// The refusal that is wanted.
+    pub fn refuses(
+        &mut self,
+        rt: &impl Abort,
+        alloc: Global,
+        rendered: &impl Renderable,
+        wanted: &str,
+    ) {
+        let answer = rendered.renders(alloc, &self.registry, &self.data, &mut self.rc, &Discard);
+        refuses(rt, alloc, answer, wanted);
+    }
+
+    /// That it goes into an output.
+    pub fn writes(
+        &mut self,
+        rt: &impl Abort,
+        alloc: Global,
+        template: &Template,
+        out: &mut StringOutput,
+    ) {
+        let answer = template.render(
+            alloc,
+            &self.registry,
+            &self.data,
+            &mut self.rc,
+            out,
+            &Discard,
+        );
+        answer.expect(rt, "no refusal");
+    }
+
+    /// The refusal that is wanted, over an output.
+    pub fn stops(
+        &mut self,
+        rt: &impl Abort,
+        alloc: Global,
+        template: &Template,
+        out: &mut StringOutput,
+        wanted: &str,
+    ) {
+        let answer = template.render(
+            alloc,
+            &self.registry,
+            &self.data,
+            &mut self.rc,
+            out,
+            &Discard,
+        );
+        refuses(rt, alloc, answer, wanted);
+    }
+}
+
+/// A text of its own.
+pub fn text_of(rt: &impl Abort, alloc: Global, text: &str) -> String {
+    String::from_str(alloc, text).expect(rt, "memory")
+}
+
+/// The value of a text in JSON.
+pub fn json_of(rt: &impl Abort, alloc: Global, text: &str) -> JsonValue {
+    JsonValue::from_str(alloc, text).expect(rt, "a value")
+}
 
 /// The data of a text in JSON.
-pub fn data_of(alloc: Global, text: &str) -> Result<Context, Fail> {
-    Ok(Context::try_from(JsonValue::from_str(alloc, text)?)?)
+pub fn data_of(rt: &impl Abort, alloc: Global, text: &str) -> Context {
+    Context::try_from(json_of(rt, alloc, text)).expect(rt, "data")
+}
+
+/// The template of a source.
+pub fn compiled(rt: &impl Abort, alloc: Global, source: &str) -> Held<Template> {
+    Held {
+        value: Template::compile(alloc, source).expect(rt, "a template"),
+    }
+}
+
+/// The parameter of a text.
+pub fn parsed(rt: &impl Abort, alloc: Global, text: &str) -> Parameter {
+    Parameter::parse(alloc, text).expect(rt, "a parameter")
+}
+
+/// A value on the heap.
+pub fn boxed<T: Drop>(rt: &impl Abort, alloc: Global, value: T) -> Box<T> {
+    Box::new(alloc, value).expect(rt, "memory")
 }
 
 /// That a text is the one that is wanted.
-pub fn is_same(alloc: Global, text: &str, wanted: &str) -> Result<(), Fail> {
-    if text == wanted {
-        return Ok(());
-    }
-    Err(format!(in alloc; "{text} in place of {wanted}")?.into())
+pub fn is_same(rt: &impl Abort, text: &str, wanted: &str) {
+    assert!(rt; text == wanted, "{text} in place of {wanted}");
 }
 
 /// What a value is printed as.
-pub fn prints(alloc: Global, value: &impl Display, wanted: &str) -> Result<(), Fail> {
-    let text = value.to_string(alloc)?;
-    is_same(alloc, text.as_str(), wanted)
+pub fn prints(rt: &impl Abort, alloc: Global, value: &impl Display, wanted: &str) {
+    let text = value.to_string(alloc).expect(rt, "memory");
+    is_same(rt, text.as_str(), wanted);
 }
 
 /// What a value is, by its constructors.
-pub fn shows(alloc: Global, value: &impl Debug, wanted: &str) -> Result<(), Fail> {
-    let text = format!(in alloc; "{value:?}")?;
-    is_same(alloc, text.as_str(), wanted)
+pub fn shown(rt: &impl Abort, alloc: Global, value: &impl Debug) -> String {
+    format!(in alloc; "{value:?}").expect(rt, "memory")
 }
 
 /// The text where there is to be one.
-pub fn gives(alloc: Global, answer: Result<String, RenderError>, wanted: &str) -> Result<(), Fail> {
-    match answer {
-        Ok(text) => is_same(alloc, text.as_str(), wanted),
-        Err(error) => prints(alloc, &error, wanted),
-    }
+pub fn gives(rt: &impl Abort, answer: Result<String, RenderError>, wanted: &str) {
+    let text = answer.expect(rt, "no refusal");
+    is_same(rt, text.as_str(), wanted);
 }
 
 /// The refusal where there is to be one: its reason, its line, its column and its name, by their constructors.
 pub fn refuses<T: Drop>(
+    rt: &impl Abort,
     alloc: Global,
     answer: Result<T, RenderError>,
     wanted: &str,
-) -> Result<(), Fail> {
+) {
     match answer {
-        Ok(_) => Err("no refusal".into()),
-        Err(error) => says(alloc, &error, wanted),
+        Ok(_) => panic!(rt; "no refusal"),
+        Err(error) => says(rt, alloc, &error, wanted),
     }
 }
 
 /// What an error says: its reason, its line, its column and its name, by their constructors.
-pub fn says(alloc: Global, error: &RenderError, wanted: &str) -> Result<(), Fail> {
+pub fn says(rt: &impl Abort, alloc: Global, error: &RenderError, wanted: &str) {
     let reason = error.reason();
     let line = error.line_no;
     let column = error.column_no;
     let name = &error.template_name;
-    let text = format!(in alloc; "{reason:?} {line:?} {column:?} {name:?}")?;
-    is_same(alloc, text.as_str(), wanted)
+    let text = format!(in alloc; "{reason:?} {line:?} {column:?} {name:?}").expect(rt, "memory");
+    is_same(rt, text.as_str(), wanted);
 }

@@ -1,6 +1,6 @@
 //! Registries that change, and the reader that they don't ask.
 
-use crate::tests::helpers::{data_of, gives, refuses};
+use crate::tests::helpers::{Bench, gives, refuses};
 use handlebars::{
     BuiltIn, Context, EntryKind, HelperEntry, NoFiles, Registry, RenderError, TemplateReader,
 };
@@ -8,7 +8,7 @@ use log::sink::Discard;
 use std::alloc::Global;
 use std::io;
 use std::io::ErrorKind;
-use std::test::Fail;
+use std::process::Abort;
 
 // Counts how often it is asked.
 #[derive(Drop)]
@@ -37,63 +37,75 @@ fn answer(registry: &Registry, source: &str) -> Result<String, RenderError> {
     registry.render_template_with_context(source, &Context::null(), &Discard, &mut NoFiles)
 }
 
+fn answers(rt: &impl Abort, registry: &Registry, source: &str, wanted: &str) {
+    gives(rt, answer(registry, source), wanted);
+}
+
+fn fails(rt: &impl Abort, alloc: Global, registry: &Registry, source: &str, wanted: &str) {
+    refuses(rt, alloc, answer(registry, source), wanted);
+}
+
 const CALL: &str = r#"{{size "abc"}}"#;
 
 const UNKNOWN: &str = r#"HelperNotFound("size") Some(1) Some(1) None"#;
 
+fn register(rt: &impl Abort, registry: &mut Registry, name: &str, helper: BuiltIn) {
+    let answer = registry.register_helper(name, HelperEntry::Built(helper));
+    answer.expect(rt, "memory");
+}
+
 // Helpers under other names, and the hook, there and taken back.
-fn helpers_change(alloc: Global, registry: &mut Registry) -> Result<(), Fail> {
-    refuses(alloc, answer(registry, CALL), UNKNOWN)?;
-    registry.register_helper("size", HelperEntry::Built(BuiltIn::Len))?;
-    gives(alloc, answer(registry, CALL), "3")?;
-    registry.register_helper("size", HelperEntry::Built(BuiltIn::And))?;
-    gives(alloc, answer(registry, CALL), "true")?;
+fn helpers_change(rt: &impl Abort, alloc: Global, registry: &mut Registry) {
+    fails(rt, alloc, registry, CALL, UNKNOWN);
+    register(rt, registry, "size", BuiltIn::Len);
+    answers(rt, registry, CALL, "3");
+    register(rt, registry, "size", BuiltIn::And);
+    answers(rt, registry, CALL, "true");
     registry.unregister_helper("size");
-    refuses(alloc, answer(registry, CALL), UNKNOWN)?;
+    fails(rt, alloc, registry, CALL, UNKNOWN);
     registry.unregister_helper("size");
-    registry.register_helper("helperMissing", HelperEntry::Built(BuiltIn::Len))?;
-    gives(alloc, answer(registry, CALL), "3")?;
+    register(rt, registry, "helperMissing", BuiltIn::Len);
+    answers(rt, registry, CALL, "3");
     registry.unregister_helper("helperMissing");
-    refuses(alloc, answer(registry, CALL), UNKNOWN)
+    fails(rt, alloc, registry, CALL, UNKNOWN);
 }
 
-fn mode_is(registry: &Registry, strict: bool) -> Result<(), Fail> {
-    if registry.strict_mode() == strict {
-        return Ok(());
-    }
-    Err("another mode".into())
-}
-
-fn mode_changes(alloc: Global, registry: &mut Registry) -> Result<(), Fail> {
-    mode_is(registry, false)?;
-    gives(alloc, answer(registry, "{{no}}"), "")?;
+fn mode_changes(rt: &impl Abort, alloc: Global, registry: &mut Registry) {
+    assert!(rt; !registry.strict_mode());
+    answers(rt, registry, "{{no}}", "");
     registry.set_strict_mode(true);
-    mode_is(registry, true)?;
+    assert!(rt; registry.strict_mode());
     let missing = r#"MissingVariable(Some("no")) Some(1) Some(1) None"#;
-    refuses(alloc, answer(registry, "{{no}}"), missing)?;
+    fails(rt, alloc, registry, "{{no}}", missing);
     registry.set_strict_mode(false);
-    mode_is(registry, false)?;
-    gives(alloc, answer(registry, "{{no}}"), "")
+    assert!(rt; !registry.strict_mode());
+    answers(rt, registry, "{{no}}", "");
 }
 
 #[test]
-fn registries_change(rt: HostRuntime) -> Result<(), Fail> {
+fn registries_change(rt: HostRuntime) {
     let alloc = rt.alloc();
-    let mut registry = Registry::new(alloc)?;
-    helpers_change(alloc, &mut registry)?;
-    mode_changes(alloc, &mut registry)
+    let mut registry = Registry::new(alloc).expect(&rt, "memory");
+    helpers_change(&rt, alloc, &mut registry);
+    mode_changes(&rt, alloc, &mut registry);
+}
+
+fn renders(bench: &Bench, files: &mut Counter, source: &str) -> bool {
+    let registry = &bench.registry;
+    let answer = registry.render_template_with_context(source, &bench.data, &Discard, files);
+    answer.is_ok()
 }
 
 #[test]
-fn asks_no_reader(rt: HostRuntime) -> Result<(), Fail> {
+fn asks_no_reader(rt: HostRuntime) {
     let alloc = rt.alloc();
-    let registry = Registry::new(alloc)?;
-    let data = data_of(alloc, r#"{"a":[1]}"#)?;
+    let bench = Bench::new(&rt, alloc, r#"{"a":[1]}"#);
     let mut files = Counter { asked: 0 };
-    for (source, renders) in [("x{{a}}", true), ("{{a.x}}", false), ("{{> a}}", false)] {
-        let answer = registry.render_template_with_context(source, &data, &Discard, &mut files);
-        assert!(rt; answer.is_ok() == renders, "at {source}");
+    for (source, wanted) in [("x{{a}}", true), ("{{a.x}}", false), ("{{> a}}", false)] {
+        assert!(rt;
+            renders(&bench, &mut files, source) == wanted,
+            "at {source}"
+        );
     }
     assert!(rt; files.asked == 0);
-    Ok(())
 }

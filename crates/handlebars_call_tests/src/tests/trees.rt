@@ -1,19 +1,16 @@
 //! Trees that are made by hand, and how they render.
 
-use crate::tests::helpers::{data_of, gives, refuses};
+use crate::tests::helpers::{Bench, Held, boxed, parsed, text_of};
 use handlebars::template::{
     DecoratorTemplate, ExpressionSpec, HelperTemplate, Parameter, Subexpression, Template,
     TemplateElement, TemplateMapping,
 };
-use handlebars::{Context, Registry, RenderContext, RenderError, Renderable};
-use log::sink::Discard;
-use std::alloc::{AllocError, Global};
+use std::alloc::Global;
 use std::collections::BTreeMap;
 use std::process::Abort;
-use std::test::Fail;
 
-fn name(alloc: Global, name: &str) -> Result<Parameter, AllocError> {
-    Ok(Parameter::Name(String::from_str(alloc, name)?))
+fn name(rt: &impl Abort, alloc: Global, name: &str) -> Parameter {
+    Parameter::Name(text_of(rt, alloc, name))
 }
 
 // A call of a name with these parameters.
@@ -28,163 +25,232 @@ fn spec(alloc: Global, name: Parameter, params: Vec<Parameter>) -> ExpressionSpe
     }
 }
 
-fn block(alloc: Global, named: &str) -> Result<TemplateElement, AllocError> {
-    let spec = spec(alloc, name(alloc, named)?, Vec::new(alloc));
-    let call = HelperTemplate::new(spec, true, false);
-    Ok(TemplateElement::HelperBlock(Box::new(alloc, call)?))
+fn block(rt: &impl Abort, alloc: Global, named: &str) -> TemplateElement {
+    let spec = spec(alloc, name(rt, alloc, named), Vec::new(alloc));
+    TemplateElement::HelperBlock(boxed(rt, alloc, HelperTemplate::new(spec, true, false)))
 }
 
 // What names a decorator or an inclusion.
-fn naming(alloc: Global, named: &str) -> Result<Box<DecoratorTemplate>, AllocError> {
+fn naming(rt: &impl Abort, alloc: Global, named: &str) -> Box<DecoratorTemplate> {
     let tag = DecoratorTemplate {
-        name: name(alloc, named)?,
+        name: name(rt, alloc, named),
         params: Vec::new(alloc),
         hash: BTreeMap::new(alloc),
         template: None,
         indent: None,
         indent_before_write: false,
     };
-    Ok(Box::new(alloc, tag)?)
+    boxed(rt, alloc, tag)
 }
 
 // What an element alone gives over data.
-fn alone(alloc: Global, element: &TemplateElement, data: &Context) -> Result<String, RenderError> {
-    let registry = Registry::new(alloc)?;
-    let mut rc = RenderContext::new(alloc, None)?;
-    element.renders(alloc, &registry, data, &mut rc, &Discard)
+fn gives_alone(rt: &impl Abort, alloc: Global, element: TemplateElement, data: &str, wanted: &str) {
+    let element = Held { value: element };
+    Bench::new(rt, alloc, data).gives(rt, alloc, &element.value, wanted);
 }
 
-// What the template `t` of one element gives over no data.
-fn in_template(
+// The template `t` of one element.
+fn template_of(
+    rt: &impl Abort,
     alloc: Global,
     element: TemplateElement,
     mapping: Vec<TemplateMapping>,
-) -> Result<String, RenderError> {
-    let mut template = Template::new(alloc);
-    template.elements.push(element)?;
-    template.mapping = mapping;
-    template.name = Some(String::from_str(alloc, "t")?);
-    let registry = Registry::new(alloc)?;
-    let mut rc = RenderContext::new(alloc, None)?;
-    template.renders(alloc, &registry, &Context::null(), &mut rc, &Discard)
+) -> Held<Template> {
+    let mut template = Held {
+        value: Template::new(alloc),
+    };
+    template.value.elements.push(element).expect(rt, "memory");
+    template.value.mapping = mapping;
+    template.value.name = Some(text_of(rt, alloc, "t"));
+    template
 }
 
-fn refuses_element(alloc: Global, element: TemplateElement, wanted: &str) -> Result<(), Fail> {
-    refuses(alloc, in_template(alloc, element, Vec::new(alloc)), wanted)
+fn refuses_element(rt: &impl Abort, alloc: Global, element: TemplateElement, wanted: &str) {
+    let template = template_of(rt, alloc, element, Vec::new(alloc));
+    Bench::new(rt, alloc, "null").refuses(rt, alloc, &template.value, wanted);
+}
+
+fn refuses_placed(rt: &impl Abort, alloc: Global) {
+    let mapping = vec![in alloc; TemplateMapping(3, 4)].expect(rt, "memory");
+    let template = template_of(rt, alloc, block(rt, alloc, "none"), mapping);
+    let wanted = r#"HelperNotFound("none") Some(3) Some(4) Some("t")"#;
+    Bench::new(rt, alloc, "null").refuses(rt, alloc, &template.value, wanted);
+}
+
+fn gives_no_comment(rt: &impl Abort, alloc: Global) {
+    let comment = TemplateElement::Comment(text_of(rt, alloc, "c"));
+    let template = template_of(rt, alloc, comment, Vec::new(alloc));
+    Bench::new(rt, alloc, "null").gives(rt, alloc, &template.value, "");
+}
+
+fn refuses_partials(rt: &impl Abort, alloc: Global) {
+    let wanted = r#"PartialNotFound("p") None None Some("t")"#;
+    let element = TemplateElement::PartialExpression(naming(rt, alloc, "p"));
+    refuses_element(rt, alloc, element, wanted);
+    let element = TemplateElement::PartialBlock(naming(rt, alloc, "p"));
+    refuses_element(rt, alloc, element, wanted);
+}
+
+fn refuses_decorators(rt: &impl Abort, alloc: Global) {
+    let wanted = r#"DecoratorNotFound("d") None None Some("t")"#;
+    let element = TemplateElement::DecoratorExpression(naming(rt, alloc, "d"));
+    refuses_element(rt, alloc, element, wanted);
+    let element = TemplateElement::DecoratorBlock(naming(rt, alloc, "d"));
+    refuses_element(rt, alloc, element, wanted);
 }
 
 // A refusal has the template's name, and the position of its element where the mapping has one.
 #[test]
-fn elements_render_by_hand(rt: HostRuntime) -> Result<(), Fail> {
+fn elements_render_by_hand(rt: HostRuntime) {
     let alloc = rt.alloc();
-    let none = r#"HelperNotFound("none") None None Some("t")"#;
-    refuses_element(alloc, block(alloc, "none")?, none)?;
-    let partial = r#"PartialNotFound("p") None None Some("t")"#;
-    let element = TemplateElement::PartialExpression(naming(alloc, "p")?);
-    refuses_element(alloc, element, partial)?;
-    let element = TemplateElement::PartialBlock(naming(alloc, "p")?);
-    refuses_element(alloc, element, partial)?;
-    let decorator = r#"DecoratorNotFound("d") None None Some("t")"#;
-    let element = TemplateElement::DecoratorExpression(naming(alloc, "d")?);
-    refuses_element(alloc, element, decorator)?;
-    let element = TemplateElement::DecoratorBlock(naming(alloc, "d")?);
-    refuses_element(alloc, element, decorator)?;
+    let wanted = r#"HelperNotFound("none") None None Some("t")"#;
+    refuses_element(&rt, alloc, block(&rt, alloc, "none"), wanted);
+    refuses_partials(&rt, alloc);
+    refuses_decorators(&rt, alloc);
+    refuses_placed(&rt, alloc);
+    gives_no_comment(&rt, alloc);
+}
 
-    let mapping = vec![in alloc; TemplateMapping(3, 4)]?;
-    let answer = in_template(alloc, block(alloc, "none")?, mapping);
-    let wanted = r#"HelperNotFound("none") Some(3) Some(4) Some("t")"#;
-    refuses(alloc, answer, wanted)?;
+// A call of `if` with what holds.
+fn if_call(rt: &impl Abort, alloc: Global) -> ExpressionSpec {
+    let mut params = Vec::new(alloc);
+    params
+        .push(Parameter::Literal(true.into()))
+        .expect(rt, "memory");
+    spec(alloc, name(rt, alloc, "if"), params)
+}
 
-    let comment = TemplateElement::Comment(String::from_str(alloc, "c")?);
-    gives(alloc, in_template(alloc, comment, Vec::new(alloc)), "")
+// A block with a body.
+fn with_body(
+    rt: &impl Abort,
+    alloc: Global,
+    call: HelperTemplate,
+    body: &str,
+) -> Box<HelperTemplate> {
+    let mut call = call;
+    call.template = Some(Template::compile(alloc, body).expect(rt, "a template"));
+    boxed(rt, alloc, call)
+}
+
+fn chained_are_made(rt: &impl Abort, alloc: Global) {
+    let call = Held {
+        value: HelperTemplate::new_chain(if_call(rt, alloc), true, true),
+    };
+    let made = &call.value;
+    assert!(rt; made.block && made.is_chained() && made.indent_before_write);
 }
 
 // A block by hand renders its body.
-fn blocks_are_made(rt: &impl Abort, alloc: Global) -> Result<(), Fail> {
-    let spec = || -> Result<ExpressionSpec, AllocError> {
-        let params = vec![in alloc; Parameter::Literal(true.into())]?;
-        Ok(spec(alloc, name(alloc, "if")?, params))
-    };
-    let chained = HelperTemplate::new_chain(spec()?, true, true);
-    assert!(rt; chained.block && chained.is_chained() && chained.indent_before_write);
-    let mut block = HelperTemplate::new(spec()?, true, false);
+fn blocks_are_made(rt: &impl Abort, alloc: Global) {
+    let block = HelperTemplate::new(if_call(rt, alloc), true, false);
     assert!(rt; block.block && !block.is_chained() && !block.indent_before_write);
-    block.template = Some(Template::compile(alloc, "{{x}}")?);
-    let element = TemplateElement::HelperBlock(Box::new(alloc, block)?);
-    let data = data_of(alloc, r#"{"x":1}"#)?;
-    gives(alloc, alone(alloc, &element, &data), "1")
+    let element = TemplateElement::HelperBlock(with_body(rt, alloc, block, "{{x}}"));
+    gives_alone(rt, alloc, element, r#"{"x":1}"#, "1");
+}
+
+fn call_by_hand(rt: &impl Abort, alloc: Global) -> Subexpression {
+    let mut params = Vec::new(alloc);
+    params.push(parsed(rt, alloc, "a")).expect(rt, "memory");
+    let mut hash = BTreeMap::new(alloc);
+    let set: Result<_, _> = hash.insert(text_of(rt, alloc, "k"), parsed(rt, alloc, "1"));
+    set.expect(rt, "memory");
+    Subexpression::new(alloc, name(rt, alloc, "f"), params, hash).expect(rt, "memory")
+}
+
+fn is_call(call: &Subexpression) -> bool {
+    call.is_helper()
+        && call.name() == Some("f")
+        && matches!(call.as_element(), TemplateElement::Expression(_))
+}
+
+fn is_read_as(rt: &impl Abort, alloc: Global, given: &Parameter, text: &str) {
+    let read = Held {
+        value: parsed(rt, alloc, text),
+    };
+    assert!(rt; *given == read.value);
 }
 
 // A call that is made by hand is what its text is read as.
-fn calls_are_made(rt: &impl Abort, alloc: Global) -> Result<(), Fail> {
-    let parse = |text| Parameter::parse(alloc, text);
-    let mut hash = BTreeMap::new(alloc);
-    hash.insert(String::from_str(alloc, "k")?, parse("1")?)?;
-    let params = vec![in alloc; parse("a")?]?;
-    let call = Subexpression::new(alloc, name(alloc, "f")?, params, hash)?;
-    assert!(rt; call.is_helper() && call.name() == Some("f"));
-    assert!(rt; matches!(call.as_element(), TemplateElement::Expression(_)));
-    assert!(rt; Parameter::Subexpression(call) == parse("(f a k=1)")?);
-    Ok(())
+fn calls_are_made(rt: &impl Abort, alloc: Global) {
+    let call = call_by_hand(rt, alloc);
+    assert!(rt; is_call(&call));
+    let call = Held {
+        value: Parameter::Subexpression(call),
+    };
+    is_read_as(rt, alloc, &call.value, "(f a k=1)");
 }
 
-fn no_call(rt: &impl Abort, alloc: Global) -> Result<(), Fail> {
+fn is_no_call(other: &Subexpression) -> bool {
+    !other.is_helper()
+        && other.name().is_none()
+        && other.params().is_none()
+        && other.hash().is_none()
+}
+
+fn no_call(rt: &impl Abort, alloc: Global) {
     let comment = TemplateElement::Comment(String::new(alloc));
-    let other = Subexpression {
-        element: Box::new(alloc, comment)?,
+    let other = Held {
+        value: Subexpression {
+            element: boxed(rt, alloc, comment),
+        },
     };
-    assert!(rt; !other.is_helper() && other.name().is_none());
-    assert!(rt; other.params().is_none() && other.hash().is_none());
-    let spec = ExpressionSpec {
-        name: Parameter::parse(alloc, "a")?,
-        params: Vec::new(alloc),
-        hash: BTreeMap::new(alloc),
-        block_param: None,
-        omit_pre_ws: false,
-        omit_pro_ws: true,
-    };
-    assert!(rt; spec.name == Parameter::parse(alloc, "a")? && spec.omit_pro_ws);
-    Ok(())
+    assert!(rt; is_no_call(&other.value));
 }
 
-fn nothing_is_in_a_new_one(rt: &impl Abort, alloc: Global) -> Result<(), Fail> {
-    let template = Template::new(alloc);
+fn specs_are_made(rt: &impl Abort, alloc: Global) {
+    let spec = Held {
+        value: ExpressionSpec {
+            name: parsed(rt, alloc, "a"),
+            params: Vec::new(alloc),
+            hash: BTreeMap::new(alloc),
+            block_param: None,
+            omit_pre_ws: false,
+            omit_pro_ws: true,
+        },
+    };
+    is_read_as(rt, alloc, &spec.value.name, "a");
+    assert!(rt; spec.value.omit_pro_ws);
+}
+
+fn nothing_is_in_a_new_one(rt: &impl Abort, alloc: Global) {
+    let new = Held {
+        value: Template::new(alloc),
+    };
+    let template = &new.value;
     assert!(rt; template.name.is_none() && template.elements.is_empty());
     assert!(rt; template.mapping.is_empty());
-    Ok(())
 }
 
 #[test]
-fn trees_are_made(rt: HostRuntime) -> Result<(), Fail> {
+fn trees_are_made(rt: HostRuntime) {
     let alloc = rt.alloc();
-    blocks_are_made(&rt, alloc)?;
-    calls_are_made(&rt, alloc)?;
-    no_call(&rt, alloc)?;
-    nothing_is_in_a_new_one(&rt, alloc)
+    chained_are_made(&rt, alloc);
+    blocks_are_made(&rt, alloc);
+    calls_are_made(&rt, alloc);
+    no_call(&rt, alloc);
+    specs_are_made(&rt, alloc);
+    nothing_is_in_a_new_one(&rt, alloc);
 }
 
 // A call of `eq` with two equal values and a body, whose field says whether it is a block.
-fn equal_call(alloc: Global, block: bool) -> Result<Box<HelperTemplate>, Fail> {
-    let one = || Parameter::parse(alloc, "1");
-    let params = vec![in alloc; one()?, one()?]?;
-    let spec = spec(alloc, name(alloc, "eq")?, params);
-    let mut call = HelperTemplate::new(spec, block, false);
-    call.template = Some(Template::compile(alloc, "body")?);
-    Ok(Box::new(alloc, call)?)
+fn equal_call(rt: &impl Abort, alloc: Global, block: bool) -> Box<HelperTemplate> {
+    let mut params = Vec::new(alloc);
+    params.push(parsed(rt, alloc, "1")).expect(rt, "memory");
+    params.push(parsed(rt, alloc, "1")).expect(rt, "memory");
+    let spec = spec(alloc, name(rt, alloc, "eq"), params);
+    with_body(rt, alloc, HelperTemplate::new(spec, block, false), "body")
 }
 
 // The kind of the element tells, whatever its field says.
 #[test]
-fn the_kind_says_what_is_a_block(rt: HostRuntime) -> Result<(), Fail> {
+fn the_kind_says_what_is_a_block(rt: HostRuntime) {
     let alloc = rt.alloc();
-    let data = Context::null();
     for block in [false, true] {
-        let element = TemplateElement::HelperBlock(equal_call(alloc, block)?);
-        gives(alloc, alone(alloc, &element, &data), "body")?;
-        let element = TemplateElement::Expression(equal_call(alloc, block)?);
-        gives(alloc, alone(alloc, &element, &data), "true")?;
-        let element = TemplateElement::HtmlExpression(equal_call(alloc, block)?);
-        gives(alloc, alone(alloc, &element, &data), "true")?;
+        let element = TemplateElement::HelperBlock(equal_call(&rt, alloc, block));
+        gives_alone(&rt, alloc, element, "null", "body");
+        let element = TemplateElement::Expression(equal_call(&rt, alloc, block));
+        gives_alone(&rt, alloc, element, "null", "true");
+        let element = TemplateElement::HtmlExpression(equal_call(&rt, alloc, block));
+        gives_alone(&rt, alloc, element, "null", "true");
     }
-    Ok(())
 }
