@@ -187,14 +187,34 @@ fn write_template(
     let registry = registry_of(alloc, row)?;
     let data = Context::try_from(row.data.clone()?)?;
     match &row.rendered {
-        Rendered::Source(source) => {
-            let template = Template::compile(alloc, source.as_str())?;
-            write_tree(alloc, &registry, &template, &data, out, log)
-        }
-        Rendered::Name(name) => match registry.get_template(name.as_str()) {
-            Some(template) => write_tree(alloc, &registry, template, &data, out, log),
-            None => Err(RenderErrorReason::TemplateNotFound(name.clone()?).into()),
-        },
+        Rendered::Source(source) => write_source(alloc, &registry, source, &data, out, log),
+        Rendered::Name(name) => write_named(alloc, &registry, name, &data, out, log),
+    }
+}
+
+fn write_source(
+    alloc: Global,
+    registry: &Registry,
+    source: &String,
+    data: &Context,
+    out: &mut Bounded,
+    log: &Memory,
+) -> Result<(), RenderError> {
+    let template = Template::compile(alloc, source.as_str())?;
+    write_tree(alloc, registry, &template, data, out, log)
+}
+
+fn write_named(
+    alloc: Global,
+    registry: &Registry,
+    name: &String,
+    data: &Context,
+    out: &mut Bounded,
+    log: &Memory,
+) -> Result<(), RenderError> {
+    match registry.get_template(name.as_str()) {
+        Some(template) => write_tree(alloc, registry, template, data, out, log),
+        None => Err(RenderErrorReason::TemplateNotFound(name.clone()?).into()),
     }
 }
 

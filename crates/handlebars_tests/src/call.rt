@@ -32,7 +32,7 @@ impl Drop for Call {
 }
 
 /// A call, and what it is asked of.
-#[derive(Debug, Drop)]
+#[derive(Drop)]
 pub enum Asked {
     Text(TextCall, String),
     Value(ValueCall, JsonValue),
@@ -98,7 +98,7 @@ struct Fields {
     call: Option<String>,
     of: Option<JsonValue>,
     name: Option<String>,
-    data: JsonValue,
+    data: Option<JsonValue>,
     gives: Option<String>,
     printed: Option<String>,
 }
@@ -119,21 +119,26 @@ impl Drop for Fields {
 impl Fields {
     fn take(&mut self, alloc: Global, name: String, value: JsonValue) -> Result<(), RowFailure> {
         match name.as_str() {
-            "call" => self.call = Some(fields::text(alloc, name, value)?),
-            "of" => self.of = Some(value),
-            "name" => self.name = Some(fields::text(alloc, name, value)?),
-            "data" => self.data = value,
-            "gives" => self.gives = Some(fields::text(alloc, name, value)?),
-            "printed" => self.printed = Some(fields::text(alloc, name, value)?),
-            _ => return Err(RowFailure::UnknownField(name)),
+            "call" => fields::set_text(&mut self.call, alloc, name, value),
+            "of" => fields::set(&mut self.of, value),
+            "name" => fields::set_text(&mut self.name, alloc, name, value),
+            "data" => fields::set(&mut self.data, value),
+            "gives" => fields::set_text(&mut self.gives, alloc, name, value),
+            "printed" => fields::set_text(&mut self.printed, alloc, name, value),
+            _ => Err(RowFailure::Field(name, "is no field")),
         }
-        Ok(())
     }
 
     fn into_call(self, alloc: Global) -> Result<Call, RowFailure> {
         let mut fields = self;
-        let call = fields.call.take().ok_or(RowFailure::Missing("call"))?;
-        let of = fields.of.take().ok_or(RowFailure::Missing("of"))?;
+        let call = fields
+            .call
+            .take()
+            .ok_or(RowFailure::Fields("a call is missing"))?;
+        let of = fields
+            .of
+            .take()
+            .ok_or(RowFailure::Fields("what is asked of is missing"))?;
         let asked = call_asked(alloc, call.as_str(), of)?;
         let wanted = wanted(fields.gives.take(), fields.printed.take())?;
         Ok(fields.call(call, asked, wanted))
@@ -152,7 +157,7 @@ impl Fields {
             call,
             asked,
             name,
-            data,
+            data: data.unwrap_or(JsonValue::Null),
             wanted,
         }
     }
@@ -165,7 +170,7 @@ fn call_asked(alloc: Global, call: &str, of: JsonValue) -> Result<Asked, RowFail
     }
     match ValueCall::named(call) {
         Some(call) => Ok(Asked::Value(call, of)),
-        None => Err(RowFailure::UnknownCall(String::from_str(alloc, call)?)),
+        None => Err(RowFailure::Field(String::from_str(alloc, call)?, "is no call")),
     }
 }
 
@@ -173,6 +178,6 @@ fn wanted(gives: Option<String>, printed: Option<String>) -> Result<Reply, RowFa
     match (gives, printed) {
         (Some(text), None) => Ok(Reply::Gives(text)),
         (None, Some(text)) => Ok(Reply::Prints(text)),
-        _ => Err(RowFailure::NoReply),
+        _ => Err(RowFailure::Fields("either what is given or what is printed is wanted")),
     }
 }

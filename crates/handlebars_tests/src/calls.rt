@@ -18,7 +18,7 @@ use std::collections::VecDeque;
 use std::fmt::{Debug, Display};
 
 /// Calls that are asked of a text.
-#[derive(Clone, Copy, Debug)]
+#[derive(Clone, Copy)]
 pub enum TextCall {
     ParsePath,
     SplitPath,
@@ -70,7 +70,7 @@ impl TextCall {
 }
 
 /// Calls that are asked of a value, or of two of them.
-#[derive(Clone, Copy, Debug)]
+#[derive(Clone, Copy)]
 pub enum ValueCall {
     Render,
     Equal,
@@ -100,20 +100,20 @@ impl Call {
 
     fn of_text(&self, alloc: Global, call: TextCall, text: &str) -> Result<Reply, AllocError> {
         match call {
-            TextCall::ParsePath => answered(alloc, &Path::parse(alloc, text)),
+            TextCall::ParsePath => answered(alloc, Path::parse(alloc, text)),
             TextCall::SplitPath => shown(alloc, &split_path(text)),
-            TextCall::ReadFront => shown(alloc, &read_front(alloc, text)?),
+            TextCall::ReadFront => held(alloc, read_front(alloc, text)),
             TextCall::SplitLiteral => shown(alloc, &split_literal(alloc, text)?),
-            TextCall::LiteralValue => shown(alloc, &literal_value(alloc, text)?),
+            TextCall::LiteralValue => held(alloc, literal_value(alloc, text)),
             TextCall::SplitLine(enclosure) => shown(alloc, &split_line(alloc, enclosure, text)?),
             TextCall::SplitBinding => shown(alloc, &split_binding(text)),
-            TextCall::ParseParameter => answered(alloc, &Parameter::parse(alloc, text)),
-            TextCall::Compile => answered(alloc, &Template::compile(alloc, text)),
-            TextCall::CompileWithName => answered(alloc, &self.compiled_with_name(alloc, text)),
-            TextCall::Compile2 => answered(alloc, &self.compiled2(alloc, text)),
-            TextCall::EscapeHtml => Ok(Reply::Gives(escape_html(alloc, text)?)),
-            TextCall::HtmlEscape => Ok(Reply::Gives(html_escape(alloc, text)?)),
-            TextCall::NoEscape => Ok(Reply::Gives(no_escape(alloc, text)?)),
+            TextCall::ParseParameter => answered(alloc, Parameter::parse(alloc, text)),
+            TextCall::Compile => answered(alloc, Template::compile(alloc, text)),
+            TextCall::CompileWithName => answered(alloc, self.compiled_with_name(alloc, text)),
+            TextCall::Compile2 => answered(alloc, self.compiled2(alloc, text)),
+            TextCall::EscapeHtml => gives(escape_html(alloc, text)),
+            TextCall::HtmlEscape => gives(html_escape(alloc, text)),
+            TextCall::NoEscape => gives(no_escape(alloc, text)),
             TextCall::Resolve => told(alloc, self.resolved(alloc, text)),
             TextCall::Evaluate => told(alloc, self.evaluated(alloc, text)),
             TextCall::Expand => told(alloc, self.expanded(alloc, text)),
@@ -236,17 +236,35 @@ fn shown(alloc: Global, value: &impl Debug) -> Result<Reply, AllocError> {
     Ok(Reply::Gives(format!(in alloc; "{value:?}")?))
 }
 
+// What an answer holds, where there was memory for it.
+fn held<T: Debug + Drop>(
+    alloc: Global,
+    answer: Result<T, AllocError>,
+) -> Result<Reply, AllocError> {
+    match answer {
+        Ok(value) => shown(alloc, &value),
+        Err(AllocError) => Err(AllocError),
+    }
+}
+
+fn gives(answer: Result<String, AllocError>) -> Result<Reply, AllocError> {
+    match answer {
+        Ok(text) => Ok(Reply::Gives(text)),
+        Err(AllocError) => Err(AllocError),
+    }
+}
+
 fn printed(alloc: Global, error: &impl Display) -> Result<Reply, AllocError> {
     Ok(Reply::Prints(error.to_string(alloc)?))
 }
 
-fn answered<T: Debug, E: Display>(
+fn answered<T: Debug + Drop, E: Display + Drop>(
     alloc: Global,
-    answer: &Result<T, E>,
+    answer: Result<T, E>,
 ) -> Result<Reply, AllocError> {
     match answer {
-        Ok(value) => shown(alloc, value),
-        Err(error) => printed(alloc, error),
+        Ok(value) => shown(alloc, &value),
+        Err(error) => printed(alloc, &error),
     }
 }
 

@@ -13,9 +13,9 @@ pub fn text(alloc: Global, name: String, value: JsonValue) -> Result<String, Row
         JsonValue::String(text) => Ok(text),
         JsonValue::Array(pieces) => match joined(alloc, pieces.as_slice())? {
             Some(text) => Ok(text),
-            None => Err(RowFailure::NoText(name)),
+            None => Err(RowFailure::Field(name, "is no text")),
         },
-        _ => Err(RowFailure::NoText(name)),
+        _ => Err(RowFailure::Field(name, "is no text")),
     }
 }
 
@@ -56,47 +56,100 @@ pub fn json(alloc: Global, name: String, value: JsonValue) -> Result<JsonValue, 
     let text = text(alloc, key, value)?;
     match JsonValue::from_str(alloc, text.as_str()) {
         Ok(value) => Ok(value),
-        Err(_) => Err(RowFailure::NoJson(name)),
+        Err(_) => Err(RowFailure::Field(name, "is no text in JSON")),
     }
 }
 
-/// An object of texts.
-pub fn texts(name: String, value: JsonValue) -> Result<Map<String, JsonValue>, RowFailure> {
+/// Sets the field to the value.
+pub fn set(field: &mut Option<JsonValue>, value: JsonValue) -> Result<(), RowFailure> {
+    *field = Some(value);
+    Ok(())
+}
+
+/// Sets the field to a text, or a long one.
+pub fn set_text(
+    field: &mut Option<String>,
+    alloc: Global,
+    name: String,
+    value: JsonValue,
+) -> Result<(), RowFailure> {
+    *field = Some(text(alloc, name, value)?);
+    Ok(())
+}
+
+/// Sets the field to an object of texts.
+pub fn set_texts(
+    field: &mut Option<Map<String, JsonValue>>,
+    name: String,
+    value: JsonValue,
+) -> Result<(), RowFailure> {
     let JsonValue::Object(members) = value else {
-        return Err(RowFailure::NoTexts(name));
+        return Err(RowFailure::Field(name, "is no object"));
     };
+    if !all_texts(&members) {
+        return Err(RowFailure::Field(name, "has a member that is no text"));
+    }
+    *field = Some(members);
+    Ok(())
+}
+
+fn all_texts(members: &Map<String, JsonValue>) -> bool {
     for (_key, member) in members.iter() {
         if !member.is_string() {
-            return Err(RowFailure::NoTexts(name));
+            return false;
         }
     }
-    Ok(members)
+    true
 }
 
-/// An object of names of helpers, and of nulls.
-pub fn helpers(name: String, value: JsonValue) -> Result<Map<String, JsonValue>, RowFailure> {
+/// Sets the field to an object of names of helpers, and of nulls.
+pub fn set_helpers(
+    field: &mut Option<Map<String, JsonValue>>,
+    name: String,
+    value: JsonValue,
+) -> Result<(), RowFailure> {
     let JsonValue::Object(members) = value else {
-        return Err(RowFailure::NoHelpers(name));
+        return Err(RowFailure::Field(name, "is no object"));
     };
+    if !all_helpers(&members) {
+        return Err(RowFailure::Field(name, "has a member that is no helper"));
+    }
+    *field = Some(members);
+    Ok(())
+}
+
+fn all_helpers(members: &Map<String, JsonValue>) -> bool {
     for (_key, member) in members.iter() {
         if !member.is_null() && helper_named(member).is_none() {
-            return Err(RowFailure::NoHelpers(name));
+            return false;
         }
     }
-    Ok(members)
+    true
 }
 
-/// An array of lines, each a level and a text.
-pub fn lines(name: String, value: JsonValue) -> Result<Vec<JsonValue>, RowFailure> {
+/// Sets the field to an array of lines, each a level and a text.
+pub fn set_lines(
+    field: &mut Option<Vec<JsonValue>>,
+    name: String,
+    value: JsonValue,
+) -> Result<(), RowFailure> {
     let JsonValue::Array(lines) = value else {
-        return Err(RowFailure::NoLines(name));
+        return Err(RowFailure::Field(name, "is no array"));
     };
-    for value in &lines {
+    if !all_lines(lines.as_slice()) {
+        return Err(RowFailure::Field(name, "has an element that is no line"));
+    }
+    *field = Some(lines);
+    Ok(())
+}
+
+fn all_lines(lines: &[JsonValue]) -> bool {
+    for value in lines {
         if line(value).is_none() {
-            return Err(RowFailure::NoLines(name));
+            return false;
         }
     }
-    Ok(lines)
+    true
 }
 
 /// The level and the text of a line.
@@ -107,28 +160,46 @@ pub fn line(value: &JsonValue) -> Option<(&str, &str)> {
     }
 }
 
-/// A kind of fault, by its name.
-pub fn fault(name: String, value: &JsonValue) -> Result<ErrorKind, RowFailure> {
-    match value.as_str() {
-        Some("NotFound") => Ok(ErrorKind::NotFound),
-        Some("Interrupted") => Ok(ErrorKind::Interrupted),
-        Some("OutOfMemory") => Ok(ErrorKind::OutOfMemory),
-        _ => Err(RowFailure::NoFault(name)),
+/// Sets the field to a kind of fault, by its name.
+pub fn set_fault(
+    field: &mut Option<ErrorKind>,
+    name: String,
+    value: &JsonValue,
+) -> Result<(), RowFailure> {
+    let Some(kind) = fault(value) else {
+        return Err(RowFailure::Field(name, "is no fault"));
+    };
+    *field = Some(kind);
+    Ok(())
+}
+
+fn fault(value: &JsonValue) -> Option<ErrorKind> {
+    match value.as_str()? {
+        "NotFound" => Some(ErrorKind::NotFound),
+        "Interrupted" => Some(ErrorKind::Interrupted),
+        "OutOfMemory" => Some(ErrorKind::OutOfMemory),
+        _ => None,
     }
 }
 
-/// A number from 0 on.
-pub fn number(name: String, value: &JsonValue) -> Result<usize, RowFailure> {
-    match value.as_u64() {
-        Some(number) => Ok(number as usize),
-        None => Err(RowFailure::NoNumber(name)),
-    }
+/// Sets the field to a number from 0 on.
+pub fn set_number(
+    field: &mut Option<usize>,
+    name: String,
+    value: &JsonValue,
+) -> Result<(), RowFailure> {
+    let Some(number) = value.as_u64() else {
+        return Err(RowFailure::Field(name, "is no number from 0 on"));
+    };
+    *field = Some(number as usize);
+    Ok(())
 }
 
-/// A boolean.
-pub fn boolean(name: String, value: &JsonValue) -> Result<bool, RowFailure> {
-    match value.as_bool() {
-        Some(boolean) => Ok(boolean),
-        None => Err(RowFailure::NoBoolean(name)),
-    }
+/// Sets the field to a boolean.
+pub fn set_boolean(field: &mut bool, name: String, value: &JsonValue) -> Result<(), RowFailure> {
+    let Some(boolean) = value.as_bool() else {
+        return Err(RowFailure::Field(name, "is no boolean"));
+    };
+    *field = boolean;
+    Ok(())
 }

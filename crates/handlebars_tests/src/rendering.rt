@@ -120,24 +120,33 @@ impl Drop for Fields {
 impl Fields {
     fn take(&mut self, alloc: Global, name: String, value: JsonValue) -> Result<(), RowFailure> {
         match name.as_str() {
-            "templates" => self.templates = Some(fields::texts(name, value)?),
-            "helpers" => self.helpers = Some(fields::helpers(name, value)?),
-            "strict" => self.strict = fields::boolean(name, &value)?,
-            "recursive" => self.recursive = fields::boolean(name, &value)?,
-            "source" => self.source = Some(fields::text(alloc, name, value)?),
-            "name" => self.name = Some(fields::text(alloc, name, value)?),
-            "data" => self.set_data(value)?,
-            "json" => self.set_data(fields::json(alloc, name, value)?)?,
-            "takes" => self.takes = Some(fields::number(name, &value)?),
-            "fault" => self.fault = Some(fields::fault(name, &value)?),
-            _ => return self.take_wanted(alloc, name, value),
+            "templates" => fields::set_texts(&mut self.templates, name, value),
+            "helpers" => fields::set_helpers(&mut self.helpers, name, value),
+            "strict" => fields::set_boolean(&mut self.strict, name, &value),
+            "recursive" => fields::set_boolean(&mut self.recursive, name, &value),
+            "source" => fields::set_text(&mut self.source, alloc, name, value),
+            "name" => fields::set_text(&mut self.name, alloc, name, value),
+            "data" => self.set_data(value),
+            "json" => self.set_json(alloc, name, value),
+            "takes" => fields::set_number(&mut self.takes, name, &value),
+            "fault" => fields::set_fault(&mut self.fault, name, &value),
+            _ => self.take_wanted(alloc, name, value),
         }
-        Ok(())
+    }
+
+    fn set_json(
+        &mut self,
+        alloc: Global,
+        name: String,
+        value: JsonValue,
+    ) -> Result<(), RowFailure> {
+        let value = fields::json(alloc, name, value)?;
+        self.set_data(value)
     }
 
     fn set_data(&mut self, value: JsonValue) -> Result<(), RowFailure> {
         if self.data.is_some() {
-            return Err(RowFailure::TwoData);
+            return Err(RowFailure::Fields("both data and json"));
         }
         self.data = Some(value);
         Ok(())
@@ -150,25 +159,26 @@ impl Fields {
         value: JsonValue,
     ) -> Result<(), RowFailure> {
         match name.as_str() {
-            "text" => self.text = Some(fields::text(alloc, name, value)?),
-            "reason" => self.reason = Some(fields::text(alloc, name, value)?),
-            "line" => self.line = Some(fields::number(name, &value)?),
-            "column" => self.column = Some(fields::number(name, &value)?),
-            "template" => self.template = Some(fields::text(alloc, name, value)?),
-            "printed" => self.printed = Some(fields::text(alloc, name, value)?),
-            "logged" => self.logged = Some(fields::lines(name, value)?),
-            _ => return Err(RowFailure::UnknownField(name)),
+            "text" => fields::set_text(&mut self.text, alloc, name, value),
+            "reason" => fields::set_text(&mut self.reason, alloc, name, value),
+            "line" => fields::set_number(&mut self.line, name, &value),
+            "column" => fields::set_number(&mut self.column, name, &value),
+            "template" => fields::set_text(&mut self.template, alloc, name, value),
+            "printed" => fields::set_text(&mut self.printed, alloc, name, value),
+            "logged" => fields::set_lines(&mut self.logged, name, value),
+            _ => Err(RowFailure::Field(name, "is no field")),
         }
-        Ok(())
     }
 
     // What only stands beside another field.
     fn check(&self) -> Result<(), RowFailure> {
         if self.reason.is_none() && self.tells_of_refusal() {
-            return Err(RowFailure::NoReason);
+            return Err(RowFailure::Fields(
+                "a line, a column, a template or a printed text without a reason",
+            ));
         }
         if self.takes.is_none() && self.fault.is_some() {
-            return Err(RowFailure::NoOutput);
+            return Err(RowFailure::Fields("a fault without an output that takes so much"));
         }
         Ok(())
     }
@@ -184,7 +194,10 @@ impl Fields {
         let mut fields = self;
         fields.check()?;
         let rendered = template_of(fields.source.take(), fields.name.take())?;
-        let text = fields.text.take().ok_or(RowFailure::Missing("text"))?;
+        let text = fields
+            .text
+            .take()
+            .ok_or(RowFailure::Fields("the text is missing"))?;
         Ok(fields.rendering(rendered, text))
     }
 
@@ -236,6 +249,6 @@ fn template_of(source: Option<String>, name: Option<String>) -> Result<Rendered,
     match (source, name) {
         (Some(source), None) => Ok(Rendered::Source(source)),
         (None, Some(name)) => Ok(Rendered::Name(name)),
-        _ => Err(RowFailure::NoTemplate),
+        _ => Err(RowFailure::Fields("either a source or a name is wanted")),
     }
 }

@@ -5,7 +5,6 @@ use crate::rendering::Rendering;
 use handlebars::JsonValue;
 use std::alloc::{AllocError, Global};
 use std::fmt;
-use thiserror::Error;
 
 /// What is asked, and what is wanted of it.
 #[derive(Drop)]
@@ -18,7 +17,7 @@ impl Row {
     /// The row of an object; one with a `call` asks a call.
     pub fn read(alloc: Global, value: JsonValue) -> Result<Row, RowFailure> {
         let JsonValue::Object(members) = value else {
-            return Err(RowFailure::NoObject);
+            return Err(RowFailure::Fields("no object"));
         };
         if members.contains_key("call") {
             Ok(Row::Call(Call::read(alloc, members)?))
@@ -38,42 +37,25 @@ impl fmt::Display for Row {
 }
 
 /// Why a value is no row.
-#[derive(Debug, Drop, Error)]
+#[derive(Drop)]
 pub enum RowFailure {
-    #[error("no object")]
-    NoObject,
-    #[error("unknown field {0:?}")]
-    UnknownField(String),
-    #[error("unknown call {0:?}")]
-    UnknownCall(String),
-    #[error("{0:?} is no text")]
-    NoText(String),
-    #[error("{0:?} is no number from 0 on")]
-    NoNumber(String),
-    #[error("{0:?} is no boolean")]
-    NoBoolean(String),
-    #[error("{0:?} is no object of texts")]
-    NoTexts(String),
-    #[error("{0:?} is no object of helpers")]
-    NoHelpers(String),
-    #[error("{0:?} is no array of lines")]
-    NoLines(String),
-    #[error("{0:?} is no fault")]
-    NoFault(String),
-    #[error("{0:?} is no text in JSON")]
-    NoJson(String),
-    #[error("{0:?} is missing")]
-    Missing(&'static str),
-    #[error("either a source or a name is wanted")]
-    NoTemplate,
-    #[error("both data and json")]
-    TwoData,
-    #[error("a line, a column, a template or a printed text without a reason")]
-    NoReason,
-    #[error("a fault without an output that takes so much")]
-    NoOutput,
-    #[error("either what is given or what is printed is wanted")]
-    NoReply,
-    #[error("out of memory")]
-    OutOfMemory(#[from(alloc)] AllocError),
+    /// A field, and what it is that it may not be.
+    Field(String, &'static str),
+    /// What is wrong with the fields together.
+    Fields(&'static str),
+}
+
+impl fmt::Display for RowFailure {
+    fn fmt<W: fmt::Write>(&self, f: &mut fmt::Formatter<W>) -> fmt::Result {
+        match self {
+            RowFailure::Field(name, what) => write!(f, "{name:?} {what}"),
+            RowFailure::Fields(what) => write!(f, "{what}"),
+        }
+    }
+}
+
+impl From<AllocError> for RowFailure {
+    fn from(_e: AllocError) -> Self {
+        RowFailure::Fields("out of memory")
+    }
 }
