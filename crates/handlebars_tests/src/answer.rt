@@ -1,17 +1,17 @@
 //! What a rendering answers.
 
 ghost use Rattle.std.specs.Prelude.{◌≡◌, IfOk, IsTrue, IfSome, Some, is_some, not, option_map, string_bytes};
-ghost use Rattle.handlebars_tests.specs.Outcomes.{outcome_view, handed_of, handed_out};
+ghost use Rattle.handlebars_rows.specs.Outcomes.{outcome_view, handed_of, handed_out};
 
-use crate::bounded::Bounded;
-use crate::helpers::helper_named;
-use crate::outcome::{Outcome, Refusal};
-use crate::rendering::{Rendered, Rendering};
-use crate::told::{Told, Wanted};
 use handlebars::{
     Context, HelperEntry, JsonValue, NoFiles, Registry, RenderContext, RenderError,
     RenderErrorReason, Renderable, Template,
 };
+use handlebars_rows::bounded::Bounded;
+use handlebars_rows::helpers::helper_named;
+use handlebars_rows::outcome::{Outcome, Refusal};
+use handlebars_rows::rendering::{Rendered, Rendering};
+use handlebars_rows::told::{Told, Wanted};
 use log::sink::Memory;
 use serde_json::Map;
 use std::alloc::{AllocError, Global};

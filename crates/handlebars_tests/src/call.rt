@@ -1,9 +1,9 @@
 //! Rows that ask one call.
 
 use crate::calls::{TextCall, ValueCall};
-use crate::fields;
-use crate::row::RowFailure;
 use handlebars::JsonValue;
+use handlebars_rows::failure::RowFailure;
+use handlebars_rows::fields;
 use serde_json::Map;
 use std::alloc::Global;
 use std::fmt;
@@ -48,7 +48,7 @@ pub enum Reply {
 
 impl Reply {
     ghost use Rattle.std.specs.Prelude.{◌≡◌, IsTrue};
-    ghost use Rattle.handlebars_tests.specs.Outcomes.{reply_view};
+    ghost use Rattle.handlebars_tests.specs.Replies.{reply_view};
 
     /// Whether both are one reply.
     pub fn equals(&self, wanted: &Reply) -> bool

@@ -3,18 +3,10 @@
 #![tactic(auto)]
 
 mod answer;
-mod bounded;
 mod call;
 mod calls;
-mod failure;
-mod fields;
-mod files;
-mod helpers;
-mod outcome;
-mod rendering;
 mod row;
 mod run;
-mod told;
 
 use run::run;
 use std::process::ExitCode;

@@ -1,10 +1,12 @@
 //! Rows, read from JSON.
 
 use crate::call::Call;
-use crate::rendering::Rendering;
 use handlebars::JsonValue;
-use std::alloc::{AllocError, Global};
-use std::fmt;
+use handlebars_rows::failure::{Failure, RowFailure};
+use handlebars_rows::rendering::Rendering;
+use std::alloc::Global;
+use std::rt::Files;
+use std::{fmt, fs};
 
 /// What is asked, and what is wanted of it.
 #[derive(Drop)]
@@ -36,26 +38,18 @@ impl fmt::Display for Row {
     }
 }
 
-/// Why a value is no row.
-#[derive(Drop)]
-pub enum RowFailure {
-    /// A field, and what it is that it may not be.
-    Field(String, &'static str),
-    /// What is wrong with the fields together.
-    Fields(&'static str),
-}
-
-impl fmt::Display for RowFailure {
-    fn fmt<W: fmt::Write>(&self, f: &mut fmt::Formatter<W>) -> fmt::Result {
-        match self {
-            RowFailure::Field(name, what) => write!(f, "{name:?} {what}"),
-            RowFailure::Fields(what) => write!(f, "{what}"),
-        }
+/// The rows of a file.
+pub fn rows<R: Files + AllocGlobal>(rt: &R, path: &str) -> Result<Vec<Row>, Failure> {
+    let text = fs::read_to_string(rt, path).map_err(Failure::CannotRead)?;
+    let value = JsonValue::from_str(rt.alloc(), text.as_str()).map_err(Failure::NotJson)?;
+    let JsonValue::Array(values) = value else {
+        return Err(Failure::NoArray);
+    };
+    let mut rows = Vec::new(rt.alloc());
+    for (index, value) in values.into_iter().enumerate() {
+        let number = index.saturating_add(1);
+        let row = Row::read(rt.alloc(), value).map_err(|cause| Failure::NoRow(number, cause))?;
+        rows.push(row)?;
     }
-}
-
-impl From<AllocError> for RowFailure {
-    fn from(_e: AllocError) -> Self {
-        RowFailure::Fields("out of memory")
-    }
+    Ok(rows)
 }

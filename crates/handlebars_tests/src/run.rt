@@ -2,10 +2,10 @@
 
 use crate::answer::Answer;
 use crate::call::{Call, Reply};
-use crate::failure::Failure;
-use crate::files::{file_paths, rows, words};
-use crate::rendering::Rendering;
-use crate::row::Row;
+use crate::row::{Row, rows};
+use handlebars_rows::failure::Failure;
+use handlebars_rows::files::{file_paths, words};
+use handlebars_rows::rendering::Rendering;
 use std::alloc::{AllocError, Global};
 use std::fmt;
 use std::rt::{Env, Files};

@@ -1,8 +1,6 @@
-//! The files that words stand for, and the rows in them.
+//! The files that words stand for.
 
 use crate::failure::Failure;
-use crate::row::Row;
-use handlebars::JsonValue;
 use std::rt::{Env, Files};
 use std::{env, fs};
 
@@ -52,20 +50,4 @@ fn folder_paths<R: Files + AllocGlobal + Clone + Drop>(
     }
     paths.sort()?;
     Ok(paths)
-}
-
-/// The rows of a file.
-pub fn rows<R: Files + AllocGlobal>(rt: &R, path: &str) -> Result<Vec<Row>, Failure> {
-    let text = fs::read_to_string(rt, path).map_err(Failure::CannotRead)?;
-    let value = JsonValue::from_str(rt.alloc(), text.as_str()).map_err(Failure::NotJson)?;
-    let JsonValue::Array(values) = value else {
-        return Err(Failure::NoArray);
-    };
-    let mut rows = Vec::new(rt.alloc());
-    for (index, value) in values.into_iter().enumerate() {
-        let number = index.saturating_add(1);
-        let row = Row::read(rt.alloc(), value).map_err(|cause| Failure::NoRow(number, cause))?;
-        rows.push(row)?;
-    }
-    Ok(rows)
 }

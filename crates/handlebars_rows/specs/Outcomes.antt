@@ -1,10 +1,8 @@
 -- What rows come to, as plain data.
 use Rattle.std.specs.Prelude.{ℕ, List, Option, None, Some, option_map, Result, Ok, Err, String, string_bytes}
 use Rattle.std.specs.declared.alloc.Global.{Global}
-use Rattle.handlebars_tests.specs.declared.outcome.Refusal.{Refusal}
-use Rattle.handlebars_tests.specs.declared.outcome.Outcome.{Outcome}
-use Rattle.handlebars_tests.specs.declared.call.Reply.{Reply}
-use Rattle.handlebars_tests.specs.declared.call.Reply.TheVariants.{Gives, Prints}
+use Rattle.handlebars_rows.specs.declared.outcome.Refusal.{Refusal}
+use Rattle.handlebars_rows.specs.declared.outcome.Outcome.{Outcome}
 
 -- the reason's text, line and column, and the name of the template
 pub record RefusalView : Type 0 where
@@ -45,12 +43,3 @@ handed_where text (Some r) = refused r
 
 abbrev pub handed_out : OutcomeView → Handed
 handed_out o = handed_where o.text o.refusal
-
--- what a call answers: what it gives, or the text of its error
-pub data ReplyView : Type 0 where
-  given : List ℕ → ReplyView
-  printed : List ℕ → ReplyView
-
-abbrev pub reply_view : Reply → ReplyView
-reply_view (Gives text) = given (string_bytes text)
-reply_view (Prints text) = printed (string_bytes text)

@@ -1,6 +1,6 @@
 //! An output that takes so much.
 
-use handlebars::{Output, StringOutput};
+use handlebars_scope::output::{Output, StringOutput};
 use std::alloc::Global;
 use std::io;
 use std::io::ErrorKind;

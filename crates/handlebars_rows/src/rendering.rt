@@ -1,11 +1,10 @@
 //! Rows that render a template.
 
+use crate::failure::RowFailure;
 use crate::fields;
 use crate::outcome::{Outcome, Refusal};
-use crate::row::RowFailure;
 use crate::told::Wanted;
-use handlebars::JsonValue;
-use serde_json::Map;
+use serde_json::{Map, Value as JsonValue};
 use std::alloc::Global;
 use std::fmt;
 use std::io::ErrorKind;

@@ -4,8 +4,9 @@ ghost use Rattle.std.specs.Prelude.{◌≡◌, IsTrue, IfSome, Some, option_map,
 
 use crate::fields::line;
 use crate::outcome::Outcome;
-use handlebars::{JsonValue, RenderError};
+use handlebars_base::error::RenderError;
 use log::sink::{Lines, Memory};
+use serde_json::Value as JsonValue;
 use std::alloc::{AllocError, Global};
 use std::fmt;
 

@@ -1,6 +1,7 @@
 //! The names of the built-in helpers.
 
-use handlebars::{BuiltIn, JsonValue};
+use handlebars_helpers::built_in::BuiltIn;
+use serde_json::Value as JsonValue;
 
 /// The built-in helper that a text names.
 pub fn helper_named(value: &JsonValue) -> Option<BuiltIn> {

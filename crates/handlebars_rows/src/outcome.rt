@@ -1,6 +1,6 @@
 //! What a rendering comes to.
 
-use handlebars::{RenderError, RenderErrorReason, TemplateError};
+use handlebars_base::error::{RenderError, RenderErrorReason, TemplateError};
 use std::alloc::{AllocError, Global};
 use std::fmt;
 
@@ -13,7 +13,7 @@ pub struct Outcome {
 
 impl Outcome {
     ghost use Rattle.std.specs.Prelude.{◌≡◌, IsTrue};
-    ghost use Rattle.handlebars_tests.specs.Outcomes.{outcome_view};
+    ghost use Rattle.handlebars_rows.specs.Outcomes.{outcome_view};
 
     /// Whether both are one outcome.
     pub fn equals(&self, other: &Outcome) -> bool

@@ -1,6 +1,5 @@
-//! Why rows aren't run.
+//! Why rows aren't read or run.
 
-use crate::row::RowFailure;
 use std::alloc::{AllocError, AllocFailed};
 use std::{fmt, io};
 
@@ -42,5 +41,29 @@ impl From<AllocError> for Failure {
 impl<T: Drop> From<AllocFailed<T>> for Failure {
     fn from(_e: AllocFailed<T>) -> Self {
         Failure::OutOfMemory
+    }
+}
+
+/// Why a value is no row.
+#[derive(Drop)]
+pub enum RowFailure {
+    /// A field, and what it is that it may not be.
+    Field(String, &'static str),
+    /// What is wrong with the fields together.
+    Fields(&'static str),
+}
+
+impl fmt::Display for RowFailure {
+    fn fmt<W: fmt::Write>(&self, f: &mut fmt::Formatter<W>) -> fmt::Result {
+        match self {
+            RowFailure::Field(name, what) => write!(f, "{name:?} {what}"),
+            RowFailure::Fields(what) => write!(f, "{what}"),
+        }
+    }
+}
+
+impl From<AllocError> for RowFailure {
+    fn from(_e: AllocError) -> Self {
+        RowFailure::Fields("out of memory")
     }
 }

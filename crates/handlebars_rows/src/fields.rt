@@ -1,9 +1,8 @@
 //! What the fields of rows may be.
 
+use crate::failure::RowFailure;
 use crate::helpers::helper_named;
-use crate::row::RowFailure;
-use handlebars::JsonValue;
-use serde_json::Map;
+use serde_json::{Map, Value as JsonValue};
 use std::alloc::{AllocError, Global};
 use std::io::ErrorKind;
 

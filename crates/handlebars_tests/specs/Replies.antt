@@ -1,0 +1,13 @@
+-- What rows that ask one call come to, as plain data.
+use Rattle.std.specs.Prelude.{ℕ, List, string_bytes}
+use Rattle.handlebars_tests.specs.declared.call.Reply.{Reply}
+use Rattle.handlebars_tests.specs.declared.call.Reply.TheVariants.{Gives, Prints}
+
+-- what a call answers: what it gives, or the text of its error
+pub data ReplyView : Type 0 where
+  given : List ℕ → ReplyView
+  printed : List ℕ → ReplyView
+
+abbrev pub reply_view : Reply → ReplyView
+reply_view (Gives text) = given (string_bytes text)
+reply_view (Prints text) = printed (string_bytes text)
