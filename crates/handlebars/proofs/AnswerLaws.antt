@@ -10,12 +10,13 @@ use Rattle.handlebars_base.specs.declared.error.render_error.RenderError.{Render
 use Rattle.handlebars_template.specs.Tree.{Tree}
 use Rattle.handlebars_template.specs.Compile.{Options, Compilation, Compiles, compiled, refused}
 use Rattle.handlebars_template.proofs.One.{one_compilation}
-use Rattle.handlebars_scope.specs.Put.{Piece}
+use Rattle.handlebars_meaning.specs.Pieces.{Piece}
 use Rattle.handlebars_meaning.specs.State.{Setting, State, first_state}
 use Rattle.handlebars_meaning.specs.Means.{render_tree}
 use Rattle.handlebars_meaning.specs.Runs.{Outcome, Ended, Refused, Means}
 use Rattle.handlebars_render.specs.View.{GivesString, RefusesString}
 use Rattle.handlebars_meaning.specs.Answer.{Beginning, a_tree, no_tree, FromSource, compiles, does_not, FromName, is_stored, is_not, not_begun, rendered, GivesText, RefusesWith, HasOneAnswer, AnswerHasOrigins}
+use Rattle.handlebars_laws.proofs.Once.{comes_once}
 use Rattle.handlebars_laws.proofs.RunLaws.{Runs-one}
 use Rattle.handlebars_laws.proofs.RunOrigins.{all_have_origins}
 
@@ -100,11 +101,12 @@ module _ (p : Setting) (begins : Beginning → Type 0) (one : IsOne begins) wher
   has_one_answer _ _ _ _ (rendered {t = t} a x) (rendered {t = u} b y) h i =
       Runs-one x (Means-tree (a_tree-injective (one (a_tree t) (a_tree u) a b)) y) h i
 
-  pub answer_has_origins : AnswerHasOrigins p begins
-  answer_has_origins t _ _ c (not_begun {r = r} a) = absurd (a_tree≢no_tree (one (a_tree t) (no_tree r) c a))
-  answer_has_origins t ps o c (rendered {t = u} a x) =
-      all_have_origins p t (first_state p.parts.recursive) ps o refl
-      (Means-tree (a_tree-injective (one (a_tree t) (a_tree u) c a)) x)
+-- ---- origins
+
+pub answer_has_origins : (p : Setting) (begins : Beginning → Type 0) → AnswerHasOrigins p begins
+answer_has_origins p begins ps o (not_begun a) = tt
+answer_has_origins p begins ps o (rendered {t = t} a r) =
+    (all_have_origins p t (first_state p.parts.recursive) ps o refl r, comes_once p t (first_state p.parts.recursive) ps o r)
 
 -- ---- what calls answer
 

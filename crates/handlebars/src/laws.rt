@@ -1,6 +1,6 @@
 //! Laws that callers may cite. Each is a function that does nothing: its contract is the law.
 
-ghost use Rattle.handlebars_meaning.specs.Laws.{OneRun, StopsInBeginning, AllHaveOrigins, ElementHasOrigins};
+ghost use Rattle.handlebars_meaning.specs.Laws.{OneRun, StopsInBeginning, ComesOnce, AllHaveOrigins, ElementHasOrigins};
 ghost use Rattle.handlebars.specs.View.{setting_of};
 
 use crate::registry::Registry;
@@ -14,11 +14,13 @@ pub use handlebars_tags::laws::{clear_text, one_comment, one_tag, one_text};
 pub use handlebars_template::laws::{cuts_join, one_compilation, one_cut, one_parsing};
 
 /// Two runs of the same steps from the same state are one, unless they stop on the way; a run that
-/// stops on the way has written a beginning of the whole one's text; and all that the run of a tree
-/// or of an element alone writes has an origin in it, where escaping is on at its start.
+/// stops on the way has written a beginning of the whole one's text; a run of a tree comes to no
+/// site twice; and all that the run of a tree or of an element alone writes has an origin in it,
+/// where escaping is on at its start.
 pub fn laws_of_runs(registry: &Registry, context: &Context)
     ensures one { OneRun (setting_of registry.now context.now) }
     ensures beginning { StopsInBeginning (setting_of registry.now context.now) }
+    ensures once { ComesOnce (setting_of registry.now context.now) }
     ensures origins { AllHaveOrigins (setting_of registry.now context.now) }
     ensures element { ElementHasOrigins (setting_of registry.now context.now) }
 {}

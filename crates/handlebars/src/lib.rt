@@ -32,7 +32,10 @@ pub use handlebars_scope::local_vars::LocalVars;
 pub use handlebars_scope::output::{Output, StringOutput};
 pub use handlebars_scope::support::{escape_html, html_escape, no_escape};
 pub use handlebars_template::template;
-pub use handlebars_template::template::Template;
+pub use handlebars_template::template::{
+    BlockParam, DecoratorTemplate, ExpressionSpec, HelperTemplate, Parameter, Subexpression,
+    Template, TemplateElement, TemplateMapping, TemplateOptions,
+};
 pub use registry::{Registry, Registry as Handlebars};
 pub use render::{Expand, Renderable};
 pub use serde_json::Value as JsonValue;

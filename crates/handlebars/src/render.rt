@@ -32,8 +32,8 @@ pub trait Renderable {
     ghost steps: { Self → Steps };
 
     /// Renders over the data into an output. After a refusal the render context has failed: it
-    /// answers `Failed` from then on, and nothing more is written. What it tells of the line is then
-    /// what stood where the rendering was refused.
+    /// answers `Failed` from then on, and nothing more is written. Nothing is said of its line and of
+    /// its current template then.
     fn render<L: Log, O: Output>(
         &self,
         alloc: Global,

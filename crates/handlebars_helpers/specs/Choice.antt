@@ -4,6 +4,7 @@ use Rattle.std.specs.Map.{lookup}
 use Rattle.std.specs.Str.{bytes_eq}
 use Rattle.serde_json.specs.Data.{Data, null, boolean, number, unsigned, string, array, object}
 use Rattle.serde_json.specs.Find.{as_bool, as_number, as_str, as_u64, at, get}
+use Rattle.log.specs.declared.level.Level.{Level}
 use Rattle.handlebars_base.specs.Answers.{Answer, gives, refuses_for, answer_map}
 use Rattle.handlebars_base.specs.Bytes.{Text}
 use Rattle.handlebars_base.specs.Equal.{equals}
@@ -55,7 +56,7 @@ built_in name = lookup (bytes_eq name) built_ins
 
 -- What is rendered in the place of a call: its body or its inverse, where it has that one; its body in a block at a
 -- base; its body once for each turn, all turns in one block, with the path of what is walked, if it has one; a value; the
--- word of a boolean helper; or nothing.
+-- word of a boolean helper; or nothing, beside a line for the logger or not.
 pub data Choice : Type 0 where
   the_body : Choice
   the_inverse : Choice
@@ -63,6 +64,7 @@ pub data Choice : Type 0 where
   body_in_turns : Option (List Text) → List Turn → Choice
   the_value : Data → Choice
   the_word : Bool → Choice
+  the_line : Level → Text → Choice
   nothing : Choice
 
 -- the value that is chosen, if one is; a word is a boolean
@@ -73,6 +75,7 @@ value_in (body_in_block base) = None
 value_in (body_in_turns path ts) = None
 value_in (the_value d) = Some d
 value_in (the_word b) = Some (boolean b)
+value_in (the_line level text) = None
 value_in nothing = None
 
 -- ---- `if` and `unless`
@@ -152,8 +155,8 @@ of_two strict helper h test = answer_map (λ d. word_or_branch h (test d.0 d.1))
 -- ---- what each helper chooses, in strict mode or not
 
 -- `if` gives the body where its condition is true, `unless` where it is not; both give the inverse otherwise. `each`
--- gives the body in turns, and `with` in a block. `lookup` and `len` give a value. `raw` gives the body, and `log`
--- nothing. The others are boolean.
+-- gives the body in turns, and `with` in a block. `lookup` and `len` give a value. `raw` gives the body, and `log` its
+-- line. The others are boolean.
 abbrev pub chosen : Bool → Kind → HelperView → Answer Choice
 chosen strict kind_if h = answer_map body_if (condition h.call)
 chosen strict kind_unless h = answer_map (λ b. body_if (not b)) (condition h.call)
@@ -163,7 +166,7 @@ chosen strict kind_lookup h =
     by_param (codes "lookup") 0 h.call (λ p. by_param (codes "lookup") 1 h.call (λ key.
     lookup_choice strict (data_in p.found) (data_in key.found)))
 chosen strict kind_raw h = gives the_body
-chosen strict kind_log h = answer_map (λ line. nothing) (log_line h.call)
+chosen strict kind_log h = answer_map (λ line. the_line line.0 line.1) (log_line h.call)
 chosen strict kind_eq h = of_two strict (codes "eq") h equals
 chosen strict kind_ne h = of_two strict (codes "ne") h differ
 chosen strict kind_gt h = of_two strict (codes "gt") h greater

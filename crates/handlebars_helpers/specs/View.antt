@@ -16,7 +16,7 @@ use Rattle.handlebars_helpers.specs.CallView.{HelperView}
 use Rattle.handlebars_scope.specs.Scopes.{Base, at_path, at_value}
 use Rattle.handlebars_helpers.specs.Turns.{Turn, turns_of}
 use Rattle.handlebars_helpers.specs.TurnsLeft.{left_turns}
-use Rattle.handlebars_helpers.specs.Choice.{Kind, kind_if, kind_unless, kind_each, kind_with, kind_lookup, kind_raw, kind_log, kind_eq, kind_ne, kind_gt, kind_gte, kind_lt, kind_lte, kind_and, kind_or, kind_not, kind_len, the_body, the_inverse, body_in_block, body_in_turns, the_value, the_word, nothing}
+use Rattle.handlebars_helpers.specs.Choice.{Kind, kind_if, kind_unless, kind_each, kind_with, kind_lookup, kind_raw, kind_log, kind_eq, kind_ne, kind_gt, kind_gte, kind_lt, kind_lte, kind_and, kind_or, kind_not, kind_len, the_body, the_inverse, body_in_block, body_in_turns, the_value, the_word, the_line, nothing}
 use Rattle.handlebars_helpers.specs.Choice as plain
 use Rattle.handlebars_helpers.specs.declared.boolean.Test.{Test}
 use Rattle.handlebars_helpers.specs.declared.boolean.Test.TheVariants as test
@@ -98,7 +98,6 @@ turns_left t = left_turns t.count t.index t.left
 abbrev pub path_view : Option (Bor (Vec (String Global) Global)) → Option (List Text)
 path_view path = option_map (λ p. map string_bytes p.now.items) path
 
--- A line is written to the logger, and nothing in its place.
 abbrev pub choice_of : Choice → plain.Choice
 choice_of choice.Body = the_body
 choice_of choice.Inverse = the_inverse
@@ -108,7 +107,7 @@ choice_of (choice.Members path ms) = body_in_turns (path_view path) (turns_of (o
 choice_of (choice.Value v) = the_value (unwrap_or (option_map (λ x. view x.now) v) null)
 choice_of (choice.Count n) = the_value (number (unsigned n))
 choice_of (choice.Word b) = the_word b
-choice_of (choice.Line level text) = nothing
+choice_of (choice.Line level text) = the_line level (string_bytes text)
 choice_of choice.Nothing = nothing
 
 -- the level and the text of a line

@@ -1,3 +1,5 @@
+pub mod OneAnswer
+pub mod Once
 pub mod RunLaws
 pub mod RunOrigins
 mod Words

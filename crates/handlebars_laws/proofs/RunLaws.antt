@@ -1,11 +1,14 @@
 -- What is written is determined: two whole runs are one, and a run that stopped wrote a beginning of the whole one.
-use Rattle.std.proofs.Common.{◌≡◌, List, [], ◌∷◌, ◌++◌, refl, sym, ap, ◌∙◌, subst, append_assoc, append-nil}
+use Rattle.std.proofs.Common.{◌≡◌, Bool, List, [], ◌∷◌, ◌++◌, refl, sym, ap, ◌∙◌, subst, append_assoc, append-nil}
+use Rattle.handlebars_base.specs.Answers.{Answer}
 use Rattle.handlebars_scope.specs.Outputs.{IsBeginning}
-use Rattle.handlebars_scope.specs.Put.{Piece, join}
+use Rattle.handlebars_meaning.specs.Pieces.{Piece, join}
+use Rattle.handlebars_meaning.specs.Questions.{Question, Reply}
 use Rattle.handlebars_meaning.specs.State.{Setting, State}
 use Rattle.handlebars_meaning.specs.Steps.{Task, Steps}
-use Rattle.handlebars_meaning.specs.Runs.{Outcome, Ended, Refused, Faulted, NoMemory, IsOver, IsStop, StopsAt, Front, none, cut_off, more, marked, Runs, done, refused, wrote, got, set, did, did_over, captured, captured_over, stop, cut}
+use Rattle.handlebars_meaning.specs.Runs.{Outcome, Ended, Refused, Faulted, NoMemory, IsOver, IsStop, Stops, Front, none, cut_off, more, marked, Runs, done, refused, wrote, got, set, asked, did, did_over, captured, captured_over, stop, cut}
 use Rattle.handlebars_meaning.proofs.Runs.{join-append}
+use Rattle.handlebars_laws.proofs.OneAnswer.{IsAnswered-one}
 
 state_or : State → Outcome → State
 state_or d (Ended s) = s
@@ -21,19 +24,25 @@ Runs-state : {p : Setting} {k : Steps} {s t : State} {ps : List Piece} {o : Outc
     → Runs p k s ps o
 Runs-state {p = p} {k = k} {ps = ps} {o = o} e r = subst (λ (t : State). Runs p k t ps o) (sym e) r
 
-Runs-pieces : {p : Setting} (f : List Piece → Steps) {s : State} {xs ys ps : List Piece} {o : Outcome} → xs ≡ ys
-    → Runs p (f ys) s ps o → Runs p (f xs) s ps o
-Runs-pieces {p = p} f {s = s} {ps = ps} {o = o} e r = subst (λ (zs : List Piece). Runs p (f zs) s ps o) (sym e) r
+Runs-answer : {p : Setting} (q : Question) (f : Answer (Reply q) → Steps) {a b : Answer (Reply q)} {s : State}
+    {ps : List Piece} {o : Outcome} → a ≡ b → Runs p (f b) s ps o → Runs p (f a) s ps o
+Runs-answer {p = p} q f {s = s} {ps = ps} {o = o} e r =
+    subst (λ (z : Answer (Reply q)). Runs p (f z) s ps o) (sym e) r
+
+Runs-captured : {p : Setting} (f : List Piece → Steps) {s t : State} {xs ys ps : List Piece} {o : Outcome} → xs ≡ ys
+    → s ≡ t → Runs p (f ys) t ps o → Runs p (f xs) s ps o
+Runs-captured {p = p} f {s = s} {ps = ps} {o = o} e g r =
+    subst (λ (zs : List Piece). Runs p (f zs) s ps o) (sym e) (Runs-state g r)
 
 abbrev pub IsWhole : Outcome → Type 0
 IsWhole o = IsStop o → ⊥
 
--- a stop right here is one
-stops : (x : Piece) (o : Outcome) → StopsAt x o → IsStop o
-stops x (Ended s) h = h
-stops x (Refused f) h = h
-stops x (Faulted f) h = tt
-stops x NoMemory h = tt
+-- a stop within a write is one
+stops : (at_word : Bool) (o : Outcome) → Stops at_word o → IsStop o
+stops at_word (Ended s) h = h
+stops at_word (Refused f) h = h
+stops at_word (Faulted f) h = tt
+stops at_word NoMemory h = tt
 
 -- what is marked stops only where it stopped
 pub IsStop-marked : (t : Task) (o : Outcome) → IsStop o → IsStop (marked t o)
@@ -56,11 +65,14 @@ Runs-one refused refused h g = (refl, refl)
 Runs-one refused stop h g = absurd (g tt)
 Runs-one stop q h g = absurd (h tt)
 Runs-one (wrote {xs = xs} r) (wrote q) h g = let e = Runs-one r q h g in (ap (λ zs. xs ++ zs) e.0, e.1)
-Runs-one (wrote r) (cut {x = x} {o = o} i b) h g = absurd (g (stops x o i))
+Runs-one (wrote r) (cut {at_word = w} {o = o} i b) h g = absurd (g (stops w o i))
 Runs-one (wrote r) stop h g = absurd (g tt)
-Runs-one (cut {x = x} {o = o} i b) q h g = absurd (h (stops x o i))
+Runs-one (cut {at_word = w} {o = o} i b) q h g = absurd (h (stops w o i))
 Runs-one (got r) (got q) h g = Runs-one r q h g
 Runs-one (got r) stop h g = absurd (g tt)
+Runs-one {p = p} {s = s} (asked {q = w} {f = f} a i r) (asked b j q) h g =
+    Runs-one r (Runs-answer w f (IsAnswered-one p s w a b i j) q) h g
+Runs-one (asked a i r) stop h g = absurd (g tt)
 Runs-one (set r) (set q) h g = Runs-one r q h g
 Runs-one (set r) stop h g = absurd (g tt)
 Runs-one (did {ps = xs} {qs = ys} a b) (did {ps = zs} c d) h g =
@@ -76,7 +88,7 @@ Runs-one (did_over {t = t} {o = o} a over) (did_over {o = o'} c over') h g =
     let e = Runs-one a c (λ i. h (IsStop-marked t o i)) (λ i. g (IsStop-marked t o' i)) in (e.0, ap (marked t) e.1)
 Runs-one (did_over a over) stop h g = absurd (g tt)
 Runs-one (captured {f = f} a b) (captured c d) h g =
-    let e = Runs-one a c (λ x. x) (λ x. x) in Runs-one b (Runs-pieces f e.0 d) h g
+    let e = Runs-one a c (λ x. x) (λ x. x) in Runs-one b (Runs-captured f e.0 (Ended-injective e.1) d) h g
 Runs-one (captured a b) (captured_over c over) h g = absurd (subst IsOver (sym (Runs-one a c (λ x. x) g).1) over)
 Runs-one (captured a b) stop h g = absurd (g tt)
 Runs-one (captured_over a over) (captured c d) h g = absurd (subst IsOver (Runs-one a c h (λ x. x)).1 over)
@@ -103,13 +115,16 @@ Runs-beginning done q h g = absurd h
 Runs-beginning refused q h g = absurd h
 Runs-beginning {qs = qs} stop q h g = (join qs, refl)
 Runs-beginning (wrote {xs = xs} {ps = ps} r) (wrote {ps = qs} q) h g = IsBeginning-join xs ps qs (Runs-beginning r q h g)
-Runs-beginning (wrote r) (cut {x = x} {o = o} i b) h g = absurd (g (stops x o i))
+Runs-beginning (wrote r) (cut {at_word = w} {o = o} i b) h g = absurd (g (stops w o i))
 Runs-beginning (wrote r) stop h g = absurd (g tt)
 Runs-beginning (cut {x = x} {xs = xs} {ys = ys} i b) (wrote {ps = qs} q) h g = IsBeginning-more ys (x ∷ xs) qs (IsBeginning-front b)
-Runs-beginning (cut i b) (cut {x = x} {o = o} j c) h g = absurd (g (stops x o j))
+Runs-beginning (cut i b) (cut {at_word = w} {o = o} j c) h g = absurd (g (stops w o j))
 Runs-beginning (cut i b) stop h g = absurd (g tt)
 Runs-beginning (got r) (got q) h g = Runs-beginning r q h g
 Runs-beginning (got r) stop h g = absurd (g tt)
+Runs-beginning {p = p} {s = s} (asked {q = w} {f = f} a i r) (asked b j q) h g =
+    Runs-beginning r (Runs-answer w f (IsAnswered-one p s w a b i j) q) h g
+Runs-beginning (asked a i r) stop h g = absurd (g tt)
 Runs-beginning (set r) (set q) h g = Runs-beginning r q h g
 Runs-beginning (set r) stop h g = absurd (g tt)
 Runs-beginning (did {ps = xs} {qs = ys} a b) (did {ps = zs} {qs = ws} c d) h g =
@@ -125,7 +140,7 @@ Runs-beginning (did_over {t = t} {o = o} a over) (did_over {o = o'} c over') h g
     Runs-beginning a c (marked-IsStop t o h) (λ i. g (IsStop-marked t o' i))
 Runs-beginning (did_over a over) stop h g = absurd (g tt)
 Runs-beginning (captured {f = f} a b) (captured c d) h g =
-    let e = Runs-one a c (λ x. x) (λ x. x) in Runs-beginning b (Runs-pieces f e.0 d) h g
+    let e = Runs-one a c (λ x. x) (λ x. x) in Runs-beginning b (Runs-captured f e.0 (Ended-injective e.1) d) h g
 Runs-beginning (captured a b) (captured_over c over) h g = absurd (subst IsOver (sym (Runs-one a c (λ x. x) g).1) over)
 Runs-beginning (captured a b) stop h g = absurd (g tt)
 Runs-beginning {qs = qs} (captured_over a over) q h g = (join qs, refl)

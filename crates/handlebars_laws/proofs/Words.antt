@@ -13,7 +13,7 @@ use Rattle.handlebars_template.specs.Tree.{Call}
 use Rattle.handlebars_scope.specs.Scopes.{base_of}
 use Rattle.handlebars_helpers.specs.CallView.{CallView, HelperView, param_at}
 use Rattle.handlebars_helpers.specs.Boolean.{differ, greater, greater_or_equal, less, less_or_equal, negation, all_true, some_true, len}
-use Rattle.handlebars_helpers.specs.Choice.{Kind, kind_if, kind_unless, kind_each, kind_with, kind_lookup, kind_raw, kind_log, kind_eq, kind_ne, kind_gt, kind_gte, kind_lt, kind_lte, kind_and, kind_or, kind_not, kind_len, Choice, the_body, the_inverse, body_in_block, body_in_turns, the_value, the_word, nothing, body_if, condition, lacks, inverse_or_refusal, turns_or_inverse, walk_or_inverse, each_choice, with_choice, looked_up, null_or_refusal, lookup_choice, word_or_branch, of_two, chosen}
+use Rattle.handlebars_helpers.specs.Choice.{Kind, kind_if, kind_unless, kind_each, kind_with, kind_lookup, kind_raw, kind_log, kind_eq, kind_ne, kind_gt, kind_gte, kind_lt, kind_lte, kind_and, kind_or, kind_not, kind_len, Choice, the_body, the_inverse, body_in_block, body_in_turns, the_value, the_word, the_line, nothing, body_if, condition, lacks, inverse_or_refusal, turns_or_inverse, walk_or_inverse, each_choice, with_choice, looked_up, null_or_refusal, lookup_choice, word_or_branch, of_two, chosen}
 use Rattle.handlebars_helpers.specs.LogLine.{log_line}
 use Rattle.handlebars_helpers.specs.Params.{by_param, two_values}
 use Rattle.handlebars_helpers.specs.Turns.{Turn, turns_of}
@@ -26,6 +26,7 @@ IsNoWord (body_in_block base) = Unit {0}
 IsNoWord (body_in_turns path ts) = Unit {0}
 IsNoWord (the_value d) = Unit {0}
 IsNoWord (the_word b) = ⊥
+IsNoWord (the_line level text) = Unit {0}
 IsNoWord nothing = Unit {0}
 
 abbrev HasNoWord : Answer Choice → Type 0
@@ -104,7 +105,7 @@ module _ (strict : Bool) (h : HelperView) where
         (λ p. param_no_word (codes "lookup") 1 h.call (λ key. lookup_choice strict (data_in p.found) (data_in key.found))
         (λ key. lookup_no_word (data_in p.found) (data_in key.found)))
     chosen_no_word kind_raw = tt
-    chosen_no_word kind_log = map_no_word (λ line. nothing) (log_line h.call) (λ line. tt)
+    chosen_no_word kind_log = map_no_word (λ line. the_line line.0 line.1) (log_line h.call) (λ line. tt)
     chosen_no_word kind_eq = two_no_word (codes "eq") equals
     chosen_no_word kind_ne = two_no_word (codes "ne") differ
     chosen_no_word kind_gt = two_no_word (codes "gt") greater

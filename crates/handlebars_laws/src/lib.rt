@@ -1,7 +1,7 @@
 //! Laws of all runs. Each is a function that does nothing: its contract is the law.
 #![tactic(auto)]
 
-ghost use Rattle.handlebars_meaning.specs.Laws.{AllHaveOrigins, ElementHasOrigins, OneRun, StopsInBeginning};
+ghost use Rattle.handlebars_meaning.specs.Laws.{AllHaveOrigins, ComesOnce, ElementHasOrigins, OneRun, StopsInBeginning};
 ghost use Rattle.handlebars_meaning.specs.State.{Setting};
 
 /// Two runs of the same steps from the same state are one, unless they stop on the way; and a run
@@ -11,9 +11,10 @@ pub fn one_run()
     ensures beginning { (p : Setting) → StopsInBeginning p }
 {}
 
-/// All that the run of a tree or of an element alone writes has an origin in it, where escaping is on
-/// at its start.
+/// A run of a tree comes to no site twice; and all that the run of a tree or of an element alone
+/// writes has an origin in it, where escaping is on at its start.
 pub fn origins()
+    ensures once { (p : Setting) → ComesOnce p }
     ensures tree { (p : Setting) → AllHaveOrigins p }
     ensures element { (p : Setting) → ElementHasOrigins p }
 {}

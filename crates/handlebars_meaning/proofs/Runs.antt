@@ -1,10 +1,10 @@
 -- What is written piece after piece, and runs that might as well stop.
 use Rattle.std.proofs.Common.{◌≡◌, List, [], ◌∷◌, ◌++◌, refl, sym, ap, ◌∙◌, append_assoc}
 use Rattle.handlebars_base.specs.Reasons.{Refusal}
-use Rattle.handlebars_scope.specs.Put.{Piece, join}
+use Rattle.handlebars_meaning.specs.Pieces.{Piece, join}
 use Rattle.handlebars_meaning.specs.State.{Setting, State}
 use Rattle.handlebars_meaning.specs.Steps.{Steps}
-use Rattle.handlebars_meaning.specs.Runs.{Outcome, Ended, Refused, Faulted, NoMemory, Runs, done, refused, wrote, got, set, did, did_over, captured, captured_over, stop, cut}
+use Rattle.handlebars_meaning.specs.Runs.{Outcome, Ended, Refused, Faulted, NoMemory, Runs, done, refused, wrote, got, set, asked, did, did_over, captured, captured_over, stop, cut}
 
 pub join-append : (xs ys : List Piece) → join (xs ++ ys) ≡ join xs ++ join ys
 join-append [] ys = refl
@@ -18,6 +18,7 @@ Runs-short refused e = stop
 Runs-short (wrote r) e = wrote (Runs-short r e)
 Runs-short (got r) e = got (Runs-short r e)
 Runs-short (set r) e = set (Runs-short r e)
+Runs-short (asked a i r) e = asked a i (Runs-short r e)
 Runs-short (did a b) e = did a (Runs-short b e)
 Runs-short (did_over {o = Ended s} a over) e = absurd over
 Runs-short (did_over {o = Refused f} a over) e = did_over (Runs-short a refl) tt

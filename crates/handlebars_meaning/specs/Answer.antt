@@ -5,11 +5,11 @@ use Rattle.handlebars_base.specs.Reasons.{Refusal, TemplateRefusal, of_template,
 use Rattle.handlebars_base.specs.RenderRefusals.{plain_refusal}
 use Rattle.handlebars_template.specs.Tree.{Tree}
 use Rattle.handlebars_template.specs.Compile.{Options, Compiles, compiled, refused}
-use Rattle.handlebars_scope.specs.Put.{Piece, join}
+use Rattle.handlebars_meaning.specs.Pieces.{Piece, join}
 use Rattle.handlebars_meaning.specs.State.{Setting, State, first_state}
-use Rattle.handlebars_meaning.specs.Means.{render_tree}
 use Rattle.handlebars_meaning.specs.Runs.{Outcome, Ended, Refused, IsStop, Means}
-use Rattle.handlebars_meaning.specs.Origins.{Comes, HaveOrigins}
+use Rattle.handlebars_meaning.specs.Origins.{HaveOrigins}
+use Rattle.handlebars_meaning.specs.Visits.{visits, ComeOnce}
 
 -- what a rendering begins with: a tree, or a refusal before anything is written
 pub data Beginning : Type 0 where
@@ -51,9 +51,13 @@ HasOneAnswer p begins = (ps qs : List Piece) (o q : Outcome)
     → RenderAnswers p begins ps o → RenderAnswers p begins qs q
     → (IsStop o → ⊥) → (IsStop q → ⊥) → (ps ≡ qs) × (o ≡ q)
 
--- Each piece of an answer comes from the tree that it begins with: it is a part of a text of the tree, or of the value
--- or the boolean helper's word that is written at its site in a state in which the run comes there.
+-- The run of an answer comes to no site twice, and each of its pieces comes from the tree that it begins with: it is a
+-- part of a text of the tree, or of the value or the boolean helper's word that is written at its site in the state in
+-- which the run comes there.
+abbrev pub ComeFromTree : {p : Setting} {begins : Beginning → Type 0} {ps : List Piece} {o : Outcome}
+    → RenderAnswers p begins ps o → Type 0
+ComeFromTree (not_begun b) = Unit {0}
+ComeFromTree {p = p} {ps = ps} (rendered {t = t} b r) = HaveOrigins p t (visits r) ps × ComeOnce (visits r)
+
 abbrev pub AnswerHasOrigins : Setting → (Beginning → Type 0) → Type 0
-AnswerHasOrigins p begins = (t : Tree) (ps : List Piece) (o : Outcome)
-    → begins (a_tree t) → RenderAnswers p begins ps o
-    → HaveOrigins p t (Comes p (render_tree t) (first_state p.parts.recursive)) ps
+AnswerHasOrigins p begins = (ps : List Piece) (o : Outcome) (a : RenderAnswers p begins ps o) → ComeFromTree a

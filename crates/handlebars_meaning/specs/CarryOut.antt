@@ -1,13 +1,13 @@
 -- What is done in the place of a call, by what its helper chose.
-use Rattle.std.specs.Prelude.{Bool, false, List, [], ◌∷◌, Option}
+use Rattle.std.specs.Prelude.{ℕ, ◌+◌, Bool, List, [], ◌∷◌, Option}
 use Rattle.handlebars_base.specs.Bytes.{Text}
 use Rattle.handlebars_base.specs.Scoped.{value}
-use Rattle.handlebars_template.specs.Tree.{Call, call_binding, call_body, call_inverse, no_binding, Body, no_body, body}
+use Rattle.handlebars_template.specs.Tree.{Call, call_binding, call_body, call_inverse, Body, no_body, body}
 use Rattle.handlebars_scope.specs.Scopes.{Frame, empty_frame, Base}
-use Rattle.handlebars_scope.specs.Sites.{TreeSite, body_at, inverse_at, Site}
 use Rattle.handlebars_helpers.specs.CallView.{CallView, HelperView}
-use Rattle.handlebars_helpers.specs.Choice.{Choice, the_body, the_inverse, body_in_block, body_in_turns, the_value, the_word, nothing}
+use Rattle.handlebars_helpers.specs.Choice.{Choice, the_body, the_inverse, body_in_block, body_in_turns, the_value, the_word, the_line, nothing}
 use Rattle.handlebars_helpers.specs.Turns.{Turn, turned, with_block}
+use Rattle.handlebars_meaning.specs.Sites.{TreeSite, body_at, inverse_at, Site}
 use Rattle.handlebars_meaning.specs.State.{State, entered, left, with_nearest, nearest_variables}
 use Rattle.handlebars_meaning.specs.Steps.{Prog, Whole, return, ◌>>=◌, ◌>>◌, state, become, perform}
 use Rattle.handlebars_meaning.specs.Writing.{write_value, write_word}
@@ -38,38 +38,37 @@ helper_call block c v = record {
   block = block;
 }
 
--- In parentheses a call binds no names, and its bodies count as absent.
-abbrev pub inner_call : CallView → HelperView
-inner_call v = record { call = v; binding = no_binding; body = no_body; inverse = no_body; block = false }
-
 -- a body or an inverse is rendered, where there is one
 abbrev pub render_branch : TreeSite → Body → Prog (Unit {0})
 render_branch at no_body = return tt
 render_branch at (body t) = perform (Whole at t)
 
-abbrev pub render_body : Site → HelperView → Prog (Unit {0})
-render_body site h = render_branch (body_at site) h.body
+-- the body, as the part of this number that is rendered for the block
+abbrev pub render_body : Site → ℕ → HelperView → Prog (Unit {0})
+render_body site i h = render_branch (body_at site i) h.body
 
 -- The nearest block is set up for a turn, and the body is rendered in it.
-abbrev pub take_turn : Site → HelperView → Option (List Text) → Turn → Prog (Unit {0})
-take_turn site h path t = change (with_nearest (turned path h.binding t)) >> render_body site h
+abbrev pub take_turn : Site → ℕ → HelperView → Option (List Text) → Turn → Prog (Unit {0})
+take_turn site i h path t = change (with_nearest (turned path h.binding t)) >> render_body site i h
 
-abbrev pub take_turns : Site → HelperView → Option (List Text) → List Turn → Prog (Unit {0})
-take_turns site h path [] = return tt
-take_turns site h path (t ∷ ts) = take_turn site h path t >> take_turns site h path ts
+-- the turns in order, from a number on
+abbrev pub take_turns : Site → ℕ → HelperView → Option (List Text) → List Turn → Prog (Unit {0})
+take_turns site i h path [] = return tt
+take_turns site i h path (t ∷ ts) = take_turn site i h path t >> take_turns site (i + 1) h path ts
 
 -- the block of `with`, which has the variables of the nearest one
 abbrev pub render_with : Site → HelperView → Base → Prog (Unit {0})
 render_with site h base = do
   s ← state
-  in_block (with_block base h.binding (nearest_variables s.blocks)) (render_body site h)
+  in_block (with_block base h.binding (nearest_variables s.blocks)) (render_body site 0 h)
 
--- What a helper chose is carried out.
+-- What a helper chose is carried out. A line is handed to the logger by the code, and writes nothing.
 abbrev pub carry_out : Site → HelperView → Choice → Prog (Unit {0})
-carry_out site h the_body = render_body site h
-carry_out site h the_inverse = render_branch (inverse_at site) h.inverse
+carry_out site h the_body = render_body site 0 h
+carry_out site h the_inverse = render_branch (inverse_at site 0) h.inverse
 carry_out site h (body_in_block base) = render_with site h base
-carry_out site h (body_in_turns path ts) = in_block empty_frame (take_turns site h path ts)
+carry_out site h (body_in_turns path ts) = in_block empty_frame (take_turns site 0 h path ts)
 carry_out site h (the_value d) = write_value site (value d)
 carry_out site h (the_word b) = write_word site b
+carry_out site h (the_line level text) = return tt
 carry_out site h nothing = return tt

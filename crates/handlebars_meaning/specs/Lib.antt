@@ -1,10 +1,15 @@
 pub mod State
+pub mod Asks
+pub mod Values
+pub mod Questions
+pub mod Sites
+pub mod Pieces
 pub mod Steps
 pub mod Writing
 pub mod CarryOut
-pub mod Expand
 pub mod Means
 pub mod Runs
+pub mod Visits
 pub mod Origins
 pub mod Laws
 pub mod Answer

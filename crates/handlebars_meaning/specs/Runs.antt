@@ -1,14 +1,16 @@
 -- How steps are carried out: the pieces that are written, and the outcome.
-use Rattle.std.specs.Prelude.{◌≡◌, Bool, true, false, List, [], ◌∷◌, ◌++◌, Option, None, Some}
+use Rattle.std.specs.Prelude.{◌≡◌, Bool, List, [], ◌∷◌, ◌++◌, Option, None, Some}
+use Rattle.handlebars_base.specs.Answers.{Answer}
 use Rattle.handlebars_base.specs.Bytes.{Text}
 use Rattle.handlebars_base.specs.Reasons.{Spot, nowhere, Refusal}
 use Rattle.handlebars_base.specs.RenderRefusals.{name_if_none, place_if_none}
 use Rattle.handlebars_template.specs.Place.{Place}
 use Rattle.handlebars_template.specs.Tree.{Tree, tree_name}
 use Rattle.handlebars_scope.specs.Outputs.{IsBeginning}
-use Rattle.handlebars_scope.specs.Put.{Origin, of_text, of_value, of_raw, of_word, Piece}
+use Rattle.handlebars_meaning.specs.Pieces.{Piece}
+use Rattle.handlebars_meaning.specs.Questions.{Question, Reply, IsAnswered}
 use Rattle.handlebars_meaning.specs.State.{Setting, State}
-use Rattle.handlebars_meaning.specs.Steps.{Task, One, Whole, Steps, Done, Refuse, Write, Get, Set, Do, Capture, Prog}
+use Rattle.handlebars_meaning.specs.Steps.{Task, One, Whole, Steps, Done, Refuse, Write, Get, Set, Ask, Do, Capture}
 use Rattle.handlebars_meaning.specs.Means.{todo, render_tree}
 
 -- a write that failed: whether it was of a boolean helper's word, and where, as far as it is known
@@ -18,12 +20,6 @@ pub record Fault : Type 0 where
 
 abbrev pub plain_fault : Bool → Fault
 plain_fault at_word = record { at_word = at_word; spot = nowhere }
-
-abbrev pub is_word : Origin → Bool
-is_word (of_text site) = false
-is_word (of_value site v) = false
-is_word (of_raw site v) = false
-is_word (of_word site b) = true
 
 -- A run ends in a state or is refused. It may also stop on the way, for a fault of the output or for want of memory.
 pub data Outcome : Type 0 where
@@ -44,12 +40,12 @@ IsStop (Refused r) = ⊥
 IsStop (Faulted f) = Unit {0}
 IsStop NoMemory = Unit {0}
 
--- a stop right here, at a piece, of which no position and no template is known yet
-abbrev pub StopsAt : Piece → Outcome → Type 0
-StopsAt x (Ended s) = ⊥
-StopsAt x (Refused r) = ⊥
-StopsAt x (Faulted f) = f ≡ plain_fault (is_word x.origin)
-StopsAt x NoMemory = Unit {0}
+-- a stop within a write, of a word or not, of which no position and no template is known yet
+abbrev pub Stops : Bool → Outcome → Type 0
+Stops at_word (Ended s) = ⊥
+Stops at_word (Refused r) = ⊥
+Stops at_word (Faulted f) = f ≡ plain_fault at_word
+Stops at_word NoMemory = Unit {0}
 
 -- An element gives its place to what is refused or fails within it, and a tree its name, where they have one and none
 -- is known.
@@ -82,33 +78,28 @@ pub data Front : List Piece → List Piece → Type 0 where
 pub data Runs (p : Setting) : Steps → State → List Piece → Outcome → Type 0 where
   done : {s : State} → Runs p Done s [] (Ended s)
   refused : {s : State} {r : Refusal} → Runs p (Refuse r) s [] (Refused r)
-  wrote : {s : State} {xs ps : List Piece} {k : Steps} {o : Outcome}
-      → Runs p k s ps o → Runs p (Write xs k) s (xs ++ ps) o
+  wrote : {s : State} {at_word : Bool} {xs ps : List Piece} {k : Steps} {o : Outcome}
+      → Runs p k s ps o → Runs p (Write at_word xs k) s (xs ++ ps) o
   got : {s : State} {f : State → Steps} {ps : List Piece} {o : Outcome} → Runs p (f s) s ps o → Runs p (Get f) s ps o
   set : {s next : State} {k : Steps} {ps : List Piece} {o : Outcome} → Runs p k next ps o → Runs p (Set next k) s ps o
+  asked : {s : State} {q : Question} {f : Answer (Reply q) → Steps} {ps : List Piece} {o : Outcome} (a : Answer (Reply q))
+      → IsAnswered p s q a → Runs p (f a) s ps o → Runs p (Ask q f) s ps o
   -- a part is done, or is over before its end, and then nothing follows
   did : {s next : State} {t : Task} {k : Steps} {ps qs : List Piece} {o : Outcome}
-      → Runs p (todo p t) s ps (Ended next) → Runs p k next qs o → Runs p (Do t k) s (ps ++ qs) o
+      → Runs p (todo t) s ps (Ended next) → Runs p k next qs o → Runs p (Do t k) s (ps ++ qs) o
   did_over : {s : State} {t : Task} {k : Steps} {ps : List Piece} {o : Outcome}
-      → Runs p (todo p t) s ps o → IsOver o → Runs p (Do t k) s ps (marked t o)
-  -- what was captured is told, and the state is as it was before; a capture that is over before its end wrote nothing
+      → Runs p (todo t) s ps o → IsOver o → Runs p (Do t k) s ps (marked t o)
+  -- what was captured is told, and the run goes on from the state behind it; a capture that is over before its end wrote
+  -- nothing
   captured : {s next : State} {m : Steps} {f : List Piece → Steps} {ps qs : List Piece} {o : Outcome}
-      → Runs p m s ps (Ended next) → Runs p (f ps) s qs o → Runs p (Capture m f) s qs o
+      → Runs p m s ps (Ended next) → Runs p (f ps) next qs o → Runs p (Capture m f) s qs o
   captured_over : {s : State} {m : Steps} {f : List Piece → Steps} {ps : List Piece} {o : Outcome}
       → Runs p m s ps o → IsOver o → Runs p (Capture m f) s [] o
   -- want of memory between two steps
   stop : {s : State} {k : Steps} → Runs p k s [] NoMemory
   -- a stop within a write that isn't empty
-  cut : {s : State} {x : Piece} {xs ys : List Piece} {k : Steps} {o : Outcome}
-      → StopsAt x o → Front ys (x ∷ xs) → Runs p (Write (x ∷ xs) k) s ys o
-
--- The value is this: whatever comes next for it comes of the whole, from the same state and with nothing written.
-abbrev pub GivesValue : {A : Type 0} → Setting → Prog A → State → A → Type 0
-GivesValue p m s a = (k : _) (ps : List Piece) (o : Outcome) → Runs p (k a) s ps o → Runs p (m k) s ps o
-
--- There is no value, but this refusal, whatever were to come next.
-abbrev pub RefusesValue : {A : Type 0} → Setting → Prog A → State → Refusal → Type 0
-RefusesValue p m s r = (k : _) → Runs p (m k) s [] (Refused r)
+  cut : {s : State} {at_word : Bool} {x : Piece} {xs ys : List Piece} {k : Steps} {o : Outcome}
+      → Stops at_word o → Front ys (x ∷ xs) → Runs p (Write at_word (x ∷ xs) k) s ys o
 
 -- the meaning of a tree
 abbrev pub Means : Setting → Tree → State → List Piece → Outcome → Type 0

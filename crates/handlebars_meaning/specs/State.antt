@@ -2,7 +2,7 @@
 use Rattle.std.specs.Prelude.{Bool, true, false, List, [], ◌∷◌, Option, None, codes}
 use Rattle.serde_json.specs.Data.{Data}
 use Rattle.handlebars_base.specs.Bytes.{Text}
-use Rattle.handlebars_scope.specs.Put.{LineState, first_line}
+use Rattle.handlebars_scope.specs.LineState.{LineState, first_line}
 use Rattle.handlebars_scope.specs.Resolve.{or_else}
 use Rattle.handlebars_scope.specs.Scopes.{nothing_at, Frame, empty_frame}
 use Rattle.handlebars_helpers.specs.Choice.{Kind}
@@ -18,10 +18,6 @@ pub record Parts : Type 0 where
 abbrev pub hook : Bool → Text
 hook true = codes "blockHelperMissing"
 hook false = codes "helperMissing"
-
--- What a call by a name calls, a block or not: the helper of the name, else the hook.
-abbrev pub helper_for : Parts → Bool → Text → Option Kind
-helper_for parts block name = or_else (parts.helper name) (parts.helper (hook block))
 
 -- all that stays as it is in a run
 pub record Setting : Type 0 where
@@ -46,6 +42,10 @@ first_state recursive = record {
   line = first_line;
   escapes = true;
 }
+
+-- What a call by a name calls in a state, a block or not: the helper of the name, else the hook.
+abbrev pub helper_for : Parts → State → Bool → Text → Option Kind
+helper_for parts s block name = or_else (parts.helper name) (parts.helper (hook block))
 
 -- the data that paths lead into, which no run changes yet
 abbrev pub data_at : Setting → State → Data

@@ -1,12 +1,13 @@
 -- A small language of steps, in which the meaning of a template is written.
-use Rattle.std.specs.Prelude.{List, Option}
+use Rattle.std.specs.Prelude.{Bool, List, Option}
 use Rattle.handlebars_base.specs.Reasons.{Reason, Refusal}
 use Rattle.handlebars_base.specs.RenderRefusals.{plain_refusal}
 use Rattle.handlebars_base.specs.Answers.{Answer, gives, refuses}
 use Rattle.handlebars_template.specs.Place.{Place}
 use Rattle.handlebars_template.specs.Tree.{Tree, Element}
-use Rattle.handlebars_scope.specs.Put.{Piece}
-use Rattle.handlebars_scope.specs.Sites.{TreeSite, Site}
+use Rattle.handlebars_meaning.specs.Pieces.{Piece}
+use Rattle.handlebars_meaning.specs.Questions.{Question, Reply}
+use Rattle.handlebars_meaning.specs.Sites.{TreeSite, Site}
 use Rattle.handlebars_meaning.specs.State.{State}
 
 -- a part of a run: an element at its site and its place, where it has one, or a whole tree at its site
@@ -14,14 +15,15 @@ pub data Task : Type 0 where
   One : Site → Option Place → Element → Task
   Whole : TreeSite → Tree → Task
 
--- Steps to be carried out one after the other. What steps that are captured write is no output, but told to what comes
--- next, which goes on from the state before them.
+-- Steps to be carried out one after the other. A write is one of a boolean helper's word, or not. What steps that are
+-- captured write is no output, but told to what comes next, which goes on from the state behind them.
 pub data Steps : Type 0 where
   Done : Steps
   Refuse : Refusal → Steps
-  Write : List Piece → Steps → Steps
+  Write : Bool → List Piece → Steps → Steps
   Get : (State → Steps) → Steps
   Set : State → Steps → Steps
+  Ask : (q : Question) → (Answer (Reply q) → Steps) → Steps
   Do : Task → Steps → Steps
   Capture : Steps → (List Piece → Steps) → Steps
 
@@ -50,13 +52,16 @@ refuse r = λ k. Refuse r
 abbrev pub refuse_for : {A : Type 0} → Reason → Prog A
 refuse_for r = refuse (plain_refusal r)
 
--- a value, or a refusal, that a definition gives
 abbrev pub answer : {A : Type 0} → Answer A → Prog A
 answer (gives x) = return x
 answer (refuses r) = refuse r
 
-abbrev pub write : List Piece → Prog (Unit {0})
-write ps = λ k. Write ps (k tt)
+-- what a question is answered; where that is a refusal, nothing follows
+abbrev pub ask : (q : Question) → Prog (Reply q)
+ask q = λ k. Ask q (λ a. answer a k)
+
+abbrev pub write : Bool → List Piece → Prog (Unit {0})
+write is_word ps = λ k. Write is_word ps (k tt)
 
 abbrev pub state : Prog State
 state = λ k. Get k

@@ -4,16 +4,16 @@ use Rattle.serde_json.specs.Data.{Data}
 use Rattle.handlebars_base.specs.Bytes.{Text}
 use Rattle.handlebars_base.specs.Scoped.{Found, present_in}
 use Rattle.handlebars_base.specs.Values.{word}
-use Rattle.handlebars_scope.specs.Put.{Origin, of_value, of_raw, of_word, put}
 use Rattle.handlebars_scope.specs.Shown.{shown}
-use Rattle.handlebars_scope.specs.Sites.{Site}
+use Rattle.handlebars_meaning.specs.Pieces.{Origin, of_value, of_raw, of_word, put}
+use Rattle.handlebars_meaning.specs.Sites.{Site}
 use Rattle.handlebars_meaning.specs.Steps.{Prog, ◌>>=◌, ◌>>◌, write, state, become}
 
 -- A text is written, and the line is then the one behind it.
 abbrev pub write_text : Origin → Text → Prog (Unit {0})
 write_text o t = do
   s ← state
-  write (put o t s.line).0
+  write false (put o t s.line).0
   become (record s { line = (put o t s.line).1 })
 
 -- A value is rendered, and escaped where escaping is on. Where there is none, nothing is written.
@@ -33,4 +33,4 @@ write_value site v = do
 
 -- A boolean helper's word is written as it is, whatever the line and the escaping, and the line takes no note of it.
 abbrev pub write_word : Site → Bool → Prog (Unit {0})
-write_word site b = write (record { origin = of_word site b; text = word b } ∷ [])
+write_word site b = write true (record { origin = of_word site b; text = word b } ∷ [])

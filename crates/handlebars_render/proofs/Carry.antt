@@ -9,16 +9,16 @@ use Rattle.handlebars_base.specs.RenderRefusals.{reason_in, reason_of, spot_of, 
 use Rattle.handlebars_base.specs.Values.{word}
 use Rattle.handlebars_base.specs.declared.error.render_error.RenderError.{RenderError}
 use Rattle.handlebars_scope.specs.Outputs.{Held}
-use Rattle.handlebars_scope.specs.Put.{Origin, of_word, Piece, join, pieces_of}
+use Rattle.handlebars_meaning.specs.Pieces.{Origin, of_word, Piece, join, pieces_of}
 use Rattle.handlebars_scope.specs.Scopes.{Frame}
-use Rattle.handlebars_scope.specs.Sites.{Site}
+use Rattle.handlebars_meaning.specs.Sites.{Site}
 use Rattle.handlebars_meaning.specs.State.{Setting, State, entered, left}
 use Rattle.handlebars_meaning.specs.Steps.{Task, Steps, Done, Refuse, Get, Set, Do, Prog, return, run, refuse_for, state, perform, ◌>>=◌, ◌>>◌}
 use Rattle.handlebars_meaning.specs.Writing.{write_text, write_word}
 use Rattle.handlebars_meaning.specs.CarryOut.{change, in_block}
 use Rattle.handlebars_meaning.specs.Means.{unescaped, line_in, line_out, in_bracket, todo}
-use Rattle.handlebars_meaning.specs.Runs.{Fault, plain_fault, is_word, Outcome, Ended, Refused, Faulted, NoMemory, mark, cut_off, Runs, done, refused, wrote, got, set, did, did_over, stop, cut, GivesValue, RefusesValue}
-use Rattle.handlebars_render.specs.View.{Moment, TellsCause, TellsFault, Answered, Tells, ended, refusal, fault, no_memory, CarriesOut, CarriesOn, goes_on, is_over, Puts, all_put, front_put, PutsWord, word_put, word_cut}
+use Rattle.handlebars_meaning.specs.Runs.{Fault, plain_fault, Outcome, Ended, Refused, Faulted, NoMemory, mark, cut_off, Runs, done, refused, wrote, got, set, did, did_over, stop, cut}
+use Rattle.handlebars_render.specs.View.{Moment, GivesValue, RefusesValue, TellsCause, TellsFault, Answered, Tells, ended, refusal, fault, no_memory, CarriesOut, CarriesOn, goes_on, is_over, Puts, all_put, front_put, PutsWord, word_put, word_cut}
 use Rattle.handlebars_meaning.proofs.Runs.{join-append, Runs-short}
 
 -- want of memory, or another reason
@@ -145,10 +145,10 @@ module _ (p : Setting) (may : Error → Type 0) where
   carries_on-get f (goes_on c) = goes_on (λ next r last d. carries-get (c next r last d))
   carries_on-get f (is_over c) = is_over (λ next. carries-get (c next))
 
-  pub carries_on-puts : (o : Origin) (t : Text) {s next : State} {h new : Held} {r : Answered} → is_word o ≡ false
+  pub carries_on-puts : (o : Origin) (t : Text) {s next : State} {h new : Held} {r : Answered}
       → Puts t may (at s h) r (at next new) → CarriesOn p (write_text o t) may (at s h) r (at next new)
   unfolding ◌>>=◌ ◌>>◌
-  carries_on-puts o t {s = s} {h = h} {new = new} text_or_value (all_put is whole) = goes_on (λ k r last c. record {
+  carries_on-puts o t {s = s} {h = h} {new = new} (all_put is whole) = goes_on (λ k r last c. record {
     pieces = pieces_of o t ++ c.pieces;
     outcome = c.outcome;
     runs = got (wrote (set (subst (λ (z : State). Runs p (k tt) z c.pieces c.outcome) is c.runs)));
@@ -156,18 +156,18 @@ module _ (p : Setting) (may : Error → Type 0) where
         (whole.text ∙ ap (λ (z : Text). h.text ++ z) (sym (join-pieces_of o t))) c.text;
     tells = Tells-before whole.faults c.tells;
   })
-  carries_on-puts o [] text_or_value (front_put cause given cut_short tells) = absurd (omega (arith, cut_short.some))
-  carries_on-puts o (b ∷ t) {h = h} text_or_value (front_put cause given cut_short tells) = is_over (λ k. record {
+  carries_on-puts o [] (front_put cause given cut_short tells) = absurd (omega (arith, cut_short.some))
+  carries_on-puts o (b ∷ t) {h = h} (front_put cause given cut_short tells) = is_over (λ k. record {
     pieces = record { origin = o; text = cut_short.front } ∷ [];
     outcome = Faulted (plain_fault false);
-    runs = got (cut (ap plain_fault (sym text_or_value)) (cut_off cut_short.is_front));
+    runs = got (cut refl (cut_off cut_short.is_front));
     text = cut_short.text ∙ ap (λ (z : Text). h.text ++ z) (sym (append-nil cut_short.front));
     tells = fault cause (plain_fault false) given cut_short.faults tells;
   })
 
-  pub carries-puts : (o : Origin) (t : Text) {s next : State} {h new : Held} {r : Answered} → is_word o ≡ false
+  pub carries-puts : (o : Origin) (t : Text) {s next : State} {h new : Held} {r : Answered}
       → Puts t may (at s h) r (at next new) → CarriesOut p (run (write_text o t)) may (at s h) r (at next new)
-  carries-puts o t text_or_value puts = carries-run (carries_on-puts o t text_or_value puts)
+  carries-puts o t puts = carries-run (carries_on-puts o t puts)
 
   -- the word of a boolean helper, which the state takes no note of
   pub carries_on-word : (site : Site) (b : Bool) {s next : State} {h new : Held} {r : Answered}
@@ -344,7 +344,7 @@ module _ (p : Setting) (may : Error → Type 0) where
   ends c = Tells-ended c.outcome c.pieces c.runs c.text c.tells
 
   pub carries-then : {t : Task} {k : Steps} {s mid next : State} {h between new : Held} {u : Unit {0}} {r : Result (Unit {0}) RenderError}
-      → CarriesOut p (todo p t) may (at s h) (Ok u) (at mid between)
+      → CarriesOut p (todo t) may (at s h) (Ok u) (at mid between)
       → CarriesOut p k may (at mid between) r (at next new)
       → CarriesOut p (Do t k) may (at s h) r (at next new)
   carries-then {h = h} {between = between} {new = new} a b =
@@ -359,7 +359,7 @@ module _ (p : Setting) (may : Error → Type 0) where
 
   Tells-over : (o : Outcome) {t : Task} {k : Steps} {s next : State} {old new : Held} (e d : RenderError)
       → IsMarked t e d
-      → (ps : List Piece) → Runs p (todo p t) s ps o → new.text ≡ old.text ++ join ps
+      → (ps : List Piece) → Runs p (todo t) s ps o → new.text ≡ old.text ++ join ps
       → Tells may old.faults new.faults o (Err e) next → CarriesOut p (Do t k) may (at s old) (Err d) (at next new)
   Tells-over _ {t = t} {k = k} {s = s} e d m ps r x (refusal same) = elim (memory_or (reason_in d)) [
     | inl memory ↦ record {
@@ -388,29 +388,29 @@ module _ (p : Setting) (may : Error → Type 0) where
       record { pieces = ps; outcome = NoMemory; runs = did_over r tt; text = x; tells = no_memory same (m.memory memory) }
 
   pub carries-over : {t : Task} {k : Steps} {s next : State} {h new : Held} (e d : RenderError) → IsMarked t e d
-      → CarriesOut p (todo p t) may (at s h) (Err e) (at next new)
+      → CarriesOut p (todo t) may (at s h) (Err e) (at next new)
       → CarriesOut p (Do t k) may (at s h) (Err d) (at next new)
   carries-over e d m c = Tells-over c.outcome e d m c.pieces c.runs c.text c.tells
 
   pub carries_on-task : {t : Task} {s next : State} {h new : Held} {u : Unit {0}}
-      → CarriesOut p (todo p t) may (at s h) (Ok u) (at next new)
+      → CarriesOut p (todo t) may (at s h) (Ok u) (at next new)
       → CarriesOn p (perform t) may (at s h) (Ok u) (at next new)
   carries_on-task a = goes_on (λ k r last c. carries-then a c)
 
   pub carries_on-task_over : {t : Task} {s next : State} {h new : Held} (e d : RenderError) → IsMarked t e d
-      → CarriesOut p (todo p t) may (at s h) (Err e) (at next new)
+      → CarriesOut p (todo t) may (at s h) (Err e) (at next new)
       → CarriesOn p (perform t) may (at s h) (Err d) (at next new)
   carries_on-task_over e d m a = is_over (λ k. carries-over e d m a)
 
   -- the last part
   pub carries-last : {t : Task} {s next : State} {h new : Held} {u : Unit {0}}
-      → CarriesOut p (todo p t) may (at s h) (Ok u) (at next new)
+      → CarriesOut p (todo t) may (at s h) (Ok u) (at next new)
       → CarriesOut p (Do t Done) may (at s h) (Ok u) (at next new)
   carries-last c = carries-then c carries-done
 
   -- a part alone that leaves its errors as they are
   pub carries-only : {t : Task} {s next : State} {h new : Held} (r : Result (Unit {0}) RenderError)
       → ((spot : Spot) → mark t spot ≡ spot)
-      → CarriesOut p (todo p t) may (at s h) r (at next new) → CarriesOut p (Do t Done) may (at s h) r (at next new)
+      → CarriesOut p (todo t) may (at s h) r (at next new) → CarriesOut p (Do t Done) may (at s h) r (at next new)
   carries-only (Ok u) is c = carries-last c
   carries-only {t = t} (Err e) is c = carries-over e e (unmarked t e (is (spot_of e))) c

@@ -8,7 +8,7 @@ use Rattle.handlebars_base.specs.declared.error.render_error.RenderError.{Render
 use Rattle.handlebars_template.specs.Place.{Place}
 use Rattle.handlebars_template.specs.Tree.{tree, Element, elements_of}
 use Rattle.handlebars_scope.specs.Outputs.{Held}
-use Rattle.handlebars_scope.specs.Sites.{TreeSite, element_in}
+use Rattle.handlebars_meaning.specs.Sites.{TreeSite, element_in}
 use Rattle.handlebars_meaning.specs.State.{Setting, State}
 use Rattle.handlebars_meaning.specs.Steps.{One, Steps, Do, run, ◌>>=◌, ◌>>◌}
 use Rattle.handlebars_meaning.specs.Means.{render_elements, render_whole, todo}
@@ -39,7 +39,7 @@ module _ (p : Setting) (may : Error → Type 0) where
 
   pub left_goes : (site : TreeSite) (es : List Element) (places : List Place) (i : ℕ) (d x : Element) (first now next : Moment) {u : Unit {0}}
       → i < length es → get_or es i d ≡ x → Left site es places i first now
-      → CarriesOut p (todo p (One (element_in site i) (slice_get places i) x)) may now (Ok u) next
+      → CarriesOut p (todo (One (element_in site i) (slice_get places i) x)) may now (Ok u) next
       → Left site es places (i + 1) first next
   left_goes site es places i d x first now next lt is left a = λ r last c. left r last
       (subst (λ (k : Steps). CarriesOut p k may now r last) (sym (at_index site es places i d lt))
@@ -49,7 +49,7 @@ module _ (p : Setting) (may : Error → Type 0) where
   pub left_over : (site : TreeSite) (es : List Element) (places : List Place) (i : ℕ) (d x : Element) (first now next : Moment) (e f : RenderError)
       → i < length es → get_or es i d ≡ x → Left site es places i first now
       → IsMarked (One (element_in site i) (slice_get places i) x) e f
-      → CarriesOut p (todo p (One (element_in site i) (slice_get places i) x)) may now (Err e) next
+      → CarriesOut p (todo (One (element_in site i) (slice_get places i) x)) may now (Err e) next
       → CarriesOut p (from_index site es places 0) may first (Err f) next
   left_over site es places i d x first now next e f lt is left m a = left (Err f) next
       (subst (λ (k : Steps). CarriesOut p k may now (Err f) next) (sym (at_index site es places i d lt))

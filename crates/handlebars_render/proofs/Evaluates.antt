@@ -11,7 +11,7 @@ use Rattle.handlebars_base.specs.Scoped.{Found}
 use Rattle.handlebars_base.specs.declared.error.render_error.RenderError.{RenderError}
 use Rattle.handlebars_scope.specs.Resolve.{resolved}
 use Rattle.handlebars_scope.specs.Scopes.{Frame}
-use Rattle.handlebars_meaning.specs.Expand.{Evaluates, leads, leads_nowhere}
+use Rattle.handlebars_meaning.specs.Values.{Evaluates, leads, leads_nowhere}
 
 module _ (recursive : Bool) (blocks : List Frame) (given : Data) (t : Text) where
   pub evaluates_nowhere : {T : Type 0} (r : Result T RenderError) (e : RenderError)

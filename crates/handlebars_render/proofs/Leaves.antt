@@ -1,32 +1,39 @@
 -- What is left of a program once names and values are known.
-use Rattle.std.proofs.Common.{◌≡◌, ◌≢◌, Bool, true, false, [], Option, None, Some, Result, Ok, Err, sym, subst}
+use Rattle.std.proofs.Common.{◌≡◌, ◌≢◌, Bool, true, false, [], Option, None, Some, Result, Ok, Err, sym, ap, ◌∙◌, subst}
 use Rattle.std.specs.Prelude.{if◌then◌else◌}
 use Rattle.std.specs.declared.io.Error.{Error}
-use Rattle.handlebars_base.specs.Answers.{IsRefusal}
+use Rattle.handlebars_base.specs.Answers.{Answer, IsRefusal, gives, refuses, refuses_for}
 use Rattle.handlebars_base.specs.Bytes.{Text}
 use Rattle.handlebars_base.specs.Reasons.{Refusal, helper_not_found, missing_variable, out_of_memory}
 use Rattle.handlebars_base.specs.RenderRefusals.{plain_refusal, reason_in, refusal_of}
 use Rattle.handlebars_base.specs.Scoped.{Found, missing}
 use Rattle.handlebars_base.specs.declared.error.render_error.RenderError.{RenderError}
-use Rattle.handlebars_template.specs.Tree.{Param, as_name, Call, call_name, is_value}
+use Rattle.handlebars_template.specs.Tree.{Param, as_name, Call, call_name, call_args, is_value}
 use Rattle.handlebars_scope.specs.LineView.{line_of}
+use Rattle.handlebars_scope.specs.LineState.{LineState}
 use Rattle.handlebars_scope.specs.Outputs.{Held}
-use Rattle.handlebars_scope.specs.Put.{LineState}
-use Rattle.handlebars_scope.specs.Sites.{Site}
 use Rattle.handlebars_helpers.specs.CallView.{CallView}
 use Rattle.handlebars_helpers.specs.Choice.{Kind}
-use Rattle.handlebars_meaning.specs.State.{Setting, State, hook, helper_for}
-use Rattle.handlebars_meaning.specs.Steps.{Steps, Refuse, Prog, refuse_for, ◌>>=◌}
+use Rattle.handlebars_meaning.specs.Asks.{is_refused}
 use Rattle.handlebars_meaning.specs.CarryOut.{helper_call}
-use Rattle.handlebars_meaning.specs.Expand.{lone_name, lone_value, view_of_call}
-use Rattle.handlebars_meaning.specs.Means.{name_alone, render_chosen, render_helped, render_called, render_call, render_hook, render_missing, render_found, render_value, render_lone_as, render_lone, render_expression}
+use Rattle.handlebars_meaning.specs.Means.{render_chosen, render_helped, render_call, render_hook, render_found, render_lone_as, render_lone, render_expression}
+use Rattle.handlebars_meaning.specs.Questions.{value_of, view_of, helper_of, called_as, hook_for, helper_or_refusal, hook_or_refusal}
+use Rattle.handlebars_meaning.specs.Runs.{Runs, Refused, refused, Outcome}
+use Rattle.handlebars_meaning.specs.Sites.{Site}
+use Rattle.handlebars_meaning.specs.State.{Setting, State, hook, helper_for}
+use Rattle.handlebars_meaning.specs.Steps.{Steps, Refuse, Prog, ask, ◌>>=◌}
+use Rattle.handlebars_meaning.specs.Values.{HasName, HasValue, HasView}
 use Rattle.handlebars_render.specs.Next.{ComesTo, Leaves, Settles}
-use Rattle.handlebars_meaning.specs.Runs.{Runs, Refused, refused, GivesValue, RefusesValue}
-use Rattle.handlebars_render.specs.View.{Moment, Answered, CarriesOn, CarriesOut, goes_on, is_over, with_line}
+use Rattle.handlebars_render.specs.View.{Moment, Answered, CarriesOn, CarriesOut, GivesValue, RefusesValue, goes_on, is_over, name_alone, with_line}
 use Rattle.handlebars_render.specs.declared.next.Next.{Next}
 use Rattle.handlebars_render.specs.declared.next.Next.TheVariants.{Done, Call as Calls}
+use Rattle.handlebars_render.proofs.Asked.{gives-ask, refuses-ask, refuses-bind}
 use Rattle.handlebars_render.proofs.Carry.{at, carries-no_value}
-use Rattle.handlebars_meaning.proofs.Gives.{refuses-bind}
+use Rattle.handlebars_render.proofs.LoneValues.{view-alone}
+
+-- strict mode's answer for a missing value
+abbrev refused_missing : Param → Answer (Option Kind)
+refused_missing q = refuses_for (missing_variable (as_name q))
 
 module _ (p : Setting) where
   -- ---- one program that leaves another
@@ -34,10 +41,14 @@ module _ (p : Setting) where
   pub leaves-refl : (m : Prog (Unit {0})) {s : State} → Leaves p m s m
   leaves-refl m k ps o r = r
 
-  refused_for : {why : Refusal} {s : State} (e : RenderError) → IsRefusal why e → reason_in e ≢ out_of_memory
-      → Runs p (Refuse why) s [] (Refused (refusal_of e))
-  refused_for {why = why} {s = s} e is other =
-      subst (λ (z : Refusal). Runs p (Refuse why) s [] (Refused z)) (sym (is other)) refused
+  -- a value that a program begins with
+  leaves-value_of : {A : Type 0} (m : Prog A) (f : A → Prog (Unit {0})) (a : A) {s : State} → GivesValue p m s a
+      → Leaves p (m >>= f) s (f a)
+  unfolding ◌>>=◌
+  leaves-value_of m f a g k ps o r = g (λ x. f x k) ps o r
+
+  leaves-trans : (m n q : Prog (Unit {0})) {s : State} → Leaves p m s n → Leaves p n s q → Leaves p m s q
+  leaves-trans m n q x y k ps o r = x k ps o (y k ps o r)
 
   pub refuses-leaves : (m n : Prog (Unit {0})) {s : State} {r : Refusal} → Leaves p m s n → RefusesValue p n s r
       → RefusesValue p m s r
@@ -46,102 +57,118 @@ module _ (p : Setting) where
   -- ---- calls
 
   module _ (site : Site) (block : Bool) (c : Call) where
-    -- the view of a call is made, and its helper looked up
-    pub leaves-called : (v : CallView) (h : Option Kind) {s : State}
-        → GivesValue p (view_of_call p site c) s v → h ≡ helper_for p.parts block v.name
-        → Leaves p (render_call p site block c) s (render_called p.parts.strict site block c h v)
-    unfolding ◌>>=◌
-    leaves-called v h {s = s} g is k ps o r =
-        g (λ w. render_called p.parts.strict site block c (helper_for p.parts block w.name) w k) ps o
-        (subst (λ (z : Option Kind). Runs p (render_called p.parts.strict site block c z v k) s ps o) is r)
+    -- the view of a call is made
+    leaves-viewed : (v : CallView) {s : State} → HasView p s (call_name c) (call_args c) (gives v)
+        → Leaves p (render_call site block c) s (ask (called_as block v.name) >>= (λ k. render_helped site block c k v))
+    leaves-viewed v g = leaves-value_of (ask (view_of (call_name c) (call_args c)))
+        (λ v. ask (called_as block v.name) >>= (λ k. render_helped site block c k v)) v
+        (gives-ask p (view_of (call_name c) (call_args c)) v g)
 
-    pub refuses-view : {s : State} {r : Refusal} → RefusesValue p (view_of_call p site c) s r
-        → RefusesValue p (render_call p site block c) s r
-    refuses-view is = refuses-bind p (view_of_call p site c) _ is
+    -- and its helper looked up
+    pub leaves-called : (v : CallView) (k : Kind) {s : State} → HasView p s (call_name c) (call_args c) (gives v)
+        → Some k ≡ helper_for p.parts s block v.name
+        → Leaves p (render_call site block c) s (render_helped site block c k v)
+    leaves-called v k {s = s} g is =
+        leaves-trans (render_call site block c) (ask (called_as block v.name) >>= (λ k. render_helped site block c k v))
+        (render_helped site block c k v) (leaves-viewed v g)
+        (leaves-value_of (ask (called_as block v.name)) (λ k. render_helped site block c k v) k
+        (gives-ask p (called_as block v.name) k (ap (helper_or_refusal v.name) is)))
+
+    pub refuses-view : {s : State} {r : Refusal} → HasView p s (call_name c) (call_args c) (refuses r)
+        → RefusesValue p (render_call site block c) s r
+    refuses-view is = refuses-bind p (ask (view_of (call_name c) (call_args c))) _
+        (refuses-ask p (view_of (call_name c) (call_args c)) is)
 
     -- no helper has the name, and there is no hook
-    pub refuses-unknown : (v : CallView) {s : State} (e : RenderError) → GivesValue p (view_of_call p site c) s v
-        → None ≡ helper_for p.parts block v.name → IsRefusal (plain_refusal (helper_not_found v.name)) e
-        → reason_in e ≢ out_of_memory → RefusesValue p (render_call p site block c) s (refusal_of e)
+    pub refuses-unknown : (v : CallView) {s : State} (e : RenderError)
+        → HasView p s (call_name c) (call_args c) (gives v) → None ≡ helper_for p.parts s block v.name
+        → IsRefusal (plain_refusal (helper_not_found v.name)) e → reason_in e ≢ out_of_memory
+        → RefusesValue p (render_call site block c) s (refusal_of e)
     refuses-unknown v e g is why other =
-        refuses-leaves (render_call p site block c) (render_called p.parts.strict site block c None v)
-        (leaves-called v None g is) (λ k. refused_for e why other)
+        refuses-leaves (render_call site block c) (ask (called_as block v.name) >>= (λ k. render_helped site block c k v))
+        (leaves-viewed v g)
+        (refuses-bind p (ask (called_as block v.name)) _ (refuses-ask p (called_as block v.name)
+        (ap (λ (z : Refusal). refuses z) (why other) ∙ ap (helper_or_refusal v.name) is)))
 
-  -- an expression that isn't lone
+  -- an expression that isn't lone, and one that is
   pub leaves-expression : (site : Site) (c : Call) {s : State} → false ≡ is_value c
-      → Leaves p (render_expression p site c) s (render_call p site false c)
+      → Leaves p (render_expression site c) s (render_call site false c)
   leaves-expression site c {s = s} is k ps o r =
-      subst (λ (z : Bool). Runs p ((if z then render_lone p site c else render_call p site false c) k) s ps o) is r
+      subst (λ (z : Bool). Runs p ((if z then render_lone site c else render_call site false c) k) s ps o) is r
+
+  pub leaves-lone : (site : Site) (c : Call) {s : State} → true ≡ is_value c
+      → Leaves p (render_expression site c) s (render_lone site c)
+  leaves-lone site c {s = s} is k ps o r =
+      subst (λ (z : Bool). Runs p ((if z then render_lone site c else render_call site false c) k) s ps o) is r
 
   -- ---- lone expressions
 
   module _ (site : Site) (c : Call) where
-    leaves-lone_as : (n : Text × Option Found) (h : Option Kind) {s : State}
-        → GivesValue p (lone_name p site (call_name c)) s n → h ≡ p.parts.helper n.0
-        → Leaves p (render_lone p site c) s (render_lone_as p site c n h)
-    unfolding ◌>>=◌
-    leaves-lone_as n h {s = s} g is k ps o r =
-        g (λ z. render_lone_as p site c z (p.parts.helper z.0) k) ps o
-        (subst (λ (z : Option Kind). Runs p (render_lone_as p site c n z k) s ps o) is r)
+    leaves-lone_as : (t : Text) (h : Option Kind) {s : State} → is_value c ≡ true
+        → HasName p s (call_name c) (gives t) → h ≡ p.parts.helper t
+        → Leaves p (render_lone site c) s (render_lone_as site c (name_alone t) h)
+    leaves-lone_as t h {s = s} lone named is =
+        leaves-trans (render_lone site c) (ask (helper_of t) >>= render_lone_as site c (name_alone t))
+        (render_lone_as site c (name_alone t) h)
+        (leaves-value_of (ask (view_of (call_name c) (call_args c)))
+        (λ v. ask (helper_of v.name) >>= render_lone_as site c v) (name_alone t)
+        (gives-ask p (view_of (call_name c) (call_args c)) (name_alone t) (view-alone p s c t lone named)))
+        (leaves-value_of (ask (helper_of t)) (render_lone_as site c (name_alone t)) h
+        (gives-ask p (helper_of t) h (ap (λ (z : Option Kind). gives z) is)))
 
     -- a helper has the name
-    pub leaves-named : (n : Text × Option Found) (h : Kind) (v : CallView) {s : State}
-        → GivesValue p (lone_name p site (call_name c)) s n → Some h ≡ p.parts.helper n.0 → v ≡ name_alone n.0
-        → Leaves p (render_lone p site c) s (render_helped p.parts.strict site false c h v)
-    leaves-named n h v {s = s} g is same =
-        subst (λ (z : CallView). Leaves p (render_lone p site c) s (render_helped p.parts.strict site false c h z)) (sym same)
-        (leaves-lone_as n (Some h) g is)
+    pub leaves-named : (t : Text) (h : Kind) (v : CallView) {s : State} → is_value c ≡ true
+        → HasName p s (call_name c) (gives t) → Some h ≡ p.parts.helper t → v ≡ name_alone t
+        → Leaves p (render_lone site c) s (render_helped site false c h v)
+    leaves-named t h v {s = s} lone g is same =
+        subst (λ (z : CallView). Leaves p (render_lone site c) s (render_helped site false c h z)) (sym same)
+        (leaves-lone_as t (Some h) lone g is)
 
     -- no helper has it
-    pub leaves-value : (n : Text × Option Found) {s : State}
-        → GivesValue p (lone_name p site (call_name c)) s n → None ≡ p.parts.helper n.0
-        → Leaves p (render_lone p site c) s (render_value p site c n)
-    leaves-value n g is = leaves-lone_as n None g is
+    pub leaves-value : (t : Text) {s : State} → is_value c ≡ true → HasName p s (call_name c) (gives t)
+        → None ≡ p.parts.helper t → Leaves p (render_lone site c) s (render_lone_as site c (name_alone t) None)
+    leaves-value t lone g is = leaves-lone_as t None lone g is
 
-    pub refuses-lone : {s : State} {r : Refusal} → RefusesValue p (lone_name p site (call_name c)) s r
-        → RefusesValue p (render_lone p site c) s r
-    refuses-lone is = refuses-bind p (lone_name p site (call_name c)) _ is
+    pub refuses-lone : {s : State} {r : Refusal} → HasName p s (call_name c) (refuses r)
+        → RefusesValue p (render_lone site c) s r
+    refuses-lone is = refuses-bind p (ask (view_of (call_name c) (call_args c))) _
+        (refuses-ask p (view_of (call_name c) (call_args c)) (is_refused is))
 
     -- ---- missing values
 
-    pub leaves-missing : (n : Text × Option Found) {s : State}
-        → GivesValue p (lone_value p site (call_name c) n.1) s missing
-        → Leaves p (render_value p site c n) s (render_missing p site c n.0)
-    unfolding ◌>>=◌
-    leaves-missing n g k ps o r = g (λ v. render_found p site c n.0 v k) ps o r
+    pub leaves-missing : (v : CallView) {s : State} → HasValue p s (call_name c) (gives missing)
+        → Leaves p (render_lone_as site c v None) s (render_found site c v missing)
+    leaves-missing v g = leaves-value_of (ask (value_of (call_name c))) (render_found site c v) missing
+        (gives-ask p (value_of (call_name c)) missing g)
 
-    module _ (name : Text) where
-      leaves-strict : (strict : Bool) {s : State} → strict ≡ p.parts.strict
-          → Leaves p (render_missing p site c name) s
-          (if strict then refuse_for (missing_variable (as_name (call_name c)))
-          else render_hook p.parts.strict site c name (p.parts.helper (hook false)))
-      leaves-strict strict {s = s} is k ps o r =
-          subst (λ (z : Bool). Runs p ((if z then refuse_for (missing_variable (as_name (call_name c)))
-          else render_hook p.parts.strict site c name (p.parts.helper (hook false))) k) s ps o) is r
+    pub refuses-missing : (v : CallView) (q : Param) {s : State} (e : RenderError) → true ≡ p.parts.strict
+        → call_name c ≡ q → IsRefusal (plain_refusal (missing_variable (as_name q))) e → reason_in e ≢ out_of_memory
+        → RefusesValue p (render_found site c v missing) s (refusal_of e)
+    refuses-missing v q e strict same why other = refuses-bind p (ask (hook_for (call_name c))) _
+        (refuses-ask p (hook_for (call_name c))
+        (ap (λ (z : Refusal). refuses z) (why other)
+        ∙ ap refused_missing (sym same)
+        ∙ ap (λ (z : Bool). if z then refuses_for (missing_variable (as_name (call_name c))) else gives (p.parts.helper (hook false)))
+        strict))
 
-      pub refuses-missing : (q : Param) {s : State} (e : RenderError) → true ≡ p.parts.strict → call_name c ≡ q
-          → IsRefusal (plain_refusal (missing_variable (as_name q))) e → reason_in e ≢ out_of_memory
-          → RefusesValue p (render_missing p site c name) s (refusal_of e)
-      refuses-missing q e strict same why other =
-          refuses-leaves (render_missing p site c name) (refuse_for (missing_variable (as_name (call_name c))))
-          (leaves-strict true strict)
-          (λ k. refused_for e (subst (λ (z : Param). IsRefusal (plain_refusal (missing_variable (as_name z))) e) (sym same) why) other)
+    leaves-hook_as : (v : CallView) (h : Option Kind) {s : State} → false ≡ p.parts.strict → h ≡ p.parts.helper (hook false)
+        → Leaves p (render_found site c v missing) s (render_hook site c v h)
+    leaves-hook_as v h lenient is = leaves-value_of (ask (hook_for (call_name c))) (render_hook site c v) h
+        (gives-ask p (hook_for (call_name c)) h
+        (ap (λ (z : Option Kind). gives z) is
+        ∙ ap (λ (z : Bool). if z then refuses_for (missing_variable (as_name (call_name c))) else gives (p.parts.helper (hook false)))
+        lenient))
 
-      leaves-hook_as : (h : Option Kind) {s : State} → false ≡ p.parts.strict → h ≡ p.parts.helper (hook false)
-          → Leaves p (render_missing p site c name) s (render_hook p.parts.strict site c name h)
-      leaves-hook_as h {s = s} lenient is k ps o r = leaves-strict false lenient k ps o
-          (subst (λ (z : Option Kind). Runs p (render_hook p.parts.strict site c name z k) s ps o) is r)
+    pub leaves-hook : (t : Text) (h : Kind) (v : CallView) {s : State} → false ≡ p.parts.strict
+        → Some h ≡ p.parts.helper (hook false) → v ≡ name_alone t
+        → Leaves p (render_found site c (name_alone t) missing) s (render_chosen site h (helper_call false c v))
+    leaves-hook t h v {s = s} lenient is same =
+        subst (λ (z : CallView). Leaves p (render_found site c (name_alone t) missing) s
+        (render_chosen site h (helper_call false c z))) (sym same) (leaves-hook_as (name_alone t) (Some h) lenient is)
 
-      pub leaves-hook : (h : Kind) (v : CallView) {s : State} → false ≡ p.parts.strict
-          → Some h ≡ p.parts.helper (hook false) → v ≡ name_alone name
-          → Leaves p (render_missing p site c name) s (render_chosen p.parts.strict site h (helper_call false c v))
-      leaves-hook h v {s = s} lenient is same =
-          subst (λ (z : CallView). Leaves p (render_missing p site c name) s
-          (render_chosen p.parts.strict site h (helper_call false c z))) (sym same) (leaves-hook_as (Some h) lenient is)
-
-      pub gives-nothing : {s : State} → false ≡ p.parts.strict → None ≡ p.parts.helper (hook false)
-          → GivesValue p (render_missing p site c name) s tt
-      gives-nothing lenient is = leaves-hook_as None lenient is
+    pub gives-nothing : (v : CallView) {s : State} → false ≡ p.parts.strict → None ≡ p.parts.helper (hook false)
+        → GivesValue p (render_found site c v missing) s tt
+    gives-nothing v lenient is = leaves-hook_as v None lenient is
 
 module _ (p : Setting) (may : Error → Type 0) where
   carries-leaves : (m n : Prog (Unit {0})) (k : Unit {0} → Steps) {s : State} {h : Held} {r : Answered} {last : Moment}

@@ -1,5 +1,6 @@
 pub mod Carry
 pub mod Puts
+mod Asked
 mod Elements
 mod Calls
 mod Leaves
@@ -9,5 +10,4 @@ mod Evaluates
 mod LoneValues
 mod Ordered
 mod Values
-mod Silent
 mod Turns

@@ -11,7 +11,7 @@ use Rattle.handlebars_template.specs.Place.{Place}
 use Rattle.handlebars_template.specs.Tree.{Element}
 use Rattle.handlebars_template.specs.TreeView.{place_of}
 use Rattle.handlebars_template.specs.declared.template.tree.TemplateMapping.{TemplateMapping}
-use Rattle.handlebars_scope.specs.Sites.{Site}
+use Rattle.handlebars_meaning.specs.Sites.{Site}
 use Rattle.handlebars_meaning.specs.Steps.{One}
 use Rattle.handlebars_meaning.specs.Runs.{placed_at}
 use Rattle.handlebars_render.proofs.Carry.{IsMarked}

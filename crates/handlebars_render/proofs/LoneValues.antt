@@ -1,20 +1,16 @@
 -- The name of a lone expression, and its value.
-use Rattle.std.proofs.Common.{◌≡◌, Option, Some, Result, Ok, Err, refl, sym, ap, ◌∙◌, subst}
+use Rattle.std.proofs.Common.{◌≡◌, Option, Some, Result, Ok, Err, true, refl, sym, ap, ◌∙◌}
 use Rattle.serde_json.specs.Data.{Data}
 use Rattle.handlebars_base.specs.Answers.{Answer, gives, refuses, answer_map}
 use Rattle.handlebars_base.specs.Bytes.{Text}
 use Rattle.handlebars_base.specs.Reasons.{Refusal}
-use Rattle.handlebars_base.specs.Scoped.{Found, data_in, present_in}
-use Rattle.handlebars_base.specs.Values.{rendered}
+use Rattle.handlebars_base.specs.Scoped.{Found, present_in}
 use Rattle.handlebars_base.specs.declared.error.render_error.RenderError.{RenderError}
-use Rattle.handlebars_template.specs.Tree.{Element, subexpression}
-use Rattle.handlebars_scope.specs.Sites.{Site}
+use Rattle.handlebars_template.specs.Tree.{Call, call, call_name, call_args, is_value, args, no_params, param, no_pairs, pair}
+use Rattle.handlebars_meaning.specs.Asks.{Asks, goes_on, is_refused}
 use Rattle.handlebars_meaning.specs.State.{Setting, State}
-use Rattle.handlebars_meaning.specs.Steps.{Prog, answer, state, ◌>>=◌}
-use Rattle.handlebars_meaning.specs.Expand.{inner_value, lone_name}
-use Rattle.handlebars_meaning.specs.Runs.{got, GivesValue, RefusesValue}
-use Rattle.handlebars_render.specs.View.{Yields, YieldsPresent}
-use Rattle.handlebars_meaning.proofs.Gives.{gives-return, gives-bind, gives-answer, refuses-bind, refuses-answer}
+use Rattle.handlebars_meaning.specs.Values.{HasName, HasView}
+use Rattle.handlebars_render.specs.View.{name_alone, Yields, YieldsPresent}
 
 refuses_or : {A : Type 0} → Refusal → Answer A → Refusal
 refuses_or d (gives x) = d
@@ -48,34 +44,24 @@ refuses-seen : (a : Answer Found) (r : Refusal) → answer_map present_in a ≡ 
 refuses-seen (gives found) r e = absurd (gives≢refuses e)
 refuses-seen (refuses q) r e = ap (no_value Found) (refuses-injective e)
 
-module _ (p : Setting) where
-  pub gives-lone : (site : Site) (e : Element) (found : Found) (t : Text) {s : State} → t ≡ rendered (data_in found)
-      → GivesValue p (inner_value p site e) s found
-      → GivesValue p (lone_name p site (subexpression e)) s (t, Some found)
-  gives-lone site e found t {s = s} is g =
-      subst (λ (z : Text). GivesValue p (lone_name p site (subexpression e)) s (z, Some found)) (sym is)
-      (gives-bind p (inner_value p site e) _ g (gives-return p))
+-- a value with where it came from, of which only what is there is told
+pub yields-present : {T : Type 0} (seen : T → Found) (m : Asks Found) (r : Result T RenderError) → Yields m seen r
+    → YieldsPresent m (λ x. present_in (seen x)) r
+yields-present seen m (Ok x) y = (seen x, y, refl)
+yields-present seen m (Err e) y = y
 
-  pub refuses-lone : (site : Site) (e : Element) {s : State} {r : Refusal} → RefusesValue p (inner_value p site e) s r
-      → RefusesValue p (lone_name p site (subexpression e)) s r
-  refuses-lone site e n = refuses-bind p (inner_value p site e) _ n
+-- an answer of which only what is there is known
+pub gives-resolved : (a : Answer Found) (o present : Option Data) → answer_map present_in a ≡ gives o → present ≡ o
+    → (found : Found) × (gives found ≡ a) × (present_in found ≡ present)
+gives-resolved a o present e is = let x = gives-seen a o e in (x.0, sym x.1, x.2 ∙ sym is)
 
-  -- a value with where it came from, of which only what is there is told
-  pub yields-present : {T : Type 0} (seen : T → Found) (m : Prog Found) (s : State) (r : Result T RenderError)
-      → Yields p m s seen r
-      → YieldsPresent p m s (λ x. present_in (seen x)) r
-  yields-present seen m s (Ok x) y = (seen x, y, refl)
-  yields-present seen m s (Err e) y = y
+pub refuses-resolved : (a : Answer Found) (r : Refusal) → answer_map present_in a ≡ refuses r → no_value Found r ≡ a
+refuses-resolved a r e = sym (refuses-seen a r e)
 
-  module _ (f : State → Answer Found) (s : State) where
-    pub gives-resolved : (o present : Option Data) → answer_map present_in (f s) ≡ gives o → present ≡ o
-        → (found : Found) × GivesValue p (state >>= (λ z. answer (f z))) s found × (present_in found ≡ present)
-    unfolding ◌>>=◌
-    gives-resolved o present e is =
-        let x = gives-seen (f s) o e in
-        (x.0, λ k ps q r. got (gives-answer p x.1 k ps q r), x.2 ∙ sym is)
-
-    pub refuses-resolved : (r : Refusal) → answer_map present_in (f s) ≡ refuses r
-        → RefusesValue p (state >>= (λ z. answer (f z))) s r
-    unfolding ◌>>=◌
-    refuses-resolved r e k = got (refuses-answer p (refuses-seen (f s) r e) k)
+-- a name alone is the whole view of a lone expression
+module _ (p : Setting) (s : State) where
+  pub view-alone : (c : Call) (t : Text) → is_value c ≡ true → HasName p s (call_name c) (gives t)
+      → HasView p s (call_name c) (call_args c) (gives (name_alone t))
+  view-alone (call n (args no_params no_pairs) b bs m) t is named = goes_on named (goes_on refl (goes_on refl refl))
+  view-alone (call n (args (param q qs) hs) b bs m) t is named = cc
+  view-alone (call n (args no_params (pair k q hs)) b bs m) t is named = cc

@@ -13,7 +13,7 @@ use Rattle.handlebars_base.specs.declared.error.render_error.RenderErrorReason.T
 use Rattle.handlebars_base.specs.Values.{word}
 use Rattle.handlebars_scope.specs.Outputs.{Held, IsWhole, IsCutOff, write_reason}
 use Rattle.handlebars_scope.specs.Escape.{escaped}
-use Rattle.handlebars_scope.specs.Put.{LineState, line_behind}
+use Rattle.handlebars_scope.specs.LineState.{LineState, line_behind}
 use Rattle.handlebars_scope.specs.Shown.{shown}
 use Rattle.handlebars_meaning.specs.State.{State}
 use Rattle.handlebars_meaning.specs.Writing.{shown_if_any}

@@ -1,5 +1,5 @@
 -- What turns and blocks of scope carry out.
-use Rattle.std.proofs.Common.{◌≡◌, List, [], ◌∷◌, Option, None, Some, option_map, Ok, Err, sym, ap, ◌∙◌, subst}
+use Rattle.std.proofs.Common.{◌≡◌, ℕ, ◌+◌, List, [], ◌∷◌, Option, None, Some, option_map, Ok, Err, sym, ap, ◌∙◌, subst}
 use denote.Ref.{Bor}
 use Rattle.std.specs.declared.io.Error.{Error}
 use Rattle.std.specs.Result.{IsErrAnd}
@@ -15,7 +15,7 @@ use Rattle.handlebars_template.specs.declared.template.tree.HelperTemplate.{Help
 use Rattle.handlebars_template.proofs.Levels.{call_binding-view}
 use Rattle.handlebars_scope.specs.Outputs.{Held}
 use Rattle.handlebars_scope.specs.Scopes.{Base, Frame}
-use Rattle.handlebars_scope.specs.Sites.{Site}
+use Rattle.handlebars_meaning.specs.Sites.{Site}
 use Rattle.handlebars_helpers.specs.CallView.{HelperView}
 use Rattle.handlebars_helpers.specs.Turns.{Turn, turned, with_block}
 use Rattle.handlebars_meaning.specs.CarryOut.{in_block, render_body, render_with, take_turn, take_turns}
@@ -43,65 +43,65 @@ module _ (p : Setting) (may : Error → Type 0) where
   -- ---- the loop over turns
 
   -- What is carried out from here by the turns that are left is carried out from the start by all of them.
-  abbrev pub TurnsLeft : Site → HelperView → Option (List Text) → List Turn → List Turn → Moment → Moment → Type 0
-  TurnsLeft site h path all rest first now = (next : Unit {0} → Steps) (r : Answered) (last : Moment)
-      → CarriesOut p (take_turns site h path rest next) may now r last
-      → CarriesOut p (take_turns site h path all next) may first r last
+  abbrev pub TurnsLeft : Site → ℕ → HelperView → Option (List Text) → List Turn → List Turn → Moment → Moment → Type 0
+  TurnsLeft site i h path all rest first now = (next : Unit {0} → Steps) (r : Answered) (last : Moment)
+      → CarriesOut p (take_turns site i h path rest next) may now r last
+      → CarriesOut p (take_turns site 0 h path all next) may first r last
 
-  pub turns-go : (site : Site) (h : HelperView) (path : Option (List Text)) (all : List Turn)
+  pub turns-go : (site : Site) (i : ℕ) (h : HelperView) (path : Option (List Text)) (all : List Turn)
       {rest more : List Turn} {t : Turn} {first now after : Moment} {u : Unit {0}}
-      → rest ≡ t ∷ more → TurnsLeft site h path all rest first now
-      → CarriesOn p (take_turn site h path t) may now (Ok u) after → TurnsLeft site h path all more first after
+      → rest ≡ t ∷ more → TurnsLeft site i h path all rest first now
+      → CarriesOn p (take_turn site i h path t) may now (Ok u) after → TurnsLeft site (i + 1) h path all more first after
   unfolding ◌>>◌
-  turns-go site h path all {more = more} {now = now} is left (goes_on turn) = λ next r last c. left next r last
-      (subst (λ (ts : List Turn). CarriesOut p (take_turns site h path ts next) may now r last) (sym is)
-      (turn (λ u. take_turns site h path more next) r last c))
+  turns-go site i h path all {more = more} {now = now} is left (goes_on turn) = λ next r last c. left next r last
+      (subst (λ (ts : List Turn). CarriesOut p (take_turns site i h path ts next) may now r last) (sym is)
+      (turn (λ u. take_turns site (i + 1) h path more next) r last c))
 
-  pub turns-over : (site : Site) (h : HelperView) (path : Option (List Text)) (all : List Turn)
+  pub turns-over : (site : Site) (i : ℕ) (h : HelperView) (path : Option (List Text)) (all : List Turn)
       {rest more : List Turn} {t : Turn} {first now after : Moment} {e : RenderError}
-      → rest ≡ t ∷ more → TurnsLeft site h path all rest first now
-      → CarriesOn p (take_turn site h path t) may now (Err e) after
-      → CarriesOn p (take_turns site h path all) may first (Err e) after
+      → rest ≡ t ∷ more → TurnsLeft site i h path all rest first now
+      → CarriesOn p (take_turn site i h path t) may now (Err e) after
+      → CarriesOn p (take_turns site 0 h path all) may first (Err e) after
   unfolding ◌>>◌
-  turns-over site h path all {more = more} {now = now} {after = after} {e = e} is left (is_over turn) =
+  turns-over site i h path all {more = more} {now = now} {after = after} {e = e} is left (is_over turn) =
       is_over (λ next. left next (Err e) after
-      (subst (λ (ts : List Turn). CarriesOut p (take_turns site h path ts next) may now (Err e) after) (sym is)
-      (turn (λ u. take_turns site h path more next))))
+      (subst (λ (ts : List Turn). CarriesOut p (take_turns site i h path ts next) may now (Err e) after) (sym is)
+      (turn (λ u. take_turns site (i + 1) h path more next))))
 
   -- a turn for which there is no memory
-  pub turns-no_memory : (site : Site) (h : HelperView) (path : Option (List Text)) (all : List Turn) (t : Turn)
+  pub turns-no_memory : (site : Site) (i : ℕ) (h : HelperView) (path : Option (List Text)) (all : List Turn) (t : Turn)
       {rest more : List Turn} {first : Moment} {s next : State} {held : Held} (r : Answered)
-      → rest ≡ t ∷ more → TurnsLeft site h path all rest first (at s held)
+      → rest ≡ t ∷ more → TurnsLeft site i h path all rest first (at s held)
       → IsErrAnd r (λ e. refusal_of e ≡ plain_refusal out_of_memory)
-      → CarriesOn p (take_turns site h path all) may first r (at next held)
-  turns-no_memory site h path all t (Ok u) is left memory = absurd memory
-  turns-no_memory site h path all t (Err e) is left memory =
-      turns-over site h path all is left (carries_on-out_of_memory p may (Err e) memory)
+      → CarriesOn p (take_turns site 0 h path all) may first r (at next held)
+  turns-no_memory site i h path all t (Ok u) is left memory = absurd memory
+  turns-no_memory site i h path all t (Err e) is left memory =
+      turns-over site i h path all is left (carries_on-out_of_memory p may (Err e) memory)
 
-  pub turns-end : (site : Site) (h : HelperView) (path : Option (List Text)) (all : List Turn)
+  pub turns-end : (site : Site) (i : ℕ) (h : HelperView) (path : Option (List Text)) (all : List Turn)
       {rest : List Turn} {first now : Moment} {u : Unit {0}}
-      → rest ≡ [] → TurnsLeft site h path all rest first now
-      → CarriesOn p (take_turns site h path all) may first (Ok u) now
-  turns-end site h path all {now = now} is left = goes_on (λ next r last c. left next r last
-      (subst (λ (ts : List Turn). CarriesOut p (take_turns site h path ts next) may now r last) (sym is) c))
+      → rest ≡ [] → TurnsLeft site i h path all rest first now
+      → CarriesOn p (take_turns site 0 h path all) may first (Ok u) now
+  turns-end site i h path all {now = now} is left = goes_on (λ next r last c. left next r last
+      (subst (λ (ts : List Turn). CarriesOut p (take_turns site i h path ts next) may now r last) (sym is) c))
 
   -- ---- blocks
 
   -- a turn: the nearest block is set up, and then the body is rendered
-  pub carries_on-turn : (site : Site) (h : HelperView) (path : Option (List Text)) (t : Turn)
+  pub carries_on-turn : (site : Site) (i : ℕ) (h : HelperView) (path : Option (List Text)) (t : Turn)
       {s mid : State} {held : Held} {after : Moment} {r : Answered}
-      → mid ≡ with_nearest (turned path h.binding t) s → CarriesOn p (render_body site h) may (at mid held) r after
-      → CarriesOn p (take_turn site h path t) may (at s held) r after
-  carries_on-turn site h path t is c =
-      carries_on-changed p may (with_nearest (turned path h.binding t)) (render_body site h) is c
+      → mid ≡ with_nearest (turned path h.binding t) s → CarriesOn p (render_body site i h) may (at mid held) r after
+      → CarriesOn p (take_turn site i h path t) may (at s held) r after
+  carries_on-turn site i h path t is c =
+      carries_on-changed p may (with_nearest (turned path h.binding t)) (render_body site i h) is c
 
   -- the block of `with`
   pub carries_on-with : (site : Site) (h : HelperView) (base : Base)
       {s mid next last : State} {held new : Held} {r : Answered}
       → mid ≡ entered (with_block base h.binding (nearest_variables s.blocks)) s → last ≡ left next
-      → CarriesOn p (render_body site h) may (at mid held) r (at next new)
+      → CarriesOn p (render_body site 0 h) may (at mid held) r (at next new)
       → CarriesOn p (render_with site h base) may (at s held) r (at last new)
   carries_on-with site h base {s = s} starts ends c =
-      carries_on-get p may (λ z. in_block (with_block base h.binding (nearest_variables z.blocks)) (render_body site h))
-      (carries_on-in_block p may (with_block base h.binding (nearest_variables s.blocks)) (render_body site h)
+      carries_on-get p may (λ z. in_block (with_block base h.binding (nearest_variables z.blocks)) (render_body site 0 h))
+      (carries_on-in_block p may (with_block base h.binding (nearest_variables s.blocks)) (render_body site 0 h)
       starts ends c)

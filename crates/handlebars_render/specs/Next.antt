@@ -7,24 +7,24 @@ use Rattle.handlebars_base.specs.declared.error.render_error.RenderError.{Render
 use Rattle.handlebars_template.specs.Tree.{Call}
 use Rattle.handlebars_scope.specs.LineView.{line_of}
 use Rattle.handlebars_scope.specs.Outputs.{Held}
-use Rattle.handlebars_scope.specs.Put.{Piece}
-use Rattle.handlebars_scope.specs.Sites.{Site}
+use Rattle.handlebars_meaning.specs.Pieces.{Piece}
+use Rattle.handlebars_meaning.specs.Sites.{Site}
 use Rattle.handlebars_helpers.specs.View.{kind_of}
 use Rattle.handlebars_meaning.specs.CarryOut.{helper_call}
 use Rattle.handlebars_meaning.specs.Means.{render_chosen, render_helped}
-use Rattle.handlebars_meaning.specs.Runs.{Outcome, Runs, GivesValue, RefusesValue}
+use Rattle.handlebars_meaning.specs.Runs.{Outcome, Runs}
 use Rattle.handlebars_meaning.specs.State.{Setting, State}
 use Rattle.handlebars_meaning.specs.Steps.{Steps, Prog}
-use Rattle.handlebars_render.specs.View.{Moment, CarriesOn, called_view, with_line}
+use Rattle.handlebars_render.specs.View.{Moment, CarriesOn, GivesValue, RefusesValue, called_view, with_line}
 use Rattle.handlebars_render.specs.declared.next.Next.{Next}
 use Rattle.handlebars_render.specs.declared.next.Next.TheVariants.{Done, Call as Calls}
 use Rattle.handlebars_render.specs.declared.next.ToCall.{ToCall}
 
 -- A helper is called, in the bracket of a call or without it.
-abbrev pub render_next : Bool → Site → Bool → Call → ToCall → Prog (Unit {0})
-render_next strict site block c x =
-    if x.bracket then render_helped strict site block c (kind_of x.kind) (called_view x.call)
-    else render_chosen strict site (kind_of x.kind) (helper_call block c (called_view x.call))
+abbrev pub render_next : Site → Bool → Call → ToCall → Prog (Unit {0})
+render_next site block c x =
+    if x.bracket then render_helped site block c (kind_of x.kind) (called_view x.call)
+    else render_chosen site (kind_of x.kind) (helper_call block c (called_view x.call))
 
 -- From this state the first program does what the second does.
 abbrev pub Leaves : Setting → Prog (Unit {0}) → State → Prog (Unit {0}) → Type 0
@@ -33,7 +33,7 @@ Leaves p m s n = (k : Unit {0} → Steps) (ps : List Piece) (o : Outcome) → Ru
 -- With nothing written, and the state as it was, the program is over, or only the call is left of it, or it is refused.
 abbrev pub Settles : Setting → Site → Bool → Call → Prog (Unit {0}) → State → Result Next RenderError → Type 0
 Settles p site block c m s (Ok (Done line)) = GivesValue p m s tt × (line_of line ≡ s.line)
-Settles p site block c m s (Ok (Calls x)) = Leaves p m s (render_next p.parts.strict site block c x)
+Settles p site block c m s (Ok (Calls x)) = Leaves p m s (render_next site block c x)
 Settles p site block c m s (Err e) = reason_in e ≢ out_of_memory → RefusesValue p m s (refusal_of e)
 
 -- The program is carried out up to the line behind it, or only the call is left of it, with nothing written, or it is
@@ -43,6 +43,6 @@ abbrev pub ComesTo : Setting → Site → Bool → Call → Prog (Unit {0}) → 
 ComesTo p site block c m may before (Ok (Done line)) held =
     CarriesOn p m may before (Ok tt) (record { state = with_line (line_of line) before.state; held = held })
 ComesTo p site block c m may before (Ok (Calls x)) held =
-    Leaves p m before.state (render_next p.parts.strict site block c x) × (held ≡ before.held)
+    Leaves p m before.state (render_next site block c x) × (held ≡ before.held)
 ComesTo p site block c m may before (Err e) held =
     CarriesOn p m may before (Err e) (record { state = before.state; held = held })

@@ -1,5 +1,5 @@
 -- What the code's values stand for, and what a call of it says of a run.
-use Rattle.std.specs.Prelude.{◌≡◌, ◌≢◌, ℕ, Option, ◌+◌, ◌^◌, ◌<◌, List, ◌++◌, option_map, Result, Ok, Err, MatchResult, string_bytes, map, Bool, true, false}
+use Rattle.std.specs.Prelude.{◌≡◌, ◌≢◌, ℕ, Option, None, Some, ◌+◌, ◌^◌, ◌<◌, List, [], ◌++◌, option_map, Result, Ok, Err, MatchResult, string_bytes, map, Bool, true, false}
 use Rattle.std.specs.Cow.{cow_str_bytes}
 use denote.Ref.{Bor}
 use Rattle.std.specs.declared.io.Error.{Error}
@@ -8,26 +8,31 @@ use Rattle.std.specs.declared.io.ErrorKind.TheVariants.{OutOfMemory}
 use Rattle.std.specs.IoError.{error_kind}
 use Rattle.serde_json.specs.Data.{Data}
 use Rattle.serde_json.specs.View.{view}
+use Rattle.handlebars_base.specs.Answers.{gives, refuses}
 use Rattle.handlebars_base.specs.Bytes.{Text}
 use Rattle.handlebars_base.specs.Reasons.{Reason, Refusal, other, out_of_memory}
 use Rattle.handlebars_base.specs.RenderRefusals.{reason_in, spot_of, refusal_of, cause_of}
 use Rattle.handlebars_base.specs.declared.error.render_error.RenderError.{RenderError}
 use Rattle.handlebars_base.specs.PathAndData.{PathAndData, path_and_data}
 use Rattle.handlebars_base.specs.Scoped.{Found, found_of, present_in}
+use Rattle.handlebars_base.specs.declared.json.value.ScopedJson.{ScopedJson}
 use Rattle.handlebars_base.specs.declared.json.value.path_and_json.PathAndJson.{PathAndJson}
 use Rattle.handlebars_base.specs.declared.error.render_error.RenderErrorReason.TheVariants.{IOError}
 use Rattle.handlebars_base.specs.Values.{word}
 use Rattle.handlebars_scope.specs.LineView.{line_of}
 use Rattle.handlebars_scope.specs.ScopeView.{frames_of}
 use Rattle.handlebars_scope.specs.Outputs.{Held, IsWhole, IsCutOff, write_reason}
-use Rattle.handlebars_scope.specs.Put.{LineState, Piece, join, line_behind}
+use Rattle.handlebars_scope.specs.LineState.{LineState, line_behind}
+use Rattle.handlebars_meaning.specs.Pieces.{Piece, join}
+use Rattle.handlebars_template.specs.Tree.{Param}
 use Rattle.handlebars_helpers.specs.CallView.{CallView}
 use Rattle.handlebars_meaning.specs.State.{Parts, Setting, State, outer}
 use Rattle.handlebars_meaning.specs.Steps.{Steps, Prog}
-use Rattle.handlebars_meaning.specs.Runs.{Fault, plain_fault, Outcome, Ended, Refused, Faulted, NoMemory, Runs, GivesValue, RefusesValue}
+use Rattle.handlebars_meaning.specs.Asks.{Asks}
+use Rattle.handlebars_meaning.specs.Runs.{Fault, plain_fault, Outcome, Ended, Refused, Faulted, NoMemory, Runs}
+use Rattle.handlebars_meaning.specs.Values.{HasValue}
 use Rattle.handlebars_render.specs.declared.context.RenderContext.{RenderContext}
 use Rattle.handlebars_render.specs.declared.called.Called.{Called}
-use Rattle.handlebars_render.specs.declared.lone.Lone.{Lone}
 use Rattle.handlebars_render.specs.declared.setting.Setting as declared
 
 -- ---- what a run reads and changes
@@ -47,9 +52,9 @@ called_view c = record {
   pairs = pairs_seen c.hash.entries;
 }
 
--- the name of a lone expression, and the value that was made for it
-abbrev pub lone_view : Lone → Text × Option Found
-lone_view x = (cow_str_bytes x.name, option_map found_of x.value)
+-- a name alone, with no parameters
+abbrev pub name_alone : Text → CallView
+name_alone name = record { name = name; params = []; pairs = [] }
 
 abbrev pub state_of : RenderContext → State
 state_of rc = record {
@@ -145,17 +150,31 @@ pub data CarriesOn (p : Setting) (m : Prog (Unit {0})) (may : Error → Type 0) 
       → ((next : Unit {0} → Steps) → CarriesOut p (m next) may before (Err e) after)
       → CarriesOn p m may before (Err e) after
 
--- What a call that has a value says: its value is that of the program in this state, or it is refused as the program is,
--- or for want of memory.
-abbrev pub Yields : {T A : Type 0} → Setting → Prog A → State → (T → A) → Result T RenderError → Type 0
-Yields p m s value r =
-    MatchResult r (λ x. GivesValue p m s (value x)) (λ e. reason_in e ≢ out_of_memory → RefusesValue p m s (refusal_of e))
+-- What a call that is asked something says: its value is the answer, or it is refused as that is, or for want of memory.
+abbrev pub Yields : {T A : Type 0} → Asks A → (T → A) → Result T RenderError → Type 0
+Yields m seen r =
+    MatchResult r (λ x. m (gives (seen x))) (λ e. reason_in e ≢ out_of_memory → m (refuses (refusal_of e)))
 
 -- The same of a call that tells nothing of where its value came from.
-abbrev pub YieldsPresent : {T : Type 0} → Setting → Prog Found → State → (T → Option Data) → Result T RenderError → Type 0
-YieldsPresent p m s present r =
-    MatchResult r (λ x. (found : Found) × GivesValue p m s found × (present_in found ≡ present x))
-    (λ e. reason_in e ≢ out_of_memory → RefusesValue p m s (refusal_of e))
+abbrev pub YieldsPresent : {T : Type 0} → Asks Found → (T → Option Data) → Result T RenderError → Type 0
+YieldsPresent m present r =
+    MatchResult r (λ x. (found : Found) × m (gives found) × (present_in found ≡ present x))
+    (λ e. reason_in e ≢ out_of_memory → m (refuses (refusal_of e)))
+
+-- what was made for a parameter already, if anything was, is its value
+abbrev pub IsMade : Setting → State → Param → Option ScopedJson → Type 0
+IsMade p s q None = Unit {0}
+IsMade p s q (Some v) = HasValue p s q (gives (found_of v))
+
+-- ---- programs that have a value
+
+-- The value is this: whatever comes next for it comes of the whole, from the same state and with nothing written.
+abbrev pub GivesValue : {A : Type 0} → Setting → Prog A → State → A → Type 0
+GivesValue p m s a = (k : _) (ps : List Piece) (o : Outcome) → Runs p (k a) s ps o → Runs p (m k) s ps o
+
+-- There is no value, but this refusal, whatever were to come next.
+abbrev pub RefusesValue : {A : Type 0} → Setting → Prog A → State → Refusal → Type 0
+RefusesValue p m s r = (k : _) → Runs p (m k) s [] (Refused r)
 
 -- the state with another line
 abbrev pub with_line : LineState → State → State

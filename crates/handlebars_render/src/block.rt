@@ -1,9 +1,9 @@
 //! Rendering blocks and expressions, and what their helpers choose.
 
-ghost use Rattle.std.specs.Prelude.{◌≡◌, Bool};
+ghost use Rattle.std.specs.Prelude.{◌≡◌, ℕ, Bool};
 ghost use Rattle.handlebars_template.specs.TreeView.{call_view};
-ghost use Rattle.handlebars_scope.specs.Put.{LineState};
-ghost use Rattle.handlebars_scope.specs.Sites.{Site, inverse_at};
+ghost use Rattle.handlebars_scope.specs.LineState.{LineState};
+ghost use Rattle.handlebars_meaning.specs.Sites.{Site, inverse_at};
 ghost use Rattle.handlebars_helpers.specs.CallView.{CallView};
 ghost use Rattle.handlebars_helpers.specs.View.{choice_of, kind_of};
 ghost use Rattle.handlebars_meaning.specs.CarryOut.{carry_out, helper_call, render_body, render_branch};
@@ -36,7 +36,7 @@ pub fn render_tag<'a, O: Output, P: Registered>(
     out: &mut O,
 ) -> Result<(), RenderError>
     ensures renders { (site : Site) → CarriesOn (setting_in P.parts setting.now)
-        (render_tag (setting_in P.parts setting.now) site block (call_view helper.now))
+        (render_tag site block (call_view helper.now))
         O.may_give (moment rc.old (O.held out.old)) result (moment rc.new (O.held out.new)) }
     ensures kept { IsKept rc.old rc.new }
 {
@@ -61,7 +61,7 @@ fn render_next<'a, O: Output, P: Registered>(
     out: &mut O,
 ) -> Result<(), RenderError>
     ensures renders { (site : Site) → CarriesOn (setting_in P.parts setting.now)
-        (render_next (setting_in P.parts setting.now).parts.strict site block (call_view helper.now) to_call.entry)
+        (render_next site block (call_view helper.now) to_call.entry)
         O.may_give (moment rc.old (O.held out.old)) result (moment rc.new (O.held out.new)) }
     ensures kept { IsKept rc.old rc.new }
 {
@@ -91,7 +91,7 @@ fn render_chosen<'a, O: Output, P: Registered>(
     out: &mut O,
 ) -> Result<(), RenderError>
     ensures renders { (site : Site) → CarriesOn (setting_in P.parts setting.now)
-        (render_chosen (setting_in P.parts setting.now).parts.strict site (kind_of kind)
+        (render_chosen site (kind_of kind)
         (helper_call block (call_view helper.now) (called_view call.entry)))
         O.may_give (moment rc.old (O.held out.old)) result (moment rc.new (O.held out.new)) }
     ensures kept { IsKept rc.old rc.new }
@@ -156,8 +156,8 @@ pub fn render_body<'a, O: Output, P: Registered>(
     rc: &mut RenderContext,
     out: &mut O,
 ) -> Result<(), RenderError>
-    ensures renders { (site : Site) (block : Bool) (v : CallView) → CarriesOn (setting_in P.parts setting.now)
-        (render_body site (helper_call block (call_view helper.now) v))
+    ensures renders { (site : Site) (i : ℕ) (block : Bool) (v : CallView) → CarriesOn (setting_in P.parts setting.now)
+        (render_body site i (helper_call block (call_view helper.now) v))
         O.may_give (moment rc.old (O.held out.old)) result (moment rc.new (O.held out.new)) }
     ensures kept { IsKept rc.old rc.new }
 {
@@ -176,7 +176,7 @@ fn render_inverse<'a, O: Output, P: Registered>(
     out: &mut O,
 ) -> Result<(), RenderError>
     ensures renders { (site : Site) (block : Bool) (v : CallView) → CarriesOn (setting_in P.parts setting.now)
-        (render_branch (inverse_at site) (helper_call block (call_view helper.now) v).inverse)
+        (render_branch (inverse_at site 0) (helper_call block (call_view helper.now) v).inverse)
         O.may_give (moment rc.old (O.held out.old)) result (moment rc.new (O.held out.new)) }
     ensures kept { IsKept rc.old rc.new }
 {

@@ -1,21 +1,19 @@
 //! What a call or another tag shows of itself, and what a call in parentheses comes to.
 
-ghost use Rattle.std.specs.Prelude.{◌≡◌, [], IfErr, IfOk, false, unwrap_or};
+ghost use Rattle.std.specs.Prelude.{◌≡◌, [], IfErr, IfOk, false};
 ghost use Rattle.std.specs.Cow.{cow_str_bytes};
 ghost use Rattle.serde_json.specs.Data.{string};
-ghost use Rattle.handlebars_base.specs.Answers.{IsRefusal};
+ghost use Rattle.handlebars_base.specs.Answers.{Answers, IsRefusal};
 ghost use Rattle.handlebars_base.specs.Reasons.{helper_not_found, out_of_memory};
 ghost use Rattle.handlebars_base.specs.RenderRefusals.{plain_refusal, reason_in};
 ghost use Rattle.handlebars_base.specs.Scoped.{found_of, is_constant, value};
+ghost use Rattle.handlebars_template.specs.Tree.{call_binding, decorator_args, decorator_name};
 ghost use Rattle.handlebars_template.specs.TreeView.{call_view, decorator_view};
-ghost use Rattle.handlebars_scope.specs.Sites.{Site};
-ghost use Rattle.handlebars_helpers.specs.Choice.{value_in};
 ghost use Rattle.handlebars_helpers.specs.View.{choice_of, helper_view};
-ghost use Rattle.handlebars_meaning.specs.CarryOut.{helper_call, inner_call};
+ghost use Rattle.handlebars_meaning.specs.CarryOut.{helper_call};
 ghost use Rattle.handlebars_meaning.specs.State.{State, helper_for};
-ghost use Rattle.handlebars_meaning.specs.Expand.{helped_value, view_of_tag};
-ghost use Rattle.handlebars_meaning.specs.Means.{name_alone};
-ghost use Rattle.handlebars_render.specs.View.{setting_in, state_of, called_view, Yields};
+ghost use Rattle.handlebars_meaning.specs.Values.{HasView, choice_value, helped_value, inner_call};
+ghost use Rattle.handlebars_render.specs.View.{setting_in, state_of, called_view, name_alone, Yields};
 
 use crate::context::RenderContext;
 use crate::registered::{Registered, helper_for};
@@ -77,12 +75,20 @@ impl<'a> Called<'a> {
         )
     }
 
-    /// What a helper sees of a call in parentheses, which has no bodies and binds no names.
-    pub fn in_parentheses(self) -> Helper<'a>
-        ensures { helper_view result ≡ inner_call (called_view self.entry) }
+    /// What a helper sees of a call in parentheses, whose bodies count as absent.
+    pub fn in_parentheses(self, helper: &'a HelperTemplate) -> Helper<'a>
+        ensures { helper_view result ≡ inner_call (call_binding (call_view helper.now)) (called_view self.entry) }
     {
         let Called { name, params, hash } = self;
-        Helper::new(name, params, hash, None, None, None, false)
+        Helper::new(
+            name,
+            params,
+            hash,
+            None,
+            None,
+            helper.block_param.as_ref(),
+            false,
+        )
     }
 
     /// The name alone.
@@ -104,8 +110,8 @@ pub fn view_of_tag<'a, P: Registered>(
     rc: &RenderContext,
     tag: &'a DecoratorTemplate,
 ) -> Result<Called<'a>, RenderError>
-    ensures { (site : Site) → Yields (setting_in P.parts setting.now)
-        (view_of_tag (setting_in P.parts setting.now) site (decorator_view tag.now)) (state_of rc.now) called_view result }
+    ensures { Yields (HasView (setting_in P.parts setting.now) (state_of rc.now) (decorator_name (decorator_view tag.now))
+        (decorator_args (decorator_view tag.now))) called_view result }
 {
     let name = expand_as_name(setting, rc, &tag.name)?;
     let params = params_values(setting, rc, &tag.params)?;
@@ -115,23 +121,23 @@ pub fn view_of_tag<'a, P: Registered>(
 
 /// The value of a call in parentheses: the one that its helper chooses, which is copied; anything
 /// else that it chooses writes nothing there. A line of `log` goes to the logger.
-pub fn helped_value<'a, P: Registered>(
+pub fn helped_value<'a, 'c, P: Registered>(
     setting: &Setting<P>,
-    call: Called,
+    helper: &'c HelperTemplate,
+    call: Called<'c>,
 ) -> Result<ScopedJson<'a>, RenderError>
-    ensures value { (site : Site) (s : State) → Yields (setting_in P.parts setting.now)
-        (helped_value (P.parts setting.now.parts.now).strict site
-        (helper_for (P.parts setting.now.parts.now) false (called_view call.entry).name)
-        (inner_call (called_view call.entry))) s found_of result }
+    ensures value { (s : State) → Answers found_of result (helped_value (P.parts setting.now.parts.now).strict
+        (helper_for (P.parts setting.now.parts.now) s false (called_view call.entry).name)
+        (inner_call (call_binding (call_view helper.now)) (called_view call.entry))) }
     ensures constant { IfOk result (λ found. is_constant found ≡ false) }
 {
-    let helper = call.in_parentheses();
-    match helper_for(setting.parts, false, helper.name()) {
-        Some(kind) => match choose(setting.alloc, setting.parts.strict(), kind, &helper) {
+    let view = call.in_parentheses(helper);
+    match helper_for(setting.parts, false, view.name()) {
+        Some(kind) => match choose(setting.alloc, setting.parts.strict(), kind, &view) {
             Ok(choice) => chosen_value(setting, &choice),
             Err(e) => Err(e),
         },
-        None => Err(helper_not_found(setting.alloc, helper.name())),
+        None => Err(helper_not_found(setting.alloc, view.name())),
     }
 }
 
@@ -140,7 +146,7 @@ fn chosen_value<'a, P: Registered>(
     setting: &Setting<P>,
     choice: &Choice,
 ) -> Result<ScopedJson<'a>, RenderError>
-    ensures value { IfOk result (λ found. found_of found ≡ value (unwrap_or (value_in (choice_of choice.now)) (string []))) }
+    ensures value { IfOk result (λ found. found_of found ≡ choice_value (choice_of choice.now)) }
     ensures memory { IfErr result (λ e. reason_in e ≡ out_of_memory) }
     ensures constant { IfOk result (λ found. is_constant found ≡ false) }
 {

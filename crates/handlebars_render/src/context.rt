@@ -15,7 +15,7 @@ ghost use Rattle.handlebars_scope.specs.Resolve.{resolved};
 ghost use Rattle.handlebars_scope.specs.ScopeView.{frame_of, frames_of, variables_of};
 ghost use Rattle.handlebars_helpers.specs.Turns.{turned};
 ghost use Rattle.handlebars_helpers.specs.View.{path_view, turn_view};
-ghost use Rattle.handlebars_meaning.specs.Expand.{Evaluates};
+ghost use Rattle.handlebars_meaning.specs.Values.{Evaluates};
 ghost use Rattle.handlebars_render.specs.Lending.{LendsBlock};
 ghost use Rattle.handlebars_meaning.specs.State.{entered, first_state, left, nearest_variables, with_nearest};
 ghost use Rattle.handlebars_render.specs.View.{state_of, root_of, has_failed, behind, with_line, HasOuter, IsKept};

@@ -3,7 +3,7 @@
 ghost use Rattle.std.specs.Prelude.{◌≡◌, Bool};
 ghost use Rattle.handlebars_template.specs.TreeView.{call_view};
 ghost use Rattle.handlebars_scope.specs.Scopes.{empty_frame};
-ghost use Rattle.handlebars_scope.specs.Sites.{Site};
+ghost use Rattle.handlebars_meaning.specs.Sites.{Site};
 ghost use Rattle.handlebars_helpers.specs.CallView.{CallView};
 ghost use Rattle.handlebars_helpers.specs.View.{base_view, path_view, turns_left};
 ghost use Rattle.handlebars_meaning.specs.CarryOut.{helper_call, in_block, render_with, take_turns};
@@ -53,7 +53,7 @@ pub fn render_each<'a, O: Output, P: Registered>(
     out: &mut O,
 ) -> Result<(), RenderError>
     ensures renders { (site : Site) (block : Bool) (v : CallView) → CarriesOn (setting_in P.parts setting.now)
-        (in_block empty_frame (take_turns site (helper_call block (call_view helper.now) v) (path_view path.entry)
+        (in_block empty_frame (take_turns site 0 (helper_call block (call_view helper.now) v) (path_view path.entry)
         (turns_left turns.entry)))
         O.may_give (moment rc.old (O.held out.old)) result (moment rc.new (O.held out.new)) }
     ensures kept { IsKept rc.old rc.new }
@@ -75,7 +75,7 @@ fn take_turns<'a, O: Output, P: Registered>(
     out: &mut O,
 ) -> Result<(), RenderError>
     ensures renders { (site : Site) (block : Bool) (v : CallView) → CarriesOn (setting_in P.parts setting.now)
-        (take_turns site (helper_call block (call_view helper.now) v) (path_view path.entry) (turns_left turns.entry))
+        (take_turns site 0 (helper_call block (call_view helper.now) v) (path_view path.entry) (turns_left turns.entry))
         O.may_give (moment rc.old (O.held out.old)) result (moment rc.new (O.held out.new)) }
     ensures outer { HasOuter rc.old rc.new }
 {

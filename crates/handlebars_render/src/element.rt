@@ -6,11 +6,10 @@ ghost use Rattle.handlebars_base.specs.Answers.{IsRefusal};
 ghost use Rattle.handlebars_base.specs.Reasons.{out_of_memory, decorator_not_found, partial_not_found};
 ghost use Rattle.handlebars_base.specs.RenderRefusals.{plain_refusal, reason_in, refusal_of};
 ghost use Rattle.handlebars_template.specs.TreeView.{element_view, call_view, decorator_view};
-ghost use Rattle.handlebars_scope.specs.Sites.{Site};
+ghost use Rattle.handlebars_meaning.specs.Sites.{Site};
 ghost use Rattle.handlebars_meaning.specs.Means.{render_decorator, render_element, render_expression, render_partial, unescaped};
 ghost use Rattle.handlebars_meaning.specs.Steps.{run};
-ghost use Rattle.handlebars_meaning.specs.Runs.{RefusesValue};
-ghost use Rattle.handlebars_render.specs.View.{setting_in, state_of, moment, CarriesOut, IsKept};
+ghost use Rattle.handlebars_render.specs.View.{setting_in, state_of, moment, CarriesOut, IsKept, RefusesValue};
 
 use crate::block::render_tag;
 use crate::called::view_of_tag;
@@ -33,7 +32,7 @@ pub fn render_element<'a, O: Output, P: Registered>(
     out: &mut O,
 ) -> Result<(), RenderError>
     ensures renders { (site : Site) → CarriesOut (setting_in P.parts setting.now)
-        (run (render_element (setting_in P.parts setting.now) site (element_view element.now)))
+        (run (render_element site (element_view element.now)))
         O.may_give (moment rc.old (O.held out.old)) result (moment rc.new (O.held out.new)) }
     ensures kept { IsKept rc.old rc.new }
 {
@@ -59,7 +58,7 @@ fn render_unescaped<'a, O: Output, P: Registered>(
     out: &mut O,
 ) -> Result<(), RenderError>
     ensures renders { (site : Site) → CarriesOut (setting_in P.parts setting.now)
-        (run (unescaped (render_expression (setting_in P.parts setting.now) site (call_view helper.now))))
+        (run (unescaped (render_expression site (call_view helper.now))))
         O.may_give (moment rc.old (O.held out.old)) result (moment rc.new (O.held out.new)) }
     ensures kept { IsKept rc.old rc.new }
 {
@@ -76,9 +75,9 @@ fn decorator_not_found<'a, P: Registered>(
     setting: &Setting<'_, 'a, P>,
     rc: &RenderContext,
 ) -> RenderError
-    ensures { (site : Site) → reason_in result ≢ out_of_memory
+    ensures { reason_in result ≢ out_of_memory
         → RefusesValue (setting_in P.parts setting.now)
-        (render_decorator (setting_in P.parts setting.now) site (decorator_view tag.now))
+        (render_decorator (decorator_view tag.now))
         (state_of rc.now) (refusal_of result) }
 {
     match view_of_tag(setting, rc, tag) {
@@ -92,9 +91,9 @@ fn partial_not_found<'a, P: Registered>(
     setting: &Setting<'_, 'a, P>,
     rc: &RenderContext,
 ) -> RenderError
-    ensures { (site : Site) → reason_in result ≢ out_of_memory
+    ensures { reason_in result ≢ out_of_memory
         → RefusesValue (setting_in P.parts setting.now)
-        (render_partial (setting_in P.parts setting.now) site (decorator_view tag.now))
+        (render_partial (decorator_view tag.now))
         (state_of rc.now) (refusal_of result) }
 {
     match view_of_tag(setting, rc, tag) {

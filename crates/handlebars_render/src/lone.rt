@@ -1,13 +1,13 @@
 //! The name of a lone expression, which is its value where no helper has it.
 
-ghost use Rattle.std.specs.Prelude.{◌≡◌, option_map};
+ghost use Rattle.std.specs.Prelude.{◌≡◌, IfOk, option_map};
+ghost use Rattle.std.specs.Cow.{cow_str_bytes};
 ghost use Rattle.serde_json.specs.View.{view};
 ghost use Rattle.handlebars_base.specs.Scoped.{found_of, present_in};
 ghost use Rattle.handlebars_template.specs.Tree.{subexpression};
 ghost use Rattle.handlebars_template.specs.TreeView.{param_view, subexpression_view};
-ghost use Rattle.handlebars_scope.specs.Sites.{Site};
-ghost use Rattle.handlebars_meaning.specs.Expand.{expands, lone_name, lone_value};
-ghost use Rattle.handlebars_render.specs.View.{setting_in, state_of, lone_view, Yields, YieldsPresent};
+ghost use Rattle.handlebars_meaning.specs.Values.{HasName, HasValue};
+ghost use Rattle.handlebars_render.specs.View.{setting_in, state_of, IsMade, Yields, YieldsPresent};
 
 use crate::context::RenderContext;
 use crate::registered::Registered;
@@ -31,8 +31,9 @@ pub fn lone_name<'a, P: Registered>(
     rc: &RenderContext,
     name: &'a Parameter,
 ) -> Result<Lone<'a>, RenderError>
-    ensures { (site : Site) → Yields (setting_in P.parts setting.now)
-        (lone_name (setting_in P.parts setting.now) site (param_view name.now)) (state_of rc.now) lone_view result }
+    ensures name { Yields (HasName (setting_in P.parts setting.now) (state_of rc.now) (param_view name.now))
+        (λ x. cow_str_bytes x.name) result }
+    ensures made { IfOk result (λ x. IsMade (setting_in P.parts setting.now) (state_of rc.now) (param_view name.now) x.value) }
 {
     match name {
         Parameter::Name(text) => Ok(Lone {
@@ -57,8 +58,10 @@ fn made_name<'a, P: Registered>(
     rc: &RenderContext,
     inner: &'a Subexpression,
 ) -> Result<Lone<'a>, RenderError>
-    ensures { (site : Site) → Yields (setting_in P.parts setting.now)
-        (lone_name (setting_in P.parts setting.now) site (subexpression (subexpression_view inner.now))) (state_of rc.now) lone_view result }
+    ensures name { Yields (HasName (setting_in P.parts setting.now) (state_of rc.now) (subexpression (subexpression_view inner.now)))
+        (λ x. cow_str_bytes x.name) result }
+    ensures made { IfOk result (λ x. IsMade (setting_in P.parts setting.now) (state_of rc.now)
+        (subexpression (subexpression_view inner.now)) x.value) }
 {
     match inner_value(setting, rc, inner) {
         Ok(value) => Ok(Lone {
@@ -77,8 +80,9 @@ pub fn lone_value<'v, P: Registered>(
     name: &'v Parameter,
     made: Option<ScopedJson<'v>>,
 ) -> Result<ScopedJson<'v>, RenderError>
-    ensures { (site : Site) → YieldsPresent (setting_in P.parts setting.now)
-        (lone_value (setting_in P.parts setting.now) site (param_view name.now) (option_map found_of made.entry)) (state_of rc.now) (λ v. present_in (found_of v)) result }
+    ensures { IsMade (setting_in P.parts setting.now) (state_of rc.now) (param_view name.now) made.entry
+        → YieldsPresent (HasValue (setting_in P.parts setting.now) (state_of rc.now) (param_view name.now))
+        (λ v. present_in (found_of v)) result }
 {
     match made {
         Some(value) => Ok(value),
@@ -92,8 +96,8 @@ fn bare_value<'v, P: Registered>(
     rc: &'v RenderContext,
     parameter: &'v Parameter,
 ) -> Result<ScopedJson<'v>, RenderError>
-    ensures { (site : Site) → YieldsPresent (setting_in P.parts setting.now)
-        (expands (setting_in P.parts setting.now) site (param_view parameter.now)) (state_of rc.now) (λ v. present_in (found_of v)) result }
+    ensures { YieldsPresent (HasValue (setting_in P.parts setting.now) (state_of rc.now) (param_view parameter.now))
+        (λ v. present_in (found_of v)) result }
 {
     match parameter {
         Parameter::Name(_) => Ok(ScopedJson::Missing),

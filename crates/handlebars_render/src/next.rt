@@ -1,21 +1,20 @@
 //! What an expression or a block comes to before a helper is called.
 
-ghost use Rattle.std.specs.Prelude.{◌≡◌, MatchOption, MatchResult, Ok, Err, false, option_map};
+ghost use Rattle.std.specs.Prelude.{◌≡◌, MatchOption, MatchResult, None, Ok, Err, false, true};
 ghost use Rattle.std.specs.Cow.{cow_str_bytes};
-ghost use Rattle.handlebars_base.specs.Answers.{IsRefusal};
-ghost use Rattle.handlebars_base.specs.Bytes.{Text};
+ghost use Rattle.handlebars_base.specs.Answers.{IsRefusal, gives};
 ghost use Rattle.handlebars_base.specs.Reasons.{missing_variable};
 ghost use Rattle.handlebars_base.specs.RenderRefusals.{plain_refusal};
-ghost use Rattle.handlebars_base.specs.Scoped.{found_of, missing};
-ghost use Rattle.handlebars_template.specs.Tree.{as_name, call_name};
+ghost use Rattle.handlebars_base.specs.Scoped.{missing};
+ghost use Rattle.handlebars_template.specs.Tree.{as_name, call_name, is_value};
 ghost use Rattle.handlebars_template.specs.TreeView.{call_view, param_view};
 ghost use Rattle.handlebars_scope.specs.LineView.{line_of};
-ghost use Rattle.handlebars_scope.specs.Sites.{Site};
-ghost use Rattle.handlebars_meaning.specs.Expand.{lone_value};
-ghost use Rattle.handlebars_meaning.specs.Means.{render_call, render_expression, render_lone, render_missing, render_tag, render_value};
+ghost use Rattle.handlebars_helpers.specs.CallView.{CallView};
+ghost use Rattle.handlebars_meaning.specs.Sites.{Site};
+ghost use Rattle.handlebars_meaning.specs.Means.{render_call, render_expression, render_found, render_lone, render_lone_as, render_tag};
+ghost use Rattle.handlebars_meaning.specs.Values.{HasValue};
 ghost use Rattle.handlebars_render.specs.Next.{ComesTo, Settles};
-ghost use Rattle.handlebars_meaning.specs.Runs.{GivesValue};
-ghost use Rattle.handlebars_render.specs.View.{lone_view, setting_in, state_of, moment, with_line, CarriesOn};
+ghost use Rattle.handlebars_render.specs.View.{name_alone, setting_in, state_of, moment, with_line, CarriesOn, IsMade};
 
 use crate::called::{Called, helper_not_found};
 use crate::context::RenderContext;
@@ -84,7 +83,7 @@ pub fn next_of<'a, O: Output, P: Registered>(
     out: &mut O,
 ) -> Result<Next<'a>, RenderError>
     ensures { (site : Site) → ComesTo (setting_in P.parts setting.now) site block (call_view helper.now)
-        (render_tag (setting_in P.parts setting.now) site block (call_view helper.now))
+        (render_tag site block (call_view helper.now))
         O.may_give (moment rc.now (O.held out.old)) result (O.held out.new) }
 {
     if block {
@@ -101,7 +100,7 @@ fn next_of_expression<'a, O: Output, P: Registered>(
     out: &mut O,
 ) -> Result<Next<'a>, RenderError>
     ensures { (site : Site) → ComesTo (setting_in P.parts setting.now) site false (call_view helper.now)
-        (render_expression (setting_in P.parts setting.now) site (call_view helper.now))
+        (render_expression site (call_view helper.now))
         O.may_give (moment rc.now (O.held out.old)) result (O.held out.new) }
 {
     if helper.is_value() {
@@ -119,7 +118,7 @@ fn next_of_call<'a, P: Registered>(
     rc: &RenderContext,
 ) -> Result<Next<'a>, RenderError>
     ensures { (site : Site) → Settles (setting_in P.parts setting.now) site block (call_view helper.now)
-        (render_call (setting_in P.parts setting.now) site block (call_view helper.now)) (state_of rc.now) result }
+        (render_call site block (call_view helper.now)) (state_of rc.now) result }
 {
     let call = match called(setting, rc, helper) {
         Ok(call) => call,
@@ -142,8 +141,9 @@ fn next_of_lone<'a, O: Output, P: Registered>(
     rc: &RenderContext,
     out: &mut O,
 ) -> Result<Next<'a>, RenderError>
-    ensures { (site : Site) → ComesTo (setting_in P.parts setting.now) site false (call_view helper.now)
-        (render_lone (setting_in P.parts setting.now) site (call_view helper.now))
+    ensures { is_value (call_view helper.now) ≡ true → (site : Site)
+        → ComesTo (setting_in P.parts setting.now) site false (call_view helper.now)
+        (render_lone site (call_view helper.now))
         O.may_give (moment rc.now (O.held out.old)) result (O.held out.new) }
 {
     let lone = match lone_name(setting, rc, &helper.name) {
@@ -168,8 +168,9 @@ fn next_of_value<'a, O: Output, P: Registered>(
     rc: &RenderContext,
     out: &mut O,
 ) -> Result<Next<'a>, RenderError>
-    ensures { (site : Site) → ComesTo (setting_in P.parts setting.now) site false (call_view helper.now)
-        (render_value (setting_in P.parts setting.now) site (call_view helper.now) (lone_view lone.entry))
+    ensures { IsMade (setting_in P.parts setting.now) (state_of rc.now) (call_name (call_view helper.now)) lone.entry.value
+        → (site : Site) → ComesTo (setting_in P.parts setting.now) site false (call_view helper.now)
+        (render_lone_as site (call_view helper.now) (name_alone (cow_str_bytes lone.entry.name)) None)
         O.may_give (moment rc.now (O.held out.old)) result (O.held out.new) }
 {
     let Lone { name, value } = lone;
@@ -189,18 +190,17 @@ fn write_lone<'a, O: Output, P: Registered>(
     rc: &RenderContext,
     out: &mut O,
 ) -> Result<Option<Line>, RenderError>
-    ensures { (site : Site) (name : Text) → MatchResult result
+    ensures { IsMade (setting_in P.parts setting.now) (state_of rc.now) (call_name (call_view helper.now)) made.entry
+        → (site : Site) (v : CallView) → MatchResult result
         (λ line. MatchOption line
-        (GivesValue (setting_in P.parts setting.now) (lone_value (setting_in P.parts setting.now) site
-        (call_name (call_view helper.now)) (option_map found_of made.entry)) (state_of rc.now) missing
+        (HasValue (setting_in P.parts setting.now) (state_of rc.now) (call_name (call_view helper.now)) (gives missing)
         × (O.held out.new ≡ O.held out.old))
         (λ line. CarriesOn (setting_in P.parts setting.now)
-        (render_value (setting_in P.parts setting.now) site (call_view helper.now) (name, option_map found_of made.entry))
-        O.may_give (moment rc.now (O.held out.old)) (Ok tt)
+        (render_lone_as site (call_view helper.now) v None) O.may_give (moment rc.now (O.held out.old)) (Ok tt)
         (record { state = with_line (line_of line) (state_of rc.now); held = O.held out.new })))
         (λ e. CarriesOn (setting_in P.parts setting.now)
-        (render_value (setting_in P.parts setting.now) site (call_view helper.now) (name, option_map found_of made.entry))
-        O.may_give (moment rc.now (O.held out.old)) (Err e) (moment rc.now (O.held out.new))) }
+        (render_lone_as site (call_view helper.now) v None) O.may_give (moment rc.now (O.held out.old)) (Err e)
+        (moment rc.now (O.held out.new))) }
 {
     let value = match lone_value(setting, rc, &helper.name, made) {
         Ok(value) => value,
@@ -223,7 +223,7 @@ fn next_of_missing<'a, P: Registered>(
     rc: &RenderContext,
 ) -> Result<Next<'a>, RenderError>
     ensures { (site : Site) → Settles (setting_in P.parts setting.now) site false (call_view helper.now)
-        (render_missing (setting_in P.parts setting.now) site (call_view helper.now) (cow_str_bytes name.entry))
+        (render_found site (call_view helper.now) (name_alone (cow_str_bytes name.entry)) missing)
         (state_of rc.now) result }
 {
     if setting.parts.strict() {

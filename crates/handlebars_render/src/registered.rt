@@ -2,7 +2,7 @@
 
 ghost use Rattle.std.specs.Prelude.{◌≡◌, option_map};
 ghost use Rattle.handlebars_helpers.specs.View.{kind_of};
-ghost use Rattle.handlebars_meaning.specs.State.{Parts, helper_for, hook};
+ghost use Rattle.handlebars_meaning.specs.State.{Parts, State, helper_for, hook};
 
 use handlebars_helpers::built_in::BuiltIn;
 use log::Level;
@@ -26,7 +26,7 @@ pub trait Registered {
 
 /// What a call by a name calls, a block or not: the helper of the name, else the hook.
 pub fn helper_for<P: Registered>(parts: &P, block: bool, name: &str) -> Option<BuiltIn>
-    ensures { option_map kind_of result ≡ helper_for (P.parts parts.now) block name.now }
+    ensures { (s : State) → option_map kind_of result ≡ helper_for (P.parts parts.now) s block name.now }
 {
     match parts.helper(name) {
         Some(kind) => Some(kind),

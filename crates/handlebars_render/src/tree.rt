@@ -4,7 +4,7 @@ ghost use Rattle.std.specs.Prelude.{◌≡◌, ◌≢◌, option_map, string_byt
 ghost use Rattle.handlebars_base.specs.Reasons.{out_of_memory};
 ghost use Rattle.handlebars_base.specs.RenderRefusals.{reason_in, spot_of, cause_of};
 ghost use Rattle.handlebars_template.specs.TreeView.{tree_view, element_view, place_of};
-ghost use Rattle.handlebars_scope.specs.Sites.{TreeSite};
+ghost use Rattle.handlebars_meaning.specs.Sites.{TreeSite};
 ghost use Rattle.handlebars_meaning.specs.Means.{render_tree, render_whole, render_alone};
 ghost use Rattle.handlebars_meaning.specs.Runs.{placed_at, named_as};
 ghost use Rattle.handlebars_meaning.specs.Steps.{Whole, perform, run};

@@ -7,10 +7,9 @@ ghost use Rattle.std.specs.Cow.{cow_str_bytes};
 ghost use Rattle.std.specs.Ordering.{nat_cmp};
 ghost use Rattle.handlebars_base.specs.PathAndData.{path_and_data};
 ghost use Rattle.handlebars_base.specs.Scoped.{found_of, is_constant};
-ghost use Rattle.handlebars_template.specs.Tree.{as_name, expression};
+ghost use Rattle.handlebars_template.specs.Tree.{as_name, call_args, call_name, expression};
 ghost use Rattle.handlebars_template.specs.TreeView.{call_view, param_view, params_view, pairs_view, subexpression_view};
-ghost use Rattle.handlebars_scope.specs.Sites.{Site};
-ghost use Rattle.handlebars_meaning.specs.Expand.{expand, expands, expand_as_name, inner_value, is_literal, pairs_values, params_values, view_of_call};
+ghost use Rattle.handlebars_meaning.specs.Values.{HasValue, HasWrittenValue, HasName, HasInnerValue, HaveValues, PairsHaveValues, HasView, is_literal};
 ghost use Rattle.handlebars_render.specs.View.{setting_in, state_of, called_view, pairs_seen, Yields};
 
 use crate::called::{Called, helped_value};
@@ -31,8 +30,9 @@ pub fn expands<'a, P: Registered>(
     rc: &RenderContext,
     parameter: &'a Parameter,
 ) -> Result<ScopedJson<'a>, RenderError>
-    ensures value { (site : Site) → Yields (setting_in P.parts setting.now)
-        (expands (setting_in P.parts setting.now) site (param_view parameter.now)) (state_of rc.now) found_of result }
+    ensures value { Yields
+        (HasValue (setting_in P.parts setting.now) (state_of rc.now) (param_view parameter.now))
+        found_of result }
     ensures constant { IfOk result (λ found. is_constant found ≡ is_literal (param_view parameter.now)) }
 {
     match parameter {
@@ -50,8 +50,9 @@ pub fn expand<'a, P: Registered>(
     rc: &RenderContext,
     parameter: &'a Parameter,
 ) -> Result<PathAndJson<'a>, RenderError>
-    ensures { (site : Site) → Yields (setting_in P.parts setting.now)
-        (expand (setting_in P.parts setting.now) site (param_view parameter.now)) (state_of rc.now) path_and_data result }
+    ensures { Yields
+        (HasWrittenValue (setting_in P.parts setting.now) (state_of rc.now) (param_view parameter.now))
+        path_and_data result }
 {
     match expands(setting, rc, parameter) {
         Ok(value) => Ok(PathAndJson::new(written(setting.alloc, parameter)?, value)),
@@ -66,8 +67,9 @@ pub fn expand_as_name<'a, P: Registered>(
     rc: &RenderContext,
     parameter: &'a Parameter,
 ) -> Result<CowStr<'a>, RenderError>
-    ensures { (site : Site) → Yields (setting_in P.parts setting.now)
-        (expand_as_name (setting_in P.parts setting.now) site (param_view parameter.now)) (state_of rc.now) cow_str_bytes result }
+    ensures { Yields
+        (HasName (setting_in P.parts setting.now) (state_of rc.now) (param_view parameter.now))
+        cow_str_bytes result }
 {
     match parameter {
         Parameter::Name(text) => Ok(CowStr::Borrowed(text.as_str())),
@@ -87,8 +89,9 @@ pub fn inner_value<'a, P: Registered>(
     rc: &RenderContext,
     inner: &'a Subexpression,
 ) -> Result<ScopedJson<'a>, RenderError>
-    ensures value { (site : Site) → Yields (setting_in P.parts setting.now)
-        (inner_value (setting_in P.parts setting.now) site (subexpression_view inner.now)) (state_of rc.now) found_of result }
+    ensures value { Yields
+        (HasInnerValue (setting_in P.parts setting.now) (state_of rc.now) (subexpression_view inner.now))
+        found_of result }
     ensures constant { IfOk result (λ found. is_constant found ≡ false) }
 {
     match &*inner.element {
@@ -111,12 +114,13 @@ pub fn call_value<'a, P: Registered>(
     rc: &RenderContext,
     helper: &'a HelperTemplate,
 ) -> Result<ScopedJson<'a>, RenderError>
-    ensures value { (site : Site) → Yields (setting_in P.parts setting.now)
-        (inner_value (setting_in P.parts setting.now) site (expression (call_view helper.now))) (state_of rc.now) found_of result }
+    ensures value { Yields
+        (HasInnerValue (setting_in P.parts setting.now) (state_of rc.now) (expression (call_view helper.now)))
+        found_of result }
     ensures constant { IfOk result (λ found. is_constant found ≡ false) }
 {
     match called(setting, rc, helper) {
-        Ok(call) => helped_value(setting, call),
+        Ok(call) => helped_value(setting, helper, call),
         Err(e) => Err(e),
     }
 }
@@ -128,8 +132,10 @@ pub fn called<'a, P: Registered>(
     rc: &RenderContext,
     helper: &'a HelperTemplate,
 ) -> Result<Called<'a>, RenderError>
-    ensures { (site : Site) → Yields (setting_in P.parts setting.now)
-        (view_of_call (setting_in P.parts setting.now) site (call_view helper.now)) (state_of rc.now) called_view result }
+    ensures { Yields
+        (HasView (setting_in P.parts setting.now) (state_of rc.now) (call_name (call_view helper.now))
+        (call_args (call_view helper.now)))
+        called_view result }
 {
     let name = expand_as_name(setting, rc, &helper.name)?;
     let params = params_values(setting, rc, &helper.params)?;
@@ -144,8 +150,9 @@ pub fn params_values<'a, P: Registered>(
     rc: &RenderContext,
     params: &'a Vec<Parameter>,
 ) -> Result<Vec<PathAndJson<'a>>, RenderError>
-    ensures { (site : Site) → Yields (setting_in P.parts setting.now)
-        (params_values (setting_in P.parts setting.now) site (params_view params.now.items)) (state_of rc.now) (λ vs. map path_and_data vs.items) result }
+    ensures { Yields
+        (HaveValues (setting_in P.parts setting.now) (state_of rc.now) (params_view params.now.items))
+        (λ vs. map path_and_data vs.items) result }
 {
     let mut values = Vec::new(setting.alloc);
     for parameter in params {
@@ -161,8 +168,9 @@ pub fn pairs_values<'a, P: Registered>(
     rc: &RenderContext,
     pairs: &'a BTreeMap<String, Parameter>,
 ) -> Result<BTreeMap<&'a str, PathAndJson<'a>>, RenderError>
-    ensures { (site : Site) → Yields (setting_in P.parts setting.now)
-        (pairs_values (setting_in P.parts setting.now) site (pairs_view pairs.now.entries)) (state_of rc.now) (λ vs. pairs_seen vs.entries) result }
+    ensures { Yields
+        (PairsHaveValues (setting_in P.parts setting.now) (state_of rc.now) (pairs_view pairs.now.entries))
+        (λ vs. pairs_seen vs.entries) result }
 {
     let mut values = BTreeMap::new(setting.alloc);
     for (key, parameter) in pairs.iter() {

@@ -1,6 +1,6 @@
 //! Writing texts and values into an output, by the line's state.
 
-ghost use Rattle.std.specs.Prelude.{◌≡◌, ◌≢◌, MatchResult, Ok, Err, Some, option_map, unwrap_or};
+ghost use Rattle.std.specs.Prelude.{◌≡◌, ◌≢◌, MatchResult, OnErr, Ok, Err, Some, option_map, unwrap_or};
 ghost use Rattle.std.specs.IoError.{error_kind};
 ghost use Rattle.serde_json.specs.Data.{null, number, unsigned};
 ghost use Rattle.serde_json.specs.View.{view};
@@ -24,7 +24,7 @@ use std::alloc::Global;
 use std::io;
 use std::io::ErrorKind;
 
-/// Writes a text, and takes note of the line behind it.
+/// Writes a text, and takes note of the line behind it. After a fault the context is as it was.
 pub fn indent_aware_write<O: Output>(
     text: &str,
     rc: &mut RenderContext,
@@ -32,6 +32,7 @@ pub fn indent_aware_write<O: Output>(
 ) -> Result<(), RenderError>
     ensures puts { Puts text.now O.may_give (moment rc.old (O.held out.old)) result (moment rc.new (O.held out.new)) }
     ensures kept { IsKept rc.old rc.new }
+    ensures fault { OnErr result (rc.new ≡ rc.old) }
 {
     match out.write(text) {
         Ok(()) => {

@@ -7,7 +7,7 @@ use Rattle.std.proofs.lemmas.Bool.{ne_eqb}
 use Rattle.std.proofs.lemmas.Bool.Decides.{nat_tests}
 use Rattle.handlebars_base.specs.Bytes.{Text, newline, carriage_return}
 use Rattle.handlebars_scope.specs.Escape.{escaped}
-use Rattle.handlebars_scope.specs.Put.{ends_line}
+use Rattle.handlebars_scope.specs.LineState.{ends_line}
 use Rattle.handlebars_scope.proofs.Bytes.{IsOther, escaped_byte-other}
 
 -- a digit or a hyphen, or one of the two bytes between them

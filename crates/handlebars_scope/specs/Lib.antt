@@ -7,8 +7,7 @@ pub mod Escape
 pub mod EscapeLaws
 pub mod Shown
 pub mod Outputs
-pub mod Sites
-pub mod Put
+pub mod LineState
 pub mod LineView
 pub mod ScopeView
 pub mod WayView

@@ -1,5 +1,5 @@
 -- What the state of a line in the code stands for.
-use Rattle.handlebars_scope.specs.Put.{LineState}
+use Rattle.handlebars_scope.specs.LineState.{LineState}
 use Rattle.handlebars_scope.specs.declared.line.Line.{Line}
 
 abbrev pub line_of : Line → LineState

@@ -5,7 +5,7 @@ ghost use Rattle.serde_json.specs.View.{view, number_view};
 ghost use Rattle.handlebars_base.specs.Values.{rendered_number};
 ghost use Rattle.handlebars_scope.specs.Escape.{escaped};
 ghost use Rattle.handlebars_scope.specs.LineView.{line_of};
-ghost use Rattle.handlebars_scope.specs.Put.{first_line, line_after, line_behind, ends_line};
+ghost use Rattle.handlebars_scope.specs.LineState.{first_line, line_after, line_behind, ends_line};
 ghost use Rattle.handlebars_scope.specs.Shown.{shown};
 
 use handlebars_base::json::value::Json;

@@ -1,4 +1,5 @@
 mod SourceRows
+mod Answered
 mod RunOf
 mod WorkedRows
 mod ScopeTrees

@@ -2,11 +2,12 @@
 use Rattle.std.proofs.Common.{◌≡◌, ℕ, zero, suc, List}
 use Rattle.handlebars_base.specs.Bytes.{Text}
 use Rattle.handlebars_template.specs.Tree.{Tree}
-use Rattle.handlebars_scope.specs.Put.{Piece, join}
+use Rattle.handlebars_meaning.specs.Pieces.{Piece, join}
 use Rattle.handlebars_meaning.specs.State.{Setting, State, first_state}
-use Rattle.handlebars_meaning.specs.Steps.{Task, Steps, Done, Refuse, Write, Get, Set, Do, Capture}
+use Rattle.handlebars_meaning.specs.Steps.{Task, Steps, Done, Refuse, Write, Get, Set, Ask, Do, Capture}
 use Rattle.handlebars_meaning.specs.Means.{todo, render_tree}
-use Rattle.handlebars_meaning.specs.Runs.{Outcome, Ended, Refused, Faulted, NoMemory, Runs, done, refused, wrote, got, set, did, did_over, captured, captured_over, stop}
+use Rattle.handlebars_meaning.specs.Runs.{Outcome, Ended, Refused, Faulted, NoMemory, Runs, done, refused, wrote, got, set, asked, did, did_over, captured, captured_over, stop}
+use Rattle.handlebars_worked.proofs.Answered.{answer_in}
 use Rattle.handlebars_meaning.specs.Answer.{Beginning, a_tree, rendered, RenderAnswers, GivesText}
 
 -- a run of these steps from this state
@@ -17,7 +18,7 @@ pub record RunFrom (p : Setting) (k : Steps) (s : State) : Type 0 where
 
 -- a part was run: what follows it, or nothing
 abbrev behind_part : {p : Setting} {t : Task} {k : Steps} {s : State} {ps : List Piece} (o : Outcome)
-    → Runs p (todo p t) s ps o → ((next : State) → RunFrom p k next) → RunFrom p (Do t k) s
+    → Runs p (todo t) s ps o → ((next : State) → RunFrom p k next) → RunFrom p (Do t k) s
 behind_part (Ended next) r rest = record { pieces = _; outcome = _; runs = did r (rest next).runs }
 behind_part (Refused f) r rest = record { pieces = _; outcome = _; runs = did_over r tt }
 behind_part (Faulted f) r rest = record { pieces = _; outcome = _; runs = did_over r tt }
@@ -25,8 +26,8 @@ behind_part NoMemory r rest = record { pieces = _; outcome = _; runs = did_over 
 
 -- a capture was run: what is told of it, or nothing
 abbrev behind_capture : {p : Setting} {m : Steps} {f : List Piece → Steps} {s : State} {ps : List Piece} (o : Outcome)
-    → Runs p m s ps o → RunFrom p (f ps) s → RunFrom p (Capture m f) s
-behind_capture (Ended next) r rest = record { pieces = _; outcome = _; runs = captured r rest.runs }
+    → Runs p m s ps o → ((next : State) → RunFrom p (f ps) next) → RunFrom p (Capture m f) s
+behind_capture (Ended next) r rest = record { pieces = _; outcome = _; runs = captured r (rest next).runs }
 behind_capture (Refused f) r rest = record { pieces = _; outcome = _; runs = captured_over r tt }
 behind_capture (Faulted f) r rest = record { pieces = _; outcome = _; runs = captured_over r tt }
 behind_capture NoMemory r rest = record { pieces = _; outcome = _; runs = captured_over r tt }
@@ -36,13 +37,16 @@ abbrev pub run_of : ℕ → (p : Setting) (k : Steps) (s : State) → RunFrom p 
 run_of zero p k s = record { pieces = _; outcome = _; runs = stop }
 run_of (suc n) p Done s = record { pieces = _; outcome = _; runs = done }
 run_of (suc n) p (Refuse r) s = record { pieces = _; outcome = _; runs = refused }
-run_of (suc n) p (Write xs k) s = record { pieces = _; outcome = _; runs = wrote (run_of n p k s).runs }
+run_of (suc n) p (Write w xs k) s = record { pieces = _; outcome = _; runs = wrote (run_of n p k s).runs }
 run_of (suc n) p (Get f) s = record { pieces = _; outcome = _; runs = got (run_of n p (f s) s).runs }
 run_of (suc n) p (Set next k) s = record { pieces = _; outcome = _; runs = set (run_of n p k next).runs }
+run_of (suc n) p (Ask q f) s =
+    let a = answer_in p s q in
+    record { pieces = _; outcome = _; runs = asked a.0 a.1 (run_of n p (f a.0) s).runs }
 run_of (suc n) p (Do t k) s =
-    let r = run_of n p (todo p t) s in behind_part r.outcome r.runs (λ next. run_of n p k next)
+    let r = run_of n p (todo t) s in behind_part r.outcome r.runs (λ next. run_of n p k next)
 run_of (suc n) p (Capture m f) s =
-    let r = run_of n p m s in behind_capture r.outcome r.runs (run_of n p (f r.pieces) s)
+    let r = run_of n p m s in behind_capture r.outcome r.runs (λ next. run_of n p (f r.pieces) next)
 
 -- the run of a whole tree, where it takes less than a hundred steps in depth
 abbrev pub tree_run : (p : Setting) (t : Tree) → RunFrom p (render_tree t) (first_state p.parts.recursive)

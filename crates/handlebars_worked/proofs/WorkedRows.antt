@@ -1,12 +1,12 @@
 -- The worked sources answer as stated: each run is computed.
-use Rattle.std.proofs.Common.{refl, true, false}
+use Rattle.std.proofs.Common.{refl, true, false, codes}
 use Rattle.std.specs.Fmt.{digits}
 use Rattle.handlebars_worked.proofs.SourceRows as compiling
 use Rattle.handlebars_scope.specs.Escape.{escaped}
 use Rattle.handlebars_meaning.specs.Steps.{◌>>=◌, ◌>>◌}
-use Rattle.handlebars_meaning.specs.Runs.{captured, got, set, done}
 use Rattle.handlebars_meaning.specs.Answer.{compiles, does_not, is_stored, not_begun, rendered}
-use Rattle.handlebars_worked.specs.Rows.{EmptyRow, ValueRow, MarkupRow, MissingRow, EscapedRow, RefusalRow, UnclosedRow, RawRow, CallRow, InnerRow, NameRow, LiteralRow, IfRow, NoInverseRow, ChainRow, NoParamRow, BlockRow, InnerIfRow}
+use Rattle.handlebars_worked.specs.Rows.{EmptyRow, ValueRow, MarkupRow, MissingRow, EscapedRow, RefusalRow, UnclosedRow, RawRow, CallRow, InnerRow, NameRow, LiteralRow, IfRow, NoInverseRow, ChainRow, NoParamRow, BlockRow, over, one_truth, in_first_block, nested_if, InnerIfRow}
+use Rattle.handlebars_worked.proofs.Answered.{value_in}
 use Rattle.handlebars_worked.proofs.RunOf.{tree_run, gives_text}
 
 pub empty_row : EmptyRow
@@ -85,8 +85,11 @@ unfolding ◌>>=◌ ◌>>◌
 block_row given b i = rendered (is_stored refl) (tree_run _ _).runs
 
 pub inner_if_row : InnerIfRow
-unfolding ◌>>=◌ ◌>>◌
-inner_if_row true true site s k ps o h = got (captured (got (set done)) h)
-inner_if_row true false site s k ps o h = got (captured (got (set done)) h)
-inner_if_row false true site s k ps o h = got (captured (got (set done)) h)
-inner_if_row false false site s k ps o h = got (captured (got (set done)) h)
+inner_if_row true true s =
+    (value_in (over (one_truth true)) (in_first_block true s) (nested_if (codes "a"))).1
+inner_if_row true false s =
+    (value_in (over (one_truth true)) (in_first_block false s) (nested_if (codes "a"))).1
+inner_if_row false true s =
+    (value_in (over (one_truth false)) (in_first_block true s) (nested_if (codes "a"))).1
+inner_if_row false false s =
+    (value_in (over (one_truth false)) (in_first_block false s) (nested_if (codes "a"))).1

@@ -1,6 +1,7 @@
 -- Worked sources, each with its answer over data.
 use Rattle.std.specs.Prelude.{List, [], ◌∷◌, ◌++◌, Some, None, codes, Bool, true, false, if◌then◌else◌}
 use Rattle.serde_json.specs.Data.{unsigned, Data, null, boolean, number, string, array, object, no_members, member, no_items, item}
+use Rattle.handlebars_base.specs.Answers.{gives}
 use Rattle.handlebars_base.specs.Bytes.{Text, backslash}
 use Rattle.handlebars_base.specs.Path.{named, relative}
 use Rattle.handlebars_base.specs.Reasons.{Reason, Refusal, invalid_json_index, helper_not_found, param_not_found_for_index, of_template}
@@ -10,13 +11,13 @@ use Rattle.handlebars_template.specs.Calls.{plain_call, plain_marks}
 use Rattle.handlebars_template.specs.Compile.{no_options, unreadable}
 use Rattle.handlebars_worked.specs.SourceRows.{at, escaped_source}
 use Rattle.handlebars_template.specs.Tree.{Tree, tree, elements_of, Element, html_expression, expression, raw_string, helper_block, Call, call, args, bodies, Body, no_body, body, no_binding, no_pairs, params_of, Param, name, path, literal, subexpression}
-use Rattle.handlebars_scope.specs.Put.{of_text}
+use Rattle.handlebars_meaning.specs.Pieces.{of_text}
 use Rattle.handlebars_scope.specs.Scopes.{empty_frame}
-use Rattle.handlebars_scope.specs.Sites.{first_tree, Site, element_in}
+use Rattle.handlebars_meaning.specs.Sites.{first_tree, element_in}
 use Rattle.handlebars_helpers.specs.Choice.{built_in}
 use Rattle.handlebars_meaning.specs.State.{Setting, State}
-use Rattle.handlebars_meaning.specs.Expand.{expands}
-use Rattle.handlebars_meaning.specs.Runs.{Refused, GivesValue}
+use Rattle.handlebars_meaning.specs.Values.{HasValue}
+use Rattle.handlebars_meaning.specs.Runs.{Refused}
 use Rattle.handlebars_meaning.specs.Answer.{Beginning, FromSource, FromName, RenderAnswers, GivesText}
 use Rattle.handlebars_meaning.specs.Laws.{alone}
 
@@ -183,5 +184,5 @@ in_first_block recursive s = record s { blocks = empty_frame ∷ []; recursive =
 
 -- In parentheses an `if` has no body, so its value is the empty text: (if a).
 abbrev pub InnerIfRow : Type 0
-InnerIfRow = (a recursive : Bool) (site : Site) (s : State) → GivesValue (over (one_truth a))
-    (expands (over (one_truth a)) site (nested_if (codes "a"))) (in_first_block recursive s) (value (string []))
+InnerIfRow = (a recursive : Bool) (s : State)
+    → HasValue (over (one_truth a)) (in_first_block recursive s) (nested_if (codes "a")) (gives (value (string [])))

@@ -7,8 +7,7 @@ ghost use Rattle.handlebars_base.specs.Reasons.{failed};
 ghost use Rattle.handlebars_base.specs.RenderRefusals.{refusal_of, plain_refusal};
 ghost use Rattle.handlebars_template.specs.Tree.{Param};
 ghost use Rattle.handlebars_template.specs.TreeView.{param_view};
-ghost use Rattle.handlebars_scope.specs.Sites.{Site};
-ghost use Rattle.handlebars_meaning.specs.Expand.{expand, expand_as_name};
+ghost use Rattle.handlebars_meaning.specs.Values.{HasName, HasWrittenValue};
 ghost use Rattle.handlebars_render.specs.View.{state_of, root_of, has_failed, Yields};
 ghost use Rattle.handlebars.specs.View.{setting_of};
 
@@ -42,8 +41,8 @@ pub trait Expand {
         rc: &mut RenderContext,
         log: &L,
     ) -> Result<PathAndJson<'rc>, RenderError>
-        ensures expands { has_failed rc.old ≡ false → (site : Site) → Yields (setting_of registry.now «data».now)
-            (expand (setting_of registry.now «data».now) site (param self.now)) (state_of rc.old) path_and_data result }
+        ensures expands { has_failed rc.old ≡ false → Yields
+            (HasWrittenValue (setting_of registry.now «data».now) (state_of rc.old) (param self.now)) path_and_data result }
         ensures failed { has_failed rc.old ≡ true
             → IsErrAnd result (λ e. refusal_of e ≡ plain_refusal failed) × (rc.new ≡ rc.old) }
         ensures state { state_of rc.new ≡ state_of rc.old }
@@ -60,8 +59,8 @@ pub trait Expand {
         rc: &mut RenderContext,
         log: &L,
     ) -> Result<CowStr<'rc>, RenderError>
-        ensures expands { has_failed rc.old ≡ false → (site : Site) → Yields (setting_of registry.now «data».now)
-            (expand_as_name (setting_of registry.now «data».now) site (param self.now)) (state_of rc.old) cow_str_bytes result }
+        ensures expands { has_failed rc.old ≡ false → Yields
+            (HasName (setting_of registry.now «data».now) (state_of rc.old) (param self.now)) cow_str_bytes result }
         ensures failed { has_failed rc.old ≡ true
             → IsErrAnd result (λ e. refusal_of e ≡ plain_refusal failed) × (rc.new ≡ rc.old) }
         ensures state { state_of rc.new ≡ state_of rc.old }

@@ -172,6 +172,30 @@ fn show_their_lines(rt: &impl Abort, alloc: Global) {
     prints(rt, alloc, &error, CLOSED_BY_ANOTHER);
 }
 
+const SIX_LINES: &str = "ab\ncd\nef\ngh\nij\nkl";
+
+// An error without a name prints its place, and these of the six lines.
+fn shows_at(rt: &impl Abort, alloc: Global, line: usize, column: usize, lines: &str) {
+    let error = TemplateError::of(Broken::NestedSubexpression);
+    let error = error.at(alloc, SIX_LINES, line, column);
+    let head = "Template error: nested subexpression is not supported\n    --> Template error in";
+    let tail = "     = reason: nested subexpression is not supported";
+    let wanted = format!(in alloc;
+        "{head} \"Unnamed template\":{line}:{column}\n     |\n{lines}     |\n{tail}\n"
+    );
+    prints(rt, alloc, &error, wanted.expect(rt, "memory").as_str());
+}
+
+// Line 0 has no marker, and a column behind the line's end no sign of its own. Past the source no line is shown.
+fn show_lines_of_any_place(rt: &impl Abort, alloc: Global) {
+    let last_three = "   3 | gh\n   4 | ij\n   5 | kl\n     |--\n";
+    shows_at(rt, alloc, 6, 2, last_three);
+    shows_at(rt, alloc, 6, usize::MAX, last_three);
+    let first_four = "   0 | ab\n   1 | cd\n   2 | ef\n   3 | gh\n";
+    shows_at(rt, alloc, 0, 1, first_four);
+    shows_at(rt, alloc, usize::MAX, 1, "");
+}
+
 fn fault_of_disk(rt: &impl Abort, alloc: Global) {
     let fault = output_fault(io::Error::other("disk"));
     let reason = fault.reason();
@@ -197,6 +221,7 @@ fn errors_are_made(rt: HostRuntime) {
     are_made(&rt, alloc);
     keep_their_place(&rt, alloc);
     show_their_lines(&rt, alloc);
+    show_lines_of_any_place(&rt, alloc);
     fault_of_disk(&rt, alloc);
     source_has_its_own(&rt, alloc);
 }

@@ -1,4 +1,4 @@
-use Rattle.std.proofs.Common.{◌∙◌, sym, ap, map, Option, option_map, List, refl}
+use Rattle.std.proofs.Common.{◌∙◌, ◌+◌, sym, ap, map, Option, option_map, List, refl}
 use Rattle.std.specs.Prelude.{slice_get, unwrap_or}
 use Rattle.serde_json.specs.Data.{null, number, unsigned}
 use Rattle.serde_json.specs.View.{view}
@@ -9,8 +9,8 @@ use Rattle.handlebars_template.specs.TreeView.{body_view, call_view, element_vie
 use Rattle.handlebars_template.specs.declared.template.tree.TemplateMapping.{TemplateMapping}
 use Rattle.handlebars_template.proofs.Levels.{call_body-view, call_inverse-view, call_marks-view, element_view-Expression, element_view-HelperBlock, element_view-DecoratorExpression, element_view-DecoratorBlock, element_view-PartialExpression, element_view-PartialBlock, element_view-Comment, element_view-RawString}
 use Rattle.handlebars_template.proofs.Trees.{tree_view-out}
-use Rattle.handlebars_scope.specs.Put.{of_text}
-use Rattle.handlebars_scope.specs.Sites.{body_at, inverse_at, element_in}
+use Rattle.handlebars_meaning.specs.Pieces.{of_text}
+use Rattle.handlebars_meaning.specs.Sites.{body_at, inverse_at, element_in}
 use Rattle.handlebars_helpers.specs.View.{kind_of, base_view, path_view, turn_view}
 use Rattle.handlebars_scope.specs.Scopes.{Frame, empty_frame}
 use Rattle.handlebars_meaning.specs.CarryOut.{helper_call}
@@ -49,7 +49,7 @@ pub block::render_next-returns-clause-renders : goal.block::render_next-returns-
 block::render_next-returns-clause-renders g t c = λ site.
     let marked = ap (λ (m : CallMarks). m.indent_before_write) (call_marks-view c.args.helper.now) in
     rw c.if-not-bracket.false (carries_on-bracket _ _ (call_marks (call_view c.args.helper.now)).indent_before_write
-    (render_chosen (g.P.Registered.parts c.args.setting.now.parts.now).strict site (kind_of c.args.to_call.kind)
+    (render_chosen site (kind_of c.args.to_call.kind)
     (helper_call c.args.block (call_view c.args.helper.now) (called_view c.args.to_call.call)))
     (entered_as (state_of c.args.rc.now) (state_of c.enter_call.new.rc) _ _ marked c.enter_call.ensures.state)
     (c.leave_call.ensures.state (state_of c.args.rc.now).line (sym c.get_indent_before_write-before.ensures)
@@ -58,19 +58,19 @@ block::render_next-returns-clause-renders g t c = λ site.
 
 pub block::render_chosen-returns-in-Ok-clause-renders : goal.block::render_chosen-returns-in-Ok-clause-renders
 block::render_chosen-returns-in-Ok-clause-renders g t c = λ site.
-    chosen_ok _ _ _ _ site (kind_of c.args.kind) _
+    chosen_ok _ _ _ site (kind_of c.args.kind) _
     (helper_call c.args.block (call_view c.args.helper.now) (called_view c.args.call)) _
     c.strict.ensures c.of_call-view.ensures c.in-Ok.ensures
     (c.carry_out.ensures.renders site c.args.block (called_view c.args.call))
 
 pub block::render_chosen-returns-clause-renders : goal.block::render_chosen-returns-clause-renders
 block::render_chosen-returns-clause-renders g t c = λ site.
-    chosen_err _ _ _ _ site (kind_of c.args.kind) _
+    chosen_err _ _ _ site (kind_of c.args.kind) _
     (helper_call c.args.block (call_view c.args.helper.now) (called_view c.args.call)) c.in-Err.e
     c.strict.ensures c.of_call-view.ensures c.in-Err.ensures
 
 pub block::carry_out-returns-in-Body-clause-renders : goal.block::carry_out-returns-in-Body-clause-renders
-block::carry_out-returns-in-Body-clause-renders g t c = λ site block v. rw c.in-Body.is (c.render_body.ensures.renders site block v)
+block::carry_out-returns-in-Body-clause-renders g t c = λ site block v. rw c.in-Body.is (c.render_body.ensures.renders site 0 block v)
 
 pub block::carry_out-returns-in-Inverse-clause-renders : goal.block::carry_out-returns-in-Inverse-clause-renders
 block::carry_out-returns-in-Inverse-clause-renders g t c = λ site block v. rw c.in-Inverse.is (c.render_inverse.ensures.renders site block v)
@@ -96,18 +96,18 @@ pub block::carry_out-returns-in-Nothing-clause-renders : goal.block::carry_out-r
 block::carry_out-returns-in-Nothing-clause-renders g t c = λ site block v. rw c.in-Nothing.is (carries_on-done _ _)
 
 pub block::render_body-returns-in-None-clause-renders : goal.block::render_body-returns-in-None-clause-renders
-block::render_body-returns-in-None-clause-renders g t c = λ site block v.
-    branch_none _ _ (body_at site) _ (call_body-view c.args.helper.now ∙ ap body_view c.in-None.is)
+block::render_body-returns-in-None-clause-renders g t c = λ site i block v.
+    branch_none _ _ (body_at site i) _ (call_body-view c.args.helper.now ∙ ap body_view c.in-None.is)
 
 pub block::render_inverse-returns-in-None-clause-renders : goal.block::render_inverse-returns-in-None-clause-renders
 block::render_inverse-returns-in-None-clause-renders g t c = λ site block v.
-    branch_none _ _ (inverse_at site) _ (call_inverse-view c.args.helper.now ∙ ap body_view c.in-None.is)
+    branch_none _ _ (inverse_at site 0) _ (call_inverse-view c.args.helper.now ∙ ap body_view c.in-None.is)
 
 -- ---- elements
 
 pub element::render_element-returns-in-RawString-clause-renders : goal.element::render_element-returns-in-RawString-clause-renders
 element::render_element-returns-in-RawString-clause-renders g t c = λ site. rw (c.in-RawString.is, element_view-RawString)
-    (carries-puts _ _ (of_text site) _ refl (rw c.as_str.ensures.value at c.indent_aware_write.ensures.puts))
+    (carries-puts _ _ (of_text site) _ (rw c.as_str.ensures.value at c.indent_aware_write.ensures.puts))
 
 pub element::render_element-returns-in-Expression-clause-renders : goal.element::render_element-returns-in-Expression-clause-renders
 element::render_element-returns-in-Expression-clause-renders g t c = λ site. rw (c.in-Expression.is, element_view-Expression)
@@ -123,22 +123,22 @@ element::render_element-returns-in-HelperBlock-clause-renders g t c = λ site. r
 pub element::render_element-returns-in-DecoratorExpression-clause-renders : goal.element::render_element-returns-in-DecoratorExpression-clause-renders
 element::render_element-returns-in-DecoratorExpression-clause-renders g t c = λ site. rw (c.in-DecoratorExpression.is, element_view-DecoratorExpression)
     (carries-no_value _ _ _ _ c.decorator_not_found.result
-    (rw c.deref-in-DecoratorExpression.ensures at (c.decorator_not_found.ensures site)))
+    (rw c.deref-in-DecoratorExpression.ensures at c.decorator_not_found.ensures))
 
 pub element::render_element-returns-in-DecoratorBlock-clause-renders : goal.element::render_element-returns-in-DecoratorBlock-clause-renders
 element::render_element-returns-in-DecoratorBlock-clause-renders g t c = λ site. rw (c.in-DecoratorBlock.is, element_view-DecoratorBlock)
     (carries-no_value _ _ _ _ c.decorator_not_found-in-DecoratorBlock.result
-    (rw c.deref-in-DecoratorBlock.ensures at (c.decorator_not_found-in-DecoratorBlock.ensures site)))
+    (rw c.deref-in-DecoratorBlock.ensures at c.decorator_not_found-in-DecoratorBlock.ensures))
 
 pub element::render_element-returns-in-PartialExpression-clause-renders : goal.element::render_element-returns-in-PartialExpression-clause-renders
 element::render_element-returns-in-PartialExpression-clause-renders g t c = λ site. rw (c.in-PartialExpression.is, element_view-PartialExpression)
     (carries-no_value _ _ _ _ c.partial_not_found.result
-    (rw c.deref-in-PartialExpression.ensures at (c.partial_not_found.ensures site)))
+    (rw c.deref-in-PartialExpression.ensures at c.partial_not_found.ensures))
 
 pub element::render_element-returns-in-PartialBlock-clause-renders : goal.element::render_element-returns-in-PartialBlock-clause-renders
 element::render_element-returns-in-PartialBlock-clause-renders g t c = λ site. rw (c.in-PartialBlock.is, element_view-PartialBlock)
     (carries-no_value _ _ _ _ c.partial_not_found-in-PartialBlock.result
-    (rw c.deref-in-PartialBlock.ensures at (c.partial_not_found-in-PartialBlock.ensures site)))
+    (rw c.deref-in-PartialBlock.ensures at c.partial_not_found-in-PartialBlock.ensures))
 
 pub element::render_unescaped-returns-clause-renders : goal.element::render_unescaped-returns-clause-renders
 element::render_unescaped-returns-clause-renders g t c = λ site. carries-unescaped _ _ c.set_disable_escape.ensures.state
@@ -224,7 +224,7 @@ each::render_with-returns-clause-renders g t c = λ site block v.
     carries_on-with _ _ site (helper_call block (call_view c.args.helper.now) v) (base_view c.args.base)
     (entered-with (base_view c.args.base) c.in_ok-push_block.ensures.ok c.in_ok-block.ensures
     (binding-seen c.args.helper.now c.as_ref.result c.as_ref.ensures.value) c.in_ok-variables.ensures)
-    c.pop_block.ensures.state (c.render_body-answer.ensures.renders site block v)
+    c.pop_block.ensures.state (c.render_body-answer.ensures.renders site 0 block v)
 
 pub each::render_each-returns-in_err-push_block-clause-renders : goal.each::render_each-returns-in_err-push_block-clause-renders
 each::render_each-returns-in_err-push_block-clause-renders g t c = λ site block v.
@@ -240,30 +240,35 @@ each::render_each-returns-clause-renders g t c = λ site block v.
 
 pub each::take_turns-returns-in_err-set_up_turn-clause-renders : goal.each::take_turns-returns-in_err-set_up_turn-clause-renders
 each::take_turns-returns-in_err-set_up_turn-clause-renders g t c = λ site block v.
-    turns-no_memory _ _ site (helper_call block (call_view c.args.helper.now) v) (path_view c.args.path) _ _ c.from_residual.result
+    turns-no_memory _ _ site c.turns.invariant.number (helper_call block (call_view c.args.helper.now) v) (path_view c.args.path) _ _ c.from_residual.result
     c.in-Some.ensures (c.turns.invariant.left site block v) c.from_residual.ensures.1
 
 pub each::take_turns-returns-in-Err-clause-renders : goal.each::take_turns-returns-in-Err-clause-renders
 each::take_turns-returns-in-Err-clause-renders g t c = λ site block v.
-    turns-over _ _ site (helper_call block (call_view c.args.helper.now) v) (path_view c.args.path) _
+    turns-over _ _ site c.turns.invariant.number (helper_call block (call_view c.args.helper.now) v) (path_view c.args.path) _
     c.in-Some.ensures (c.turns.invariant.left site block v)
-    (carries_on-turn _ _ site (helper_call block (call_view c.args.helper.now) v) (path_view c.args.path) (turn_view c.in-Some.turn)
+    (carries_on-turn _ _ site c.turns.invariant.number (helper_call block (call_view c.args.helper.now) v) (path_view c.args.path) (turn_view c.in-Some.turn)
     (rw (sym (binding-seen c.args.helper.now c.as_ref.result c.as_ref.ensures.value)) c.in_ok-set_up_turn.ensures.ok)
-    (c.in-Err.ensures.renders site block v))
+    (c.in-Err.ensures.renders site c.turns.invariant.number block v))
+
+pub each::take_turns-turns-init : goal.each::take_turns-turns-init
+each::take_turns-turns-init g t c =
+    record { number = 0; left = λ site block v next r last d. d; outer = outer-kept (kept-refl _) }
 
 pub each::take_turns-turns-preserved : goal.each::take_turns-turns-preserved
 each::take_turns-turns-preserved g t c = record {
+  number = c.turns.invariant.number + 1;
   left = λ site block v.
-      turns-go _ _ site (helper_call block (call_view c.args.helper.now) v) (path_view c.args.path) _
+      turns-go _ _ site c.turns.invariant.number (helper_call block (call_view c.args.helper.now) v) (path_view c.args.path) _
       c.in-Some.ensures (c.turns.invariant.left site block v)
-      (carries_on-turn _ _ site (helper_call block (call_view c.args.helper.now) v) (path_view c.args.path) (turn_view c.in-Some.turn)
+      (carries_on-turn _ _ site c.turns.invariant.number (helper_call block (call_view c.args.helper.now) v) (path_view c.args.path) (turn_view c.in-Some.turn)
       (rw (sym (binding-seen c.args.helper.now c.as_ref.result c.as_ref.ensures.value)) c.in_ok-set_up_turn.ensures.ok)
-      (c.in_default-render_body.ensures.renders site block v));
+      (c.in_default-render_body.ensures.renders site c.turns.invariant.number block v));
   outer = outer-trans c.turns.invariant.outer
       (outer-trans c.in_ok-set_up_turn.ensures.outer (outer-kept c.in_default-render_body.ensures.kept));
 }
 
 pub each::take_turns-returns-clause-renders : goal.each::take_turns-returns-clause-renders
 each::take_turns-returns-clause-renders g t c = λ site block v.
-    turns-end _ _ site (helper_call block (call_view c.args.helper.now) v) (path_view c.args.path) _
+    turns-end _ _ site c.turns.invariant.number (helper_call block (call_view c.args.helper.now) v) (path_view c.args.path) _
     c.in_default.ensures (c.turns.invariant.left site block v)

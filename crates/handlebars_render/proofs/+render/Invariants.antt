@@ -1,7 +1,7 @@
-use Rattle.std.proofs.Common.{map, length, Bool}
+use Rattle.std.proofs.Common.{map, length, ℕ, Bool}
 use Rattle.handlebars_template.specs.TreeView.{call_view, element_view, place_of}
 use Rattle.handlebars_template.specs.declared.template.tree.Template.{out-Template}
-use Rattle.handlebars_scope.specs.Sites.{TreeSite, Site}
+use Rattle.handlebars_meaning.specs.Sites.{TreeSite, Site}
 use Rattle.handlebars_helpers.specs.CallView.{CallView}
 use Rattle.handlebars_helpers.specs.View.{path_view, turns_left}
 use Rattle.handlebars_meaning.specs.CarryOut.{helper_call}
@@ -20,8 +20,9 @@ invariant-tree::render_whole-elements g l = record {
 
 abbrev pub invariant-each::take_turns-turns : goal.invariant-each::take_turns-turns
 invariant-each::take_turns-turns g l = record {
+  number : ℕ;
   left : (site : Site) (block : Bool) (v : CallView) → TurnsLeft (setting_in g.P.Registered.parts l.setting) g.O.Output.may_give
-      site (helper_call block (call_view l.helper) v) (path_view l.path) (turns_left l.initial.left) (turns_left l.left)
+      site number (helper_call block (call_view l.helper) v) (path_view l.path) (turns_left l.initial.left) (turns_left l.left)
       (moment l.initial.rc (g.O.Output.held l.initial.out)) (moment l.rc (g.O.Output.held l.out));
   outer : HasOuter l.initial.rc l.rc;
 }

@@ -1,5 +1,5 @@
 use Rattle.std.proofs.Common.{◌∙◌, sym, ap}
-use Rattle.handlebars_scope.specs.Put.{join}
+use Rattle.handlebars_meaning.specs.Pieces.{join}
 use Rattle.handlebars_call_tests.proofs.caller.rendered_again.Goals as goal
 
 pub returns : goal.returns

@@ -1,24 +1,28 @@
+use Rattle.std.proofs.Common.{refl}
+use Rattle.handlebars_template.proofs.Levels.{decorator_name-view, decorator_params-view, decorator_pairs-view}
+use Rattle.handlebars_meaning.specs.Asks.{goes_on, is_refused}
 use Rattle.handlebars_render.specs.View.{called_view}
-use Rattle.handlebars_render.proofs.Values.{gives-view, refuses-name, refuses-pairs, refuses-params, view_of_tag-out, yields-handed_on}
+use Rattle.handlebars_render.proofs.Values.{handed_on}
 use Rattle.handlebars_render.proofs.called.view_of_tag.Goals as goal
 
 pub returns-in_err-name : goal.returns-in_err-name
-returns-in_err-name g c = λ site. rw (view_of_tag-out _ site c.args.tag.now)
-    (yields-handed_on _ called_view _ _ _ c.from_residual.ensures.1
-    (λ other. refuses-name _ site _ _ _ (c.in_err-name.ensures site other)))
+returns-in_err-name g c =
+    rw (decorator_name-view c.args.tag.now, decorator_params-view c.args.tag.now, decorator_pairs-view c.args.tag.now)
+    (handed_on _ _ _ _ c.from_residual.ensures.1 (λ other. is_refused (c.in_err-name.ensures other)))
 
 pub returns-in_err-params : goal.returns-in_err-params
-returns-in_err-params g c = λ site. rw (view_of_tag-out _ site c.args.tag.now)
-    (yields-handed_on _ called_view _ _ _ c.from_residual-in_err-params.ensures.1
-    (λ other. refuses-params _ site _ _ _ (c.in_ok-name.ensures site) (c.in_err-params.ensures site other)))
+returns-in_err-params g c =
+    rw (decorator_name-view c.args.tag.now, decorator_params-view c.args.tag.now, decorator_pairs-view c.args.tag.now)
+    (handed_on _ _ _ _ c.from_residual-in_err-params.ensures.1
+    (λ other. goes_on c.in_ok-name.ensures (is_refused (c.in_err-params.ensures other))))
 
 pub returns-in_err-hash : goal.returns-in_err-hash
-returns-in_err-hash g c = λ site. rw (view_of_tag-out _ site c.args.tag.now)
-    (yields-handed_on _ called_view _ _ _ c.from_residual-in_err-hash.ensures.1
-    (λ other. refuses-pairs _ site _ _ _ (c.in_ok-name.ensures site) (c.in_ok-params.ensures site)
-    (c.in_err-hash.ensures site other)))
+returns-in_err-hash g c =
+    rw (decorator_name-view c.args.tag.now, decorator_params-view c.args.tag.now, decorator_pairs-view c.args.tag.now)
+    (handed_on _ _ _ _ c.from_residual-in_err-hash.ensures.1
+    (λ other. goes_on c.in_ok-name.ensures (goes_on c.in_ok-params.ensures (is_refused (c.in_err-hash.ensures other)))))
 
 pub returns : goal.returns
-returns g c = λ site. rw (view_of_tag-out _ site c.args.tag.now)
-    (gives-view _ site _ _ _ (c.in_ok-name.ensures site) (c.in_ok-params.ensures site)
-    (c.in_ok-hash.ensures site))
+returns g c =
+    rw (decorator_name-view c.args.tag.now, decorator_params-view c.args.tag.now, decorator_pairs-view c.args.tag.now)
+    (goes_on c.in_ok-name.ensures (goes_on c.in_ok-params.ensures (goes_on c.in_ok-hash.ensures refl)))

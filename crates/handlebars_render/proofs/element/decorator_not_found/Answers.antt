@@ -1,15 +1,18 @@
 use Rattle.handlebars_base.specs.Reasons.{decorator_not_found}
+use Rattle.handlebars_template.specs.Tree.{decorator_args, decorator_name}
 use Rattle.handlebars_template.specs.TreeView.{decorator_view}
-use Rattle.handlebars_meaning.specs.Expand.{view_of_tag}
-use Rattle.handlebars_render.specs.View.{called_view, setting_in}
-use Rattle.handlebars_render.proofs.Calls.{refuses_named}
-use Rattle.handlebars_meaning.proofs.Gives.{refuses-bind}
+use Rattle.handlebars_meaning.specs.Questions.{view_of}
+use Rattle.handlebars_meaning.specs.Steps.{ask}
+use Rattle.handlebars_render.specs.View.{called_view}
+use Rattle.handlebars_render.proofs.Calls.{gives_tag, refuses_named, refuses_tag}
 use Rattle.handlebars_render.proofs.element.decorator_not_found.Goals as goal
 
 pub returns-in-Ok : goal.returns-in-Ok
-returns-in-Ok g c = λ site other. refuses_named _ (view_of_tag (setting_in g.P.Registered.parts c.args.setting.now) site (decorator_view c.args.tag.now))
-    (λ n. decorator_not_found n) (called_view c.in-Ok.view) c.no_decorator.result (c.in-Ok.ensures site) (rw c.into_name.ensures at c.no_decorator.ensures) other
+returns-in-Ok g c = λ other. refuses_named _
+    (ask (view_of (decorator_name (decorator_view c.args.tag.now)) (decorator_args (decorator_view c.args.tag.now))))
+    (λ n. decorator_not_found n) (called_view c.in-Ok.view) c.no_decorator.result
+    (gives_tag _ (decorator_view c.args.tag.now) (called_view c.in-Ok.view) c.in-Ok.ensures)
+    (rw c.into_name.ensures at c.no_decorator.ensures) other
 
 pub returns-in-Err : goal.returns-in-Err
-returns-in-Err g c = λ site other. refuses-bind _ (view_of_tag (setting_in g.P.Registered.parts c.args.setting.now) site (decorator_view c.args.tag.now))
-    _ (c.in-Err.ensures site other)
+returns-in-Err g c = λ other. refuses_tag _ (decorator_view c.args.tag.now) (λ n. decorator_not_found n) (c.in-Err.ensures other)

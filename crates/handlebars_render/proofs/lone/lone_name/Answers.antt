@@ -1,5 +1,8 @@
-use Rattle.handlebars_template.proofs.Levels.{param_view-Subexpression}
+use Rattle.handlebars_template.proofs.Levels.{param_view-Literal, param_view-Subexpression}
 use Rattle.handlebars_render.proofs.lone.lone_name.Goals as goal
 
-pub returns-in-Subexpression : goal.returns-in-Subexpression
-returns-in-Subexpression g c = λ site. rw (c.in-Subexpression.is, param_view-Subexpression) (c.made_name.ensures site)
+pub returns-in-Subexpression-clause-name : goal.returns-in-Subexpression-clause-name
+returns-in-Subexpression-clause-name g c = rw (c.in-Subexpression.is, param_view-Subexpression) c.made_name.ensures.name
+
+pub returns-in-Subexpression-clause-made : goal.returns-in-Subexpression-clause-made
+returns-in-Subexpression-clause-made g c = rw (c.in-Subexpression.is, param_view-Subexpression) c.made_name.ensures.made

@@ -1,8 +1,12 @@
-use Rattle.handlebars_render.proofs.LoneValues.{gives-lone, refuses-lone}
+use Rattle.std.proofs.Common.{ap}
+use Rattle.handlebars_base.specs.Answers.{gives}
+use Rattle.handlebars_base.specs.Bytes.{Text}
+use Rattle.handlebars_meaning.specs.Asks.{goes_on, is_refused}
 use Rattle.handlebars_render.proofs.lone.made_name.Goals as goal
 
-pub returns-in_ok-render-in-Ok : goal.returns-in_ok-render-in-Ok
-returns-in_ok-render-in-Ok g c = λ site. gives-lone _ site _ _ _ c.in_ok-render-in-Ok.ensures (c.in-Ok.ensures.value site)
+pub returns-in_ok-render-in-Ok-clause-name : goal.returns-in_ok-render-in-Ok-clause-name
+returns-in_ok-render-in-Ok-clause-name g c =
+    goes_on c.in-Ok.ensures.value (ap (λ (n : Text). gives n) c.in_ok-render-in-Ok.ensures)
 
-pub returns-in-Err : goal.returns-in-Err
-returns-in-Err g c = λ site other. refuses-lone _ site _ (c.in-Err.ensures.value site other)
+pub returns-in-Err-clause-name : goal.returns-in-Err-clause-name
+returns-in-Err-clause-name g c = λ other. is_refused (c.in-Err.ensures.value other)

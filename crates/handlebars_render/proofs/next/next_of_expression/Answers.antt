@@ -1,7 +1,13 @@
-use Rattle.std.proofs.Common.{false, refl}
+use Rattle.std.proofs.Common.{false, refl, sym}
 use Rattle.handlebars_template.specs.TreeView.{call_view}
-use Rattle.handlebars_render.proofs.Leaves.{comes_to-leaves, comes_to-settles, leaves-expression}
+use Rattle.handlebars_render.proofs.Leaves.{comes_to-leaves, comes_to-settles, leaves-expression, leaves-lone}
 use Rattle.handlebars_render.proofs.next.next_of_expression.Goals as goal
+
+pub returns-then-is_value : goal.returns-then-is_value
+returns-then-is_value g c = λ site.
+    comes_to-leaves _ _ site false (call_view c.args.helper.now) _ _ _ _ _ c.next_of_lone.result
+    (leaves-lone _ site (call_view c.args.helper.now) c.if-is_value.ensures)
+    (c.next_of_lone.ensures (sym c.if-is_value.ensures) site)
 
 pub returns-else-is_value : goal.returns-else-is_value
 returns-else-is_value g c = λ site.

@@ -1,28 +1,29 @@
 use Rattle.std.proofs.Common.{ap, ◌∙◌, false, refl}
+use Rattle.std.specs.Cow.{cow_str_bytes}
 use Rattle.handlebars_template.specs.TreeView.{call_view}
 use Rattle.handlebars_template.proofs.Levels.{call_name-view}
 use Rattle.handlebars_helpers.specs.View.{kind_of}
-use Rattle.handlebars_render.specs.View.{called_view, lone_view}
+use Rattle.handlebars_render.specs.View.{called_view}
 use Rattle.handlebars_render.proofs.Leaves.{carries_on-refuses, comes_to-leaves, leaves-named, leaves-value, refuses-lone}
 use Rattle.handlebars_render.proofs.next.next_of_lone.Goals as goal
 
 pub returns-in-Err : goal.returns-in-Err
-returns-in-Err g c = λ site. carries_on-refuses _ _ _ c.in-Err.e
-    (λ other. refuses-lone _ site (call_view c.args.helper.now) (rw (call_name-view c.args.helper.now) (c.in-Err.ensures site other)))
+returns-in-Err g c = λ lone site. carries_on-refuses _ _ _ c.in-Err.e
+    (λ other. refuses-lone _ site (call_view c.args.helper.now) (rw (call_name-view c.args.helper.now) (c.in-Err.ensures.name other)))
 
 pub returns-in-Some : goal.returns-in-Some
-returns-in-Some g c = λ site. (
-  leaves-named _ site (call_view c.args.helper.now) (lone_view c.in-Ok.lone) (kind_of c.in-Some.kind) (called_view c.alone.result)
-      (rw (call_name-view c.args.helper.now) (c.in-Ok.ensures site))
+returns-in-Some g c = λ lone site. (
+  leaves-named _ site (call_view c.args.helper.now) (cow_str_bytes c.in-Ok.lone.name) (kind_of c.in-Some.kind) (called_view c.alone.result)
+      lone (rw (call_name-view c.args.helper.now) c.in-Ok.ensures.name)
       (c.in-Some.ensures ∙ ap (g.P.Registered.parts c.args.setting.now.parts.now).helper c.as_str.ensures.value)
       c.alone.ensures,
   refl,
 )
 
 pub returns : goal.returns
-returns g c = λ site.
+returns g c = λ lone site.
     comes_to-leaves _ _ site false (call_view c.args.helper.now) _ _ _ _ _ c.next_of_value.result
-    (leaves-value _ site (call_view c.args.helper.now) (lone_view c.in-Ok.lone)
-    (rw (call_name-view c.args.helper.now) (c.in-Ok.ensures site))
+    (leaves-value _ site (call_view c.args.helper.now) (cow_str_bytes c.in-Ok.lone.name) lone
+    (rw (call_name-view c.args.helper.now) c.in-Ok.ensures.name)
     (c.in-None.ensures ∙ ap (g.P.Registered.parts c.args.setting.now.parts.now).helper c.as_str.ensures.value))
-    (c.next_of_value.ensures site)
+    (c.next_of_value.ensures (rw (call_name-view c.args.helper.now) c.in-Ok.ensures.made) site)

@@ -3,14 +3,14 @@ use Rattle.std.specs.Cow.{cow_str_bytes}
 use Rattle.handlebars_template.specs.TreeView.{call_view}
 use Rattle.handlebars_template.proofs.Levels.{call_name-view}
 use Rattle.handlebars_helpers.specs.View.{kind_of}
-use Rattle.handlebars_render.specs.View.{called_view}
+use Rattle.handlebars_render.specs.View.{called_view, name_alone}
 use Rattle.handlebars_render.proofs.Leaves.{leaves-hook, gives-nothing, refuses-missing}
 use Rattle.handlebars_render.proofs.next.next_of_missing.Goals as goal
 
 pub returns-then-strict : goal.returns-then-strict
 returns-then-strict g c = λ site.
-    refuses-missing _ site (call_view c.args.helper.now) (cow_str_bytes c.args.name) _ c.missing_variable.result c.if-strict.ensures
-    (call_name-view c.args.helper.now) c.missing_variable.ensures
+    refuses-missing _ site (call_view c.args.helper.now) (name_alone (cow_str_bytes c.args.name)) _ c.missing_variable.result
+    c.if-strict.ensures (call_name-view c.args.helper.now) c.missing_variable.ensures
 
 pub returns-in-Some : goal.returns-in-Some
 returns-in-Some g c = λ site.
@@ -20,7 +20,7 @@ returns-in-Some g c = λ site.
 
 pub returns : goal.returns
 returns g c = λ site. (
-  gives-nothing _ site (call_view c.args.helper.now) (cow_str_bytes c.args.name) c.if-strict.ensures
+  gives-nothing _ site (call_view c.args.helper.now) (name_alone (cow_str_bytes c.args.name)) c.if-strict.ensures
       (c.in-None.ensures ∙ ap (g.P.Registered.parts c.args.setting.now.parts.now).helper c.hook.ensures),
   c.line.ensures,
 )

@@ -1,32 +1,31 @@
-use Rattle.std.proofs.Common.{◌∙◌, sym, refl, option_map}
+use Rattle.std.proofs.Common.{◌∙◌, sym, refl, subst}
 use Rattle.serde_json.specs.View.{view}
-use Rattle.handlebars_base.specs.Scoped.{found_of}
+use Rattle.handlebars_template.specs.Tree.{Param}
 use Rattle.handlebars_template.specs.TreeView.{call_view}
 use Rattle.handlebars_template.proofs.Levels.{call_name-view}
 use Rattle.handlebars_render.proofs.Calls.{value_err, value_lacks, value_there}
 use Rattle.handlebars_render.proofs.next.write_lone.Goals as goal
 
 pub returns-in-Ok-write_found : goal.returns-in-Ok-write_found
-returns-in-Ok-write_found g c = λ site name.
-    let has = c.in-Ok.ensures site in
-    value_there _ _ site (call_view c.args.helper.now) name _ (option_map found_of c.args.made) has.0 (view c.in-Some.json.now)
+returns-in-Ok-write_found g c = λ made site v.
+    let has = c.in-Ok.ensures (rw (call_name-view c.args.helper.now) at made) in
+    value_there _ _ site (call_view c.args.helper.now) v _ has.0 (view c.in-Some.json.now)
     (call_name-view c.args.helper.now) has.1 (has.2 ∙ sym c.in-Some.ensures) c.in-Ok-write_found.ensures.puts
 
 pub returns-in-Some : goal.returns-in-Some
-returns-in-Some g c = λ site name.
-    let has = c.in-Ok.ensures site in
-    value_there _ _ site (call_view c.args.helper.now) name _ (option_map found_of c.args.made) has.0 (view c.in-Some.json.now)
+returns-in-Some g c = λ made site v.
+    let has = c.in-Ok.ensures (rw (call_name-view c.args.helper.now) at made) in
+    value_there _ _ site (call_view c.args.helper.now) v _ has.0 (view c.in-Some.json.now)
     (call_name-view c.args.helper.now) has.1 (has.2 ∙ sym c.in-Some.ensures) c.in-Err-write_found.ensures.puts
 
 pub returns : goal.returns
-returns g c = λ site name.
-    let has = c.in-Ok.ensures site in (
-      value_lacks _ site (call_view c.args.helper.now) _ (option_map found_of c.args.made) has.0
-          (call_name-view c.args.helper.now) has.1 (c.in-None.ensures ∙ sym has.2),
+returns g c = λ made site v.
+    let has = c.in-Ok.ensures (rw (call_name-view c.args.helper.now) at made) in (
+      value_lacks _ _ _ _ has.0 (call_name-view c.args.helper.now) has.1 (c.in-None.ensures ∙ sym has.2),
       refl,
     )
 
 pub returns-in-Err : goal.returns-in-Err
-returns-in-Err g c = λ site name.
-    value_err _ _ site (call_view c.args.helper.now) (name, option_map found_of c.args.made) c.in-Err.e
-    (rw (call_name-view c.args.helper.now) (c.in-Err.ensures site))
+returns-in-Err g c = λ made site v.
+    value_err _ _ site (call_view c.args.helper.now) v _ c.in-Err.e (call_name-view c.args.helper.now)
+    (c.in-Err.ensures (rw (call_name-view c.args.helper.now) at made))

@@ -1,5 +1,5 @@
 use Rattle.std.proofs.Common.{refl}
-use Rattle.handlebars_scope.specs.Sites.{first_tree, element_in}
+use Rattle.handlebars_meaning.specs.Sites.{first_tree, element_in}
 use Rattle.handlebars_render.proofs.Carry.{carries-only}
 use Rattle.handlebars_render.proofs.tree.render_alone.Goals as goal
 

@@ -1,4 +1,4 @@
-use Rattle.handlebars_scope.specs.Sites.{first_tree}
+use Rattle.handlebars_meaning.specs.Sites.{first_tree}
 use Rattle.handlebars_render.proofs.Carry.{carries-run}
 use Rattle.handlebars_render.proofs.tree.render_first.Goals as goal
 

@@ -1,7 +1,7 @@
 use Rattle.std.proofs.Common.{Some, ap, ◌∙◌}
 use Rattle.serde_json.specs.View.{view}
 use Rattle.handlebars_scope.specs.LineView.{line_of}
-use Rattle.handlebars_scope.specs.Put.{LineState, line_behind}
+use Rattle.handlebars_scope.specs.LineState.{LineState, line_behind}
 use Rattle.handlebars_meaning.specs.Writing.{shown_if_any}
 use Rattle.handlebars_render.specs.View.{state_of}
 use Rattle.handlebars_render.proofs.Puts.{puts_none, puts_line, puts_front}

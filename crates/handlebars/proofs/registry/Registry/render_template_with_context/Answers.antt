@@ -12,13 +12,13 @@ pub returns-in_err-template-clause-one : goal.returns-in_err-template-clause-one
 returns-in_err-template-clause-one g c = has_one_answer _ _ (FromSource-one _ _)
 
 pub returns-in_err-template-clause-origins : goal.returns-in_err-template-clause-origins
-returns-in_err-template-clause-origins g c = answer_has_origins _ _ (FromSource-one _ _)
+returns-in_err-template-clause-origins g c = answer_has_origins _ _
 
 pub returns-in_err-rc-clause-one : goal.returns-in_err-rc-clause-one
 returns-in_err-rc-clause-one g c = has_one_answer _ _ (FromSource-one _ _)
 
 pub returns-in_err-rc-clause-origins : goal.returns-in_err-rc-clause-origins
-returns-in_err-rc-clause-origins g c = answer_has_origins _ _ (FromSource-one _ _)
+returns-in_err-rc-clause-origins g c = answer_has_origins _ _
 
 pub returns-clause-ok : goal.returns-clause-ok
 returns-clause-ok g c = IfOk-weaker c.renders.result _ _
@@ -33,4 +33,4 @@ pub returns-clause-one : goal.returns-clause-one
 returns-clause-one g c = has_one_answer _ _ (FromSource-one _ _)
 
 pub returns-clause-origins : goal.returns-clause-origins
-returns-clause-origins g c = answer_has_origins _ _ (FromSource-one _ _)
+returns-clause-origins g c = answer_has_origins _ _

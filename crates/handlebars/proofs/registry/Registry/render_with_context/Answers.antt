@@ -17,11 +17,17 @@ returns-in_default-clause-err g c = λ _. refuses_before _ _ _ c.into.result
     (is_not (sym (rw c.in_default.is at c.get_template.ensures)))
     (c.into.ensures ∙ ap (λ name. plain_refusal (template_not_found name)) c.in_ok-name.ensures.ok)
 
+pub returns-in_err-name-clause-origins : goal.returns-in_err-name-clause-origins
+returns-in_err-name-clause-origins g c = answer_has_origins _ _
+
+pub returns-in_default-clause-origins : goal.returns-in_default-clause-origins
+returns-in_default-clause-origins g c = answer_has_origins _ _
+
 pub returns-in_err-rc-clause-one : goal.returns-in_err-rc-clause-one
 returns-in_err-rc-clause-one g c = has_one_answer _ _ (FromName-one _ _)
 
 pub returns-in_err-rc-clause-origins : goal.returns-in_err-rc-clause-origins
-returns-in_err-rc-clause-origins g c = answer_has_origins _ _ (FromName-one _ _)
+returns-in_err-rc-clause-origins g c = answer_has_origins _ _
 
 pub returns-clause-ok : goal.returns-clause-ok
 returns-clause-ok g c = IfOk-weaker c.renders.result _ _
@@ -38,4 +44,4 @@ pub returns-clause-one : goal.returns-clause-one
 returns-clause-one g c = has_one_answer _ _ (FromName-one _ _)
 
 pub returns-clause-origins : goal.returns-clause-origins
-returns-clause-origins g c = answer_has_origins _ _ (FromName-one _ _)
+returns-clause-origins g c = answer_has_origins _ _

@@ -1,6 +1,6 @@
 use Rattle.std.proofs.Common.{sym, ap, ◌∙◌}
 use Rattle.handlebars_scope.specs.LineView.{line_of}
-use Rattle.handlebars_scope.specs.Put.{line_behind}
+use Rattle.handlebars_scope.specs.LineState.{line_behind}
 use Rattle.handlebars_scope.proofs.Lines.{line_behind-escaped, line_behind-composed, line_behind-number, line_behind-shown}
 use Rattle.handlebars_scope.proofs.Values.{escaped-null, rendered-string}
 use Rattle.handlebars_scope.proofs.line.Line.behind_value.Goals as goal

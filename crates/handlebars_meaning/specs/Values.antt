@@ -1,0 +1,117 @@
+-- What parameters and calls come to in a state: values, or refusals. None of it writes or changes the state.
+use Rattle.std.specs.Prelude.{◌≡◌, Bool, true, false, List, [], ◌∷◌, Option, Some, None, unwrap_or}
+use Rattle.serde_json.specs.Data.{Data, string}
+use Rattle.handlebars_base.specs.Answers.{Answer, gives, refuses_for, answer_map}
+use Rattle.handlebars_base.specs.Bytes.{Text}
+use Rattle.handlebars_base.specs.Path.{Reference, raw_of, IsPath}
+use Rattle.handlebars_base.specs.PathAndData.{PathAndData}
+use Rattle.handlebars_base.specs.Reasons.{helper_not_found, invalid_json_path}
+use Rattle.handlebars_base.specs.Scoped.{Found, value, missing, data_in}
+use Rattle.handlebars_base.specs.Values.{rendered}
+use Rattle.handlebars_template.specs.Tree.{Element, raw_string, html_expression, expression, helper_block, decorator_expression, decorator_block, partial_expression, partial_block, comment, call, Args, args, args_params, args_pairs, Param, name, path, literal, subexpression, Params, no_params, param, Pairs, no_pairs, pair, as_name, Binding, no_body}
+use Rattle.handlebars_scope.specs.Resolve.{resolved}
+use Rattle.handlebars_scope.specs.Scopes.{Frame}
+use Rattle.handlebars_helpers.specs.CallView.{CallView, HelperView}
+use Rattle.handlebars_helpers.specs.Choice.{Kind, Choice, value_in, chosen}
+use Rattle.handlebars_meaning.specs.Asks.{Asks, only, ◌>>=◌}
+use Rattle.handlebars_meaning.specs.State.{Setting, State, helper_for, data_at}
+
+-- ---- values as they are written
+
+abbrev pub is_literal : Param → Bool
+is_literal (name n) = false
+is_literal (path r) = false
+is_literal (literal d) = true
+is_literal (subexpression e) = false
+
+-- A value stands with the text of its parameter, where that is a name or a path.
+abbrev pub as_written : Param → Found → PathAndData
+as_written q found = record { relative_path = as_name q; found = found; is_constant = is_literal q }
+
+-- ---- calls in parentheses
+
+-- In parentheses the bodies of a call count as absent.
+abbrev pub inner_call : Binding → CallView → HelperView
+inner_call b v = record { call = v; binding = b; body = no_body; inverse = no_body; block = false }
+
+-- In parentheses a value is itself. Without bodies nothing else that is chosen writes a text there.
+abbrev pub choice_value : Choice → Found
+choice_value choice = value (unwrap_or (value_in choice) (string []))
+
+-- the value of a call of this view, which calls this helper, in strict mode or not
+abbrev pub helped_value : Bool → Option Kind → HelperView → Answer Found
+helped_value strict None h = refuses_for (helper_not_found h.call.name)
+helped_value strict (Some k) h = answer_map choice_value (chosen strict k h)
+
+-- ---- parameters and calls
+
+-- A name or a path is called by its text, another parameter by its value's.
+abbrev pub called_by : Found → Text
+called_by v = rendered (data_in v)
+
+abbrev pub is_written : Param → Asks Found → Asks PathAndData
+is_written q valued = valued >>= (λ v. only (gives (as_written q v)))
+
+-- The view of a call or of another tag: its name is made first, then the parameters in order, then the pairs in order of
+-- key.
+abbrev pub is_viewed : Asks Text → Asks (List PathAndData) → Asks (List (Text × PathAndData)) → Asks CallView
+is_viewed named valued paired =
+    named >>= (λ called. valued >>= (λ vs. paired >>= (λ ws.
+    only (gives (record { name = called; params = vs; pairs = ws })))))
+
+abbrev mutual
+  -- A name alone has no value. A path leads where the blocks and the data have it. A literal is itself.
+  pub HasValue : Setting → State → Param → Asks Found
+  HasValue p s (name n) = only (gives missing)
+  HasValue p s (path r) = only (resolved s.recursive s.blocks r (data_at p s))
+  HasValue p s (literal d) = only (gives (value d))
+  HasValue p s (subexpression e) = HasInnerValue p s e
+
+  -- An expression in parentheses is a call, also without parameters. Nothing else there has a value.
+  pub HasInnerValue : Setting → State → Element → Asks Found
+  HasInnerValue p s (raw_string t) = only (gives missing)
+  HasInnerValue p s (html_expression c) = only (gives missing)
+  HasInnerValue p s (expression (call n (args ps hs) b t marks)) =
+      is_viewed (HasName p s n) (HaveValues p s ps) (PairsHaveValues p s hs) >>= (λ v.
+      only (helped_value p.parts.strict (helper_for p.parts s false v.name) (inner_call b v)))
+  HasInnerValue p s (helper_block c) = only (gives missing)
+  HasInnerValue p s (decorator_expression t) = only (gives missing)
+  HasInnerValue p s (decorator_block t) = only (gives missing)
+  HasInnerValue p s (partial_expression t) = only (gives missing)
+  HasInnerValue p s (partial_block t) = only (gives missing)
+  HasInnerValue p s (comment t) = only (gives missing)
+
+  -- the text that a call by this parameter calls
+  pub HasName : Setting → State → Param → Asks Text
+  HasName p s (name n) = only (gives n)
+  HasName p s (path r) = only (gives (raw_of r))
+  HasName p s (literal d) = only (gives (rendered d))
+  HasName p s (subexpression e) = HasInnerValue p s e >>= (λ v. only (gives (called_by v)))
+
+  pub HaveValues : Setting → State → Params → Asks (List PathAndData)
+  HaveValues p s no_params = only (gives [])
+  HaveValues p s (param q qs) =
+      is_written q (HasValue p s q) >>= (λ v. HaveValues p s qs >>= (λ vs. only (gives (v ∷ vs))))
+
+  pub PairsHaveValues : Setting → State → Pairs → Asks (List (Text × PathAndData))
+  PairsHaveValues p s no_pairs = only (gives [])
+  PairsHaveValues p s (pair k q hs) =
+      is_written q (HasValue p s q) >>= (λ v. PairsHaveValues p s hs >>= (λ vs. only (gives ((k, v) ∷ vs))))
+
+-- the view of a call or of another tag, by its name and its arguments
+abbrev pub HasView : Setting → State → Param → Args → Asks CallView
+HasView p s n xs =
+    is_viewed (HasName p s n) (HaveValues p s (args_params xs)) (PairsHaveValues p s (args_pairs xs))
+
+-- the value of a parameter, as it is written
+abbrev pub HasWrittenValue : Setting → State → Param → Asks PathAndData
+HasWrittenValue p s q = is_written q (HasValue p s q)
+
+-- ---- texts as paths
+
+-- A text that is a path evaluates to what it leads to in these blocks and this data. Another is refused.
+pub data Evaluates (recursive : Bool) (blocks : List Frame) (given : Data) (text : Text) : Answer Found → Type 0 where
+  leads : {r : Reference} {a : Answer Found} → IsPath text r → resolved recursive blocks r given ≡ a
+      → Evaluates recursive blocks given text a
+  leads_nowhere : ((r : Reference) → IsPath text r → ⊥)
+      → Evaluates recursive blocks given text (refuses_for (invalid_json_path text))

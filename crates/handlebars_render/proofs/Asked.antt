@@ -1,0 +1,27 @@
+-- Programs that have a value, and what steps ask.
+use Rattle.std.proofs.Common.{◌≡◌, []}
+use Rattle.handlebars_base.specs.Answers.{gives, refuses}
+use Rattle.handlebars_base.specs.Reasons.{Refusal}
+use Rattle.handlebars_meaning.specs.State.{Setting, State}
+use Rattle.handlebars_meaning.specs.Steps.{Prog, ask, ◌>>=◌}
+use Rattle.handlebars_meaning.specs.Questions.{Question, Reply, IsAnswered}
+use Rattle.handlebars_meaning.specs.Runs.{Refused, refused, asked}
+use Rattle.handlebars_render.specs.View.{GivesValue, RefusesValue}
+
+module _ (p : Setting) where
+  pub gives-ask : (q : Question) (a : Reply q) {s : State} → IsAnswered p s q (gives a) → GivesValue p (ask q) s a
+  gives-ask q a i k ps o r = asked (gives a) i r
+
+  pub refuses-ask : (q : Question) {r : Refusal} {s : State} → IsAnswered p s q (refuses r)
+      → RefusesValue p (ask q) s r
+  refuses-ask q {r = r} i k = asked (refuses r) i refused
+
+  pub refuses-bind : {A B : Type 0} (m : Prog A) (f : A → Prog B) {s : State} {r : Refusal}
+      → RefusesValue p m s r → RefusesValue p (m >>= f) s r
+  unfolding ◌>>=◌
+  refuses-bind m f x k = x (λ a. f a k)
+
+  pub refuses-then : {A B : Type 0} (m : Prog A) (f : A → Prog B) {s : State} {a : A} {r : Refusal}
+      → GivesValue p m s a → RefusesValue p (f a) s r → RefusesValue p (m >>= f) s r
+  unfolding ◌>>=◌
+  refuses-then m f {r = r} x y k = x (λ a. f a k) [] (Refused r) (y k)

@@ -1,0 +1,27 @@
+-- The line that is written, and what a text makes of it.
+use Rattle.std.specs.Prelude.{List, [], ◌∷◌, Bool, true, false, ◌||◌, ◌==◌}
+use Rattle.handlebars_base.specs.Bytes.{Text, newline, carriage_return}
+
+-- whether indentation goes before the next text, whether the last text ended a line, and whether there was one
+pub record LineState : Type 0 where
+  pub before : Bool
+  pub trailing : Bool
+  pub produced : Bool
+
+abbrev pub first_line : LineState
+first_line = record { before = false; trailing = false; produced = false }
+
+-- the text ends with a newline or a carriage return
+abbrev pub ends_line : Text → Bool
+ends_line [] = false
+ends_line (b ∷ []) = (b == newline) || (b == carriage_return)
+ends_line (b ∷ c ∷ t) = ends_line (c ∷ t)
+
+-- the line behind a text that ends one or doesn't
+abbrev pub line_after : Bool → LineState
+line_after ends = record { before = ends; trailing = ends; produced = true }
+
+-- the line behind a text; an empty one leaves it as it is
+abbrev pub line_behind : Text → LineState → LineState
+line_behind [] line = line
+line_behind (b ∷ t) line = line_after (ends_line (b ∷ t))
