@@ -75,7 +75,14 @@ pub trait Renderable {
         ensures recursive { (state_of rc.new).recursive ≡ (state_of rc.old).recursive }
         ensures escapes { (state_of rc.new).escapes ≡ (state_of rc.old).escapes }
         ensures kept { OnOk result (has_failed rc.new ≡ false) }
-        ensures fails { OnErr result (has_failed rc.new ≡ true) };
+        ensures fails { OnErr result (has_failed rc.new ≡ true) }
+    {
+        let mut out = StringOutput::new(alloc);
+        match self.render(alloc, registry, data, rc, &mut out, log) {
+            Ok(()) => Ok(out.into_string()),
+            Err(e) => Err(e),
+        }
+    }
 }
 
 impl Renderable for Template {
@@ -100,21 +107,6 @@ impl Renderable for Template {
         };
         let answer = render_first(self, &setting, rc, out);
         fail_after(rc, answer)
-    }
-
-    fn renders<L: Log>(
-        &self,
-        alloc: Global,
-        registry: &Registry,
-        data: &Context,
-        rc: &mut RenderContext,
-        log: &L,
-    ) -> Result<String, RenderError> {
-        let mut out = StringOutput::new(alloc);
-        match self.render(alloc, registry, data, rc, &mut out, log) {
-            Ok(()) => Ok(out.into_string()),
-            Err(e) => Err(e),
-        }
     }
 }
 
@@ -141,20 +133,5 @@ impl Renderable for TemplateElement {
         };
         let answer = render_alone(self, &setting, rc, out);
         fail_after(rc, answer)
-    }
-
-    fn renders<L: Log>(
-        &self,
-        alloc: Global,
-        registry: &Registry,
-        data: &Context,
-        rc: &mut RenderContext,
-        log: &L,
-    ) -> Result<String, RenderError> {
-        let mut out = StringOutput::new(alloc);
-        match self.render(alloc, registry, data, rc, &mut out, log) {
-            Ok(()) => Ok(out.into_string()),
-            Err(e) => Err(e),
-        }
     }
 }

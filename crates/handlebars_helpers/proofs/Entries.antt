@@ -23,7 +23,7 @@ kind_at-insert m n key entry name updates is_name other =
 
 -- once every row is inserted: no two names are the same
 pub update_all-built_ins : {A : Type 0} (row : A → Text × Kind) (xs : List A) (i : ℕ) (f : Text → Option Kind)
-    → map row xs ≡ built_ins → 17 ≤ i → ((other : Text) → f other ≡ update_all bytes_eq (λ _. None) (map row (take i xs)) other)
+    → map row xs ≡ built_ins → length built_ins ≤ i → ((other : Text) → f other ≡ update_all bytes_eq (λ _. None) (map row (take i xs)) other)
     → (name : Text) → f name ≡ built_in name
 update_all-built_ins row xs i f is past so_far name =
     so_far name

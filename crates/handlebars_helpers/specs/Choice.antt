@@ -56,7 +56,7 @@ built_in name = lookup (bytes_eq name) built_ins
 
 -- What is rendered in the place of a call: its body or its inverse, where it has that one; its body in a block at a
 -- base; its body once for each turn, all turns in one block, with the path of what is walked, if it has one; a value; the
--- word of a boolean helper; or nothing, beside a line for the logger or not.
+-- word of a boolean helper, or of a block the body or the inverse by it; or nothing, beside a line for the logger or not.
 pub data Choice : Type 0 where
   the_body : Choice
   the_inverse : Choice
@@ -144,13 +144,9 @@ lookup_choice strict d key = with_or (looked_up d key) (λ x. gives (the_value x
 
 -- ---- boolean helpers
 
--- As a block a boolean helper gives its body or its inverse, and anywhere else a word.
-abbrev pub word_or_branch : HelperView → Bool → Choice
-word_or_branch h b = if h.block then body_if b else the_word b
-
 -- what a boolean helper chooses by a test of two values
 abbrev pub of_two : Bool → Text → HelperView → (Data → Data → Bool) → Answer Choice
-of_two strict helper h test = answer_map (λ d. word_or_branch h (test d.0 d.1)) (two_values strict helper h.call)
+of_two strict helper h test = answer_map (λ d. the_word (test d.0 d.1)) (two_values strict helper h.call)
 
 -- ---- what each helper chooses, in strict mode or not
 
@@ -173,7 +169,7 @@ chosen strict kind_gt h = of_two strict (codes "gt") h greater
 chosen strict kind_gte h = of_two strict (codes "gte") h greater_or_equal
 chosen strict kind_lt h = of_two strict (codes "lt") h less
 chosen strict kind_lte h = of_two strict (codes "lte") h less_or_equal
-chosen strict kind_and h = gives (word_or_branch h (all_true h.call.params))
-chosen strict kind_or h = gives (word_or_branch h (some_true h.call.params))
-chosen strict kind_not h = answer_map (word_or_branch h) (negation strict h.call)
+chosen strict kind_and h = gives (the_word (all_true h.call.params))
+chosen strict kind_or h = gives (the_word (some_true h.call.params))
+chosen strict kind_not h = answer_map (λ b. the_word b) (negation strict h.call)
 chosen strict kind_len h = answer_map (λ n. the_value (number (unsigned n))) (len strict h.call)

@@ -7,7 +7,7 @@ ghost use Rattle.handlebars_base.specs.Answers.{Answers};
 ghost use Rattle.handlebars_base.specs.PathAndData.{path_and_data};
 ghost use Rattle.handlebars_base.specs.Reasons.{missing_variable};
 ghost use Rattle.handlebars_base.specs.RenderRefusals.{plain_refusal, refusal_of};
-ghost use Rattle.handlebars_helpers.specs.Choice.{body_if, chosen, condition, each_choice, includes_zero, inverse_or_refusal, looked_up, lookup_choice, of_two, turns_or_inverse, with_choice, word_or_branch};
+ghost use Rattle.handlebars_helpers.specs.Choice.{body_if, chosen, condition, each_choice, includes_zero, inverse_or_refusal, looked_up, lookup_choice, of_two, turns_or_inverse, with_choice};
 ghost use Rattle.handlebars_helpers.specs.Choice.{kind_and, kind_each, kind_if, kind_len, kind_log, kind_lookup, kind_not, kind_or, kind_unless, kind_with};
 ghost use Rattle.handlebars_helpers.specs.Turns.{turns_of};
 ghost use Rattle.handlebars_helpers.specs.View.{choice_of, helper_view, kind_of, path_view, test_of};
@@ -41,7 +41,7 @@ pub enum Choice<'h> {
     Value(Option<&'h Json>),
     /// A number.
     Count(usize),
-    /// The word of a boolean helper.
+    /// The word of a boolean helper; of a block the body or the inverse, by it.
     Word(bool),
     /// A line for the logger, and nothing in its place.
     Line(Level, String),
@@ -139,25 +139,25 @@ fn choose_by_test<'h>(
     ensures { Answers choice_of result (of_two strict name.now (helper_view helper.now) (test_of test)) }
 {
     let (left, right) = two_values(strict, helper, name)?;
-    Ok(word_or_branch(helper, test.holds(left, right)))
+    Ok(Choice::Word(test.holds(left, right)))
 }
 
 fn choose_and<'h>(helper: &Helper) -> Result<Choice<'h>, RenderError>
     ensures { Answers choice_of result (chosen false kind_and (helper_view helper.now)) }
 {
-    Ok(word_or_branch(helper, all_true(helper.params())))
+    Ok(Choice::Word(all_true(helper.params())))
 }
 
 fn choose_or<'h>(helper: &Helper) -> Result<Choice<'h>, RenderError>
     ensures { Answers choice_of result (chosen false kind_or (helper_view helper.now)) }
 {
-    Ok(word_or_branch(helper, some_true(helper.params())))
+    Ok(Choice::Word(some_true(helper.params())))
 }
 
 fn choose_not<'h>(strict: bool, helper: &Helper) -> Result<Choice<'h>, RenderError>
     ensures { Answers choice_of result (chosen strict kind_not (helper_view helper.now)) }
 {
-    Ok(word_or_branch(helper, negation(strict, helper)?))
+    Ok(Choice::Word(negation(strict, helper)?))
 }
 
 fn choose_len<'h>(alloc: Global, strict: bool, helper: &Helper) -> Result<Choice<'h>, RenderError>
@@ -306,16 +306,5 @@ fn includes_zero(helper: &Helper) -> bool
     match helper.hash_get("includeZero") {
         Some(param) => param.value().as_bool().unwrap_or(false),
         None => false,
-    }
-}
-
-// As a block a boolean helper gives a branch, and anywhere else its word.
-fn word_or_branch(helper: &Helper, truth: bool) -> Choice<'static>
-    ensures { choice_of result ≡ word_or_branch (helper_view helper.now) truth }
-{
-    if helper.is_block() {
-        body_if(truth)
-    } else {
-        Choice::Word(truth)
     }
 }

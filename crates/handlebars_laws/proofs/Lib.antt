@@ -2,4 +2,3 @@ pub mod OneAnswer
 pub mod Once
 pub mod RunLaws
 pub mod RunOrigins
-mod Words

@@ -18,7 +18,7 @@ use Rattle.handlebars_meaning.specs.Pieces.{Origin, of_text, Piece}
 use Rattle.handlebars_meaning.specs.Sites.{TreeSite, first_tree, body_at, inverse_at, Site, element_in}
 use Rattle.handlebars_meaning.specs.Visits.{Visit, arrival, visits, ComeOnce}
 use Rattle.handlebars_meaning.specs.Writing.{write_text, write_value}
-use Rattle.handlebars_meaning.specs.CarryOut.{in_block, render_branch, render_body, take_turns, carry_out}
+use Rattle.handlebars_meaning.specs.CarryOut.{in_block, render_branch, render_body, render_word, take_turns, carry_out}
 use Rattle.handlebars_meaning.specs.Means.{unescaped, in_bracket, render_chosen, render_helped, render_call, render_hook, render_found, render_lone_as, render_lone, render_expression, render_element, render_elements, render_whole, todo}
 use Rattle.handlebars_meaning.specs.Runs.{Outcome, Runs, done, refused, wrote, got, set, asked, did, did_over, captured, captured_over, stop, cut, Means}
 
@@ -227,6 +227,12 @@ module _ (site : Site) where
       (λ z. take_turns site (n + 1) v path ts next)
       (turns_ordered (n + 1) v path ts next (λ j le. h j (omega (arith, le))))
 
+  word_ordered : (v : HelperView) (block b : Bool) → IsOrdered (address site) 0 (render_word site v block b)
+  unfolding IsOrdered
+  word_ordered v false b next h = h 0 (omega arith)
+  word_ordered v true true next h = body_ordered 0 (body_at site 0) v.body refl next h
+  word_ordered v true false next h = body_ordered 0 (inverse_at site 0) v.inverse refl next h
+
   carry_ordered : (v : HelperView) (choice : Choice) → IsOrdered (address site) 0 (carry_out site v choice)
   unfolding IsOrdered ◌>>=◌ ◌>>◌
   carry_ordered v the_body next h = body_ordered 0 (body_at site 0) v.body refl next h
@@ -237,7 +243,7 @@ module _ (site : Site) where
   carry_ordered v (body_in_turns path ts) next h = block_ordered (address site) 0 empty_frame
       (take_turns site 0 v path ts) (turns_ordered 0 v path ts) next h
   carry_ordered v (the_value d) next h = value_ordered (address site) 0 site (value d) next h
-  carry_ordered v (the_word b) next h = h 0 (omega arith)
+  carry_ordered v (the_word b) next h = word_ordered v v.block b next h
   carry_ordered v (the_line level text) next h = h 0 (omega arith)
   carry_ordered v nothing next h = h 0 (omega arith)
 

@@ -22,12 +22,11 @@ use Rattle.handlebars_meaning.specs.Questions.{value_of, view_of, helper_of, cal
 use Rattle.handlebars_meaning.specs.Sites.{TreeSite, body_at, inverse_at, Site, element_in}
 use Rattle.handlebars_meaning.specs.Visits.{Visit, arrival, visits}
 use Rattle.handlebars_meaning.specs.Writing.{shown_if_any, value_origin, write_text, write_value}
-use Rattle.handlebars_meaning.specs.CarryOut.{in_block, helper_call, render_branch, render_body, take_turn, take_turns, render_with, carry_out}
+use Rattle.handlebars_meaning.specs.CarryOut.{in_block, helper_call, render_branch, render_body, take_turn, take_turns, render_with, render_word, carry_out}
 use Rattle.handlebars_meaning.specs.Means.{line_in, line_out, render_chosen, render_helped, render_call, render_hook, render_found, render_lone_as, render_lone, render_expression, render_decorator, render_partial, render_element, render_elements, render_whole, render_alone, todo}
 use Rattle.handlebars_meaning.specs.Runs.{Outcome, Ended, Refused, Faulted, NoMemory, IsOver, Stops, marked, Front, none, cut_off, more, Runs, done, refused, wrote, got, set, asked, did, did_over, captured, captured_over, stop, cut, Means}
 use Rattle.handlebars_meaning.specs.Origins.{IsWithin, nth, nth_in, tree_in, body_of, inverse_of, tree_at, element_at, shown_call, is_html, is_raw_tree, is_raw_site, is_lone, IsValue, Calls, by_name, by_name_or_hook, by_hook, Chooses, WritesValue, of_itself, of_helper, IsReached, IsCalled, ComesFrom, HaveOrigins}
 use Rattle.handlebars_meaning.specs.Laws.{alone}
-use Rattle.handlebars_laws.proofs.Words.{chosen-word}
 
 raw-not : (raw b : Bool) → b ≡ not raw → raw ≡ not b
 raw-not true b is = ap not (sym is)
@@ -300,10 +299,10 @@ module _ (p : Setting) (u : Tree) (vs : List Visit) where
             → Chooses p block c before v choice
         chooses_so choice chose = record { kind = k; calls = calls; chooses = chose }
 
-        word_comes : (b : Bool) → IsAnswered p before (choice_of k (helper_call block c v)) (gives (the_word b))
+        word_comes : (b : Bool) → block ≡ false
+            → IsAnswered p before (choice_of k (helper_call block c v)) (gives (the_word b))
             → ComesFrom p u vs (of_word site b) (word b)
-        word_comes b chose =
-            let plain : block ≡ false = chosen-word p.parts.strict k block c v b (sym chose) in
+        word_comes b plain chose =
             record {
               helper = c;
               state = before;
@@ -312,6 +311,13 @@ module _ (p : Setting) (u : Tree) (vs : List Visit) where
               says = subst (λ (z : Bool). Chooses p z c before v (the_word b)) plain (chooses_so (the_word b) chose);
               is = all_begins (word b);
             }
+
+        word_good : (s : State) (tag b : Bool) → block ≡ tag → s.escapes ≡ not (is_raw_site u site)
+            → IsAnswered p before (choice_of k (helper_call block c v)) (gives (the_word b))
+            → IsGoodFrom s (render_word site (helper_call block c v) tag b)
+        word_good s false b is raw chose = λ on next g. ((word_comes b is chose, tt), g s refl)
+        word_good s true true is raw chose = body_good v 0 s raw
+        word_good s true false is raw chose = branch_good (inverse_at site 0) (call_inverse c) s has_inverse raw
 
         carry_good : (s : State) (choice : Choice) → s.escapes ≡ not (is_raw_site u site)
             → IsAnswered p before (choice_of k (helper_call block c v)) (gives choice)
@@ -324,7 +330,7 @@ module _ (p : Setting) (u : Tree) (vs : List Visit) where
             (turns_good v 0 at ts (entered empty_frame s) raw)
         carry_good s (the_value d) raw chose =
             write_value_good s (value d) raw (of_helper (chooses_so (the_value d) chose))
-        carry_good s (the_word b) raw chose = λ on next g. ((word_comes b chose, tt), g s refl)
+        carry_good s (the_word b) raw chose = word_good s block b refl raw chose
         carry_good s (the_line level text) raw chose = λ on next g. g s refl
         carry_good s nothing raw chose = λ on next g. g s refl
 

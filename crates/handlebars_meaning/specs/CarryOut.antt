@@ -1,5 +1,5 @@
 -- What is done in the place of a call, by what its helper chose.
-use Rattle.std.specs.Prelude.{ℕ, ◌+◌, Bool, List, [], ◌∷◌, Option}
+use Rattle.std.specs.Prelude.{ℕ, ◌+◌, Bool, true, false, List, [], ◌∷◌, Option}
 use Rattle.handlebars_base.specs.Bytes.{Text}
 use Rattle.handlebars_base.specs.Scoped.{value}
 use Rattle.handlebars_template.specs.Tree.{Call, call_binding, call_body, call_inverse, Body, no_body, body}
@@ -62,6 +62,12 @@ render_with site h base = do
   s ← state
   in_block (with_block base h.binding (nearest_variables s.blocks)) (render_body site 0 h)
 
+-- The word of a boolean helper is written; a block renders its body for true, and its inverse for false.
+abbrev pub render_word : Site → HelperView → Bool → Bool → Prog (Unit {0})
+render_word site h false b = write_word site b
+render_word site h true true = render_body site 0 h
+render_word site h true false = render_branch (inverse_at site 0) h.inverse
+
 -- What a helper chose is carried out. A line is handed to the logger by the code, and writes nothing.
 abbrev pub carry_out : Site → HelperView → Choice → Prog (Unit {0})
 carry_out site h the_body = render_body site 0 h
@@ -69,6 +75,6 @@ carry_out site h the_inverse = render_branch (inverse_at site 0) h.inverse
 carry_out site h (body_in_block base) = render_with site h base
 carry_out site h (body_in_turns path ts) = in_block empty_frame (take_turns site 0 h path ts)
 carry_out site h (the_value d) = write_value site (value d)
-carry_out site h (the_word b) = write_word site b
+carry_out site h (the_word b) = render_word site h h.block b
 carry_out site h (the_line level text) = return tt
 carry_out site h nothing = return tt

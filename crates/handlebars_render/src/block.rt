@@ -6,7 +6,7 @@ ghost use Rattle.handlebars_scope.specs.LineState.{LineState};
 ghost use Rattle.handlebars_meaning.specs.Sites.{Site, inverse_at};
 ghost use Rattle.handlebars_helpers.specs.CallView.{CallView};
 ghost use Rattle.handlebars_helpers.specs.View.{choice_of, kind_of};
-ghost use Rattle.handlebars_meaning.specs.CarryOut.{carry_out, helper_call, render_body, render_branch};
+ghost use Rattle.handlebars_meaning.specs.CarryOut.{carry_out, helper_call, render_body, render_branch, render_word};
 ghost use Rattle.handlebars_meaning.specs.Means.{line_in, line_out, render_chosen, render_tag};
 ghost use Rattle.handlebars_render.specs.Next.{render_next};
 ghost use Rattle.handlebars_render.specs.View.{setting_in, state_of, moment, called_view, CarriesOn, IsKept};
@@ -14,7 +14,7 @@ ghost use Rattle.handlebars_render.specs.View.{setting_in, state_of, moment, cal
 use crate::called::Called;
 use crate::context::RenderContext;
 use crate::each::{render_each, render_with};
-use crate::next::{Next, ToCall, next_of};
+use crate::next::{Next, ToCall, settle_tag};
 use crate::registered::Registered;
 use crate::setting::Setting;
 use crate::tree::render_tree;
@@ -40,7 +40,7 @@ pub fn render_tag<'a, O: Output, P: Registered>(
         O.may_give (moment rc.old (O.held out.old)) result (moment rc.new (O.held out.new)) }
     ensures kept { IsKept rc.old rc.new }
 {
-    match next_of(helper, setting, block, rc, out) {
+    match settle_tag(helper, setting, block, rc, out) {
         Ok(Next::Done(line)) => {
             rc.set_line(line);
             Ok(())
@@ -98,7 +98,7 @@ fn render_chosen<'a, O: Output, P: Registered>(
 {
     let view = call.of_call(helper, block);
     match choose(setting.alloc, setting.parts.strict(), kind, &view) {
-        Ok(choice) => carry_out(helper, setting, choice, rc, out),
+        Ok(choice) => carry_out(helper, setting, block, choice, rc, out),
         Err(e) => Err(e),
     }
 }
@@ -108,11 +108,12 @@ fn render_chosen<'a, O: Output, P: Registered>(
 fn carry_out<'a, O: Output, P: Registered>(
     helper: &'a HelperTemplate,
     setting: &Setting<'_, 'a, P>,
+    block: bool,
     choice: Choice,
     rc: &mut RenderContext,
     out: &mut O,
 ) -> Result<(), RenderError>
-    ensures renders { (site : Site) (block : Bool) (v : CallView) → CarriesOn (setting_in P.parts setting.now)
+    ensures renders { (site : Site) (v : CallView) → CarriesOn (setting_in P.parts setting.now)
         (carry_out site (helper_call block (call_view helper.now) v) (choice_of choice.entry))
         O.may_give (moment rc.old (O.held out.old)) result (moment rc.new (O.held out.new)) }
     ensures kept { IsKept rc.old rc.new }
@@ -139,12 +140,37 @@ fn carry_out<'a, O: Output, P: Registered>(
         ),
         Choice::Value(value) => write_chosen(value, rc, out),
         Choice::Count(count) => write_count(count, rc, out),
-        Choice::Word(word) => write_word(setting.alloc, word, out),
+        Choice::Word(word) => render_word(helper, setting, block, word, rc, out),
         Choice::Line(level, text) => {
             setting.parts.log(level, text.as_str());
             Ok(())
         }
         Choice::Nothing => Ok(()),
+    }
+}
+
+// A word is written; a block renders its body or its inverse by it.
+#[cycle(render)]
+fn render_word<'a, O: Output, P: Registered>(
+    helper: &'a HelperTemplate,
+    setting: &Setting<'_, 'a, P>,
+    block: bool,
+    word: bool,
+    rc: &mut RenderContext,
+    out: &mut O,
+) -> Result<(), RenderError>
+    ensures renders { (site : Site) (v : CallView) → CarriesOn (setting_in P.parts setting.now)
+        (render_word site (helper_call block (call_view helper.now) v) block word)
+        O.may_give (moment rc.old (O.held out.old)) result (moment rc.new (O.held out.new)) }
+    ensures kept { IsKept rc.old rc.new }
+{
+    if !block {
+        return write_word(setting.alloc, word, out);
+    }
+    if word {
+        render_body(helper, setting, rc, out)
+    } else {
+        render_inverse(helper, setting, rc, out)
     }
 }
 

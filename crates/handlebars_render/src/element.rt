@@ -42,10 +42,10 @@ pub fn render_element<'a, O: Output, P: Registered>(
         TemplateElement::Comment(_) => Ok(()),
         TemplateElement::HtmlExpression(helper) => render_unescaped(helper, setting, rc, out),
         TemplateElement::HelperBlock(helper) => render_tag(helper, setting, true, rc, out),
-        TemplateElement::DecoratorExpression(tag) => Err(decorator_not_found(tag, setting, rc)),
-        TemplateElement::DecoratorBlock(tag) => Err(decorator_not_found(tag, setting, rc)),
-        TemplateElement::PartialExpression(tag) => Err(partial_not_found(tag, setting, rc)),
-        TemplateElement::PartialBlock(tag) => Err(partial_not_found(tag, setting, rc)),
+        TemplateElement::DecoratorExpression(tag) => Err(refuse_decorator(tag, setting, rc)),
+        TemplateElement::DecoratorBlock(tag) => Err(refuse_decorator(tag, setting, rc)),
+        TemplateElement::PartialExpression(tag) => Err(refuse_partial(tag, setting, rc)),
+        TemplateElement::PartialBlock(tag) => Err(refuse_partial(tag, setting, rc)),
     }
 }
 
@@ -69,8 +69,8 @@ fn render_unescaped<'a, O: Output, P: Registered>(
     answer
 }
 
-// The refusals of decorators and inclusions, for which nothing is registered.
-fn decorator_not_found<'a, P: Registered>(
+// A decorator and an inclusion are refused once their tag is evaluated, since nothing is registered for them.
+fn refuse_decorator<'a, P: Registered>(
     tag: &'a DecoratorTemplate,
     setting: &Setting<'_, 'a, P>,
     rc: &RenderContext,
@@ -86,7 +86,7 @@ fn decorator_not_found<'a, P: Registered>(
     }
 }
 
-fn partial_not_found<'a, P: Registered>(
+fn refuse_partial<'a, P: Registered>(
     tag: &'a DecoratorTemplate,
     setting: &Setting<'_, 'a, P>,
     rc: &RenderContext,

@@ -75,7 +75,7 @@ impl<'a> ToCall<'a> {
 }
 
 /// Writes a value, or finds the helper that is to be called for a block or an expression.
-pub fn next_of<'a, O: Output, P: Registered>(
+pub fn settle_tag<'a, O: Output, P: Registered>(
     helper: &'a HelperTemplate,
     setting: &Setting<'_, 'a, P>,
     block: bool,
@@ -87,13 +87,13 @@ pub fn next_of<'a, O: Output, P: Registered>(
         O.may_give (moment rc.now (O.held out.old)) result (O.held out.new) }
 {
     if block {
-        next_of_call(helper, setting, true, rc)
+        settle_call(helper, setting, true, rc)
     } else {
-        next_of_expression(helper, setting, rc, out)
+        settle_expression(helper, setting, rc, out)
     }
 }
 
-fn next_of_expression<'a, O: Output, P: Registered>(
+fn settle_expression<'a, O: Output, P: Registered>(
     helper: &'a HelperTemplate,
     setting: &Setting<'_, 'a, P>,
     rc: &RenderContext,
@@ -104,14 +104,14 @@ fn next_of_expression<'a, O: Output, P: Registered>(
         O.may_give (moment rc.now (O.held out.old)) result (O.held out.new) }
 {
     if helper.is_value() {
-        next_of_lone(helper, setting, rc, out)
+        settle_lone(helper, setting, rc, out)
     } else {
-        next_of_call(helper, setting, false, rc)
+        settle_call(helper, setting, false, rc)
     }
 }
 
 // A block, and an expression with parameters or pairs, calls the helper of its name, or the hook.
-fn next_of_call<'a, P: Registered>(
+fn settle_call<'a, P: Registered>(
     helper: &'a HelperTemplate,
     setting: &Setting<'_, 'a, P>,
     block: bool,
@@ -135,7 +135,7 @@ fn next_of_call<'a, P: Registered>(
 }
 
 // An expression with no parameters and no pairs.
-fn next_of_lone<'a, O: Output, P: Registered>(
+fn settle_lone<'a, O: Output, P: Registered>(
     helper: &'a HelperTemplate,
     setting: &Setting<'_, 'a, P>,
     rc: &RenderContext,
@@ -156,12 +156,12 @@ fn next_of_lone<'a, O: Output, P: Registered>(
             call: Called::alone(setting.alloc, lone.name),
             bracket: true,
         })),
-        None => next_of_value(helper, setting, lone, rc, out),
+        None => settle_value(helper, setting, lone, rc, out),
     }
 }
 
 // Writes the value of an expression that no helper has the name of.
-fn next_of_value<'a, O: Output, P: Registered>(
+fn settle_value<'a, O: Output, P: Registered>(
     helper: &'a HelperTemplate,
     setting: &Setting<'_, 'a, P>,
     lone: Lone<'a>,
@@ -176,7 +176,7 @@ fn next_of_value<'a, O: Output, P: Registered>(
     let Lone { name, value } = lone;
     match write_lone(helper, setting, value, rc, out) {
         Ok(Some(line)) => Ok(Next::Done(line)),
-        Ok(None) => next_of_missing(helper, setting, name, rc),
+        Ok(None) => settle_missing(helper, setting, name, rc),
         Err(e) => Err(e),
     }
 }
@@ -216,7 +216,7 @@ fn write_lone<'a, O: Output, P: Registered>(
 }
 
 // A missing value is refused in strict mode; else the hook is to be called, where there is one.
-fn next_of_missing<'a, P: Registered>(
+fn settle_missing<'a, P: Registered>(
     helper: &'a HelperTemplate,
     setting: &Setting<'_, 'a, P>,
     name: CowStr<'a>,

@@ -70,30 +70,41 @@ block::render_chosen-returns-clause-renders g t c = λ site.
     c.strict.ensures c.of_call-view.ensures c.in-Err.ensures
 
 pub block::carry_out-returns-in-Body-clause-renders : goal.block::carry_out-returns-in-Body-clause-renders
-block::carry_out-returns-in-Body-clause-renders g t c = λ site block v. rw c.in-Body.is (c.render_body.ensures.renders site 0 block v)
+block::carry_out-returns-in-Body-clause-renders g t c = λ site v. rw c.in-Body.is (c.render_body.ensures.renders site 0 c.args.block v)
 
 pub block::carry_out-returns-in-Inverse-clause-renders : goal.block::carry_out-returns-in-Inverse-clause-renders
-block::carry_out-returns-in-Inverse-clause-renders g t c = λ site block v. rw c.in-Inverse.is (c.render_inverse.ensures.renders site block v)
+block::carry_out-returns-in-Inverse-clause-renders g t c = λ site v. rw c.in-Inverse.is (c.render_inverse.ensures.renders site c.args.block v)
 
 pub block::carry_out-returns-in-Value-clause-renders : goal.block::carry_out-returns-in-Value-clause-renders
-block::carry_out-returns-in-Value-clause-renders g t c = λ site block v. rw c.in-Value.is
-    (carry_out_value _ _ site (helper_call block (call_view c.args.helper.now) v) (unwrap_or (option_map (λ x. view x.now) c.in-Value.value) null)
+block::carry_out-returns-in-Value-clause-renders g t c = λ site v. rw c.in-Value.is
+    (carry_out_value _ _ site (helper_call c.args.block (call_view c.args.helper.now) v) (unwrap_or (option_map (λ x. view x.now) c.in-Value.value) null)
     c.write_chosen.ensures.puts)
 
 pub block::carry_out-returns-in-Count-clause-renders : goal.block::carry_out-returns-in-Count-clause-renders
-block::carry_out-returns-in-Count-clause-renders g t c = λ site block v. rw c.in-Count.is
-    (carry_out_value _ _ site (helper_call block (call_view c.args.helper.now) v) (number (unsigned c.in-Count.count))
+block::carry_out-returns-in-Count-clause-renders g t c = λ site v. rw c.in-Count.is
+    (carry_out_value _ _ site (helper_call c.args.block (call_view c.args.helper.now) v) (number (unsigned c.in-Count.count))
     c.write_count.ensures.puts)
 
 pub block::carry_out-returns-in-Word-clause-renders : goal.block::carry_out-returns-in-Word-clause-renders
-block::carry_out-returns-in-Word-clause-renders g t c = λ site block v. rw c.in-Word.is
-    (carries_on-word _ _ site c.in-Word.word (c.write_word.ensures (state_of c.args.rc.now)))
+block::carry_out-returns-in-Word-clause-renders g t c = λ site v. rw c.in-Word.is (c.render_word.ensures.renders site v)
 
 pub block::carry_out-returns-in-Line-clause-renders : goal.block::carry_out-returns-in-Line-clause-renders
-block::carry_out-returns-in-Line-clause-renders g t c = λ site block v. rw c.in-Line.is (carries_on-done _ _)
+block::carry_out-returns-in-Line-clause-renders g t c = λ site v. rw c.in-Line.is (carries_on-done _ _)
 
 pub block::carry_out-returns-in-Nothing-clause-renders : goal.block::carry_out-returns-in-Nothing-clause-renders
-block::carry_out-returns-in-Nothing-clause-renders g t c = λ site block v. rw c.in-Nothing.is (carries_on-done _ _)
+block::carry_out-returns-in-Nothing-clause-renders g t c = λ site v. rw c.in-Nothing.is (carries_on-done _ _)
+
+pub block::render_word-returns-then-not-block-clause-renders : goal.block::render_word-returns-then-not-block-clause-renders
+block::render_word-returns-then-not-block-clause-renders g t c = λ site v. rw c.if-not-block.true
+    (carries_on-word _ _ site c.args.word (c.write_word.ensures (state_of c.args.rc.now)))
+
+pub block::render_word-returns-then-word-clause-renders : goal.block::render_word-returns-then-word-clause-renders
+block::render_word-returns-then-word-clause-renders g t c = λ site v. rw (c.if-not-block.false, c.if-word.true)
+    (c.render_body.ensures.renders site 0 c.args.block v)
+
+pub block::render_word-returns-else-word-clause-renders : goal.block::render_word-returns-else-word-clause-renders
+block::render_word-returns-else-word-clause-renders g t c = λ site v. rw (c.if-not-block.false, c.if-word.false)
+    (c.render_inverse.ensures.renders site c.args.block v)
 
 pub block::render_body-returns-in-None-clause-renders : goal.block::render_body-returns-in-None-clause-renders
 block::render_body-returns-in-None-clause-renders g t c = λ site i block v.
@@ -122,23 +133,23 @@ element::render_element-returns-in-HelperBlock-clause-renders g t c = λ site. r
 
 pub element::render_element-returns-in-DecoratorExpression-clause-renders : goal.element::render_element-returns-in-DecoratorExpression-clause-renders
 element::render_element-returns-in-DecoratorExpression-clause-renders g t c = λ site. rw (c.in-DecoratorExpression.is, element_view-DecoratorExpression)
-    (carries-no_value _ _ _ _ c.decorator_not_found.result
-    (rw c.deref-in-DecoratorExpression.ensures at c.decorator_not_found.ensures))
+    (carries-no_value _ _ _ _ c.refuse_decorator.result
+    (rw c.deref-in-DecoratorExpression.ensures at c.refuse_decorator.ensures))
 
 pub element::render_element-returns-in-DecoratorBlock-clause-renders : goal.element::render_element-returns-in-DecoratorBlock-clause-renders
 element::render_element-returns-in-DecoratorBlock-clause-renders g t c = λ site. rw (c.in-DecoratorBlock.is, element_view-DecoratorBlock)
-    (carries-no_value _ _ _ _ c.decorator_not_found-in-DecoratorBlock.result
-    (rw c.deref-in-DecoratorBlock.ensures at c.decorator_not_found-in-DecoratorBlock.ensures))
+    (carries-no_value _ _ _ _ c.refuse_decorator-in-DecoratorBlock.result
+    (rw c.deref-in-DecoratorBlock.ensures at c.refuse_decorator-in-DecoratorBlock.ensures))
 
 pub element::render_element-returns-in-PartialExpression-clause-renders : goal.element::render_element-returns-in-PartialExpression-clause-renders
 element::render_element-returns-in-PartialExpression-clause-renders g t c = λ site. rw (c.in-PartialExpression.is, element_view-PartialExpression)
-    (carries-no_value _ _ _ _ c.partial_not_found.result
-    (rw c.deref-in-PartialExpression.ensures at c.partial_not_found.ensures))
+    (carries-no_value _ _ _ _ c.refuse_partial.result
+    (rw c.deref-in-PartialExpression.ensures at c.refuse_partial.ensures))
 
 pub element::render_element-returns-in-PartialBlock-clause-renders : goal.element::render_element-returns-in-PartialBlock-clause-renders
 element::render_element-returns-in-PartialBlock-clause-renders g t c = λ site. rw (c.in-PartialBlock.is, element_view-PartialBlock)
-    (carries-no_value _ _ _ _ c.partial_not_found-in-PartialBlock.result
-    (rw c.deref-in-PartialBlock.ensures at c.partial_not_found-in-PartialBlock.ensures))
+    (carries-no_value _ _ _ _ c.refuse_partial-in-PartialBlock.result
+    (rw c.deref-in-PartialBlock.ensures at c.refuse_partial-in-PartialBlock.ensures))
 
 pub element::render_unescaped-returns-clause-renders : goal.element::render_unescaped-returns-clause-renders
 element::render_unescaped-returns-clause-renders g t c = λ site. carries-unescaped _ _ c.set_disable_escape.ensures.state

@@ -5,7 +5,7 @@ use Rattle.handlebars_template.proofs.Levels.{call_name-view}
 use Rattle.handlebars_helpers.specs.View.{kind_of}
 use Rattle.handlebars_render.specs.View.{called_view, name_alone}
 use Rattle.handlebars_render.proofs.Leaves.{leaves-hook, gives-nothing, refuses-missing}
-use Rattle.handlebars_render.proofs.next.next_of_missing.Goals as goal
+use Rattle.handlebars_render.proofs.next.settle_missing.Goals as goal
 
 pub returns-then-strict : goal.returns-then-strict
 returns-then-strict g c = λ site.

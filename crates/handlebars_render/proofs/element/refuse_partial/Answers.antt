@@ -5,7 +5,7 @@ use Rattle.handlebars_meaning.specs.Questions.{view_of}
 use Rattle.handlebars_meaning.specs.Steps.{ask}
 use Rattle.handlebars_render.specs.View.{called_view}
 use Rattle.handlebars_render.proofs.Calls.{gives_tag, refuses_named, refuses_tag}
-use Rattle.handlebars_render.proofs.element.partial_not_found.Goals as goal
+use Rattle.handlebars_render.proofs.element.refuse_partial.Goals as goal
 
 pub returns-in-Ok : goal.returns-in-Ok
 returns-in-Ok g c = λ other. refuses_named _

@@ -4,7 +4,7 @@ use Rattle.handlebars_helpers.specs.View.{kind_of}
 use Rattle.handlebars_meaning.specs.State.{helper_for}
 use Rattle.handlebars_render.specs.View.{called_view, state_of}
 use Rattle.handlebars_render.proofs.Leaves.{leaves-called, refuses-view, refuses-unknown}
-use Rattle.handlebars_render.proofs.next.next_of_call.Goals as goal
+use Rattle.handlebars_render.proofs.next.settle_call.Goals as goal
 
 pub returns-in-Err : goal.returns-in-Err
 returns-in-Err g c = λ site other. refuses-view _ site c.args.block (call_view c.args.helper.now) (c.in-Err.ensures other)

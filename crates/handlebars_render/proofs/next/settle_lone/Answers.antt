@@ -5,7 +5,7 @@ use Rattle.handlebars_template.proofs.Levels.{call_name-view}
 use Rattle.handlebars_helpers.specs.View.{kind_of}
 use Rattle.handlebars_render.specs.View.{called_view}
 use Rattle.handlebars_render.proofs.Leaves.{carries_on-refuses, comes_to-leaves, leaves-named, leaves-value, refuses-lone}
-use Rattle.handlebars_render.proofs.next.next_of_lone.Goals as goal
+use Rattle.handlebars_render.proofs.next.settle_lone.Goals as goal
 
 pub returns-in-Err : goal.returns-in-Err
 returns-in-Err g c = λ lone site. carries_on-refuses _ _ _ c.in-Err.e
@@ -22,8 +22,8 @@ returns-in-Some g c = λ lone site. (
 
 pub returns : goal.returns
 returns g c = λ lone site.
-    comes_to-leaves _ _ site false (call_view c.args.helper.now) _ _ _ _ _ c.next_of_value.result
+    comes_to-leaves _ _ site false (call_view c.args.helper.now) _ _ _ _ _ c.settle_value.result
     (leaves-value _ site (call_view c.args.helper.now) (cow_str_bytes c.in-Ok.lone.name) lone
     (rw (call_name-view c.args.helper.now) c.in-Ok.ensures.name)
     (c.in-None.ensures ∙ ap (g.P.Registered.parts c.args.setting.now.parts.now).helper c.as_str.ensures.value))
-    (c.next_of_value.ensures (rw (call_name-view c.args.helper.now) c.in-Ok.ensures.made) site)
+    (c.settle_value.ensures (rw (call_name-view c.args.helper.now) c.in-Ok.ensures.made) site)
