@@ -6,7 +6,8 @@ ghost use Rattle.handlebars_base.specs.RenderRefusals.{refusal_of, plain_refusal
 ghost use Rattle.handlebars_template.specs.TreeView.{tree_view, element_view};
 ghost use Rattle.handlebars_meaning.specs.Steps.{Steps};
 ghost use Rattle.handlebars_meaning.specs.Means.{render_tree, render_alone};
-ghost use Rattle.handlebars_render.specs.View.{state_of, root_of, has_failed, moment, CarriesOut, GivesString, RefusesString};
+ghost use Rattle.handlebars_meaning.specs.State.{Kept};
+ghost use Rattle.handlebars_render.specs.View.{state_of, state_with, root_of, has_failed, moment, CarriesOut, GivesString, RefusesString};
 ghost use Rattle.handlebars.specs.View.{setting_of};
 
 mod expand;
@@ -19,7 +20,8 @@ use handlebars_base::error::RenderError;
 use handlebars_render::context::RenderContext;
 use handlebars_render::failure::{fail_after, ready};
 use handlebars_render::setting::Setting;
-use handlebars_render::tree::{render_alone, render_first};
+use handlebars_render::element::render_element;
+use handlebars_render::tree::render_tree;
 use handlebars_scope::context::Context;
 use handlebars_scope::output::{Output, StringOutput};
 use handlebars_template::template::{Template, TemplateElement};
@@ -43,8 +45,8 @@ pub trait Renderable {
         out: &mut O,
         log: &L,
     ) -> Result<(), RenderError>
-        ensures renders { has_failed rc.old ≡ false → CarriesOut (setting_of registry.now «data».now) (steps self.now)
-            O.may_give (moment rc.old (O.held out.old)) result (moment rc.new (O.held out.new)) }
+        ensures renders { (kept : Kept) → has_failed rc.old ≡ false → CarriesOut (setting_of registry.now «data».now) (steps self.now)
+            O.may_give (moment kept rc.old (O.held out.old)) result (moment kept rc.new (O.held out.new)) }
         ensures failed { has_failed rc.old ≡ true → IsErrAnd result (λ e. refusal_of e ≡ plain_refusal failed)
             × (rc.new ≡ rc.old) × (O.held out.new ≡ O.held out.old) }
         ensures root { root_of rc.new ≡ root_of rc.old }
@@ -64,10 +66,11 @@ pub trait Renderable {
         log: &L,
     ) -> Result<String, RenderError>
         ensures ok { IfOk result (λ text. (has_failed rc.old ≡ false)
-            × GivesString (setting_of registry.now «data».now) (steps self.now)
-            (state_of rc.old) (state_of rc.new) (string_bytes text)) }
-        ensures err { IfErr result (λ e. has_failed rc.old ≡ false → reason_in e ≢ out_of_memory
-            → RefusesString (setting_of registry.now «data».now) (steps self.now) (state_of rc.old) (refusal_of e)) }
+            × ((kept : Kept) → GivesString (setting_of registry.now «data».now) (steps self.now)
+            (state_with kept rc.old) (state_with kept rc.new) (string_bytes text))) }
+        ensures err { IfErr result (λ e. has_failed rc.old ≡ false → reason_in e ≢ out_of_memory → (kept : Kept)
+            → RefusesString (setting_of registry.now «data».now) (steps self.now) (state_with kept rc.old)
+            (refusal_of e)) }
         ensures failed { has_failed rc.old ≡ true
             → IsErrAnd result (λ e. refusal_of e ≡ plain_refusal failed) × (rc.new ≡ rc.old) }
         ensures root { root_of rc.new ≡ root_of rc.old }
@@ -105,7 +108,7 @@ impl Renderable for Template {
             parts,
             given,
         };
-        let answer = render_first(self, &setting, rc, out);
+        let answer = render_tree(self, &setting, rc, out);
         fail_after(rc, answer)
     }
 }
@@ -131,7 +134,7 @@ impl Renderable for TemplateElement {
             parts,
             given,
         };
-        let answer = render_alone(self, &setting, rc, out);
+        let answer = render_element(self, &setting, rc, out);
         fail_after(rc, answer)
     }
 }

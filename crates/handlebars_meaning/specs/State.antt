@@ -6,6 +6,7 @@ use Rattle.handlebars_scope.specs.LineState.{LineState, first_line}
 use Rattle.handlebars_scope.specs.Resolve.{or_else}
 use Rattle.handlebars_scope.specs.Scopes.{nothing_at, Frame, empty_frame}
 use Rattle.handlebars_helpers.specs.Choice.{Kind}
+use Rattle.handlebars_meaning.specs.Pieces.{Piece}
 
 -- what a registry has for a run: the helper under a name, if there is one, whether its mode is strict, and whether lookup
 -- is recursive in the runs that it begins
@@ -24,14 +25,20 @@ pub record Setting : Type 0 where
   pub given : Data
   pub parts : Parts
 
+-- what is kept for the blocks of inclusions: the pieces of each, the newest first
+abbrev pub Kept : Type 0
+Kept = List (List Piece)
+
 -- What a run changes: the name of the template that is being rendered, if it has one, the blocks of scope, nearest first,
--- the line that is written, and whether escaping is on. Whether lookup is recursive stays as it is when the run begins.
+-- the line that is written, whether escaping is on, and what is kept. Whether lookup is recursive stays as it is when the
+-- run begins. No step keeps anything yet.
 pub record State : Type 0 where
   pub current : Option Text
   pub blocks : List Frame
   pub recursive : Bool
   pub line : LineState
   pub escapes : Bool
+  pub kept : Kept
 
 -- A run begins with one empty block.
 abbrev pub first_state : Bool → State
@@ -41,6 +48,7 @@ first_state recursive = record {
   recursive = recursive;
   line = first_line;
   escapes = true;
+  kept = [];
 }
 
 -- What a call by a name calls in a state, a block or not: the helper of the name, else the hook.

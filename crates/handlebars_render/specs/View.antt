@@ -26,7 +26,7 @@ use Rattle.handlebars_scope.specs.LineState.{LineState, line_behind}
 use Rattle.handlebars_meaning.specs.Pieces.{Piece, join}
 use Rattle.handlebars_template.specs.Tree.{Param}
 use Rattle.handlebars_helpers.specs.CallView.{CallView}
-use Rattle.handlebars_meaning.specs.State.{Parts, Setting, State, outer}
+use Rattle.handlebars_meaning.specs.State.{Kept, Parts, Setting, State, outer}
 use Rattle.handlebars_meaning.specs.Steps.{Steps, Prog}
 use Rattle.handlebars_meaning.specs.Asks.{Asks}
 use Rattle.handlebars_meaning.specs.Runs.{Fault, plain_fault, Outcome, Ended, Refused, Faulted, NoMemory, Runs}
@@ -56,6 +56,8 @@ called_view c = record {
 abbrev pub name_alone : Text → CallView
 name_alone name = record { name = name; params = []; pairs = [] }
 
+-- The code keeps the texts of what is kept, and a state its pieces; so a context tells all of a state but these. This is
+-- the one in which nothing is kept.
 abbrev pub state_of : RenderContext → State
 state_of rc = record {
   current = option_map string_bytes rc.current_template;
@@ -63,7 +65,15 @@ state_of rc = record {
   recursive = rc.recursive_lookup;
   line = line_of rc.line;
   escapes = rc.escapes;
+  kept = [];
 }
+
+abbrev pub keeping : Kept → State → State
+keeping kept s = record s { kept = kept }
+
+-- the state of a context with these pieces kept
+abbrev pub state_with : Kept → RenderContext → State
+state_with kept rc = keeping kept (state_of rc)
 
 -- the name of the template that the run began with, if it has one
 abbrev pub root_of : RenderContext → Option Text
@@ -94,8 +104,8 @@ pub record Moment : Type 0 where
   pub state : State
   pub held : Held
 
-abbrev pub moment : RenderContext → Held → Moment
-moment rc held = record { state = state_of rc; held = held }
+abbrev pub moment : Kept → RenderContext → Held → Moment
+moment kept rc held = record { state = state_with kept rc; held = held }
 
 -- ---- what calls say
 

@@ -8,6 +8,7 @@ ghost use Rattle.handlebars_helpers.specs.CallView.{CallView};
 ghost use Rattle.handlebars_helpers.specs.View.{choice_of, kind_of};
 ghost use Rattle.handlebars_meaning.specs.CarryOut.{carry_out, helper_call, render_body, render_branch, render_word};
 ghost use Rattle.handlebars_meaning.specs.Means.{line_in, line_out, render_chosen, render_tag};
+ghost use Rattle.handlebars_meaning.specs.State.{Kept};
 ghost use Rattle.handlebars_render.specs.Next.{render_next};
 ghost use Rattle.handlebars_render.specs.View.{setting_in, state_of, moment, called_view, CarriesOn, IsKept};
 
@@ -35,9 +36,9 @@ pub fn render_tag<'a, O: Output, P: Registered>(
     rc: &mut RenderContext,
     out: &mut O,
 ) -> Result<(), RenderError>
-    ensures renders { (site : Site) → CarriesOn (setting_in P.parts setting.now)
+    ensures renders { (site : Site) (kept : Kept) → CarriesOn (setting_in P.parts setting.now)
         (render_tag site block (call_view helper.now))
-        O.may_give (moment rc.old (O.held out.old)) result (moment rc.new (O.held out.new)) }
+        O.may_give (moment kept rc.old (O.held out.old)) result (moment kept rc.new (O.held out.new)) }
     ensures kept { IsKept rc.old rc.new }
 {
     match settle_tag(helper, setting, block, rc, out) {
@@ -60,9 +61,9 @@ fn render_next<'a, O: Output, P: Registered>(
     rc: &mut RenderContext,
     out: &mut O,
 ) -> Result<(), RenderError>
-    ensures renders { (site : Site) → CarriesOn (setting_in P.parts setting.now)
+    ensures renders { (site : Site) (kept : Kept) → CarriesOn (setting_in P.parts setting.now)
         (render_next site block (call_view helper.now) to_call.entry)
-        O.may_give (moment rc.old (O.held out.old)) result (moment rc.new (O.held out.new)) }
+        O.may_give (moment kept rc.old (O.held out.old)) result (moment kept rc.new (O.held out.new)) }
     ensures kept { IsKept rc.old rc.new }
 {
     let kind = to_call.kind;
@@ -90,10 +91,10 @@ fn render_chosen<'a, O: Output, P: Registered>(
     rc: &mut RenderContext,
     out: &mut O,
 ) -> Result<(), RenderError>
-    ensures renders { (site : Site) → CarriesOn (setting_in P.parts setting.now)
+    ensures renders { (site : Site) (kept : Kept) → CarriesOn (setting_in P.parts setting.now)
         (render_chosen site (kind_of kind)
         (helper_call block (call_view helper.now) (called_view call.entry)))
-        O.may_give (moment rc.old (O.held out.old)) result (moment rc.new (O.held out.new)) }
+        O.may_give (moment kept rc.old (O.held out.old)) result (moment kept rc.new (O.held out.new)) }
     ensures kept { IsKept rc.old rc.new }
 {
     let view = call.of_call(helper, block);
@@ -113,9 +114,9 @@ fn carry_out<'a, O: Output, P: Registered>(
     rc: &mut RenderContext,
     out: &mut O,
 ) -> Result<(), RenderError>
-    ensures renders { (site : Site) (v : CallView) → CarriesOn (setting_in P.parts setting.now)
+    ensures renders { (site : Site) (kept : Kept) (v : CallView) → CarriesOn (setting_in P.parts setting.now)
         (carry_out site (helper_call block (call_view helper.now) v) (choice_of choice.entry))
-        O.may_give (moment rc.old (O.held out.old)) result (moment rc.new (O.held out.new)) }
+        O.may_give (moment kept rc.old (O.held out.old)) result (moment kept rc.new (O.held out.new)) }
     ensures kept { IsKept rc.old rc.new }
 {
     match choice {
@@ -159,9 +160,9 @@ fn render_word<'a, O: Output, P: Registered>(
     rc: &mut RenderContext,
     out: &mut O,
 ) -> Result<(), RenderError>
-    ensures renders { (site : Site) (v : CallView) → CarriesOn (setting_in P.parts setting.now)
+    ensures renders { (site : Site) (kept : Kept) (v : CallView) → CarriesOn (setting_in P.parts setting.now)
         (render_word site (helper_call block (call_view helper.now) v) block word)
-        O.may_give (moment rc.old (O.held out.old)) result (moment rc.new (O.held out.new)) }
+        O.may_give (moment kept rc.old (O.held out.old)) result (moment kept rc.new (O.held out.new)) }
     ensures kept { IsKept rc.old rc.new }
 {
     if !block {
@@ -182,9 +183,9 @@ pub fn render_body<'a, O: Output, P: Registered>(
     rc: &mut RenderContext,
     out: &mut O,
 ) -> Result<(), RenderError>
-    ensures renders { (site : Site) (i : ℕ) (block : Bool) (v : CallView) → CarriesOn (setting_in P.parts setting.now)
+    ensures renders { (site : Site) (kept : Kept) (i : ℕ) (block : Bool) (v : CallView) → CarriesOn (setting_in P.parts setting.now)
         (render_body site i (helper_call block (call_view helper.now) v))
-        O.may_give (moment rc.old (O.held out.old)) result (moment rc.new (O.held out.new)) }
+        O.may_give (moment kept rc.old (O.held out.old)) result (moment kept rc.new (O.held out.new)) }
     ensures kept { IsKept rc.old rc.new }
 {
     match &helper.template {
@@ -201,9 +202,9 @@ fn render_inverse<'a, O: Output, P: Registered>(
     rc: &mut RenderContext,
     out: &mut O,
 ) -> Result<(), RenderError>
-    ensures renders { (site : Site) (block : Bool) (v : CallView) → CarriesOn (setting_in P.parts setting.now)
+    ensures renders { (site : Site) (kept : Kept) (block : Bool) (v : CallView) → CarriesOn (setting_in P.parts setting.now)
         (render_branch (inverse_at site 0) (helper_call block (call_view helper.now) v).inverse)
-        O.may_give (moment rc.old (O.held out.old)) result (moment rc.new (O.held out.new)) }
+        O.may_give (moment kept rc.old (O.held out.old)) result (moment kept rc.new (O.held out.new)) }
     ensures kept { IsKept rc.old rc.new }
 {
     match &helper.inverse {

@@ -11,9 +11,9 @@ ghost use Rattle.handlebars_template.specs.Tree.{call_binding, decorator_args, d
 ghost use Rattle.handlebars_template.specs.TreeView.{call_view, decorator_view};
 ghost use Rattle.handlebars_helpers.specs.View.{choice_of, helper_view};
 ghost use Rattle.handlebars_meaning.specs.CarryOut.{helper_call};
-ghost use Rattle.handlebars_meaning.specs.State.{State, helper_for};
+ghost use Rattle.handlebars_meaning.specs.State.{Kept, State, helper_for};
 ghost use Rattle.handlebars_meaning.specs.Values.{HasView, choice_value, helped_value, inner_call};
-ghost use Rattle.handlebars_render.specs.View.{setting_in, state_of, called_view, name_alone, Yields};
+ghost use Rattle.handlebars_render.specs.View.{setting_in, called_view, name_alone, Yields, state_with};
 
 use crate::context::RenderContext;
 use crate::registered::{Registered, helper_for};
@@ -110,7 +110,7 @@ pub fn view_of_tag<'a, P: Registered>(
     rc: &RenderContext,
     tag: &'a DecoratorTemplate,
 ) -> Result<Called<'a>, RenderError>
-    ensures { Yields (HasView (setting_in P.parts setting.now) (state_of rc.now) (decorator_name (decorator_view tag.now))
+    ensures { (kept : Kept) → Yields (HasView (setting_in P.parts setting.now) (state_with kept rc.now) (decorator_name (decorator_view tag.now))
         (decorator_args (decorator_view tag.now))) called_view result }
 {
     let name = expand_as_name(setting, rc, &tag.name)?;

@@ -9,7 +9,8 @@ ghost use Rattle.handlebars_template.specs.TreeView.{element_view, call_view, de
 ghost use Rattle.handlebars_meaning.specs.Sites.{Site};
 ghost use Rattle.handlebars_meaning.specs.Means.{render_decorator, render_element, render_expression, render_partial, unescaped};
 ghost use Rattle.handlebars_meaning.specs.Steps.{run};
-ghost use Rattle.handlebars_render.specs.View.{setting_in, state_of, moment, CarriesOut, IsKept, RefusesValue};
+ghost use Rattle.handlebars_meaning.specs.State.{Kept};
+ghost use Rattle.handlebars_render.specs.View.{setting_in, moment, CarriesOut, IsKept, RefusesValue, state_with};
 
 use crate::block::render_tag;
 use crate::called::view_of_tag;
@@ -31,9 +32,9 @@ pub fn render_element<'a, O: Output, P: Registered>(
     rc: &mut RenderContext,
     out: &mut O,
 ) -> Result<(), RenderError>
-    ensures renders { (site : Site) → CarriesOut (setting_in P.parts setting.now)
+    ensures renders { (site : Site) (kept : Kept) → CarriesOut (setting_in P.parts setting.now)
         (run (render_element site (element_view element.now)))
-        O.may_give (moment rc.old (O.held out.old)) result (moment rc.new (O.held out.new)) }
+        O.may_give (moment kept rc.old (O.held out.old)) result (moment kept rc.new (O.held out.new)) }
     ensures kept { IsKept rc.old rc.new }
 {
     match element {
@@ -57,9 +58,9 @@ fn render_unescaped<'a, O: Output, P: Registered>(
     rc: &mut RenderContext,
     out: &mut O,
 ) -> Result<(), RenderError>
-    ensures renders { (site : Site) → CarriesOut (setting_in P.parts setting.now)
+    ensures renders { (site : Site) (kept : Kept) → CarriesOut (setting_in P.parts setting.now)
         (run (unescaped (render_expression site (call_view helper.now))))
-        O.may_give (moment rc.old (O.held out.old)) result (moment rc.new (O.held out.new)) }
+        O.may_give (moment kept rc.old (O.held out.old)) result (moment kept rc.new (O.held out.new)) }
     ensures kept { IsKept rc.old rc.new }
 {
     let disabled = rc.is_disable_escape();
@@ -75,10 +76,10 @@ fn refuse_decorator<'a, P: Registered>(
     setting: &Setting<'_, 'a, P>,
     rc: &RenderContext,
 ) -> RenderError
-    ensures { reason_in result ≢ out_of_memory
+    ensures { (kept : Kept) → reason_in result ≢ out_of_memory
         → RefusesValue (setting_in P.parts setting.now)
         (render_decorator (decorator_view tag.now))
-        (state_of rc.now) (refusal_of result) }
+        (state_with kept rc.now) (refusal_of result) }
 {
     match view_of_tag(setting, rc, tag) {
         Ok(view) => no_decorator(setting.alloc, view.into_name()),
@@ -91,10 +92,10 @@ fn refuse_partial<'a, P: Registered>(
     setting: &Setting<'_, 'a, P>,
     rc: &RenderContext,
 ) -> RenderError
-    ensures { reason_in result ≢ out_of_memory
+    ensures { (kept : Kept) → reason_in result ≢ out_of_memory
         → RefusesValue (setting_in P.parts setting.now)
         (render_partial (decorator_view tag.now))
-        (state_of rc.now) (refusal_of result) }
+        (state_with kept rc.now) (refusal_of result) }
 {
     match view_of_tag(setting, rc, tag) {
         Ok(view) => no_partial(setting.alloc, view.into_name()),

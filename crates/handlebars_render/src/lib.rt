@@ -6,7 +6,7 @@ mod block;
 mod called;
 pub mod context;
 mod each;
-mod element;
+pub mod element;
 pub mod failure;
 mod lone;
 mod next;

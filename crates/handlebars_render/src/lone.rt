@@ -7,7 +7,8 @@ ghost use Rattle.handlebars_base.specs.Scoped.{found_of, present_in};
 ghost use Rattle.handlebars_template.specs.Tree.{subexpression};
 ghost use Rattle.handlebars_template.specs.TreeView.{param_view, subexpression_view};
 ghost use Rattle.handlebars_meaning.specs.Values.{HasName, HasValue};
-ghost use Rattle.handlebars_render.specs.View.{setting_in, state_of, IsMade, Yields, YieldsPresent};
+ghost use Rattle.handlebars_meaning.specs.State.{Kept};
+ghost use Rattle.handlebars_render.specs.View.{setting_in, IsMade, Yields, YieldsPresent, state_with};
 
 use crate::context::RenderContext;
 use crate::registered::Registered;
@@ -31,9 +32,9 @@ pub fn lone_name<'a, P: Registered>(
     rc: &RenderContext,
     name: &'a Parameter,
 ) -> Result<Lone<'a>, RenderError>
-    ensures name { Yields (HasName (setting_in P.parts setting.now) (state_of rc.now) (param_view name.now))
+    ensures name { (kept : Kept) → Yields (HasName (setting_in P.parts setting.now) (state_with kept rc.now) (param_view name.now))
         (λ x. cow_str_bytes x.name) result }
-    ensures made { IfOk result (λ x. IsMade (setting_in P.parts setting.now) (state_of rc.now) (param_view name.now) x.value) }
+    ensures made { (kept : Kept) → IfOk result (λ x. IsMade (setting_in P.parts setting.now) (state_with kept rc.now) (param_view name.now) x.value) }
 {
     match name {
         Parameter::Name(text) => Ok(Lone {
@@ -58,9 +59,9 @@ fn made_name<'a, P: Registered>(
     rc: &RenderContext,
     inner: &'a Subexpression,
 ) -> Result<Lone<'a>, RenderError>
-    ensures name { Yields (HasName (setting_in P.parts setting.now) (state_of rc.now) (subexpression (subexpression_view inner.now)))
+    ensures name { (kept : Kept) → Yields (HasName (setting_in P.parts setting.now) (state_with kept rc.now) (subexpression (subexpression_view inner.now)))
         (λ x. cow_str_bytes x.name) result }
-    ensures made { IfOk result (λ x. IsMade (setting_in P.parts setting.now) (state_of rc.now)
+    ensures made { (kept : Kept) → IfOk result (λ x. IsMade (setting_in P.parts setting.now) (state_with kept rc.now)
         (subexpression (subexpression_view inner.now)) x.value) }
 {
     match inner_value(setting, rc, inner) {
@@ -80,8 +81,8 @@ pub fn lone_value<'v, P: Registered>(
     name: &'v Parameter,
     made: Option<ScopedJson<'v>>,
 ) -> Result<ScopedJson<'v>, RenderError>
-    ensures { IsMade (setting_in P.parts setting.now) (state_of rc.now) (param_view name.now) made.entry
-        → YieldsPresent (HasValue (setting_in P.parts setting.now) (state_of rc.now) (param_view name.now))
+    ensures { (kept : Kept) → IsMade (setting_in P.parts setting.now) (state_with kept rc.now) (param_view name.now) made.entry
+        → YieldsPresent (HasValue (setting_in P.parts setting.now) (state_with kept rc.now) (param_view name.now))
         (λ v. present_in (found_of v)) result }
 {
     match made {
@@ -96,7 +97,7 @@ fn bare_value<'v, P: Registered>(
     rc: &'v RenderContext,
     parameter: &'v Parameter,
 ) -> Result<ScopedJson<'v>, RenderError>
-    ensures { YieldsPresent (HasValue (setting_in P.parts setting.now) (state_of rc.now) (param_view parameter.now))
+    ensures { (kept : Kept) → YieldsPresent (HasValue (setting_in P.parts setting.now) (state_with kept rc.now) (param_view parameter.now))
         (λ v. present_in (found_of v)) result }
 {
     match parameter {

@@ -13,8 +13,9 @@ ghost use Rattle.handlebars_helpers.specs.CallView.{CallView};
 ghost use Rattle.handlebars_meaning.specs.Sites.{Site};
 ghost use Rattle.handlebars_meaning.specs.Means.{render_call, render_expression, render_found, render_lone, render_lone_as, render_tag};
 ghost use Rattle.handlebars_meaning.specs.Values.{HasValue};
+ghost use Rattle.handlebars_meaning.specs.State.{Kept};
 ghost use Rattle.handlebars_render.specs.Next.{ComesTo, Settles};
-ghost use Rattle.handlebars_render.specs.View.{name_alone, setting_in, state_of, moment, with_line, CarriesOn, IsMade};
+ghost use Rattle.handlebars_render.specs.View.{name_alone, setting_in, moment, with_line, CarriesOn, IsMade, state_with};
 
 use crate::called::{Called, helper_not_found};
 use crate::context::RenderContext;
@@ -82,9 +83,9 @@ pub fn settle_tag<'a, O: Output, P: Registered>(
     rc: &RenderContext,
     out: &mut O,
 ) -> Result<Next<'a>, RenderError>
-    ensures { (site : Site) → ComesTo (setting_in P.parts setting.now) site block (call_view helper.now)
+    ensures { (site : Site) (kept : Kept) → ComesTo (setting_in P.parts setting.now) site block (call_view helper.now)
         (render_tag site block (call_view helper.now))
-        O.may_give (moment rc.now (O.held out.old)) result (O.held out.new) }
+        O.may_give (moment kept rc.now (O.held out.old)) result (O.held out.new) }
 {
     if block {
         settle_call(helper, setting, true, rc)
@@ -99,9 +100,9 @@ fn settle_expression<'a, O: Output, P: Registered>(
     rc: &RenderContext,
     out: &mut O,
 ) -> Result<Next<'a>, RenderError>
-    ensures { (site : Site) → ComesTo (setting_in P.parts setting.now) site false (call_view helper.now)
+    ensures { (site : Site) (kept : Kept) → ComesTo (setting_in P.parts setting.now) site false (call_view helper.now)
         (render_expression site (call_view helper.now))
-        O.may_give (moment rc.now (O.held out.old)) result (O.held out.new) }
+        O.may_give (moment kept rc.now (O.held out.old)) result (O.held out.new) }
 {
     if helper.is_value() {
         settle_lone(helper, setting, rc, out)
@@ -117,8 +118,8 @@ fn settle_call<'a, P: Registered>(
     block: bool,
     rc: &RenderContext,
 ) -> Result<Next<'a>, RenderError>
-    ensures { (site : Site) → Settles (setting_in P.parts setting.now) site block (call_view helper.now)
-        (render_call site block (call_view helper.now)) (state_of rc.now) result }
+    ensures { (site : Site) (kept : Kept) → Settles (setting_in P.parts setting.now) site block (call_view helper.now)
+        (render_call site block (call_view helper.now)) (state_with kept rc.now) result }
 {
     let call = match called(setting, rc, helper) {
         Ok(call) => call,
@@ -141,10 +142,10 @@ fn settle_lone<'a, O: Output, P: Registered>(
     rc: &RenderContext,
     out: &mut O,
 ) -> Result<Next<'a>, RenderError>
-    ensures { is_value (call_view helper.now) ≡ true → (site : Site)
+    ensures { is_value (call_view helper.now) ≡ true → (site : Site) (kept : Kept)
         → ComesTo (setting_in P.parts setting.now) site false (call_view helper.now)
         (render_lone site (call_view helper.now))
-        O.may_give (moment rc.now (O.held out.old)) result (O.held out.new) }
+        O.may_give (moment kept rc.now (O.held out.old)) result (O.held out.new) }
 {
     let lone = match lone_name(setting, rc, &helper.name) {
         Ok(lone) => lone,
@@ -168,10 +169,10 @@ fn settle_value<'a, O: Output, P: Registered>(
     rc: &RenderContext,
     out: &mut O,
 ) -> Result<Next<'a>, RenderError>
-    ensures { IsMade (setting_in P.parts setting.now) (state_of rc.now) (call_name (call_view helper.now)) lone.entry.value
+    ensures { (kept : Kept) → IsMade (setting_in P.parts setting.now) (state_with kept rc.now) (call_name (call_view helper.now)) lone.entry.value
         → (site : Site) → ComesTo (setting_in P.parts setting.now) site false (call_view helper.now)
         (render_lone_as site (call_view helper.now) (name_alone (cow_str_bytes lone.entry.name)) None)
-        O.may_give (moment rc.now (O.held out.old)) result (O.held out.new) }
+        O.may_give (moment kept rc.now (O.held out.old)) result (O.held out.new) }
 {
     let Lone { name, value } = lone;
     match write_lone(helper, setting, value, rc, out) {
@@ -190,17 +191,17 @@ fn write_lone<'a, O: Output, P: Registered>(
     rc: &RenderContext,
     out: &mut O,
 ) -> Result<Option<Line>, RenderError>
-    ensures { IsMade (setting_in P.parts setting.now) (state_of rc.now) (call_name (call_view helper.now)) made.entry
+    ensures { (kept : Kept) → IsMade (setting_in P.parts setting.now) (state_with kept rc.now) (call_name (call_view helper.now)) made.entry
         → (site : Site) (v : CallView) → MatchResult result
         (λ line. MatchOption line
-        (HasValue (setting_in P.parts setting.now) (state_of rc.now) (call_name (call_view helper.now)) (gives missing)
+        (HasValue (setting_in P.parts setting.now) (state_with kept rc.now) (call_name (call_view helper.now)) (gives missing)
         × (O.held out.new ≡ O.held out.old))
         (λ line. CarriesOn (setting_in P.parts setting.now)
-        (render_lone_as site (call_view helper.now) v None) O.may_give (moment rc.now (O.held out.old)) (Ok tt)
-        (record { state = with_line (line_of line) (state_of rc.now); held = O.held out.new })))
+        (render_lone_as site (call_view helper.now) v None) O.may_give (moment kept rc.now (O.held out.old)) (Ok tt)
+        (record { state = with_line (line_of line) (state_with kept rc.now); held = O.held out.new })))
         (λ e. CarriesOn (setting_in P.parts setting.now)
-        (render_lone_as site (call_view helper.now) v None) O.may_give (moment rc.now (O.held out.old)) (Err e)
-        (moment rc.now (O.held out.new))) }
+        (render_lone_as site (call_view helper.now) v None) O.may_give (moment kept rc.now (O.held out.old)) (Err e)
+        (moment kept rc.now (O.held out.new))) }
 {
     let value = match lone_value(setting, rc, &helper.name, made) {
         Ok(value) => value,
@@ -222,9 +223,9 @@ fn settle_missing<'a, P: Registered>(
     name: CowStr<'a>,
     rc: &RenderContext,
 ) -> Result<Next<'a>, RenderError>
-    ensures { (site : Site) → Settles (setting_in P.parts setting.now) site false (call_view helper.now)
+    ensures { (site : Site) (kept : Kept) → Settles (setting_in P.parts setting.now) site false (call_view helper.now)
         (render_found site (call_view helper.now) (name_alone (cow_str_bytes name.entry)) missing)
-        (state_of rc.now) result }
+        (state_with kept rc.now) result }
 {
     if setting.parts.strict() {
         return Err(missing_variable(setting.alloc, &helper.name));

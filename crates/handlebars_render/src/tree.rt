@@ -3,11 +3,12 @@
 ghost use Rattle.std.specs.Prelude.{◌≡◌, ◌≢◌, option_map, string_bytes};
 ghost use Rattle.handlebars_base.specs.Reasons.{out_of_memory};
 ghost use Rattle.handlebars_base.specs.RenderRefusals.{reason_in, spot_of, cause_of};
-ghost use Rattle.handlebars_template.specs.TreeView.{tree_view, element_view, place_of};
+ghost use Rattle.handlebars_template.specs.TreeView.{tree_view, place_of};
 ghost use Rattle.handlebars_meaning.specs.Sites.{TreeSite};
-ghost use Rattle.handlebars_meaning.specs.Means.{render_tree, render_whole, render_alone};
+ghost use Rattle.handlebars_meaning.specs.Means.{render_whole};
 ghost use Rattle.handlebars_meaning.specs.Runs.{placed_at, named_as};
 ghost use Rattle.handlebars_meaning.specs.Steps.{Whole, perform, run};
+ghost use Rattle.handlebars_meaning.specs.State.{Kept};
 ghost use Rattle.handlebars_render.specs.View.{setting_in, moment, CarriesOn, CarriesOut, IsKept};
 
 use crate::context::RenderContext;
@@ -16,38 +17,10 @@ use crate::registered::Registered;
 use crate::setting::Setting;
 use handlebars_base::error::RenderError;
 use handlebars_scope::output::Output;
-use handlebars_template::template::{Template, TemplateElement, TemplateMapping};
+use handlebars_template::template::{Template, TemplateMapping};
 use std::alloc::Global;
 
-/// Renders the tree that a run begins with.
-pub fn render_first<'a, O: Output, P: Registered>(
-    template: &'a Template,
-    setting: &Setting<'_, 'a, P>,
-    rc: &mut RenderContext,
-    out: &mut O,
-) -> Result<(), RenderError>
-    ensures renders { CarriesOut (setting_in P.parts setting.now) (render_tree (tree_view template.now))
-        O.may_give (moment rc.old (O.held out.old)) result (moment rc.new (O.held out.new)) }
-    ensures kept { IsKept rc.old rc.new }
-{
-    render_tree(template, setting, rc, out)
-}
-
-/// Renders an element that stands in no tree.
-pub fn render_alone<'a, O: Output, P: Registered>(
-    element: &'a TemplateElement,
-    setting: &Setting<'_, 'a, P>,
-    rc: &mut RenderContext,
-    out: &mut O,
-) -> Result<(), RenderError>
-    ensures renders { CarriesOut (setting_in P.parts setting.now) (render_alone (element_view element.now))
-        O.may_give (moment rc.old (O.held out.old)) result (moment rc.new (O.held out.new)) }
-    ensures kept { IsKept rc.old rc.new }
-{
-    render_element(element, setting, rc, out)
-}
-
-/// Renders a tree, a body or an inverse too; a refusal takes its name, where none is known yet.
+/// Renders a tree, the first of a run, a body or an inverse; a refusal takes its name, where none is known yet.
 #[cycle(render)]
 pub fn render_tree<'a, O: Output, P: Registered>(
     template: &'a Template,
@@ -55,9 +28,9 @@ pub fn render_tree<'a, O: Output, P: Registered>(
     rc: &mut RenderContext,
     out: &mut O,
 ) -> Result<(), RenderError>
-    ensures renders { (at : TreeSite) → CarriesOn (setting_in P.parts setting.now)
+    ensures renders { (at : TreeSite) (kept : Kept) → CarriesOn (setting_in P.parts setting.now)
         (perform (Whole at (tree_view template.now)))
-        O.may_give (moment rc.old (O.held out.old)) result (moment rc.new (O.held out.new)) }
+        O.may_give (moment kept rc.old (O.held out.old)) result (moment kept rc.new (O.held out.new)) }
     ensures kept { IsKept rc.old rc.new }
 {
     match render_whole(template, setting, rc, out) {
@@ -74,9 +47,9 @@ fn render_whole<'a, O: Output, P: Registered>(
     rc: &mut RenderContext,
     out: &mut O,
 ) -> Result<(), RenderError>
-    ensures renders { (at : TreeSite) → CarriesOut (setting_in P.parts setting.now)
+    ensures renders { (at : TreeSite) (kept : Kept) → CarriesOut (setting_in P.parts setting.now)
         (run (render_whole at (tree_view template.now)))
-        O.may_give (moment rc.old (O.held out.old)) result (moment rc.new (O.held out.new)) }
+        O.may_give (moment kept rc.old (O.held out.old)) result (moment kept rc.new (O.held out.new)) }
     ensures kept { IsKept rc.old rc.new }
 {
     rc.enter(&template.name)?;

@@ -10,7 +10,8 @@ ghost use Rattle.handlebars_base.specs.Scoped.{found_of, is_constant};
 ghost use Rattle.handlebars_template.specs.Tree.{as_name, call_args, call_name, expression};
 ghost use Rattle.handlebars_template.specs.TreeView.{call_view, param_view, params_view, pairs_view, subexpression_view};
 ghost use Rattle.handlebars_meaning.specs.Values.{HasValue, HasWrittenValue, HasName, HasInnerValue, HaveValues, PairsHaveValues, HasView, is_literal};
-ghost use Rattle.handlebars_render.specs.View.{setting_in, state_of, called_view, pairs_seen, Yields};
+ghost use Rattle.handlebars_meaning.specs.State.{Kept};
+ghost use Rattle.handlebars_render.specs.View.{setting_in, called_view, pairs_seen, Yields, state_with};
 
 use crate::called::{Called, helped_value};
 use crate::context::RenderContext;
@@ -30,8 +31,8 @@ pub fn expands<'a, P: Registered>(
     rc: &RenderContext,
     parameter: &'a Parameter,
 ) -> Result<ScopedJson<'a>, RenderError>
-    ensures value { Yields
-        (HasValue (setting_in P.parts setting.now) (state_of rc.now) (param_view parameter.now))
+    ensures value { (kept : Kept) → Yields
+        (HasValue (setting_in P.parts setting.now) (state_with kept rc.now) (param_view parameter.now))
         found_of result }
     ensures constant { IfOk result (λ found. is_constant found ≡ is_literal (param_view parameter.now)) }
 {
@@ -50,8 +51,8 @@ pub fn expand<'a, P: Registered>(
     rc: &RenderContext,
     parameter: &'a Parameter,
 ) -> Result<PathAndJson<'a>, RenderError>
-    ensures { Yields
-        (HasWrittenValue (setting_in P.parts setting.now) (state_of rc.now) (param_view parameter.now))
+    ensures { (kept : Kept) → Yields
+        (HasWrittenValue (setting_in P.parts setting.now) (state_with kept rc.now) (param_view parameter.now))
         path_and_data result }
 {
     match expands(setting, rc, parameter) {
@@ -67,8 +68,8 @@ pub fn expand_as_name<'a, P: Registered>(
     rc: &RenderContext,
     parameter: &'a Parameter,
 ) -> Result<CowStr<'a>, RenderError>
-    ensures { Yields
-        (HasName (setting_in P.parts setting.now) (state_of rc.now) (param_view parameter.now))
+    ensures { (kept : Kept) → Yields
+        (HasName (setting_in P.parts setting.now) (state_with kept rc.now) (param_view parameter.now))
         cow_str_bytes result }
 {
     match parameter {
@@ -89,8 +90,8 @@ pub fn inner_value<'a, P: Registered>(
     rc: &RenderContext,
     inner: &'a Subexpression,
 ) -> Result<ScopedJson<'a>, RenderError>
-    ensures value { Yields
-        (HasInnerValue (setting_in P.parts setting.now) (state_of rc.now) (subexpression_view inner.now))
+    ensures value { (kept : Kept) → Yields
+        (HasInnerValue (setting_in P.parts setting.now) (state_with kept rc.now) (subexpression_view inner.now))
         found_of result }
     ensures constant { IfOk result (λ found. is_constant found ≡ false) }
 {
@@ -114,8 +115,8 @@ pub fn call_value<'a, P: Registered>(
     rc: &RenderContext,
     helper: &'a HelperTemplate,
 ) -> Result<ScopedJson<'a>, RenderError>
-    ensures value { Yields
-        (HasInnerValue (setting_in P.parts setting.now) (state_of rc.now) (expression (call_view helper.now)))
+    ensures value { (kept : Kept) → Yields
+        (HasInnerValue (setting_in P.parts setting.now) (state_with kept rc.now) (expression (call_view helper.now)))
         found_of result }
     ensures constant { IfOk result (λ found. is_constant found ≡ false) }
 {
@@ -132,8 +133,8 @@ pub fn called<'a, P: Registered>(
     rc: &RenderContext,
     helper: &'a HelperTemplate,
 ) -> Result<Called<'a>, RenderError>
-    ensures { Yields
-        (HasView (setting_in P.parts setting.now) (state_of rc.now) (call_name (call_view helper.now))
+    ensures { (kept : Kept) → Yields
+        (HasView (setting_in P.parts setting.now) (state_with kept rc.now) (call_name (call_view helper.now))
         (call_args (call_view helper.now)))
         called_view result }
 {
@@ -150,8 +151,8 @@ pub fn params_values<'a, P: Registered>(
     rc: &RenderContext,
     params: &'a Vec<Parameter>,
 ) -> Result<Vec<PathAndJson<'a>>, RenderError>
-    ensures { Yields
-        (HaveValues (setting_in P.parts setting.now) (state_of rc.now) (params_view params.now.items))
+    ensures { (kept : Kept) → Yields
+        (HaveValues (setting_in P.parts setting.now) (state_with kept rc.now) (params_view params.now.items))
         (λ vs. map path_and_data vs.items) result }
 {
     let mut values = Vec::new(setting.alloc);
@@ -168,8 +169,8 @@ pub fn pairs_values<'a, P: Registered>(
     rc: &RenderContext,
     pairs: &'a BTreeMap<String, Parameter>,
 ) -> Result<BTreeMap<&'a str, PathAndJson<'a>>, RenderError>
-    ensures { Yields
-        (PairsHaveValues (setting_in P.parts setting.now) (state_of rc.now) (pairs_view pairs.now.entries))
+    ensures { (kept : Kept) → Yields
+        (PairsHaveValues (setting_in P.parts setting.now) (state_with kept rc.now) (pairs_view pairs.now.entries))
         (λ vs. pairs_seen vs.entries) result }
 {
     let mut values = BTreeMap::new(setting.alloc);

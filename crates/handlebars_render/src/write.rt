@@ -10,8 +10,8 @@ ghost use Rattle.handlebars_base.specs.RenderRefusals.{plain_refusal, reason_in,
 ghost use Rattle.handlebars_base.specs.Values as values;
 ghost use Rattle.handlebars_scope.specs.LineView.{line_of};
 ghost use Rattle.handlebars_meaning.specs.Writing.{shown_if_any};
-ghost use Rattle.handlebars_meaning.specs.State.{State};
-ghost use Rattle.handlebars_render.specs.View.{state_of, moment, with_line, word_reason, Puts, PutsWord, IsKept};
+ghost use Rattle.handlebars_meaning.specs.State.{Kept, State};
+ghost use Rattle.handlebars_render.specs.View.{state_of, moment, with_line, word_reason, Puts, PutsWord, IsKept, state_with};
 
 use crate::context::RenderContext;
 use handlebars_base::error::{RenderError, RenderErrorReason};
@@ -30,7 +30,7 @@ pub fn indent_aware_write<O: Output>(
     rc: &mut RenderContext,
     out: &mut O,
 ) -> Result<(), RenderError>
-    ensures puts { Puts text.now O.may_give (moment rc.old (O.held out.old)) result (moment rc.new (O.held out.new)) }
+    ensures puts { (kept : Kept) → Puts text.now O.may_give (moment kept rc.old (O.held out.old)) result (moment kept rc.new (O.held out.new)) }
     ensures kept { IsKept rc.old rc.new }
     ensures fault { OnErr result (rc.new ≡ rc.old) }
 {
@@ -50,12 +50,12 @@ pub(super) fn write_found<O: Output>(
     rc: &RenderContext,
     out: &mut O,
 ) -> Result<Line, RenderError>
-    ensures puts { MatchResult result
+    ensures puts { (kept : Kept) → MatchResult result
         (λ line. Puts (shown_if_any (state_of rc.now).escapes (option_map (λ v. view v.now) value.entry)) O.may_give
-        (moment rc.now (O.held out.old)) (Ok tt)
-        (record { state = with_line (line_of line) (state_of rc.now); held = O.held out.new }))
+        (moment kept rc.now (O.held out.old)) (Ok tt)
+        (record { state = with_line (line_of line) (state_with kept rc.now); held = O.held out.new }))
         (λ e. Puts (shown_if_any (state_of rc.now).escapes (option_map (λ v. view v.now) value.entry)) O.may_give
-        (moment rc.now (O.held out.old)) (Err e) (moment rc.now (O.held out.new))) }
+        (moment kept rc.now (O.held out.old)) (Err e) (moment kept rc.now (O.held out.new))) }
 {
     let Some(value) = value else {
         return Ok(rc.line());
@@ -72,9 +72,9 @@ pub(super) fn write_chosen<O: Output>(
     rc: &mut RenderContext,
     out: &mut O,
 ) -> Result<(), RenderError>
-    ensures puts { Puts
+    ensures puts { (kept : Kept) → Puts
         (shown_if_any (state_of rc.old).escapes (Some (unwrap_or (option_map (λ v. view v.now) value.entry) null)))
-        O.may_give (moment rc.old (O.held out.old)) result (moment rc.new (O.held out.new)) }
+        O.may_give (moment kept rc.old (O.held out.old)) result (moment kept rc.new (O.held out.new)) }
     ensures kept { IsKept rc.old rc.new }
 {
     let line = write_found(value, rc, out)?;
@@ -88,8 +88,8 @@ pub(super) fn write_count<O: Output>(
     rc: &mut RenderContext,
     out: &mut O,
 ) -> Result<(), RenderError>
-    ensures puts { Puts (shown_if_any (state_of rc.old).escapes (Some (number (unsigned count))))
-        O.may_give (moment rc.old (O.held out.old)) result (moment rc.new (O.held out.new)) }
+    ensures puts { (kept : Kept) → Puts (shown_if_any (state_of rc.old).escapes (Some (number (unsigned count))))
+        O.may_give (moment kept rc.old (O.held out.old)) result (moment kept rc.new (O.held out.new)) }
     ensures kept { IsKept rc.old rc.new }
 {
     let value = Json::Number(Number::from(count));

@@ -16,7 +16,7 @@ use Rattle.handlebars_scope.specs.Scopes.{Frame, empty_frame}
 use Rattle.handlebars_meaning.specs.CarryOut.{helper_call}
 use Rattle.handlebars_meaning.specs.Means.{render_chosen}
 use Rattle.handlebars_meaning.specs.Runs.{named_as, placed_at}
-use Rattle.handlebars_render.specs.View.{called_view, state_of}
+use Rattle.handlebars_render.specs.View.{called_view, keeping, state_of, state_with}
 use Rattle.handlebars_render.proofs.Calls.{branch_none, carry_out_value, chosen_ok, chosen_err, entered_as}
 use Rattle.handlebars_render.proofs.Leaves.{carries_on-leaves}
 use Rattle.handlebars_render.proofs.Carry.{carries-done, carries-no_value, carries-out_of_memory, carries-puts, carries-run, carries-unescaped, carries_on-bracket, carries_on-done, carries_on-task, carries_on-task_over, carries_on-word, restored, carries_on-in_block, carries_on-out_of_memory}
@@ -30,186 +30,187 @@ use Rattle.handlebars_render.proofs.+render.Goals as goal
 -- ---- calls
 
 pub block::render_tag-returns-in-Ok-Done-clause-renders : goal.block::render_tag-returns-in-Ok-Done-clause-renders
-block::render_tag-returns-in-Ok-Done-clause-renders g t c = λ site.
-    rw c.set_line.ensures.state (rw c.in-Ok-Done.field-0-is at (c.in-Ok-Done.ensures site))
+block::render_tag-returns-in-Ok-Done-clause-renders g t c = λ site kept.
+    rw (ap (keeping kept) c.set_line.ensures.state) (rw c.in-Ok-Done.field-0-is at (c.in-Ok-Done.ensures site kept))
 
 pub block::render_tag-returns-in-Ok-Call-clause-renders : goal.block::render_tag-returns-in-Ok-Call-clause-renders
-block::render_tag-returns-in-Ok-Call-clause-renders g t c = λ site.
-    let left = rw c.in-Ok-Call.field-0-is at (c.in-Ok-Call.ensures site) in
-    carries_on-leaves _ _ _ _ left.0 left.1 (c.render_next.ensures.renders site)
+block::render_tag-returns-in-Ok-Call-clause-renders g t c = λ site kept.
+    let left = rw c.in-Ok-Call.field-0-is at (c.in-Ok-Call.ensures site kept) in
+    carries_on-leaves _ _ _ _ left.0 left.1 (c.render_next.ensures.renders site kept)
 
 pub block::render_tag-returns-in-Err-clause-renders : goal.block::render_tag-returns-in-Err-clause-renders
-block::render_tag-returns-in-Err-clause-renders g t c = λ site. c.in-Err.ensures site
+block::render_tag-returns-in-Err-clause-renders g t c = λ site kept. c.in-Err.ensures site kept
 
 pub block::render_next-returns-then-not-bracket-clause-renders : goal.block::render_next-returns-then-not-bracket-clause-renders
-block::render_next-returns-then-not-bracket-clause-renders g t c = λ site.
-    rw c.if-not-bracket.true (rw c.into_call-call.ensures at (c.render_chosen.ensures.renders site))
+block::render_next-returns-then-not-bracket-clause-renders g t c = λ site kept.
+    rw c.if-not-bracket.true (rw c.into_call-call.ensures at (c.render_chosen.ensures.renders site kept))
 
 pub block::render_next-returns-clause-renders : goal.block::render_next-returns-clause-renders
-block::render_next-returns-clause-renders g t c = λ site.
+block::render_next-returns-clause-renders g t c = λ site kept.
     let marked = ap (λ (m : CallMarks). m.indent_before_write) (call_marks-view c.args.helper.now) in
     rw c.if-not-bracket.false (carries_on-bracket _ _ (call_marks (call_view c.args.helper.now)).indent_before_write
     (render_chosen site (kind_of c.args.to_call.kind)
     (helper_call c.args.block (call_view c.args.helper.now) (called_view c.args.to_call.call)))
-    (entered_as (state_of c.args.rc.now) (state_of c.enter_call.new.rc) _ _ marked c.enter_call.ensures.state)
-    (c.leave_call.ensures.state (state_of c.args.rc.now).line (sym c.get_indent_before_write-before.ensures)
-    (sym c.get_content_produced-produced.ensures))
-    (rw c.into_call-call.ensures at (c.render_chosen-answer.ensures.renders site)))
+    (entered_as (state_with kept c.args.rc.now) (state_with kept c.enter_call.new.rc) _ _ marked (ap (keeping kept) c.enter_call.ensures.state))
+    (ap (keeping kept) (c.leave_call.ensures.state (state_of c.args.rc.now).line (sym c.get_indent_before_write-before.ensures)
+    (sym c.get_content_produced-produced.ensures)))
+    (rw c.into_call-call.ensures at (c.render_chosen-answer.ensures.renders site kept)))
 
 pub block::render_chosen-returns-in-Ok-clause-renders : goal.block::render_chosen-returns-in-Ok-clause-renders
-block::render_chosen-returns-in-Ok-clause-renders g t c = λ site.
+block::render_chosen-returns-in-Ok-clause-renders g t c = λ site kept.
     chosen_ok _ _ _ site (kind_of c.args.kind) _
     (helper_call c.args.block (call_view c.args.helper.now) (called_view c.args.call)) _
     c.strict.ensures c.of_call-view.ensures c.in-Ok.ensures
-    (c.carry_out.ensures.renders site c.args.block (called_view c.args.call))
+    (c.carry_out.ensures.renders site kept c.args.block (called_view c.args.call))
 
 pub block::render_chosen-returns-clause-renders : goal.block::render_chosen-returns-clause-renders
-block::render_chosen-returns-clause-renders g t c = λ site.
+block::render_chosen-returns-clause-renders g t c = λ site kept.
     chosen_err _ _ _ site (kind_of c.args.kind) _
     (helper_call c.args.block (call_view c.args.helper.now) (called_view c.args.call)) c.in-Err.e
     c.strict.ensures c.of_call-view.ensures c.in-Err.ensures
 
 pub block::carry_out-returns-in-Body-clause-renders : goal.block::carry_out-returns-in-Body-clause-renders
-block::carry_out-returns-in-Body-clause-renders g t c = λ site v. rw c.in-Body.is (c.render_body.ensures.renders site 0 c.args.block v)
+block::carry_out-returns-in-Body-clause-renders g t c = λ site kept v. rw c.in-Body.is (c.render_body.ensures.renders site kept 0 c.args.block v)
 
 pub block::carry_out-returns-in-Inverse-clause-renders : goal.block::carry_out-returns-in-Inverse-clause-renders
-block::carry_out-returns-in-Inverse-clause-renders g t c = λ site v. rw c.in-Inverse.is (c.render_inverse.ensures.renders site c.args.block v)
+block::carry_out-returns-in-Inverse-clause-renders g t c = λ site kept v. rw c.in-Inverse.is (c.render_inverse.ensures.renders site kept c.args.block v)
 
 pub block::carry_out-returns-in-Value-clause-renders : goal.block::carry_out-returns-in-Value-clause-renders
-block::carry_out-returns-in-Value-clause-renders g t c = λ site v. rw c.in-Value.is
+block::carry_out-returns-in-Value-clause-renders g t c = λ site kept v. rw c.in-Value.is
     (carry_out_value _ _ site (helper_call c.args.block (call_view c.args.helper.now) v) (unwrap_or (option_map (λ x. view x.now) c.in-Value.value) null)
-    c.write_chosen.ensures.puts)
+    (c.write_chosen.ensures.puts kept))
 
 pub block::carry_out-returns-in-Count-clause-renders : goal.block::carry_out-returns-in-Count-clause-renders
-block::carry_out-returns-in-Count-clause-renders g t c = λ site v. rw c.in-Count.is
+block::carry_out-returns-in-Count-clause-renders g t c = λ site kept v. rw c.in-Count.is
     (carry_out_value _ _ site (helper_call c.args.block (call_view c.args.helper.now) v) (number (unsigned c.in-Count.count))
-    c.write_count.ensures.puts)
+    (c.write_count.ensures.puts kept))
 
 pub block::carry_out-returns-in-Word-clause-renders : goal.block::carry_out-returns-in-Word-clause-renders
-block::carry_out-returns-in-Word-clause-renders g t c = λ site v. rw c.in-Word.is (c.render_word.ensures.renders site v)
+block::carry_out-returns-in-Word-clause-renders g t c = λ site kept v. rw c.in-Word.is (c.render_word.ensures.renders site kept v)
 
 pub block::carry_out-returns-in-Line-clause-renders : goal.block::carry_out-returns-in-Line-clause-renders
-block::carry_out-returns-in-Line-clause-renders g t c = λ site v. rw c.in-Line.is (carries_on-done _ _)
+block::carry_out-returns-in-Line-clause-renders g t c = λ site kept v. rw c.in-Line.is (carries_on-done _ _)
 
 pub block::carry_out-returns-in-Nothing-clause-renders : goal.block::carry_out-returns-in-Nothing-clause-renders
-block::carry_out-returns-in-Nothing-clause-renders g t c = λ site v. rw c.in-Nothing.is (carries_on-done _ _)
+block::carry_out-returns-in-Nothing-clause-renders g t c = λ site kept v. rw c.in-Nothing.is (carries_on-done _ _)
 
 pub block::render_word-returns-then-not-block-clause-renders : goal.block::render_word-returns-then-not-block-clause-renders
-block::render_word-returns-then-not-block-clause-renders g t c = λ site v. rw c.if-not-block.true
-    (carries_on-word _ _ site c.args.word (c.write_word.ensures (state_of c.args.rc.now)))
+block::render_word-returns-then-not-block-clause-renders g t c = λ site kept v. rw c.if-not-block.true
+    (carries_on-word _ _ site c.args.word (c.write_word.ensures (state_with kept c.args.rc.now)))
 
 pub block::render_word-returns-then-word-clause-renders : goal.block::render_word-returns-then-word-clause-renders
-block::render_word-returns-then-word-clause-renders g t c = λ site v. rw (c.if-not-block.false, c.if-word.true)
-    (c.render_body.ensures.renders site 0 c.args.block v)
+block::render_word-returns-then-word-clause-renders g t c = λ site kept v. rw (c.if-not-block.false, c.if-word.true)
+    (c.render_body.ensures.renders site kept 0 c.args.block v)
 
 pub block::render_word-returns-else-word-clause-renders : goal.block::render_word-returns-else-word-clause-renders
-block::render_word-returns-else-word-clause-renders g t c = λ site v. rw (c.if-not-block.false, c.if-word.false)
-    (c.render_inverse.ensures.renders site c.args.block v)
+block::render_word-returns-else-word-clause-renders g t c = λ site kept v. rw (c.if-not-block.false, c.if-word.false)
+    (c.render_inverse.ensures.renders site kept c.args.block v)
 
 pub block::render_body-returns-in-None-clause-renders : goal.block::render_body-returns-in-None-clause-renders
-block::render_body-returns-in-None-clause-renders g t c = λ site i block v.
+block::render_body-returns-in-None-clause-renders g t c = λ site kept i block v.
     branch_none _ _ (body_at site i) _ (call_body-view c.args.helper.now ∙ ap body_view c.in-None.is)
 
 pub block::render_inverse-returns-in-None-clause-renders : goal.block::render_inverse-returns-in-None-clause-renders
-block::render_inverse-returns-in-None-clause-renders g t c = λ site block v.
+block::render_inverse-returns-in-None-clause-renders g t c = λ site kept block v.
     branch_none _ _ (inverse_at site 0) _ (call_inverse-view c.args.helper.now ∙ ap body_view c.in-None.is)
 
 -- ---- elements
 
 pub element::render_element-returns-in-RawString-clause-renders : goal.element::render_element-returns-in-RawString-clause-renders
-element::render_element-returns-in-RawString-clause-renders g t c = λ site. rw (c.in-RawString.is, element_view-RawString)
-    (carries-puts _ _ (of_text site) _ (rw c.as_str.ensures.value at c.indent_aware_write.ensures.puts))
+element::render_element-returns-in-RawString-clause-renders g t c = λ site kept. rw (c.in-RawString.is, element_view-RawString)
+    (carries-puts _ _ (of_text site) _ (rw c.as_str.ensures.value at (c.indent_aware_write.ensures.puts kept)))
 
 pub element::render_element-returns-in-Expression-clause-renders : goal.element::render_element-returns-in-Expression-clause-renders
-element::render_element-returns-in-Expression-clause-renders g t c = λ site. rw (c.in-Expression.is, element_view-Expression)
-    (carries-run _ _ (rw c.deref.ensures at (c.render_tag.ensures.renders site)))
+element::render_element-returns-in-Expression-clause-renders g t c = λ site kept. rw (c.in-Expression.is, element_view-Expression)
+    (carries-run _ _ (rw c.deref.ensures at (c.render_tag.ensures.renders site kept)))
 
 pub element::render_element-returns-in-Comment-clause-renders : goal.element::render_element-returns-in-Comment-clause-renders
-element::render_element-returns-in-Comment-clause-renders g t c = λ site. rw (c.in-Comment.is, element_view-Comment) (carries-done _ _)
+element::render_element-returns-in-Comment-clause-renders g t c = λ site kept. rw (c.in-Comment.is, element_view-Comment) (carries-done _ _)
 
 pub element::render_element-returns-in-HelperBlock-clause-renders : goal.element::render_element-returns-in-HelperBlock-clause-renders
-element::render_element-returns-in-HelperBlock-clause-renders g t c = λ site. rw (c.in-HelperBlock.is, element_view-HelperBlock)
-    (carries-run _ _ (rw c.deref-in-HelperBlock.ensures at (c.render_tag-in-HelperBlock.ensures.renders site)))
+element::render_element-returns-in-HelperBlock-clause-renders g t c = λ site kept. rw (c.in-HelperBlock.is, element_view-HelperBlock)
+    (carries-run _ _ (rw c.deref-in-HelperBlock.ensures at (c.render_tag-in-HelperBlock.ensures.renders site kept)))
 
 pub element::render_element-returns-in-DecoratorExpression-clause-renders : goal.element::render_element-returns-in-DecoratorExpression-clause-renders
-element::render_element-returns-in-DecoratorExpression-clause-renders g t c = λ site. rw (c.in-DecoratorExpression.is, element_view-DecoratorExpression)
+element::render_element-returns-in-DecoratorExpression-clause-renders g t c = λ site kept. rw (c.in-DecoratorExpression.is, element_view-DecoratorExpression)
     (carries-no_value _ _ _ _ c.refuse_decorator.result
-    (rw c.deref-in-DecoratorExpression.ensures at c.refuse_decorator.ensures))
+    (rw c.deref-in-DecoratorExpression.ensures at (c.refuse_decorator.ensures kept)))
 
 pub element::render_element-returns-in-DecoratorBlock-clause-renders : goal.element::render_element-returns-in-DecoratorBlock-clause-renders
-element::render_element-returns-in-DecoratorBlock-clause-renders g t c = λ site. rw (c.in-DecoratorBlock.is, element_view-DecoratorBlock)
+element::render_element-returns-in-DecoratorBlock-clause-renders g t c = λ site kept. rw (c.in-DecoratorBlock.is, element_view-DecoratorBlock)
     (carries-no_value _ _ _ _ c.refuse_decorator-in-DecoratorBlock.result
-    (rw c.deref-in-DecoratorBlock.ensures at c.refuse_decorator-in-DecoratorBlock.ensures))
+    (rw c.deref-in-DecoratorBlock.ensures at (c.refuse_decorator-in-DecoratorBlock.ensures kept)))
 
 pub element::render_element-returns-in-PartialExpression-clause-renders : goal.element::render_element-returns-in-PartialExpression-clause-renders
-element::render_element-returns-in-PartialExpression-clause-renders g t c = λ site. rw (c.in-PartialExpression.is, element_view-PartialExpression)
+element::render_element-returns-in-PartialExpression-clause-renders g t c = λ site kept. rw (c.in-PartialExpression.is, element_view-PartialExpression)
     (carries-no_value _ _ _ _ c.refuse_partial.result
-    (rw c.deref-in-PartialExpression.ensures at c.refuse_partial.ensures))
+    (rw c.deref-in-PartialExpression.ensures at (c.refuse_partial.ensures kept)))
 
 pub element::render_element-returns-in-PartialBlock-clause-renders : goal.element::render_element-returns-in-PartialBlock-clause-renders
-element::render_element-returns-in-PartialBlock-clause-renders g t c = λ site. rw (c.in-PartialBlock.is, element_view-PartialBlock)
+element::render_element-returns-in-PartialBlock-clause-renders g t c = λ site kept. rw (c.in-PartialBlock.is, element_view-PartialBlock)
     (carries-no_value _ _ _ _ c.refuse_partial-in-PartialBlock.result
-    (rw c.deref-in-PartialBlock.ensures at c.refuse_partial-in-PartialBlock.ensures))
+    (rw c.deref-in-PartialBlock.ensures at (c.refuse_partial-in-PartialBlock.ensures kept)))
 
 pub element::render_unescaped-returns-clause-renders : goal.element::render_unescaped-returns-clause-renders
-element::render_unescaped-returns-clause-renders g t c = λ site. carries-unescaped _ _ c.set_disable_escape.ensures.state
-    (c.set_disable_escape-2.ensures.state ∙ restored (state_of c.render_tag-answer.new.rc) (state_of c.args.rc.now).escapes _ c.is_disable_escape-disabled.ensures)
-    (c.render_tag-answer.ensures.renders site)
+element::render_unescaped-returns-clause-renders g t c = λ site kept. carries-unescaped _ _ (ap (keeping kept) c.set_disable_escape.ensures.state)
+    (ap (keeping kept) (c.set_disable_escape-2.ensures.state
+    ∙ restored (state_of c.render_tag-answer.new.rc) (state_of c.args.rc.now).escapes _ c.is_disable_escape-disabled.ensures))
+    (c.render_tag-answer.ensures.renders site kept)
 
 -- ---- trees
 
 pub tree::render_tree-returns-in-Ok-clause-renders : goal.tree::render_tree-returns-in-Ok-clause-renders
-tree::render_tree-returns-in-Ok-clause-renders g t c = λ at. carries_on-task _ _ (c.in-Ok.ensures.renders at)
+tree::render_tree-returns-in-Ok-clause-renders g t c = λ at kept. carries_on-task _ _ (c.in-Ok.ensures.renders at kept)
 
 pub tree::render_tree-returns-in-Err-clause-renders : goal.tree::render_tree-returns-in-Err-clause-renders
-tree::render_tree-returns-in-Err-clause-renders g t c = λ at. carries_on-task_over _ _ c.in-Err.e c.named.result
+tree::render_tree-returns-in-Err-clause-renders g t c = λ at kept. carries_on-task_over _ _ c.in-Err.e c.named.result
     (record {
       spot = λ other. c.named.ensures.spot other
           ∙ ap (λ (z : Tree). named_as (tree_name z) (spot_of c.in-Err.e)) (sym (tree_view-out c.args.template.now));
       cause = c.named.ensures.cause;
       memory = c.named.ensures.memory;
     })
-    (c.in-Err.ensures.renders at)
+    (c.in-Err.ensures.renders at kept)
 
 pub tree::render_whole-returns-in_err-enter-clause-renders : goal.tree::render_whole-returns-in_err-enter-clause-renders
-tree::render_whole-returns-in_err-enter-clause-renders g t c = λ at. carries-out_of_memory _ _ c.from_residual.result c.from_residual.ensures.1
+tree::render_whole-returns-in_err-enter-clause-renders g t c = λ at kept. carries-out_of_memory _ _ c.from_residual.result c.from_residual.ensures.1
 
 pub tree::render_whole-elements-init : goal.tree::render_whole-elements-init
-tree::render_whole-elements-init g t c = record { left = λ at. left_starts _ _ at _ _ _; kept = kept-refl _ }
+tree::render_whole-elements-init g t c = record { left = λ at kept. left_starts _ _ at _ _ _; kept = kept-refl _ }
 
 pub tree::render_whole-elements-preserved : goal.tree::render_whole-elements-preserved
 tree::render_whole-elements-preserved g t c = record {
-  left = λ at. left_goes _ _ at (map element_view c.deref-element-items.result.now) (map place_of c.args.template.now.mapping.items)
+  left = λ at kept. left_goes _ _ at (map element_view c.deref-element-items.result.now) (map place_of c.args.template.now.mapping.items)
       c.elements.index (element_view c.element-item.result) (element_view c.element-item.result) _ _ _
       (below-seen element_view c.deref-element-items.result.now c.elements.index c.elements-test.true)
       (get_or-seen element_view c.deref-element-items.result.now c.elements.index c.element-item.result c.element-item.is)
-      (c.elements.invariant.left at)
-      (c.in_default.ensures.renders (element_in at c.elements.index));
+      (c.elements.invariant.left at kept)
+      (c.in_default.ensures.renders (element_in at c.elements.index) kept);
   kept = kept-trans c.elements.invariant.kept c.in_default.ensures.kept;
 }
 
 pub tree::render_whole-returns-in-Err-clause-renders : goal.tree::render_whole-returns-in-Err-clause-renders
-tree::render_whole-returns-in-Err-clause-renders g t c = λ at.
+tree::render_whole-returns-in-Err-clause-renders g t c = λ at kept.
     let found = looked_up (λ m. m.now) c.deref.result.now c.elements.index _ c.get.result c.get.ensures.lookup.1 c.get.ensures.lookup.3
     ∙ ap (λ (z : List TemplateMapping). slice_get z c.elements.index) c.deref.ensures.value in
     let place = place_there c.args.template.now.mapping.items c.elements.index c.get.result found in
-    rw (tree_view-out c.args.template.now) (whole_with _ _ at _ _ _ c.in_ok-enter.ensures.ok (rw (sym c.deref-element-items.ensures.value)
+    rw (tree_view-out c.args.template.now) (whole_with _ _ at _ _ _ (ap (keeping kept) c.in_ok-enter.ensures.ok) (rw (sym c.deref-element-items.ensures.value)
     (left_over _ _ at (map element_view c.deref-element-items.result.now) (map place_of c.args.template.now.mapping.items)
     c.elements.index (element_view c.element-item.result) (element_view c.element-item.result) _ _ _ c.in-Err.e c.placed.result
     (below-seen element_view c.deref-element-items.result.now c.elements.index c.elements-test.true)
     (get_or-seen element_view c.deref-element-items.result.now c.elements.index c.element-item.result c.element-item.is)
-    (c.elements.invariant.left at)
+    (c.elements.invariant.left at kept)
     (placed_marks _ _ _ _ _ (c.placed.ensures.spot ∙ ap (λ (z : Option Place). placed_at z (spot_of c.in-Err.e)) place) c.placed.ensures.cause)
-    (c.in-Err.ensures.renders (element_in at c.elements.index)))))
+    (c.in-Err.ensures.renders (element_in at c.elements.index) kept))))
 
 pub tree::render_whole-returns-in-Err-clause-kept : goal.tree::render_whole-returns-in-Err-clause-kept
 tree::render_whole-returns-in-Err-clause-kept g t c = kept-trans c.in_ok-enter.ensures.kept (kept-trans c.elements.invariant.kept c.in-Err.ensures.kept)
 
 pub tree::render_whole-returns-clause-renders : goal.tree::render_whole-returns-clause-renders
-tree::render_whole-returns-clause-renders g t c = λ at.
-    rw (tree_view-out c.args.template.now) (whole_with _ _ at _ _ _ c.in_ok-enter.ensures.ok (rw (sym c.deref-element-items.ensures.value)
+tree::render_whole-returns-clause-renders g t c = λ at kept.
+    rw (tree_view-out c.args.template.now) (whole_with _ _ at _ _ _ (ap (keeping kept) c.in_ok-enter.ensures.ok) (rw (sym c.deref-element-items.ensures.value)
     (left_ends _ _ at (map element_view c.deref-element-items.result.now) (map place_of c.args.template.now.mapping.items) c.elements.index _ _
-    (over-seen element_view c.deref-element-items.result.now c.elements.index c.elements-test.false) (c.elements.invariant.left at))))
+    (over-seen element_view c.deref-element-items.result.now c.elements.index c.elements-test.false) (c.elements.invariant.left at kept))))
 
 pub tree::render_whole-returns-clause-kept : goal.tree::render_whole-returns-clause-kept
 tree::render_whole-returns-clause-kept g t c = kept-trans c.in_ok-enter.ensures.kept c.elements.invariant.kept
@@ -219,67 +220,67 @@ tree::render_whole-returns-clause-kept g t c = kept-trans c.in_ok-enter.ensures.
 -- ---- blocks of scope
 
 pub each::render_with-returns-in_err-variables-clause-renders : goal.each::render_with-returns-in_err-variables-clause-renders
-each::render_with-returns-in_err-variables-clause-renders g t c = λ site block v.
+each::render_with-returns-in_err-variables-clause-renders g t c = λ site kept block v.
     carries_on-out_of_memory _ _ c.from_residual.result c.from_residual.ensures.1
 
 pub each::render_with-returns-in_err-block-clause-renders : goal.each::render_with-returns-in_err-block-clause-renders
-each::render_with-returns-in_err-block-clause-renders g t c = λ site block v.
+each::render_with-returns-in_err-block-clause-renders g t c = λ site kept block v.
     carries_on-out_of_memory _ _ c.from_residual-in_err-block.result c.from_residual-in_err-block.ensures.1
 
 pub each::render_with-returns-in_err-push_block-clause-renders : goal.each::render_with-returns-in_err-push_block-clause-renders
-each::render_with-returns-in_err-push_block-clause-renders g t c = λ site block v.
+each::render_with-returns-in_err-push_block-clause-renders g t c = λ site kept block v.
     carries_on-out_of_memory _ _ c.from_residual-in_err-push_block.result c.from_residual-in_err-push_block.ensures.1
 
 pub each::render_with-returns-clause-renders : goal.each::render_with-returns-clause-renders
-each::render_with-returns-clause-renders g t c = λ site block v.
+each::render_with-returns-clause-renders g t c = λ site kept block v.
     carries_on-with _ _ site (helper_call block (call_view c.args.helper.now) v) (base_view c.args.base)
-    (entered-with (base_view c.args.base) c.in_ok-push_block.ensures.ok c.in_ok-block.ensures
-    (binding-seen c.args.helper.now c.as_ref.result c.as_ref.ensures.value) c.in_ok-variables.ensures)
-    c.pop_block.ensures.state (c.render_body-answer.ensures.renders site 0 block v)
+    (ap (keeping kept) (entered-with (base_view c.args.base) c.in_ok-push_block.ensures.ok c.in_ok-block.ensures
+    (binding-seen c.args.helper.now c.as_ref.result c.as_ref.ensures.value) c.in_ok-variables.ensures))
+    (ap (keeping kept) c.pop_block.ensures.state) (c.render_body-answer.ensures.renders site kept 0 block v)
 
 pub each::render_each-returns-in_err-push_block-clause-renders : goal.each::render_each-returns-in_err-push_block-clause-renders
-each::render_each-returns-in_err-push_block-clause-renders g t c = λ site block v.
+each::render_each-returns-in_err-push_block-clause-renders g t c = λ site kept block v.
     carries_on-out_of_memory _ _ c.from_residual.result c.from_residual.ensures.1
 
 pub each::render_each-returns-clause-renders : goal.each::render_each-returns-clause-renders
-each::render_each-returns-clause-renders g t c = λ site block v.
+each::render_each-returns-clause-renders g t c = λ site kept block v.
     carries_on-in_block _ _ empty_frame _
-    (c.in_ok-push_block.ensures.ok ∙ ap (λ (f : Frame). entered f (state_of c.args.rc.now)) c.new.ensures)
-    c.pop_block.ensures.state (c.take_turns-answer.ensures.renders site block v)
+    (ap (keeping kept) (c.in_ok-push_block.ensures.ok ∙ ap (λ (f : Frame). entered f (state_of c.args.rc.now)) c.new.ensures))
+    (ap (keeping kept) c.pop_block.ensures.state) (c.take_turns-answer.ensures.renders site kept block v)
 
 -- ---- turns
 
 pub each::take_turns-returns-in_err-set_up_turn-clause-renders : goal.each::take_turns-returns-in_err-set_up_turn-clause-renders
-each::take_turns-returns-in_err-set_up_turn-clause-renders g t c = λ site block v.
+each::take_turns-returns-in_err-set_up_turn-clause-renders g t c = λ site kept block v.
     turns-no_memory _ _ site c.turns.invariant.number (helper_call block (call_view c.args.helper.now) v) (path_view c.args.path) _ _ c.from_residual.result
-    c.in-Some.ensures (c.turns.invariant.left site block v) c.from_residual.ensures.1
+    c.in-Some.ensures (c.turns.invariant.left site kept block v) c.from_residual.ensures.1
 
 pub each::take_turns-returns-in-Err-clause-renders : goal.each::take_turns-returns-in-Err-clause-renders
-each::take_turns-returns-in-Err-clause-renders g t c = λ site block v.
+each::take_turns-returns-in-Err-clause-renders g t c = λ site kept block v.
     turns-over _ _ site c.turns.invariant.number (helper_call block (call_view c.args.helper.now) v) (path_view c.args.path) _
-    c.in-Some.ensures (c.turns.invariant.left site block v)
+    c.in-Some.ensures (c.turns.invariant.left site kept block v)
     (carries_on-turn _ _ site c.turns.invariant.number (helper_call block (call_view c.args.helper.now) v) (path_view c.args.path) (turn_view c.in-Some.turn)
-    (rw (sym (binding-seen c.args.helper.now c.as_ref.result c.as_ref.ensures.value)) c.in_ok-set_up_turn.ensures.ok)
-    (c.in-Err.ensures.renders site c.turns.invariant.number block v))
+    (rw (sym (binding-seen c.args.helper.now c.as_ref.result c.as_ref.ensures.value)) (ap (keeping kept) c.in_ok-set_up_turn.ensures.ok))
+    (c.in-Err.ensures.renders site kept c.turns.invariant.number block v))
 
 pub each::take_turns-turns-init : goal.each::take_turns-turns-init
 each::take_turns-turns-init g t c =
-    record { number = 0; left = λ site block v next r last d. d; outer = outer-kept (kept-refl _) }
+    record { number = 0; left = λ site kept block v next r last d. d; outer = outer-kept (kept-refl _) }
 
 pub each::take_turns-turns-preserved : goal.each::take_turns-turns-preserved
 each::take_turns-turns-preserved g t c = record {
   number = c.turns.invariant.number + 1;
-  left = λ site block v.
+  left = λ site kept block v.
       turns-go _ _ site c.turns.invariant.number (helper_call block (call_view c.args.helper.now) v) (path_view c.args.path) _
-      c.in-Some.ensures (c.turns.invariant.left site block v)
+      c.in-Some.ensures (c.turns.invariant.left site kept block v)
       (carries_on-turn _ _ site c.turns.invariant.number (helper_call block (call_view c.args.helper.now) v) (path_view c.args.path) (turn_view c.in-Some.turn)
-      (rw (sym (binding-seen c.args.helper.now c.as_ref.result c.as_ref.ensures.value)) c.in_ok-set_up_turn.ensures.ok)
-      (c.in_default-render_body.ensures.renders site c.turns.invariant.number block v));
+      (rw (sym (binding-seen c.args.helper.now c.as_ref.result c.as_ref.ensures.value)) (ap (keeping kept) c.in_ok-set_up_turn.ensures.ok))
+      (c.in_default-render_body.ensures.renders site kept c.turns.invariant.number block v));
   outer = outer-trans c.turns.invariant.outer
       (outer-trans c.in_ok-set_up_turn.ensures.outer (outer-kept c.in_default-render_body.ensures.kept));
 }
 
 pub each::take_turns-returns-clause-renders : goal.each::take_turns-returns-clause-renders
-each::take_turns-returns-clause-renders g t c = λ site block v.
+each::take_turns-returns-clause-renders g t c = λ site kept block v.
     turns-end _ _ site c.turns.invariant.number (helper_call block (call_view c.args.helper.now) v) (path_view c.args.path) _
-    c.in_default.ensures (c.turns.invariant.left site block v)
+    c.in_default.ensures (c.turns.invariant.left site kept block v)

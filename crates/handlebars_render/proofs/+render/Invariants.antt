@@ -5,6 +5,7 @@ use Rattle.handlebars_meaning.specs.Sites.{TreeSite, Site}
 use Rattle.handlebars_helpers.specs.CallView.{CallView}
 use Rattle.handlebars_helpers.specs.View.{path_view, turns_left}
 use Rattle.handlebars_meaning.specs.CarryOut.{helper_call}
+use Rattle.handlebars_meaning.specs.State.{Kept}
 use Rattle.handlebars_render.specs.View.{setting_in, moment, HasOuter, IsKept}
 use Rattle.handlebars_render.proofs.Elements.{Left}
 use Rattle.handlebars_render.proofs.Turns.{TurnsLeft}
@@ -12,18 +13,18 @@ use Rattle.handlebars_render.proofs.+render.Given as goal
 
 abbrev pub invariant-tree::render_whole-elements : goal.invariant-tree::render_whole-elements
 invariant-tree::render_whole-elements g l = record {
-  left : (at : TreeSite) → Left (setting_in g.P.Registered.parts l.setting) g.O.Output.may_give at (map element_view l.element-items)
+  left : (at : TreeSite) (kept : Kept) → Left (setting_in g.P.Registered.parts l.setting) g.O.Output.may_give at (map element_view l.element-items)
       (map place_of (out-Template l.template).mapping.items) l.index
-      (moment l.initial.rc (g.O.Output.held l.initial.out)) (moment l.rc (g.O.Output.held l.out));
+      (moment kept l.initial.rc (g.O.Output.held l.initial.out)) (moment kept l.rc (g.O.Output.held l.out));
   kept : IsKept l.initial.rc l.rc;
 }
 
 abbrev pub invariant-each::take_turns-turns : goal.invariant-each::take_turns-turns
 invariant-each::take_turns-turns g l = record {
   number : ℕ;
-  left : (site : Site) (block : Bool) (v : CallView) → TurnsLeft (setting_in g.P.Registered.parts l.setting) g.O.Output.may_give
+  left : (site : Site) (kept : Kept) (block : Bool) (v : CallView) → TurnsLeft (setting_in g.P.Registered.parts l.setting) g.O.Output.may_give
       site number (helper_call block (call_view l.helper) v) (path_view l.path) (turns_left l.initial.left) (turns_left l.left)
-      (moment l.initial.rc (g.O.Output.held l.initial.out)) (moment l.rc (g.O.Output.held l.out));
+      (moment kept l.initial.rc (g.O.Output.held l.initial.out)) (moment kept l.rc (g.O.Output.held l.out));
   outer : HasOuter l.initial.rc l.rc;
 }
 

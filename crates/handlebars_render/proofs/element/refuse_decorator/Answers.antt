@@ -8,11 +8,11 @@ use Rattle.handlebars_render.proofs.Calls.{gives_tag, refuses_named, refuses_tag
 use Rattle.handlebars_render.proofs.element.refuse_decorator.Goals as goal
 
 pub returns-in-Ok : goal.returns-in-Ok
-returns-in-Ok g c = λ other. refuses_named _
+returns-in-Ok g c = λ kept other. refuses_named _
     (ask (view_of (decorator_name (decorator_view c.args.tag.now)) (decorator_args (decorator_view c.args.tag.now))))
     (λ n. decorator_not_found n) (called_view c.in-Ok.view) c.no_decorator.result
-    (gives_tag _ (decorator_view c.args.tag.now) (called_view c.in-Ok.view) c.in-Ok.ensures)
+    (gives_tag _ (decorator_view c.args.tag.now) (called_view c.in-Ok.view) (c.in-Ok.ensures kept))
     (rw c.into_name.ensures at c.no_decorator.ensures) other
 
 pub returns-in-Err : goal.returns-in-Err
-returns-in-Err g c = λ other. refuses_tag _ (decorator_view c.args.tag.now) (λ n. decorator_not_found n) (c.in-Err.ensures other)
+returns-in-Err g c = λ kept other. refuses_tag _ (decorator_view c.args.tag.now) (λ n. decorator_not_found n) (c.in-Err.ensures kept other)

@@ -8,18 +8,18 @@ use Rattle.handlebars_render.proofs.Leaves.{leaves-hook, gives-nothing, refuses-
 use Rattle.handlebars_render.proofs.next.settle_missing.Goals as goal
 
 pub returns-then-strict : goal.returns-then-strict
-returns-then-strict g c = λ site.
+returns-then-strict g c = λ site kept.
     refuses-missing _ site (call_view c.args.helper.now) (name_alone (cow_str_bytes c.args.name)) _ c.missing_variable.result
     c.if-strict.ensures (call_name-view c.args.helper.now) c.missing_variable.ensures
 
 pub returns-in-Some : goal.returns-in-Some
-returns-in-Some g c = λ site.
+returns-in-Some g c = λ site kept.
     leaves-hook _ site (call_view c.args.helper.now) (cow_str_bytes c.args.name) (kind_of c.in-Some.kind) (called_view c.alone.result)
     c.if-strict.ensures (c.in-Some.ensures ∙ ap (g.P.Registered.parts c.args.setting.now.parts.now).helper c.hook.ensures)
     c.alone.ensures
 
 pub returns : goal.returns
-returns g c = λ site. (
+returns g c = λ site kept. (
   gives-nothing _ site (call_view c.args.helper.now) (name_alone (cow_str_bytes c.args.name)) c.if-strict.ensures
       (c.in-None.ensures ∙ ap (g.P.Registered.parts c.args.setting.now.parts.now).helper c.hook.ensures),
   c.line.ensures,

@@ -6,13 +6,13 @@ use Rattle.handlebars_render.proofs.Leaves.{comes_to-leaves, comes_to-settles, l
 use Rattle.handlebars_render.proofs.next.settle_value.Goals as goal
 
 pub returns-in-Ok-Some : goal.returns-in-Ok-Some
-returns-in-Ok-Some g c = λ made site.
-    rw c.in-Ok-Some.field-0-is at (c.in-Ok-Some.ensures made site (name_alone (cow_str_bytes c.args.lone.name)))
+returns-in-Ok-Some g c = λ kept made site.
+    rw c.in-Ok-Some.field-0-is at (c.in-Ok-Some.ensures kept made site (name_alone (cow_str_bytes c.args.lone.name)))
 
 pub returns-in-Ok-None : goal.returns-in-Ok-None
-returns-in-Ok-None g c = λ made site.
+returns-in-Ok-None g c = λ kept made site.
     let alone = name_alone (cow_str_bytes c.args.lone.name) in
-    let lacks = rw c.in-Ok-None.field-0-is at (c.in-Ok-None.ensures made site alone) in
+    let lacks = rw c.in-Ok-None.field-0-is at (c.in-Ok-None.ensures kept made site alone) in
     comes_to-leaves _ _ site false (call_view c.args.helper.now) _ _ _ _ _ c.settle_missing.result
     (leaves-missing _ site (call_view c.args.helper.now) alone lacks.0)
-    (comes_to-settles _ _ site false (call_view c.args.helper.now) _ _ _ _ c.settle_missing.result lacks.1 (c.settle_missing.ensures site))
+    (comes_to-settles _ _ site false (call_view c.args.helper.now) _ _ _ _ c.settle_missing.result lacks.1 (c.settle_missing.ensures site kept))

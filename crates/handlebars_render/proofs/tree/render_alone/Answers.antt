@@ -1,7 +1,0 @@
-use Rattle.std.proofs.Common.{refl}
-use Rattle.handlebars_meaning.specs.Sites.{first_tree, element_in}
-use Rattle.handlebars_render.proofs.Carry.{carries-only}
-use Rattle.handlebars_render.proofs.tree.render_alone.Goals as goal
-
-pub returns-clause-renders : goal.returns-clause-renders
-returns-clause-renders g c = carries-only _ _ c.render_element.result (λ spot. refl) (c.render_element.ensures.renders (element_in first_tree 0))
