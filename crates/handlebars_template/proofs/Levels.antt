@@ -1,7 +1,7 @@
 -- The views, one level at a time.
 use Rattle.std.proofs.Common.{◌≡◌, ◌&&◌, suc, ◌==◌, List, [], ◌∷◌, length, option_map, refl, sym, ap, ◌∙◌, rules, arith, Box, Global, String}
 use Rattle.std.proofs.lemmas.Bool.{ne_eqb}
-use Rattle.handlebars_template.specs.Tree.{call_name, call_params, call_pairs, call_binding, call_body, call_inverse, call_marks, decorator_name, decorator_params, decorator_pairs, decorator_body, decorator_marks, lacks_params, lacks_pairs, is_value, html_expression, expression, helper_block, decorator_expression, decorator_block, partial_expression, partial_block, comment, raw_string, path, literal, subexpression}
+use Rattle.handlebars_template.specs.Tree.{call_name, call_params, call_pairs, call_binding, call_body, call_inverse, call_marks, decorator_name, decorator_params, decorator_pairs, decorator_body, decorator_marks, lacks_params, lacks_pairs, is_value, html_expression, expression, helper_block, decorator_expression, decorator_block, partial_expression, partial_block, comment, raw_string, name, path, literal, subexpression}
 use Rattle.handlebars_template.specs.TreeView.{text, element_view, call_view, decorator_view, param_view, params_view, pairs_view, body_view, block_param_view, subexpression_view}
 use Rattle.handlebars_template.specs.declared.template.tree.BlockParam.{the_lemmas}
 use Rattle.handlebars_template.specs.declared.template.tree.BlockParam.TheViews.{roll-Subexpression}
@@ -69,6 +69,9 @@ pub call_marks-view : (h : HelperTemplate) → call_marks (call_view h)
 call_marks-view h = search (rules, the_lemmas)
 
 -- ---- parameters
+
+pub param_view-Name : (s : String Global) → param_view (parameter.Name s) ≡ name (text s)
+param_view-Name s = search (rules, the_lemmas)
 
 pub param_view-Path : (p : Path) → param_view (parameter.Path p) ≡ path (reference_of p)
 param_view-Path p = search (rules, the_lemmas)

@@ -4,7 +4,7 @@ use borrow.Author.Tests.{ltb-false}
 use Rattle.handlebars_base.specs.Bytes.{Text}
 use Rattle.handlebars_template.specs.Place.{Place}
 use Rattle.handlebars_template.specs.Calls.{max_nesting}
-use Rattle.handlebars_template.specs.Nest.{Opening, chains, closes, Placed, syntax_alone, in_branch, Frame}
+use Rattle.handlebars_template.specs.Nest.{is_raw, Opening, chains, closes, Placed, syntax_alone, in_branch, Frame}
 use Rattle.handlebars_template.specs.Machine.{goes, MayGo, next_stage, closed, chaining, is_same_kind, closing, apply}
 
 one_deeper : (d n e : ℕ) → (d < max_nesting → e ≡ suc d) → nat_lt max_nesting (suc d + n) ≡ false → suc d ≡ e
@@ -34,6 +34,6 @@ pub closes-goes : (p : Place) (raw : Bool) (m : Text) (d : ℕ) (f : Frame) (all
     → all ≡ f ∷ fs → done ≡ f.outside ++ closed f es ∷ []
     → MayGo (apply syntax_alone (closes p raw m) d all es) → apply syntax_alone (closes p raw m) d all es ≡ goes f.around fs done
 closes-goes p raw m d f all fs es done front made may =
-    let same : apply syntax_alone (closes p raw m) d all es ≡ closing m (is_same_kind f.opening.is_raw raw) true p f fs es =
+    let same : apply syntax_alone (closes p raw m) d all es ≡ closing m (is_same_kind (is_raw f.opening.kind) raw) true p f fs es =
     ap (λ (z : List Frame). apply syntax_alone (closes p raw m) d z es) front in
-    same ∙ closing-goes m (is_same_kind f.opening.is_raw raw) p f fs es (subst MayGo same may) ∙ ap (goes f.around fs) (sym made)
+    same ∙ closing-goes m (is_same_kind (is_raw f.opening.kind) raw) p f fs es (subst MayGo same may) ∙ ap (goes f.around fs) (sym made)

@@ -6,7 +6,7 @@ use Rattle.handlebars_base.specs.Bytes.{Text}
 use Rattle.handlebars_template.specs.Place.{Place}
 use Rattle.handlebars_template.specs.Tree.{Body}
 use Rattle.handlebars_template.specs.Calls.{max_nesting}
-use Rattle.handlebars_template.specs.Nest.{Opening, Piece, opens, turns, chains, closes, Fault, unexpected, too_deep, mismatched, no_value, Placed, Branch, block_of, Test, syntax_alone, names_and_literals, may_close, may_stand, Nests, nothing, a_leaf, a_block, Chains, no_more, a_branch, Turns, no_inverse, an_inverse, Stage, in_first, in_branch, in_inverse, Frame, Inside, in_its_body, in_a_branch, in_its_inverse, Opens, none_open, one_more, RefusesAt, deep_leaf, worthless_leaf, deep_block, worthless_block, stray_inverse, second_inverse, stray_chain, late_chain, deep_chain, worthless_chain, stray_close, empty_close, other_close, other_name, Refuses, refuses_at}
+use Rattle.handlebars_template.specs.Nest.{is_raw, Opening, Piece, opens, turns, chains, closes, Fault, unexpected, too_deep, mismatched, no_value, Placed, Branch, block_of, Test, syntax_alone, names_and_literals, may_close, may_stand, Nests, nothing, a_leaf, a_block, Chains, no_more, a_branch, Turns, no_inverse, an_inverse, Stage, in_first, in_branch, in_inverse, Frame, Inside, in_its_body, in_a_branch, in_its_inverse, Opens, none_open, one_more, RefusesAt, deep_leaf, worthless_leaf, deep_block, worthless_block, stray_inverse, second_inverse, stray_chain, late_chain, deep_chain, worthless_chain, stray_close, empty_close, other_close, other_name, Refuses, refuses_at}
 use Rattle.handlebars_template.specs.Machine.{closed, next_stage, Moved, goes, stops, valued, checked, turning, chaining, is_same_kind, closing, apply}
 
 abbrev go_on : Moved → (ℕ → List Frame → List Placed → Moved) → Moved
@@ -58,7 +58,7 @@ closing-named : (m : Text) (p : Place) (f : Frame) (fs : List Frame) (es : List 
 closing-named [] p f fs es some = absurd (some refl)
 closing-named (b ∷ m) p f fs es some = refl
 
-closing-other : (m : Text) (p : Place) (f : Frame) (fs : List Frame) (es : List Placed) → m ≢ [] → closing m true false p f fs es ≡ stops (mismatched f.opening.name m p)
+closing-other : (m : Text) (p : Place) (f : Frame) (fs : List Frame) (es : List Placed) → m ≢ [] → closing m true false p f fs es ≡ stops (mismatched f.opening.kind f.opening.closing m p)
 closing-other [] p f fs es some = absurd (some refl)
 closing-other (b ∷ m) p f fs es some = refl
 
@@ -78,11 +78,11 @@ module _ (t : Test) (xs : List Piece) where
   begins p o n r d fs out fits fair =
       on _ (goes (suc d) (frame p o d [] [] in_first out ∷ fs) []) (checked-fits t p r (goes (suc d) (frame p o d [] [] in_first out ∷ fs) []) (suc d + n) fits fair)
 
-  ends : (q : Place) (m : Text) (d : ℕ) (f : Frame) (fs : List Frame) (es : List Placed) → m ≢ [] → may_close t f.opening.name m ≡ true
-      → run t (closes q f.opening.is_raw m ∷ xs) d (f ∷ fs) es ≡ run t xs f.around fs (f.outside ++ (closed f es ∷ []))
+  ends : (q : Place) (m : Text) (d : ℕ) (f : Frame) (fs : List Frame) (es : List Placed) → m ≢ [] → may_close t f.opening.closing m ≡ true
+      → run t (closes q (is_raw f.opening.kind) m ∷ xs) d (f ∷ fs) es ≡ run t xs f.around fs (f.outside ++ (closed f es ∷ []))
   ends q m d f fs es some named =
       on _ (goes f.around fs (f.outside ++ (closed f es ∷ [])))
-      (ap (λ (b : Bool). closing m b (may_close t f.opening.name m) q f fs es) (is_same_kind-self f.opening.is_raw)
+      (ap (λ (b : Bool). closing m b (may_close t f.opening.closing m) q f fs es) (is_same_kind-self (is_raw f.opening.kind))
       ∙ ap (λ (b : Bool). closing m true b q f fs es) named ∙ closing-named m q f fs es some)
 
   branches : (q : Place) (n : ℕ) (r : Option Text) (d : ℕ) (f : Frame) (fs : List Frame) → suc d + n ≤ max_nesting → may_stand t r ≡ true
@@ -122,11 +122,11 @@ mutual
       on t (ps ++ rest) _ (goes d fs (out ++ (record { place = p; element = e } ∷ []))) (checked-fits t p r (goes d fs (out ++ (record { place = p; element = e } ∷ []))) (d + n) fits fair)
       ∙ Nests-run h rest fs (out ++ (record { place = p; element = e } ∷ [])) ∙ ap (run t rest d fs) (append_assoc out (record { place = p; element = e } ∷ []) es)
   Nests-run {t} {d} (a_block {e = e} {bs = bs} {cs = cs} {ls = ls} {ps = ps} {first = first} {es = es} {branches = brs} {last = last} p q o n r m fits fair some named nb ch la h) rest fs out =
-      begins t ((bs ++ (cs ++ (ls ++ (closes q o.is_raw m ∷ ps)))) ++ rest) p o n r d fs out fits fair
-      ∙ along t ((bs ++ (cs ++ (ls ++ (closes q o.is_raw m ∷ ps)))) ++ rest) (bs ++ (cs ++ (ls ++ (closes q o.is_raw m ∷ (ps ++ rest))))) (suc d) (frame p o d [] [] in_first out ∷ fs) [] (simp append_assoc)
-      ∙ Nests-run nb (cs ++ (ls ++ (closes q o.is_raw m ∷ (ps ++ rest)))) (frame p o d [] [] in_first out ∷ fs) []
-      ∙ Chains-run ch (ls ++ (closes q o.is_raw m ∷ (ps ++ rest))) p o d out fs first
-      ∙ at_chain t (ls ++ (closes q o.is_raw m ∷ (ps ++ rest))) e p o d out fs first (whole t (ps ++ rest) p o d out fs first last)
+      begins t ((bs ++ (cs ++ (ls ++ (closes q (is_raw o.kind) m ∷ ps)))) ++ rest) p o n r d fs out fits fair
+      ∙ along t ((bs ++ (cs ++ (ls ++ (closes q (is_raw o.kind) m ∷ ps)))) ++ rest) (bs ++ (cs ++ (ls ++ (closes q (is_raw o.kind) m ∷ (ps ++ rest))))) (suc d) (frame p o d [] [] in_first out ∷ fs) [] (simp append_assoc)
+      ∙ Nests-run nb (cs ++ (ls ++ (closes q (is_raw o.kind) m ∷ (ps ++ rest)))) (frame p o d [] [] in_first out ∷ fs) []
+      ∙ Chains-run ch (ls ++ (closes q (is_raw o.kind) m ∷ (ps ++ rest))) p o d out fs first
+      ∙ at_chain t (ls ++ (closes q (is_raw o.kind) m ∷ (ps ++ rest))) e p o d out fs first (whole t (ps ++ rest) p o d out fs first last)
       (λ before g xs. Turns-run-branch la m q p o some named d out fs first before g xs (ps ++ rest)) (Turns-run-first la m q p o some named d out fs first (ps ++ rest)) brs
       ∙ Nests-run h rest fs (out ++ (record { place = p; element = block_of o first brs last } ∷ []))
       ∙ ap (run t rest d fs) (append_assoc out (record { place = p; element = block_of o first brs last } ∷ []) es)
@@ -149,17 +149,17 @@ mutual
       ∙ Nests-run nb (cs ++ rest) (frame p o d first (before ++ (branch g es ∷ [])) (in_branch k) out ∷ fs) []
       ∙ Chains-run-more ch rest p o d out fs first (before ++ (branch g es ∷ [])) k xs
 
-  Turns-run-first : {t : Test} {e : ℕ} {ls : List Piece} {last : Body} → Turns t e ls last → (m : Text) (q p : Place) (o : Opening) → m ≢ [] → may_close t o.name m ≡ true → (d : ℕ) (out : List Placed) (fs : List Frame) (first : List Placed) (rest : List Piece)
-      → run t (ls ++ (closes q o.is_raw m ∷ rest)) e (frame p o d [] [] in_first out ∷ fs) first ≡ whole t rest p o d out fs first last []
+  Turns-run-first : {t : Test} {e : ℕ} {ls : List Piece} {last : Body} → Turns t e ls last → (m : Text) (q p : Place) (o : Opening) → m ≢ [] → may_close t o.closing m ≡ true → (d : ℕ) (out : List Placed) (fs : List Frame) (first : List Placed) (rest : List Piece)
+      → run t (ls ++ (closes q (is_raw o.kind) m ∷ rest)) e (frame p o d [] [] in_first out ∷ fs) first ≡ whole t rest p o d out fs first last []
   Turns-run-first {t} {e} no_inverse m q p o some named d out fs first rest = ends t rest q m e (frame p o d [] [] in_first out) fs first some named
   Turns-run-first {t} {e} (an_inverse {es = es} r nb) m q p o some named d out fs first rest =
-      Nests-run nb (closes q o.is_raw m ∷ rest) (frame p o d first [] in_inverse out ∷ fs) [] ∙ ends t rest q m e (frame p o d first [] in_inverse out) fs es some named
+      Nests-run nb (closes q (is_raw o.kind) m ∷ rest) (frame p o d first [] in_inverse out ∷ fs) [] ∙ ends t rest q m e (frame p o d first [] in_inverse out) fs es some named
 
-  Turns-run-branch : {t : Test} {e : ℕ} {ls : List Piece} {last : Body} → Turns t e ls last → (m : Text) (q p : Place) (o : Opening) → m ≢ [] → may_close t o.name m ≡ true → (d : ℕ) (out : List Placed) (fs : List Frame) (first : List Placed) (before : List Branch) (g : Opening) (es : List Placed) (rest : List Piece)
-      → run t (ls ++ (closes q o.is_raw m ∷ rest)) e (frame p o d first before (in_branch g) out ∷ fs) es ≡ whole t rest p o d out fs first last (before ++ (branch g es ∷ []))
+  Turns-run-branch : {t : Test} {e : ℕ} {ls : List Piece} {last : Body} → Turns t e ls last → (m : Text) (q p : Place) (o : Opening) → m ≢ [] → may_close t o.closing m ≡ true → (d : ℕ) (out : List Placed) (fs : List Frame) (first : List Placed) (before : List Branch) (g : Opening) (es : List Placed) (rest : List Piece)
+      → run t (ls ++ (closes q (is_raw o.kind) m ∷ rest)) e (frame p o d first before (in_branch g) out ∷ fs) es ≡ whole t rest p o d out fs first last (before ++ (branch g es ∷ []))
   Turns-run-branch {t} {e} no_inverse m q p o some named d out fs first before g es rest = ends t rest q m e (frame p o d first before (in_branch g) out) fs es some named
   Turns-run-branch {t} {e} (an_inverse {es = xs} r nb) m q p o some named d out fs first before g es rest =
-      Nests-run nb (closes q o.is_raw m ∷ rest) (frame p o d first (before ++ (branch g es ∷ [])) in_inverse out ∷ fs) []
+      Nests-run nb (closes q (is_raw o.kind) m ∷ rest) (frame p o d first (before ++ (branch g es ∷ [])) in_inverse out ∷ fs) []
       ∙ ends t rest q m e (frame p o d first (before ++ (branch g es ∷ [])) in_inverse out) fs xs some named
 
 -- ---- a block that is open
@@ -220,9 +220,9 @@ RefusesAt-apply {t} {d} (worthless_chain {f = f} {fs = fs} p o n raw away fits b
 RefusesAt-apply (stray_close p raw m) es = refl
 RefusesAt-apply (empty_close p raw) es = refl
 RefusesAt-apply {t} (other_close {f = f} {fs = fs} p raw m other) es =
-    ap (λ (b : Bool). closing m b (may_close t f.opening.name m) p f fs es) (is_same_kind-other f.opening.is_raw raw other) ∙ closing-kind m (may_close t f.opening.name m) p f fs es
+    ap (λ (b : Bool). closing m b (may_close t f.opening.closing m) p f fs es) (is_same_kind-other (is_raw f.opening.kind) raw other) ∙ closing-kind m (may_close t f.opening.closing m) p f fs es
 RefusesAt-apply {t} (other_name {f = f} {fs = fs} p m some other) es =
-    ap (λ (b : Bool). closing m b (may_close t f.opening.name m) p f fs es) (is_same_kind-self f.opening.is_raw)
+    ap (λ (b : Bool). closing m b (may_close t f.opening.closing m) p f fs es) (is_same_kind-self (is_raw f.opening.kind))
     ∙ ap (λ (b : Bool). closing m true b p f fs es) other ∙ closing-other m p f fs es some
 
 pub Refuses-run : {t : Test} {ps : List Piece} {f : Fault} → Refuses t ps f → run t ps 0 [] [] ≡ stops f

@@ -4,7 +4,7 @@ use Rattle.std.specs.Prelude.{⊤}
 use Rattle.std.specs.Str.{bytes_eq}
 use Rattle.handlebars_base.specs.Bytes.{Text}
 use Rattle.handlebars_template.specs.Place.{Place}
-use Rattle.handlebars_template.specs.Nest.{Piece, leaf, opens, turns, chains, closes, Fault, unexpected, not_closed, Placed, syntax_alone, names_and_literals, Nests, nothing, in_branch, Frame, Opens, none_open, Refuses, LeavesOpen, left_open}
+use Rattle.handlebars_template.specs.Nest.{is_raw, Piece, leaf, opens, turns, chains, closes, Fault, unexpected, not_closed, Placed, syntax_alone, names_and_literals, Nests, nothing, in_branch, Frame, Opens, none_open, Refuses, LeavesOpen, left_open}
 use Rattle.handlebars_template.specs.Machine.{next_stage, new_frame, Moved, goes, stops, checked, chaining, is_same_kind, closing, apply, late_literal, late_name, late_in, late_after}
 use Rattle.handlebars_template.proofs.NestsSteps.{Opens-step, Refuses-step, Refuses-append}
 
@@ -44,7 +44,7 @@ chaining_alike None b p r d fs = stops_alike (late_literal r) _
 chaining_alike (Some f) b p r d fs = checked_alike b p r (suc d) (f ∷ fs) []
 
 closing_alike : (m : Text) (alike named : Bool) (p : Place) (f : Frame) (fs : List Frame) (es : List Placed)
-    → Alike (late_name named f.opening.name m p) (closing m alike true p f fs es) (closing m alike named p f fs es)
+    → Alike (late_name named f.opening.kind f.opening.closing m p) (closing m alike true p f fs es) (closing m alike named p f fs es)
 closing_alike m alike true p f fs es = refl
 closing_alike [] alike false p f fs es = tt
 closing_alike (b ∷ m) false false p f fs es = tt
@@ -59,7 +59,7 @@ apply_alike (turns p) d (f ∷ fs) es = refl
 apply_alike (chains p o n r) d [] es = stops_alike (late_literal r) (unexpected p)
 apply_alike (chains p o n r) d (f ∷ fs) es = chaining_alike (next_stage f.stage f es (in_branch o)) _ p r d fs
 apply_alike (closes p raw m) d [] es = refl
-apply_alike (closes p raw m) d (f ∷ fs) es = closing_alike m (is_same_kind f.opening.is_raw raw) (bytes_eq f.opening.name m) p f fs es
+apply_alike (closes p raw m) d (f ∷ fs) es = closing_alike m (is_same_kind (is_raw f.opening.kind) raw) (bytes_eq f.opening.closing m) p f fs es
 
 -- ---- a step
 

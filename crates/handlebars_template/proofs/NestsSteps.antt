@@ -6,7 +6,7 @@ use Rattle.handlebars_base.specs.Bytes.{Text}
 use Rattle.handlebars_template.specs.Place.{Place}
 use Rattle.handlebars_template.specs.Tree.{Element}
 use Rattle.handlebars_template.specs.Calls.{max_nesting}
-use Rattle.handlebars_template.specs.Nest.{Opening, Piece, leaf, opens, turns, chains, closes, Fault, mismatched, no_value, Placed, Branch, Test, syntax_alone, names_and_literals, may_close, may_stand, Nests, nothing, a_leaf, a_block, Chains, no_more, a_branch, no_inverse, an_inverse, in_branch, in_inverse, Frame, Inside, in_its_body, in_a_branch, in_its_inverse, Opens, none_open, one_more, RefusesAt, deep_leaf, worthless_leaf, deep_block, worthless_block, stray_inverse, second_inverse, stray_chain, late_chain, deep_chain, worthless_chain, stray_close, empty_close, other_close, other_name, Refuses, refuses_at}
+use Rattle.handlebars_template.specs.Nest.{is_raw, Opening, Piece, leaf, opens, turns, chains, closes, Fault, mismatched, no_value, Placed, Branch, Test, syntax_alone, names_and_literals, may_close, may_stand, Nests, nothing, a_leaf, a_block, Chains, no_more, a_branch, no_inverse, an_inverse, in_branch, in_inverse, Frame, Inside, in_its_body, in_a_branch, in_its_inverse, Opens, none_open, one_more, RefusesAt, deep_leaf, worthless_leaf, deep_block, worthless_block, stray_inverse, second_inverse, stray_chain, late_chain, deep_chain, worthless_chain, stray_close, empty_close, other_close, other_name, Refuses, refuses_at}
 use Rattle.handlebars_template.specs.Machine.{closed, next_stage, new_frame, Moved, goes, stops, valued, checked, turning, chaining, is_same_kind, closing, apply}
 
 -- ---- along an equation
@@ -53,8 +53,8 @@ Opens-append (one_more o i) m = opens_at (one_more o (Inside-append i m)) (sym (
 -- ---- a close
 
 -- it makes a whole block
-Inside-closed : {t : Test} {f : Frame} {qs : List Piece} {d : ℕ} {es : List Placed} → (q : Place) (m : Text) → m ≢ [] → may_close t f.opening.name m ≡ true
-    → Inside t f qs d es → Nests t f.around (qs ++ (closes q f.opening.is_raw m ∷ [])) (closed f es ∷ [])
+Inside-closed : {t : Test} {f : Frame} {qs : List Piece} {d : ℕ} {es : List Placed} → (q : Place) (m : Text) → m ≢ [] → may_close t f.opening.closing m ≡ true
+    → Inside t f qs d es → Nests t f.around (qs ++ (closes q (is_raw f.opening.kind) m ∷ [])) (closed f es ∷ [])
 Inside-closed q m some named (in_its_body p x n r fits fair nb) = a_block p q x n r m fits fair some named nb no_more no_inverse nothing
 Inside-closed q m some named (in_a_branch p q' x g n k r u fits fair nb ch fits' fair' ng) =
     nests_at (a_block p q x n r m fits fair some named nb (Chains-append q' g k u ch fits' fair' ng) no_inverse nothing) (simp append_assoc) refl
@@ -124,15 +124,15 @@ other_kind false true e h = absurd cc
 other_kind false false e h = absurd cc
 
 after_close : {t : Test} {d : ℕ} {ps qs : List Piece} {f : Frame} {fs : List Frame} {es : List Placed} → (p : Place) (raw : Bool) (m : Text) (b c : Bool)
-    → is_same_kind f.opening.is_raw raw ≡ b → may_close t f.opening.name m ≡ c
+    → is_same_kind (is_raw f.opening.kind) raw ≡ b → may_close t f.opening.closing m ≡ c
     → Opens t f.around ps fs f.outside → Inside t f qs d es → After t (closing m b c p f fs es) (closes p raw m) d (f ∷ fs) (ps ++ qs)
 after_close p raw [] b c alike named o i = empty_close p raw
-after_close {f = f} p raw (k ∷ m) false c alike named o i = other_close p raw (k ∷ m) (other_kind f.opening.is_raw raw alike)
+after_close {f = f} p raw (k ∷ m) false c alike named o i = other_close p raw (k ∷ m) (other_kind (is_raw f.opening.kind) raw alike)
 after_close {t} {d} {f = f} {fs = fs} p raw (k ∷ m) true false alike named o i =
-    subst (λ (z : Bool). RefusesAt t d (f ∷ fs) (closes p z (k ∷ m)) (mismatched f.opening.name (k ∷ m) p)) (same_kind f.opening.is_raw raw alike)
+    subst (λ (z : Bool). RefusesAt t d (f ∷ fs) (closes p z (k ∷ m)) (mismatched f.opening.kind f.opening.closing (k ∷ m) p)) (same_kind (is_raw f.opening.kind) raw alike)
     (other_name p (k ∷ m) (λ e. cc) named)
 after_close {t} {ps = ps} {qs = qs} {f = f} {fs = fs} {es = es} p raw (k ∷ m) true true alike named o i =
-    subst (λ (z : Bool). Opens t f.around ((ps ++ qs) ++ (closes p z (k ∷ m) ∷ [])) fs (f.outside ++ (closed f es ∷ []))) (same_kind f.opening.is_raw raw alike)
+    subst (λ (z : Bool). Opens t f.around ((ps ++ qs) ++ (closes p z (k ∷ m) ∷ [])) fs (f.outside ++ (closed f es ∷ []))) (same_kind (is_raw f.opening.kind) raw alike)
     (opens_at (Opens-append o (Inside-closed p (k ∷ m) (λ e. cc) named i)) (sym (simp append_assoc)))
 
 after : {t : Test} {d : ℕ} {ps : List Piece} {fs : List Frame} {es : List Placed} → (x : Piece) → Opens t d ps fs es → After t (apply t x d fs es) x d fs ps

@@ -1,5 +1,5 @@
 -- What is built of tags, and what it stands for.
-use Rattle.std.proofs.Common.{◌≡◌, ℕ, Bool, false, refl, sym, ap, subst, ◌∙◌, rules, Option, option_map}
+use Rattle.std.proofs.Common.{◌≡◌, ℕ, Bool, refl, sym, ap, subst, ◌∙◌, rules, Option, option_map}
 use Rattle.std.specs.Prelude.{String}
 use Rattle.std.specs.declared.alloc.Global.{Global}
 use Rattle.handlebars_base.specs.Bytes.{Text}
@@ -9,10 +9,10 @@ use Rattle.handlebars_tags.specs.Trim.{Edge}
 use Rattle.handlebars_tags.specs.TagView.{HoldsLine, HoldsBlock, IsBlockSlice}
 use Rattle.handlebars_tags.specs.declared.tag.inside.BlockSlice.{BlockSlice}
 use Rattle.handlebars_template.specs.Place.{Place}
-use Rattle.handlebars_template.specs.Tree.{Element, Binding, Params, Pairs, args, name, both}
+use Rattle.handlebars_template.specs.Tree.{Element, Binding, Param, Params, Pairs, args, name, both}
 use Rattle.handlebars_template.specs.TreeView.{text, binding_view}
 use Rattle.handlebars_template.specs.Calls.{call_of, first_refused, line_literals}
-use Rattle.handlebars_template.specs.Nest.{Opening as Said, Piece, leaf, opens, chains}
+use Rattle.handlebars_template.specs.Nest.{BlockKind, helper_opening, Opening as Said, Piece, leaf, opens, chains}
 use Rattle.handlebars_template.specs.NestView.{opening_view, moved, Looks, Does}
 use Rattle.handlebars_template.specs.Compile.{opening_of, tag_piece}
 use Rattle.handlebars_template.specs.ScanView.{value_element, value_piece, block_piece, chain_piece, Opening}
@@ -26,12 +26,13 @@ use Rattle.handlebars_template.specs.declared.template.tree.BlockParam.TheBlock.
 pub binding_view-Pair : (x y : String Global) → binding_view (Pair (Name x, Name y)) ≡ both (name (text x)) (name (text y))
 binding_view-Pair x y = search (rules, the_lemmas)
 
-abbrev pub said : Text → Bool → Params → Pairs → Binding → Bool → Said
-said n raw ps hs b indent = record { name = n; is_raw = raw; arguments = args ps hs; binding = b; indent = indent }
+abbrev pub said : BlockKind → Param → Text → Params → Pairs → Binding → Bool → Said
+said k p closing ps hs b indent =
+    record { kind = k; name = p; closing = closing; arguments = args ps hs; binding = b; indent = indent }
 
-pub said-along : (n m : Text) (raw : Bool) (ps qs : Params) (hs gs : Pairs) (b c : Binding) (i j : Bool) → n ≡ m → ps ≡ qs → hs ≡ gs → b ≡ c → i ≡ j
-    → said n raw ps hs b i ≡ said m raw qs gs c j
-said-along n m raw ps qs hs gs b c i j one two three four five = rw (one, two, three, four, five) refl
+pub said-along : (k : BlockKind) (p q : Param) (n m : Text) (ps qs : Params) (hs gs : Pairs) (b c : Binding) (i j : Bool) → p ≡ q → n ≡ m → ps ≡ qs → hs ≡ gs → b ≡ c → i ≡ j
+    → said k p n ps hs b i ≡ said k q m qs gs c j
+said-along k p q n m ps qs hs gs b c i j one two three four five six = rw (one, two, three, four, five, six) refl
 
 -- ---- a tag does what its line does
 
@@ -42,16 +43,16 @@ Does-value old new p is_escaped line e refused one two does =
     subst (λ (r : Option Text). Does old (leaf p (value_element is_escaped (call_of line.name line.terms)) line.depth r) new) two
     (subst (λ (x : Element). Does old (leaf p x line.depth refused) new) one (does line.depth))
 
-pub Does-opens : (old new : Nesting) (p : Place) (e : Edge) (line : BlockLine) (is_raw : Bool) (built : BuiltOpening) → Opening is_raw e line built
-    → ((n : ℕ) → Does old (opens p (opening_view built.opening) n (option_map (λ t. t.now) built.refused)) new) → Does old (block_piece is_raw p e line) new
-Does-opens old new p e line is_raw built o does =
-    subst (λ (r : Option Text). Does old (opens p (opening_of is_raw e line) line.depth r) new) o.refused
+pub Does-opens : (old new : Nesting) (p : Place) (e : Edge) (line : BlockLine) (kind : BlockKind) (built : BuiltOpening) → Opening kind e line built
+    → ((n : ℕ) → Does old (opens p (opening_view built.opening) n (option_map (λ t. t.now) built.refused)) new) → Does old (block_piece kind p e line) new
+Does-opens old new p e line kind built o does =
+    subst (λ (r : Option Text). Does old (opens p (opening_of kind e line) line.depth r) new) o.refused
     (subst (λ (x : Said). Does old (opens p x line.depth (option_map (λ t. t.now) built.refused)) new) o.opening (does line.depth))
 
-pub Does-chains : (old new : Nesting) (p : Place) (e : Edge) (line : BlockLine) (built : BuiltOpening) → Opening false e line built
+pub Does-chains : (old new : Nesting) (p : Place) (e : Edge) (line : BlockLine) (built : BuiltOpening) → Opening helper_opening e line built
     → ((n : ℕ) → Does old (chains p (opening_view built.opening) n (option_map (λ t. t.now) built.refused)) new) → Does old (chain_piece p e line) new
 Does-chains old new p e line built o does =
-    subst (λ (r : Option Text). Does old (chains p (opening_of false e line) line.depth r) new) o.refused
+    subst (λ (r : Option Text). Does old (chains p (opening_of helper_opening e line) line.depth r) new) o.refused
     (subst (λ (x : Said). Does old (chains p x line.depth (option_map (λ t. t.now) built.refused)) new) o.opening (does line.depth))
 
 pub Does-line : (old new : Nesting) (p : Place) (e : Edge) (of : Line → Tag) (t : Text) (tag : Tag) → HoldsLine of t tag

@@ -1,7 +1,7 @@
 -- What compiling a source answers: its tree, or the first refusal.
 use Rattle.std.specs.Prelude.{◌≡◌, ℕ, Bool, true, false, not, ◌&&◌, if◌then◌else◌, List, [], ◌∷◌, ◌++◌, map, Option, None, Some, unwrap_or, codes}
 use Rattle.handlebars_base.specs.Bytes.{Text}
-use Rattle.handlebars_base.specs.Reasons.{TemplateRefusal, invalid_syntax, mismatching_closed_helper}
+use Rattle.handlebars_base.specs.Reasons.{TemplateReason, TemplateRefusal, invalid_syntax, mismatching_closed_helper, mismatching_closed_decorator}
 use Rattle.handlebars_lines.specs.Binding.{Binding, unbound, bound, both_bound}
 use Rattle.handlebars_tags.specs.Text.{IsText, braces}
 use Rattle.handlebars_tags.specs.Tag.{Tag, expression_tag, html_tag, block_tag, inverse_tag, chain_tag, close_tag, raw_tag, raw_close_tag, comment_tag, BlockLine, Tildes, IsTag}
@@ -10,7 +10,7 @@ use Rattle.handlebars_template.specs.Place.{Place, place}
 use Rattle.handlebars_template.specs.Tree.{Tree, tree, elements_of, Element, raw_string, html_expression, expression, comment, args, name, no_pairs, no_binding, single, both}
 use Rattle.handlebars_template.specs.Tree as tree
 use Rattle.handlebars_template.specs.Calls.{call_of, params_in, pairs_in, line_literals, literals_in, first_refused, invalid}
-use Rattle.handlebars_template.specs.Nest.{Opening, Piece, leaf, opens, turns, chains, closes, Fault, unexpected, too_deep, not_closed, mismatched, no_value, Placed, syntax_alone, names_and_literals, Nests, Frame, Opens, Refuses, LeavesOpen}
+use Rattle.handlebars_template.specs.Nest.{BlockKind, helper_opening, raw_opening, decorator_opening, partial_opening, Opening, Piece, leaf, opens, turns, chains, closes, Fault, unexpected, too_deep, not_closed, mismatched, no_value, Placed, syntax_alone, names_and_literals, Nests, Frame, Opens, Refuses, LeavesOpen}
 use Rattle.handlebars_template.specs.Cut.{Slice, text_slice, tag_slice, may_follow, Reads, IsCut}
 
 -- the name of the template, if it has one, and whether inclusions add no indentation
@@ -34,10 +34,11 @@ binding_of (both_bound x y) = both (name x) (name y)
 
 -- What the opening tag of a block says. Indentation goes before what the block writes where the tag stands alone on its
 -- line, without a tilde in front.
-abbrev pub opening_of : Bool → Edge → BlockLine → Opening
-opening_of raw e line = record {
-  name = line.name;
-  is_raw = raw;
+abbrev pub opening_of : BlockKind → Edge → BlockLine → Opening
+opening_of kind e line = record {
+  kind = kind;
+  name = name line.name;
+  closing = line.name;
   arguments = args (params_in line.terms) (pairs_in no_pairs line.terms);
   binding = binding_of line.binding;
   indent = e.standalone && not e.left;
@@ -49,13 +50,13 @@ tag_piece p e (expression_tag line) =
 tag_piece p e (html_tag line) =
     leaf p (html_expression (call_of line.name line.terms)) line.depth (first_refused (line_literals line))
 tag_piece p e (block_tag line) =
-    opens p (opening_of false e line) line.depth (first_refused (literals_in line.terms))
+    opens p (opening_of helper_opening e line) line.depth (first_refused (literals_in line.terms))
 tag_piece p e inverse_tag = turns p
 tag_piece p e (chain_tag line) =
-    chains p (opening_of false e line) line.depth (first_refused (literals_in line.terms))
+    chains p (opening_of helper_opening e line) line.depth (first_refused (literals_in line.terms))
 tag_piece p e (close_tag n) = closes p false n
 tag_piece p e (raw_tag line) =
-    opens p (opening_of true e line) line.depth (first_refused (literals_in line.terms))
+    opens p (opening_of raw_opening e line) line.depth (first_refused (literals_in line.terms))
 tag_piece p e (raw_close_tag n) = closes p true n
 tag_piece p e (comment_tag t) = leaf p (comment t) 0 None
 
@@ -85,12 +86,18 @@ syntax_refusal message options p = record {
 abbrev pub unreadable : Options → Place → TemplateRefusal
 unreadable options p = syntax_refusal (codes "unreadable tag") options p
 
+-- of these names, the one that would close a block and the one that closes it
+abbrev pub mismatch : BlockKind → Text → Text → TemplateReason
+mismatch helper_opening n m = mismatching_closed_helper n m
+mismatch raw_opening n m = mismatching_closed_helper n m
+mismatch decorator_opening n m = mismatching_closed_decorator n m
+mismatch partial_opening n m = mismatching_closed_decorator n m
+
 abbrev pub refusal_for : Options → Fault → TemplateRefusal
 refusal_for options (unexpected p) = syntax_refusal (codes "unexpected tag") options p
 refusal_for options (too_deep p) = syntax_refusal (codes "nesting too deep") options p
 refusal_for options (not_closed p) = syntax_refusal (codes "block not closed") options p
-refusal_for options (mismatched n m p) =
-    record (syntax_refusal [] options p) { reason = mismatching_closed_helper n m }
+refusal_for options (mismatched k n m p) = record (syntax_refusal [] options p) { reason = mismatch k n m }
 refusal_for options (no_value raw) = invalid raw
 
 -- No tag that may follow this edge stands in front.

@@ -6,7 +6,7 @@ use Rattle.handlebars_base.specs.Bytes.{Text}
 use Rattle.handlebars_template.specs.Place.{Place}
 use Rattle.handlebars_template.specs.Tree.{Element, no_body}
 use Rattle.handlebars_template.specs.Calls.{max_nesting}
-use Rattle.handlebars_template.specs.Nest.{Opening, Piece, leaf, opens, turns, chains, closes, Fault, unexpected, too_deep, mismatched, no_value, Placed, body_with, Branch, block_of, Test, syntax_alone, names_and_literals, may_close, Stage, in_first, in_branch, in_inverse, Frame}
+use Rattle.handlebars_template.specs.Nest.{BlockKind, is_raw, Opening, Piece, leaf, opens, turns, chains, closes, Fault, unexpected, too_deep, mismatched, no_value, Placed, body_with, Branch, block_of, Test, syntax_alone, names_and_literals, may_close, Stage, in_first, in_branch, in_inverse, Frame}
 
 -- the whole block, when its close comes
 abbrev pub closed_block : Stage → Opening → List Placed → List Branch → List Placed → Element
@@ -66,7 +66,7 @@ is_same_kind false false = true
 abbrev pub closing : Text → Bool → Bool → Place → Frame → List Frame → List Placed → Moved
 closing [] alike named p f fs es = stops (unexpected p)
 closing (b ∷ bs) false named p f fs es = stops (unexpected p)
-closing (b ∷ bs) true false p f fs es = stops (mismatched f.opening.name (b ∷ bs) p)
+closing (b ∷ bs) true false p f fs es = stops (mismatched f.opening.kind f.opening.closing (b ∷ bs) p)
 closing (b ∷ bs) true true p f fs es = goes f.around fs (f.outside ++ closed f es ∷ [])
 
 -- what a piece does behind the open blocks and the elements of the innermost
@@ -82,7 +82,7 @@ apply t (chains p o n r) d (f ∷ fs) es =
     chaining (next_stage f.stage f es (in_branch o)) (nat_lt max_nesting (suc d + n)) t p r d fs
 apply t (closes p raw m) d [] es = stops (unexpected p)
 apply t (closes p raw m) d (f ∷ fs) es =
-    closing m (is_same_kind f.opening.is_raw raw) (may_close t f.opening.name m) p f fs es
+    closing m (is_same_kind (is_raw f.opening.kind) raw) (may_close t f.opening.closing m) p f fs es
 
 -- ---- what comes late
 
@@ -90,9 +90,9 @@ abbrev pub late_literal : Option Text → Option Fault
 late_literal None = None
 late_literal (Some raw) = Some (no_value raw)
 
-abbrev pub late_name : Bool → Text → Text → Place → Option Fault
-late_name true n m p = None
-late_name false n m p = Some (mismatched n m p)
+abbrev pub late_name : Bool → BlockKind → Text → Text → Place → Option Fault
+late_name true k n m p = None
+late_name false k n m p = Some (mismatched k n m p)
 
 abbrev pub late_in : Piece → List Frame → Option Fault
 late_in (leaf p e n r) fs = late_literal r
@@ -100,7 +100,7 @@ late_in (opens p o n r) fs = late_literal r
 late_in (turns p) fs = None
 late_in (chains p o n r) fs = late_literal r
 late_in (closes p raw m) [] = None
-late_in (closes p raw m) (f ∷ fs) = late_name (bytes_eq f.opening.name m) f.opening.name m p
+late_in (closes p raw m) (f ∷ fs) = late_name (bytes_eq f.opening.closing m) f.opening.kind f.opening.closing m p
 
 -- What was kept stays.
 abbrev pub late_after : Option Fault → Piece → List Frame → Option Fault

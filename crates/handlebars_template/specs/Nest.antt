@@ -3,16 +3,32 @@ use Rattle.std.specs.Prelude.{◌≡◌, ◌≢◌, ℕ, suc, ◌+◌, ◌<◌, 
 use Rattle.std.specs.Str.{bytes_eq}
 use Rattle.handlebars_base.specs.Bytes.{Text}
 use Rattle.handlebars_template.specs.Place.{Place}
-use Rattle.handlebars_template.specs.Tree.{tree, no_elements, element, elements_of, Element, helper_block, Call, call, Args, Binding, Body, no_body, body, bodies, name}
+use Rattle.handlebars_template.specs.Tree.{tree, no_elements, element, elements_of, Element, helper_block, Call, call, Args, Param, Binding, Body, no_body, body, bodies}
 use Rattle.handlebars_template.specs.Calls.{max_nesting}
 
 -- ---- what stands along a source
 
--- What the opening tag of a block says: its name as written, whether it is a raw block's, its arguments, the names that
+-- What a tag opens: the block of a helper, a raw block, or the block of a decorator or of an inclusion. No tag of these
+-- two is readable yet.
+pub data BlockKind : Type 0 where
+  helper_opening : BlockKind
+  raw_opening : BlockKind
+  decorator_opening : BlockKind
+  partial_opening : BlockKind
+
+-- whether the close of a raw block closes it, and no other
+abbrev pub is_raw : BlockKind → Bool
+is_raw helper_opening = false
+is_raw raw_opening = true
+is_raw decorator_opening = false
+is_raw partial_opening = false
+
+-- What the opening tag of a block says: what it opens, its name, the name that closes it, its arguments, the names that
 -- it binds, and whether indentation goes before what it writes. A chained inverse says the same.
 pub record Opening : Type 0 where
-  pub name : Text
-  pub is_raw : Bool
+  pub kind : BlockKind
+  pub name : Param
+  pub closing : Text
   pub arguments : Args
   pub binding : Binding
   pub indent : Bool
@@ -27,12 +43,13 @@ pub data Piece : Type 0 where
   chains : Place → Opening → ℕ → Option Text → Piece
   closes : Place → Bool → Text → Piece
 
--- why they don't nest, and where; a literal is refused without a place
+-- why they don't nest, and where: of a close by another name what it closes, the name that would close that, and its
+-- own; a literal is refused without a place
 pub data Fault : Type 0 where
   unexpected : Place → Fault
   too_deep : Place → Fault
   not_closed : Place → Fault
-  mismatched : Text → Text → Place → Fault
+  mismatched : BlockKind → Text → Text → Place → Fault
   no_value : Text → Fault
 
 -- ---- blocks
@@ -48,7 +65,7 @@ body_with es = body (tree None (elements_of (map (λ e. e.element) es)) (map (λ
 -- a block, or a chained inverse, from what its tag says, the elements of its body, and its inverse
 abbrev pub block_call : Opening → List Placed → Body → Bool → Call
 block_call o es inverse chained =
-    call (name o.name) o.arguments o.binding (bodies (body_with es) inverse)
+    call o.name o.arguments o.binding (bodies (body_with es) inverse)
     (record { block = true; chain = chained; indent_before_write = o.indent })
 
 -- a chained inverse: what its tag says, and the elements behind it
@@ -98,9 +115,9 @@ mutual
     -- an opening tag, the first body, chained inverses, an inverse or none, and the close
     a_block : {d e : ℕ} {bs cs ls ps : List Piece} {first es : List Placed} {branches : List Branch} {last : Body}
         (p q : Place) (o : Opening) (n : ℕ) (r : Option Text) (m : Text)
-        → suc d + n ≤ max_nesting → may_stand t r ≡ true → m ≢ [] → may_close t o.name m ≡ true
+        → suc d + n ≤ max_nesting → may_stand t r ≡ true → m ≢ [] → may_close t o.closing m ≡ true
         → Nests t (suc d) bs first → Chains t (suc d) cs branches e → Turns t e ls last → Nests t d ps es
-        → Nests t d (opens p o n r ∷ (bs ++ (cs ++ (ls ++ (closes q o.is_raw m ∷ ps)))))
+        → Nests t d (opens p o n r ∷ (bs ++ (cs ++ (ls ++ (closes q (is_raw o.kind) m ∷ ps)))))
         (record { place = p; element = block_of o first branches last } ∷ es)
 
   -- chained inverses, and how much is open behind them
@@ -195,11 +212,11 @@ pub data RefusesAt (t : Test) : ℕ → List Frame → Piece → Fault → Type 
   empty_close : {d : ℕ} {f : Frame} {fs : List Frame} (p : Place) (raw : Bool)
       → RefusesAt t d (f ∷ fs) (closes p raw []) (unexpected p)
   other_close : {d : ℕ} {f : Frame} {fs : List Frame} (p : Place) (raw : Bool) (m : Text)
-      → f.opening.is_raw ≢ raw → RefusesAt t d (f ∷ fs) (closes p raw m) (unexpected p)
+      → is_raw f.opening.kind ≢ raw → RefusesAt t d (f ∷ fs) (closes p raw m) (unexpected p)
   -- a close by another name
   other_name : {d : ℕ} {f : Frame} {fs : List Frame} (p : Place) (m : Text)
-      → m ≢ [] → may_close t f.opening.name m ≡ false
-      → RefusesAt t d (f ∷ fs) (closes p f.opening.is_raw m) (mismatched f.opening.name m p)
+      → m ≢ [] → may_close t f.opening.closing m ≡ false
+      → RefusesAt t d (f ∷ fs) (closes p (is_raw f.opening.kind) m) (mismatched f.opening.kind f.opening.closing m p)
 
 -- the first piece that can't stand where it stands
 pub data Refuses (t : Test) : List Piece → Fault → Type 0 where

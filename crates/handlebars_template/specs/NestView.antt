@@ -2,14 +2,16 @@
 use Rattle.std.specs.Prelude.{◌≡◌, Bool, true, false, List, [], ◌∷◌, map, reverse, Option, None, Some}
 use Rattle.handlebars_template.specs.Place.{Place}
 use Rattle.handlebars_template.specs.Tree.{args, name, Binding, no_binding, single, both}
-use Rattle.handlebars_template.specs.TreeView.{text, place_of, element_view, params_view, pairs_view}
-use Rattle.handlebars_template.specs.Nest.{Opening, Piece, Fault, unexpected, too_deep, mismatched, no_value, Placed, Branch, syntax_alone, Stage, in_first, in_branch, in_inverse, Frame}
+use Rattle.handlebars_template.specs.TreeView.{text, place_of, element_view, param_view, params_view, pairs_view}
+use Rattle.handlebars_template.specs.Nest.{BlockKind, helper_opening, raw_opening, decorator_opening, partial_opening, Opening, Piece, Fault, unexpected, too_deep, mismatched, no_value, Placed, Branch, syntax_alone, Stage, in_first, in_branch, in_inverse, Frame}
 use Rattle.handlebars_template.specs.Machine.{Moved, goes, stops, MayGo, apply, late_after, End, complete, unclosed, refused}
 use Rattle.handlebars_template.specs.declared.template.tree.TemplateMapping.{TemplateMapping}
 use Rattle.handlebars_template.specs.declared.template.tree.TemplateElement.{TemplateElement}
 use Rattle.handlebars_template.specs.declared.template.placed.PlacedElements.{PlacedElements}
 use Rattle.handlebars_template.specs.declared.template.chain.BlockNames.{BlockNames}
 use Rattle.handlebars_template.specs.declared.template.chain.BlockNames.TheVariants as names
+use Rattle.handlebars_template.specs.declared.template.chain.BlockKind.{BlockKind as BuiltKind}
+use Rattle.handlebars_template.specs.declared.template.chain.BlockKind.TheVariants as kind
 use Rattle.handlebars_template.specs.declared.template.chain.BlockOpening.{BlockOpening}
 use Rattle.handlebars_template.specs.declared.template.chain.Branch.{Branch as BuiltBranch}
 use Rattle.handlebars_template.specs.declared.template.chain.Stage.{Stage as BuiltStage}
@@ -37,10 +39,17 @@ names_view names.Unbound = no_binding
 names_view (names.Bound x) = single (name (text x))
 names_view (names.BothBound x y) = both (name (text x)) (name (text y))
 
+abbrev pub kind_view : BuiltKind → BlockKind
+kind_view kind.Helper = helper_opening
+kind_view kind.Raw = raw_opening
+kind_view kind.Decorator = decorator_opening
+kind_view kind.Partial = partial_opening
+
 abbrev pub opening_view : BlockOpening → Opening
 opening_view o = record {
-  name = text o.name;
-  is_raw = o.is_raw;
+  kind = kind_view o.kind;
+  name = param_view o.name;
+  closing = text o.closing;
   arguments = args (params_view o.params.items) (pairs_view o.hash.entries);
   binding = names_view o.names;
   indent = o.indent_before_write;
@@ -76,7 +85,7 @@ stack_view bs = reverse (map frame_view bs)
 
 abbrev pub late_fault : Late → Fault
 late_fault (late.NoValue raw) = no_value (text raw)
-late_fault (late.Mismatched opened closing p) = mismatched (text opened) (text closing) (place_of p)
+late_fault (late.Mismatched k opened closing p) = mismatched (kind_view k) (text opened) (text closing) (place_of p)
 
 abbrev pub late_view : Option Late → Option Fault
 late_view None = None

@@ -8,7 +8,7 @@ use Rattle.handlebars_template.specs.Place.{Place}
 use Rattle.handlebars_template.specs.Tree.{Element, raw_string, html_expression, expression, Call}
 use Rattle.handlebars_template.specs.TreeView.{place_of}
 use Rattle.handlebars_template.specs.Calls.{call_of, first_refused, literals_in, line_literals}
-use Rattle.handlebars_template.specs.Nest.{Piece, leaf, opens, chains, not_closed, Placed}
+use Rattle.handlebars_template.specs.Nest.{BlockKind, helper_opening, Piece, leaf, opens, chains, not_closed, Placed}
 use Rattle.handlebars_template.specs.Machine.{End, complete, unclosed, refused as refused_end}
 use Rattle.handlebars_template.specs.NestView.{opening_view, syntax_fault, end_view}
 use Rattle.handlebars_template.specs.Compile.{Options, opening_of, tree_of, unreadable, refusal_for, Compiles, compiled, refused}
@@ -27,21 +27,21 @@ abbrev pub value_piece : Bool → Place → Line → Piece
 value_piece is_escaped p line =
     leaf p (value_element is_escaped (call_of line.name line.terms)) line.depth (first_refused (line_literals line))
 
--- the opening tag of a block, which is raw or not
-abbrev pub block_piece : Bool → Place → Edge → BlockLine → Piece
-block_piece is_raw p e line =
-    opens p (opening_of is_raw e line) line.depth (first_refused (literals_in line.terms))
+-- the opening tag of a block of this kind
+abbrev pub block_piece : BlockKind → Place → Edge → BlockLine → Piece
+block_piece kind p e line =
+    opens p (opening_of kind e line) line.depth (first_refused (literals_in line.terms))
 
 abbrev pub chain_piece : Place → Edge → BlockLine → Piece
-chain_piece p e line = chains p (opening_of false e line) line.depth (first_refused (literals_in line.terms))
+chain_piece p e line = chains p (opening_of helper_opening e line) line.depth (first_refused (literals_in line.terms))
 
 -- the opening that this line of a block says, and its first refused literal
-pub record Opening (is_raw : Bool) (e : Edge) (line : BlockLine) (built : BuiltOpening) : Type 0 where
-  pub opening : opening_view built.opening ≡ opening_of is_raw e line
+pub record Opening (kind : BlockKind) (e : Edge) (line : BlockLine) (built : BuiltOpening) : Type 0 where
+  pub opening : opening_view built.opening ≡ opening_of kind e line
   pub refused : option_map (λ t. t.now) built.refused ≡ first_refused (literals_in line.terms)
 
-abbrev pub IsOpening : Bool → Edge → BlockLine → Option BuiltOpening → Type 0
-IsOpening is_raw e line read = MatchOption read ⊥ (Opening is_raw e line)
+abbrev pub IsOpening : BlockKind → Edge → BlockLine → Option BuiltOpening → Type 0
+IsOpening kind e line read = MatchOption read ⊥ (Opening kind e line)
 
 -- ---- texts
 

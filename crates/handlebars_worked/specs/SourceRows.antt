@@ -7,7 +7,7 @@ use Rattle.handlebars_lines.specs.Parameter.{left_parenthesis, right_parenthesis
 use Rattle.handlebars_template.specs.Place.{Place}
 use Rattle.handlebars_template.specs.Tree.{Tree, tree, empty_tree, Element, no_elements, element, raw_string, html_expression, expression, Param, name, path, literal, subexpression, args, no_params, param, no_pairs, pair, no_binding, no_body}
 use Rattle.handlebars_template.specs.Calls.{plain_call, invalid}
-use Rattle.handlebars_template.specs.Nest.{Opening, mismatched, Placed, body_with, block_of}
+use Rattle.handlebars_template.specs.Nest.{helper_opening, raw_opening, Opening, mismatched, Placed, body_with, block_of}
 use Rattle.handlebars_template.specs.Compile.{Compiles, compiled, refused, no_options, syntax_refusal, unreadable, refusal_for}
 
 abbrev pub at : ℕ → ℕ → Place
@@ -113,8 +113,9 @@ words line column t = record { place = at line column; element = raw_string t }
 -- what `#if` says with a parameter, on a line of its own or not
 abbrev pub if_of : Bool → Param → Opening
 if_of indent p = record {
-  name = codes "if";
-  is_raw = false;
+  kind = helper_opening;
+  name = name (codes "if");
+  closing = codes "if";
   arguments = args (param p no_params) no_pairs;
   binding = no_binding;
   indent = indent;
@@ -168,8 +169,9 @@ abbrev pub raw_block : Element
 raw_block =
     block_of
     (record {
-      name = codes "raw";
-      is_raw = true;
+      kind = raw_opening;
+      name = name (codes "raw");
+      closing = codes "raw";
       arguments = args no_params no_pairs;
       binding = no_binding;
       indent = false;
@@ -210,7 +212,7 @@ DeepRow = IsRefused deep_source (codes "nesting too deep") (at 1 1)
 abbrev pub OtherNameRow : Type 0
 OtherNameRow =
     Compiles (codes "{{#if a}}x{{/unless}}") no_options
-    (refused (refusal_for no_options (mismatched (codes "if") (codes "unless") (at 1 11))))
+    (refused (refusal_for no_options (mismatched helper_opening (codes "if") (codes "unless") (at 1 11))))
 
 -- a literal with no value
 abbrev pub NumberRow : Type 0

@@ -3,9 +3,9 @@
 ghost use Rattle.std.specs.Prelude.{◌≡◌, ◌∷◌, [], IfOk, map};
 ghost use Rattle.handlebars_template.specs.Tree.{helper_block, body};
 ghost use Rattle.handlebars_template.specs.TreeView.{tree_view, call_view, body_view, block_param_view};
-ghost use Rattle.handlebars_template.specs.Nest.{block_call, inverse_of, in_branch, in_inverse};
+ghost use Rattle.handlebars_template.specs.Nest.{is_raw, block_call, inverse_of, in_branch, in_inverse};
 ghost use Rattle.handlebars_template.specs.Machine.{closed_block};
-ghost use Rattle.handlebars_template.specs.NestView.{placed_view, names_view, opening_view, branch_view, stage_view};
+ghost use Rattle.handlebars_template.specs.NestView.{placed_view, names_view, kind_view, opening_view, branch_view, stage_view};
 
 use crate::template::placed::PlacedElements;
 use crate::template::tree::{BlockParam, HelperTemplate, Parameter, Template, TemplateElement};
@@ -20,24 +20,50 @@ pub enum BlockNames {
     BothBound(String, String),
 }
 
-/// What the tag of a block or of a chained inverse says.
+/// What a tag opens: the block of a helper, a raw block, or the block of a decorator or of an inclusion. No tag of these
+/// two is read yet.
+#[derive(Clone, Copy, Debug, PartialEq, Eq)]
+pub enum BlockKind {
+    Helper,
+    Raw,
+    Decorator,
+    Partial,
+}
+
+impl BlockKind {
+    /// Whether the close of a raw block closes it, and no other.
+    pub fn is_raw(self) -> bool
+        ensures { result ≡ is_raw (kind_view self) }
+    {
+        match self {
+            BlockKind::Helper => false,
+            BlockKind::Raw => true,
+            BlockKind::Decorator => false,
+            BlockKind::Partial => false,
+        }
+    }
+}
+
+/// What the tag of a block or of a chained inverse says, and the name that closes the block.
 pub struct BlockOpening {
-    pub name: String,
+    pub kind: BlockKind,
+    pub name: Parameter,
+    pub closing: String,
     pub params: Vec<Parameter>,
     pub hash: BTreeMap<String, Parameter>,
     pub names: BlockNames,
-    pub is_raw: bool,
     pub indent_before_write: bool,
 }
 
 impl Drop for BlockOpening {
     fn drop(self) {
         let BlockOpening {
+            kind: _,
             name: _,
+            closing: _,
             params: _,
             hash: _,
             names: _,
-            is_raw: _,
             indent_before_write: _,
         } = self;
     }
@@ -91,15 +117,16 @@ impl BlockOpening {
             ≡ block_call (opening_view self) (placed_view elements) (body_view inverse) chain }
     {
         let BlockOpening {
+            kind: _,
             name,
+            closing: _,
             params,
             hash,
             names,
-            is_raw: _,
             indent_before_write,
         } = self;
         HelperTemplate {
-            name: Parameter::Name(name),
+            name,
             params,
             hash,
             block_param: block_param(names),

@@ -3,13 +3,14 @@
 ghost use Rattle.std.specs.Prelude.{◌≡◌, ◌≢◌, [], IfOk, IfErr, IsSome, string_bytes};
 ghost use Rattle.handlebars_base.specs.Reasons.{template_out_of_memory};
 ghost use Rattle.handlebars_base.specs.TemplateRefusals.{template_reason_of, template_refusal_of, shown_lines};
-ghost use Rattle.handlebars_template.specs.Compile.{Options, Compiles, compiled, refused, no_options, named_options, syntax_refusal, refusal_for};
+ghost use Rattle.handlebars_template.specs.Compile.{Options, Compiles, compiled, refused, no_options, named_options, syntax_refusal, mismatch, refusal_for};
 ghost use Rattle.handlebars_template.specs.OptionsView.{options_view};
-ghost use Rattle.handlebars_template.specs.NestView.{late_fault, syntax_fault, end_view};
+ghost use Rattle.handlebars_template.specs.NestView.{kind_view, late_fault, syntax_fault, end_view};
 ghost use Rattle.handlebars_template.specs.ScanView.{ComesTo};
 ghost use Rattle.handlebars_template.specs.Place.{Place};
 ghost use Rattle.handlebars_template.specs.TreeView.{tree_view, place_of};
 
+use crate::template::chain::BlockKind;
 use crate::template::nest::{Late, Nested, SyntaxFault};
 use crate::template::scan::{Found, scan};
 use crate::template::tree::{Template, TemplateMapping};
@@ -117,6 +118,17 @@ fn nested_tree(
     }
 }
 
+fn mismatch(kind: BlockKind, opened: String, closing: String) -> TemplateErrorReason
+    ensures { template_reason_of result ≡ mismatch (kind_view kind) (string_bytes opened) (string_bytes closing) }
+{
+    match kind {
+        BlockKind::Helper => TemplateErrorReason::MismatchingClosedHelper(opened, closing),
+        BlockKind::Raw => TemplateErrorReason::MismatchingClosedHelper(opened, closing),
+        BlockKind::Decorator => TemplateErrorReason::MismatchingClosedDecorator(opened, closing),
+        BlockKind::Partial => TemplateErrorReason::MismatchingClosedDecorator(opened, closing),
+    }
+}
+
 // The refusal of a closing name, or of a literal.
 fn late_error(
     alloc: Global,
@@ -130,9 +142,8 @@ fn late_error(
 {
     match late {
         Late::NoValue(raw) => Ok(TemplateError::of(TemplateErrorReason::InvalidParam(raw))),
-        Late::Mismatched(opened, closing, at) => {
-            let reason = TemplateErrorReason::MismatchingClosedHelper(opened, closing);
-            placed_error(alloc, source, options, at, reason)
+        Late::Mismatched(kind, opened, closing, at) => {
+            placed_error(alloc, source, options, at, mismatch(kind, opened, closing))
         }
     }
 }

@@ -10,10 +10,10 @@ ghost use Rattle.handlebars_template.specs.LineBuildingView.{line_view, IsBuilt,
 ghost use Rattle.handlebars_template.specs.Tree.{expression, args};
 ghost use Rattle.handlebars_template.specs.TreeView.{call_view, param_view, params_view, pairs_view, subexpression_view};
 ghost use Rattle.handlebars_template.specs.Calls.{call_of, plain_call};
-ghost use Rattle.handlebars_template.specs.NestView.{names_view, opening_view};
+ghost use Rattle.handlebars_template.specs.NestView.{names_view, kind_view, opening_view};
 
 use crate::template::build::{first_calls, path_of};
-use crate::template::chain::{BlockNames, BlockOpening};
+use crate::template::chain::{BlockKind, BlockNames, BlockOpening};
 use crate::template::tree::{HelperTemplate, Parameter, Subexpression};
 use handlebars_base::json::path::Path;
 use handlebars_lines::line::{Enclosure, Event, State, Step, take_step};
@@ -81,18 +81,20 @@ impl BuiltLine<'_> {
         Subexpression::new(alloc, name, params, hash)
     }
 
-    /// The opening of a block by this name.
+    /// The opening of a block of this kind and name, which this text closes.
     pub fn opening(
         self,
-        name: String,
+        kind: BlockKind,
+        name: Parameter,
+        closing: String,
         names: BlockNames,
-        is_raw: bool,
         indent_before_write: bool,
     ) -> BlockOpening
         ensures { opening_view result
             ≡ record {
-              name = string_bytes name;
-              is_raw = is_raw;
+              kind = kind_view kind;
+              name = param_view name;
+              closing = string_bytes closing;
               arguments = args (params_view self.entry.params.items) (pairs_view self.entry.hash.entries);
               binding = names_view names;
               indent = indent_before_write;
@@ -105,11 +107,12 @@ impl BuiltLine<'_> {
             refused: _,
         } = self;
         BlockOpening {
+            kind,
             name,
+            closing,
             params,
             hash,
             names,
-            is_raw,
             indent_before_write,
         }
     }

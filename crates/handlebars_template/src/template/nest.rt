@@ -9,10 +9,10 @@ ghost use Rattle.handlebars_template.specs.Tree.{Element};
 ghost use Rattle.handlebars_template.specs.Calls.{max_nesting};
 ghost use Rattle.handlebars_template.specs.TreeView.{element_view, place_of};
 ghost use Rattle.handlebars_template.specs.Nest.{Opening, leaf, opens, turns, chains, closes};
-ghost use Rattle.handlebars_template.specs.Machine.{at_end, closed, new_frame, next_stage, late_literal, late_name};
-ghost use Rattle.handlebars_template.specs.NestView.{placed_view, opening_view, stage_view, frame_view, frame_after, frames, late_view, late_of, moved, Looks, Does, end_view};
+ghost use Rattle.handlebars_template.specs.Machine.{at_end, closed, is_same_kind, new_frame, next_stage, late_literal, late_name};
+ghost use Rattle.handlebars_template.specs.NestView.{placed_view, kind_view, opening_view, stage_view, frame_view, frame_after, frames, late_view, late_of, moved, Looks, Does, end_view};
 
-use crate::template::chain::{BlockOpening, Branch, Stage, closed_block};
+use crate::template::chain::{BlockKind, BlockOpening, Branch, Stage, closed_block};
 use crate::template::line::MAX_NESTING;
 use crate::template::placed::PlacedElements;
 use crate::template::tree::{TemplateElement, TemplateMapping};
@@ -52,12 +52,12 @@ pub enum SyntaxFault {
     TooDeep,
 }
 
-/// What is refused only where the whole source nests: a literal, by its text; or a block's name, the name of its
-/// close, and the place of that.
+/// What is refused only where the whole source nests: a literal, by its text; or what a close closes, the name that
+/// would close it, the name of the close, and its place.
 #[derive(Debug, PartialEq, Drop)]
 pub enum Late {
     NoValue(String),
-    Mismatched(String, String, TemplateMapping),
+    Mismatched(BlockKind, String, String, TemplateMapping),
 }
 
 /// What stands at the end: the elements, the place of the innermost block that is open, or what comes late.
@@ -124,19 +124,26 @@ fn late_literal(alloc: Global, refused: Option<&str>) -> Result<Option<Late>, Al
 
 fn late_name(
     alloc: Global,
+    kind: BlockKind,
     opened: &str,
     closing: &str,
     place: TemplateMapping,
 ) -> Result<Option<Late>, AllocError>
     ensures { IfOk result (λ late. late_view late
-        ≡ late_name (bytes_eq opened.now closing.now) opened.now closing.now (place_of place)) }
+        ≡ late_name (bytes_eq opened.now closing.now) (kind_view kind) opened.now closing.now (place_of place)) }
 {
     if opened == closing {
         return Ok(None);
     }
     let opened = String::from_str(alloc, opened)?;
     let closing = String::from_str(alloc, closing)?;
-    Ok(Some(Late::Mismatched(opened, closing, place)))
+    Ok(Some(Late::Mismatched(kind, opened, closing, place)))
+}
+
+fn is_same_kind(is_raw: bool, other: bool) -> bool
+    ensures { result ≡ is_same_kind is_raw other }
+{
+    is_raw == other
 }
 
 impl Open {
@@ -284,7 +291,8 @@ impl Nesting {
         let Some(block) = self.stack.last() else {
             return Some(SyntaxFault::Unexpected);
         };
-        if name.is_empty() || block.opening.is_raw != is_raw {
+        let same = is_same_kind(block.opening.kind.is_raw(), is_raw);
+        if name.is_empty() || !same {
             return Some(SyntaxFault::Unexpected);
         }
         None
@@ -393,7 +401,8 @@ impl Nesting {
         let Some(mut block) = self.stack.pop() else {
             return Ok(());
         };
-        self.keep(late_name(alloc, block.opening.name.as_str(), name, place)?);
+        let opening = &block.opening;
+        self.keep(late_name(alloc, opening.kind, opening.closing.as_str(), name, place)?);
         self.depth = block.around;
         let outside = mem::replace(&mut block.outside, PlacedElements::new(alloc));
         let elements = mem::replace(&mut self.elements, outside);

@@ -12,15 +12,15 @@ ghost use Rattle.handlebars_template.specs.Place.{Place};
 ghost use Rattle.handlebars_template.specs.TreeView.{call_view, element_view, place_of};
 ghost use Rattle.handlebars_template.specs.Tree.{comment};
 ghost use Rattle.handlebars_template.specs.Nest.{leaf};
-ghost use Rattle.handlebars_template.specs.NestView.{names_view, moved, Looks, Does};
+ghost use Rattle.handlebars_template.specs.NestView.{names_view, kind_view, moved, Looks, Does};
 ghost use Rattle.handlebars_template.specs.Cut.{may_follow};
 ghost use Rattle.handlebars_template.specs.ScanView.{value_element, value_piece, block_piece, chain_piece, IsOpening};
 ghost use Rattle.handlebars_template.specs.Compile.{binding_of, tag_piece};
 
-use crate::template::chain::{BlockNames, BlockOpening};
+use crate::template::chain::{BlockKind, BlockNames, BlockOpening};
 use crate::template::line::build_line;
 use crate::template::nest::{Nesting, SyntaxFault};
-use crate::template::tree::{HelperTemplate, TemplateElement, TemplateMapping};
+use crate::template::tree::{HelperTemplate, Parameter, TemplateElement, TemplateMapping};
 use handlebars_lines::binding::Binding;
 use handlebars_lines::line::Enclosure;
 use handlebars_tags::tag::{BlockSlice, Content, TagSlice};
@@ -147,19 +147,20 @@ struct BuiltOpening<'a> {
 fn opening<'a>(
     alloc: Global,
     block: BlockSlice<'a>,
-    is_raw: bool,
+    kind: BlockKind,
     edge: Edge,
 ) -> Result<Option<BuiltOpening<'a>>, AllocError>
     ensures { IfOk result (λ built. (line : BlockLine) (rest : Text) → IsBlockSlice block.entry line rest
-        → IsOpening is_raw (edge_view edge) line built) }
+        → IsOpening (kind_view kind) (edge_view edge) line built) }
 {
     let Some(line) = build_line(alloc, Enclosure::Block, block.line)? else {
         return Ok(None);
     };
-    let name = String::from_str(alloc, block.name)?;
+    let name = Parameter::Name(String::from_str(alloc, block.name)?);
     let names = block_names(alloc, block.binding)?;
     let refused = line.refused;
-    let opening = line.opening(name, names, is_raw, is_indented(edge));
+    let closing = String::from_str(alloc, block.name)?;
+    let opening = line.opening(kind, name, closing, names, is_indented(edge));
     Ok(Some(BuiltOpening { opening, refused }))
 }
 
@@ -196,13 +197,13 @@ fn begin(
     nesting: &mut Nesting,
     at: TemplateMapping,
     block: BlockSlice<'_>,
-    is_raw: bool,
+    kind: BlockKind,
     edge: Edge,
 ) -> Result<(), AllocError>
     ensures { OnOk result ((line : BlockLine) (rest : Text) → IsBlockSlice block.entry line rest
-        → Does nesting.old (block_piece is_raw (place_of at) (edge_view edge) line) nesting.new) }
+        → Does nesting.old (block_piece (kind_view kind) (place_of at) (edge_view edge) line) nesting.new) }
 {
-    match opening(alloc, block, is_raw, edge)? {
+    match opening(alloc, block, kind, edge)? {
         Some(built) => nesting.begin(alloc, at, built.opening, built.refused),
         None => Ok(()),
     }
@@ -218,7 +219,7 @@ fn chain(
     ensures { OnOk result ((line : BlockLine) (rest : Text) → IsBlockSlice block.entry line rest
         → Does nesting.old (chain_piece (place_of at) (edge_view edge) line) nesting.new) }
 {
-    match opening(alloc, block, false, edge)? {
+    match opening(alloc, block, BlockKind::Helper, edge)? {
         Some(built) => nesting.chain(alloc, at, built.opening, built.refused),
         None => Ok(()),
     }
@@ -250,11 +251,11 @@ pub fn take_tag(
     match content {
         Content::Expression(text) => add_value(alloc, nesting, at, text, true),
         Content::Html(text) => add_value(alloc, nesting, at, text, false),
-        Content::Block(block) => begin(alloc, nesting, at, block, false, edge),
+        Content::Block(block) => begin(alloc, nesting, at, block, BlockKind::Helper, edge),
         Content::Inverse => nesting.turn(alloc, at),
         Content::Chain(block) => chain(alloc, nesting, at, block, edge),
         Content::Close(name) => nesting.close(alloc, at, false, name),
-        Content::RawBlock(block) => begin(alloc, nesting, at, block, true, edge),
+        Content::RawBlock(block) => begin(alloc, nesting, at, block, BlockKind::Raw, edge),
         Content::RawClose(name) => nesting.close(alloc, at, true, name),
         Content::Comment(text) => add_comment(alloc, nesting, at, text),
     }

@@ -2,7 +2,7 @@ use Rattle.std.proofs.Common.{refl, true, false, None}
 use Rattle.handlebars_tags.specs.Tag.{expression_tag, html_tag, block_tag, inverse_tag, chain_tag, close_tag, raw_tag, raw_close_tag, comment_tag}
 use Rattle.handlebars_template.specs.Tree.{expression, html_expression, comment}
 use Rattle.handlebars_template.specs.Calls.{call_of, first_refused, line_literals, literals_in}
-use Rattle.handlebars_template.specs.Nest.{leaf, opens, turns, chains, closes}
+use Rattle.handlebars_template.specs.Nest.{helper_opening, raw_opening, leaf, opens, turns, chains, closes}
 use Rattle.handlebars_template.specs.Compile.{opening_of}
 use Rattle.handlebars_template.proofs.TagsBuilt.{Looks-at}
 use Rattle.handlebars_template.proofs.template.tags.look.Goals as goal
@@ -20,7 +20,7 @@ returns-in-Html c p e tag holds deep =
 pub returns-in-Block : goal.returns-in-Block
 returns-in-Block c p e tag holds deep =
     let h = rw c.in-Block.is at holds in
-    Looks-at c.args.nesting.now p e c.look_at_opening.result tag (block_tag h.line) (λ n. opens p (opening_of false e h.line) n (first_refused (literals_in h.line.terms))) c.args.depth h.gives deep refl (c.look_at_opening.ensures p _ _)
+    Looks-at c.args.nesting.now p e c.look_at_opening.result tag (block_tag h.line) (λ n. opens p (opening_of helper_opening e h.line) n (first_refused (literals_in h.line.terms))) c.args.depth h.gives deep refl (c.look_at_opening.ensures p _ _)
 
 pub returns-in-Inverse : goal.returns-in-Inverse
 returns-in-Inverse c p e tag holds deep = Looks-at c.args.nesting.now p e c.look_at_inverse.result tag inverse_tag (λ n. turns p) c.args.depth (rw c.in-Inverse.is at holds) deep refl (c.look_at_inverse.ensures p)
@@ -28,7 +28,7 @@ returns-in-Inverse c p e tag holds deep = Looks-at c.args.nesting.now p e c.look
 pub returns-in-Chain : goal.returns-in-Chain
 returns-in-Chain c p e tag holds deep =
     let h = rw c.in-Chain.is at holds in
-    Looks-at c.args.nesting.now p e c.look_at_chained.result tag (chain_tag h.line) (λ n. chains p (opening_of false e h.line) n (first_refused (literals_in h.line.terms))) c.args.depth h.gives deep refl (c.look_at_chained.ensures p _ _)
+    Looks-at c.args.nesting.now p e c.look_at_chained.result tag (chain_tag h.line) (λ n. chains p (opening_of helper_opening e h.line) n (first_refused (literals_in h.line.terms))) c.args.depth h.gives deep refl (c.look_at_chained.ensures p _ _)
 
 pub returns-in-Close : goal.returns-in-Close
 returns-in-Close c p e tag holds deep = Looks-at c.args.nesting.now p e c.look_at_close.result tag (close_tag c.in-Close.name.now) (λ n. closes p false c.in-Close.name.now) c.args.depth (rw c.in-Close.is at holds) deep refl (c.look_at_close.ensures p)
@@ -36,7 +36,7 @@ returns-in-Close c p e tag holds deep = Looks-at c.args.nesting.now p e c.look_a
 pub returns-in-RawBlock : goal.returns-in-RawBlock
 returns-in-RawBlock c p e tag holds deep =
     let h = rw c.in-RawBlock.is at holds in
-    Looks-at c.args.nesting.now p e c.look_at_opening-in-RawBlock.result tag (raw_tag h.line) (λ n. opens p (opening_of true e h.line) n (first_refused (literals_in h.line.terms))) c.args.depth h.gives deep refl (c.look_at_opening-in-RawBlock.ensures p _ _)
+    Looks-at c.args.nesting.now p e c.look_at_opening-in-RawBlock.result tag (raw_tag h.line) (λ n. opens p (opening_of raw_opening e h.line) n (first_refused (literals_in h.line.terms))) c.args.depth h.gives deep refl (c.look_at_opening-in-RawBlock.ensures p _ _)
 
 pub returns-in-RawClose : goal.returns-in-RawClose
 returns-in-RawClose c p e tag holds deep = Looks-at c.args.nesting.now p e c.look_at_close-in-RawClose.result tag (raw_close_tag c.in-RawClose.name.now) (λ n. closes p true c.in-RawClose.name.now) c.args.depth (rw c.in-RawClose.is at holds) deep refl (c.look_at_close-in-RawClose.ensures p)

@@ -23,7 +23,7 @@ returns c =
     let m = c.args.name.now in
     let p = place_of c.args.place in
     let name : late_view c.in_ok-late_name.field-0 ≡ late_in (closes p c.args.is_raw m) (frames old) =
-    c.in_ok-late_name.ensures ∙ ap (λ (n : Text). late_name (bytes_eq n m) n m p) c.as_str.ensures.value
+    c.in_ok-late_name.ensures ∙ ap (λ (n : Text). late_name (bytes_eq n m) f.opening.kind n m p) c.as_str.ensures.value
     ∙ ap (late_in (closes p c.args.is_raw m)) (sym front) in
     on_ok_weaker c.end.result
     (λ made may.
