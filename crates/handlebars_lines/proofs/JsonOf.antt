@@ -1,17 +1,20 @@
 -- What is read as JSON is the literal's JSON, and that is what the literal is worth.
-use Rattle.std.proofs.Common.{◌≡◌, ℕ, suc, ◌-◌, true, cond, List, [], ◌∷◌, ◌++◌, length, get_or, Some, None, refl, sym, ap, ◌∙◌, append-nil, arith, length-append}
+use Rattle.std.proofs.Common.{◌≡◌, ℕ, suc, ◌-◌, Bool, true, false, ◌&&◌, cond, List, [], ◌∷◌, ◌++◌, length, get_or, Option, Some, None, refl, sym, ap, ◌∙◌, append-nil, arith, length-append}
 use Rattle.std.specs.Prelude.{◌==◌, nat_lt}
+use Rattle.std.proofs.Math.Dec.{eqb-suc-zero}
 use Rattle.std.proofs.lemmas.Bool.{lt-ltb, eq-eqb}
 use Rattle.std.proofs.lemmas.List.{take_at}
-use Rattle.handlebars_base.specs.PathReading.{after}
+use Rattle.handlebars_base.specs.PathReading.{◌>>=◌, after}
 use Rattle.handlebars_base.proofs.Fronts.{after-not, after-same}
 use Rattle.handlebars_lines.specs.Literal.{array, object, Literal, quoted, single_quoted, number, word, empty, filled, spelled_literal, literal_depth, keeps_numbers, IsLiteral}
-use Rattle.handlebars_lines.specs.Worth.{before, json_text, json_of, worth_of}
+use Rattle.handlebars_lines.specs.Worth.{json_of}
+use Rattle.handlebars_lines.specs.WorthReading.{before, json_text, slice_worth, worth_of}
+use Rattle.serde_json.specs.Data.{Data}
 use Rattle.serde_json.specs.Read.{read as read_text}
-use Rattle.handlebars_lines.specs.Laws.{HasLiteral, WorthOfLiteral}
-use Rattle.handlebars_lines.specs.LiteralReading.{Slice}
+use Rattle.handlebars_lines.specs.Laws.{HasLiteral, WorthOfLiteral, WorthOfOther}
+use Rattle.handlebars_lines.specs.LiteralReading.{Slice, literal_at}
 use Rattle.handlebars_lines.proofs.Plain.{number_goes_on, word_goes_on}
-use Rattle.handlebars_lines.proofs.LiteralsFound.{plain_begins, no_mark, literal_at-is}
+use Rattle.handlebars_lines.proofs.LiteralsFound.{plain_begins, no_mark, literal_at-some, literal_at-is}
 
 get_or-last : (t : List ℕ) (c : ℕ) → get_or (t ++ c ∷ []) (length t) 0 ≡ c
 get_or-last [] c = refl
@@ -56,4 +59,24 @@ pub worth_of_literal : WorthOfLiteral
 unfolding worth_of
 worth_of_literal l fits =
     rw (literal_at-is (spelled_literal l) (slice_alone l) (has_literal-alone l fits))
-    (ap (λ z. cond (keeps_numbers l) (read_text z) None) (json_text-literal l fits))
+    (on (keeps_numbers l))
+  where
+    on : (b : Bool) → cond (b && true) (read_text (json_text (spelled_literal l))) None ≡ cond b (read_text (json_of l)) None
+    on true = ap read_text (json_text-literal l fits)
+    on false = refl
+
+pub worth_of_other : WorthOfOther
+unfolding worth_of
+worth_of_other text none = on (literal_at text) refl
+  where
+    refused : (b : Bool) (x : Option Data) → cond (b && false) x None ≡ None
+    refused true x = refl
+    refused false x = refl
+
+    behind : (f : Slice) (rest : List ℕ) → f.rest ≡ rest → HasLiteral text f → slice_worth f ≡ None
+    behind f [] e h = absurd (none h.literal h.is.fits (h.is.whole ∙ ap (λ (z : List ℕ). spelled_literal h.literal ++ z) e ∙ append-nil (spelled_literal h.literal)))
+    behind f (b ∷ rest) e h = rw (e, eqb-suc-zero (length rest)) (refused f.kept (read_text (json_text f.raw)))
+
+    on : (o : Option Slice) → literal_at text ≡ o → (o >>= slice_worth) ≡ None
+    on None e = refl
+    on (Some f) e = behind f f.rest refl (literal_at-some text f e)

@@ -1,10 +1,10 @@
 -- Laws of literals.
-use Rattle.std.specs.Prelude.{◌≡◌, if◌then◌else◌, None}
-use Rattle.serde_json.specs.Read.{read as read_text}
+use Rattle.std.specs.Prelude.{◌≡◌, ◌≢◌, None}
 use Rattle.handlebars_base.specs.Bytes.{Text}
 use Rattle.handlebars_lines.specs.Literal.{Literal, spelled_literal, literal_depth, keeps_numbers, IsLiteral, IsLiteralAt}
 use Rattle.handlebars_lines.specs.LiteralReading.{Slice}
-use Rattle.handlebars_lines.specs.Worth.{json_of, worth_of}
+use Rattle.handlebars_lines.specs.Worth.{worth}
+use Rattle.handlebars_lines.specs.WorthReading.{worth_of}
 
 -- The slice is that of a literal in front of the text.
 pub record HasLiteral (text : Text) (slice : Slice) : Type 0 where
@@ -22,7 +22,10 @@ NoLiteral text = (slice : Slice) → HasLiteral text slice → ⊥
 abbrev pub OneLiteral : Type 0
 OneLiteral = (text : Text) (a b : Slice) → HasLiteral text a → HasLiteral text b → a ≡ b
 
--- A literal is worth what its JSON is read as, where its numbers are kept, and else nothing.
+-- What is read of a literal's text is what the literal is worth.
 abbrev pub WorthOfLiteral : Type 0
-WorthOfLiteral = (l : Literal) → IsLiteral l
-    → worth_of (spelled_literal l) ≡ (if keeps_numbers l then read_text (json_of l) else None)
+WorthOfLiteral = (l : Literal) → IsLiteral l → worth_of (spelled_literal l) ≡ worth l
+
+-- Of a text that is no literal nothing is read.
+abbrev pub WorthOfOther : Type 0
+WorthOfOther = (text : Text) → ((l : Literal) → IsLiteral l → text ≢ spelled_literal l) → worth_of text ≡ None

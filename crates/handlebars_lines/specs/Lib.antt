@@ -3,6 +3,7 @@ pub mod Literal
 pub mod LiteralReading
 pub mod LiteralView
 pub mod Worth
+pub mod WorthReading
 pub mod Laws
 pub mod Parameter
 pub mod Binding

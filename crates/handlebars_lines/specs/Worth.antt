@@ -1,12 +1,10 @@
--- What literals are worth.
-use Rattle.std.specs.Prelude.{ℕ, ◌-◌, ◌&&◌, ◌==◌, nat_lt, if◌then◌else◌, [], ◌∷◌, ◌++◌, length, take, slice_index, Option, Some, None}
+-- What literals are worth, by their shapes.
+use Rattle.std.specs.Prelude.{◌&&◌, ◌==◌, if◌then◌else◌, [], ◌∷◌, ◌++◌, Option, None}
 use Rattle.serde_json.specs.Data.{Data}
 use Rattle.serde_json.specs.Read.{read as read_text}
 use Rattle.handlebars_base.specs.Bytes.{Text, double_quote, single_quote, backslash}
-use Rattle.handlebars_base.specs.PathReading.{◌>>=◌, with_or, after}
 use Rattle.handlebars_base.specs.Texts.{starts}
-use Rattle.handlebars_lines.specs.Literal.{Literal, quoted, single_quoted, number, word, empty, filled, spelled_literal}
-use Rattle.handlebars_lines.specs.LiteralReading.{Slice, literal_at}
+use Rattle.handlebars_lines.specs.Literal.{Literal, quoted, single_quoted, number, word, empty, filled, spelled_literal, keeps_numbers}
 
 -- the text with each `\'` made `'`
 abbrev pub plain_singles : Text → Text
@@ -33,26 +31,8 @@ json_of (word t) = spelled_literal (word t)
 json_of (empty k w) = spelled_literal (empty k w)
 json_of (filled k lead l w more) = spelled_literal (filled k lead l w more)
 
--- ---- by the text
-
--- what stands in front of the mark c at the end
-unfoldable pub before : ℕ → Text → Option Text
-before c t =
-    if nat_lt 0 (length t) && (slice_index t (length t - 1) == c) then Some (take (length t - 1) t) else None
-
--- what stands between single quotes
-abbrev pub unquoted : Text → Option Text
-unquoted t = after single_quote t >>= before single_quote
-
--- the JSON that the text of a literal is read as
-abbrev pub json_text : Text → Text
-json_text t = with_or (unquoted t) double_quoted t
-
--- A number that isn't kept would be a float there, or refused. The value alone doesn't tell: of a key that comes again
--- JSON keeps the last value, so a number before it is gone.
-abbrev pub worth : Slice → Option Data
-worth slice = if slice.kept then read_text (json_text slice.raw) else None
-
--- what the literal is worth that a text is
-unfoldable pub worth_of : Text → Option Data
-worth_of raw = literal_at raw >>= worth
+-- What a literal is worth: what its JSON is read as, where its numbers are kept, and else nothing. A number that isn't
+-- kept would be a float there, or refused. The value alone doesn't tell: of a key that comes again JSON keeps the last
+-- value, so a number before it is gone.
+abbrev pub worth : Literal → Option Data
+worth l = if keeps_numbers l then read_text (json_of l) else None

@@ -1,7 +1,7 @@
 //! Laws that callers may cite. Each is a function that does nothing: its contract is the law.
 
 ghost use Rattle.handlebars_lines.specs.Binding.{OneBinding};
-ghost use Rattle.handlebars_lines.specs.Laws.{OneLiteral, WorthOfLiteral};
+ghost use Rattle.handlebars_lines.specs.Laws.{OneLiteral, WorthOfLiteral, WorthOfOther};
 ghost use Rattle.handlebars_lines.specs.LineLaws.{OneLine, OneParameter};
 
 /// A text has at most one literal in front.
@@ -9,9 +9,10 @@ pub fn one_literal()
     ensures { OneLiteral }
 {}
 
-/// What a literal is worth, by its shape: its JSON is itself, but for a text in single quotes, whose quotes are turned.
+/// A literal's text is worth what the literal is worth by its shape, and any other text nothing.
 pub fn worth_of_literal()
-    ensures { WorthOfLiteral }
+    ensures literal { WorthOfLiteral }
+    ensures other { WorthOfOther }
 {}
 
 /// A text has at most one line in front.

@@ -7,15 +7,17 @@ ghost use Rattle.serde_json.specs.View.{view};
 ghost use Rattle.handlebars_base.specs.Bytes.{single_quote};
 ghost use Rattle.handlebars_base.specs.Texts.{starts};
 ghost use Rattle.handlebars_lines.specs.LiteralView.{slice_of};
-ghost use Rattle.handlebars_lines.specs.Worth.{plain_singles, escaped_doubles, double_quoted, before, unquoted, worth, worth_of};
+ghost use Rattle.handlebars_lines.specs.Worth.{plain_singles, escaped_doubles, double_quoted};
+ghost use Rattle.handlebars_lines.specs.WorthReading.{before, unquoted, slice_worth, worth_of};
 
 use crate::literal::{LiteralSlice, literal_at};
 use handlebars_base::json::path::marks::after;
 use handlebars_base::json::value::Json;
 use std::alloc::{AllocError, Global};
 
-/// The value of the literal that a text is, or none where one of its numbers is not kept or JSON refuses it.
-#[tactic(auto, unfolding(crate::specs::Worth::worth_of))]
+/// The value of the literal that a text is, or none where it is no literal, one of its numbers is not kept, or JSON
+/// refuses it.
+#[tactic(auto, unfolding(crate::specs::WorthReading::worth_of))]
 pub fn literal_value(alloc: Global, raw: &str) -> Result<Option<Json>, AllocError>
     ensures { IfOk result (λ read. option_map view read ≡ worth_of raw.now) }
 {
@@ -26,9 +28,9 @@ pub fn literal_value(alloc: Global, raw: &str) -> Result<Option<Json>, AllocErro
 }
 
 fn slice_value(alloc: Global, slice: LiteralSlice<'_>) -> Result<Option<Json>, AllocError>
-    ensures { IfOk result (λ read. option_map view read ≡ worth (slice_of slice.entry)) }
+    ensures { IfOk result (λ read. option_map view read ≡ slice_worth (slice_of slice.entry)) }
 {
-    if !slice.kept {
+    if !(slice.kept && slice.rest.is_empty()) {
         return Ok(None);
     }
     match unquoted(slice.raw) {
@@ -60,7 +62,7 @@ fn read_quoted(alloc: Global, inner: &str) -> Result<Option<Json>, AllocError>
 }
 
 /// What stands in front of a mark, where the mark ends the text.
-#[tactic(auto, unfolding(crate::specs::Worth::before))]
+#[tactic(auto, unfolding(crate::specs::WorthReading::before))]
 fn before(mark: u8, text: &str) -> Option<&str>
     requires { mark < 128 }
     ensures { option_map (λ front. front.now) result ≡ before mark text.now }

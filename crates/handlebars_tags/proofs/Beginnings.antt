@@ -1,21 +1,20 @@
--- What is inside a tag ends its source, and that of a comment stands behind `{{!`.
-use Rattle.std.proofs.Common.{◌≡◌, ◌≢◌, ℕ, Bool, true, false, cond, [], ◌∷◌, ◌++◌, Some, refl, ap, subst, ◌∙◌, codes, inl, inr}
-use Rattle.std.proofs.lemmas.Option.{same_Some}
-use Rattle.handlebars_base.specs.Bytes.{Text, ampersand, slash, left_brace, behind_white}
-use Rattle.handlebars_base.specs.PathReading.{with_or, after, behind_symbols}
-use Rattle.handlebars_base.specs.Path.{is_symbol}
-use Rattle.std.specs.List.{prefix_len}
-use Rattle.handlebars_base.proofs.OptionBinds.{bind_some, with_or_is}
+-- What is inside a tag ends its source behind some braces, and that of a comment stands behind `{{!`.
+use Rattle.std.proofs.Common.{◌≡◌, ◌≢◌, ◌<◌, Bool, true, false, cond, List, [], ◌∷◌, length, Option, Some, None, refl, ap, subst, ◌∙◌, codes, inl, inr, arith, length-append}
+use Rattle.std.specs.List.{AllByRecursion}
+use Rattle.std.proofs.lemmas.Option.{same_Some, none-some}
+use Rattle.handlebars_base.specs.Bytes.{Text, behind_white}
+use Rattle.handlebars_base.specs.PathReading.{◌>>=◌, after}
+use Rattle.handlebars_base.proofs.OptionBinds.{bind_some, with_or_is, cond_is}
 use Rattle.handlebars_base.specs.Texts.{IsEnd}
-use Rattle.handlebars_base.proofs.Ends.{end-all, end-behind, end-after, end-white, end-drop, end-after_white}
+use Rattle.handlebars_base.proofs.Ends.{end-all, end-behind, end-white, end-after_white, length-end}
 use Rattle.handlebars_lines.specs.Line.{tilde}
-use Rattle.handlebars_tags.specs.Kind.{Kind, expression_kind, html_kind, html_sign_kind, block_kind, close_kind, inverse_kind, else_kind, raw_kind, raw_close_kind, comment_kind, other_kind, exclamation, number_sign, caret, past, Beginning, beginning, tilde_at, starts_other, is_else, block_at, unsigned_at, signed_at, tilded_at, raw_at, braced_at, beginning_of}
+use Rattle.handlebars_tags.specs.Kind.{Kind, expression_kind, html_kind, html_sign_kind, block_kind, close_kind, inverse_kind, else_kind, raw_kind, raw_close_kind, comment_kind, other_kind, past, Beginning, beginning, tilde_at, Tilde, maybe_tilde, a_tilde, no_tilde, Sign, no_sign, mark, word, Row, row, rows, behind_tilde, ends_word, behind_sign, row_at, first_of, beginning_of}
 use Rattle.handlebars_tags.proofs.Marks.{past-takes}
 
 -- ---- ends of a text
 
-pub end-past : (mark t r : Text) → past mark t ≡ Some r → IsEnd t r
-end-past mark t r e = (mark, past-takes mark t r e)
+pub end-past : (m t r : Text) → past m t ≡ Some r → IsEnd t r
+end-past m t r e = (m, past-takes m t r e)
 
 pub end-tilde : (t : Text) → IsEnd t (tilde_at t).1
 end-tilde t = elim (with_or_is (after tilde (behind_white t)) (λ r. (true, behind_white r)) (false, behind_white t) (tilde_at t) refl) [
@@ -23,95 +22,114 @@ end-tilde t = elim (with_or_is (after tilde (behind_white t)) (λ r. (true, behi
   | inr none ↦ subst (λ (p : Bool × Text). IsEnd t p.1) none.1 (end-white t)
 ]
 
--- ---- what begins a tag
+end-behind_tilde : (m : Tilde) (t : Text) (p : Bool × Text) → behind_tilde m t ≡ Some p → IsEnd t p.1
+end-behind_tilde maybe_tilde t p e = subst (λ (q : Bool × Text). IsEnd t q.1) (same_Some (tilde_at t) p e) (end-tilde t)
+end-behind_tilde a_tilde t p e =
+    let h = bind_some (after tilde (behind_white t)) (λ r. Some (true, behind_white r)) p e in
+    subst (λ (q : Bool × Text). IsEnd t q.1) (same_Some (true, behind_white h.0) p h.2)
+    (end-behind t (behind_white t) (behind_white h.0) (end-white t) (end-after_white tilde (behind_white t) h.0 h.1))
+end-behind_tilde no_tilde t p e = subst (λ (q : Bool × Text). IsEnd t q.1) (same_Some (false, t) p e) (end-all t)
 
--- what is inside ends the text, and it is no comment
-record Inner (t : Text) (b : Beginning) : Type 0 where
-  end : IsEnd t b.inside
-  plain : b.kind ≢ comment_kind
-
-inner : (t r : Text) (k : Kind) (l : Bool) → IsEnd t r → k ≢ comment_kind → Inner t (beginning k l r)
-inner t r k l end plain = record { end = end; plain = plain }
-
-inner-behind : (t r : Text) (b : Beginning) → IsEnd t r → Inner r b → Inner t b
-inner-behind t r b end h = record { end = end-behind t r b.inside end h.end; plain = h.plain }
-
--- a choice of what follows a mark or of something else
-inner-choice : (c : ℕ) (t : Text) (f : Text → Beginning) (other : Beginning) → ((r : Text) → IsEnd t r → Inner t (f r)) → Inner t other → Inner t (with_or (after c t) f other)
-inner-choice c t f other some none = elim (with_or_is (after c t) f other (with_or (after c t) f other) refl) [
-  | inl there ↦ subst (Inner t) there.2 (some there.0 (end-after c t there.0 there.1))
-  | inr missing ↦ subst (Inner t) missing.1 none
-]
-
-inner-cond : (b : Bool) (t : Text) (x y : Beginning) → Inner t x → Inner t y → Inner t (cond b x y)
-inner-cond true t x y h k = h
-inner-cond false t x y h k = k
-
-inner-block : (l : Bool) (t : Text) → Inner t (block_at l t)
-inner-block l t = inner-cond (starts_other t) t _ _ (inner t t other_kind l (end-all t) (λ e. cc)) (inner t (behind_white t) block_kind l (end-white t) (λ e. cc))
-
-inner-unsigned : (l : Bool) (t : Text) → Inner t (unsigned_at l t)
-inner-unsigned l t = inner-cond (starts_other t) t _ _ (inner t t other_kind l (end-all t) (λ e. cc))
-    (inner-cond (is_else t) t _ _ (inner t (behind_symbols t) else_kind l (end-drop (prefix_len is_symbol t) t) (λ e. cc)) (inner t t expression_kind l (end-all t) (λ e. cc)))
-
-inner-white : (k : Kind) (l : Bool) (t r : Text) → k ≢ comment_kind → IsEnd t r → Inner t (beginning k l (behind_white r))
-inner-white k l t r plain end = inner t (behind_white r) k l (end-behind t r (behind_white r) end (end-white r)) plain
-
-inner-signed : (l : Bool) (t : Text) → Inner t (signed_at l t)
-inner-signed l t =
-    inner-choice ampersand t _ _ (λ r end. inner-white html_sign_kind l t r (λ e. cc) end)
-    (inner-choice number_sign t _ _ (λ r end. inner-behind t r (block_at l r) end (inner-block l r))
-    (inner-choice slash t _ _ (λ r end. inner-white close_kind l t r (λ e. cc) end)
-    (inner-choice caret t _ _ (λ r end. inner t r inverse_kind l end (λ e. cc)) (inner-unsigned l t))))
-
-inner-tilded : (p : Bool × Text) → Inner p.1 (tilded_at p)
-inner-tilded (true, t) = inner-choice left_brace t _ _ (λ r end. inner-white html_kind true t r (λ e. cc) end) (inner-signed true t)
-inner-tilded (false, t) = inner-signed false t
-
-inner-raw : (p : Bool × Text) → Inner p.1 (raw_at p)
-inner-raw (l, t) = inner-choice slash t _ _ (λ r end. inner-white raw_close_kind l t r (λ e. cc) end) (inner t t raw_kind l (end-all t) (λ e. cc))
-
--- Inside the braces stands what ends the text, and a comment stands behind its mark.
-pub record Braced (t : Text) (b : Beginning) : Type 0 where
-  pub end : IsEnd t b.inside
-  pub comment : b.kind ≡ comment_kind → after exclamation t ≡ Some b.inside
-
-braced-inner : (t : Text) (b : Beginning) → Inner t b → Braced t b
-braced-inner t b h = record { end = h.end; comment = λ e. absurd (h.plain e) }
-
-pub braced : (t : Text) → Braced t (braced_at t)
-braced t = elim (with_or_is (past (codes "{{") t) (λ r. raw_at (tilde_at r)) _ (braced_at t) refl) [
-  | inl raw ↦ subst (Braced t) raw.2 (braced-inner t _ (inner-behind t (tilde_at raw.0).1 (raw_at (tilde_at raw.0)) (end-behind t raw.0 (tilde_at raw.0).1 (end-past (codes "{{") t raw.0 raw.1) (end-tilde raw.0)) (inner-raw (tilde_at raw.0))))
-  | inr two ↦ elim (with_or_is (after left_brace t) (λ r. beginning html_kind (tilde_at r).0 (tilde_at r).1) _ (braced_at t) two.1) [
-    | inl html ↦ subst (Braced t) html.2 (braced-inner t _ (inner t (tilde_at html.0).1 html_kind (tilde_at html.0).0 (end-behind t html.0 (tilde_at html.0).1 (end-after left_brace t html.0 html.1) (end-tilde html.0)) (λ e. cc)))
-    | inr one ↦ elim (with_or_is (after exclamation t) (beginning comment_kind false) (tilded_at (tilde_at t)) (braced_at t) one.1) [
-      | inl comment ↦ subst (Braced t) comment.2 (record { end = end-after exclamation t comment.0 comment.1; comment = λ e. comment.1 })
-      | inr other ↦ subst (Braced t) other.1 (braced-inner t _ (inner-behind t (tilde_at t).1 (tilded_at (tilde_at t)) (end-tilde t) (inner-tilded (tilde_at t))))
+end-behind_sign : (s : Sign) (t r : Text) → behind_sign s t ≡ Some r → IsEnd t r
+end-behind_sign no_sign t r e = subst (IsEnd t) (same_Some t r e) (end-all t)
+end-behind_sign (mark m) t r e =
+    let h = bind_some (past m t) (λ s. Some (behind_white s)) r e in
+    subst (IsEnd t) (same_Some (behind_white h.0) r h.2) (end-behind t h.0 (behind_white h.0) (end-past m t h.0 h.1) (end-white h.0))
+end-behind_sign (word w) t r e =
+    let h = bind_some (past w t) (λ s. cond (ends_word s) (Some s) None) r e in
+    elim (cond_is (ends_word h.0) (Some h.0) None (Some r) h.2) [
+      | inl there ↦ subst (IsEnd t) (same_Some h.0 r there.1) (end-past w t h.0 h.1)
+      | inr none ↦ absurd (none-some r none.1)
     ]
-  ]
-]
+
+-- ---- what begins a tag
 
 -- In front of the tag's inside stand its braces, and `{{!` in front of a comment's.
 pub record Begun (left : Text) (b : Beginning) : Type 0 where
   pub end : IsEnd left b.inside
+  pub shorter : length b.inside < length left
   pub comment : b.kind ≡ comment_kind → past (codes "{{!") left ≡ Some b.inside
+
+-- what a row reads in front of a text: its braces, what is behind them, and its kind
+record RowRead (r : Row) (t : Text) (b : Beginning) : Type 0 where
+  behind : Text
+  read : Bool × Text
+  braces : past r.braces t ≡ Some behind
+  tilde : behind_tilde r.tilde behind ≡ Some read
+  sign : behind_sign r.sign read.1 ≡ Some b.inside
+  kind : r.kind ≡ b.kind
+
+row-read : (r : Row) (t : Text) (b : Beginning) → row_at r t ≡ Some b → RowRead r t b
+row-read r t b e =
+    let last : Bool × Text → Option Beginning = λ p. behind_sign r.sign p.1 >>= λ inside. Some (beginning r.kind p.0 inside) in
+    let h = bind_some (past r.braces t >>= behind_tilde r.tilde) last b e in
+    let k = bind_some (past r.braces t) (behind_tilde r.tilde) h.0 h.1 in
+    let l = bind_some (behind_sign r.sign h.0.1) (λ inside. Some (beginning r.kind h.0.0 inside)) b h.2 in
+    let same = same_Some (beginning r.kind h.0.0 l.0) b l.2 in
+    record {
+      behind = k.0;
+      read = h.0;
+      braces = k.1;
+      tilde = k.2;
+      sign = l.1 ∙ ap (λ (c : Beginning). Some c.inside) same;
+      kind = ap (λ (c : Beginning). c.kind) same;
+    }
+
+-- what begins by a row has begun
+record IsBegun (r : Row) : Type 0 where
+  begins : (t : Text) (b : Beginning) → row_at r t ≡ Some b → Begun t b
+
+begun-row : (r : Row) → 0 < length r.braces → ((t : Text) (b : Beginning) → RowRead r t b → b.kind ≡ comment_kind → past (codes "{{!") t ≡ Some b.inside) → IsBegun r
+begun-row r long comment = record {
+  begins = λ t b e.
+      let x = row-read r t b e in
+      let inner : IsEnd x.behind b.inside = end-behind x.behind x.read.1 b.inside (end-behind_tilde r.tilde x.behind x.read x.tilde) (end-behind_sign r.sign x.read.1 b.inside x.sign) in
+      record {
+        end = end-behind t x.behind b.inside (end-past r.braces t x.behind x.braces) inner;
+        shorter = omega (arith, long, ap length (past-takes r.braces t x.behind x.braces), length-append r.braces x.behind, length-end x.behind b.inside inner);
+        comment = comment t b x;
+      };
+}
+
+comment : IsBegun (row (codes "{{!") no_tilde no_sign comment_kind)
+comment = begun-row (row (codes "{{!") no_tilde no_sign comment_kind) (omega arith)
+    (λ t b x k. x.braces ∙ ap (λ (p : Bool × Text). Some p.1) (same_Some (false, x.behind) x.read x.tilde) ∙ x.sign)
+
+-- one row, and more behind it
+infixr 10 ◌&◌
+◌&◌ : {A B : Type 0} → A → B → A × B
+h & k = (h, k)
+
+-- a row of another kind
+other : (braces : Text) (tilde : Tilde) (sign : Sign) (kind : Kind) → 0 < length braces → kind ≢ comment_kind → IsBegun (row braces tilde sign kind)
+other braces tilde sign kind long plain = begun-row (row braces tilde sign kind) long (λ t b x k. absurd (plain (x.kind ∙ k)))
+
+begun-rows : AllByRecursion IsBegun rows
+begun-rows =
+    other _ _ _ raw_close_kind (omega arith) (λ e. cc) &
+    other _ _ _ raw_kind (omega arith) (λ e. cc) &
+    other _ _ _ html_kind (omega arith) (λ e. cc) &
+    comment &
+    other _ _ _ html_kind (omega arith) (λ e. cc) &
+    other _ _ _ html_sign_kind (omega arith) (λ e. cc) &
+    other _ _ _ other_kind (omega arith) (λ e. cc) &
+    other _ _ _ other_kind (omega arith) (λ e. cc) &
+    other _ _ _ block_kind (omega arith) (λ e. cc) &
+    other _ _ _ close_kind (omega arith) (λ e. cc) &
+    other _ _ _ inverse_kind (omega arith) (λ e. cc) &
+    other _ _ _ other_kind (omega arith) (λ e. cc) &
+    other _ _ _ other_kind (omega arith) (λ e. cc) &
+    other _ _ _ else_kind (omega arith) (λ e. cc) &
+    other _ _ _ expression_kind (omega arith) (λ e. cc) &
+    record {}
+
+begun-first : (rs : List Row) (t : Text) (b : Beginning) → AllByRecursion IsBegun rs → first_of rs t ≡ Some b → Begun t b
+begun-first [] t b h e = absurd (none-some b e)
+begun-first (r ∷ rs) t b h e = elim (with_or_is (row_at r t) Some (first_of rs t) (Some b) e) [
+  | inl here ↦ h.0.begins t b (here.1 ∙ here.2)
+  | inr later ↦ begun-first rs t b h.1 later.1
+]
 
 pub begun : (left : Text) (b : Beginning) → beginning_of left ≡ Some b → Begun left b
 unfolding beginning_of
-begun left b e =
-    let h = bind_some (past (codes "{{") left) (λ r. Some (braced_at r)) b e in
-    let inside = braced h.0 in
-    let same : braced_at h.0 ≡ b = same_Some (braced_at h.0) b h.2 in
-    subst (Begun left) same (record {
-      end = end-behind left h.0 (braced_at h.0).inside (end-past (codes "{{") left h.0 h.1) inside.end;
-      comment = λ k. past-more (codes "{{") (codes "!") left h.0 h.1 (mark-one exclamation h.0 (braced_at h.0).inside (inside.comment k));
-    })
-  where
-    mark-one : (c : ℕ) (t r : Text) → after c t ≡ Some r → past (c ∷ []) t ≡ Some r
-    mark-one c t r e = rw e refl
-
-    past-more : (mark more t r : Text) {s : Text} → past mark t ≡ Some r → past more r ≡ Some s → past (mark ++ more) t ≡ Some s
-    past-more [] more t r e h = ap (past more) (same_Some t r e) ∙ h
-    past-more (c ∷ mark) more t r {s} e h =
-        let k = bind_some (after c t) (past mark) r e in
-        rw k.1 (past-more mark more k.0 r k.2 h)
+begun left b e = begun-first rows left b begun-rows e

@@ -12,7 +12,7 @@ use Rattle.handlebars_base.proofs.Ends.{end-all, end-behind, end-after, end-whit
 use Rattle.handlebars_lines.specs.Parameter.{spelled_shape, spelled_items}
 use Rattle.handlebars_lines.specs.Line.{Line, Enclosure, IsLine, tilde}
 use Rattle.handlebars_lines.specs.Binding.{Binding, bar, IsBinding, is_unbound, is_bound, spelled_names}
-use Rattle.handlebars_tags.specs.Kind.{Kind, expression_kind, html_kind, html_sign_kind, block_kind, close_kind, inverse_kind, else_kind, raw_kind, raw_close_kind, comment_kind, other_kind, past, tilde_at, split_close, three_close, closing_of}
+use Rattle.handlebars_tags.specs.Kind.{Kind, expression_kind, html_kind, html_sign_kind, block_kind, close_kind, inverse_kind, else_kind, raw_kind, raw_close_kind, comment_kind, other_kind, past, tilde_at, close_by, brace_tilde_braces, three_close, closing_of}
 use Rattle.handlebars_tags.specs.Comment.{IsComment, long, compact}
 use Rattle.handlebars_tags.specs.Tag.{Tag, BlockLine, IsBlockLine, is_close_symbol, enclosed_at, close_name_at, Says}
 use Rattle.handlebars_tags.specs.TagReading.{IsClosed}
@@ -21,14 +21,14 @@ use Rattle.handlebars_tags.proofs.Insides.{said}
 
 -- ---- what closes a tag
 
-end-tilded : (mark t : Text) (p : Bool × Text) → (past mark (tilde_at t).1 >>= λ r. Some ((tilde_at t).0, r)) ≡ Some p → IsEnd t p.1
-end-tilded mark t p e =
+end-close_by : (mark t : Text) (p : Bool × Text) → close_by mark t ≡ Some p → IsEnd t p.1
+end-close_by mark t p e =
     let h = bind_some (past mark (tilde_at t).1) (λ r. Some ((tilde_at t).0, r)) p e in
     subst (λ (q : Bool × Text). IsEnd t q.1) (same_Some ((tilde_at t).0, h.0) p h.2)
     (end-behind t (tilde_at t).1 h.0 (end-tilde t) (end-past mark (tilde_at t).1 h.0 h.1))
 
-end-split : (t : Text) (p : Bool × Text) → split_close t ≡ Some p → IsEnd t p.1
-end-split t p e =
+end-brace_tilde_braces : (t : Text) (p : Bool × Text) → brace_tilde_braces t ≡ Some p → IsEnd t p.1
+end-brace_tilde_braces t p e =
     let last : Text → Option (Bool × Text) = λ s. past (codes "}}") (behind_white s) >>= λ u. Some (true, u) in
     let h = bind_some (after right_brace (behind_white t)) (λ r. after tilde (behind_white r) >>= last) p e in
     let k = bind_some (after tilde (behind_white h.0)) last p h.2 in
@@ -38,25 +38,23 @@ end-split t p e =
     let three : IsEnd k.0 l.0 = end-behind k.0 (behind_white k.0) l.0 (end-white k.0) (end-past (codes "}}") (behind_white k.0) l.0 l.1) in
     subst (λ (q : Bool × Text). IsEnd t q.1) (same_Some (true, l.0) p l.2) (end-behind t h.0 l.0 one (end-behind h.0 k.0 l.0 two three))
 
-end-three : (t : Text) (p : Bool × Text) → three_close t ≡ Some p → IsEnd t p.1
-end-three t p e = elim (with_or_is (past (codes "}}}") (tilde_at t).1) (λ r. Some ((tilde_at t).0, r)) (split_close t) (Some p) e) [
-  | inl there ↦
-      subst (λ (q : Bool × Text). IsEnd t q.1) (same_Some ((tilde_at t).0, there.0) p there.2)
-      (end-behind t (tilde_at t).1 there.0 (end-tilde t) (end-past (codes "}}}") (tilde_at t).1 there.0 there.1))
-  | inr none ↦ end-split t p none.1
+end-three_close : (t : Text) (p : Bool × Text) → three_close t ≡ Some p → IsEnd t p.1
+end-three_close t p e = elim (with_or_is (close_by (codes "}}}") t) Some (brace_tilde_braces t) (Some p) e) [
+  | inl there ↦ end-close_by (codes "}}}") t p (there.1 ∙ there.2)
+  | inr none ↦ end-brace_tilde_braces t p none.1
 ]
 
 end-closing : (k : Kind) (t : Text) (p : Bool × Text) → closing_of k t ≡ Some p → IsEnd t p.1
 unfolding closing_of
-end-closing expression_kind t p e = end-tilded (codes "}}") t p e
-end-closing html_kind t p e = end-three t p e
-end-closing html_sign_kind t p e = end-tilded (codes "}}") t p e
-end-closing block_kind t p e = end-tilded (codes "}}") t p e
-end-closing close_kind t p e = end-tilded (codes "}}") t p e
-end-closing inverse_kind t p e = end-tilded (codes "}}") t p e
-end-closing else_kind t p e = end-tilded (codes "}}") t p e
-end-closing raw_kind t p e = end-tilded (codes "}}}}") t p e
-end-closing raw_close_kind t p e = end-tilded (codes "}}}}") t p e
+end-closing expression_kind t p e = end-close_by (codes "}}") t p e
+end-closing html_kind t p e = end-three_close t p e
+end-closing html_sign_kind t p e = end-close_by (codes "}}") t p e
+end-closing block_kind t p e = end-close_by (codes "}}") t p e
+end-closing close_kind t p e = end-close_by (codes "}}") t p e
+end-closing inverse_kind t p e = end-close_by (codes "}}") t p e
+end-closing else_kind t p e = end-close_by (codes "}}") t p e
+end-closing raw_kind t p e = end-close_by (codes "}}}}") t p e
+end-closing raw_close_kind t p e = end-close_by (codes "}}}}") t p e
 end-closing comment_kind t p e = subst (λ (q : Bool × Text). IsEnd t q.1) (same_Some (false, t) p e) (end-all t)
 end-closing other_kind t p e = absurd (none-some p e)
 

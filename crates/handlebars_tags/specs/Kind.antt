@@ -1,22 +1,9 @@
 -- The kind of a tag, by its beginning, and what closes it.
-use Rattle.std.specs.Prelude.{ℕ, Bool, true, false, ◌&&◌, ◌||◌, ◌==◌, if◌then◌else◌, [], ◌∷◌, Option, Some, None, codes, is_some}
-use Rattle.std.specs.Str.{bytes_eq}
-use Rattle.handlebars_base.specs.Bytes.{Text, ampersand, slash, greater, left_brace, right_brace, is_white, behind_white}
-use Rattle.handlebars_base.specs.PathReading.{◌>>=◌, with_or, after, symbols_of, behind_symbols}
+use Rattle.std.specs.Prelude.{Bool, true, false, ◌||◌, ◌==◌, if◌then◌else◌, List, [], ◌∷◌, Option, Some, None, codes, is_some}
+use Rattle.handlebars_base.specs.Bytes.{Text, right_brace, is_white, behind_white}
+use Rattle.handlebars_base.specs.PathReading.{◌>>=◌, with_or, after}
 use Rattle.handlebars_base.specs.Texts.{starts}
 use Rattle.handlebars_lines.specs.Line.{tilde}
-
-abbrev pub exclamation : ℕ
-exclamation = 33
-
-abbrev pub number_sign : ℕ
-number_sign = 35
-
-abbrev pub asterisk : ℕ
-asterisk = 42
-
-abbrev pub caret : ℕ
-caret = 94
 
 -- what follows a mark of several bytes
 abbrev pub past : Text → Text → Option Text
@@ -51,85 +38,109 @@ beginning kind tilde inside = record { kind = kind; tilde = tilde; inside = insi
 abbrev pub tilde_at : Text → Bool × Text
 tilde_at t = with_or (after tilde (behind_white t)) (λ r. (true, behind_white r)) (false, behind_white t)
 
--- the identifier `else`, before white, a tilde or closing braces
-abbrev pub ends_else : Text → Bool
-ends_else t = starts (λ b. is_white b || (b == tilde)) t || is_some (past (codes "}}") t)
+-- ---- the table of kinds
 
-abbrev pub is_else : Text → Bool
-is_else t = bytes_eq (symbols_of t) (codes "else") && ends_else (behind_symbols t)
+-- What stands behind the braces: white or none, and a tilde with white or none behind it, where one stands there; the
+-- same, with the tilde; or what is inside at once.
+pub data Tilde : Type 0 where
+  maybe_tilde : Tilde
+  a_tilde : Tilde
+  no_tilde : Tilde
 
--- the sign of a decorator or of an inclusion, which aren't there yet
-abbrev pub starts_other : Text → Bool
-starts_other t = starts (λ b. (b == asterisk) || (b == greater)) t
+-- what stands in front of what is inside: nothing; a mark, with white or none behind it; or a word by itself
+pub data Sign : Type 0 where
+  no_sign : Sign
+  mark : Text → Sign
+  word : Text → Sign
 
--- behind `#`
-abbrev pub block_at : Bool → Text → Beginning
-block_at l t = if starts_other t then beginning other_kind l t else beginning block_kind l (behind_white t)
+-- braces, a tilde and a sign, and the kind of tag that begins so
+pub record Row : Type 0 where
+  pub braces : Text
+  pub tilde : Tilde
+  pub sign : Sign
+  pub kind : Kind
 
--- with no other sign
-abbrev pub unsigned_at : Bool → Text → Beginning
-unsigned_at l t =
-    if starts_other t
-    then beginning other_kind l t
-    else (if is_else t then beginning else_kind l (behind_symbols t) else beginning expression_kind l t)
+abbrev pub row : Text → Tilde → Sign → Kind → Row
+row braces tilde sign kind = record { braces = braces; tilde = tilde; sign = sign; kind = kind }
 
--- behind the opening braces and a tilde, if any: a sign, or `else`
-abbrev pub signed_at : Bool → Text → Beginning
-signed_at l t =
-    with_or (after ampersand t) (λ r. beginning html_sign_kind l (behind_white r))
-    (with_or (after number_sign t) (block_at l)
-    (with_or (after slash t) (λ r. beginning close_kind l (behind_white r))
-    (with_or (after caret t) (beginning inverse_kind l) (unsigned_at l t))))
+-- The ordered table: a tag is of the kind of the first row that stands in front. `*` and `>` are the signs of decorators
+-- and of inclusions.
+abbrev pub rows : List Row
+rows =
+    row (codes "{{{{") maybe_tilde (mark (codes "/")) raw_close_kind ∷
+    row (codes "{{{{") maybe_tilde no_sign raw_kind ∷
+    row (codes "{{{") maybe_tilde no_sign html_kind ∷
+    row (codes "{{!") no_tilde no_sign comment_kind ∷
+    row (codes "{{") a_tilde (mark (codes "{")) html_kind ∷
+    row (codes "{{") maybe_tilde (mark (codes "&")) html_sign_kind ∷
+    row (codes "{{") maybe_tilde (mark (codes "#*")) other_kind ∷
+    row (codes "{{") maybe_tilde (mark (codes "#>")) other_kind ∷
+    row (codes "{{") maybe_tilde (mark (codes "#")) block_kind ∷
+    row (codes "{{") maybe_tilde (mark (codes "/")) close_kind ∷
+    row (codes "{{") maybe_tilde (mark (codes "^")) inverse_kind ∷
+    row (codes "{{") maybe_tilde (mark (codes "*")) other_kind ∷
+    row (codes "{{") maybe_tilde (mark (codes ">")) other_kind ∷
+    row (codes "{{") maybe_tilde (word (codes "else")) else_kind ∷
+    row (codes "{{") maybe_tilde no_sign expression_kind ∷ []
 
--- behind two braces and a tilde, if any: a third brace counts only behind a tilde
-abbrev pub tilded_at : Bool × Text → Beginning
-tilded_at (true, t) = with_or (after left_brace t) (λ r. beginning html_kind true (behind_white r)) (signed_at true t)
-tilded_at (false, t) = signed_at false t
+-- ---- how it is read
 
-abbrev pub raw_at : Bool × Text → Beginning
-raw_at (l, t) = with_or (after slash t) (λ r. beginning raw_close_kind l (behind_white r)) (beginning raw_kind l t)
+-- whether a tilde stands there, and what follows it
+abbrev pub behind_tilde : Tilde → Text → Option (Bool × Text)
+behind_tilde maybe_tilde t = Some (tilde_at t)
+behind_tilde a_tilde t = after tilde (behind_white t) >>= λ r. Some (true, behind_white r)
+behind_tilde no_tilde t = Some (false, t)
 
--- The ordered table: four braces, three, a comment's mark, and else what follows two braces and a tilde, if any.
-abbrev pub braced_at : Text → Beginning
-braced_at t =
-    with_or (past (codes "{{") t) (λ r. raw_at (tilde_at r))
-    (with_or (after left_brace t) (λ r. beginning html_kind (tilde_at r).0 (tilde_at r).1)
-    (with_or (after exclamation t) (beginning comment_kind false)
-    (tilded_at (tilde_at t))))
+-- white, a tilde or closing braces, before which a word ends
+abbrev pub ends_word : Text → Bool
+ends_word t = starts (λ b. is_white b || (b == tilde)) t || is_some (past (codes "}}") t)
+
+abbrev pub behind_sign : Sign → Text → Option Text
+behind_sign no_sign t = Some t
+behind_sign (mark m) t = past m t >>= λ r. Some (behind_white r)
+behind_sign (word w) t = past w t >>= λ r. if ends_word r then Some r else None
+
+-- the beginning that a row is
+abbrev pub row_at : Row → Text → Option Beginning
+row_at row t =
+    past row.braces t >>= behind_tilde row.tilde >>=
+    λ p. behind_sign row.sign p.1 >>= λ inside. Some (beginning row.kind p.0 inside)
+
+-- that of the first row that stands in front
+abbrev pub first_of : List Row → Text → Option Beginning
+first_of [] t = None
+first_of (row ∷ rest) t = with_or (row_at row t) Some (first_of rest t)
 
 -- the beginning of the tag in front
 unfoldable pub beginning_of : Text → Option Beginning
-beginning_of t = past (codes "{{") t >>= λ r. Some (braced_at r)
+beginning_of t = first_of rows t
 
 -- ---- what closes a tag
 
--- two braces behind a tilde, if any: whether one stood there, and what follows
-abbrev pub two_close : Text → Option (Bool × Text)
-two_close t = past (codes "}}") (tilde_at t).1 >>= λ r. Some ((tilde_at t).0, r)
-
-abbrev pub four_close : Text → Option (Bool × Text)
-four_close t = past (codes "}}}}") (tilde_at t).1 >>= λ r. Some ((tilde_at t).0, r)
+-- these braces behind a tilde, if any: whether one stood there, and what follows
+abbrev pub close_by : Text → Text → Option (Bool × Text)
+close_by braces t = past braces (tilde_at t).1 >>= λ r. Some ((tilde_at t).0, r)
 
 -- one brace, a tilde, and two braces
-abbrev pub split_close : Text → Option (Bool × Text)
-split_close t =
+abbrev pub brace_tilde_braces : Text → Option (Bool × Text)
+brace_tilde_braces t =
     after right_brace (behind_white t) >>= λ r. after tilde (behind_white r) >>=
     λ s. past (codes "}}") (behind_white s) >>= λ u. Some (true, u)
 
 -- three braces behind a tilde, if any, or with a tilde between the first and the others
 abbrev pub three_close : Text → Option (Bool × Text)
-three_close t = with_or (past (codes "}}}") (tilde_at t).1) (λ r. Some ((tilde_at t).0, r)) (split_close t)
+three_close t = with_or (close_by (codes "}}}") t) Some (brace_tilde_braces t)
 
 -- whether a tilde stands before the closing braces, and what follows them. A comment holds its own.
 unfoldable pub closing_of : Kind → Text → Option (Bool × Text)
-closing_of expression_kind t = two_close t
+closing_of expression_kind t = close_by (codes "}}") t
 closing_of html_kind t = three_close t
-closing_of html_sign_kind t = two_close t
-closing_of block_kind t = two_close t
-closing_of close_kind t = two_close t
-closing_of inverse_kind t = two_close t
-closing_of else_kind t = two_close t
-closing_of raw_kind t = four_close t
-closing_of raw_close_kind t = four_close t
+closing_of html_sign_kind t = close_by (codes "}}") t
+closing_of block_kind t = close_by (codes "}}") t
+closing_of close_kind t = close_by (codes "}}") t
+closing_of inverse_kind t = close_by (codes "}}") t
+closing_of else_kind t = close_by (codes "}}") t
+closing_of raw_kind t = close_by (codes "}}}}") t
+closing_of raw_close_kind t = close_by (codes "}}}}") t
 closing_of comment_kind t = Some (false, t)
 closing_of other_kind t = None

@@ -11,7 +11,7 @@ use Rattle.handlebars_base.specs.Path.{Reference, raw_of}
 use Rattle.handlebars_base.specs.PathReading.{◌>>=◌, with_or, path_of}
 use Rattle.handlebars_lines.specs.Parameter.{Term, literal_term, path_term, call_term, Terms, no_terms, term}
 use Rattle.handlebars_lines.specs.LineReading.{Event, opened, literal_event, path_event, closed, Frame, joined, new_frame, add_term, Frames, added_in, closed_in, build, build_all}
-use Rattle.handlebars_lines.specs.Worth.{worth_of}
+use Rattle.handlebars_lines.specs.WorthReading.{worth_of}
 use Rattle.handlebars_template.specs.Tree.{expression, Param, name, path, subexpression, Params, param, Pairs, no_pairs, pair, lacks_params, lacks_pairs}
 use Rattle.handlebars_template.specs.Calls.{plain_call, put_pair, literal_param, lacks_terms, param_of, name_of, params_in, pairs_in, literals_of, literals_in, first_refused}
 use Rattle.handlebars_template.specs.LineBuilding.{OpenCall, open_call, OpenCalls, open_calls, with_param, add, is_alone, closed_name, called, close, refuse, take, take_all}

@@ -12,7 +12,7 @@ use Rattle.handlebars_lines.specs.LiteralReading.{Slice, literal_at}
 use Rattle.handlebars_lines.specs.Parameter.{Term, literal_term, path_term, call_term, IsParameter}
 use Rattle.handlebars_lines.specs.Line.{in_parentheses, Line, IsLine, NoLine}
 use Rattle.handlebars_lines.specs.LineLaws.{HasLine}
-use Rattle.handlebars_lines.specs.Worth.{worth_of}
+use Rattle.handlebars_lines.specs.WorthReading.{worth_of}
 use Rattle.handlebars_lines.proofs.LiteralsFound.{literal_at-is, literal_at-some}
 use Rattle.handlebars_lines.proofs.Parameters.{nested-has, nested-no_line, nested-goes_on, literal-is, path-is, single-goes_on, single-no_path, one_parameter}
 use Rattle.handlebars_template.specs.Tree.{expression, Param, path, literal, subexpression}

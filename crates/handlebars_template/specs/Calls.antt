@@ -8,7 +8,7 @@ use Rattle.handlebars_base.specs.Path.{Reference, raw_of}
 use Rattle.handlebars_base.specs.Reasons.{TemplateRefusal, invalid_param}
 use Rattle.handlebars_lines.specs.Parameter.{Term, literal_term, path_term, call_term, Terms, no_terms, term}
 use Rattle.handlebars_lines.specs.Line.{Line}
-use Rattle.handlebars_lines.specs.Worth.{worth_of}
+use Rattle.handlebars_lines.specs.WorthReading.{worth_of}
 use Rattle.handlebars_template.specs.Tree.{CallMarks, expression, Call, call, args, bodies, Param, name, path, literal, subexpression, Params, no_params, param, Pairs, no_pairs, pair, no_binding, no_body}
 
 -- no block, not chained, and not on a line of its own

@@ -6,7 +6,7 @@ use Rattle.handlebars_base.specs.Path.{Reference, raw_of}
 use Rattle.handlebars_base.specs.PathReading.{◌>>=◌, with_or, path_of}
 use Rattle.handlebars_lines.specs.Line.{Line}
 use Rattle.handlebars_lines.specs.LineReading.{Event, opened, literal_event, path_event, closed}
-use Rattle.handlebars_lines.specs.Worth.{worth_of}
+use Rattle.handlebars_lines.specs.WorthReading.{worth_of}
 use Rattle.handlebars_template.specs.Tree.{expression, Param, name, path, literal, subexpression, Params, no_params, param, Pairs, no_pairs, lacks_params, lacks_pairs}
 use Rattle.handlebars_template.specs.Calls.{plain_call, put_pair, literal_param, name_of, params_in, pairs_in, first_refused, line_literals}
 

@@ -10,7 +10,7 @@ use Rattle.handlebars_lines.specs.Binding.{behind_bar, behind_beginning}
 use Rattle.handlebars_lines.specs.LineReading as line
 use Rattle.handlebars_lines.specs.Literal.{is_kept, number_of}
 use Rattle.handlebars_lines.specs.LiteralReading as literal
-use Rattle.handlebars_lines.specs.Worth.{worth_of, before}
+use Rattle.handlebars_lines.specs.WorthReading.{worth_of, before}
 use Rattle.handlebars_tags.specs.Kind.{beginning_of, closing_of}
 use Rattle.handlebars_template.specs.Calls.{plain_call, plain_marks}
 use Rattle.handlebars_template.specs.Compile.{Compiles, compiled, no_options}

@@ -11,7 +11,7 @@ use Rattle.handlebars_lines.specs.Line.{in_tag}
 use Rattle.handlebars_lines.specs.LineReading as line
 use Rattle.handlebars_lines.specs.Literal.{is_kept, number_of}
 use Rattle.handlebars_lines.specs.LiteralReading as literal
-use Rattle.handlebars_lines.specs.Worth.{worth_of, before}
+use Rattle.handlebars_lines.specs.WorthReading.{worth_of, before}
 use Rattle.handlebars_tags.specs.Text.{two_braces, IsText, at_tag, a_byte, two_escaped}
 use Rattle.handlebars_tags.specs.Kind.{beginning_of, closing_of}
 use Rattle.handlebars_template.specs.Compile.{no_options}

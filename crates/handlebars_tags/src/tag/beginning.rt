@@ -1,14 +1,14 @@
 //! How tags begin.
 
-ghost use Rattle.std.specs.Prelude.{◌≡◌, ◌||◌, ◌==◌};
+ghost use Rattle.std.specs.Prelude.{◌≡◌, ◌||◌, ◌==◌, map};
 ghost use Rattle.std.specs.Option.{option_map};
 ghost use Rattle.handlebars_base.specs.Bytes.{is_white};
 ghost use Rattle.handlebars_base.specs.Texts.{starts};
-ghost use Rattle.handlebars_tags.specs.Kind.{starts_other, ends_else, is_else, block_at, signed_at, unsigned_at, tilde_at, tilded_at, raw_at, braced_at, beginning_of};
-ghost use Rattle.handlebars_tags.specs.KindView.{beginning_view};
+ghost use Rattle.handlebars_tags.specs.Kind.{row, rows, row_at, behind_tilde, behind_sign, ends_word, beginning_of};
+ghost use Rattle.handlebars_tags.specs.KindView.{kind_of, tilde_of, sign_of, row_of, beginning_view, tilded};
 
 use crate::front::{past, tilde_at};
-use handlebars_base::json::path::marks::{after, behind_white, is_white, symbols};
+use handlebars_base::json::path::marks::{after, behind_white, is_white};
 
 /// The kind of a tag, by its beginning.
 #[derive(Clone, Copy, Debug, PartialEq, Eq)]
@@ -34,173 +34,131 @@ pub struct Beginning<'a> {
     pub inside: &'a str,
 }
 
-/// The beginning of the tag in front.
+/// Whether a tilde stands behind braces, with white around it or none.
+#[derive(Clone, Copy)]
+enum Tilde {
+    Maybe,
+    One,
+    Unread,
+}
+
+/// What stands behind that.
+#[derive(Clone, Copy)]
+enum Sign {
+    Nothing,
+    /// These bytes, with white or none behind them.
+    Mark(&'static str),
+    /// A word by itself.
+    Word(&'static str),
+}
+
+#[derive(Clone, Copy)]
+struct Row {
+    braces: &'static str,
+    tilde: Tilde,
+    sign: Sign,
+    kind: Kind,
+}
+
+impl Row {
+    fn new(braces: &'static str, tilde: Tilde, sign: Sign, kind: Kind) -> Row
+        ensures { row_of result ≡ row braces.now (tilde_of tilde) (sign_of sign) (kind_of kind) }
+    {
+        Row {
+            braces,
+            tilde,
+            sign,
+            kind,
+        }
+    }
+}
+
+/// The beginning of the tag in front: that of the first row that stands there.
 #[tactic(auto, unfolding(crate::specs::Kind::beginning_of))]
 pub fn beginning_of(left: &str) -> Option<Beginning<'_>>
     ensures { option_map beginning_view result ≡ beginning_of left.now }
 {
-    match past("{{", left) {
-        Some(inside) => Some(braced_at(inside)),
-        None => None,
-    }
-}
-
-fn braced_at(text: &str) -> Beginning<'_>
-    ensures { beginning_view result ≡ braced_at text.now }
-{
-    if let Some(inside) = past("{{", text) {
-        return raw_at(inside);
-    }
-    if let Some(inside) = after(b'{', text) {
-        let (tilde, inside) = tilde_at(inside);
-        return Beginning {
-            kind: Kind::Html,
-            tilde,
-            inside,
-        };
-    }
-    match after(b'!', text) {
-        Some(inside) => Beginning {
-            kind: Kind::Comment,
-            tilde: false,
-            inside,
-        },
-        None => tilded_at(text),
-    }
-}
-
-/// Behind four braces.
-fn raw_at(text: &str) -> Beginning<'_>
-    ensures { beginning_view result ≡ raw_at (tilde_at text.now) }
-{
-    let (tilde, inside) = tilde_at(text);
-    match after(b'/', inside) {
-        Some(inside) => Beginning {
-            kind: Kind::RawClose,
-            tilde,
-            inside: behind_white(inside),
-        },
-        None => Beginning {
-            kind: Kind::Raw,
-            tilde,
-            inside,
-        },
-    }
-}
-
-/// Behind two braces: a third counts only behind a tilde.
-fn tilded_at(text: &str) -> Beginning<'_>
-    ensures { beginning_view result ≡ tilded_at (tilde_at text.now) }
-{
-    let (tilde, inside) = tilde_at(text);
-    if !tilde {
-        return signed_at(false, inside);
-    }
-    match after(b'{', inside) {
-        Some(inside) => Beginning {
-            kind: Kind::Html,
-            tilde: true,
-            inside: behind_white(inside),
-        },
-        None => signed_at(true, inside),
-    }
-}
-
-/// Behind two braces and a tilde, if any: a sign, or none.
-fn signed_at(tilde: bool, text: &str) -> Beginning<'_>
-    ensures { beginning_view result ≡ signed_at tilde text.now }
-{
-    if let Some(inside) = after(b'&', text) {
-        return Beginning {
-            kind: Kind::HtmlSign,
-            tilde,
-            inside: behind_white(inside),
-        };
-    }
-    if let Some(inside) = after(b'#', text) {
-        return block_at(tilde, inside);
-    }
-    if let Some(inside) = after(b'/', text) {
-        return Beginning {
-            kind: Kind::Close,
-            tilde,
-            inside: behind_white(inside),
-        };
-    }
-    match after(b'^', text) {
-        Some(inside) => Beginning {
-            kind: Kind::Inverse,
-            tilde,
-            inside,
-        },
-        None => unsigned_at(tilde, text),
-    }
-}
-
-/// With no sign, or one of a kind that isn't there yet.
-fn unsigned_at(tilde: bool, text: &str) -> Beginning<'_>
-    ensures { beginning_view result ≡ unsigned_at tilde text.now }
-{
-    if starts_other(text) {
-        Beginning {
-            kind: Kind::Other,
-            tilde,
-            inside: text,
+    'rows: for row in &rows() {
+        if let Some(begins) = row_at(row, left) {
+            return Some(begins);
         }
-    } else if is_else(text) {
-        Beginning {
-            kind: Kind::Else,
-            tilde,
-            inside: symbols(text).1,
+    }
+    None
+}
+
+fn rows() -> [Row; 15]
+    ensures { map row_of result ≡ rows }
+{
+    [
+        Row::new("{{{{", Tilde::Maybe, Sign::Mark("/"), Kind::RawClose),
+        Row::new("{{{{", Tilde::Maybe, Sign::Nothing, Kind::Raw),
+        Row::new("{{{", Tilde::Maybe, Sign::Nothing, Kind::Html),
+        Row::new("{{!", Tilde::Unread, Sign::Nothing, Kind::Comment),
+        Row::new("{{", Tilde::One, Sign::Mark("{"), Kind::Html),
+        Row::new("{{", Tilde::Maybe, Sign::Mark("&"), Kind::HtmlSign),
+        Row::new("{{", Tilde::Maybe, Sign::Mark("#*"), Kind::Other),
+        Row::new("{{", Tilde::Maybe, Sign::Mark("#>"), Kind::Other),
+        Row::new("{{", Tilde::Maybe, Sign::Mark("#"), Kind::Block),
+        Row::new("{{", Tilde::Maybe, Sign::Mark("/"), Kind::Close),
+        Row::new("{{", Tilde::Maybe, Sign::Mark("^"), Kind::Inverse),
+        Row::new("{{", Tilde::Maybe, Sign::Mark("*"), Kind::Other),
+        Row::new("{{", Tilde::Maybe, Sign::Mark(">"), Kind::Other),
+        Row::new("{{", Tilde::Maybe, Sign::Word("else"), Kind::Else),
+        Row::new("{{", Tilde::Maybe, Sign::Nothing, Kind::Expression),
+    ]
+}
+
+/// The beginning that a row is.
+fn row_at<'a>(row: &Row, text: &'a str) -> Option<Beginning<'a>>
+    ensures { option_map beginning_view result ≡ row_at (row_of row.now) text.now }
+{
+    let behind = past(row.braces, text)?;
+    let (tilde, behind) = behind_tilde(row.tilde, behind)?;
+    let inside = behind_sign(row.sign, behind)?;
+    Some(Beginning {
+        kind: row.kind,
+        tilde,
+        inside,
+    })
+}
+
+/// Whether a tilde stands there, and what follows it.
+fn behind_tilde(tilde: Tilde, text: &str) -> Option<(bool, &str)>
+    ensures { option_map tilded result ≡ behind_tilde (tilde_of tilde) text.now }
+{
+    match tilde {
+        Tilde::Maybe => Some(tilde_at(text)),
+        Tilde::One => {
+            let behind = after(b'~', behind_white(text))?;
+            Some((true, behind_white(behind)))
         }
-    } else {
-        Beginning {
-            kind: Kind::Expression,
-            tilde,
-            inside: text,
+        Tilde::Unread => Some((false, text)),
+    }
+}
+
+fn behind_sign(sign: Sign, text: &str) -> Option<&str>
+    ensures { option_map (λ rest. rest.now) result ≡ behind_sign (sign_of sign) text.now }
+{
+    match sign {
+        Sign::Nothing => Some(text),
+        Sign::Mark(mark) => {
+            let behind = past(mark, text)?;
+            Some(behind_white(behind))
+        }
+        Sign::Word(word) => {
+            let behind = past(word, text)?;
+            if ends_word(behind) {
+                Some(behind)
+            } else {
+                None
+            }
         }
     }
 }
 
-/// Behind `#`.
-fn block_at(tilde: bool, text: &str) -> Beginning<'_>
-    ensures { beginning_view result ≡ block_at tilde text.now }
-{
-    if starts_other(text) {
-        Beginning {
-            kind: Kind::Other,
-            tilde,
-            inside: text,
-        }
-    } else {
-        Beginning {
-            kind: Kind::Block,
-            tilde,
-            inside: behind_white(text),
-        }
-    }
-}
-
-/// Whether the sign of a decorator or of an inclusion stands in front.
-fn starts_other(text: &str) -> bool
-    ensures { result ≡ starts_other text.now }
-{
-    match text.as_bytes() {
-        [first, ..] => *first == b'*' || *first == b'>',
-        [] => false,
-    }
-}
-
-fn is_else(text: &str) -> bool
-    ensures { result ≡ is_else text.now }
-{
-    let (name, behind) = symbols(text);
-    name == "else" && ends_else(behind)
-}
-
-/// Whether an identifier may be `else`, by what follows it.
-fn ends_else(text: &str) -> bool
-    ensures { result ≡ ends_else text.now }
+/// Whether a word ends before this.
+fn ends_word(text: &str) -> bool
+    ensures { result ≡ ends_word text.now }
 {
     starts_white_or_tilde(text) || past("}}", text).is_some()
 }

@@ -2,7 +2,7 @@
 
 ghost use Rattle.std.specs.Prelude.{◌≡◌};
 ghost use Rattle.std.specs.Option.{option_map};
-ghost use Rattle.handlebars_tags.specs.Kind.{two_close, three_close, four_close, split_close, closing_of};
+ghost use Rattle.handlebars_tags.specs.Kind.{close_by, three_close, brace_tilde_braces, closing_of};
 ghost use Rattle.handlebars_tags.specs.KindView.{kind_of, tilded};
 
 use super::beginning::Kind;
@@ -16,33 +16,26 @@ pub fn closing_of(kind: Kind, text: &str) -> Option<(bool, &str)>
     ensures { option_map tilded result ≡ closing_of (kind_of kind) text.now }
 {
     match kind {
-        Kind::Expression => two_close(text),
+        Kind::Expression => close_by("}}", text),
         Kind::Html => three_close(text),
-        Kind::HtmlSign => two_close(text),
-        Kind::Block => two_close(text),
-        Kind::Close => two_close(text),
-        Kind::Inverse => two_close(text),
-        Kind::Else => two_close(text),
-        Kind::Raw => four_close(text),
-        Kind::RawClose => four_close(text),
+        Kind::HtmlSign => close_by("}}", text),
+        Kind::Block => close_by("}}", text),
+        Kind::Close => close_by("}}", text),
+        Kind::Inverse => close_by("}}", text),
+        Kind::Else => close_by("}}", text),
+        Kind::Raw => close_by("}}}}", text),
+        Kind::RawClose => close_by("}}}}", text),
         Kind::Comment => Some((false, text)),
         Kind::Other => None,
     }
 }
 
-fn two_close(text: &str) -> Option<(bool, &str)>
-    ensures { option_map tilded result ≡ two_close text.now }
+/// These braces, and a tilde in front of them or none.
+fn close_by<'a>(braces: &str, text: &'a str) -> Option<(bool, &'a str)>
+    ensures { option_map tilded result ≡ close_by braces.now text.now }
 {
-    let (tilde, braces) = tilde_at(text);
-    let rest = past("}}", braces)?;
-    Some((tilde, rest))
-}
-
-fn four_close(text: &str) -> Option<(bool, &str)>
-    ensures { option_map tilded result ≡ four_close text.now }
-{
-    let (tilde, braces) = tilde_at(text);
-    let rest = past("}}}}", braces)?;
+    let (tilde, behind) = tilde_at(text);
+    let rest = past(braces, behind)?;
     Some((tilde, rest))
 }
 
@@ -50,16 +43,15 @@ fn four_close(text: &str) -> Option<(bool, &str)>
 fn three_close(text: &str) -> Option<(bool, &str)>
     ensures { option_map tilded result ≡ three_close text.now }
 {
-    let (tilde, braces) = tilde_at(text);
-    match past("}}}", braces) {
-        Some(rest) => Some((tilde, rest)),
-        None => split_close(text),
+    match close_by("}}}", text) {
+        Some(read) => Some(read),
+        None => brace_tilde_braces(text),
     }
 }
 
 /// One brace, a tilde, and two braces.
-fn split_close(text: &str) -> Option<(bool, &str)>
-    ensures { option_map tilded result ≡ split_close text.now }
+fn brace_tilde_braces(text: &str) -> Option<(bool, &str)>
+    ensures { option_map tilded result ≡ brace_tilde_braces text.now }
 {
     let behind = after(b'}', behind_white(text))?;
     let braces = after(b'~', behind_white(behind))?;
