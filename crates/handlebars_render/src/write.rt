@@ -77,9 +77,13 @@ pub(super) fn write_chosen<O: Output>(
         O.may_give (moment kept rc.old (O.held out.old)) result (moment kept rc.new (O.held out.new)) }
     ensures kept { IsKept rc.old rc.new }
 {
-    let line = write_found(value, rc, out)?;
-    rc.set_line(line);
-    Ok(())
+    match write_found(value, rc, out) {
+        Ok(line) => {
+            rc.set_line(line);
+            Ok(())
+        }
+        Err(e) => Err(e),
+    }
 }
 
 /// Writes a number that a helper chose.

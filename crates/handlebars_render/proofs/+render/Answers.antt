@@ -61,7 +61,7 @@ block::render_chosen-returns-in-Ok-clause-renders g t c = λ site kept.
     chosen_ok _ _ _ site (kind_of c.args.kind) _
     (helper_call c.args.block (call_view c.args.helper.now) (called_view c.args.call)) _
     c.strict.ensures c.of_call-view.ensures c.in-Ok.ensures
-    (c.carry_out.ensures.renders site kept c.args.block (called_view c.args.call))
+    (c.carry_out.ensures.renders site kept (called_view c.args.call))
 
 pub block::render_chosen-returns-clause-renders : goal.block::render_chosen-returns-clause-renders
 block::render_chosen-returns-clause-renders g t c = λ site kept.

@@ -55,7 +55,7 @@ expands-returns-in-Path-clause-value g t c = λ kept. rw (c.in-Path.is, param_vi
 
 pub expands-returns-in-Subexpression-clause-value : goal.expands-returns-in-Subexpression-clause-value
 expands-returns-in-Subexpression-clause-value g t c = λ kept. rw (c.in-Subexpression.is, param_view-Subexpression)
-    c.inner_value.ensures.value kept
+    (c.inner_value.ensures.value kept)
 
 pub call_value-returns-in-Ok-clause-value : goal.call_value-returns-in-Ok-clause-value
 call_value-returns-in-Ok-clause-value g t c = λ kept. yields-inner_value found_of _ _ (call_view c.args.helper.now) _
