@@ -10,7 +10,7 @@ use Rattle.handlebars_tags.proofs.Runs.{braces-none}
 use Rattle.handlebars_template.specs.Place.{Place, place}
 use Rattle.handlebars_template.specs.Nest.{Piece, Fault, Placed, syntax_alone, names_and_literals, Nests, Refuses, LeavesOpen, left_open as still_open}
 use Rattle.handlebars_template.specs.Cut.{Slice, text_slice, Reads, IsCut}
-use Rattle.handlebars_template.specs.Compile.{Options, pieces_in, tree_of, unreadable, refusal_for, IsUnreadable, Compilation, compiled, refused, Compiles, whole, no_tag, misplaced, left_open, late, OneCompilation}
+use Rattle.handlebars_template.specs.Compile.{Options, pieces_in, tree_of, unreadable_tag, refusal_for, IsUnreadable, Compilation, compiled, refused, Compiles, whole, no_tag, misplaced, left_open, late, OneCompilation}
 use Rattle.handlebars_template.proofs.NestsSteps.{Refuses-append}
 use Rattle.handlebars_template.proofs.NestsOne.{Opens-Refuses, Nests-one, Refuses-one, LeavesOpen-one, Nests-Refuses, Nests-LeavesOpen, Nests-loose}
 use Rattle.handlebars_template.proofs.Cuts.{count, one_beginning, back, Ends, no_longer, by_order, both_end, same_end, cut_ends, one_cut}
@@ -68,7 +68,7 @@ record Early (s : Text) (options : Options) (o : Compilation) : Type 0 where
 record Stuck (s : Text) (options : Options) (o : Compilation) : Type 0 where
   pub at : Place
   pub stands : IsUnreadable s at
-  pub is : o ≡ refused (unreadable options at)
+  pub is : o ≡ refused (unreadable_tag options at)
 
 stuck_ends : (s : Text) (at : Place) → (u : IsUnreadable s at) → Ends s u.before u.edge u.text u.kept u.left
 stuck_ends s at u = record { whole = u.whole; is_text = u.is_text; none = u.none }
@@ -121,7 +121,7 @@ two_stuck {s} {options} a b =
     let texts = same_end s u.before v.before u.text v.text u.kept v.kept u.left v.left u.edge v.edge at.here at.edge (stuck_ends s a.at u) (stuck_ends s b.at v) in
     let here = at.here in let text = texts.slices in
     let there : u.before ++ u.text ≡ v.before ++ v.text = cc in
-    a.is ∙ ap (λ (z : Place). refused (unreadable options z)) (u.there ∙ ap place there ∙ sym v.there) ∙ sym b.is
+    a.is ∙ ap (λ (z : Place). refused (unreadable_tag options z)) (u.there ∙ ap place there ∙ sym v.there) ∙ sym b.is
 
 full_stuck : {s : Text} {options : Options} {o p : Compilation} → Full s options o → Stuck s options p → ⊥
 full_stuck {s} a b =

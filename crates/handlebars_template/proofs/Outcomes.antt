@@ -15,7 +15,7 @@ use Rattle.handlebars_template.specs.Place.{place}
 use Rattle.handlebars_template.specs.Nest.{Piece, Fault, not_closed, Placed, Test, syntax_alone, names_and_literals, Nests, nothing, Frame, Opens, none_open, Refuses, left_open as still_open}
 use Rattle.handlebars_template.specs.Machine.{Moved, goes, stops, apply}
 use Rattle.handlebars_template.specs.Cut.{Slice, text_slice, tag_slice, may_follow, TextAndTag, Reads, starts, goes_on, IsCut}
-use Rattle.handlebars_template.specs.Compile.{Options, pieces_in, tree_of, refusal_for, Compilation, compiled, refused, unreadable, Compiles, whole, no_tag, misplaced, left_open, late}
+use Rattle.handlebars_template.specs.Compile.{Options, pieces_in, tree_of, refusal_for, Compilation, compiled, refused, unreadable_tag, Compiles, whole, no_tag, misplaced, left_open, late}
 use Rattle.handlebars_template.proofs.NestsSteps.{Opens-step, Refuses-step}
 use Rattle.handlebars_template.proofs.NestsRuns.{run}
 use Rattle.handlebars_template.proofs.Running.{TagFound, tag_at, tag_at-is, text_at, FoundText, text_at-is, guarded, guarded_some}
@@ -223,7 +223,7 @@ first_tag text kept slice rest f words e is = record {
 
 -- a text where the source begins, and braces with which no tag begins
 pub first_unreadable : (options : Options) (text left : Text) → IsText two_braces left text text → braces two_braces left ≡ true → NoTag left
-    → Compiles (text ++ left) options (refused (unreadable options (place text)))
+    → Compiles (text ++ left) options (refused (unreadable_tag options (place text)))
 first_unreadable options text left words marks none = no_tag (record {
   before = [];
   edge = no_edge;

@@ -1,13 +1,11 @@
 -- What was read of a source so far, and what the next tag does.
 use Rattle.std.proofs.Common.{◌≡◌, ℕ, Option, Some, None, Bool, true, false, ◌+◌, ◌-◌, ◌<◌, ◌≤◌, List, [], ◌∷◌, ◌++◌, length, refl, sym, ap, ◌∙◌, subst, append_assoc, arith, length-append, inl, inr}
-use Rattle.std.specs.Prelude.{◌==◌, fold, nat_lt, if◌then◌else◌, codes}
-use Rattle.std.specs.Option.{option_or}
+use Rattle.std.specs.Prelude.{◌==◌, fold, if◌then◌else◌, codes}
 use Rattle.std.specs.Str.{IsUtf8, IsCharBoundary, chars}
 use Rattle.std.proofs.lemmas.Bool.{cases_Bool, false≢true}
 use Rattle.std.proofs.lemmas.List.{append-nil, nil_from_length}
 use Rattle.std.proofs.lemmas.List.Sums.{fold-append}
 use Rattle.std.proofs.lemmas.Str.{chars-append, chars-nil, IsUtf8-append, IsUtf8-nil, IsUtf8-take, IsCharBoundary-at_seam, length-le-encodes, encodes-chars}
-use borrow.Author.Tests.{ltb-true}
 use Rattle.handlebars_base.specs.Bytes.{Text}
 use Rattle.handlebars_base.proofs.Ends.{length-front, take-front}
 use Rattle.handlebars_tags.specs.Comment.{behind_mark, HasNoLong}
@@ -18,12 +16,14 @@ use Rattle.handlebars_tags.specs.Trim.{Edge, no_edge, is_fresh_behind, is_fresh,
 use Rattle.handlebars_tags.proofs.TagLengths.{length-tag}
 use Rattle.handlebars_template.specs.Place.{Place, origin, behind_char, behind, place}
 use Rattle.handlebars_template.specs.Tree.{raw_string}
-use Rattle.handlebars_template.specs.Calls.{max_nesting}
-use Rattle.handlebars_template.specs.Nest.{Piece, leaf, Fault, Placed, Branch, Test, syntax_alone, Chains, no_more, a_branch, Frame, Inside, in_its_body, in_a_branch, in_its_inverse, Opens, none_open, one_more, Refuses}
-use Rattle.handlebars_template.specs.Machine.{Moved, goes, stops, checked, apply, late_after, at_end as ended, End}
+use Rattle.handlebars_template.specs.Nest.{Piece, leaf, Fault, Placed, syntax_alone, Frame, Refuses}
+use Rattle.handlebars_template.specs.Machine.{goes, stops, apply, late_after, at_end as ended, End}
 use Rattle.handlebars_template.specs.Cut.{Slice, text_slice, tag_slice, may_follow, Reads, starts, goes_on, IsCut}
-use Rattle.handlebars_template.specs.Compile.{Options, tag_piece, text_pieces, pieces_in, unreadable, refusal_for, NoTagBehind, Compiles, refused, whole, no_tag, misplaced, left_open, late}
+use Rattle.handlebars_template.specs.Compile.{Options, tag_piece, text_pieces, pieces_in, unreadable_tag, refusal_for, NoTagBehind, Compiles, refused, whole, no_tag, misplaced, left_open, late}
 use Rattle.handlebars_template.specs.ScanView.{text_placed, ComesTo}
+use Rattle.handlebars_template.proofs.NestsDone.{option_or-none}
+use Rattle.handlebars_template.proofs.NestsFits.{apply-fits, Fits-leaf}
+use Rattle.handlebars_template.proofs.NestsSteps.{Opens-shallow}
 use Rattle.handlebars_template.proofs.NestsStates.{State, State-start, State-moves, State-stops, State-whole, State-late, State-open}
 
 pub behind-append : (p : Place) (x y : Text) → IsUtf8 x → behind p (x ++ y) ≡ behind (behind p x) y
@@ -34,30 +34,7 @@ pieces_in-append [] qs = refl
 pieces_in-append (text_slice p e x k n ∷ ps) qs = ap (λ (z : List Piece). text_pieces p e x k n ++ z) (pieces_in-append ps qs) ∙ sym (append_assoc (text_pieces p e x k n) (pieces_in ps) (pieces_in qs))
 pieces_in-append (tag_slice p x t e ∷ ps) qs = ap (λ (z : List Piece). tag_piece p e t ∷ z) (pieces_in-append ps qs)
 
--- ---- no more than the limit is open
-
-Chains-shallow : {t : Test} {d e : ℕ} {cs : List Piece} {bs : List Branch} → Chains t d cs bs e → d ≤ max_nesting → e ≤ max_nesting
-Chains-shallow no_more le = le
-Chains-shallow (a_branch p o n r fits fair nb ch) le = Chains-shallow ch (omega (arith, fits))
-
-Inside-shallow : {t : Test} {f : Frame} {qs : List Piece} {d : ℕ} {es : List Placed} → Inside t f qs d es → d ≤ max_nesting
-Inside-shallow (in_its_body p x n r fits fair nb) = omega (arith, fits)
-Inside-shallow (in_a_branch p q x g n k r u fits fair nb ch fits' fair' ng) = omega (arith, fits')
-Inside-shallow (in_its_inverse p q x n r fits fair nb ch ng) = Chains-shallow ch (omega (arith, fits))
-
-Opens-shallow : {t : Test} {d : ℕ} {ps : List Piece} {fs : List Frame} {es : List Placed} → Opens t d ps fs es → d ≤ max_nesting
-Opens-shallow (none_open h) = omega arith
-Opens-shallow (one_more o i) = Inside-shallow i
-
 -- ---- a text
-
-leaf-fits : (b : Bool) (d : ℕ) → nat_lt max_nesting (d + 0) ≡ b → d ≤ max_nesting → (p : Place) (m : Moved) → checked b syntax_alone p None m ≡ m
-leaf-fits true d is le p m = absurd (omega (arith, ltb-true _ _ is, le))
-leaf-fits false d is le p m = refl
-
-late-none : (late : Option Fault) → option_or late None ≡ late
-late-none None = refl
-late-none (Some f) = refl
 
 State-none : {late : Option Fault} {ps : List Piece} {d : ℕ} {fs : List Frame} {es : List Placed} → State late ps d fs es → State late (ps ++ []) d fs (es ++ [])
 State-none {ps = ps} {es = es} s = rw (append-nil ps, append-nil es) s
@@ -65,8 +42,8 @@ State-none {ps = ps} {es = es} s = rw (append-nil ps, append-nil es) s
 State-leaf : {late : Option Fault} {ps : List Piece} {d : ℕ} {fs : List Frame} {es : List Placed} → (p : Place) (x : Text) → State late ps d fs es
     → State late (ps ++ leaf p (raw_string x) 0 None ∷ []) d fs (es ++ record { place = p; element = raw_string x } ∷ [])
 State-leaf {late} {ps} {d} {fs} {es} p x s =
-    subst (λ (z : Option Fault). State z (ps ++ leaf p (raw_string x) 0 None ∷ []) d fs (es ++ record { place = p; element = raw_string x } ∷ [])) (late-none late)
-    (State-moves (leaf p (raw_string x) 0 None) s (leaf-fits (nat_lt max_nesting (d + 0)) d refl (Opens-shallow s.loose) p _))
+    subst (λ (z : Option Fault). State z (ps ++ leaf p (raw_string x) 0 None ∷ []) d fs (es ++ record { place = p; element = raw_string x } ∷ [])) (option_or-none late)
+    (State-moves (leaf p (raw_string x) 0 None) s (apply-fits syntax_alone (leaf p (raw_string x) 0 None) d fs es (Fits-leaf syntax_alone d fs p (raw_string x) 0 None (omega (arith, Opens-shallow s.loose)) refl)))
 
 State-when : {late : Option Fault} {ps : List Piece} {d : ℕ} {fs : List Frame} {es : List Placed} → (b : Bool) (p : Place) (x : Text) → State late ps d fs es
     → State late (ps ++ (if b then leaf p (raw_string x) 0 None ∷ [] else [])) d fs (es ++ (if b then record { place = p; element = raw_string x } ∷ [] else []))
@@ -244,7 +221,7 @@ NoTagBehind-other tags e left slice rest t tildes is h other slice' rest' t' til
 
 pub Compiles-unreadable : {source slice kept left : Text} {at : Place} {fresh : Bool} {e : Edge} {late : Option Fault} {d : ℕ} {fs : List Frame} {es : List Placed}
     → Scans source slice kept left at fresh e late d fs es → 0 < length left → NoTagBehind e left → (q : Place) → q ≡ behind at slice
-    → (options : Options) → Compiles source options (refused (unreadable options q))
+    → (options : Options) → Compiles source options (refused (unreadable_tag options q))
 Compiles-unreadable {source} {slice} {kept} {left} {at} {fresh} {e} {late} {d} {fs} {es} h lt none q qe options = no_tag (record {
   before = h.before;
   edge = e;

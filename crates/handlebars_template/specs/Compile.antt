@@ -83,8 +83,8 @@ syntax_refusal message options p = record {
   position = Some (p.line, p.column);
 }
 
-abbrev pub unreadable : Options → Place → TemplateRefusal
-unreadable options p = syntax_refusal (codes "unreadable tag") options p
+abbrev pub unreadable_tag : Options → Place → TemplateRefusal
+unreadable_tag options p = syntax_refusal (codes "unreadable tag") options p
 
 -- of these names, the one that would close a block and the one that closes it
 abbrev pub mismatch : BlockKind → Text → Text → TemplateReason
@@ -136,7 +136,7 @@ pub data Compilation : Type 0 where
 pub data Compiles (source : Text) (options : Options) : Compilation → Type 0 where
   whole : {ps : List Slice} {es : List Placed} → IsCut source ps → Nests names_and_literals 0 (pieces_in ps) es
       → Compiles source options (compiled (tree_of options es))
-  no_tag : {at : Place} → IsUnreadable source at → Compiles source options (refused (unreadable options at))
+  no_tag : {at : Place} → IsUnreadable source at → Compiles source options (refused (unreadable_tag options at))
   misplaced : {before : Text} {edge : Edge} {ps : List Slice} {f : Fault}
       → Reads source before edge ps → Refuses syntax_alone (pieces_in ps) f
       → Compiles source options (refused (refusal_for options f))

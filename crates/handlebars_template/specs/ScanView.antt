@@ -11,7 +11,7 @@ use Rattle.handlebars_template.specs.Calls.{call_of, first_refused, literals_in,
 use Rattle.handlebars_template.specs.Nest.{BlockKind, helper_opening, Piece, leaf, opens, chains, not_closed, Placed}
 use Rattle.handlebars_template.specs.Machine.{End, complete, unclosed, refused as refused_end}
 use Rattle.handlebars_template.specs.NestView.{opening_view, syntax_fault, end_view}
-use Rattle.handlebars_template.specs.Compile.{Options, opening_of, tree_of, unreadable, refusal_for, Compiles, compiled, refused}
+use Rattle.handlebars_template.specs.Compile.{Options, opening_of, tree_of, unreadable_tag, refusal_for, Compiles, compiled, refused}
 use Rattle.handlebars_template.specs.declared.template.tags.BuiltOpening.{BuiltOpening}
 use Rattle.handlebars_template.specs.declared.template.scan.Found.{Found}
 use Rattle.handlebars_template.specs.declared.template.scan.Found.TheVariants as found
@@ -65,6 +65,6 @@ ComesTo source (refused_end f) =
 abbrev pub IsFound : Text → Found → Type 0
 IsFound source (found.Through nested) = ComesTo source (end_view nested)
 IsFound source (found.Unreadable p) =
-    (options : Options) → Compiles source options (refused (unreadable options (place_of p)))
+    (options : Options) → Compiles source options (refused (unreadable_tag options (place_of p)))
 IsFound source (found.Misplaced f p) =
     (options : Options) → Compiles source options (refused (refusal_for options (syntax_fault (place_of p) f)))
