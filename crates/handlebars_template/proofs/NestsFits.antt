@@ -9,7 +9,7 @@ use Rattle.handlebars_template.specs.Place.{Place}
 use Rattle.handlebars_template.specs.Tree.{Element}
 use Rattle.handlebars_template.specs.Calls.{max_nesting}
 use Rattle.handlebars_template.specs.Nest.{BlockKind, Opening, Piece, leaf, opens, turns, chains, closes, place_in, refused_in, may_end, Fault, unexpected, too_deep, mismatched, no_value, Placed, Test, syntax_alone, names_and_literals, may_close, has_values, Frame, takes_inverse, may_stand_in, cost, RefusesAt, out_of_place, past_limit, without_value, other_name}
-use Rattle.handlebars_template.specs.Machine.{Moved, stops, behind_piece, is_too_deep, syntax_fault_by, early_in, literal_fault, name_fault, name_fault_in, late_in, tried, fault_in, unless_fault, apply}
+use Rattle.handlebars_template.specs.Machine.{Moved, stops, behind_piece, is_too_deep, syntax_fault_by, early_in, literal_fault, name_fault, name_fault_in, late_in, tried, fault_in, unless_fault, moved_by, apply}
 
 -- ---- how deep
 
@@ -105,15 +105,22 @@ none-fault_in t d fs x h =
     ap (λ (b : Bool). fault_by b (is_too_deep d x) (place_in x) (tried t (late_in fs x))) h.stands
     ∙ ap (λ (b : Bool). fault_by true b (place_in x) (tried t (late_in fs x))) h.shallow ∙ h.fair
 
+pub apply-moved_by : (t : Test) (x : Piece) (d : ℕ) (fs : List Frame) (es : List Placed) → apply t x d fs es ≡ moved_by t x d fs es
+apply-moved_by t (leaf p e n r) d fs es = refl
+apply-moved_by t (opens p o n r) d fs es = refl
+apply-moved_by t (turns p) d fs es = refl
+apply-moved_by t (chains p o n r) d fs es = refl
+apply-moved_by t (closes p raw m) d fs es = refl
+
 pub apply-fits : (t : Test) (x : Piece) (d : ℕ) (fs : List Frame) (es : List Placed) → Fits t d fs x → apply t x d fs es ≡ behind_piece x d fs es
-apply-fits t x d fs es h = ap (λ (f : Option Fault). unless_fault f (behind_piece x d fs es)) (none-fault_in t d fs x h)
+apply-fits t x d fs es h = apply-moved_by t x d fs es ∙ ap (λ (f : Option Fault). unless_fault f (behind_piece x d fs es)) (none-fault_in t d fs x h)
 
 -- by the syntax alone
 pub apply-early : (x : Piece) (d : ℕ) (fs : List Frame) (es : List Placed) (m : Moved) → early_in d fs x ≡ None → behind_piece x d fs es ≡ m → apply syntax_alone x d fs es ≡ m
-apply-early x d fs es m is moves = ap (λ (f : Option Fault). unless_fault (option_or f None) (behind_piece x d fs es)) is ∙ moves
+apply-early x d fs es m is moves = apply-moved_by syntax_alone x d fs es ∙ ap (λ (f : Option Fault). unless_fault (option_or f None) (behind_piece x d fs es)) is ∙ moves
 
 pub apply-stops : (x : Piece) (d : ℕ) (fs : List Frame) (es : List Placed) (f : Fault) → early_in d fs x ≡ Some f → apply syntax_alone x d fs es ≡ stops f
-apply-stops x d fs es f is = ap (λ (f : Option Fault). unless_fault (option_or f None) (behind_piece x d fs es)) is
+apply-stops x d fs es f is = apply-moved_by syntax_alone x d fs es ∙ ap (λ (f : Option Fault). unless_fault (option_or f None) (behind_piece x d fs es)) is
 
 pub early-shallow : (x : Piece) (d : ℕ) (fs : List Frame) → early_in d fs x ≡ None → is_too_deep d x ≡ false
 early-shallow x d fs is = (fault_in-none syntax_alone d fs x (ap (λ (f : Option Fault). option_or f None) is)).shallow

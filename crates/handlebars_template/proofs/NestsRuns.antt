@@ -7,7 +7,7 @@ use Rattle.handlebars_template.specs.Tree.{Element, Body}
 use Rattle.handlebars_template.specs.Calls.{max_nesting}
 use Rattle.handlebars_template.specs.Nest.{may_end, Opening, Piece, leaf, opens, turns, chains, closes, Fault, Placed, Branch, block_of, Test, may_close, has_values, Nests, nothing, a_leaf, a_block, Chains, no_more, a_branch, Turns, no_inverse, an_inverse, Stage, in_first, in_branch, in_inverse, Frame, takes_inverse, Inside, in_its_body, in_a_branch, in_its_inverse, Opens, none_open, one_more, Refuses, refuses_at}
 use Rattle.handlebars_template.specs.Machine.{closed, next_stage, new_frame, Moved, goes, stops, behind_piece, unless_fault, apply}
-use Rattle.handlebars_template.proofs.NestsFits.{Fits, apply-fits, Fits-leaf, Fits-opens, Fits-turns, Fits-chains, Fits-closes, RefusesAt-fault}
+use Rattle.handlebars_template.proofs.NestsFits.{apply-moved_by, Fits, apply-fits, Fits-leaf, Fits-opens, Fits-turns, Fits-chains, Fits-closes, RefusesAt-fault}
 use Rattle.handlebars_template.proofs.NestsSteps.{Opens-shallow}
 
 abbrev go_on : Moved → (ℕ → List Frame → List Placed → Moved) → Moved
@@ -169,4 +169,4 @@ Opens-run {t} {ps = ps} o = along t ps (ps ++ []) 0 [] [] (sym (append-nil ps)) 
 
 pub Refuses-run : {t : Test} {ps : List Piece} {f : Fault} → Refuses t ps f → run t ps 0 [] [] ≡ stops f
 Refuses-run {t} {f = f} (refuses_at {d = d} {fs = fs} {es = es} {x = x} rest o bad) =
-    Opens-run-on o (x ∷ rest) ∙ on t rest _ (stops f) (ap (λ (z : Option Fault). unless_fault z (behind_piece x d fs es)) (RefusesAt-fault (Opens-shallow o) bad))
+    Opens-run-on o (x ∷ rest) ∙ on t rest (apply t x d fs es) (stops f) (apply-moved_by t x d fs es ∙ ap (λ (z : Option Fault). unless_fault z (behind_piece x d fs es)) (RefusesAt-fault (Opens-shallow o) bad))

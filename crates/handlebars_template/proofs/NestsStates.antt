@@ -4,6 +4,7 @@ use Rattle.std.specs.Prelude.{⊤}
 use Rattle.std.specs.Option.{option_or}
 use Rattle.handlebars_template.specs.Nest.{Piece, Fault, not_closed, Placed, syntax_alone, names_and_literals, Nests, nothing, Frame, Opens, none_open, Refuses, LeavesOpen, left_open}
 use Rattle.handlebars_template.specs.Machine.{Moved, goes, stops, behind_piece, early_in, late_in, late_after, unless_fault, apply}
+use Rattle.handlebars_template.proofs.NestsFits.{apply-moved_by}
 use Rattle.handlebars_template.proofs.NestsSteps.{Opens-step, Refuses-step, Refuses-append}
 
 -- with names and literals tried too
@@ -35,7 +36,8 @@ fault_alike (Some g) (Some f) m = tt
 
 apply_alike : (x : Piece) (d : ℕ) (fs : List Frame) (es : List Placed)
     → Alike (late_in fs x) (apply syntax_alone x d fs es) (apply names_and_literals x d fs es)
-apply_alike x d fs es = fault_alike (early_in d fs x) (late_in fs x) (behind_piece x d fs es)
+apply_alike x d fs es =
+    rw (apply-moved_by syntax_alone x d fs es, apply-moved_by names_and_literals x d fs es) (fault_alike (early_in d fs x) (late_in fs x) (behind_piece x d fs es))
 
 -- ---- a step
 

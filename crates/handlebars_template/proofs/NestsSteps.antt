@@ -1,5 +1,5 @@
 -- What one piece does to what stands before it.
-use Rattle.std.proofs.Common.{◌≡◌, ℕ, suc, ◌+◌, ◌≤◌, List, [], ◌∷◌, ◌++◌, Bool, true, Option, None, Some, refl, sym, subst, append_assoc, arith}
+use Rattle.std.proofs.Common.{◌≡◌, ℕ, suc, ◌+◌, ◌≤◌, List, [], ◌∷◌, ◌++◌, Bool, true, Option, None, Some, refl, sym, ◌∙◌, subst, append_assoc, arith}
 use Rattle.std.proofs.lemmas.Bool.{false≢true}
 use Rattle.std.proofs.lemmas.List.{append-nil}
 use borrow.Author.Tests.{ltb-false}
@@ -8,7 +8,7 @@ use Rattle.handlebars_template.specs.Place.{Place}
 use Rattle.handlebars_template.specs.Calls.{max_nesting}
 use Rattle.handlebars_template.specs.Nest.{BlockKind, admits_inverse, may_end, Opening, Piece, leaf, opens, turns, chains, closes, Fault, Placed, Branch, Test, may_close, has_values, Nests, nothing, a_leaf, a_block, Chains, no_more, a_branch, no_inverse, an_inverse, Frame, takes_inverse, Inside, in_its_body, in_a_branch, in_its_inverse, Opens, none_open, one_more, RefusesAt, Refuses, refuses_at}
 use Rattle.handlebars_template.specs.Machine.{closed, Moved, goes, stops, behind_piece, fault_in, unless_fault, apply}
-use Rattle.handlebars_template.proofs.NestsFits.{Fits, fault_in-none, leaf-values, opens-values, chains-values, closes-name, fault-RefusesAt}
+use Rattle.handlebars_template.proofs.NestsFits.{apply-moved_by, Fits, fault_in-none, leaf-values, opens-values, chains-values, closes-name, fault-RefusesAt}
 
 -- ---- along an equation
 
@@ -118,7 +118,7 @@ Opens-by x (Some f) some o is = absurd cc
 
 pub Opens-step : {t : Test} {d e : ℕ} {ps : List Piece} {fs gs : List Frame} {es hs : List Placed} → (x : Piece)
     → Opens t d ps fs es → apply t x d fs es ≡ goes e gs hs → Opens t e (ps ++ (x ∷ [])) gs hs
-Opens-step {t} {d} {fs = fs} x o is = Opens-by x (fault_in t d fs x) refl o is
+Opens-step {t} {d} {fs = fs} x o is = Opens-by x (fault_in t d fs x) refl o (sym (apply-moved_by t x d fs _) ∙ is)
 
 RefusesAt-by : {t : Test} {d : ℕ} {ps : List Piece} {fs : List Frame} {es : List Placed} {f : Fault} → (x : Piece) (r : Option Fault) → fault_in t d fs x ≡ r
     → Opens t d ps fs es → unless_fault r (behind_piece x d fs es) ≡ stops f → RefusesAt t d fs x f
@@ -130,7 +130,7 @@ RefusesAt-by {t} {d} {fs = fs} {f = f} x (Some g) some o is = subst (RefusesAt t
 
 pub Refuses-step : {t : Test} {d : ℕ} {ps : List Piece} {fs : List Frame} {es : List Placed} {f : Fault} → (x : Piece) (rest : List Piece)
     → Opens t d ps fs es → apply t x d fs es ≡ stops f → Refuses t (ps ++ (x ∷ rest)) f
-Refuses-step {t} {d} {fs = fs} x rest o is = refuses_at rest o (RefusesAt-by x (fault_in t d fs x) refl o is)
+Refuses-step {t} {d} {fs = fs} x rest o is = refuses_at rest o (RefusesAt-by x (fault_in t d fs x) refl o (sym (apply-moved_by t x d fs _) ∙ is))
 
 -- A fault stays, whatever follows.
 pub Refuses-append : {t : Test} {ps : List Piece} {f : Fault} → (more : List Piece) → Refuses t ps f → Refuses t (ps ++ more) f

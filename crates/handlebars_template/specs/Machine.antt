@@ -103,8 +103,16 @@ unless_fault None m = m
 unless_fault (Some f) m = stops f
 
 -- what a piece does behind the open blocks and the elements of the innermost
+abbrev pub moved_by : Test → Piece → ℕ → List Frame → List Placed → Moved
+moved_by t x d fs es = unless_fault (fault_in t d fs x) (behind_piece x d fs es)
+
+-- The same by cases, so that where it is run a tag is read once.
 abbrev pub apply : Test → Piece → ℕ → List Frame → List Placed → Moved
-apply t x d fs es = unless_fault (fault_in t d fs x) (behind_piece x d fs es)
+apply t (leaf p e n r) d fs es = moved_by t (leaf p e n r) d fs es
+apply t (opens p o n r) d fs es = moved_by t (opens p o n r) d fs es
+apply t (turns p) d fs es = moved_by t (turns p) d fs es
+apply t (chains p o n r) d fs es = moved_by t (chains p o n r) d fs es
+apply t (closes p raw m) d fs es = moved_by t (closes p raw m) d fs es
 
 -- ---- the end
 
