@@ -7,6 +7,7 @@ use Rattle.handlebars_tags.specs.Trim.{is_fresh_behind}
 use Rattle.handlebars_tags.specs.TrimView.{edge_view}
 use Rattle.handlebars_tags.proofs.OneTag.{one_tag}
 use Rattle.handlebars_template.specs.Place.{behind}
+use Rattle.handlebars_template.specs.OptionsView.{options_view}
 use Rattle.handlebars_template.specs.TreeView.{place_of}
 use Rattle.handlebars_template.specs.Machine.{early_in}
 use Rattle.handlebars_template.specs.Compile.{tag_piece}
@@ -22,7 +23,7 @@ tags-init c =
       slice_utf8 = search rules;
       rest_utf8 = search rules;
       no_long = λ e. cc;
-      scans = Scans-at c.args.source.now front.slice.now (string_bytes front.kept) front.rest.now (edge_view c.no_edge-edge.result) _ _ _ _ c.no_edge-edge.ensures c.in_ok-front.ensures.whole
+      scans = Scans-at c.args.source.now (options_view c.args.options.now) front.slice.now (string_bytes front.kept) front.rest.now (edge_view c.no_edge-edge.result) _ _ _ _ c.no_edge-edge.ensures c.in_ok-front.ensures.whole
           (rw c.braces_behind.ensures at c.in_ok-front.ensures.reads) c.new-nesting.ensures.late c.new-nesting.ensures.depth c.new-nesting.ensures.frames c.new-nesting.ensures.elements;
     }
 
@@ -33,16 +34,16 @@ pub advance-at-requires-clause-column : goal.advance-at-requires-clause-column
 advance-at-requires-clause-column c = omega (arith, Scans-fits c.tags.invariant.scans)
 
 pub returns-in_default : goal.returns-in_default
-returns-in_default c options =
+returns-in_default c =
     let left = c.tags.front.rest.now in
-    Compiles-unreadable c.tags.invariant.scans (nonempty left c.tags-test.ensures) (NoTagBehind-none (edge_view c.tags.edge) left (rw c.in_default.is at c.in_ok-tag.ensures.reads)) (place_of c.advance-at.result) c.advance-at.ensures options
+    Compiles-unreadable c.tags.invariant.scans (nonempty left c.tags-test.ensures) (NoTagBehind-none (edge_view c.tags.edge) left (rw c.in_default.is at c.in_ok-tag.ensures.reads)) (place_of c.advance-at.result) c.advance-at.ensures
 
 pub returns-then-not-may_follow : goal.returns-then-not-may_follow
-returns-then-not-may_follow c options =
+returns-then-not-may_follow c =
     let left = c.tags.front.rest.now in
     let f = rw c.in-Some.is at c.in_ok-tag.ensures.reads in
     let other = sym (c.may_follow.ensures f.tag f.holds) ∙ c.if-not-may_follow.true in
-    Compiles-unreadable c.tags.invariant.scans (nonempty left c.tags-test.ensures) (NoTagBehind-other one_tag (edge_view c.tags.edge) left f.slice c.in-Some.tag.rest.now f.tag _ f.whole f.is_tag other) (place_of c.advance-at.result) c.advance-at.ensures options
+    Compiles-unreadable c.tags.invariant.scans (nonempty left c.tags-test.ensures) (NoTagBehind-other one_tag (edge_view c.tags.edge) left f.slice c.in-Some.tag.rest.now f.tag _ f.whole f.is_tag other) (place_of c.advance-at.result) c.advance-at.ensures
 
 pub split_at-requires : goal.split_at-requires
 split_at-requires c =
@@ -50,7 +51,7 @@ split_at-requires c =
     IsCharBoundary-seam c.tags.front.rest.now f.slice c.in-Some.tag.rest.now f.whole (search rules)
 
 pub returns-in-Some-look : goal.returns-in-Some-look
-returns-in-Some-look c options =
+returns-in-Some-look c =
     let f = rw c.in-Some.is at c.in_ok-tag.ensures.reads in
     let at = place_of c.advance-at.result in
     let next = edge_view c.edge_behind-next.result in
@@ -66,7 +67,7 @@ returns-in-Some-look c options =
     (record { depth = c.in_ok-add_text.ensures.depth; frames = c.in_ok-add_text.ensures.frames; kept_late = c.in_ok-add_text.ensures.late; elements = c.in_ok-add_text.ensures.elements })
     (syntax_fault at c.in-Some-look.fault)
     (apply-stops (tag_piece at next f.tag) state.depth (frames state) (placed_view state.elements) (syntax_fault at c.in-Some-look.fault)
-    (sym (rw c.in-Some-look.is at (c.look.ensures at next f.tag f.holds f.deep)))) options
+    (sym (rw c.in-Some-look.is at (c.look.ensures at next f.tag f.holds f.deep))))
 
 pub advance-place-requires-clause-line : goal.advance-place-requires-clause-line
 advance-place-requires-clause-line c =
