@@ -12,6 +12,7 @@ use Rattle.handlebars_tags.specs.Kind.{beginning_of}
 use Rattle.handlebars_tags.specs.Trim.{Edge, no_edge, braces_behind}
 use Rattle.handlebars_tags.proofs.OneText.{one_text}
 use Rattle.handlebars_tags.proofs.OneTag.{one_tag}
+use Rattle.handlebars_template.specs.Options.{Options}
 use Rattle.handlebars_template.specs.Place.{place}
 use Rattle.handlebars_template.specs.Cut.{Slice, text_slice, tag_slice, may_follow, TextAndTag, slices_of, Reads, starts, goes_on, IsCut, spelled, CutsJoin, OneCut}
 use Rattle.handlebars_template.specs.Compile.{NoTagBehind}
@@ -38,7 +39,7 @@ same_text e f x y k l a b ef is h g =
 -- ---- two beginnings
 
 -- how many were read
-pub count : {s b : Text} {e : Edge} {ps : List Slice} → Reads s b e ps → ℕ
+pub count : {s : Text} {o : Options} {b : Text} {e : Edge} {ps : List Slice} → Reads s o b e ps → ℕ
 count starts = zero
 count (goes_on r x) = suc (count r)
 
@@ -50,7 +51,7 @@ pub record OneBeginning (b c : Text) (e f : Edge) (ps qs : List Slice) : Type 0 
 suc-cancel : (n m : ℕ) → suc n ≡ suc m → n ≡ m
 suc-cancel n m e = omega arith
 
-pub one_beginning : {s b c : Text} {e f : Edge} {ps qs : List Slice} → (r : Reads s b e ps) (q : Reads s c f qs) → count r ≡ count q → OneBeginning b c e f ps qs
+pub one_beginning : {s : Text} {o : Options} {b c : Text} {e f : Edge} {ps qs : List Slice} → (r : Reads s o b e ps) (q : Reads s o c f qs) → count r ≡ count q → OneBeginning b c e f ps qs
 unfolding count
 one_beginning starts starts n = record { here = refl; edge = refl; slices = refl }
 one_beginning starts (goes_on q y) n = absurd (omega arith)
@@ -65,15 +66,15 @@ one_beginning {s} (goes_on {before = b} {edge = e} {ps = ps} r x) (goes_on {befo
     record { here = cc; edge = cc; slices = cc }
 
 -- a shorter beginning, n long, on the way to a longer one
-pub record Beginning (s : Text) (n : ℕ) (ps : List Slice) : Type 0 where
+pub record Beginning (s : Text) (o : Options) (n : ℕ) (ps : List Slice) : Type 0 where
   pub before : Text
   pub edge : Edge
   pub slices : List Slice
-  pub begins : Reads s before edge slices
+  pub begins : Reads s o before edge slices
   pub long : count begins ≡ n
   pub more : List Slice
   pub parts : ps ≡ slices ++ more
-  pub goes : TextAndTag s before edge
+  pub goes : TextAndTag s o before edge
 
 split : (n m : ℕ) → n < suc m → (n ≡ m) ⊎ (n < m)
 split n m lt = elim (cases_Bool (n == m)) [
@@ -81,7 +82,7 @@ split n m lt = elim (cases_Bool (n == m)) [
   | inr other ↦ inr (let apart = eqb-false n m other in omega arith)
 ]
 
-pub back : {s b : Text} {e : Edge} {ps : List Slice} → (r : Reads s b e ps) (n : ℕ) → n < count r → Beginning s n ps
+pub back : {s : Text} {o : Options} {b : Text} {e : Edge} {ps : List Slice} → (r : Reads s o b e ps) (n : ℕ) → n < count r → Beginning s o n ps
 unfolding count
 back starts n lt = absurd (omega arith)
 back {s} (goes_on {before = b} {edge = e} {ps = ps} r x) n lt = elim (split n (count r) lt) [
@@ -106,14 +107,14 @@ pub record Ends (s b : Text) (e : Edge) (x kept left : Text) : Type 0 where
   pub is_text : IsText (braces_behind e) left x kept
   pub none : NoTagBehind e left
 
-ends_not : (s b c : Text) (e f : Edge) (x kept left : Text) → b ≡ c → e ≡ f → TextAndTag s b e → Ends s c f x kept left → ⊥
+ends_not : {o : Options} (s b c : Text) (e f : Edge) (x kept left : Text) → b ≡ c → e ≡ f → TextAndTag s o b e → Ends s c f x kept left → ⊥
 ends_not s b c e f x kept left bc ef g h =
     let is : g.text ++ (g.slice ++ g.rest) ≡ x ++ left = append-behind s b c (g.text ++ (g.slice ++ g.rest)) (x ++ left) bc g.whole h.whole in
     let texts = same_text e f g.text x g.kept kept (g.slice ++ g.rest) left ef is g.is_text h.is_text in
     h.none g.slice g.rest g.tag g.tildes (sym texts.follows) g.is_tag (ap (λ (z : Edge). may_follow z g.tag) (sym ef) ∙ g.may_follow)
 
-pub no_longer : {s b c x kept left : Text} {e f : Edge} {ps qs : List Slice} → (r : Reads s b e ps) → Ends s b e x kept left → (q : Reads s c f qs) → count r < count q → ⊥
-no_longer {s} {b} {x = x} {kept = kept} {left = left} {e = e} r h q lt =
+pub no_longer : {s : Text} {o : Options} {b c x kept left : Text} {e f : Edge} {ps qs : List Slice} → (r : Reads s o b e ps) → Ends s b e x kept left → (q : Reads s o c f qs) → count r < count q → ⊥
+no_longer {s} {b = b} {x = x} {kept = kept} {left = left} {e = e} r h q lt =
     let k = back q (count r) lt in
     let a = one_beginning k.begins r k.long in
     ends_not s k.before b k.edge e x kept left a.here a.edge k.goes h
@@ -127,7 +128,7 @@ by_order n m = elim (cases_Bool (n == m)) [
   ]
 ]
 
-pub both_end : {s b c x y k l left more : Text} {e f : Edge} {ps qs : List Slice} → (r : Reads s b e ps) → Ends s b e x k left → (q : Reads s c f qs) → Ends s c f y l more → OneBeginning b c e f ps qs
+pub both_end : {s : Text} {o : Options} {b c x y k l left more : Text} {e f : Edge} {ps qs : List Slice} → (r : Reads s o b e ps) → Ends s b e x k left → (q : Reads s o c f qs) → Ends s c f y l more → OneBeginning b c e f ps qs
 both_end r h q k = elim (by_order (count r) (count q)) [
   | inl same ↦ one_beginning r q same
   | inr other ↦ elim other [
@@ -152,17 +153,17 @@ nothing_there : (e : Edge) → NoTagBehind e []
 nothing_there e [] rest t tildes is tag may = none-some tag.begins (sym beginning_of-nil ∙ ap beginning_of is ∙ tag.is_beginning)
 nothing_there e (b ∷ slice) rest t tildes is tag may = nil-cons b (slice ++ rest) is
 
-pub cut_ends : (s : Text) (ps : List Slice) → (c : IsCut s ps) → Ends s c.before c.edge c.text c.kept []
-cut_ends s ps c = record {
+pub cut_ends : (s : Text) (o : Options) (ps : List Slice) → (c : IsCut s o ps) → Ends s c.before c.edge c.text c.kept []
+cut_ends s o ps c = record {
   whole = c.whole ∙ ap (λ (z : Text). c.before ++ z) (sym (append-nil c.text));
   is_text = c.is_text;
   none = nothing_there c.edge;
 }
 
 pub one_cut : OneCut
-one_cut s ps qs a b =
-    let at = both_end a.begins (cut_ends s ps a) b.begins (cut_ends s qs b) in
-    let texts = same_end s a.before b.before a.text b.text a.kept b.kept [] [] a.edge b.edge at.here at.edge (cut_ends s ps a) (cut_ends s qs b) in
+one_cut s o ps qs a b =
+    let at = both_end a.begins (cut_ends s o ps a) b.begins (cut_ends s o qs b) in
+    let texts = same_end s a.before b.before a.text b.text a.kept b.kept [] [] a.edge b.edge at.here at.edge (cut_ends s o ps a) (cut_ends s o qs b) in
     let here = at.here in let edge = at.edge in let pieces = at.slices in let text = texts.slices in let kept = texts.kept in
     let all : a.slices ++ (text_slice (place a.before) a.edge a.text a.kept no_edge ∷ []) ≡ b.slices ++ (text_slice (place b.before) b.edge b.text b.kept no_edge ∷ []) = cc in
     a.gives ∙ all ∙ sym b.gives
@@ -172,14 +173,14 @@ spelled-append [] qs = refl
 spelled-append (text_slice p e slice kept n ∷ ps) qs = ap (λ (z : Text). slice ++ z) (spelled-append ps qs) ∙ sym (append_assoc slice (spelled ps) (spelled qs))
 spelled-append (tag_slice p slice t e ∷ ps) qs = ap (λ (z : Text). slice ++ z) (spelled-append ps qs) ∙ sym (append_assoc slice (spelled ps) (spelled qs))
 
-Reads-spelled : {s b : Text} {e : Edge} {ps : List Slice} → Reads s b e ps → spelled ps ≡ b
+Reads-spelled : {s : Text} {o : Options} {b : Text} {e : Edge} {ps : List Slice} → Reads s o b e ps → spelled ps ≡ b
 Reads-spelled starts = refl
 Reads-spelled (goes_on {before = b} {ps = ps} r x) =
     spelled-append ps (slices_of x) ∙ ap (λ (z : Text). z ++ (x.text ++ (x.slice ++ []))) (Reads-spelled r)
     ∙ ap (λ (z : Text). b ++ (x.text ++ z)) (append-nil x.slice)
 
 pub cuts_join : CutsJoin
-cuts_join s ps c =
+cuts_join s o ps c =
     ap spelled c.gives ∙ spelled-append c.slices (text_slice (place c.before) c.edge c.text c.kept no_edge ∷ [])
     ∙ ap (λ (z : Text). z ++ (c.text ++ [])) (Reads-spelled c.begins)
     ∙ ap (λ (z : Text). c.before ++ z) (append-nil c.text) ∙ sym c.whole

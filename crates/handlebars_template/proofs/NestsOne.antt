@@ -1,6 +1,6 @@
 -- At most one answer.
 use Rattle.std.proofs.Common.{◌≡◌, ℕ, List, [], ◌∷◌, refl, sym, ap, ◌∙◌}
-use Rattle.handlebars_template.specs.Nest.{Piece, Fault, not_closed, Placed, Branch, Test, syntax_alone, names_and_literals, Nests, nothing, a_leaf, a_block, Chains, no_more, a_branch, Turns, no_inverse, an_inverse, Frame, Opens, none_open, Refuses, LeavesOpen, left_open}
+use Rattle.handlebars_template.specs.Nest.{BlockKind, Piece, Fault, not_closed, Placed, Branch, Test, syntax_alone, names_and_literals, Nests, nothing, a_leaf, a_block, Chains, no_more, a_branch, Turns, no_inverse, an_inverse, Frame, Opens, none_open, Refuses, LeavesOpen, left_open}
 use Rattle.handlebars_template.specs.Tree.{Body}
 use Rattle.handlebars_template.specs.Machine.{goes, stops}
 use Rattle.handlebars_template.proofs.NestsRuns.{Opens-run, Refuses-run}
@@ -53,13 +53,13 @@ mutual
   pub Nests-loose : {d : ℕ} {ps : List Piece} {es : List Placed} → Nests names_and_literals d ps es → Nests syntax_alone d ps es
   Nests-loose nothing = nothing
   Nests-loose (a_leaf p e n r fits fair h) = a_leaf p e n r fits refl (Nests-loose h)
-  Nests-loose (a_block p q o n r m fits fair some named nb ch la h) =
-      a_block p q o n r m fits refl some refl (Nests-loose nb) (Chains-loose ch) (Turns-loose la) (Nests-loose h)
+  Nests-loose (a_block p q o n r raw m fits fair ends named nb ch la h) =
+      a_block p q o n r raw m fits refl ends refl (Nests-loose nb) (Chains-loose ch) (Turns-loose la) (Nests-loose h)
 
-  Chains-loose : {d e : ℕ} {cs : List Piece} {bs : List Branch} → Chains names_and_literals d cs bs e → Chains syntax_alone d cs bs e
+  Chains-loose : {k : BlockKind} {d e : ℕ} {cs : List Piece} {bs : List Branch} → Chains names_and_literals k d cs bs e → Chains syntax_alone k d cs bs e
   Chains-loose no_more = no_more
-  Chains-loose (a_branch p o n r fits fair nb ch) = a_branch p o n r fits refl (Nests-loose nb) (Chains-loose ch)
+  Chains-loose (a_branch p o n r may fits fair nb ch) = a_branch p o n r may fits refl (Nests-loose nb) (Chains-loose ch)
 
-  Turns-loose : {d : ℕ} {ls : List Piece} {last : Body} → Turns names_and_literals d ls last → Turns syntax_alone d ls last
+  Turns-loose : {k : BlockKind} {d : ℕ} {ls : List Piece} {last : Body} → Turns names_and_literals k d ls last → Turns syntax_alone k d ls last
   Turns-loose no_inverse = no_inverse
-  Turns-loose (an_inverse p nb) = an_inverse p (Nests-loose nb)
+  Turns-loose (an_inverse p may nb) = an_inverse p may (Nests-loose nb)

@@ -11,11 +11,12 @@ use Rattle.handlebars_base.proofs.Ends.{regroup_four}
 use Rattle.handlebars_tags.specs.Text.{two_braces, braces, IsText}
 use Rattle.handlebars_tags.specs.Tag.{NoTag}
 use Rattle.handlebars_tags.specs.Trim.{Edge, no_edge, edge_of, braces_behind}
+use Rattle.handlebars_template.specs.Options.{Options}
 use Rattle.handlebars_template.specs.Place.{place}
 use Rattle.handlebars_template.specs.Nest.{Piece, Fault, not_closed, Placed, Test, syntax_alone, names_and_literals, Nests, nothing, Frame, Opens, none_open, Refuses, left_open as still_open}
 use Rattle.handlebars_template.specs.Machine.{Moved, goes, stops, apply}
 use Rattle.handlebars_template.specs.Cut.{Slice, text_slice, tag_slice, may_follow, TextAndTag, Reads, starts, goes_on, IsCut}
-use Rattle.handlebars_template.specs.Compile.{Options, pieces_in, tree_of, refusal_for, Compilation, compiled, refused, unreadable, Compiles, whole, no_tag, misplaced, left_open, late}
+use Rattle.handlebars_template.specs.Compile.{pieces_in, tree_of, refusal_for, Compilation, compiled, refused, unreadable_tag, Compiles, whole, no_tag, misplaced, left_open, late}
 use Rattle.handlebars_template.proofs.NestsSteps.{Opens-step, Refuses-step}
 use Rattle.handlebars_template.proofs.NestsRuns.{run}
 use Rattle.handlebars_template.proofs.Running.{TagFound, tag_at, tag_at-is, text_at, FoundText, text_at-is, guarded, guarded_some}
@@ -84,12 +85,12 @@ abbrev spot_at : ℕ → Spot → Option Spot
 spot_at zero s = Some s
 spot_at (suc n) s = next_at s.edge s.left >>= λ x. spot_at n (spot_behind s x)
 
-pub record IsAt (source : Text) (s : Spot) : Type 0 where
-  pub begins : Reads source s.before s.edge s.slices
+pub record IsAt (source : Text) (options : Options) (s : Spot) : Type 0 where
+  pub begins : Reads source options s.before s.edge s.slices
   pub whole : source ≡ s.before ++ s.left
 
-next_at-is : (source : Text) (s : Spot) (x : Next) → next_at s.edge s.left ≡ Some x → IsAt source s → IsAt source (spot_behind s x)
-next_at-is source s x e h =
+next_at-is : (source : Text) (options : Options) (s : Spot) (x : Next) → next_at s.edge s.left ≡ Some x → IsAt source options s → IsAt source options (spot_behind s x)
+next_at-is source options s x e h =
     let words = bind_some (text_at (braces_behind s.edge) s.left) _ x e in
     let tag = bind_some (tag_at words.0.1) _ x words.2 in
     let same = bind_some (guarded (bytes_eq (slice_before words.0.1 tag.0.rest ++ tag.0.rest) words.0.1) tag.0) _ x tag.2 in
@@ -101,7 +102,7 @@ next_at-is source s x e h =
     let w = text_at-is (braces_behind s.edge) s.left words.0 words.1 in
     let is = tag_at-is slice f.rest f (ap tag_at joins ∙ tag.1 ∙ ap (λ (z : TagFound). Some z) cut.1) refl in
     let all : source ≡ s.before ++ (words.0.0 ++ (slice ++ f.rest)) = h.whole ∙ ap (λ (z : Text). s.before ++ z) (w.whole ∙ ap (λ (z : Text). words.0.0 ++ z) (sym joins)) in
-    let next : TextAndTag source s.before s.edge = record {
+    let next : TextAndTag source options s.before s.edge = record {
       text = words.0.0;
       kept = words.0.0;
       slice = slice;
@@ -113,16 +114,16 @@ next_at-is source s x e h =
       is_tag = is;
       may_follow = fair.0;
     } in
-    subst (λ (z : Next). IsAt source (spot_behind s z)) fair.1 (record {
+    subst (λ (z : Next). IsAt source options (spot_behind s z)) fair.1 (record {
       begins = goes_on h.begins next;
       whole = all ∙ regroup_four s.before words.0.0 slice f.rest;
     })
 
-spot_at-is : (n : ℕ) (source : Text) (s r : Spot) → spot_at n s ≡ Some r → IsAt source s → IsAt source r
-spot_at-is zero source s r e h = subst (IsAt source) (same_Some s r e) h
-spot_at-is (suc n) source s r e h =
+spot_at-is : (n : ℕ) (source : Text) (options : Options) (s r : Spot) → spot_at n s ≡ Some r → IsAt source options s → IsAt source options r
+spot_at-is zero source options s r e h = subst (IsAt source options) (same_Some s r e) h
+spot_at-is (suc n) source options s r e h =
     let x = bind_some (next_at s.edge s.left) _ r e in
-    spot_at-is n source (spot_behind s x.0) r x.2 (next_at-is source s x.0 x.1 h)
+    spot_at-is n source options (spot_behind s x.0) r x.2 (next_at-is source options s x.0 x.1 h)
 
 abbrev pub first_spot : Text → Spot
 first_spot source = record { before = []; edge = no_edge; slices = []; left = source }
@@ -139,7 +140,7 @@ verdict options (goes d [] es) (goes e (f ∷ fs) xs) = None
 abbrev of_whole : Options → Spot → Text × Text → Option Compilation
 of_whole options r (text, (b ∷ t)) = None
 of_whole options r (text, []) =
-    let ps = pieces_in (r.slices ++ (text_slice (place r.before) r.edge text text no_edge ∷ [])) in
+    let ps = pieces_in options (r.slices ++ (text_slice (place r.before) r.edge text text no_edge ∷ [])) in
     verdict options (run syntax_alone ps 0 [] []) (run names_and_literals ps 0 [] [])
 
 abbrev of_beginning : Options → Spot → Moved → Option Compilation
@@ -147,12 +148,12 @@ of_beginning options r (stops f) = Some (refused (refusal_for options f))
 of_beginning options r (goes d fs es) = text_at (braces_behind r.edge) r.left >>= of_whole options r
 
 abbrev pub answer : Options → ℕ → Spot → Option Compilation
-answer options n s = spot_at n s >>= λ r. of_beginning options r (run syntax_alone (pieces_in r.slices) 0 [] [])
+answer options n s = spot_at n s >>= λ r. of_beginning options r (run syntax_alone (pieces_in options r.slices) 0 [] [])
 
 nests_in : {t : Test} {d : ℕ} {ps : List Piece} {es : List Placed} → Opens t d ps [] es → Nests t 0 ps es
 nests_in (none_open h) = h
 
-verdict-is : (options : Options) (source : Text) (ps : List Slice) (m k : Moved) (c : Compilation) → IsCut source ps → Ran syntax_alone (pieces_in ps) m → Ran names_and_literals (pieces_in ps) k
+verdict-is : (options : Options) (source : Text) (ps : List Slice) (m k : Moved) (c : Compilation) → IsCut source options ps → Ran syntax_alone (pieces_in options ps) m → Ran names_and_literals (pieces_in options ps) k
     → verdict options m k ≡ Some c → Compiles source options c
 verdict-is options source ps (stops f) k c cut loose strict e = absurd (none-some c e)
 verdict-is options source ps (goes d (f ∷ fs) es) k c cut loose strict e =
@@ -161,11 +162,11 @@ verdict-is options source ps (goes d [] es) (stops f) c cut loose strict e = sub
 verdict-is options source ps (goes d [] es) (goes e' [] xs) c cut loose strict e = subst (Compiles source options) (same_Some (compiled (tree_of options xs)) c e) (whole cut (nests_in strict))
 verdict-is options source ps (goes d [] es) (goes e' (f ∷ fs) xs) c cut loose strict e = absurd (none-some c e)
 
-of_whole-is : (options : Options) (source : Text) (r : Spot) (q : Text × Text) (c : Compilation) → IsAt source r → FoundText (braces_behind r.edge) r.left q → of_whole options r q ≡ Some c → Compiles source options c
+of_whole-is : (options : Options) (source : Text) (r : Spot) (q : Text × Text) (c : Compilation) → IsAt source options r → FoundText (braces_behind r.edge) r.left q → of_whole options r q ≡ Some c → Compiles source options c
 of_whole-is options source r (text, (b ∷ t)) c h words e = absurd (none-some c e)
 of_whole-is options source r (text, []) c h words e =
     let ps : List Slice = r.slices ++ (text_slice (place r.before) r.edge text text no_edge ∷ []) in
-    verdict-is options source ps (run syntax_alone (pieces_in ps) 0 [] []) (run names_and_literals (pieces_in ps) 0 [] []) c (record {
+    verdict-is options source ps (run syntax_alone (pieces_in options ps) 0 [] []) (run names_and_literals (pieces_in options ps) 0 [] []) c (record {
       before = r.before;
       edge = r.edge;
       slices = r.slices;
@@ -175,19 +176,19 @@ of_whole-is options source r (text, []) c h words e =
       whole = h.whole ∙ ap (λ (z : Text). r.before ++ z) (words.whole ∙ append-nil text);
       is_text = words.is_text;
       gives = refl;
-    }) (ran syntax_alone (pieces_in ps)) (ran names_and_literals (pieces_in ps)) e
+    }) (ran syntax_alone (pieces_in options ps)) (ran names_and_literals (pieces_in options ps)) e
 
-of_beginning-is : (options : Options) (source : Text) (r : Spot) (m : Moved) (c : Compilation) → IsAt source r → Ran syntax_alone (pieces_in r.slices) m → of_beginning options r m ≡ Some c → Compiles source options c
+of_beginning-is : (options : Options) (source : Text) (r : Spot) (m : Moved) (c : Compilation) → IsAt source options r → Ran syntax_alone (pieces_in options r.slices) m → of_beginning options r m ≡ Some c → Compiles source options c
 of_beginning-is options source r (stops f) c h loose e = subst (Compiles source options) (same_Some (refused (refusal_for options f)) c e) (misplaced h.begins loose)
 of_beginning-is options source r (goes d fs es) c h loose e =
     let q = bind_some (text_at (braces_behind r.edge) r.left) (of_whole options r) c e in
     of_whole-is options source r q.0 c h (text_at-is (braces_behind r.edge) r.left q.0 q.1) q.2
 
 -- from any beginning, so many tags on
-pub answer-compiles : (options : Options) (source : Text) (n : ℕ) (s : Spot) (c : Compilation) → IsAt source s → answer options n s ≡ Some c → Compiles source options c
+pub answer-compiles : (options : Options) (source : Text) (n : ℕ) (s : Spot) (c : Compilation) → IsAt source options s → answer options n s ≡ Some c → Compiles source options c
 answer-compiles options source n s c h e =
     let r = bind_some (spot_at n s) _ c e in
-    of_beginning-is options source r.0 (run syntax_alone (pieces_in r.0.slices) 0 [] []) c (spot_at-is n source s r.0 r.1 h) (ran syntax_alone (pieces_in r.0.slices)) r.2
+    of_beginning-is options source r.0 (run syntax_alone (pieces_in options r.0.slices) 0 [] []) c (spot_at-is n source options s r.0 r.1 h) (ran syntax_alone (pieces_in options r.0.slices)) r.2
 
 abbrev pub answer_of : Options → ℕ → Text → Option Compilation
 answer_of options n source = answer options n (first_spot source)
@@ -198,14 +199,14 @@ answer_of-compiles options n source c e = answer-compiles options source n (firs
 -- ---- by hand
 
 -- a text and a tag where the source begins
-pub first_tag : (text kept slice rest : Text) (f : TagFound) → IsText two_braces (slice ++ rest) text kept → tag_at (slice ++ rest) ≡ Some f → f.rest ≡ rest
-    → IsAt (text ++ (slice ++ rest)) (record {
+pub first_tag : (options : Options) (text kept slice rest : Text) (f : TagFound) → IsText two_braces (slice ++ rest) text kept → tag_at (slice ++ rest) ≡ Some f → f.rest ≡ rest
+    → IsAt (text ++ (slice ++ rest)) options (record {
       before = text ++ slice;
       edge = edge_of text f.tag f.tildes rest;
       slices = text_slice (place []) no_edge text kept (edge_of text f.tag f.tildes rest) ∷ tag_slice (place text) slice f.tag (edge_of text f.tag f.tildes rest) ∷ [];
       left = rest;
     })
-first_tag text kept slice rest f words e is = record {
+first_tag options text kept slice rest f words e is = record {
   begins = goes_on starts (record {
     text = text;
     kept = kept;
@@ -223,7 +224,7 @@ first_tag text kept slice rest f words e is = record {
 
 -- a text where the source begins, and braces with which no tag begins
 pub first_unreadable : (options : Options) (text left : Text) → IsText two_braces left text text → braces two_braces left ≡ true → NoTag left
-    → Compiles (text ++ left) options (refused (unreadable options (place text)))
+    → Compiles (text ++ left) options (refused (unreadable_tag options (place text)))
 first_unreadable options text left words marks none = no_tag (record {
   before = [];
   edge = no_edge;

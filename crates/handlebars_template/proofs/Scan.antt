@@ -1,13 +1,11 @@
 -- What was read of a source so far, and what the next tag does.
 use Rattle.std.proofs.Common.{◌≡◌, ℕ, Option, Some, None, Bool, true, false, ◌+◌, ◌-◌, ◌<◌, ◌≤◌, List, [], ◌∷◌, ◌++◌, length, refl, sym, ap, ◌∙◌, subst, append_assoc, arith, length-append, inl, inr}
-use Rattle.std.specs.Prelude.{◌==◌, fold, nat_lt, if◌then◌else◌, codes}
-use Rattle.std.specs.Option.{option_or}
+use Rattle.std.specs.Prelude.{◌==◌, fold, if◌then◌else◌, codes}
 use Rattle.std.specs.Str.{IsUtf8, IsCharBoundary, chars}
 use Rattle.std.proofs.lemmas.Bool.{cases_Bool, false≢true}
 use Rattle.std.proofs.lemmas.List.{append-nil, nil_from_length}
 use Rattle.std.proofs.lemmas.List.Sums.{fold-append}
 use Rattle.std.proofs.lemmas.Str.{chars-append, chars-nil, IsUtf8-append, IsUtf8-nil, IsUtf8-take, IsCharBoundary-at_seam, length-le-encodes, encodes-chars}
-use borrow.Author.Tests.{ltb-true}
 use Rattle.handlebars_base.specs.Bytes.{Text}
 use Rattle.handlebars_base.proofs.Ends.{length-front, take-front}
 use Rattle.handlebars_tags.specs.Comment.{behind_mark, HasNoLong}
@@ -16,48 +14,28 @@ use Rattle.handlebars_tags.specs.Text.{Braces, IsText, at_end, at_tag, a_byte, t
 use Rattle.handlebars_tags.specs.Tag.{Tag, Tildes, IsTag, NoTag, OneTag}
 use Rattle.handlebars_tags.specs.Trim.{Edge, no_edge, is_fresh_behind, is_fresh, edge_with, braces_behind, has_element, trimmed}
 use Rattle.handlebars_tags.proofs.TagLengths.{length-tag}
+use Rattle.handlebars_template.specs.Options.{Options}
 use Rattle.handlebars_template.specs.Place.{Place, origin, behind_char, behind, place}
 use Rattle.handlebars_template.specs.Tree.{raw_string}
-use Rattle.handlebars_template.specs.Calls.{max_nesting}
-use Rattle.handlebars_template.specs.Nest.{Piece, leaf, Fault, Placed, Branch, Test, syntax_alone, Chains, no_more, a_branch, Frame, Inside, in_its_body, in_a_branch, in_its_inverse, Opens, none_open, one_more, Refuses}
-use Rattle.handlebars_template.specs.Machine.{Moved, goes, stops, checked, apply, late_after, at_end as ended, End}
+use Rattle.handlebars_template.specs.Nest.{Piece, leaf, Fault, Placed, syntax_alone, Frame, Refuses}
+use Rattle.handlebars_template.specs.Machine.{goes, stops, apply, late_after, at_end as ended, End}
 use Rattle.handlebars_template.specs.Cut.{Slice, text_slice, tag_slice, may_follow, Reads, starts, goes_on, IsCut}
-use Rattle.handlebars_template.specs.Compile.{Options, tag_piece, text_pieces, pieces_in, unreadable, refusal_for, NoTagBehind, Compiles, refused, whole, no_tag, misplaced, left_open, late}
+use Rattle.handlebars_template.specs.Compile.{tag_piece, text_pieces, pieces_in, unreadable_tag, refusal_for, NoTagBehind, Compiles, refused, whole, no_tag, misplaced, left_open, late}
 use Rattle.handlebars_template.specs.ScanView.{text_placed, ComesTo}
+use Rattle.handlebars_template.proofs.NestsDone.{option_or-none}
+use Rattle.handlebars_template.proofs.NestsFits.{apply-fits, Fits-leaf}
+use Rattle.handlebars_template.proofs.NestsSteps.{Opens-shallow}
 use Rattle.handlebars_template.proofs.NestsStates.{State, State-start, State-moves, State-stops, State-whole, State-late, State-open}
 
 pub behind-append : (p : Place) (x y : Text) → IsUtf8 x → behind p (x ++ y) ≡ behind (behind p x) y
 behind-append p x y h = ap (fold behind_char p) (chars-append x y h) ∙ fold-append behind_char p (chars x) (chars y)
 
-pub pieces_in-append : (ps qs : List Slice) → pieces_in (ps ++ qs) ≡ pieces_in ps ++ pieces_in qs
-pieces_in-append [] qs = refl
-pieces_in-append (text_slice p e x k n ∷ ps) qs = ap (λ (z : List Piece). text_pieces p e x k n ++ z) (pieces_in-append ps qs) ∙ sym (append_assoc (text_pieces p e x k n) (pieces_in ps) (pieces_in qs))
-pieces_in-append (tag_slice p x t e ∷ ps) qs = ap (λ (z : List Piece). tag_piece p e t ∷ z) (pieces_in-append ps qs)
-
--- ---- no more than the limit is open
-
-Chains-shallow : {t : Test} {d e : ℕ} {cs : List Piece} {bs : List Branch} → Chains t d cs bs e → d ≤ max_nesting → e ≤ max_nesting
-Chains-shallow no_more le = le
-Chains-shallow (a_branch p o n r fits fair nb ch) le = Chains-shallow ch (omega (arith, fits))
-
-Inside-shallow : {t : Test} {f : Frame} {qs : List Piece} {d : ℕ} {es : List Placed} → Inside t f qs d es → d ≤ max_nesting
-Inside-shallow (in_its_body p x n r fits fair nb) = omega (arith, fits)
-Inside-shallow (in_a_branch p q x g n k r u fits fair nb ch fits' fair' ng) = omega (arith, fits')
-Inside-shallow (in_its_inverse p q x n r fits fair nb ch ng) = Chains-shallow ch (omega (arith, fits))
-
-Opens-shallow : {t : Test} {d : ℕ} {ps : List Piece} {fs : List Frame} {es : List Placed} → Opens t d ps fs es → d ≤ max_nesting
-Opens-shallow (none_open h) = omega arith
-Opens-shallow (one_more o i) = Inside-shallow i
+pub pieces_in-append : (options : Options) (ps qs : List Slice) → pieces_in options (ps ++ qs) ≡ pieces_in options ps ++ pieces_in options qs
+pieces_in-append options [] qs = refl
+pieces_in-append options (text_slice p e x k n ∷ ps) qs = ap (λ (z : List Piece). text_pieces options p e x k n ++ z) (pieces_in-append options ps qs) ∙ sym (append_assoc (text_pieces options p e x k n) (pieces_in options ps) (pieces_in options qs))
+pieces_in-append options (tag_slice p x t e ∷ ps) qs = ap (λ (z : List Piece). tag_piece p e t ∷ z) (pieces_in-append options ps qs)
 
 -- ---- a text
-
-leaf-fits : (b : Bool) (d : ℕ) → nat_lt max_nesting (d + 0) ≡ b → d ≤ max_nesting → (p : Place) (m : Moved) → checked b syntax_alone p None m ≡ m
-leaf-fits true d is le p m = absurd (omega (arith, ltb-true _ _ is, le))
-leaf-fits false d is le p m = refl
-
-late-none : (late : Option Fault) → option_or late None ≡ late
-late-none None = refl
-late-none (Some f) = refl
 
 State-none : {late : Option Fault} {ps : List Piece} {d : ℕ} {fs : List Frame} {es : List Placed} → State late ps d fs es → State late (ps ++ []) d fs (es ++ [])
 State-none {ps = ps} {es = es} s = rw (append-nil ps, append-nil es) s
@@ -65,37 +43,37 @@ State-none {ps = ps} {es = es} s = rw (append-nil ps, append-nil es) s
 State-leaf : {late : Option Fault} {ps : List Piece} {d : ℕ} {fs : List Frame} {es : List Placed} → (p : Place) (x : Text) → State late ps d fs es
     → State late (ps ++ leaf p (raw_string x) 0 None ∷ []) d fs (es ++ record { place = p; element = raw_string x } ∷ [])
 State-leaf {late} {ps} {d} {fs} {es} p x s =
-    subst (λ (z : Option Fault). State z (ps ++ leaf p (raw_string x) 0 None ∷ []) d fs (es ++ record { place = p; element = raw_string x } ∷ [])) (late-none late)
-    (State-moves (leaf p (raw_string x) 0 None) s (leaf-fits (nat_lt max_nesting (d + 0)) d refl (Opens-shallow s.loose) p _))
+    subst (λ (z : Option Fault). State z (ps ++ leaf p (raw_string x) 0 None ∷ []) d fs (es ++ record { place = p; element = raw_string x } ∷ [])) (option_or-none late)
+    (State-moves (leaf p (raw_string x) 0 None) s (apply-fits syntax_alone (leaf p (raw_string x) 0 None) d fs es (Fits-leaf syntax_alone d fs p (raw_string x) 0 None (omega (arith, Opens-shallow s.loose)) refl)))
 
 State-when : {late : Option Fault} {ps : List Piece} {d : ℕ} {fs : List Frame} {es : List Placed} → (b : Bool) (p : Place) (x : Text) → State late ps d fs es
     → State late (ps ++ (if b then leaf p (raw_string x) 0 None ∷ [] else [])) d fs (es ++ (if b then record { place = p; element = raw_string x } ∷ [] else []))
 State-when true p x s = State-leaf p x s
 State-when false p x s = State-none s
 
-State-text : {late : Option Fault} {ps : List Piece} {d : ℕ} {fs : List Frame} {es : List Placed} → (p : Place) (e : Edge) (x k : Text) (n : Edge) → State late ps d fs es
-    → State late (ps ++ text_pieces p e x k n) d fs (es ++ text_placed p e x k n)
-State-text p e x k n s = State-when (has_element e x) p (trimmed e k n) s
+State-text : {late : Option Fault} {ps : List Piece} {d : ℕ} {fs : List Frame} {es : List Placed} (options : Options) → (p : Place) (e : Edge) (x k : Text) (n : Edge) → State late ps d fs es
+    → State late (ps ++ text_pieces options p e x k n) d fs (es ++ text_placed options p e x k n)
+State-text options p e x k n s = State-when (has_element e x) p (trimmed e k n) s
 
 -- ---- a beginning of the source
 
 -- Behind a beginning of the source, which ends with this edge, stands this text, and behind it what is left.
-pub record Scans (source slice kept left : Text) (at : Place) (fresh : Bool) (e : Edge) (late : Option Fault) (d : ℕ) (fs : List Frame) (es : List Placed) : Type 0 where
+pub record Scans (source : Text) (options : Options) (slice kept left : Text) (at : Place) (fresh : Bool) (e : Edge) (late : Option Fault) (d : ℕ) (fs : List Frame) (es : List Placed) : Type 0 where
   pub before : Text
   pub slices : List Slice
-  pub begins : Reads source before e slices
+  pub begins : Reads source options before e slices
   pub parts : source ≡ before ++ (slice ++ left)
   pub is_text : IsText (braces_behind e) left slice kept
   pub utf8 : IsUtf8 before
   pub there : at ≡ place before
   pub lines : fresh ≡ is_fresh before
-  pub state : State late (pieces_in slices) d fs es
+  pub state : State late (pieces_in options slices) d fs es
 
-pub Scans-start : (source slice kept left : Text) (e : Edge) → e ≡ no_edge → source ≡ slice ++ left → IsText (braces_behind e) left slice kept → Scans source slice kept left origin true e None 0 [] []
-Scans-start source slice kept left e is parts h = record {
+pub Scans-start : (source : Text) (options : Options) (slice kept left : Text) (e : Edge) → e ≡ no_edge → source ≡ slice ++ left → IsText (braces_behind e) left slice kept → Scans source options slice kept left origin true e None 0 [] []
+Scans-start source options slice kept left e is parts h = record {
   before = [];
   slices = [];
-  begins = subst (λ (z : Edge). Reads source [] z []) (sym is) starts;
+  begins = subst (λ (z : Edge). Reads source options [] z []) (sym is) starts;
   parts = parts;
   is_text = h;
   utf8 = IsUtf8-nil;
@@ -114,33 +92,33 @@ pub record TagHere (left : Text) (e : Edge) (t : Tag) (tildes : Tildes) (spelled
 abbrev pub pair_of : Place → Edge → Text → Text → Place → Text → Tag → Edge → List Slice
 pair_of p e x k q spelled t n = text_slice p e x k n ∷ tag_slice q spelled t n ∷ []
 
-Reads-along : (source before x k spelled : Text) (slices : List Slice) (t : Tag) (at p q there : Place) (e n m : Edge) → at ≡ p → q ≡ there → n ≡ m
-    → Reads source before m (slices ++ pair_of p e x k there spelled t m) → Reads source before n (slices ++ pair_of at e x k q spelled t n)
-Reads-along source before x k spelled slices t at p q there e n m a b c h = rw (a, b, c) h
+Reads-along : (source : Text) (options : Options) (before x k spelled : Text) (slices : List Slice) (t : Tag) (at p q there : Place) (e n m : Edge) → at ≡ p → q ≡ there → n ≡ m
+    → Reads source options before m (slices ++ pair_of p e x k there spelled t m) → Reads source options before n (slices ++ pair_of at e x k q spelled t n)
+Reads-along source options before x k spelled slices t at p q there e n m a b c h = rw (a, b, c) h
 
 -- where the code stands behind the text, what the text before it ends with, and what the tag does to it
-pub record Turn {source slice kept left : Text} {at : Place} {fresh : Bool} {e : Edge} {late : Option Fault} {d : ℕ} {fs : List Frame} {es : List Placed}
-    (h : Scans source slice kept left at fresh e late d fs es) (t : Tag) (tildes : Tildes) (spelled rest : Text) (q : Place) (mid : Bool) (n : Edge) : Type 0 where
+pub record Turn {source : Text} {options : Options} {slice kept left : Text} {at : Place} {fresh : Bool} {e : Edge} {late : Option Fault} {d : ℕ} {fs : List Frame} {es : List Placed}
+    (h : Scans source options slice kept left at fresh e late d fs es) (t : Tag) (tildes : Tildes) (spelled rest : Text) (q : Place) (mid : Bool) (n : Edge) : Type 0 where
   pub here : TagHere left e t tildes spelled rest
   pub there : q ≡ behind at slice
   pub lines : mid ≡ fold is_fresh_behind fresh slice
   pub edge : n ≡ edge_with mid t tildes rest
 
-pub behind-place : {source slice kept left : Text} {at : Place} {fresh : Bool} {e : Edge} {late : Option Fault} {d : ℕ} {fs : List Frame} {es : List Placed}
-    → (h : Scans source slice kept left at fresh e late d fs es) (q : Place) → q ≡ behind at slice → q ≡ place (h.before ++ slice)
+pub behind-place : {source : Text} {options : Options} {slice kept left : Text} {at : Place} {fresh : Bool} {e : Edge} {late : Option Fault} {d : ℕ} {fs : List Frame} {es : List Placed}
+    → (h : Scans source options slice kept left at fresh e late d fs es) (q : Place) → q ≡ behind at slice → q ≡ place (h.before ++ slice)
 behind-place {slice = slice} h q is = is ∙ ap (λ (p : Place). behind p slice) h.there ∙ sym (behind-append origin h.before slice h.utf8)
 
-fresh-place : {source slice kept left : Text} {at : Place} {fresh : Bool} {e : Edge} {late : Option Fault} {d : ℕ} {fs : List Frame} {es : List Placed}
-    → (h : Scans source slice kept left at fresh e late d fs es) (mid : Bool) → mid ≡ fold is_fresh_behind fresh slice → mid ≡ is_fresh (h.before ++ slice)
+fresh-place : {source : Text} {options : Options} {slice kept left : Text} {at : Place} {fresh : Bool} {e : Edge} {late : Option Fault} {d : ℕ} {fs : List Frame} {es : List Placed}
+    → (h : Scans source options slice kept left at fresh e late d fs es) (mid : Bool) → mid ≡ fold is_fresh_behind fresh slice → mid ≡ is_fresh (h.before ++ slice)
 fresh-place {slice = slice} h mid is = is ∙ ap (λ (b : Bool). fold is_fresh_behind b slice) h.lines ∙ sym (fold-append is_fresh_behind true h.before slice)
 
-Turn-reads : {source slice kept left : Text} {at : Place} {fresh : Bool} {e : Edge} {late : Option Fault} {d : ℕ} {fs : List Frame} {es : List Placed}
-    → (h : Scans source slice kept left at fresh e late d fs es) (t : Tag) (tildes : Tildes) (spelled rest : Text) (q : Place) (mid : Bool) (n : Edge)
-    → Turn h t tildes spelled rest q mid n → Reads source (h.before ++ (slice ++ spelled)) n (h.slices ++ pair_of at e slice kept q spelled t n)
-Turn-reads {source} {slice} {kept} {left} {at} {fresh} {e} h t tildes spelled rest q mid n turn =
+Turn-reads : {source : Text} {options : Options} {slice kept left : Text} {at : Place} {fresh : Bool} {e : Edge} {late : Option Fault} {d : ℕ} {fs : List Frame} {es : List Placed}
+    → (h : Scans source options slice kept left at fresh e late d fs es) (t : Tag) (tildes : Tildes) (spelled rest : Text) (q : Place) (mid : Bool) (n : Edge)
+    → Turn h t tildes spelled rest q mid n → Reads source options (h.before ++ (slice ++ spelled)) n (h.slices ++ pair_of at e slice kept q spelled t n)
+Turn-reads {source} {options} {slice} {kept} {left} {at} {fresh} {e} h t tildes spelled rest q mid n turn =
     let b : Text = h.before in
     let m : Edge = edge_with (is_fresh (b ++ slice)) t tildes rest in
-    let one : Reads source (b ++ (slice ++ spelled)) m (h.slices ++ pair_of (place b) e slice kept (place (b ++ slice)) spelled t m) = goes_on h.begins (record {
+    let one : Reads source options (b ++ (slice ++ spelled)) m (h.slices ++ pair_of (place b) e slice kept (place (b ++ slice)) spelled t m) = goes_on h.begins (record {
       text = slice;
       kept = kept;
       slice = spelled;
@@ -152,29 +130,29 @@ Turn-reads {source} {slice} {kept} {left} {at} {fresh} {e} h t tildes spelled re
       is_tag = turn.here.is_tag;
       may_follow = turn.here.follows;
     }) in
-    Reads-along source (b ++ (slice ++ spelled)) slice kept spelled h.slices t at (place b) q (place (b ++ slice)) e n m
+    Reads-along source options (b ++ (slice ++ spelled)) slice kept spelled h.slices t at (place b) q (place (b ++ slice)) e n m
     h.there (behind-place h q turn.there) (turn.edge ∙ ap (λ (z : Bool). edge_with z t tildes rest) (fresh-place h mid turn.lines)) one
 
 -- the pieces behind the text and the tag
-pieces_in-pair : (ps : List Slice) (p : Place) (e : Edge) (x k : Text) (q : Place) (spelled : Text) (t : Tag) (n : Edge)
-    → pieces_in (ps ++ pair_of p e x k q spelled t n) ≡ (pieces_in ps ++ text_pieces p e x k n) ++ tag_piece q n t ∷ []
-pieces_in-pair ps p e x k q spelled t n = pieces_in-append ps (pair_of p e x k q spelled t n) ∙ sym (append_assoc (pieces_in ps) (text_pieces p e x k n) (tag_piece q n t ∷ []))
+pieces_in-pair : (options : Options) (ps : List Slice) (p : Place) (e : Edge) (x k : Text) (q : Place) (spelled : Text) (t : Tag) (n : Edge)
+    → pieces_in options (ps ++ pair_of p e x k q spelled t n) ≡ (pieces_in options ps ++ text_pieces options p e x k n) ++ tag_piece q n t ∷ []
+pieces_in-pair options ps p e x k q spelled t n = pieces_in-append options ps (pair_of p e x k q spelled t n) ∙ sym (append_assoc (pieces_in options ps) (text_pieces options p e x k n) (tag_piece q n t ∷ []))
 
 -- the state behind the text, as the code has it
-pub record Mid {source slice kept left : Text} {at : Place} {fresh : Bool} {e : Edge} {late : Option Fault} {d : ℕ} {fs : List Frame} {es : List Placed}
-    (h : Scans source slice kept left at fresh e late d fs es) (n : Edge) (late' : Option Fault) (d' : ℕ) (fs' : List Frame) (es' : List Placed) : Type 0 where
+pub record Mid {source : Text} {options : Options} {slice kept left : Text} {at : Place} {fresh : Bool} {e : Edge} {late : Option Fault} {d : ℕ} {fs : List Frame} {es : List Placed}
+    (h : Scans source options slice kept left at fresh e late d fs es) (n : Edge) (late' : Option Fault) (d' : ℕ) (fs' : List Frame) (es' : List Placed) : Type 0 where
   pub depth : d' ≡ d
   pub frames : fs' ≡ fs
   pub kept_late : late' ≡ late
-  pub elements : es' ≡ es ++ text_placed at e slice kept n
+  pub elements : es' ≡ es ++ text_placed options at e slice kept n
 
 State-along : {late late' : Option Fault} {ps : List Piece} {d d' : ℕ} {fs fs' : List Frame} {es es' : List Placed} → late' ≡ late → d' ≡ d → fs' ≡ fs → es' ≡ es → State late ps d fs es → State late' ps d' fs' es'
 State-along a b c e s = rw (a, b, c, e) s
 
-Mid-state : {source slice kept left : Text} {at : Place} {fresh : Bool} {e : Edge} {late : Option Fault} {d : ℕ} {fs : List Frame} {es : List Placed}
-    → (h : Scans source slice kept left at fresh e late d fs es) (n : Edge) (late' : Option Fault) (d' : ℕ) (fs' : List Frame) (es' : List Placed) → Mid h n late' d' fs' es'
-    → State late' (pieces_in h.slices ++ text_pieces at e slice kept n) d' fs' es'
-Mid-state {slice = slice} {kept = kept} {at = at} {e = e} h n late' d' fs' es' m = State-along m.kept_late m.depth m.frames m.elements (State-text at e slice kept n h.state)
+Mid-state : {source : Text} {options : Options} {slice kept left : Text} {at : Place} {fresh : Bool} {e : Edge} {late : Option Fault} {d : ℕ} {fs : List Frame} {es : List Placed}
+    → (h : Scans source options slice kept left at fresh e late d fs es) (n : Edge) (late' : Option Fault) (d' : ℕ) (fs' : List Frame) (es' : List Placed) → Mid h n late' d' fs' es'
+    → State late' (pieces_in options h.slices ++ text_pieces options at e slice kept n) d' fs' es'
+Mid-state {options = options} {slice = slice} {kept = kept} {at = at} {e = e} h n late' d' fs' es' m = State-along m.kept_late m.depth m.frames m.elements (State-text options at e slice kept n h.state)
 
 regroup : (b s t x y : Text) → b ++ (s ++ (t ++ (x ++ y))) ≡ (b ++ (s ++ t)) ++ (x ++ y)
 regroup b s t x y = sym (simp append_assoc)
@@ -190,16 +168,16 @@ pub record Next (n : Edge) (q : Place) (mid : Bool) (spelled rest x k y : Text) 
   pub lines : fresh ≡ fold is_fresh_behind mid spelled
 
 -- one turn: the text, the tag behind it, and the next text
-pub Scans-step : {source slice kept left : Text} {at : Place} {fresh : Bool} {e : Edge} {late : Option Fault} {d : ℕ} {fs : List Frame} {es : List Placed}
-    → (h : Scans source slice kept left at fresh e late d fs es) (t : Tag) (tildes : Tildes) (spelled rest : Text) (q : Place) (mid : Bool) (n : Edge) → Turn h t tildes spelled rest q mid n
+pub Scans-step : {source : Text} {options : Options} {slice kept left : Text} {at : Place} {fresh : Bool} {e : Edge} {late : Option Fault} {d : ℕ} {fs : List Frame} {es : List Placed}
+    → (h : Scans source options slice kept left at fresh e late d fs es) (t : Tag) (tildes : Tildes) (spelled rest : Text) (q : Place) (mid : Bool) (n : Edge) → Turn h t tildes spelled rest q mid n
     → (late' : Option Fault) (d' : ℕ) (fs' : List Frame) (es' : List Placed) → Mid h n late' d' fs' es'
     → (late'' : Option Fault) (d'' : ℕ) (fs'' : List Frame) (es'' : List Placed) → apply syntax_alone (tag_piece q n t) d' fs' es' ≡ goes d'' fs'' es'' → late'' ≡ late_after late' (tag_piece q n t) fs'
     → (x k y : Text) (next : Place) (fresh' : Bool) → Next n q mid spelled rest x k y next fresh' → IsUtf8 slice → IsUtf8 spelled
-    → Scans source x k y next fresh' n late'' d'' fs'' es''
-Scans-step {source} {slice} {kept} {left} {at} {fresh} {e} h t tildes spelled rest q mid n turn late' d' fs' es' m late'' d'' fs'' es'' moved lates x k y next fresh' after u v =
+    → Scans source options x k y next fresh' n late'' d'' fs'' es''
+Scans-step {source} {options} {slice} {kept} {left} {at} {fresh} {e} h t tildes spelled rest q mid n turn late' d' fs' es' m late'' d'' fs'' es'' moved lates x k y next fresh' after u v =
     let b : Text = h.before in
     let new : List Slice = pair_of at e slice kept q spelled t n in
-    let state : State (late_after late' (tag_piece q n t) fs') ((pieces_in h.slices ++ text_pieces at e slice kept n) ++ tag_piece q n t ∷ []) d'' fs'' es'' =
+    let state : State (late_after late' (tag_piece q n t) fs') ((pieces_in options h.slices ++ text_pieces options at e slice kept n) ++ tag_piece q n t ∷ []) d'' fs'' es'' =
     State-moves (tag_piece q n t) (Mid-state h n late' d' fs' es' m) moved in
     record {
       before = b ++ (slice ++ spelled);
@@ -210,18 +188,18 @@ Scans-step {source} {slice} {kept} {left} {at} {fresh} {e} h t tildes spelled re
       utf8 = IsUtf8-three b slice spelled h.utf8 u v;
       there = after.there ∙ ap (λ (p : Place). behind p spelled) (behind-place h q turn.there) ∙ sym (behind-append origin (b ++ slice) spelled (IsUtf8-append b slice h.utf8 u)) ∙ ap place (append_assoc b slice spelled);
       lines = after.lines ∙ ap (λ (z : Bool). fold is_fresh_behind z spelled) (fresh-place h mid turn.lines) ∙ sym (fold-append is_fresh_behind true (b ++ slice) spelled) ∙ ap is_fresh (append_assoc b slice spelled);
-      state = subst (λ (z : List Piece). State late'' z d'' fs'' es'') (sym (pieces_in-pair h.slices at e slice kept q spelled t n))
-          (subst (λ (z : Option Fault). State z ((pieces_in h.slices ++ text_pieces at e slice kept n) ++ tag_piece q n t ∷ []) d'' fs'' es'') (sym lates) state);
+      state = subst (λ (z : List Piece). State late'' z d'' fs'' es'') (sym (pieces_in-pair options h.slices at e slice kept q spelled t n))
+          (subst (λ (z : Option Fault). State z ((pieces_in options h.slices ++ text_pieces options at e slice kept n) ++ tag_piece q n t ∷ []) d'' fs'' es'') (sym lates) state);
     }
 
 -- the tag may not stand there
-pub Compiles-misplaced : {source slice kept left : Text} {at : Place} {fresh : Bool} {e : Edge} {late : Option Fault} {d : ℕ} {fs : List Frame} {es : List Placed}
-    → (h : Scans source slice kept left at fresh e late d fs es) (t : Tag) (tildes : Tildes) (spelled rest : Text) (q : Place) (mid : Bool) (n : Edge) → Turn h t tildes spelled rest q mid n
+pub Compiles-misplaced : {source : Text} {options : Options} {slice kept left : Text} {at : Place} {fresh : Bool} {e : Edge} {late : Option Fault} {d : ℕ} {fs : List Frame} {es : List Placed}
+    → (h : Scans source options slice kept left at fresh e late d fs es) (t : Tag) (tildes : Tildes) (spelled rest : Text) (q : Place) (mid : Bool) (n : Edge) → Turn h t tildes spelled rest q mid n
     → (late' : Option Fault) (d' : ℕ) (fs' : List Frame) (es' : List Placed) → Mid h n late' d' fs' es'
-    → (f : Fault) → apply syntax_alone (tag_piece q n t) d' fs' es' ≡ stops f → (options : Options) → Compiles source options (refused (refusal_for options f))
-Compiles-misplaced {source} {slice} {kept} {left} {at} {fresh} {e} h t tildes spelled rest q mid n turn late' d' fs' es' m f stopped options =
+    → (f : Fault) → apply syntax_alone (tag_piece q n t) d' fs' es' ≡ stops f → Compiles source options (refused (refusal_for options f))
+Compiles-misplaced {source} {options} {slice} {kept} {left} {at} {fresh} {e} h t tildes spelled rest q mid n turn late' d' fs' es' m f stopped =
     misplaced (Turn-reads h t tildes spelled rest q mid n turn)
-    (subst (λ (z : List Piece). Refuses syntax_alone z f) (sym (pieces_in-pair h.slices at e slice kept q spelled t n)) (State-stops (tag_piece q n t) [] (Mid-state h n late' d' fs' es' m) stopped))
+    (subst (λ (z : List Piece). Refuses syntax_alone z f) (sym (pieces_in-pair options h.slices at e slice kept q spelled t n)) (State-stops (tag_piece q n t) [] (Mid-state h n late' d' fs' es' m) stopped))
 
 -- ---- braces with which no tag begins
 
@@ -242,10 +220,10 @@ NoTagBehind-other tags e left slice rest t tildes is h other slice' rest' t' til
     let one = tags left slice slice' rest rest' t t' tildes tildes' is is' h h' in
     false≢true (sym other ∙ ap (may_follow e) one.2 ∙ f)
 
-pub Compiles-unreadable : {source slice kept left : Text} {at : Place} {fresh : Bool} {e : Edge} {late : Option Fault} {d : ℕ} {fs : List Frame} {es : List Placed}
-    → Scans source slice kept left at fresh e late d fs es → 0 < length left → NoTagBehind e left → (q : Place) → q ≡ behind at slice
-    → (options : Options) → Compiles source options (refused (unreadable options q))
-Compiles-unreadable {source} {slice} {kept} {left} {at} {fresh} {e} {late} {d} {fs} {es} h lt none q qe options = no_tag (record {
+pub Compiles-unreadable : {source : Text} {options : Options} {slice kept left : Text} {at : Place} {fresh : Bool} {e : Edge} {late : Option Fault} {d : ℕ} {fs : List Frame} {es : List Placed}
+    → Scans source options slice kept left at fresh e late d fs es → 0 < length left → NoTagBehind e left → (q : Place) → q ≡ behind at slice
+    → Compiles source options (refused (unreadable_tag options q))
+Compiles-unreadable {source} {options} {slice} {kept} {left} {at} {fresh} {e} {late} {d} {fs} {es} h lt none q qe = no_tag (record {
   before = h.before;
   edge = e;
   slices = h.slices;
@@ -266,9 +244,9 @@ Compiles-unreadable {source} {slice} {kept} {left} {at} {fresh} {e} {late} {d} {
 
 -- ---- the end of the source
 
-Scans-cut : {source slice kept left : Text} {at : Place} {fresh : Bool} {e : Edge} {late : Option Fault} {d : ℕ} {fs : List Frame} {es : List Placed}
-    → (h : Scans source slice kept left at fresh e late d fs es) → length left ≡ 0 → IsCut source (h.slices ++ text_slice at e slice kept no_edge ∷ [])
-Scans-cut {source} {slice} {kept} {left} {at} {fresh} {e} h over =
+Scans-cut : {source : Text} {options : Options} {slice kept left : Text} {at : Place} {fresh : Bool} {e : Edge} {late : Option Fault} {d : ℕ} {fs : List Frame} {es : List Placed}
+    → (h : Scans source options slice kept left at fresh e late d fs es) → length left ≡ 0 → IsCut source options (h.slices ++ text_slice at e slice kept no_edge ∷ [])
+Scans-cut {source} {options} {slice} {kept} {left} {at} {fresh} {e} h over =
     let none : left ≡ [] = nil_from_length left over in
     record {
       before = h.before;
@@ -282,20 +260,20 @@ Scans-cut {source} {slice} {kept} {left} {at} {fresh} {e} h over =
       gives = ap (λ (p : Place). h.slices ++ text_slice p e slice kept no_edge ∷ []) h.there;
     }
 
-pieces_in-last : (ps : List Slice) (p : Place) (e : Edge) (x k : Text) (n : Edge) → pieces_in (ps ++ text_slice p e x k n ∷ []) ≡ pieces_in ps ++ text_pieces p e x k n
-pieces_in-last ps p e x k n = pieces_in-append ps (text_slice p e x k n ∷ []) ∙ ap (λ (z : List Piece). pieces_in ps ++ z) (append-nil (text_pieces p e x k n))
+pieces_in-last : (options : Options) (ps : List Slice) (p : Place) (e : Edge) (x k : Text) (n : Edge) → pieces_in options (ps ++ text_slice p e x k n ∷ []) ≡ pieces_in options ps ++ text_pieces options p e x k n
+pieces_in-last options ps p e x k n = pieces_in-append options ps (text_slice p e x k n ∷ []) ∙ ap (λ (z : List Piece). pieces_in options ps ++ z) (append-nil (text_pieces options p e x k n))
 
-Cut-comes : {source : Text} {ps : List Slice} {d : ℕ} {es : List Placed} → (late : Option Fault) (fs : List Frame) → IsCut source ps → State late (pieces_in ps) d fs es → ComesTo source (ended fs late es)
-Cut-comes late' (f ∷ fs) cut s = λ options. left_open cut (State-open s)
-Cut-comes (Some f) [] cut s = λ options. (let both = State-late s in late cut both.0 both.1)
-Cut-comes None [] cut s = λ options. whole cut (State-whole s)
+Cut-comes : {source : Text} {options : Options} {ps : List Slice} {d : ℕ} {es : List Placed} → (late : Option Fault) (fs : List Frame) → IsCut source options ps → State late (pieces_in options ps) d fs es → ComesTo source options (ended fs late es)
+Cut-comes late' (f ∷ fs) cut s = left_open cut (State-open s)
+Cut-comes (Some f) [] cut s = (let both = State-late s in late cut both.0 both.1)
+Cut-comes None [] cut s = whole cut (State-whole s)
 
-pub Scans-end : {source slice kept left : Text} {at : Place} {fresh : Bool} {e : Edge} {late : Option Fault} {d : ℕ} {fs : List Frame} {es : List Placed}
-    → (h : Scans source slice kept left at fresh e late d fs es) → length left ≡ 0 → (n : Edge) → n ≡ no_edge → (late' : Option Fault) (d' : ℕ) (fs' : List Frame) (es' : List Placed) → Mid h n late' d' fs' es'
-    → (end : End) → end ≡ ended fs' late' es' → ComesTo source end
-Scans-end {source} {slice} {kept} {left} {at} {fresh} {e} h over n ne late' d' fs' es' m end is =
-    let state : State late' (pieces_in h.slices ++ text_pieces at e slice kept no_edge) d' fs' es' = subst (λ (z : Edge). State late' (pieces_in h.slices ++ text_pieces at e slice kept z) d' fs' es') ne (Mid-state h n late' d' fs' es' m) in
-    subst (ComesTo source) (sym is) (Cut-comes late' fs' (Scans-cut h over) (subst (λ (z : List Piece). State late' z d' fs' es') (sym (pieces_in-last h.slices at e slice kept no_edge)) state))
+pub Scans-end : {source : Text} {options : Options} {slice kept left : Text} {at : Place} {fresh : Bool} {e : Edge} {late : Option Fault} {d : ℕ} {fs : List Frame} {es : List Placed}
+    → (h : Scans source options slice kept left at fresh e late d fs es) → length left ≡ 0 → (n : Edge) → n ≡ no_edge → (late' : Option Fault) (d' : ℕ) (fs' : List Frame) (es' : List Placed) → Mid h n late' d' fs' es'
+    → (end : End) → end ≡ ended fs' late' es' → ComesTo source options end
+Scans-end {source} {options} {slice} {kept} {left} {at} {fresh} {e} h over n ne late' d' fs' es' m end is =
+    let state : State late' (pieces_in options h.slices ++ text_pieces options at e slice kept no_edge) d' fs' es' = subst (λ (z : Edge). State late' (pieces_in options h.slices ++ text_pieces options at e slice kept z) d' fs' es') ne (Mid-state h n late' d' fs' es' m) in
+    subst (ComesTo source options) (sym is) (Cut-comes late' fs' (Scans-cut h over) (subst (λ (z : List Piece). State late' z d' fs' es') (sym (pieces_in-last options h.slices at e slice kept no_edge)) state))
 
 -- ---- lines and columns fit
 
@@ -315,18 +293,18 @@ place-bound before h =
     let r = fold-bound (chars before) origin in
     (omega (arith, r.0), omega (arith, r.1))
 
-pub Scans-fits : {source slice kept left : Text} {at : Place} {fresh : Bool} {e : Edge} {late : Option Fault} {d : ℕ} {fs : List Frame} {es : List Placed}
-    → Scans source slice kept left at fresh e late d fs es → (at.line + length slice ≤ 1 + length source) × (at.column + length slice ≤ 2 + length source)
-Scans-fits {source} {slice} {kept} {left} {at} h =
+pub Scans-fits : {source : Text} {options : Options} {slice kept left : Text} {at : Place} {fresh : Bool} {e : Edge} {late : Option Fault} {d : ℕ} {fs : List Frame} {es : List Placed}
+    → Scans source options slice kept left at fresh e late d fs es → (at.line + length slice ≤ 1 + length source) × (at.column + length slice ≤ 2 + length source)
+Scans-fits {source} {options} {slice} {kept} {left} {at} h =
     let r = place-bound h.before h.utf8 in
     let line : at.line ≡ (place h.before).line = ap (λ (p : Place). p.line) h.there in
     let column : at.column ≡ (place h.before).column = ap (λ (p : Place). p.column) h.there in
     let long : length source ≡ length h.before + (length slice + length left) = omega (arith, ap length h.parts, length-append h.before (slice ++ left), length-append slice left) in
     (omega (arith, r.0), omega (arith, r.1))
 
-pub Scans-fits_behind : {source slice kept left : Text} {at : Place} {fresh : Bool} {e : Edge} {late : Option Fault} {d : ℕ} {fs : List Frame} {es : List Placed}
-    → Scans source slice kept left at fresh e late d fs es → IsUtf8 slice → (q : Place) → q ≡ behind at slice → (k : ℕ) → k ≤ length left → (q.line + k ≤ 1 + length source) × (q.column + k ≤ 2 + length source)
-Scans-fits_behind {source} {slice} {kept} {left} {at} h u q is k le =
+pub Scans-fits_behind : {source : Text} {options : Options} {slice kept left : Text} {at : Place} {fresh : Bool} {e : Edge} {late : Option Fault} {d : ℕ} {fs : List Frame} {es : List Placed}
+    → Scans source options slice kept left at fresh e late d fs es → IsUtf8 slice → (q : Place) → q ≡ behind at slice → (k : ℕ) → k ≤ length left → (q.line + k ≤ 1 + length source) × (q.column + k ≤ 2 + length source)
+Scans-fits_behind {source} {options} {slice} {kept} {left} {at} h u q is k le =
     let r = place-bound (h.before ++ slice) (IsUtf8-append h.before slice h.utf8 u) in
     let same : q ≡ place (h.before ++ slice) = behind-place h q is in
     let line : q.line ≡ (place (h.before ++ slice)).line = ap (λ (p : Place). p.line) same in
@@ -353,6 +331,6 @@ length-rest left spelled rest x y t tildes is fits cut =
 pub HasNoLong-behind : (long_ahead : Bool) (rest x y : Text) → rest ≡ x ++ y → HasNoLong long_ahead rest → HasNoLong long_ahead y
 HasNoLong-behind long_ahead rest x y is h e = behind_mark-end (codes "--}}") x y (subst (λ (z : Text). behind_mark (codes "--}}") z ≡ None) is (h e))
 
-pub Scans-at : (source slice kept left : Text) (e : Edge) (l : Option Fault) (d : ℕ) (fs : List Frame) (es : List Placed) → e ≡ no_edge → source ≡ slice ++ left → IsText (braces_behind e) left slice kept
-    → l ≡ None → d ≡ 0 → fs ≡ [] → es ≡ [] → Scans source slice kept left origin true e l d fs es
-Scans-at source slice kept left e l d fs es is parts h a b c f = rw (a, b, c, f) (Scans-start source slice kept left e is parts h)
+pub Scans-at : (source : Text) (options : Options) (slice kept left : Text) (e : Edge) (l : Option Fault) (d : ℕ) (fs : List Frame) (es : List Placed) → e ≡ no_edge → source ≡ slice ++ left → IsText (braces_behind e) left slice kept
+    → l ≡ None → d ≡ 0 → fs ≡ [] → es ≡ [] → Scans source options slice kept left origin true e l d fs es
+Scans-at source options slice kept left e l d fs es is parts h a b c f = rw (a, b, c, f) (Scans-start source options slice kept left e is parts h)

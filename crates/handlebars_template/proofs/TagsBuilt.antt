@@ -13,7 +13,7 @@ use Rattle.handlebars_template.specs.Tree.{Element, Binding, Param, Params, Pair
 use Rattle.handlebars_template.specs.TreeView.{text, binding_view}
 use Rattle.handlebars_template.specs.Calls.{call_of, first_refused, line_literals}
 use Rattle.handlebars_template.specs.Nest.{BlockKind, helper_opening, Opening as Said, Piece, leaf, opens, chains}
-use Rattle.handlebars_template.specs.NestView.{opening_view, moved, Looks, Does}
+use Rattle.handlebars_template.specs.NestView.{opening_view, early, Looks, Does}
 use Rattle.handlebars_template.specs.Compile.{opening_of, tag_piece}
 use Rattle.handlebars_template.specs.ScanView.{value_element, value_piece, block_piece, chain_piece, Opening}
 use Rattle.handlebars_template.specs.declared.template.nest.Nesting.{Nesting}
@@ -66,9 +66,9 @@ Does-block old new p e of slice tag h does = subst (λ (z : Tag). Does old (tag_
 -- ---- what is said of a tag before it stands
 
 pub Looks-at : (old : Nesting) (p : Place) (e : Edge) (seen : Option SyntaxFault) (tag same : Tag) (x : ℕ → Piece) (depth : ℕ) → tag ≡ same → tag_depth tag ≡ depth
-    → tag_piece p e same ≡ x (tag_depth same) → Looks p (moved old (x depth)) seen → Looks p (moved old (tag_piece p e tag)) seen
+    → tag_piece p e same ≡ x (tag_depth same) → Looks p (early old (x depth)) seen → Looks p (early old (tag_piece p e tag)) seen
 Looks-at old p e seen tag same x depth is deep piece looks =
     let deeper : tag_depth same ≡ depth = ap tag_depth (sym is) ∙ deep in
-    subst (λ (z : Tag). Looks p (moved old (tag_piece p e z)) seen) (sym is)
-    (subst (λ (y : Piece). Looks p (moved old y) seen) (sym piece)
-    (subst (λ (n : ℕ). Looks p (moved old (x n)) seen) (sym deeper) looks))
+    subst (λ (z : Tag). Looks p (early old (tag_piece p e z)) seen) (sym is)
+    (subst (λ (y : Piece). Looks p (early old y) seen) (sym piece)
+    (subst (λ (n : ℕ). Looks p (early old (x n)) seen) (sym deeper) looks))

@@ -1,29 +1,18 @@
 -- What compiling a source answers: its tree, or the first refusal.
-use Rattle.std.specs.Prelude.{◌≡◌, ℕ, Bool, true, false, not, ◌&&◌, if◌then◌else◌, List, [], ◌∷◌, ◌++◌, map, Option, None, Some, unwrap_or, codes}
+use Rattle.std.specs.Prelude.{◌≡◌, ℕ, true, false, not, ◌&&◌, if◌then◌else◌, List, [], ◌∷◌, ◌++◌, map, None, Some, unwrap_or, codes}
 use Rattle.handlebars_base.specs.Bytes.{Text}
 use Rattle.handlebars_base.specs.Reasons.{TemplateReason, TemplateRefusal, invalid_syntax, mismatching_closed_helper, mismatching_closed_decorator}
 use Rattle.handlebars_lines.specs.Binding.{Binding, unbound, bound, both_bound}
 use Rattle.handlebars_tags.specs.Text.{IsText, braces}
 use Rattle.handlebars_tags.specs.Tag.{Tag, expression_tag, html_tag, block_tag, inverse_tag, chain_tag, close_tag, raw_tag, raw_close_tag, comment_tag, BlockLine, Tildes, IsTag}
 use Rattle.handlebars_tags.specs.Trim.{Edge, braces_behind, trimmed, has_element}
+use Rattle.handlebars_template.specs.Options.{Options}
 use Rattle.handlebars_template.specs.Place.{Place, place}
 use Rattle.handlebars_template.specs.Tree.{Tree, tree, elements_of, Element, raw_string, html_expression, expression, comment, args, name, no_pairs, no_binding, single, both}
 use Rattle.handlebars_template.specs.Tree as tree
 use Rattle.handlebars_template.specs.Calls.{call_of, params_in, pairs_in, line_literals, literals_in, first_refused, invalid}
 use Rattle.handlebars_template.specs.Nest.{BlockKind, helper_opening, raw_opening, decorator_opening, partial_opening, Opening, Piece, leaf, opens, turns, chains, closes, Fault, unexpected, too_deep, not_closed, mismatched, no_value, Placed, syntax_alone, names_and_literals, Nests, Frame, Opens, Refuses, LeavesOpen}
 use Rattle.handlebars_template.specs.Cut.{Slice, text_slice, tag_slice, may_follow, Reads, IsCut}
-
--- the name of the template, if it has one, and whether inclusions add no indentation
-pub record Options : Type 0 where
-  pub name : Option Text
-  pub prevent_indent : Bool
-
-abbrev pub no_options : Options
-no_options = record { name = None; prevent_indent = false }
-
--- nothing but a name
-abbrev pub named_options : Text → Options
-named_options n = record no_options { name = Some n }
 
 -- ---- what the slices stand for
 
@@ -61,14 +50,14 @@ tag_piece p e (raw_close_tag n) = closes p true n
 tag_piece p e (comment_tag t) = leaf p (comment t) 0 None
 
 -- a text between two tags, where it has an element
-abbrev pub text_pieces : Place → Edge → Text → Text → Edge → List Piece
-text_pieces p e slice kept n =
+abbrev pub text_pieces : Options → Place → Edge → Text → Text → Edge → List Piece
+text_pieces options p e slice kept n =
     if has_element e slice then leaf p (raw_string (trimmed e kept n)) 0 None ∷ [] else []
 
-abbrev pub pieces_in : List Slice → List Piece
-pieces_in [] = []
-pieces_in (text_slice p e slice kept n ∷ ps) = text_pieces p e slice kept n ++ pieces_in ps
-pieces_in (tag_slice p slice t e ∷ ps) = tag_piece p e t ∷ pieces_in ps
+abbrev pub pieces_in : Options → List Slice → List Piece
+pieces_in options [] = []
+pieces_in options (text_slice p e slice kept n ∷ ps) = text_pieces options p e slice kept n ++ pieces_in options ps
+pieces_in options (tag_slice p slice t e ∷ ps) = tag_piece p e t ∷ pieces_in options ps
 
 abbrev pub tree_of : Options → List Placed → Tree
 tree_of options es = tree options.name (elements_of (map (λ e. e.element) es)) (map (λ e. e.place) es)
@@ -83,8 +72,8 @@ syntax_refusal message options p = record {
   position = Some (p.line, p.column);
 }
 
-abbrev pub unreadable : Options → Place → TemplateRefusal
-unreadable options p = syntax_refusal (codes "unreadable tag") options p
+abbrev pub unreadable_tag : Options → Place → TemplateRefusal
+unreadable_tag options p = syntax_refusal (codes "unreadable tag") options p
 
 -- of these names, the one that would close a block and the one that closes it
 abbrev pub mismatch : BlockKind → Text → Text → TemplateReason
@@ -107,15 +96,15 @@ NoTagBehind e left = (slice rest : Text) (t : Tag) (tildes : Tildes)
 
 -- At this place, behind texts and tags that nest so far, and one more text, stand braces with which no tag begins that
 -- may stand there.
-pub record IsUnreadable (source : Text) (at : Place) : Type 0 where
+pub record IsUnreadable (source : Text) (options : Options) (at : Place) : Type 0 where
   pub before : Text
   pub edge : Edge
   pub slices : List Slice
-  pub begins : Reads source before edge slices
+  pub begins : Reads source options before edge slices
   pub depth : ℕ
   pub frames : List Frame
   pub elements : List Placed
-  pub nests : Opens syntax_alone depth (pieces_in slices) frames elements
+  pub nests : Opens syntax_alone depth (pieces_in options slices) frames elements
   pub text : Text
   pub kept : Text
   pub left : Text
@@ -134,16 +123,16 @@ pub data Compilation : Type 0 where
 -- Syntax comes first, tag by tag along the source; then, where the whole source nests, the first name that closes a block
 -- of another, or literal with no value.
 pub data Compiles (source : Text) (options : Options) : Compilation → Type 0 where
-  whole : {ps : List Slice} {es : List Placed} → IsCut source ps → Nests names_and_literals 0 (pieces_in ps) es
+  whole : {ps : List Slice} {es : List Placed} → IsCut source options ps → Nests names_and_literals 0 (pieces_in options ps) es
       → Compiles source options (compiled (tree_of options es))
-  no_tag : {at : Place} → IsUnreadable source at → Compiles source options (refused (unreadable options at))
+  no_tag : {at : Place} → IsUnreadable source options at → Compiles source options (refused (unreadable_tag options at))
   misplaced : {before : Text} {edge : Edge} {ps : List Slice} {f : Fault}
-      → Reads source before edge ps → Refuses syntax_alone (pieces_in ps) f
+      → Reads source options before edge ps → Refuses syntax_alone (pieces_in options ps) f
       → Compiles source options (refused (refusal_for options f))
-  left_open : {ps : List Slice} {f : Fault} → IsCut source ps → LeavesOpen syntax_alone (pieces_in ps) f
+  left_open : {ps : List Slice} {f : Fault} → IsCut source options ps → LeavesOpen syntax_alone (pieces_in options ps) f
       → Compiles source options (refused (refusal_for options f))
-  late : {ps : List Slice} {es : List Placed} {f : Fault} → IsCut source ps → Nests syntax_alone 0 (pieces_in ps) es
-      → Refuses names_and_literals (pieces_in ps) f
+  late : {ps : List Slice} {es : List Placed} {f : Fault} → IsCut source options ps → Nests syntax_alone 0 (pieces_in options ps) es
+      → Refuses names_and_literals (pieces_in options ps) f
       → Compiles source options (refused (refusal_for options f))
 
 -- A source has at most one outcome.

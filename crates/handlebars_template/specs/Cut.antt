@@ -4,6 +4,7 @@ use Rattle.handlebars_base.specs.Bytes.{Text}
 use Rattle.handlebars_tags.specs.Text.{IsText}
 use Rattle.handlebars_tags.specs.Tag.{Tag, Tildes, IsTag, is_raw_close}
 use Rattle.handlebars_tags.specs.Trim.{Edge, no_edge, edge_of, braces_behind}
+use Rattle.handlebars_template.specs.Options.{Options}
 use Rattle.handlebars_template.specs.Place.{Place, place}
 
 -- a text: its place, the edge before it, its slice, what is kept of it, and the edge behind it; a tag: its place, its
@@ -17,7 +18,7 @@ abbrev pub may_follow : Edge → Tag → Bool
 may_follow e t = not e.is_raw || is_raw_close t
 
 -- Behind a beginning of the source, which ends with this edge, stand a text, empty or not, and a tag.
-pub record TextAndTag (source before : Text) (edge : Edge) : Type 0 where
+pub record TextAndTag (source : Text) (options : Options) (before : Text) (edge : Edge) : Type 0 where
   pub text : Text
   pub kept : Text
   pub slice : Text
@@ -29,31 +30,31 @@ pub record TextAndTag (source before : Text) (edge : Edge) : Type 0 where
   pub is_tag : IsTag slice rest tag tildes
   pub may_follow : may_follow edge tag ≡ true
 
-abbrev pub tag_place : {source before : Text} {edge : Edge} → TextAndTag source before edge → Place
+abbrev pub tag_place : {source : Text} {options : Options} {before : Text} {edge : Edge} → TextAndTag source options before edge → Place
 tag_place {before = before} x = place (before ++ x.text)
 
-abbrev pub tag_edge : {source before : Text} {edge : Edge} → TextAndTag source before edge → Edge
+abbrev pub tag_edge : {source : Text} {options : Options} {before : Text} {edge : Edge} → TextAndTag source options before edge → Edge
 tag_edge {before = before} x = edge_of (before ++ x.text) x.tag x.tildes x.rest
 
-abbrev pub text_slice_of : {source before : Text} {edge : Edge} → TextAndTag source before edge → Slice
+abbrev pub text_slice_of : {source : Text} {options : Options} {before : Text} {edge : Edge} → TextAndTag source options before edge → Slice
 text_slice_of {before = before} {edge = edge} x = text_slice (place before) edge x.text x.kept (tag_edge x)
 
-abbrev pub slices_of : {source before : Text} {edge : Edge} → TextAndTag source before edge → List Slice
+abbrev pub slices_of : {source : Text} {options : Options} {before : Text} {edge : Edge} → TextAndTag source options before edge → List Slice
 slices_of x = text_slice_of x ∷ tag_slice (tag_place x) x.slice x.tag (tag_edge x) ∷ []
 
--- Reads source before edge ps: the source begins with the slices ps, which join to before; the last of them has this edge.
-pub data Reads (source : Text) : Text → Edge → List Slice → Type 0 where
-  starts : Reads source [] no_edge []
-  goes_on : {before : Text} {edge : Edge} {ps : List Slice} → Reads source before edge ps
-      → (x : TextAndTag source before edge)
-      → Reads source (before ++ (x.text ++ x.slice)) (tag_edge x) (ps ++ slices_of x)
+-- Reads source options before edge ps: the source begins with the slices ps, which join to before; the last of them has this edge.
+pub data Reads (source : Text) (options : Options) : Text → Edge → List Slice → Type 0 where
+  starts : Reads source options [] no_edge []
+  goes_on : {before : Text} {edge : Edge} {ps : List Slice} → Reads source options before edge ps
+      → (x : TextAndTag source options before edge)
+      → Reads source options (before ++ (x.text ++ x.slice)) (tag_edge x) (ps ++ slices_of x)
 
 -- The slices are the whole source, and end with a text.
-pub record IsCut (source : Text) (ps : List Slice) : Type 0 where
+pub record IsCut (source : Text) (options : Options) (ps : List Slice) : Type 0 where
   pub before : Text
   pub edge : Edge
   pub slices : List Slice
-  pub begins : Reads source before edge slices
+  pub begins : Reads source options before edge slices
   pub text : Text
   pub kept : Text
   pub whole : source ≡ before ++ text
@@ -68,8 +69,9 @@ spelled (tag_slice p slice t e ∷ ps) = slice ++ spelled ps
 
 -- the slices of a cut join to the source
 abbrev pub CutsJoin : Type 0
-CutsJoin = (source : Text) (ps : List Slice) → IsCut source ps → spelled ps ≡ source
+CutsJoin = (source : Text) (options : Options) (ps : List Slice) → IsCut source options ps → spelled ps ≡ source
 
 -- a source has at most one cut
 abbrev pub OneCut : Type 0
-OneCut = (source : Text) (ps qs : List Slice) → IsCut source ps → IsCut source qs → ps ≡ qs
+OneCut =
+    (source : Text) (options : Options) (ps qs : List Slice) → IsCut source options ps → IsCut source options qs → ps ≡ qs

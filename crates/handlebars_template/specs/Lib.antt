@@ -1,3 +1,4 @@
+pub mod Options
 pub mod Place
 pub mod Tree
 pub mod Calls

@@ -1,12 +1,11 @@
 -- The same as a machine over the open blocks, for the program's contracts alone: what is public cites Nest.
-use Rattle.std.specs.Prelude.{ℕ, suc, ◌+◌, nat_lt, Bool, true, false, List, [], ◌∷◌, ◌++◌, Option, None, Some, ⊤}
+use Rattle.std.specs.Prelude.{ℕ, suc, ◌+◌, nat_lt, Bool, true, false, List, [], ◌∷◌, ◌++◌, Option, None, Some}
 use Rattle.std.specs.Option.{option_or}
-use Rattle.std.specs.Str.{bytes_eq}
 use Rattle.handlebars_base.specs.Bytes.{Text}
 use Rattle.handlebars_template.specs.Place.{Place}
 use Rattle.handlebars_template.specs.Tree.{Element, no_body}
 use Rattle.handlebars_template.specs.Calls.{max_nesting}
-use Rattle.handlebars_template.specs.Nest.{BlockKind, is_raw, Opening, Piece, leaf, opens, turns, chains, closes, Fault, unexpected, too_deep, mismatched, no_value, Placed, body_with, Branch, block_of, Test, syntax_alone, names_and_literals, may_close, Stage, in_first, in_branch, in_inverse, Frame}
+use Rattle.handlebars_template.specs.Nest.{BlockKind, Opening, Piece, leaf, opens, turns, chains, closes, place_in, refused_in, Fault, unexpected, too_deep, mismatched, no_value, Placed, body_with, Branch, block_of, Test, syntax_alone, names_and_literals, may_close, Stage, in_first, in_branch, in_inverse, Frame, may_stand_in}
 
 -- the whole block, when its close comes
 abbrev pub closed_block : Stage → Opening → List Placed → List Branch → List Placed → Element
@@ -18,12 +17,12 @@ closed_block in_inverse o first branches es = block_of o first branches (body_wi
 abbrev pub closed : Frame → List Placed → Placed
 closed f es = record { place = f.place; element = closed_block f.stage f.opening f.first f.branches es }
 
--- the open block with another stage: what stands behind it was a first body, or a chained inverse, or an inverse
-abbrev pub next_stage : Stage → Frame → List Placed → Stage → Option Frame
-next_stage in_first f es next = Some (record f { first = es; stage = next })
+-- the open block in its next stage: what stands behind its own was a first body, or a chained inverse
+abbrev pub next_stage : Stage → Frame → List Placed → Stage → Frame
+next_stage in_first f es next = record f { first = es; stage = next }
 next_stage (in_branch g) f es next =
-    Some (record f { branches = f.branches ++ record { opening = g; elements = es } ∷ []; stage = next })
-next_stage in_inverse f es next = None
+    record f { branches = f.branches ++ record { opening = g; elements = es } ∷ []; stage = next }
+next_stage in_inverse f es next = record f { stage = next }
 
 abbrev pub new_frame : Place → Opening → ℕ → List Placed → Frame
 new_frame p o d es =
@@ -34,77 +33,86 @@ pub data Moved : Type 0 where
   goes : ℕ → List Frame → List Placed → Moved
   stops : Fault → Moved
 
-abbrev pub MayGo : Moved → Type 0
-MayGo (goes d fs es) = ⊤
-MayGo (stops f) = ⊥
+-- what stands behind a piece that may stand
+abbrev pub behind_piece : Piece → ℕ → List Frame → List Placed → Moved
+behind_piece (leaf p e n r) d fs es = goes d fs (es ++ record { place = p; element = e } ∷ [])
+behind_piece (opens p o n r) d fs es = goes (suc d) (new_frame p o d es ∷ fs) []
+behind_piece (turns p) d [] es = goes d [] es
+behind_piece (turns p) d (f ∷ fs) es = goes d (next_stage f.stage f es in_inverse ∷ fs) []
+behind_piece (chains p o n r) d [] es = goes d [] es
+behind_piece (chains p o n r) d (f ∷ fs) es = goes (suc d) (next_stage f.stage f es (in_branch o) ∷ fs) []
+behind_piece (closes p raw m) d [] es = goes d [] es
+behind_piece (closes p raw m) d (f ∷ fs) es = goes f.around fs (f.outside ++ closed f es ∷ [])
 
--- where its refused literal stops it, if it has one
-abbrev pub valued : Test → Option Text → Moved → Moved
-valued syntax_alone r m = m
-valued names_and_literals None m = m
-valued names_and_literals (Some raw) m = stops (no_value raw)
+-- ---- what the syntax refuses
 
--- where it is too deep, or its refused literal stops it
-abbrev pub checked : Bool → Test → Place → Option Text → Moved → Moved
-checked true t p r m = stops (too_deep p)
-checked false t p r m = valued t r m
+abbrev pub is_too_deep : ℕ → Piece → Bool
+is_too_deep d (leaf p e n r) = nat_lt max_nesting (d + n)
+is_too_deep d (opens p o n r) = nat_lt max_nesting (d + suc n)
+is_too_deep d (turns p) = false
+is_too_deep d (chains p o n r) = nat_lt max_nesting (d + suc n)
+is_too_deep d (closes p raw m) = false
 
-abbrev pub turning : Option Frame → Place → ℕ → List Frame → Moved
-turning None p d fs = stops (unexpected p)
-turning (Some f) p d fs = goes d (f ∷ fs) []
+-- whether it may stand there, and whether it is too deep
+abbrev pub syntax_fault_by : Bool → Bool → Place → Option Fault
+syntax_fault_by false deep p = Some (unexpected p)
+syntax_fault_by true true p = Some (too_deep p)
+syntax_fault_by true false p = None
 
-abbrev pub chaining : Option Frame → Bool → Test → Place → Option Text → ℕ → List Frame → Moved
-chaining None deep t p r d fs = stops (unexpected p)
-chaining (Some f) deep t p r d fs = checked deep t p r (goes (suc d) (f ∷ fs) [])
-
-abbrev pub is_same_kind : Bool → Bool → Bool
-is_same_kind true true = true
-is_same_kind true false = false
-is_same_kind false true = false
-is_same_kind false false = true
-
-abbrev pub closing : Text → Bool → Bool → Place → Frame → List Frame → List Placed → Moved
-closing [] alike named p f fs es = stops (unexpected p)
-closing (b ∷ bs) false named p f fs es = stops (unexpected p)
-closing (b ∷ bs) true false p f fs es = stops (mismatched f.opening.kind f.opening.closing (b ∷ bs) p)
-closing (b ∷ bs) true true p f fs es = goes f.around fs (f.outside ++ closed f es ∷ [])
-
--- what a piece does behind the open blocks and the elements of the innermost
-abbrev pub apply : Test → Piece → ℕ → List Frame → List Placed → Moved
-apply t (leaf p e n r) d fs es =
-    checked (nat_lt max_nesting (d + n)) t p r (goes d fs (es ++ record { place = p; element = e } ∷ []))
-apply t (opens p o n r) d fs es =
-    checked (nat_lt max_nesting (suc d + n)) t p r (goes (suc d) (new_frame p o d es ∷ fs) [])
-apply t (turns p) d [] es = stops (unexpected p)
-apply t (turns p) d (f ∷ fs) es = turning (next_stage f.stage f es in_inverse) p d fs
-apply t (chains p o n r) d [] es = stops (unexpected p)
-apply t (chains p o n r) d (f ∷ fs) es =
-    chaining (next_stage f.stage f es (in_branch o)) (nat_lt max_nesting (suc d + n)) t p r d fs
-apply t (closes p raw m) d [] es = stops (unexpected p)
-apply t (closes p raw m) d (f ∷ fs) es =
-    closing m (is_same_kind (is_raw f.opening.kind) raw) (may_close t f.opening.closing m) p f fs es
+abbrev pub early_in : ℕ → List Frame → Piece → Option Fault
+early_in d fs x = syntax_fault_by (may_stand_in fs x) (is_too_deep d x) (place_in x)
 
 -- ---- what comes late
 
-abbrev pub late_literal : Option Text → Option Fault
-late_literal None = None
-late_literal (Some raw) = Some (no_value raw)
+abbrev pub literal_fault : Option Text → Option Fault
+literal_fault None = None
+literal_fault (Some raw) = Some (no_value raw)
 
-abbrev pub late_name : Bool → BlockKind → Text → Text → Place → Option Fault
-late_name true k n m p = None
-late_name false k n m p = Some (mismatched k n m p)
+-- whether the name closes the block
+abbrev pub name_fault : Bool → BlockKind → Text → Text → Place → Option Fault
+name_fault true k n m p = None
+name_fault false k n m p = Some (mismatched k n m p)
 
-abbrev pub late_in : Piece → List Frame → Option Fault
-late_in (leaf p e n r) fs = late_literal r
-late_in (opens p o n r) fs = late_literal r
-late_in (turns p) fs = None
-late_in (chains p o n r) fs = late_literal r
-late_in (closes p raw m) [] = None
-late_in (closes p raw m) (f ∷ fs) = late_name (bytes_eq f.opening.closing m) f.opening.kind f.opening.closing m p
+abbrev pub name_fault_in : List Frame → Piece → Option Fault
+name_fault_in fs (leaf p e n r) = None
+name_fault_in fs (opens p o n r) = None
+name_fault_in fs (turns p) = None
+name_fault_in fs (chains p o n r) = None
+name_fault_in [] (closes p raw m) = None
+name_fault_in (f ∷ fs) (closes p raw m) =
+    name_fault (may_close names_and_literals f.opening.closing m) f.opening.kind f.opening.closing m p
+
+abbrev pub late_in : List Frame → Piece → Option Fault
+late_in fs x = option_or (literal_fault (refused_in x)) (name_fault_in fs x)
 
 -- What was kept stays.
 abbrev pub late_after : Option Fault → Piece → List Frame → Option Fault
-late_after late x fs = option_or late (late_in x fs)
+late_after late x fs = option_or late (late_in fs x)
+
+-- ---- a piece
+
+abbrev pub tried : Test → Option Fault → Option Fault
+tried syntax_alone late = None
+tried names_and_literals late = late
+
+abbrev pub fault_in : Test → ℕ → List Frame → Piece → Option Fault
+fault_in t d fs x = option_or (early_in d fs x) (tried t (late_in fs x))
+
+abbrev pub unless_fault : Option Fault → Moved → Moved
+unless_fault None m = m
+unless_fault (Some f) m = stops f
+
+-- what a piece does behind the open blocks and the elements of the innermost
+abbrev pub moved_by : Test → Piece → ℕ → List Frame → List Placed → Moved
+moved_by t x d fs es = unless_fault (fault_in t d fs x) (behind_piece x d fs es)
+
+-- The same by cases, so that where it is run a tag is read once.
+abbrev pub apply : Test → Piece → ℕ → List Frame → List Placed → Moved
+apply t (leaf p e n r) d fs es = moved_by t (leaf p e n r) d fs es
+apply t (opens p o n r) d fs es = moved_by t (opens p o n r) d fs es
+apply t (turns p) d fs es = moved_by t (turns p) d fs es
+apply t (chains p o n r) d fs es = moved_by t (chains p o n r) d fs es
+apply t (closes p raw m) d fs es = moved_by t (closes p raw m) d fs es
 
 -- ---- the end
 

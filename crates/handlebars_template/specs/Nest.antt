@@ -1,5 +1,5 @@
 -- How texts and tags nest: what stands along a source, and the elements that it makes.
-use Rattle.std.specs.Prelude.{◌≡◌, ◌≢◌, ℕ, suc, ◌+◌, ◌<◌, ◌≤◌, Bool, true, false, List, [], ◌∷◌, ◌++◌, map, Option, None, Some, is_some, not}
+use Rattle.std.specs.Prelude.{◌≡◌, ℕ, suc, ◌+◌, ◌<◌, ◌≤◌, Bool, true, false, List, [], ◌∷◌, ◌++◌, map, Option, None, Some, is_some, not, ◌==◌, ◌&&◌, ◌||◌, length}
 use Rattle.std.specs.Str.{bytes_eq}
 use Rattle.handlebars_base.specs.Bytes.{Text}
 use Rattle.handlebars_template.specs.Place.{Place}
@@ -16,12 +16,33 @@ pub data BlockKind : Type 0 where
   decorator_opening : BlockKind
   partial_opening : BlockKind
 
--- whether the close of a raw block closes it, and no other
-abbrev pub is_raw : BlockKind → Bool
-is_raw helper_opening = false
-is_raw raw_opening = true
-is_raw decorator_opening = false
-is_raw partial_opening = false
+-- whether chained inverses and an inverse may stand in it; in a raw block none is read
+abbrev pub admits_inverse : BlockKind → Bool
+admits_inverse helper_opening = true
+admits_inverse raw_opening = true
+admits_inverse decorator_opening = false
+admits_inverse partial_opening = false
+
+-- whether a close without a name ends it
+abbrev pub admits_no_name : BlockKind → Bool
+admits_no_name helper_opening = false
+admits_no_name raw_opening = false
+admits_no_name decorator_opening = true
+admits_no_name partial_opening = true
+
+-- whether a close is of its kind: of a raw block or of another
+abbrev pub has_close : BlockKind → Bool → Bool
+has_close helper_opening raw = not raw
+has_close raw_opening raw = raw
+has_close decorator_opening raw = not raw
+has_close partial_opening raw = not raw
+
+abbrev pub is_nameless : Text → Bool
+is_nameless m = length m == 0
+
+-- whether a close of this kind, by this name or with none, may end it
+abbrev pub may_end : BlockKind → Bool → Text → Bool
+may_end k raw m = has_close k raw && (admits_no_name k || not (is_nameless m))
 
 -- What the opening tag of a block says: what it opens, its name, the name that closes it, its arguments, the names that
 -- it binds, and whether indentation goes before what it writes. A chained inverse says the same.
@@ -42,6 +63,21 @@ pub data Piece : Type 0 where
   turns : Place → Piece
   chains : Place → Opening → ℕ → Option Text → Piece
   closes : Place → Bool → Text → Piece
+
+abbrev pub place_in : Piece → Place
+place_in (leaf p e n r) = p
+place_in (opens p o n r) = p
+place_in (turns p) = p
+place_in (chains p o n r) = p
+place_in (closes p raw m) = p
+
+-- its first refused literal, if it has one
+abbrev pub refused_in : Piece → Option Text
+refused_in (leaf p e n r) = r
+refused_in (opens p o n r) = r
+refused_in (turns p) = None
+refused_in (chains p o n r) = r
+refused_in (closes p raw m) = None
 
 -- why they don't nest, and where: of a close by another name what it closes, the name that would close that, and its
 -- own; a literal is refused without a place
@@ -83,6 +119,7 @@ abbrev pub is_chain : List Branch → Bool
 is_chain [] = false
 is_chain (b ∷ bs) = true
 
+-- Only the blocks of helpers and raw blocks are read yet, and both make this element.
 abbrev pub block_of : Opening → List Placed → List Branch → Body → Element
 block_of o first branches last = helper_block (block_call o first (inverse_of branches last) (is_chain branches))
 
@@ -93,15 +130,16 @@ pub data Test : Type 0 where
   syntax_alone : Test
   names_and_literals : Test
 
--- whether a name closes a block of another
+-- whether a close by the second text closes a block that the first would close: with no name it does, where that may
+-- end it
 abbrev pub may_close : Test → Text → Text → Bool
 may_close syntax_alone n m = true
-may_close names_and_literals n m = bytes_eq n m
+may_close names_and_literals n m = is_nameless m || bytes_eq n m
 
--- whether a tag may stand whose first refused literal is this, if it has one
-abbrev pub may_stand : Test → Option Text → Bool
-may_stand syntax_alone r = true
-may_stand names_and_literals r = not (is_some r)
+-- whether a tag has its values whose first refused literal is this, if it has one
+abbrev pub has_values : Test → Option Text → Bool
+has_values syntax_alone r = true
+has_values names_and_literals r = not (is_some r)
 
 -- ---- nests
 
@@ -110,29 +148,30 @@ mutual
   pub data Nests (t : Test) : ℕ → List Piece → List Placed → Type 0 where
     nothing : {d : ℕ} → Nests t d [] []
     a_leaf : {d : ℕ} {ps : List Piece} {es : List Placed} (p : Place) (e : Element) (n : ℕ) (r : Option Text)
-        → d + n ≤ max_nesting → may_stand t r ≡ true → Nests t d ps es
+        → d + n ≤ max_nesting → has_values t r ≡ true → Nests t d ps es
         → Nests t d (leaf p e n r ∷ ps) (record { place = p; element = e } ∷ es)
     -- an opening tag, the first body, chained inverses, an inverse or none, and the close
     a_block : {d e : ℕ} {bs cs ls ps : List Piece} {first es : List Placed} {branches : List Branch} {last : Body}
-        (p q : Place) (o : Opening) (n : ℕ) (r : Option Text) (m : Text)
-        → suc d + n ≤ max_nesting → may_stand t r ≡ true → m ≢ [] → may_close t o.closing m ≡ true
-        → Nests t (suc d) bs first → Chains t (suc d) cs branches e → Turns t e ls last → Nests t d ps es
-        → Nests t d (opens p o n r ∷ (bs ++ (cs ++ (ls ++ (closes q (is_raw o.kind) m ∷ ps)))))
+        (p q : Place) (o : Opening) (n : ℕ) (r : Option Text) (raw : Bool) (m : Text)
+        → d + suc n ≤ max_nesting → has_values t r ≡ true → may_end o.kind raw m ≡ true → may_close t o.closing m ≡ true
+        → Nests t (suc d) bs first → Chains t o.kind (suc d) cs branches e → Turns t o.kind e ls last → Nests t d ps es
+        → Nests t d (opens p o n r ∷ (bs ++ (cs ++ (ls ++ (closes q raw m ∷ ps)))))
         (record { place = p; element = block_of o first branches last } ∷ es)
 
-  -- chained inverses, and how much is open behind them
-  pub data Chains (t : Test) : ℕ → List Piece → List Branch → ℕ → Type 0 where
-    no_more : {d : ℕ} → Chains t d [] [] d
-    a_branch : {d e : ℕ} {bs cs : List Piece} {es : List Placed} {branches : List Branch}
+  -- chained inverses in a block of this kind, and how much is open behind them
+  pub data Chains (t : Test) : BlockKind → ℕ → List Piece → List Branch → ℕ → Type 0 where
+    no_more : {k : BlockKind} {d : ℕ} → Chains t k d [] [] d
+    a_branch : {k : BlockKind} {d e : ℕ} {bs cs : List Piece} {es : List Placed} {branches : List Branch}
         (p : Place) (o : Opening) (n : ℕ) (r : Option Text)
-        → suc d + n ≤ max_nesting → may_stand t r ≡ true → Nests t (suc d) bs es → Chains t (suc d) cs branches e
-        → Chains t d (chains p o n r ∷ (bs ++ cs)) (record { opening = o; elements = es } ∷ branches) e
+        → admits_inverse k ≡ true → d + suc n ≤ max_nesting → has_values t r ≡ true
+        → Nests t (suc d) bs es → Chains t k (suc d) cs branches e
+        → Chains t k d (chains p o n r ∷ (bs ++ cs)) (record { opening = o; elements = es } ∷ branches) e
 
-  -- an inverse, or none
-  pub data Turns (t : Test) : ℕ → List Piece → Body → Type 0 where
-    no_inverse : {d : ℕ} → Turns t d [] no_body
-    an_inverse : {d : ℕ} {bs : List Piece} {es : List Placed} (p : Place)
-        → Nests t d bs es → Turns t d (turns p ∷ bs) (body_with es)
+  -- an inverse in a block of this kind, or none
+  pub data Turns (t : Test) : BlockKind → ℕ → List Piece → Body → Type 0 where
+    no_inverse : {k : BlockKind} {d : ℕ} → Turns t k d [] no_body
+    an_inverse : {k : BlockKind} {d : ℕ} {bs : List Piece} {es : List Placed} (p : Place)
+        → admits_inverse k ≡ true → Nests t d bs es → Turns t k d (turns p ∷ bs) (body_with es)
 
 -- ---- blocks that are open
 
@@ -156,19 +195,19 @@ pub record Frame : Type 0 where
 -- Inside t f qs d es: the pieces qs begin the block f and leave it open, with d open then, behind the elements es.
 pub data Inside (t : Test) : Frame → List Piece → ℕ → List Placed → Type 0 where
   in_its_body : {o : ℕ} {bs : List Piece} {es out : List Placed} (p : Place) (x : Opening) (n : ℕ) (r : Option Text)
-      → suc o + n ≤ max_nesting → may_stand t r ≡ true → Nests t (suc o) bs es
+      → o + suc n ≤ max_nesting → has_values t r ≡ true → Nests t (suc o) bs es
       → Inside t (record { place = p; opening = x; around = o; first = []; branches = []; stage = in_first; outside = out })
       (opens p x n r ∷ bs) (suc o) es
   in_a_branch : {o d : ℕ} {bs cs gs : List Piece} {first es out : List Placed} {branches : List Branch}
       (p q : Place) (x g : Opening) (n k : ℕ) (r u : Option Text)
-      → suc o + n ≤ max_nesting → may_stand t r ≡ true → Nests t (suc o) bs first → Chains t (suc o) cs branches d
-      → suc d + k ≤ max_nesting → may_stand t u ≡ true → Nests t (suc d) gs es
+      → o + suc n ≤ max_nesting → has_values t r ≡ true → Nests t (suc o) bs first → Chains t x.kind (suc o) cs branches d
+      → admits_inverse x.kind ≡ true → d + suc k ≤ max_nesting → has_values t u ≡ true → Nests t (suc d) gs es
       → Inside t (record { place = p; opening = x; around = o; first = first; branches = branches; stage = in_branch g; outside = out })
       (opens p x n r ∷ (bs ++ (cs ++ (chains q g k u ∷ gs)))) (suc d) es
   in_its_inverse : {o d : ℕ} {bs cs gs : List Piece} {first es out : List Placed} {branches : List Branch}
       (p q : Place) (x : Opening) (n : ℕ) (r : Option Text)
-      → suc o + n ≤ max_nesting → may_stand t r ≡ true → Nests t (suc o) bs first → Chains t (suc o) cs branches d
-      → Nests t d gs es
+      → o + suc n ≤ max_nesting → has_values t r ≡ true → Nests t (suc o) bs first → Chains t x.kind (suc o) cs branches d
+      → admits_inverse x.kind ≡ true → Nests t d gs es
       → Inside t (record { place = p; opening = x; around = o; first = first; branches = branches; stage = in_inverse; outside = out })
       (opens p x n r ∷ (bs ++ (cs ++ (turns q ∷ gs)))) d es
 
@@ -181,42 +220,45 @@ pub data Opens (t : Test) : ℕ → List Piece → List Frame → List Placed �
 
 -- ---- refusals
 
+abbrev pub is_in_inverse : Stage → Bool
+is_in_inverse in_first = false
+is_in_inverse (in_branch o) = false
+is_in_inverse in_inverse = true
+
+-- whether an inverse, chained or not, may stand next in an open block
+abbrev pub takes_inverse : Frame → Bool
+takes_inverse f = not (is_in_inverse f.stage) && admits_inverse f.opening.kind
+
+-- whether a piece may stand next where these blocks are open
+abbrev pub may_stand_in : List Frame → Piece → Bool
+may_stand_in fs (leaf p e n r) = true
+may_stand_in fs (opens p o n r) = true
+may_stand_in [] (turns p) = false
+may_stand_in (f ∷ fs) (turns p) = takes_inverse f
+may_stand_in [] (chains p o n r) = false
+may_stand_in (f ∷ fs) (chains p o n r) = takes_inverse f
+may_stand_in [] (closes p raw m) = false
+may_stand_in (f ∷ fs) (closes p raw m) = may_end f.opening.kind raw m
+
+-- how many a tag opens at once: itself, where it is a block or a chained inverse, and its parentheses and brackets
+abbrev pub cost : Piece → ℕ
+cost (leaf p e n r) = n
+cost (opens p o n r) = suc n
+cost (turns p) = 0
+cost (chains p o n r) = suc n
+cost (closes p raw m) = 0
+
 -- RefusesAt t d fs x f: with the blocks fs open, and d open in all, the piece x can't stand next. At one tag 'unexpected'
--- comes before 'too deep'.
-pub data RefusesAt (t : Test) : ℕ → List Frame → Piece → Fault → Type 0 where
-  deep_leaf : {d : ℕ} {fs : List Frame} (p : Place) (e : Element) (n : ℕ) (r : Option Text)
-      → max_nesting < d + n → RefusesAt t d fs (leaf p e n r) (too_deep p)
-  worthless_leaf : {d : ℕ} {fs : List Frame} (p : Place) (e : Element) (n : ℕ) (raw : Text)
-      → d + n ≤ max_nesting → may_stand t (Some raw) ≡ false
-      → RefusesAt t d fs (leaf p e n (Some raw)) (no_value raw)
-  deep_block : {d : ℕ} {fs : List Frame} (p : Place) (o : Opening) (n : ℕ) (r : Option Text)
-      → max_nesting < suc d + n → RefusesAt t d fs (opens p o n r) (too_deep p)
-  worthless_block : {d : ℕ} {fs : List Frame} (p : Place) (o : Opening) (n : ℕ) (raw : Text)
-      → suc d + n ≤ max_nesting → may_stand t (Some raw) ≡ false
-      → RefusesAt t d fs (opens p o n (Some raw)) (no_value raw)
-  -- an inverse where no block is open, or in an inverse
-  stray_inverse : {d : ℕ} (p : Place) → RefusesAt t d [] (turns p) (unexpected p)
-  second_inverse : {d : ℕ} {f : Frame} {fs : List Frame} (p : Place)
-      → f.stage ≡ in_inverse → RefusesAt t d (f ∷ fs) (turns p) (unexpected p)
-  stray_chain : {d : ℕ} (p : Place) (o : Opening) (n : ℕ) (r : Option Text)
-      → RefusesAt t d [] (chains p o n r) (unexpected p)
-  late_chain : {d : ℕ} {f : Frame} {fs : List Frame} (p : Place) (o : Opening) (n : ℕ) (r : Option Text)
-      → f.stage ≡ in_inverse → RefusesAt t d (f ∷ fs) (chains p o n r) (unexpected p)
-  deep_chain : {d : ℕ} {f : Frame} {fs : List Frame} (p : Place) (o : Opening) (n : ℕ) (r : Option Text)
-      → f.stage ≢ in_inverse → max_nesting < suc d + n → RefusesAt t d (f ∷ fs) (chains p o n r) (too_deep p)
-  worthless_chain : {d : ℕ} {f : Frame} {fs : List Frame} (p : Place) (o : Opening) (n : ℕ) (raw : Text)
-      → f.stage ≢ in_inverse → suc d + n ≤ max_nesting → may_stand t (Some raw) ≡ false
-      → RefusesAt t d (f ∷ fs) (chains p o n (Some raw)) (no_value raw)
-  -- a close where no block is open; one with no name; one of another kind than the block
-  stray_close : {d : ℕ} (p : Place) (raw : Bool) (m : Text) → RefusesAt t d [] (closes p raw m) (unexpected p)
-  empty_close : {d : ℕ} {f : Frame} {fs : List Frame} (p : Place) (raw : Bool)
-      → RefusesAt t d (f ∷ fs) (closes p raw []) (unexpected p)
-  other_close : {d : ℕ} {f : Frame} {fs : List Frame} (p : Place) (raw : Bool) (m : Text)
-      → is_raw f.opening.kind ≢ raw → RefusesAt t d (f ∷ fs) (closes p raw m) (unexpected p)
-  -- a close by another name
-  other_name : {d : ℕ} {f : Frame} {fs : List Frame} (p : Place) (m : Text)
-      → m ≢ [] → may_close t f.opening.closing m ≡ false
-      → RefusesAt t d (f ∷ fs) (closes p (is_raw f.opening.kind) m) (mismatched f.opening.kind f.opening.closing m p)
+-- comes before 'too deep', and that before its literals.
+pub data RefusesAt (t : Test) (d : ℕ) : List Frame → Piece → Fault → Type 0 where
+  out_of_place : {fs : List Frame} {x : Piece} → may_stand_in fs x ≡ false → RefusesAt t d fs x (unexpected (place_in x))
+  past_limit : {fs : List Frame} {x : Piece} → may_stand_in fs x ≡ true → max_nesting < d + cost x
+      → RefusesAt t d fs x (too_deep (place_in x))
+  without_value : {fs : List Frame} {x : Piece} {raw : Text} → may_stand_in fs x ≡ true → d + cost x ≤ max_nesting
+      → refused_in x ≡ Some raw → has_values t (Some raw) ≡ false → RefusesAt t d fs x (no_value raw)
+  other_name : {f : Frame} {fs : List Frame} {p : Place} {raw : Bool} {m : Text} → may_end f.opening.kind raw m ≡ true
+      → may_close t f.opening.closing m ≡ false
+      → RefusesAt t d (f ∷ fs) (closes p raw m) (mismatched f.opening.kind f.opening.closing m p)
 
 -- the first piece that can't stand where it stands
 pub data Refuses (t : Test) : List Piece → Fault → Type 0 where

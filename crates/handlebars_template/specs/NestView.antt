@@ -1,10 +1,10 @@
 -- What the program's open blocks stand for.
-use Rattle.std.specs.Prelude.{◌≡◌, Bool, true, false, List, [], ◌∷◌, map, reverse, Option, None, Some}
+use Rattle.std.specs.Prelude.{◌≡◌, List, [], ◌∷◌, map, reverse, Option, None, Some, option_map}
 use Rattle.handlebars_template.specs.Place.{Place}
 use Rattle.handlebars_template.specs.Tree.{args, name, Binding, no_binding, single, both}
 use Rattle.handlebars_template.specs.TreeView.{text, place_of, element_view, param_view, params_view, pairs_view}
-use Rattle.handlebars_template.specs.Nest.{BlockKind, helper_opening, raw_opening, decorator_opening, partial_opening, Opening, Piece, Fault, unexpected, too_deep, mismatched, no_value, Placed, Branch, syntax_alone, Stage, in_first, in_branch, in_inverse, Frame}
-use Rattle.handlebars_template.specs.Machine.{Moved, goes, stops, MayGo, apply, late_after, End, complete, unclosed, refused}
+use Rattle.handlebars_template.specs.Nest.{BlockKind, helper_opening, raw_opening, decorator_opening, partial_opening, Opening, Piece, Fault, unexpected, too_deep, mismatched, no_value, Placed, Branch, Stage, in_first, in_branch, in_inverse, Frame}
+use Rattle.handlebars_template.specs.Machine.{goes, behind_piece, early_in, late_after, End, complete, unclosed, refused}
 use Rattle.handlebars_template.specs.declared.template.tree.TemplateMapping.{TemplateMapping}
 use Rattle.handlebars_template.specs.declared.template.tree.TemplateElement.{TemplateElement}
 use Rattle.handlebars_template.specs.declared.template.placed.PlacedElements.{PlacedElements}
@@ -74,11 +74,6 @@ frame_view b = record {
   outside = placed_view b.outside;
 }
 
--- the open block in another stage, if that may stand behind its own
-abbrev pub frame_after : Bool → Open → Option Frame
-frame_after true b = Some (frame_view b)
-frame_after false b = None
-
 -- the innermost first
 abbrev pub stack_view : List Open → List Frame
 stack_view bs = reverse (map frame_view bs)
@@ -97,27 +92,27 @@ frames state = stack_view state.stack.items
 abbrev pub late_of : Nesting → Option Fault
 late_of state = late_view state.late
 
--- what a piece does, by the syntax alone
-abbrev pub moved : Nesting → Piece → Moved
-moved state x = apply syntax_alone x state.depth (frames state) (placed_view state.elements)
+-- why the syntax refuses a piece, if it does
+abbrev pub early : Nesting → Piece → Option Fault
+early state x = early_in state.depth (frames state) x
 
 abbrev pub syntax_fault : Place → SyntaxFault → Fault
 syntax_fault p syntax.Unexpected = unexpected p
 syntax_fault p syntax.TooDeep = too_deep p
 
 -- what is said of a piece at this place, before it stands
-abbrev pub Looks : Place → Moved → Option SyntaxFault → Type 0
-Looks p m None = MayGo m
-Looks p m (Some fault) = m ≡ stops (syntax_fault p fault)
+abbrev pub Looks : Place → Option Fault → Option SyntaxFault → Type 0
+Looks p fault seen = option_map (syntax_fault p) seen ≡ fault
 
 -- the state behind a piece
 pub record IsBehind (old : Nesting) (x : Piece) (new : Nesting) : Type 0 where
-  pub goes_on : moved old x ≡ goes new.depth (frames new) (placed_view new.elements)
+  pub goes_on : behind_piece x old.depth (frames old) (placed_view old.elements)
+      ≡ goes new.depth (frames new) (placed_view new.elements)
   pub late : late_of new ≡ late_after (late_of old) x (frames old)
 
 -- It does what the piece does, where that may stand.
 abbrev pub Does : Nesting → Piece → Nesting → Type 0
-Does old x new = MayGo (moved old x) → IsBehind old x new
+Does old x new = early old x ≡ None → IsBehind old x new
 
 abbrev pub end_view : Nested → End
 end_view (nested.Whole elements) = complete (placed_view elements)

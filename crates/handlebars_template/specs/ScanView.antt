@@ -4,6 +4,7 @@ use Rattle.handlebars_base.specs.Bytes.{Text}
 use Rattle.handlebars_lines.specs.Line.{Line}
 use Rattle.handlebars_tags.specs.Tag.{BlockLine}
 use Rattle.handlebars_tags.specs.Trim.{Edge, trimmed, has_element}
+use Rattle.handlebars_template.specs.Options.{Options}
 use Rattle.handlebars_template.specs.Place.{Place}
 use Rattle.handlebars_template.specs.Tree.{Element, raw_string, html_expression, expression, Call}
 use Rattle.handlebars_template.specs.TreeView.{place_of}
@@ -11,7 +12,7 @@ use Rattle.handlebars_template.specs.Calls.{call_of, first_refused, literals_in,
 use Rattle.handlebars_template.specs.Nest.{BlockKind, helper_opening, Piece, leaf, opens, chains, not_closed, Placed}
 use Rattle.handlebars_template.specs.Machine.{End, complete, unclosed, refused as refused_end}
 use Rattle.handlebars_template.specs.NestView.{opening_view, syntax_fault, end_view}
-use Rattle.handlebars_template.specs.Compile.{Options, opening_of, tree_of, unreadable, refusal_for, Compiles, compiled, refused}
+use Rattle.handlebars_template.specs.Compile.{opening_of, tree_of, unreadable_tag, refusal_for, Compiles, compiled, refused}
 use Rattle.handlebars_template.specs.declared.template.tags.BuiltOpening.{BuiltOpening}
 use Rattle.handlebars_template.specs.declared.template.scan.Found.{Found}
 use Rattle.handlebars_template.specs.declared.template.scan.Found.TheVariants as found
@@ -46,25 +47,22 @@ IsOpening kind e line read = MatchOption read ⊥ (Opening kind e line)
 -- ---- texts
 
 -- a text between two edges, where it has an element
-abbrev pub text_placed : Place → Edge → Text → Text → Edge → List Placed
-text_placed p e slice kept n =
+abbrev pub text_placed : Options → Place → Edge → Text → Text → Edge → List Placed
+text_placed options p e slice kept n =
     if has_element e slice then record { place = p; element = raw_string (trimmed e kept n) } ∷ [] else []
 
 -- ---- a source
 
--- The source comes to this, whatever its options are, where this stands at its end.
-abbrev pub ComesTo : Text → End → Type 0
-ComesTo source (complete es) =
-    (options : Options) → Compiles source options (compiled (tree_of options es))
-ComesTo source (unclosed p) =
-    (options : Options) → Compiles source options (refused (refusal_for options (not_closed p)))
-ComesTo source (refused_end f) =
-    (options : Options) → Compiles source options (refused (refusal_for options f))
+-- The source comes to this, where this stands at its end.
+abbrev pub ComesTo : Text → Options → End → Type 0
+ComesTo source options (complete es) = Compiles source options (compiled (tree_of options es))
+ComesTo source options (unclosed p) = Compiles source options (refused (refusal_for options (not_closed p)))
+ComesTo source options (refused_end f) = Compiles source options (refused (refusal_for options f))
 
--- The source comes to this, whatever its options are.
-abbrev pub IsFound : Text → Found → Type 0
-IsFound source (found.Through nested) = ComesTo source (end_view nested)
-IsFound source (found.Unreadable p) =
-    (options : Options) → Compiles source options (refused (unreadable options (place_of p)))
-IsFound source (found.Misplaced f p) =
-    (options : Options) → Compiles source options (refused (refusal_for options (syntax_fault (place_of p) f)))
+-- The source comes to this.
+abbrev pub IsFound : Text → Options → Found → Type 0
+IsFound source options (found.Through nested) = ComesTo source options (end_view nested)
+IsFound source options (found.Unreadable p) =
+    Compiles source options (refused (unreadable_tag options (place_of p)))
+IsFound source options (found.Misplaced f p) =
+    Compiles source options (refused (refusal_for options (syntax_fault (place_of p) f)))

@@ -10,7 +10,8 @@ use Rattle.handlebars_lines.specs.LineReading as line
 use Rattle.handlebars_lines.specs.LiteralReading as literal
 use Rattle.handlebars_tags.specs.Kind.{beginning_of, closing_of}
 use Rattle.handlebars_template.specs.Calls.{plain_call, plain_marks}
-use Rattle.handlebars_template.specs.Compile.{Compiles, compiled, no_options}
+use Rattle.handlebars_template.specs.Options.{no_options}
+use Rattle.handlebars_template.specs.Compile.{Compiles, compiled}
 use Rattle.handlebars_template.specs.Place.{Place}
 use Rattle.handlebars_worked.specs.SourceRows.{at, alone, path_to}
 use Rattle.handlebars_template.specs.Tree.{Tree, tree, elements_of, Element, raw_string, expression, helper_block, call, args, bodies, Body, no_body, body, Binding, no_binding, single, both, no_params, param, no_pairs, Param, name, path}

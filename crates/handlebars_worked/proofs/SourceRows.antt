@@ -14,7 +14,7 @@ use Rattle.handlebars_lines.specs.LiteralReading as literal
 use Rattle.handlebars_lines.specs.WorthReading.{worth_of, before}
 use Rattle.handlebars_tags.specs.Text.{two_braces, IsText, at_tag, a_byte, two_escaped}
 use Rattle.handlebars_tags.specs.Kind.{beginning_of, closing_of}
-use Rattle.handlebars_template.specs.Compile.{no_options}
+use Rattle.handlebars_template.specs.Options.{no_options}
 use Rattle.handlebars_worked.specs.SourceRows.{EmptyRow, ValueRow, EscapedRow, MemberRow, UnclosedRow, PlaceRow, HtmlRow, AmpersandRow, CallRow, NestedRow, UpRow, ChainRow, LinesRow, TildeRow, InverseRow, RawRow, ElseRow, CloseRow, OpenRow, DeepRow, OtherNameRow, NumberRow}
 use Rattle.handlebars_template.proofs.Running.{text_at-is, no_line_at, no_value_tag}
 use Rattle.handlebars_template.proofs.Outcomes.{answer_of-compiles, answer-compiles, first_tag, first_unreadable}
@@ -36,7 +36,7 @@ pub escaped_row : EscapedRow
 unfolding beginning_of closing_of chars line.name_step line.behind_step line.line_step path.after path.plain_at path.part_at path.links_at path.links_of path.unnamed_at path.start_at path.shape_at path.shape_of path.reference_from path.path_at
 escaped_row =
     answer-compiles no_options _ 0 _ _
-    (first_tag (backslash ∷ (codes "{{a}} " ++ (backslash ∷ backslash ∷ []))) (codes "{{a}} " ++ (backslash ∷ [])) (codes "{{a}}") [] _ escaped_text refl refl) refl
+    (first_tag no_options (backslash ∷ (codes "{{a}} " ++ (backslash ∷ backslash ∷ []))) (codes "{{a}} " ++ (backslash ∷ [])) (codes "{{a}}") [] _ escaped_text refl refl) refl
 
 pub member_row : MemberRow
 unfolding beginning_of closing_of chars line.name_step line.behind_step line.line_step path.after path.plain_at path.part_at path.links_at path.links_of path.unnamed_at path.start_at path.shape_at path.shape_of path.reference_from path.path_at path.link_at

@@ -8,7 +8,8 @@ use Rattle.handlebars_base.specs.Reasons.{Reason, Refusal, invalid_json_index, h
 use Rattle.handlebars_base.specs.RenderRefusals.{plain_refusal}
 use Rattle.handlebars_base.specs.Scoped.{value}
 use Rattle.handlebars_template.specs.Calls.{plain_call, plain_marks}
-use Rattle.handlebars_template.specs.Compile.{no_options, unreadable}
+use Rattle.handlebars_template.specs.Options.{no_options}
+use Rattle.handlebars_template.specs.Compile.{unreadable_tag}
 use Rattle.handlebars_worked.specs.SourceRows.{at, escaped_source}
 use Rattle.handlebars_template.specs.Tree.{Tree, tree, elements_of, Element, html_expression, expression, raw_string, helper_block, Call, call, args, bodies, Body, no_body, body, no_binding, no_pairs, params_of, Param, name, path, literal, subexpression}
 use Rattle.handlebars_meaning.specs.Pieces.{of_text}
@@ -75,7 +76,7 @@ RefusalRow = RenderAnswers (over ones) (FromSource no_options (codes "x{{a.x}}")
 -- A source that doesn't compile is refused before anything is written, over any data.
 abbrev pub UnclosedRow : Type 0
 UnclosedRow = (given : Data) → RenderAnswers (over given) (FromSource no_options (codes "ab{{name")) []
-    (Refused (plain_refusal (of_template (unreadable no_options (at 1 3)))))
+    (Refused (plain_refusal (of_template (unreadable_tag no_options (at 1 3)))))
 
 -- ---- trees by hand
 

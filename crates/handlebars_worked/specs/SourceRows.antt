@@ -8,7 +8,8 @@ use Rattle.handlebars_template.specs.Place.{Place}
 use Rattle.handlebars_template.specs.Tree.{Tree, tree, empty_tree, Element, no_elements, element, raw_string, html_expression, expression, Param, name, path, literal, subexpression, args, no_params, param, no_pairs, pair, no_binding, no_body}
 use Rattle.handlebars_template.specs.Calls.{plain_call, invalid}
 use Rattle.handlebars_template.specs.Nest.{helper_opening, raw_opening, Opening, mismatched, Placed, body_with, block_of}
-use Rattle.handlebars_template.specs.Compile.{Compiles, compiled, refused, no_options, syntax_refusal, unreadable, refusal_for}
+use Rattle.handlebars_template.specs.Options.{no_options}
+use Rattle.handlebars_template.specs.Compile.{Compiles, compiled, refused, syntax_refusal, unreadable_tag, refusal_for}
 
 abbrev pub at : ℕ → ℕ → Place
 at line column = record { line = line; column = column }
@@ -50,11 +51,11 @@ MemberRow =
 
 -- A tag that isn't closed is refused where it begins.
 abbrev pub UnclosedRow : Type 0
-UnclosedRow = Compiles (codes "ab{{name") no_options (refused (unreadable no_options (at 1 3)))
+UnclosedRow = Compiles (codes "ab{{name") no_options (refused (unreadable_tag no_options (at 1 3)))
 
 -- A newline begins a line, and a character of two bytes, here U+00E9, is one column.
 abbrev pub PlaceRow : Type 0
-PlaceRow = Compiles (newline ∷ 195 ∷ 169 ∷ codes "{{a") no_options (refused (unreadable no_options (at 2 2)))
+PlaceRow = Compiles (newline ∷ 195 ∷ 169 ∷ codes "{{a") no_options (refused (unreadable_tag no_options (at 2 2)))
 
 -- ---- expressions
 

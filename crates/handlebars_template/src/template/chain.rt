@@ -3,7 +3,7 @@
 ghost use Rattle.std.specs.Prelude.{◌≡◌, ◌∷◌, [], IfOk, map};
 ghost use Rattle.handlebars_template.specs.Tree.{helper_block, body};
 ghost use Rattle.handlebars_template.specs.TreeView.{tree_view, call_view, body_view, block_param_view};
-ghost use Rattle.handlebars_template.specs.Nest.{is_raw, block_call, inverse_of, in_branch, in_inverse};
+ghost use Rattle.handlebars_template.specs.Nest.{admits_inverse, admits_no_name, has_close, may_end, block_call, inverse_of, in_branch, in_inverse};
 ghost use Rattle.handlebars_template.specs.Machine.{closed_block};
 ghost use Rattle.handlebars_template.specs.NestView.{placed_view, names_view, kind_view, opening_view, branch_view, stage_view};
 
@@ -31,16 +31,47 @@ pub enum BlockKind {
 }
 
 impl BlockKind {
-    /// Whether the close of a raw block closes it, and no other.
-    pub fn is_raw(self) -> bool
-        ensures { result ≡ is_raw (kind_view self) }
+    /// Whether chained inverses and an inverse may stand in it.
+    pub fn admits_inverse(self) -> bool
+        ensures { result ≡ admits_inverse (kind_view self) }
     {
         match self {
-            BlockKind::Helper => false,
+            BlockKind::Helper => true,
             BlockKind::Raw => true,
             BlockKind::Decorator => false,
             BlockKind::Partial => false,
         }
+    }
+
+    // Whether a close without a name ends it.
+    fn admits_no_name(self) -> bool
+        ensures { result ≡ admits_no_name (kind_view self) }
+    {
+        match self {
+            BlockKind::Helper => false,
+            BlockKind::Raw => false,
+            BlockKind::Decorator => true,
+            BlockKind::Partial => true,
+        }
+    }
+
+    // Whether a close is of its kind: of a raw block or of another.
+    fn has_close(self, is_raw: bool) -> bool
+        ensures { result ≡ has_close (kind_view self) is_raw }
+    {
+        match self {
+            BlockKind::Helper => !is_raw,
+            BlockKind::Raw => is_raw,
+            BlockKind::Decorator => !is_raw,
+            BlockKind::Partial => !is_raw,
+        }
+    }
+
+    /// Whether a close of this kind, with this name, which may be empty, may end it.
+    pub fn may_end(self, is_raw: bool, name: &str) -> bool
+        ensures { result ≡ may_end (kind_view self) is_raw name.now }
+    {
+        self.has_close(is_raw) && (self.admits_no_name() || !name.is_empty())
     }
 }
 

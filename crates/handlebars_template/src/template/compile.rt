@@ -3,7 +3,8 @@
 ghost use Rattle.std.specs.Prelude.{◌≡◌, ◌≢◌, [], IfOk, IfErr, IsSome, string_bytes};
 ghost use Rattle.handlebars_base.specs.Reasons.{template_out_of_memory};
 ghost use Rattle.handlebars_base.specs.TemplateRefusals.{template_reason_of, template_refusal_of, shown_lines};
-ghost use Rattle.handlebars_template.specs.Compile.{Options, Compiles, compiled, refused, no_options, named_options, syntax_refusal, mismatch, refusal_for};
+ghost use Rattle.handlebars_template.specs.Compile.{Compiles, compiled, refused, syntax_refusal, mismatch, refusal_for};
+ghost use Rattle.handlebars_template.specs.Options.{Options, no_options, named_options};
 ghost use Rattle.handlebars_template.specs.OptionsView.{options_view};
 ghost use Rattle.handlebars_template.specs.NestView.{kind_view, late_fault, syntax_fault, end_view};
 ghost use Rattle.handlebars_template.specs.ScanView.{ComesTo};
@@ -75,7 +76,7 @@ impl Template {
             → Compiles source.now (options_view options) (refused (template_refusal_of e))) }
         ensures shown { IfErr result (λ e. IsSome (template_refusal_of e).position → IsSome (shown_lines e)) }
     {
-        match scan(alloc, source)? {
+        match scan(alloc, source, &options)? {
             Found::Through(nested) => nested_tree(alloc, source, options, nested),
             Found::Unreadable(at) => {
                 Err(syntax_error(alloc, source, options, at, "unreadable tag")?)
@@ -104,10 +105,10 @@ fn nested_tree(
     options: TemplateOptions,
     nested: Nested,
 ) -> Result<Template, TemplateError>
-    ensures ok { IfOk result (λ template. ComesTo source.now (end_view nested)
+    ensures ok { IfOk result (λ template. ComesTo source.now (options_view options) (end_view nested)
         → Compiles source.now (options_view options) (compiled (tree_view template))) }
     ensures err { IfErr result (λ e. (template_refusal_of e).reason ≢ template_out_of_memory
-        → ComesTo source.now (end_view nested)
+        → ComesTo source.now (options_view options) (end_view nested)
         → Compiles source.now (options_view options) (refused (template_refusal_of e))) }
     ensures shown { IfErr result (λ e. IsSome (template_refusal_of e).position → IsSome (shown_lines e)) }
 {

@@ -2,15 +2,14 @@
 
 ghost use Rattle.std.specs.Prelude.{◌≡◌, ◌+◌, ◌<◌, ◌∷◌, ◌++◌, suc, ℕ, [], None, Option, IfOk, OnOk, nat_lt, option_map};
 ghost use Rattle.std.specs.Option.{option_or};
-ghost use Rattle.std.specs.Str.{bytes_eq};
 ghost use Rattle.handlebars_base.specs.Bytes.{Text};
 ghost use Rattle.handlebars_template.specs.Place.{Place};
 ghost use Rattle.handlebars_template.specs.Tree.{Element};
 ghost use Rattle.handlebars_template.specs.Calls.{max_nesting};
 ghost use Rattle.handlebars_template.specs.TreeView.{element_view, place_of};
-ghost use Rattle.handlebars_template.specs.Nest.{Opening, leaf, opens, turns, chains, closes};
-ghost use Rattle.handlebars_template.specs.Machine.{at_end, closed, is_same_kind, new_frame, next_stage, late_literal, late_name};
-ghost use Rattle.handlebars_template.specs.NestView.{placed_view, kind_view, opening_view, stage_view, frame_view, frame_after, frames, late_view, late_of, moved, Looks, Does, end_view};
+ghost use Rattle.handlebars_template.specs.Nest.{Opening, leaf, opens, turns, chains, closes, names_and_literals, may_close, is_in_inverse, takes_inverse};
+ghost use Rattle.handlebars_template.specs.Machine.{at_end, closed, new_frame, next_stage, literal_fault, name_fault};
+ghost use Rattle.handlebars_template.specs.NestView.{placed_view, kind_view, opening_view, stage_view, frame_view, frames, late_view, late_of, early, Looks, Does, end_view};
 
 use crate::template::chain::{BlockKind, BlockOpening, Branch, Stage, closed_block};
 use crate::template::line::MAX_NESTING;
@@ -97,7 +96,7 @@ fn is_too_deep(around: usize, number: usize) -> bool
 
 // The same in a block more.
 fn is_too_deep_inside(around: usize, number: usize) -> bool
-    ensures { result ≡ nat_lt max_nesting (suc around + number) }
+    ensures { result ≡ nat_lt max_nesting (around + suc number) }
 {
     around >= MAX_NESTING || number >= MAX_NESTING - around
 }
@@ -113,8 +112,9 @@ fn one_more(depth: usize) -> usize
     }
 }
 
-fn late_literal(alloc: Global, refused: Option<&str>) -> Result<Option<Late>, AllocError>
-    ensures { IfOk result (λ late. late_view late ≡ late_literal (option_map (λ t. t.now) refused.entry)) }
+// What a literal that is refused brings late.
+fn literal_fault(alloc: Global, refused: Option<&str>) -> Result<Option<Late>, AllocError>
+    ensures { IfOk result (λ late. late_view late ≡ literal_fault (option_map (λ t. t.now) refused.entry)) }
 {
     match refused {
         Some(raw) => Ok(Some(Late::NoValue(String::from_str(alloc, raw)?))),
@@ -122,28 +122,41 @@ fn late_literal(alloc: Global, refused: Option<&str>) -> Result<Option<Late>, Al
     }
 }
 
-fn late_name(
+// Whether a close by this name closes a block that this text closes.
+fn may_close(opened: &str, name: &str) -> bool
+    ensures { result ≡ may_close names_and_literals opened.now name.now }
+{
+    name.is_empty() || opened == name
+}
+
+// What a close brings late, where its name is another.
+fn name_fault(
     alloc: Global,
     kind: BlockKind,
     opened: &str,
-    closing: &str,
+    name: &str,
     place: TemplateMapping,
 ) -> Result<Option<Late>, AllocError>
     ensures { IfOk result (λ late. late_view late
-        ≡ late_name (bytes_eq opened.now closing.now) (kind_view kind) opened.now closing.now (place_of place)) }
+        ≡ name_fault (may_close names_and_literals opened.now name.now) (kind_view kind) opened.now name.now
+        (place_of place)) }
 {
-    if opened == closing {
+    if may_close(opened, name) {
         return Ok(None);
     }
     let opened = String::from_str(alloc, opened)?;
-    let closing = String::from_str(alloc, closing)?;
-    Ok(Some(Late::Mismatched(kind, opened, closing, place)))
+    let name = String::from_str(alloc, name)?;
+    Ok(Some(Late::Mismatched(kind, opened, name, place)))
 }
 
-fn is_same_kind(is_raw: bool, other: bool) -> bool
-    ensures { result ≡ is_same_kind is_raw other }
+fn is_in_inverse(stage: &Stage) -> bool
+    ensures { result ≡ is_in_inverse (stage_view stage.now) }
 {
-    is_raw == other
+    match stage {
+        Stage::First => false,
+        Stage::Chained(_) => false,
+        Stage::Inverse => true,
+    }
 }
 
 impl Open {
@@ -168,21 +181,28 @@ impl Open {
         }
     }
 
-    // In this stage next, if one may stand behind its stage.
-    fn enter(&mut self, elements: PlacedElements, next: Stage) -> Result<bool, AllocError>
-        ensures { IfOk result (λ moved. frame_after moved self.new
+    // Whether an inverse, chained or not, may stand next.
+    fn takes_inverse(&self) -> bool
+        ensures { result ≡ takes_inverse (frame_view self.now) }
+    {
+        !is_in_inverse(&self.stage) && self.opening.kind.admits_inverse()
+    }
+
+    // In this stage next.
+    fn enter(&mut self, elements: PlacedElements, next: Stage) -> Result<(), AllocError>
+        ensures { OnOk result (frame_view self.new
             ≡ next_stage (stage_view self.old.stage) (frame_view self.old) (placed_view elements) (stage_view next)) }
     {
         match mem::replace(&mut self.stage, next) {
             Stage::First => {
                 self.first = elements;
-                Ok(true)
+                Ok(())
             }
             Stage::Chained(opening) => {
                 self.branches.push(Branch { opening, elements })?;
-                Ok(true)
+                Ok(())
             }
-            Stage::Inverse => Ok(false),
+            Stage::Inverse => Ok(()),
         }
     }
 
@@ -239,7 +259,7 @@ impl Nesting {
     /// Whether an element may stand next, with this many parentheses and brackets open in its tag.
     pub fn look_at_leaf(&self, number: usize) -> Option<SyntaxFault>
         ensures { (p : Place) (e : Element) (r : Option Text)
-            → Looks p (moved self.now (leaf p e number r)) result }
+            → Looks p (early self.now (leaf p e number r)) result }
     {
         if is_too_deep(self.depth, number) {
             Some(SyntaxFault::TooDeep)
@@ -251,7 +271,7 @@ impl Nesting {
     /// Whether a block may open next.
     pub fn look_at_opening(&self, number: usize) -> Option<SyntaxFault>
         ensures { (p : Place) (o : Opening) (r : Option Text)
-            → Looks p (moved self.now (opens p o number r)) result }
+            → Looks p (early self.now (opens p o number r)) result }
     {
         if is_too_deep_inside(self.depth, number) {
             Some(SyntaxFault::TooDeep)
@@ -262,22 +282,22 @@ impl Nesting {
 
     /// Whether an inverse may stand next.
     pub fn look_at_inverse(&self) -> Option<SyntaxFault>
-        ensures { (p : Place) → Looks p (moved self.now (turns p)) result }
+        ensures { (p : Place) → Looks p (early self.now (turns p)) result }
     {
         let Some(block) = self.stack.last() else {
             return Some(SyntaxFault::Unexpected);
         };
-        match block.stage {
-            Stage::First => None,
-            Stage::Chained(_) => None,
-            Stage::Inverse => Some(SyntaxFault::Unexpected),
+        if block.takes_inverse() {
+            None
+        } else {
+            Some(SyntaxFault::Unexpected)
         }
     }
 
     /// Whether a chained inverse may stand next.
     pub fn look_at_chained(&self, number: usize) -> Option<SyntaxFault>
         ensures { (p : Place) (o : Opening) (r : Option Text)
-            → Looks p (moved self.now (chains p o number r)) result }
+            → Looks p (early self.now (chains p o number r)) result }
     {
         let misplaced = self.look_at_inverse();
         let deep = self.look_at_opening(number);
@@ -286,16 +306,16 @@ impl Nesting {
 
     /// Whether a close may stand next, by any name but none.
     pub fn look_at_close(&self, is_raw: bool, name: &str) -> Option<SyntaxFault>
-        ensures { (p : Place) → Looks p (moved self.now (closes p is_raw name.now)) result }
+        ensures { (p : Place) → Looks p (early self.now (closes p is_raw name.now)) result }
     {
         let Some(block) = self.stack.last() else {
             return Some(SyntaxFault::Unexpected);
         };
-        let same = is_same_kind(block.opening.kind.is_raw(), is_raw);
-        if name.is_empty() || !same {
-            return Some(SyntaxFault::Unexpected);
+        if block.opening.kind.may_end(is_raw, name) {
+            None
+        } else {
+            Some(SyntaxFault::Unexpected)
         }
-        None
     }
 
     // What is refused first of what comes late stays.
@@ -323,7 +343,7 @@ impl Nesting {
             self.new) }
     {
         self.elements.push(alloc, place, element)?;
-        self.keep(late_literal(alloc, refused)?);
+        self.keep(literal_fault(alloc, refused)?);
         Ok(())
     }
 
@@ -344,7 +364,7 @@ impl Nesting {
         self.stack
             .push(Open::new(alloc, place, opening, around, outside))?;
         self.depth = one_more(around);
-        self.keep(late_literal(alloc, refused)?);
+        self.keep(literal_fault(alloc, refused)?);
         Ok(())
     }
 
@@ -356,9 +376,7 @@ impl Nesting {
             return Ok(());
         };
         let elements = mem::replace(&mut self.elements, PlacedElements::new(alloc));
-        if !block.enter(elements, Stage::Inverse)? {
-            return Ok(());
-        }
+        block.enter(elements, Stage::Inverse)?;
         self.stack.push(block)?;
         Ok(())
     }
@@ -379,12 +397,10 @@ impl Nesting {
             return Ok(());
         };
         let elements = mem::replace(&mut self.elements, PlacedElements::new(alloc));
-        if !block.enter(elements, Stage::Chained(opening))? {
-            return Ok(());
-        }
+        block.enter(elements, Stage::Chained(opening))?;
         self.stack.push(block)?;
         self.depth = one_more(self.depth);
-        self.keep(late_literal(alloc, refused)?);
+        self.keep(literal_fault(alloc, refused)?);
         Ok(())
     }
 
@@ -402,7 +418,7 @@ impl Nesting {
             return Ok(());
         };
         let opening = &block.opening;
-        self.keep(late_name(alloc, opening.kind, opening.closing.as_str(), name, place)?);
+        self.keep(name_fault(alloc, opening.kind, opening.closing.as_str(), name, place)?);
         self.depth = block.around;
         let outside = mem::replace(&mut block.outside, PlacedElements::new(alloc));
         let elements = mem::replace(&mut self.elements, outside);

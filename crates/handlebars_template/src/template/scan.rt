@@ -2,11 +2,13 @@
 
 ghost use Rattle.std.specs.Prelude.{◌≡◌, ◌++◌, IfOk, OnOk, string_bytes};
 ghost use Rattle.handlebars_tags.specs.TrimView.{edge_view};
+ghost use Rattle.handlebars_template.specs.OptionsView.{options_view};
 ghost use Rattle.handlebars_template.specs.TreeView.{place_of};
 ghost use Rattle.handlebars_template.specs.NestView.{placed_view, frames, late_of};
 ghost use Rattle.handlebars_tags.specs.Trim.{trimmed};
 ghost use Rattle.handlebars_template.specs.ScanView.{text_placed, IsFound};
 
+use crate::template::compile::TemplateOptions;
 use crate::template::nest::{Nested, Nesting, SyntaxFault};
 use crate::template::place::advance;
 use crate::template::tags::{edge_behind, look, may_follow, take_tag};
@@ -26,8 +28,8 @@ pub enum Found {
 
 /// The elements of a source, or what is refused first. In time linear in the source, but for the order of keys and the
 /// values of literals.
-pub fn scan(alloc: Global, source: &str) -> Result<Found, AllocError>
-    ensures { IfOk result (λ found. IsFound source.now found) }
+pub fn scan(alloc: Global, source: &str, options: &TemplateOptions) -> Result<Found, AllocError>
+    ensures { IfOk result (λ found. IsFound source.now (options_view options.now) found) }
 {
     let mut nesting = Nesting::new(alloc);
     let mut place = TemplateMapping(1, 1);
@@ -47,7 +49,7 @@ pub fn scan(alloc: Global, source: &str) -> Result<Found, AllocError>
         let spelled = left.split_at(left.len() - tag.rest.len()).0;
         let fresh_here = fresh_behind(fresh, front.slice);
         let next = edge_behind(fresh_here, tag);
-        add_text(alloc, &mut nesting, place, edge, front, next)?;
+        add_text(alloc, &mut nesting, options, place, edge, front, next)?;
         if let Some(fault) = look(&nesting, tag.content, tag.depth) {
             return Ok(Found::Misplaced(fault, at));
         }
@@ -58,7 +60,7 @@ pub fn scan(alloc: Global, source: &str) -> Result<Found, AllocError>
         long_ahead = tag.long_ahead;
         front = text(alloc, braces_behind(edge), tag.rest)?;
     }
-    add_text(alloc, &mut nesting, place, edge, front, no_edge())?;
+    add_text(alloc, &mut nesting, options, place, edge, front, no_edge())?;
     Ok(Found::Through(nesting.finish()))
 }
 
@@ -79,6 +81,7 @@ fn kept_text(alloc: Global, before: Edge, kept: String, behind: Edge) -> Result<
 fn add_text(
     alloc: Global,
     nesting: &mut Nesting,
+    options: &TemplateOptions,
     place: TemplateMapping,
     before: Edge,
     front: TextFront,
@@ -88,7 +91,7 @@ fn add_text(
     ensures frames { OnOk result (frames nesting.new ≡ frames nesting.old) }
     ensures late { OnOk result (late_of nesting.new ≡ late_of nesting.old) }
     ensures elements { OnOk result (placed_view nesting.new.elements ≡ placed_view nesting.old.elements
-        ++ text_placed (place_of place) (edge_view before) front.entry.slice.now (string_bytes front.entry.kept) (edge_view behind)) }
+        ++ text_placed (options_view options.now) (place_of place) (edge_view before) front.entry.slice.now (string_bytes front.entry.kept) (edge_view behind)) }
 {
     if !has_element(before, front.slice) {
         return Ok(());

@@ -12,7 +12,7 @@ ghost use Rattle.handlebars_template.specs.Place.{Place};
 ghost use Rattle.handlebars_template.specs.TreeView.{call_view, element_view, place_of};
 ghost use Rattle.handlebars_template.specs.Tree.{comment};
 ghost use Rattle.handlebars_template.specs.Nest.{leaf};
-ghost use Rattle.handlebars_template.specs.NestView.{names_view, kind_view, moved, Looks, Does};
+ghost use Rattle.handlebars_template.specs.NestView.{names_view, kind_view, early, Looks, Does};
 ghost use Rattle.handlebars_template.specs.Cut.{may_follow};
 ghost use Rattle.handlebars_template.specs.ScanView.{value_element, value_piece, block_piece, chain_piece, IsOpening};
 ghost use Rattle.handlebars_template.specs.Compile.{binding_of, tag_piece};
@@ -100,7 +100,7 @@ pub fn edge_behind(fresh: bool, tag: TagSlice<'_>) -> Edge
 /// Whether a tag may stand next, with this many parentheses and brackets open in it. Nothing is built of it yet.
 pub fn look(nesting: &Nesting, content: Content<'_>, depth: usize) -> Option<SyntaxFault>
     ensures { (p : Place) (e : TextEdge) (tag : Tag) → Holds content.entry tag → tag_depth tag ≡ depth
-        → Looks p (moved nesting.now (tag_piece p e tag)) result }
+        → Looks p (early nesting.now (tag_piece p e tag)) result }
 {
     match content {
         Content::Expression(_) => nesting.look_at_leaf(depth),

@@ -1,4 +1,4 @@
-use Rattle.std.proofs.Common.{◌≡◌, ◌≤◌, arith, rules, sym, ap, ◌∙◌, length, string_bytes}
+use Rattle.std.proofs.Common.{◌≡◌, None, ◌≤◌, arith, rules, sym, ap, ◌∙◌, length, string_bytes}
 use Rattle.std.specs.List.{fold}
 use Rattle.std.specs.Str.{IsUtf8}
 use Rattle.handlebars_base.proofs.OptionBinds.{empty, nonempty}
@@ -7,8 +7,12 @@ use Rattle.handlebars_tags.specs.Trim.{is_fresh_behind}
 use Rattle.handlebars_tags.specs.TrimView.{edge_view}
 use Rattle.handlebars_tags.proofs.OneTag.{one_tag}
 use Rattle.handlebars_template.specs.Place.{behind}
+use Rattle.handlebars_template.specs.OptionsView.{options_view}
 use Rattle.handlebars_template.specs.TreeView.{place_of}
+use Rattle.handlebars_template.specs.Machine.{early_in}
+use Rattle.handlebars_template.specs.Compile.{tag_piece}
 use Rattle.handlebars_template.specs.NestView.{placed_view, frames, late_of, syntax_fault, end_view}
+use Rattle.handlebars_template.proofs.NestsFits.{apply-early, apply-stops}
 use Rattle.handlebars_template.proofs.Scan.{HasNoLong-behind, Scans-at, Scans-fits, Scans-fits_behind, Scans-step, Scans-end, Compiles-unreadable, Compiles-misplaced, NoTagBehind-none, NoTagBehind-other, IsCharBoundary-seam, IsUtf8-front, length-rest}
 use Rattle.handlebars_template.proofs.template.scan.scan.Goals as goal
 
@@ -19,7 +23,7 @@ tags-init c =
       slice_utf8 = search rules;
       rest_utf8 = search rules;
       no_long = λ e. cc;
-      scans = Scans-at c.args.source.now front.slice.now (string_bytes front.kept) front.rest.now (edge_view c.no_edge-edge.result) _ _ _ _ c.no_edge-edge.ensures c.in_ok-front.ensures.whole
+      scans = Scans-at c.args.source.now (options_view c.args.options.now) front.slice.now (string_bytes front.kept) front.rest.now (edge_view c.no_edge-edge.result) _ _ _ _ c.no_edge-edge.ensures c.in_ok-front.ensures.whole
           (rw c.braces_behind.ensures at c.in_ok-front.ensures.reads) c.new-nesting.ensures.late c.new-nesting.ensures.depth c.new-nesting.ensures.frames c.new-nesting.ensures.elements;
     }
 
@@ -30,16 +34,16 @@ pub advance-at-requires-clause-column : goal.advance-at-requires-clause-column
 advance-at-requires-clause-column c = omega (arith, Scans-fits c.tags.invariant.scans)
 
 pub returns-in_default : goal.returns-in_default
-returns-in_default c options =
+returns-in_default c =
     let left = c.tags.front.rest.now in
-    Compiles-unreadable c.tags.invariant.scans (nonempty left c.tags-test.ensures) (NoTagBehind-none (edge_view c.tags.edge) left (rw c.in_default.is at c.in_ok-tag.ensures.reads)) (place_of c.advance-at.result) c.advance-at.ensures options
+    Compiles-unreadable c.tags.invariant.scans (nonempty left c.tags-test.ensures) (NoTagBehind-none (edge_view c.tags.edge) left (rw c.in_default.is at c.in_ok-tag.ensures.reads)) (place_of c.advance-at.result) c.advance-at.ensures
 
 pub returns-then-not-may_follow : goal.returns-then-not-may_follow
-returns-then-not-may_follow c options =
+returns-then-not-may_follow c =
     let left = c.tags.front.rest.now in
     let f = rw c.in-Some.is at c.in_ok-tag.ensures.reads in
     let other = sym (c.may_follow.ensures f.tag f.holds) ∙ c.if-not-may_follow.true in
-    Compiles-unreadable c.tags.invariant.scans (nonempty left c.tags-test.ensures) (NoTagBehind-other one_tag (edge_view c.tags.edge) left f.slice c.in-Some.tag.rest.now f.tag _ f.whole f.is_tag other) (place_of c.advance-at.result) c.advance-at.ensures options
+    Compiles-unreadable c.tags.invariant.scans (nonempty left c.tags-test.ensures) (NoTagBehind-other one_tag (edge_view c.tags.edge) left f.slice c.in-Some.tag.rest.now f.tag _ f.whole f.is_tag other) (place_of c.advance-at.result) c.advance-at.ensures
 
 pub split_at-requires : goal.split_at-requires
 split_at-requires c =
@@ -47,7 +51,7 @@ split_at-requires c =
     IsCharBoundary-seam c.tags.front.rest.now f.slice c.in-Some.tag.rest.now f.whole (search rules)
 
 pub returns-in-Some-look : goal.returns-in-Some-look
-returns-in-Some-look c options =
+returns-in-Some-look c =
     let f = rw c.in-Some.is at c.in_ok-tag.ensures.reads in
     let at = place_of c.advance-at.result in
     let next = edge_view c.edge_behind-next.result in
@@ -61,7 +65,9 @@ returns-in-Some-look c options =
     })
     (late_of state) state.depth (frames state) (placed_view state.elements)
     (record { depth = c.in_ok-add_text.ensures.depth; frames = c.in_ok-add_text.ensures.frames; kept_late = c.in_ok-add_text.ensures.late; elements = c.in_ok-add_text.ensures.elements })
-    (syntax_fault at c.in-Some-look.fault) (rw c.in-Some-look.is at (c.look.ensures at next f.tag f.holds f.deep)) options
+    (syntax_fault at c.in-Some-look.fault)
+    (apply-stops (tag_piece at next f.tag) state.depth (frames state) (placed_view state.elements) (syntax_fault at c.in-Some-look.fault)
+    (sym (rw c.in-Some-look.is at (c.look.ensures at next f.tag f.holds f.deep))))
 
 pub advance-place-requires-clause-line : goal.advance-place-requires-clause-line
 advance-place-requires-clause-line c =
@@ -91,7 +97,8 @@ tags-preserved c =
     let state = c.add_text.new.nesting in
     let last = c.take_tag.new.nesting in
     let rest_utf8 : IsUtf8 rest = search rules in
-    let done = c.in_ok-take_tag.ensures f.tag f.holds (rw c.in_default-look.is at (c.look.ensures at next f.tag f.holds f.deep)) in
+    let early : early_in state.depth (frames state) (tag_piece at next f.tag) ≡ None = sym (rw c.in_default-look.is at (c.look.ensures at next f.tag f.holds f.deep)) in
+    let done = c.in_ok-take_tag.ensures f.tag f.holds early in
     let same : c.split_at.result.0.now ≡ f.slice = c.split_at.ensures.front ∙ take-front left f.slice rest f.whole in
     record {
       slice_utf8 = search rules;
@@ -106,7 +113,8 @@ tags-preserved c =
           })
           (late_of state) state.depth (frames state) (placed_view state.elements)
           (record { depth = c.in_ok-add_text.ensures.depth; frames = c.in_ok-add_text.ensures.frames; kept_late = c.in_ok-add_text.ensures.late; elements = c.in_ok-add_text.ensures.elements })
-          (late_of last) last.depth (frames last) (placed_view last.elements) done.goes_on done.late
+          (late_of last) last.depth (frames last) (placed_view last.elements)
+          (apply-early (tag_piece at next f.tag) state.depth (frames state) (placed_view state.elements) _ early done.goes_on) done.late
           front.slice.now (string_bytes front.kept) front.rest.now (place_of c.advance-place.result) c.fresh_behind-fresh.result
           (record {
             parts = c.in_ok-front-2.ensures.whole;
