@@ -4,7 +4,7 @@ use Rattle.serde_json.specs.Data.{Data, null, boolean, number, unsigned, string,
 use Rattle.handlebars_base.specs.Answers.{Answer, gives, refuses, refuses_for, answer_map}
 use Rattle.handlebars_base.specs.Bytes.{Text}
 use Rattle.handlebars_base.specs.PathAndData.{PathAndData}
-use Rattle.handlebars_base.specs.PathReading.{with_or}
+use Rattle.handlebars_base.specs.Options.{with_or}
 use Rattle.handlebars_base.specs.Equal.{equals}
 use Rattle.handlebars_base.specs.Reasons.{missing_variable, param_not_found_for_index}
 use Rattle.handlebars_base.specs.Scoped.{data_in, path_in}

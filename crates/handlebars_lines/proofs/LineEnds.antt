@@ -2,10 +2,10 @@
 use Rattle.std.proofs.Common.{◌≡◌, ℕ, Bool, true, false, List, [], ◌∷◌, ◌++◌, None, Some, refl, sym, ap, ◌∙◌, inl, inr}
 use Rattle.std.specs.Prelude.{◌==◌}
 use Rattle.std.proofs.lemmas.Bool.{cases_Bool}
-use Rattle.handlebars_base.specs.Bytes.{behind_white}
-use Rattle.handlebars_base.specs.Path.{plain, in_parts, IsPath, Reference, meaning, is_symbol}
-use Rattle.handlebars_base.specs.PathReading.{behind_symbols, stops, slice_at}
-use Rattle.handlebars_base.specs.Texts.{IsWhite, starts}
+use Rattle.handlebars_base.specs.Bytes.{behind_white, is_symbol}
+use Rattle.handlebars_base.specs.Path.{plain, in_parts, IsPath, Reference, meaning}
+use Rattle.handlebars_base.specs.PathReading.{stops, slice_at}
+use Rattle.handlebars_base.specs.Texts.{IsWhite, starts, behind_symbols}
 use Rattle.handlebars_base.proofs.Fronts.{behind_white-append, starts-other, after-not}
 use Rattle.handlebars_base.proofs.Bytes.{other_byte}
 use Rattle.handlebars_base.proofs.Runs.{run-rest}

@@ -6,14 +6,15 @@ use Rattle.std.specs.Option.{option_map}
 use Rattle.std.proofs.lemmas.Bool.{ne_eqb, cases_Bool}
 use Rattle.std.proofs.lemmas.List.{take-append-drop, append_cancel_right}
 use Rattle.std.proofs.lemmas.Option.{same_Some}
-use Rattle.handlebars_base.specs.Bytes.{is_white, behind_white}
-use Rattle.handlebars_base.specs.Path.{is_symbol, IsIdentifier, Reference, raw_of, IsPath}
-use Rattle.handlebars_base.specs.PathReading.{◌>>=◌, after, symbols_of, behind_symbols, slice_at, path_at, stops}
+use Rattle.handlebars_base.specs.Bytes.{is_white, behind_white, is_symbol}
+use Rattle.handlebars_base.specs.Path.{IsIdentifier, Reference, raw_of, IsPath}
+use Rattle.handlebars_base.specs.PathReading.{slice_at, path_at, stops}
+use Rattle.handlebars_base.specs.Options.{◌>>=◌}
 use Rattle.handlebars_base.proofs.OptionBinds.{bind_some, map_some, guard_bind}
 use Rattle.handlebars_base.proofs.PathsInFront.{path_at-some, path_at-stops}
 use Rattle.handlebars_base.proofs.Fronts.{after_takes, behind_white-skips, behind_white-append, after-not, after-same}
 use Rattle.handlebars_base.proofs.Runs.{prefix_pass, prefix_len-none, run-front, run-rest, symbols_some}
-use Rattle.handlebars_base.specs.Texts.{IsWhite, starts}
+use Rattle.handlebars_base.specs.Texts.{IsWhite, starts, after, symbols_of, behind_symbols}
 use Rattle.handlebars_base.proofs.Bytes.{white_symbol}
 use Rattle.handlebars_lines.specs.Literal.{Literal, spelled_literal, literal_depth, keeps_numbers, IsLiteralAt}
 use Rattle.handlebars_lines.specs.LiteralReading.{Slice, literal_at}

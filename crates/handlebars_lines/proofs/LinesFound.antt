@@ -4,10 +4,9 @@ use Rattle.std.specs.Prelude.{◌==◌}
 use Rattle.std.specs.List.{list_all}
 use Rattle.std.proofs.Math.Dec.{eqb-suc-zero}
 use Rattle.std.proofs.lemmas.Bool.{eqb-true}
-use Rattle.handlebars_base.specs.Bytes.{is_white, behind_white}
-use Rattle.handlebars_base.specs.Path.{is_symbol, IsIdentifier, Reference, IsPath}
-use Rattle.handlebars_base.specs.PathReading.{after}
-use Rattle.handlebars_base.specs.Texts.{IsWhite, starts}
+use Rattle.handlebars_base.specs.Bytes.{is_white, behind_white, is_symbol}
+use Rattle.handlebars_base.specs.Path.{IsIdentifier, Reference, IsPath}
+use Rattle.handlebars_base.specs.Texts.{IsWhite, starts, after}
 use Rattle.handlebars_base.proofs.Fronts.{behind_white-skips, behind_white-append, starts-other, starts-append, after-not, after-same}
 use Rattle.handlebars_base.proofs.Bytes.{other_byte}
 use Rattle.handlebars_base.proofs.Ends.{regroup_four}

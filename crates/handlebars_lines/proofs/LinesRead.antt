@@ -3,7 +3,8 @@ use Rattle.std.proofs.Common.{◌≡◌, ◌≢◌, ℕ, zero, suc, ◌+◌, Boo
 use Rattle.std.specs.List.{list_all}
 use Rattle.std.proofs.Math.Bool.{or-true}
 use Rattle.std.proofs.lemmas.Option.{none-some}
-use Rattle.handlebars_base.specs.Path.{is_symbol, IsIdentifier, Reference, IsPath}
+use Rattle.handlebars_base.specs.Path.{IsIdentifier, Reference, IsPath}
+use Rattle.handlebars_base.specs.Bytes.{is_symbol}
 use Rattle.handlebars_base.specs.Texts.{IsWhite, starts}
 use Rattle.handlebars_base.proofs.Ends.{regroup_four}
 use Rattle.handlebars_lines.specs.Runs.{ends}

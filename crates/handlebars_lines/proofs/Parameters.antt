@@ -3,10 +3,10 @@ use Rattle.std.proofs.Common.{◌≡◌, ℕ, suc, List, [], ◌∷◌, ◌++◌
 use Rattle.std.specs.Prelude.{◌==◌}
 use Rattle.std.proofs.lemmas.Option.{same_Some, none-some}
 use Rattle.handlebars_base.specs.Path.{Reference}
-use Rattle.handlebars_base.specs.PathReading.{after, path_of}
+use Rattle.handlebars_base.specs.PathReading.{path_of}
 use Rattle.handlebars_base.proofs.PathShapes.{path_known, path_is}
 use Rattle.handlebars_base.proofs.Fronts.{after_takes, behind_white-skips, behind_white-append, after-same}
-use Rattle.handlebars_base.specs.Texts.{starts}
+use Rattle.handlebars_base.specs.Texts.{starts, after}
 use Rattle.handlebars_base.specs.Bytes.{behind_white}
 use Rattle.handlebars_lines.specs.Literal.{spelled_literal, IsLiteralAt}
 use Rattle.handlebars_lines.specs.LiteralReading.{Slice, literal_at}

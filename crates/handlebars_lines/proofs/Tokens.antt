@@ -4,10 +4,10 @@ use Rattle.std.specs.List.{prefix_len}
 use Rattle.std.proofs.lemmas.Bool.{or_cases}
 use Rattle.std.proofs.lemmas.List.{take-append-drop}
 use Rattle.std.proofs.lemmas.Option.{same_Some}
-use Rattle.handlebars_base.specs.PathReading.{◌>>=◌, with_or, after}
+use Rattle.handlebars_base.specs.Options.{◌>>=◌, with_or}
 use Rattle.handlebars_base.proofs.OptionBinds.{bind_some, with_or_is}
 use Rattle.handlebars_base.proofs.Fronts.{after_takes, behind_white-skips}
-use Rattle.handlebars_base.specs.Texts.{IsWhite}
+use Rattle.handlebars_base.specs.Texts.{IsWhite, after}
 use Rattle.handlebars_base.specs.Bytes.{behind_white}
 use Rattle.handlebars_lines.specs.Literal.{is_number, is_word, Bracket, array, object, opener, closer, Lead, unnamed, keyed, spelled_lead, IsLead, Literal, quoted, single_quoted, number, word, empty, filled, spelled_literal, is_element, IsLiteral, is_kept, keeps_numbers, goes_on}
 use Rattle.handlebars_lines.specs.LiteralReading.{behind_quote, run_of, behind_run, plain_at, undoubled_at, atom_at, keeps_at, behind_colon, key_at, behind_lead, Token, atom, hollow, opening, next, shutting, finished, misfit, bracket_token, value_token, comma_token, entry_token}

@@ -2,10 +2,10 @@
 use Rattle.std.specs.Prelude.{ℕ, suc, ◌+◌, ◌-◌, Bool, true, false, ◌&&◌, ◌==◌, if◌then◌else◌, max, List, [], ◌∷◌, Option, Some, None}
 use Rattle.std.specs.Option.{option_map}
 use Rattle.std.specs.List.{prefix_len, list_all}
-use Rattle.handlebars_base.specs.Bytes.{Text, equals_sign, is_white, behind_white}
-use Rattle.handlebars_base.specs.Path.{is_symbol}
-use Rattle.handlebars_base.specs.PathReading.{◌>>=◌, with_or, after, symbols_of, behind_symbols, path_of, slice_at}
-use Rattle.handlebars_base.specs.Texts.{starts}
+use Rattle.handlebars_base.specs.Bytes.{Text, equals_sign, is_white, behind_white, is_symbol}
+use Rattle.handlebars_base.specs.PathReading.{path_of, slice_at}
+use Rattle.handlebars_base.specs.Options.{◌>>=◌, with_or}
+use Rattle.handlebars_base.specs.Texts.{starts, after, symbols_of, behind_symbols}
 use Rattle.handlebars_lines.specs.Runs.{Next, goes, ends, stuck}
 use Rattle.handlebars_lines.specs.LiteralReading.{literal_at}
 use Rattle.handlebars_lines.specs.Parameter.{left_parenthesis, right_parenthesis, Term, literal_term, path_term, call_term, Terms, no_terms, term, is_reserved}

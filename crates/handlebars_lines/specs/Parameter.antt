@@ -3,8 +3,8 @@
 use Rattle.std.specs.Prelude.{◌≡◌, ◌≢◌, ℕ, suc, Bool, true, false, ◌||◌, max, [], ◌∷◌, ◌++◌, codes, Option, Some, None, ⊤}
 use Rattle.std.specs.List.{list_all}
 use Rattle.std.specs.Str.{bytes_eq}
-use Rattle.handlebars_base.specs.Bytes.{Text, equals_sign}
-use Rattle.handlebars_base.specs.Path.{is_symbol, IsIdentifier, IsPath, Reference}
+use Rattle.handlebars_base.specs.Bytes.{Text, equals_sign, is_symbol}
+use Rattle.handlebars_base.specs.Path.{IsIdentifier, IsPath, Reference}
 use Rattle.handlebars_base.specs.Texts.{IsWhite, starts}
 use Rattle.handlebars_lines.specs.Literal.{Literal, spelled_literal, IsLiteral, literal_depth, goes_on, IsLiteralAt}
 

@@ -2,9 +2,10 @@
 use Rattle.std.proofs.Common.{◌≡◌, true, false, cond, [], ◌∷◌, ◌++◌, Option, Some, None, refl, sym, ap, subst, ◌∙◌}
 use Rattle.std.specs.List.{list_all}
 use Rattle.std.proofs.lemmas.Bool.{false≢true}
-use Rattle.handlebars_base.specs.Bytes.{Text}
-use Rattle.handlebars_base.specs.Path.{is_symbol, raw_of, meaning, Shape as PathShape, itself, at_root, at_name, in_parts}
-use Rattle.handlebars_base.specs.PathReading.{◌>>=◌, stops, slice_at}
+use Rattle.handlebars_base.specs.Bytes.{Text, is_symbol}
+use Rattle.handlebars_base.specs.Path.{raw_of, meaning, Shape as PathShape, itself, at_root, at_name, in_parts}
+use Rattle.handlebars_base.specs.PathReading.{stops, slice_at}
+use Rattle.handlebars_base.specs.Options.{◌>>=◌}
 use Rattle.handlebars_base.proofs.References.{stops-path}
 use Rattle.handlebars_base.specs.Texts.{starts}
 use Rattle.handlebars_lines.specs.Parameter.{left_parenthesis, Shape, literal_shape, path_shape, nested_shape, Items, is_name, spelled_shape, spelled_items, Fits, AreItems, term_of}

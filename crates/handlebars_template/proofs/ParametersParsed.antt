@@ -6,7 +6,9 @@ use Rattle.std.specs.Prelude.{true, false, ◌==◌, option_map}
 use Rattle.serde_json.specs.Data.{Data}
 use Rattle.handlebars_base.specs.Bytes.{Text, behind_white}
 use Rattle.handlebars_base.specs.Path.{Reference}
-use Rattle.handlebars_base.specs.PathReading.{with_or, after, path_of}
+use Rattle.handlebars_base.specs.PathReading.{path_of}
+use Rattle.handlebars_base.specs.Options.{with_or}
+use Rattle.handlebars_base.specs.Texts.{after}
 use Rattle.handlebars_lines.specs.Laws.{HasLiteral, NoLiteral}
 use Rattle.handlebars_lines.specs.LiteralReading.{Slice, literal_at}
 use Rattle.handlebars_lines.specs.Parameter.{Term, literal_term, path_term, call_term, IsParameter}

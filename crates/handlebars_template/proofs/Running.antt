@@ -2,11 +2,11 @@
 use Rattle.std.proofs.Common.{◌≡◌, ℕ, suc, Bool, true, false, cond, Option, Some, None, [], ◌∷◌, ◌++◌, length, refl, sym, ap, ◌∙◌, subst, arith, inl, inr}
 use Rattle.std.specs.List.{list_all}
 use Rattle.std.proofs.lemmas.Option.{same_Some, none-some}
-use Rattle.handlebars_base.specs.Bytes.{Text, is_white, behind_white}
-use Rattle.handlebars_base.specs.Path.{is_symbol, Reference, raw_of}
-use Rattle.handlebars_base.specs.PathReading.{◌>>=◌, symbols_of, behind_symbols}
+use Rattle.handlebars_base.specs.Bytes.{Text, is_white, behind_white, is_symbol}
+use Rattle.handlebars_base.specs.Path.{Reference, raw_of}
+use Rattle.handlebars_base.specs.Options.{◌>>=◌}
 use Rattle.handlebars_base.proofs.OptionBinds.{bind_some, cond_is}
-use Rattle.handlebars_base.specs.Texts.{starts}
+use Rattle.handlebars_base.specs.Texts.{starts, symbols_of, behind_symbols}
 use Rattle.handlebars_lines.specs.Runs.{run as steps}
 use Rattle.handlebars_lines.specs.Parameter.{Term, literal_term, path_term, call_term}
 use Rattle.handlebars_lines.specs.Line.{Enclosure, in_tag, in_block, Line, IsLine, NoLine}
