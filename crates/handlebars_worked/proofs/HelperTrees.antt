@@ -27,7 +27,7 @@ unfolding beginning_of closing_of chars line.name_step line.behind_step line.lin
 on_lines = tt
 
 unfoldable on_parameters : ⊤
-unfolding line.key_at line.parameter_step line.item_step literal.literal_at literal.plain_at literal.undoubled_at literal.atom_at literal.value_token literal.token_at
+unfolding line.key_and_equals_at line.parameter_step line.item_step literal.literal_at literal.plain_at literal.undoubled_at literal.unbracketed_at literal.value_token literal.token_at
 on_parameters = tt
 
 unfoldable on_literals : ⊤

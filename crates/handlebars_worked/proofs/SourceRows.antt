@@ -58,15 +58,15 @@ up_row = answer_of-compiles no_options 1 _ _ refl
 -- ---- calls
 
 pub call_row : CallRow
-unfolding beginning_of closing_of chars line.name_step line.behind_step line.line_step texts.after path.plain_at path.part_at path.links_at path.links_of path.unnamed_at path.start_at path.shape_at path.shape_of path.reference_from path.path_at line.key_at line.parameter_step line.item_step literal.literal_at literal.plain_at literal.undoubled_at literal.atom_at literal.value_token literal.token_at
+unfolding beginning_of closing_of chars line.name_step line.behind_step line.line_step texts.after path.plain_at path.part_at path.links_at path.links_of path.unnamed_at path.start_at path.shape_at path.shape_of path.reference_from path.path_at line.key_and_equals_at line.parameter_step line.item_step literal.literal_at literal.plain_at literal.undoubled_at literal.unbracketed_at literal.value_token literal.token_at
 call_row = answer_of-compiles no_options 1 _ _ refl
 
 pub nested_row : NestedRow
-unfolding beginning_of closing_of chars line.name_step line.behind_step line.line_step texts.after path.plain_at path.part_at path.links_at path.links_of path.unnamed_at path.start_at path.shape_at path.shape_of path.reference_from path.path_at line.key_at line.parameter_step line.item_step literal.literal_at literal.plain_at literal.undoubled_at literal.atom_at literal.value_token literal.token_at
+unfolding beginning_of closing_of chars line.name_step line.behind_step line.line_step texts.after path.plain_at path.part_at path.links_at path.links_of path.unnamed_at path.start_at path.shape_at path.shape_of path.reference_from path.path_at line.key_and_equals_at line.parameter_step line.item_step literal.literal_at literal.plain_at literal.undoubled_at literal.unbracketed_at literal.value_token literal.token_at
 nested_row = answer_of-compiles no_options 1 _ _ refl
 
 pub number_row : NumberRow
-unfolding beginning_of closing_of chars line.name_step line.behind_step line.line_step texts.after path.plain_at path.part_at path.links_at path.links_of path.unnamed_at path.start_at path.shape_at path.shape_of path.reference_from path.path_at line.key_at line.parameter_step line.item_step literal.literal_at literal.plain_at literal.undoubled_at literal.atom_at literal.value_token literal.token_at literal.keeps_at is_kept number_of worth_of before json.value lex punctuate word after_number
+unfolding beginning_of closing_of chars line.name_step line.behind_step line.line_step texts.after path.plain_at path.part_at path.links_at path.links_of path.unnamed_at path.start_at path.shape_at path.shape_of path.reference_from path.path_at line.key_and_equals_at line.parameter_step line.item_step literal.literal_at literal.plain_at literal.undoubled_at literal.unbracketed_at literal.value_token literal.token_at literal.keeps_at is_kept number_of worth_of before json.value lex punctuate word after_number
 number_row = answer_of-compiles no_options 1 _ _ refl
 
 -- ---- braces that begin no tag
@@ -86,23 +86,23 @@ place_row =
 -- ---- blocks
 
 pub chain_row : ChainRow
-unfolding beginning_of closing_of chars line.name_step line.behind_step line.line_step texts.after path.plain_at path.part_at path.links_at path.links_of path.unnamed_at path.start_at path.shape_at path.shape_of path.reference_from path.path_at line.key_at line.parameter_step line.item_step literal.literal_at literal.plain_at literal.undoubled_at literal.atom_at literal.value_token literal.token_at behind_bar behind_beginning
+unfolding beginning_of closing_of chars line.name_step line.behind_step line.line_step texts.after path.plain_at path.part_at path.links_at path.links_of path.unnamed_at path.start_at path.shape_at path.shape_of path.reference_from path.path_at line.key_and_equals_at line.parameter_step line.item_step literal.literal_at literal.plain_at literal.undoubled_at literal.unbracketed_at literal.value_token literal.token_at behind_bar behind_beginning
 chain_row = answer_of-compiles no_options 4 _ _ refl
 
 pub lines_row : LinesRow
-unfolding beginning_of closing_of chars line.name_step line.behind_step line.line_step texts.after path.plain_at path.part_at path.links_at path.links_of path.unnamed_at path.start_at path.shape_at path.shape_of path.reference_from path.path_at line.key_at line.parameter_step line.item_step literal.literal_at literal.plain_at literal.undoubled_at literal.atom_at literal.value_token literal.token_at behind_bar behind_beginning
+unfolding beginning_of closing_of chars line.name_step line.behind_step line.line_step texts.after path.plain_at path.part_at path.links_at path.links_of path.unnamed_at path.start_at path.shape_at path.shape_of path.reference_from path.path_at line.key_and_equals_at line.parameter_step line.item_step literal.literal_at literal.plain_at literal.undoubled_at literal.unbracketed_at literal.value_token literal.token_at behind_bar behind_beginning
 lines_row = answer_of-compiles no_options 2 _ _ refl
 
 pub tilde_row : TildeRow
-unfolding beginning_of closing_of chars line.name_step line.behind_step line.line_step texts.after path.plain_at path.part_at path.links_at path.links_of path.unnamed_at path.start_at path.shape_at path.shape_of path.reference_from path.path_at line.key_at line.parameter_step line.item_step literal.literal_at literal.plain_at literal.undoubled_at literal.atom_at literal.value_token literal.token_at behind_bar behind_beginning literal.keeps_at is_kept number_of worth_of before json.value lex punctuate word after_number
+unfolding beginning_of closing_of chars line.name_step line.behind_step line.line_step texts.after path.plain_at path.part_at path.links_at path.links_of path.unnamed_at path.start_at path.shape_at path.shape_of path.reference_from path.path_at line.key_and_equals_at line.parameter_step line.item_step literal.literal_at literal.plain_at literal.undoubled_at literal.unbracketed_at literal.value_token literal.token_at behind_bar behind_beginning literal.keeps_at is_kept number_of worth_of before json.value lex punctuate word after_number
 tilde_row = answer_of-compiles no_options 3 _ _ refl
 
 pub inverse_row : InverseRow
-unfolding beginning_of closing_of chars line.name_step line.behind_step line.line_step texts.after path.plain_at path.part_at path.links_at path.links_of path.unnamed_at path.start_at path.shape_at path.shape_of path.reference_from path.path_at line.key_at line.parameter_step line.item_step literal.literal_at literal.plain_at literal.undoubled_at literal.atom_at literal.value_token literal.token_at behind_bar behind_beginning
+unfolding beginning_of closing_of chars line.name_step line.behind_step line.line_step texts.after path.plain_at path.part_at path.links_at path.links_of path.unnamed_at path.start_at path.shape_at path.shape_of path.reference_from path.path_at line.key_and_equals_at line.parameter_step line.item_step literal.literal_at literal.plain_at literal.undoubled_at literal.unbracketed_at literal.value_token literal.token_at behind_bar behind_beginning
 inverse_row = answer_of-compiles no_options 3 _ _ refl
 
 pub raw_row : RawRow
-unfolding beginning_of closing_of chars line.name_step line.behind_step line.line_step texts.after path.plain_at path.part_at path.links_at path.links_of path.unnamed_at path.start_at path.shape_at path.shape_of path.reference_from path.path_at line.key_at line.parameter_step line.item_step literal.literal_at literal.plain_at literal.undoubled_at literal.atom_at literal.value_token literal.token_at behind_bar behind_beginning
+unfolding beginning_of closing_of chars line.name_step line.behind_step line.line_step texts.after path.plain_at path.part_at path.links_at path.links_of path.unnamed_at path.start_at path.shape_at path.shape_of path.reference_from path.path_at line.key_and_equals_at line.parameter_step line.item_step literal.literal_at literal.plain_at literal.undoubled_at literal.unbracketed_at literal.value_token literal.token_at behind_bar behind_beginning
 raw_row = answer_of-compiles no_options 2 _ _ refl
 
 -- ---- refusals of the nesting
@@ -116,13 +116,13 @@ unfolding beginning_of closing_of texts.after chars
 close_row = answer_of-compiles no_options 1 _ _ refl
 
 pub open_row : OpenRow
-unfolding beginning_of closing_of chars line.name_step line.behind_step line.line_step texts.after path.plain_at path.part_at path.links_at path.links_of path.unnamed_at path.start_at path.shape_at path.shape_of path.reference_from path.path_at line.key_at line.parameter_step line.item_step literal.literal_at literal.plain_at literal.undoubled_at literal.atom_at literal.value_token literal.token_at behind_bar behind_beginning
+unfolding beginning_of closing_of chars line.name_step line.behind_step line.line_step texts.after path.plain_at path.part_at path.links_at path.links_of path.unnamed_at path.start_at path.shape_at path.shape_of path.reference_from path.path_at line.key_and_equals_at line.parameter_step line.item_step literal.literal_at literal.plain_at literal.undoubled_at literal.unbracketed_at literal.value_token literal.token_at behind_bar behind_beginning
 open_row = answer_of-compiles no_options 1 _ _ refl
 
 pub deep_row : DeepRow
-unfolding beginning_of closing_of chars line.name_step line.behind_step line.line_step texts.after path.plain_at path.part_at path.links_at path.links_of path.unnamed_at path.start_at path.shape_at path.shape_of path.reference_from path.path_at line.key_at line.parameter_step line.item_step literal.literal_at literal.plain_at literal.undoubled_at literal.atom_at literal.value_token literal.token_at behind_bar behind_beginning
+unfolding beginning_of closing_of chars line.name_step line.behind_step line.line_step texts.after path.plain_at path.part_at path.links_at path.links_of path.unnamed_at path.start_at path.shape_at path.shape_of path.reference_from path.path_at line.key_and_equals_at line.parameter_step line.item_step literal.literal_at literal.plain_at literal.undoubled_at literal.unbracketed_at literal.value_token literal.token_at behind_bar behind_beginning
 deep_row = answer_of-compiles no_options 1 _ _ refl
 
 pub other_name_row : OtherNameRow
-unfolding beginning_of closing_of chars line.name_step line.behind_step line.line_step texts.after path.plain_at path.part_at path.links_at path.links_of path.unnamed_at path.start_at path.shape_at path.shape_of path.reference_from path.path_at line.key_at line.parameter_step line.item_step literal.literal_at literal.plain_at literal.undoubled_at literal.atom_at literal.value_token literal.token_at behind_bar behind_beginning
+unfolding beginning_of closing_of chars line.name_step line.behind_step line.line_step texts.after path.plain_at path.part_at path.links_at path.links_of path.unnamed_at path.start_at path.shape_at path.shape_of path.reference_from path.path_at line.key_and_equals_at line.parameter_step line.item_step literal.literal_at literal.plain_at literal.undoubled_at literal.unbracketed_at literal.value_token literal.token_at behind_bar behind_beginning
 other_name_row = answer_of-compiles no_options 2 _ _ refl
