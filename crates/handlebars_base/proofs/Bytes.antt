@@ -2,8 +2,7 @@
 use Rattle.std.proofs.Common.{◌≡◌, ℕ, ◌<◌, Bool, true, false, refl, ap, arith, inl, inr}
 use Rattle.std.specs.Prelude.{◌==◌}
 use Rattle.std.proofs.lemmas.Bool.{or_cases, or_parts, leb-false, eqb-true, ne_eqb, cases_Bool, both_ways}
-use Rattle.handlebars_base.specs.Bytes.{is_white}
-use Rattle.handlebars_base.specs.Path.{is_symbol}
+use Rattle.handlebars_base.specs.Bytes.{is_white, is_symbol}
 
 -- a byte of a kind is none that is not of it
 pub other_byte : (p : ℕ → Bool) (c : ℕ) → p c ≡ false → (b : ℕ) → p b ≡ true → (b == c) ≡ false

@@ -4,8 +4,7 @@ use Rattle.std.specs.Str.{IsCharBoundary, IsUtf8}
 use Rattle.std.proofs.lemmas.List.{take_at, take-append-drop}
 use Rattle.std.proofs.lemmas.Str.{IsCharBoundary-at_seam}
 use Rattle.handlebars_base.specs.Bytes.{Text, behind_white}
-use Rattle.handlebars_base.specs.PathReading.{after}
-use Rattle.handlebars_base.specs.Texts.{IsEnd}
+use Rattle.handlebars_base.specs.Texts.{IsEnd, after}
 use Rattle.handlebars_base.proofs.Fronts.{after_takes, behind_white-skips}
 
 pub end-all : (t : Text) → IsEnd t t

@@ -4,8 +4,7 @@ use Rattle.std.specs.Prelude.{◌==◌}
 use Rattle.std.proofs.lemmas.Bool.{eqb-true, eqb-false, cases_Bool}
 use Rattle.std.proofs.lemmas.Option.{cond_some}
 use Rattle.handlebars_base.specs.Bytes.{Text, is_white, behind_white}
-use Rattle.handlebars_base.specs.PathReading.{after}
-use Rattle.handlebars_base.specs.Texts.{IsWhite, starts}
+use Rattle.handlebars_base.specs.Texts.{IsWhite, starts, after}
 
 -- ---- first bytes
 

@@ -2,8 +2,9 @@
 use Rattle.std.proofs.Common.{◌≡◌, ℕ, zero, suc, ◌<◌, ◌≤◌, Bool, List, [], ◌∷◌, ◌++◌, length, Some, None, refl, sym, ap, subst, ◌∙◌, append_assoc, arith, inl, inr, length-append}
 use Rattle.std.specs.List.{prefix_len}
 use Rattle.std.specs.Option.{option_map}
-use Rattle.handlebars_base.specs.Path.{is_symbol, Part, spelled_part, is_dots, Link, spelled_links, AreLinks, Segment, part_segments, link_segments}
+use Rattle.handlebars_base.specs.Path.{Part, spelled_part, is_dots, Link, spelled_links, AreLinks, Segment, part_segments, link_segments}
 use Rattle.handlebars_base.specs.PathReading.{link_at, part_of_link, with_link, links_at, links_of}
+use Rattle.handlebars_base.specs.Bytes.{is_symbol}
 use Rattle.handlebars_base.proofs.OptionBinds.{none_or_some, map_some, map_none}
 use Rattle.handlebars_base.proofs.PathParts.{link_takes, joins_cases, link_again}
 

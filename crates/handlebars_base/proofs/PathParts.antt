@@ -6,8 +6,11 @@ use Rattle.std.proofs.lemmas.Bool.{eqb-true, ltb-true, or_parts, or_cases, and_p
 use Rattle.std.proofs.lemmas.Option.{cond_some}
 use Rattle.std.proofs.lemmas.List.{take-append-drop, take_at, drop_at, nil_from_length}
 use Rattle.std.proofs.lemmas.List.Sums.{prefix_len_stops, split_at_first}
-use Rattle.handlebars_base.specs.Path.{is_symbol, IsIdentifier, Part, dots, plain, bracketed, spelled_part, IsPart, is_dots, Link, joins}
-use Rattle.handlebars_base.specs.PathReading.{◌>>=◌, with_or, after, symbols_of, behind_symbols, bracketed_at, plain_at, part_at, link_by, slash_link, dot_link, link_at}
+use Rattle.handlebars_base.specs.Path.{IsIdentifier, Part, dots, plain, bracketed, spelled_part, IsPart, is_dots, Link, joins}
+use Rattle.handlebars_base.specs.PathReading.{bracketed_at, plain_at, part_at, link_by, slash_link, dot_link, link_at}
+use Rattle.handlebars_base.specs.Options.{◌>>=◌, with_or}
+use Rattle.handlebars_base.specs.Texts.{after, symbols_of, behind_symbols}
+use Rattle.handlebars_base.specs.Bytes.{is_symbol}
 use Rattle.handlebars_base.proofs.OptionBinds.{bind_some, with_or_is, guard_some}
 use Rattle.handlebars_base.proofs.Runs.{symbols_some, prefix_pass, prefix_again}
 use Rattle.handlebars_base.proofs.Fronts.{after_takes, after_other}

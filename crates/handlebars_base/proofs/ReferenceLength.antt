@@ -4,8 +4,9 @@ use Rattle.std.specs.Prelude.{◌==◌, not, is_some}
 use Rattle.std.specs.List.{position, position_or_len, prefix_len}
 use Rattle.std.specs.Str.{IsCharBoundary}
 use Rattle.std.proofs.lemmas.Bool.{or_parts, eqb-true, ne_eqb, ltb-true, ltb-false, cases_Bool, both_ways}
-use Rattle.handlebars_base.specs.Path.{is_symbol}
-use Rattle.handlebars_base.specs.PathReading.{after, is_reference_byte, one_more, reference_from, reference_len}
+use Rattle.handlebars_base.specs.PathReading.{is_reference_byte, one_more, reference_from, reference_len}
+use Rattle.handlebars_base.specs.Texts.{after}
+use Rattle.handlebars_base.specs.Bytes.{is_symbol}
 use Rattle.handlebars_base.proofs.Bytes.{no_symbol_ascii}
 
 -- ---- whether it goes on

@@ -3,8 +3,9 @@ use Rattle.std.proofs.Common.{◌≡◌, ℕ, zero, suc, ◌+◌, Bool, true, fa
 use Rattle.std.specs.Prelude.{◌==◌, codes}
 use Rattle.std.specs.List.{AllByRecursion}
 use Rattle.std.proofs.lemmas.Bool.{not-true, or_parts}
-use Rattle.handlebars_base.specs.Path.{Reference, IsPath, is_symbol, IsIdentifier, Part, dots, plain, bracketed, spelled_part, IsPart, is_dots, Link, spelled_links, AreLinks, ups, Shape, itself, at_root, at_name, in_parts, spelled, IsShape}
+use Rattle.handlebars_base.specs.Path.{Reference, IsPath, IsIdentifier, Part, dots, plain, bracketed, spelled_part, IsPart, is_dots, Link, spelled_links, AreLinks, ups, Shape, itself, at_root, at_name, in_parts, spelled, IsShape}
 use Rattle.handlebars_base.specs.PathReading.{is_reference_byte, starts_reference, stops, reference_from, reference_len}
+use Rattle.handlebars_base.specs.Bytes.{is_symbol}
 use Rattle.std.proofs.lemmas.List.{take_at, drop_at}
 use Rattle.handlebars_base.proofs.PathParts.{joins_cases}
 use Rattle.handlebars_base.proofs.Bytes.{other_byte}

@@ -6,10 +6,8 @@ use Rattle.std.specs.Str.{IsCharBoundary}
 use Rattle.std.proofs.lemmas.Bool.{eqb-false, cases_Bool}
 use Rattle.std.proofs.lemmas.List.{take_at, drop_at, length-take}
 use Rattle.std.proofs.lemmas.List.Sums.{prefix_len-le-length, prefix_len_stops}
-use Rattle.handlebars_base.specs.Bytes.{Text}
-use Rattle.handlebars_base.specs.Path.{is_symbol}
-use Rattle.handlebars_base.specs.PathReading.{symbols_of, behind_symbols}
-use Rattle.handlebars_base.specs.Texts.{starts}
+use Rattle.handlebars_base.specs.Bytes.{Text, is_symbol}
+use Rattle.handlebars_base.specs.Texts.{starts, symbols_of, behind_symbols}
 use Rattle.handlebars_base.proofs.Bytes.{no_symbol_ascii}
 
 -- ---- of a kind of byte

@@ -1,5 +1,6 @@
 -- Texts as definitions see them, as lists of bytes in UTF-8, and the names of bytes.
-use Rattle.std.specs.Prelude.{ℕ, Bool, ◌||◌, ◌==◌, if◌then◌else◌, List, [], ◌∷◌}
+use Rattle.std.specs.Prelude.{ℕ, Bool, ◌||◌, ◌==◌, nat_le, if◌then◌else◌, List, [], ◌∷◌}
+use Rattle.std.specs.Char.{is_ascii_alphanumeric}
 
 abbrev pub Text : Type 0
 Text = List ℕ
@@ -72,6 +73,12 @@ left_brace = 123
 
 abbrev pub right_brace : ℕ
 right_brace = 125
+
+-- a letter, a digit, `_`, `-`, `$`, `:`, or a byte of a character from U+0080 on
+abbrev pub is_symbol : ℕ → Bool
+is_symbol b =
+    nat_le 128 b ||
+    (is_ascii_alphanumeric b || (b == underscore || (b == hyphen || (b == dollar || b == colon))))
 
 -- space, tab, newline and carriage return
 abbrev pub is_white : ℕ → Bool

@@ -1,10 +1,9 @@
 -- The grammar of paths, over the bytes of a text, and what a path means. Each mark is one ASCII byte, and each byte
 -- of another character is a symbol, so bytes tell the same as characters.
-use Rattle.std.specs.Prelude.{◌≡◌, ◌≢◌, ℕ, zero, suc, Bool, true, false, not, ◌&&◌, ◌||◌, ◌==◌, nat_le, if◌then◌else◌, List, [], ◌∷◌, ◌++◌, codes, ⊤}
-use Rattle.std.specs.Char.{is_ascii_alphanumeric}
+use Rattle.std.specs.Prelude.{◌≡◌, ◌≢◌, ℕ, zero, suc, Bool, true, false, not, ◌&&◌, ◌||◌, ◌==◌, if◌then◌else◌, List, [], ◌∷◌, ◌++◌, codes, ⊤}
 use Rattle.std.specs.List.{AllByRecursion}
 use Rattle.std.specs.Str.{bytes_eq}
-use Rattle.handlebars_base.specs.Bytes.{Text, dollar, hyphen, dot, slash, colon, at_sign, left_bracket, right_bracket, underscore}
+use Rattle.handlebars_base.specs.Bytes.{Text, dot, slash, at_sign, left_bracket, right_bracket, is_symbol}
 
 -- ---- what a path means
 
@@ -27,12 +26,6 @@ raw_of (relative segments text) = text
 raw_of (variable level name text) = text
 
 -- ---- symbols and parts
-
--- a letter, a digit, `_`, `-`, `$`, `:`, or a byte of a character from U+0080 on
-abbrev pub is_symbol : ℕ → Bool
-is_symbol b =
-    nat_le 128 b ||
-    (is_ascii_alphanumeric b || (b == underscore || (b == hyphen || (b == dollar || b == colon))))
 
 -- a run of symbols, at least one
 abbrev pub IsIdentifier : Text → Type 0

@@ -1,32 +1,14 @@
 -- Reading a path from left to right, and how far a reference goes, as functions on lists.
-use Rattle.std.specs.Prelude.{◌≡◌, ℕ, zero, suc, ◌+◌, Bool, true, false, not, ◌&&◌, ◌||◌, ◌==◌, nat_lt, if◌then◌else◌, List, [], ◌∷◌, ◌++◌, length, take, drop, Option, Some, None, option_and_then, is_some, codes}
+use Rattle.std.specs.Prelude.{◌≡◌, ℕ, zero, suc, ◌+◌, Bool, true, false, not, ◌&&◌, ◌||◌, ◌==◌, nat_lt, if◌then◌else◌, List, [], ◌∷◌, ◌++◌, length, take, drop, Option, Some, None, is_some, codes}
 use Rattle.std.specs.List.{prefix_len, position_or_len, before_first, after_first}
 use Rattle.std.specs.Str.{bytes_eq}
 use Rattle.std.specs.Option.{option_map}
-use Rattle.handlebars_base.specs.Bytes.{Text, dot, slash, at_sign, left_bracket, right_bracket}
-use Rattle.handlebars_base.specs.Path.{Segment, root, Reference, relative, variable, raw_of, is_symbol, Part, dots, plain, bracketed, is_dots, Link, Shape, itself, at_root, at_name, in_parts, part_segments, link_segments, meaning}
+use Rattle.handlebars_base.specs.Bytes.{Text, dot, slash, at_sign, left_bracket, right_bracket, is_symbol}
+use Rattle.handlebars_base.specs.Options.{◌>>=◌, with_or}
+use Rattle.handlebars_base.specs.Texts.{after, symbols_of, behind_symbols}
+use Rattle.handlebars_base.specs.Path.{Segment, root, Reference, relative, variable, raw_of, Part, dots, plain, bracketed, is_dots, Link, Shape, itself, at_root, at_name, in_parts, part_segments, link_segments, meaning}
 
-infixl 10 ◌>>=◌
-abbrev pub ◌>>=◌ : {A B : Type 0} → Option A → (A → Option B) → Option B
-o >>= f = option_and_then f o
-
--- f at the value, or else
-abbrev pub with_or : {A B : Type 0} → Option A → (A → B) → B → B
-with_or None f other = other
-with_or (Some x) f other = f x
-
--- ---- marks and symbols
-
--- what follows the mark c
-unfoldable pub after : ℕ → Text → Option Text
-after c [] = None
-after c (x ∷ xs) = if x == c then Some xs else None
-
-abbrev pub symbols_of : Text → Text
-symbols_of t = take (prefix_len is_symbol t) t
-
-abbrev pub behind_symbols : Text → Text
-behind_symbols t = drop (prefix_len is_symbol t) t
+-- ---- marks
 
 abbrev pub is_up_mark : ℕ → ℕ → ℕ → Bool
 is_up_mark a b c = (a == dot) && ((b == dot) && (c == slash))

@@ -8,13 +8,13 @@ use Rattle.std.proofs.lemmas.Bool.{ne_eqb}
 use Rattle.std.proofs.lemmas.List.{take-append-drop}
 use Rattle.std.proofs.lemmas.Option.{same_Some, none-some}
 use Rattle.std.proofs.lemmas.Slice.Eq.{bytes_eq-Decides}
-use Rattle.handlebars_base.specs.Bytes.{is_white, behind_white}
-use Rattle.handlebars_base.specs.Path.{is_symbol, IsIdentifier}
-use Rattle.handlebars_base.specs.PathReading.{◌>>=◌, with_or, after, symbols_of, behind_symbols}
+use Rattle.handlebars_base.specs.Bytes.{is_white, behind_white, is_symbol}
+use Rattle.handlebars_base.specs.Path.{IsIdentifier}
+use Rattle.handlebars_base.specs.Options.{◌>>=◌, with_or}
 use Rattle.handlebars_base.proofs.OptionBinds.{bind_some, with_or_is, cond_is, guard_bind}
 use Rattle.handlebars_base.proofs.Fronts.{after_takes, behind_white-skips, behind_white-append, dark_behind, white_some, starts-other, after-not, after-same}
 use Rattle.handlebars_base.proofs.Runs.{prefix_pass, behind_symbols-stops, symbols_some, prefix_len-none, run-front, run-rest}
-use Rattle.handlebars_base.specs.Texts.{IsWhite, starts}
+use Rattle.handlebars_base.specs.Texts.{IsWhite, starts, after, symbols_of, behind_symbols}
 use Rattle.handlebars_base.proofs.Bytes.{other_byte, symbol_dark, white_symbol}
 use Rattle.handlebars_lines.specs.Binding.{behind_bar, behind_beginning, begins_binding, Binding, unbound, bound, both_bound, Names, one_name, two_names, spelled_names, AreNames, bound_by, IsBound, IsBinding, is_unbound, is_bound, NoBinding, OneBinding}
 use Rattle.handlebars_lines.specs.BindingReading.{symbols_at, name_at, behind_last, other_at, names_at, binding_at}

@@ -6,8 +6,7 @@ use Rattle.std.specs.Str.{IsCharBoundary}
 use Rattle.std.proofs.lemmas.Bool.{eqb-true, eqb-false, or_parts, cases_Bool, not-true, and_parts}
 use Rattle.std.proofs.lemmas.List.Sums.{prefix_len-le-length, prefix_len_stops}
 use Rattle.std.proofs.lemmas.Option.{same_Some}
-use Rattle.handlebars_base.specs.Bytes.{is_white}
-use Rattle.handlebars_base.specs.Path.{is_symbol}
+use Rattle.handlebars_base.specs.Bytes.{is_white, is_symbol}
 use Rattle.handlebars_base.proofs.Bytes.{no_symbol_ascii, other_byte}
 use Rattle.handlebars_base.specs.Texts.{starts}
 use Rattle.handlebars_base.proofs.Runs.{prefix_len-none, run-front, run-rest}

@@ -4,7 +4,8 @@ use Rattle.std.specs.Prelude.{◌==◌, nat_lt}
 use Rattle.std.proofs.Math.Dec.{eqb-suc-zero}
 use Rattle.std.proofs.lemmas.Bool.{lt-ltb, eq-eqb}
 use Rattle.std.proofs.lemmas.List.{take_at}
-use Rattle.handlebars_base.specs.PathReading.{◌>>=◌, after}
+use Rattle.handlebars_base.specs.Options.{◌>>=◌}
+use Rattle.handlebars_base.specs.Texts.{after}
 use Rattle.handlebars_base.proofs.Fronts.{after-not, after-same}
 use Rattle.handlebars_lines.specs.Literal.{array, object, Literal, quoted, single_quoted, number, word, empty, filled, spelled_literal, literal_depth, keeps_numbers, IsLiteral}
 use Rattle.handlebars_lines.specs.Worth.{json_of}
@@ -12,7 +13,7 @@ use Rattle.handlebars_lines.specs.WorthReading.{before, json_text, slice_worth, 
 use Rattle.serde_json.specs.Data.{Data}
 use Rattle.serde_json.specs.Read.{read as read_text}
 use Rattle.handlebars_lines.specs.Laws.{HasLiteral, WorthOfLiteral, WorthOfOther}
-use Rattle.handlebars_lines.specs.LiteralReading.{Slice, literal_at}
+use Rattle.handlebars_lines.specs.LiteralReading.{LiteralSlice, literal_at}
 use Rattle.handlebars_lines.proofs.Plain.{number_goes_on, word_goes_on}
 use Rattle.handlebars_lines.proofs.LiteralsFound.{plain_begins, no_mark, literal_at-some, literal_at-is}
 
@@ -43,7 +44,7 @@ json_text-literal (empty object w) fits = as_written (spelled_literal (empty obj
 json_text-literal (filled array lead l w more) fits = as_written (spelled_literal (filled array lead l w more)) (after-not 39 (spelled_literal (filled array lead l w more)) refl)
 json_text-literal (filled object lead l w more) fits = as_written (spelled_literal (filled object lead l w more)) (after-not 39 (spelled_literal (filled object lead l w more)) refl)
 
-abbrev slice_alone : Literal → Slice
+abbrev slice_alone : Literal → LiteralSlice
 slice_alone l = record { raw = spelled_literal l; rest = []; depth = literal_depth l; kept = keeps_numbers l }
 
 has_literal-alone : (l : Literal) → IsLiteral l → HasLiteral (spelled_literal l) (slice_alone l)
@@ -73,10 +74,10 @@ worth_of_other text none = on (literal_at text) refl
     refused true x = refl
     refused false x = refl
 
-    behind : (f : Slice) (rest : List ℕ) → f.rest ≡ rest → HasLiteral text f → slice_worth f ≡ None
+    behind : (f : LiteralSlice) (rest : List ℕ) → f.rest ≡ rest → HasLiteral text f → slice_worth f ≡ None
     behind f [] e h = absurd (none h.literal h.is.fits (h.is.whole ∙ ap (λ (z : List ℕ). spelled_literal h.literal ++ z) e ∙ append-nil (spelled_literal h.literal)))
     behind f (b ∷ rest) e h = rw (e, eqb-suc-zero (length rest)) (refused f.kept (read_text (json_text f.raw)))
 
-    on : (o : Option Slice) → literal_at text ≡ o → (o >>= slice_worth) ≡ None
+    on : (o : Option LiteralSlice) → literal_at text ≡ o → (o >>= slice_worth) ≡ None
     on None e = refl
     on (Some f) e = behind f f.rest refl (literal_at-some text f e)

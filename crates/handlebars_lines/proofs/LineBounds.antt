@@ -4,7 +4,7 @@ use Rattle.handlebars_base.proofs.Fronts.{starts-length}
 use Rattle.handlebars_lines.specs.Runs.{goes}
 use Rattle.handlebars_lines.specs.Literal.{Bracket, spelled_lead, Literal, quoted, single_quoted, number, word, empty, filled, Entries, closing, another, spelled_literal, spelled_entries, literal_depth, entries_depth}
 use Rattle.handlebars_lines.specs.Line.{Enclosure}
-use Rattle.handlebars_lines.specs.LineReading.{Event, State, line_step, height}
+use Rattle.handlebars_lines.specs.LineReading.{Event, LineStand, line_step, height}
 use Rattle.handlebars_lines.proofs.Stepping.{Shortens}
 use Rattle.handlebars_lines.proofs.LineFronts.{begins_single, path_begins, literal_begins}
 use Rattle.handlebars_lines.proofs.LineSteps.{ParameterStepped, to_nested, to_literal, to_path, LineStepped, to_inner, to_name, to_parameter, to_pair, to_closed, line_stepped}
@@ -34,12 +34,12 @@ mutual
 
 -- ---- how far a step goes
 
-pub record LineBounds (n : ℕ) (t : List ℕ) (x : Event) (s' : State) (t' : List ℕ) : Type 0 where
+pub record LineBounds (n : ℕ) (t : List ℕ) (x : Event) (s' : LineStand) (t' : List ℕ) : Type 0 where
   pub shorter : length t' < length t
   pub level_within : s'.level + length t' ≤ n + length t
   pub height_within : height x + length t' ≤ n + length t
 
-parameter_bounds : (key : Option (List ℕ)) (n : ℕ) (t : List ℕ) (x : Event) (s' : State) (t' : List ℕ) → ParameterStepped key n t x s' t' → LineBounds n t x s' t'
+parameter_bounds : (key : Option (List ℕ)) (n : ℕ) (t : List ℕ) (x : Event) (s' : LineStand) (t' : List ℕ) → ParameterStepped key n t x s' t' → LineBounds n t x s' t'
 parameter_bounds key n t x s' t' (to_nested w is ev white whole) =
     let long : length t ≡ suc (length w + length t') = ap length whole ∙ omega (arith, length-append w t') in
     rw (is, ev) (record { shorter = omega arith; level_within = omega arith; height_within = omega arith })
@@ -53,7 +53,7 @@ parameter_bounds key n t x s' t' (to_path raw means is ev whole h other fine) =
     rw (is, ev) (record { shorter = omega (arith, long, first); level_within = omega (arith, long, first); height_within = omega (arith, long, first) })
 
 -- as far behind more text
-behind_front : (n : ℕ) (w r t : List ℕ) (x : Event) (s' : State) (t' : List ℕ) → t ≡ w ++ r → LineBounds n r x s' t' → LineBounds n t x s' t'
+behind_front : (n : ℕ) (w r t : List ℕ) (x : Event) (s' : LineStand) (t' : List ℕ) → t ≡ w ++ r → LineBounds n r x s' t' → LineBounds n t x s' t'
 behind_front n w r t x s' t' whole b =
     let long = ap length whole ∙ length-append w r in
     record { shorter = omega (arith, long, b.shorter); level_within = omega (arith, long, b.level_within); height_within = omega (arith, long, b.height_within) }
@@ -61,7 +61,7 @@ behind_front n w r t x s' t' whole b =
 behind_key : (key u v r : List ℕ) → key ++ (u ++ 61 ∷ (v ++ r)) ≡ (key ++ (u ++ 61 ∷ v)) ++ r
 behind_key key u v r = simp append_assoc
 
-step_bounds : (s : State) (t : List ℕ) (x : Event) (s' : State) (t' : List ℕ) → LineStepped s t x s' t' → LineBounds s.level t x s' t'
+step_bounds : (s : LineStand) (t : List ℕ) (x : Event) (s' : LineStand) (t' : List ℕ) → LineStepped s t x s' t' → LineBounds s.level t x s' t'
 step_bounds s t x s' t' (to_inner n w is is' ev white whole) =
     let long : length t ≡ suc (length w + length t') = ap length whole ∙ omega (arith, length-append w t') in
     rw (is, is', ev) (record { shorter = omega arith; level_within = omega arith; height_within = omega arith })
@@ -79,7 +79,7 @@ step_bounds s t x s' t' (to_closed n st w is other is' ev white whole) =
     let long : length t ≡ length w + suc (length t') = ap length whole ∙ length-append w (41 ∷ t') in
     rw (is, is', ev) (record { shorter = omega arith; level_within = omega arith; height_within = omega arith })
 
-pub line_bounds : (around : Enclosure) (s : State) (t : List ℕ) (x : Event) (s' : State) (t' : List ℕ) → goes x s' t' ≡ line_step around s t → LineBounds s.level t x s' t'
+pub line_bounds : (around : Enclosure) (s : LineStand) (t : List ℕ) (x : Event) (s' : LineStand) (t' : List ℕ) → goes x s' t' ≡ line_step around s t → LineBounds s.level t x s' t'
 line_bounds around s t x s' t' is = step_bounds s t x s' t' (line_stepped around s t x s' t' (sym is))
 
 pub line_shortens : (around : Enclosure) → Shortens (line_step around)

@@ -2,10 +2,10 @@
 use Rattle.std.proofs.Common.{◌≡◌, ℕ, Bool, true, false, List, [], ◌∷◌, ◌++◌, None, Some, refl, sym, ap, ◌∙◌, inl, inr}
 use Rattle.std.specs.Prelude.{◌==◌}
 use Rattle.std.proofs.lemmas.Bool.{cases_Bool}
-use Rattle.handlebars_base.specs.Bytes.{behind_white}
-use Rattle.handlebars_base.specs.Path.{plain, in_parts, IsPath, Reference, meaning, is_symbol}
-use Rattle.handlebars_base.specs.PathReading.{behind_symbols, stops, slice_at}
-use Rattle.handlebars_base.specs.Texts.{IsWhite, starts}
+use Rattle.handlebars_base.specs.Bytes.{behind_white, is_symbol}
+use Rattle.handlebars_base.specs.Path.{plain, in_parts, IsPath, Reference, meaning}
+use Rattle.handlebars_base.specs.PathReading.{stops, slice_at}
+use Rattle.handlebars_base.specs.Texts.{IsWhite, starts, behind_symbols}
 use Rattle.handlebars_base.proofs.Fronts.{behind_white-append, starts-other, after-not}
 use Rattle.handlebars_base.proofs.Bytes.{other_byte}
 use Rattle.handlebars_base.proofs.Runs.{run-rest}
@@ -14,11 +14,11 @@ use Rattle.handlebars_lines.specs.Literal.{Literal, quoted, single_quoted, numbe
 use Rattle.handlebars_lines.specs.LiteralReading.{run_of}
 use Rattle.handlebars_lines.specs.Binding.{begins_binding}
 use Rattle.handlebars_lines.specs.Line.{Enclosure, in_tag, in_block, in_parentheses, ends_tag, is_end}
-use Rattle.handlebars_lines.specs.LineReading.{Event, State, key_at, parameter_step, item_step}
+use Rattle.handlebars_lines.specs.LineReading.{Event, LineStand, key_and_equals_at, parameter_step, item_step}
 use Rattle.handlebars_lines.proofs.Fronts.{run_of-append, white_goes_on}
 use Rattle.handlebars_lines.proofs.Plain.{number_goes_on, word_goes_on}
 use Rattle.handlebars_lines.proofs.Endings.{goes-not_stuck}
-use Rattle.handlebars_lines.proofs.LineMarks.{slice_at-stops, literal_at-missing, key_at-none}
+use Rattle.handlebars_lines.proofs.LineMarks.{slice_at-stops, literal_at-missing, key_and_equals_at-none}
 use Rattle.handlebars_lines.proofs.LineFronts.{begins, begins_no_white, white_stops}
 use Rattle.handlebars_lines.proofs.Bindings.{no_symbols-white, binding_begins}
 
@@ -67,11 +67,11 @@ as_slice w r white =
     } in
     slice_at-stops name (w ++ 124 ∷ r) means is (bar_stops w r white)
 
-as_no_key : (w r : List ℕ) → IsWhite w → key_at (97 ∷ 115 ∷ (w ++ 124 ∷ r)) ≡ None
+as_no_key : (w r : List ℕ) → IsWhite w → key_and_equals_at (97 ∷ 115 ∷ (w ++ 124 ∷ r)) ≡ None
 as_no_key w r white =
     let rest = run-rest is_symbol (97 ∷ 115 ∷ []) (w ++ 124 ∷ r) (refl, (refl, tt)) (no_symbols-white w 124 r white refl) in
     let sign : starts (λ b. b == 61) (behind_white (behind_symbols (97 ∷ 115 ∷ (w ++ 124 ∷ r)))) ≡ false = rw (rest, behind_white-append w (124 ∷ r) white refl) refl in
-    key_at-none (97 ∷ 115 ∷ (w ++ 124 ∷ r)) sign
+    key_and_equals_at-none (97 ∷ 115 ∷ (w ++ 124 ∷ r)) sign
 
 as_stuck : (n : ℕ) (w r : List ℕ) → IsWhite w → item_step n (97 ∷ 115 ∷ (w ++ 124 ∷ r)) ≡ stuck
 unfolding item_step parameter_step
@@ -85,7 +85,7 @@ as_stuck n w r white =
 tag_no_end : (t : List ℕ) → starts begins t ≡ true → starts ends_tag t ≡ false
 tag_no_end t start = starts-other begins ends_tag t (λ b h. rw (other_byte begins 126 refl b h, other_byte begins 125 refl b h) refl) start
 
-item_no_binding : (n : ℕ) (w t : List ℕ) (x : Event) (s' : State) (t' : List ℕ) → behind_white (w ++ t) ≡ t → item_step n t ≡ goes x s' t' → begins_binding (w ++ t) ≡ false
+item_no_binding : (n : ℕ) (w t : List ℕ) (x : Event) (s' : LineStand) (t' : List ℕ) → behind_white (w ++ t) ≡ t → item_step n t ≡ goes x s' t' → begins_binding (w ++ t) ≡ false
 item_no_binding n w t x s' t' dark e = elim (cases_Bool (begins_binding (w ++ t))) [
   | inl begun ↦
       let b = binding_begins (w ++ t) begun in
@@ -94,7 +94,7 @@ item_no_binding n w t x s' t' dark e = elim (cases_Bool (begins_binding (w ++ t)
   | inr other ↦ other
 ]
 
-pub item_no_end : (around : Enclosure) (n : ℕ) (w t : List ℕ) (x : Event) (s' : State) (t' : List ℕ) → IsWhite w → starts begins t ≡ true → item_step n t ≡ goes x s' t' → is_end around (w ++ t) ≡ false
+pub item_no_end : (around : Enclosure) (n : ℕ) (w t : List ℕ) (x : Event) (s' : LineStand) (t' : List ℕ) → IsWhite w → starts begins t ≡ true → item_step n t ≡ goes x s' t' → is_end around (w ++ t) ≡ false
 item_no_end in_tag n w t x s' t' white start e = rw (behind_white-append w t white (begins_no_white t start)) (tag_no_end t start)
 item_no_end in_block n w t x s' t' white start e =
     let dark = behind_white-append w t white (begins_no_white t start) in

@@ -1,13 +1,13 @@
 -- What the steps find of a line tells how deep it is, and what it means.
 use Rattle.std.proofs.Common.{◌≡◌, ℕ, suc, ◌+◌, ◌≤◌, List, [], ◌∷◌, ◌++◌, Option, Some, None, refl, sym, ap, ◌∙◌, append_assoc, arith, max}
 use Rattle.handlebars_base.proofs.PathShapes.{path_known}
-use Rattle.handlebars_lines.specs.Parameter.{Term, Terms, no_terms, term, Shape, literal_shape, path_shape, nested_shape, Items, no_items, parameter_item, pair_item, Fits, AreItems, term_of, terms_of, depth_of, items_depth}
-use Rattle.handlebars_lines.specs.LineReading.{Event, closed, most_open, Frame, joined, new_frame, add_term, Frames, first_frames, build_all}
+use Rattle.handlebars_lines.specs.Parameter.{Term, Terms, no_terms, term, TermShape, literal_shape, path_shape, nested_shape, Items, no_items, parameter_item, pair_item, Fits, AreItems, term_of, terms_of, depth_of, items_depth}
+use Rattle.handlebars_lines.specs.LineReading.{Event, closed, most_open, OpenLine, joined, begun_line, add_term, OpenLines, first_lines, build_all}
 use Rattle.handlebars_lines.proofs.LinesRead.{events, item_events}
 
 -- ---- what is found of a line in parentheses, in front of more
 
-nested_events : (n : ℕ) (name : Shape) (items : Items) (xs : List Event) →
+nested_events : (n : ℕ) (name : TermShape) (items : Items) (xs : List Event) →
     (events (suc n) None name ++ (item_events (suc n) items ++ closed ∷ [])) ++ xs ≡ events (suc n) None name ++ (item_events (suc n) items ++ closed ∷ xs)
 nested_events n name items xs =
     append_assoc (events (suc n) None name) (item_events (suc n) items ++ closed ∷ []) xs
@@ -16,7 +16,7 @@ nested_events n name items xs =
 -- ---- how deep it is
 
 mutual
-  most_open-shape : (p : Shape) (key : Option (List ℕ)) (n m : ℕ) (xs : List Event) → most_open m (events n key p ++ xs) ≡ most_open (max m (n + depth_of p)) xs
+  most_open-shape : (p : TermShape) (key : Option (List ℕ)) (n m : ℕ) (xs : List Event) → most_open m (events n key p ++ xs) ≡ most_open (max m (n + depth_of p)) xs
   most_open-shape (literal_shape l) key n m xs = refl
   most_open-shape (path_shape t means) key n m xs = ap (λ (z : ℕ). most_open (max m z) xs) (let e : n ≡ n + 0 = omega arith in e)
   most_open-shape (nested_shape w name items v) key n m xs =
@@ -41,7 +41,7 @@ mutual
       ∙ most_open-items more n (max m (n + depth_of p)) xs (omega arith)
       ∙ ap (λ (z : ℕ). most_open z xs) e
 
-pub most_open-line : (name : Shape) (items : Items) → most_open 0 (events 0 None name ++ (item_events 0 items ++ [])) ≡ max (depth_of name) (items_depth items)
+pub most_open-line : (name : TermShape) (items : Items) → most_open 0 (events 0 None name ++ (item_events 0 items ++ [])) ≡ max (depth_of name) (items_depth items)
 most_open-line name items =
     let e : max (max 0 (0 + depth_of name)) (0 + items_depth items) ≡ max (depth_of name) (items_depth items) = omega arith in
     most_open-shape name None 0 0 (item_events 0 items ++ [])
@@ -50,16 +50,16 @@ most_open-line name items =
 
 -- ---- what it means
 
-abbrev framed : Frame → List Frame → Frames
-framed f fs = record { top = f; around = fs }
+abbrev lines_around : OpenLine → List OpenLine → OpenLines
+lines_around f fs = record { top = f; around = fs }
 
 -- a call with its name and these terms
-abbrev pub named_frame : Option (List ℕ) → Term → Terms → Frame
-named_frame key name terms = record { key = key; name = Some name; terms = terms }
+abbrev pub named_line : Option (List ℕ) → Term → Terms → OpenLine
+named_line key name terms = record { key = key; name = Some name; terms = terms }
 
 -- the frames of a whole line
-abbrev pub whole_frames : Term → Terms → Frames
-whole_frames name terms = framed (named_frame None name terms) []
+abbrev pub whole_lines : Term → Terms → OpenLines
+whole_lines name terms = lines_around (named_line None name terms) []
 
 joined-assoc : (a b c : Terms) → joined (joined a b) c ≡ joined a (joined b c)
 joined-assoc no_terms b c = refl
@@ -70,29 +70,29 @@ joined-none no_terms = refl
 joined-none (term key t a) = ap (term key t) (joined-none a)
 
 mutual
-  build-shape : (p : Shape) (rest : List ℕ) → Fits p rest → (key : Option (List ℕ)) (n : ℕ) (f : Frame) (fs : List Frame) (xs : List Event) → build_all (framed f fs) (events n key p ++ xs) ≡ build_all (framed (add_term key (term_of p) f) fs) xs
+  build-shape : (p : TermShape) (rest : List ℕ) → Fits p rest → (key : Option (List ℕ)) (n : ℕ) (f : OpenLine) (fs : List OpenLine) (xs : List Event) → build_all (lines_around f fs) (events n key p ++ xs) ≡ build_all (lines_around (add_term key (term_of p) f) fs) xs
   build-shape (literal_shape l) rest fits key n f fs xs = refl
   build-shape (path_shape t means) rest fits key n f fs xs = rw (path_known t means fits) refl
   build-shape (nested_shape w name items v) rest fits key n f fs xs =
-      ap (build_all (framed (new_frame key) (f ∷ fs))) (nested_events n name items xs)
-      ∙ build-shape name _ fits.2 None (suc n) (new_frame key) (f ∷ fs) (item_events (suc n) items ++ closed ∷ xs)
+      ap (build_all (lines_around (begun_line key) (f ∷ fs))) (nested_events n name items xs)
+      ∙ build-shape name _ fits.2 None (suc n) (begun_line key) (f ∷ fs) (item_events (suc n) items ++ closed ∷ xs)
       ∙ build-items items _ fits.3 (suc n) key (term_of name) no_terms (f ∷ fs) (closed ∷ xs)
 
-  build-items : (items : Items) (rest : List ℕ) → AreItems items rest → (n : ℕ) (key : Option (List ℕ)) (name : Term) (terms : Terms) (fs : List Frame) (xs : List Event)
-      → build_all (framed (named_frame key name terms) fs) (item_events n items ++ xs) ≡ build_all (framed (named_frame key name (joined terms (terms_of items))) fs) xs
-  build-items no_items rest fits n key name terms fs xs = ap (λ (z : Terms). build_all (framed (named_frame key name z) fs) xs) (sym (joined-none terms))
+  build-items : (items : Items) (rest : List ℕ) → AreItems items rest → (n : ℕ) (key : Option (List ℕ)) (name : Term) (terms : Terms) (fs : List OpenLine) (xs : List Event)
+      → build_all (lines_around (named_line key name terms) fs) (item_events n items ++ xs) ≡ build_all (lines_around (named_line key name (joined terms (terms_of items))) fs) xs
+  build-items no_items rest fits n key name terms fs xs = ap (λ (z : Terms). build_all (lines_around (named_line key name z) fs) xs) (sym (joined-none terms))
   build-items (parameter_item w p more) rest fits n key name terms fs xs =
-      ap (build_all (framed (named_frame key name terms) fs)) (append_assoc (events n None p) (item_events n more) xs)
-      ∙ build-shape p _ fits.4 None n (named_frame key name terms) fs (item_events n more ++ xs)
+      ap (build_all (lines_around (named_line key name terms) fs)) (append_assoc (events n None p) (item_events n more) xs)
+      ∙ build-shape p _ fits.4 None n (named_line key name terms) fs (item_events n more ++ xs)
       ∙ build-items more rest fits.5 n key name (joined terms (term None (term_of p) no_terms)) fs xs
-      ∙ ap (λ (z : Terms). build_all (framed (named_frame key name z) fs) xs) (joined-assoc terms (term None (term_of p) no_terms) (terms_of more))
+      ∙ ap (λ (z : Terms). build_all (lines_around (named_line key name z) fs) xs) (joined-assoc terms (term None (term_of p) no_terms) (terms_of more))
   build-items (pair_item w k u v p more) rest fits n key name terms fs xs =
-      ap (build_all (framed (named_frame key name terms) fs)) (append_assoc (events n (Some k) p) (item_events n more) xs)
-      ∙ build-shape p _ fits.6 (Some k) n (named_frame key name terms) fs (item_events n more ++ xs)
+      ap (build_all (lines_around (named_line key name terms) fs)) (append_assoc (events n (Some k) p) (item_events n more) xs)
+      ∙ build-shape p _ fits.6 (Some k) n (named_line key name terms) fs (item_events n more ++ xs)
       ∙ build-items more rest fits.7 n key name (joined terms (term (Some k) (term_of p) no_terms)) fs xs
-      ∙ ap (λ (z : Terms). build_all (framed (named_frame key name z) fs) xs) (joined-assoc terms (term (Some k) (term_of p) no_terms) (terms_of more))
+      ∙ ap (λ (z : Terms). build_all (lines_around (named_line key name z) fs) xs) (joined-assoc terms (term (Some k) (term_of p) no_terms) (terms_of more))
 
-pub build-line : (name : Shape) (items : Items) (t left : List ℕ) → Fits name t → AreItems items left → build_all first_frames (events 0 None name ++ (item_events 0 items ++ [])) ≡ Some (whole_frames (term_of name) (terms_of items))
+pub build-line : (name : TermShape) (items : Items) (t left : List ℕ) → Fits name t → AreItems items left → build_all first_lines (events 0 None name ++ (item_events 0 items ++ [])) ≡ Some (whole_lines (term_of name) (terms_of items))
 build-line name items t left fits are_items =
-    build-shape name t fits None 0 (new_frame None) [] (item_events 0 items ++ [])
+    build-shape name t fits None 0 (begun_line None) [] (item_events 0 items ++ [])
     ∙ build-items items left are_items 0 None (term_of name) no_terms [] []

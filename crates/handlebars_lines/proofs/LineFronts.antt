@@ -3,22 +3,22 @@ use Rattle.std.proofs.Common.{◌≡◌, ◌≢◌, ℕ, suc, ◌+◌, Bool, tru
 use Rattle.std.specs.Prelude.{◌==◌}
 use Rattle.std.specs.List.{AllByRecursion}
 use Rattle.std.proofs.lemmas.Bool.{eqb-true, cases_Bool, or_cases, or_parts, not-false}
-use Rattle.handlebars_base.specs.Bytes.{is_white, behind_white}
-use Rattle.handlebars_base.specs.Path.{is_symbol, IsIdentifier, Reference, IsPath}
-use Rattle.handlebars_base.specs.PathReading.{after, behind_symbols, is_reference_byte, starts_reference, stops, reference_from, reference_len}
+use Rattle.handlebars_base.specs.Bytes.{is_white, behind_white, is_symbol}
+use Rattle.handlebars_base.specs.Path.{IsIdentifier, Reference, IsPath}
+use Rattle.handlebars_base.specs.PathReading.{is_reference_byte, starts_reference, stops, reference_from, reference_len}
 use Rattle.handlebars_base.proofs.References.{stops-path, reference_len-append}
-use Rattle.handlebars_base.specs.Texts.{IsWhite, starts}
+use Rattle.handlebars_base.specs.Texts.{IsWhite, starts, after, behind_symbols}
 use Rattle.handlebars_base.proofs.Fronts.{behind_white-dark, behind_white-append, starts-other, starts-append, after-not, starts-more}
 use Rattle.handlebars_base.proofs.Bytes.{other_byte}
 use Rattle.handlebars_base.proofs.Runs.{on_symbol, on_mark, prefix_len-none}
 use Rattle.handlebars_lines.specs.Literal.{Literal, quoted, single_quoted, number, word, empty, filled, array, object, spelled_literal, IsLiteral, goes_on}
-use Rattle.handlebars_lines.specs.Parameter.{Shape, literal_shape, path_shape, nested_shape, Items, no_items, parameter_item, pair_item, spelled_shape, spelled_items, Fits, AreItems}
+use Rattle.handlebars_lines.specs.Parameter.{TermShape, literal_shape, path_shape, nested_shape, Items, no_items, parameter_item, pair_item, spelled_shape, spelled_items, Fits, AreItems}
 use Rattle.handlebars_lines.specs.Line.{Enclosure, in_tag, in_block, in_parentheses, ends_tag, Closes}
-use Rattle.handlebars_lines.specs.LineReading.{key_at}
+use Rattle.handlebars_lines.specs.LineReading.{key_and_equals_at}
 use Rattle.handlebars_lines.proofs.Plain.{GoesOn, number_goes_on, word_goes_on}
 use Rattle.handlebars_lines.specs.Binding.{begins_binding}
 use Rattle.handlebars_lines.proofs.Bindings.{BeginsAt, binding_begins}
-use Rattle.handlebars_lines.proofs.LineMarks.{key_at-none, key_at-dark}
+use Rattle.handlebars_lines.proofs.LineMarks.{key_and_equals_at-none, key_and_equals_at-dark}
 
 -- ---- with which bytes parameters begin
 
@@ -78,12 +78,12 @@ literal_begins (empty object w) fits = refl
 literal_begins (filled array lead l w more) fits = refl
 literal_begins (filled object lead l w more) fits = refl
 
-pub shape_begins : (p : Shape) (rest : List ℕ) → Fits p rest → starts begins (spelled_shape p) ≡ true
+pub shape_begins : (p : TermShape) (rest : List ℕ) → Fits p rest → starts begins (spelled_shape p) ≡ true
 shape_begins (literal_shape l) rest fits = starts-more begins_single begins (spelled_literal l) single_begins (literal_begins l fits)
 shape_begins (path_shape t means) rest fits = starts-more begins_single begins t single_begins (path_begins t means fits)
 shape_begins (nested_shape w name items v) rest fits = refl
 
-pub shape_starts : (p : Shape) (rest t : List ℕ) → Fits p rest → starts begins (spelled_shape p ++ t) ≡ true
+pub shape_starts : (p : TermShape) (rest t : List ℕ) → Fits p rest → starts begins (spelled_shape p ++ t) ≡ true
 shape_starts p rest t fits = starts-append begins (spelled_shape p) t (shape_begins p rest fits)
 
 key_begins : (key : List ℕ) → IsIdentifier key → starts begins key ≡ true
@@ -249,16 +249,16 @@ none_more : (t : List ℕ) → length t + reference_len [] ≡ length t
 unfolding reference_from
 none_more t = omega arith
 
-pub no_key : (p : Shape) (rest : List ℕ) → Fits p rest → Follows rest → key_at (spelled_shape p ++ rest) ≡ None
-no_key (literal_shape (quoted s)) rest fits f = key_at-dark _ refl
-no_key (literal_shape (single_quoted s)) rest fits f = key_at-dark _ refl
-no_key (literal_shape (number n)) rest fits f = key_at-none (n ++ rest) (plain_no_equals n rest (number_goes_on n fits).all f)
-no_key (literal_shape (word n)) rest fits f = key_at-none (n ++ rest) (plain_no_equals n rest (word_goes_on n fits).all f)
-no_key (literal_shape (empty array w)) rest fits f = key_at-dark _ refl
-no_key (literal_shape (empty object w)) rest fits f = key_at-dark _ refl
-no_key (literal_shape (filled array lead l w more)) rest fits f = key_at-dark _ refl
-no_key (literal_shape (filled object lead l w more)) rest fits f = key_at-dark _ refl
+pub no_key : (p : TermShape) (rest : List ℕ) → Fits p rest → Follows rest → key_and_equals_at (spelled_shape p ++ rest) ≡ None
+no_key (literal_shape (quoted s)) rest fits f = key_and_equals_at-dark _ refl
+no_key (literal_shape (single_quoted s)) rest fits f = key_and_equals_at-dark _ refl
+no_key (literal_shape (number n)) rest fits f = key_and_equals_at-none (n ++ rest) (plain_no_equals n rest (number_goes_on n fits).all f)
+no_key (literal_shape (word n)) rest fits f = key_and_equals_at-none (n ++ rest) (plain_no_equals n rest (word_goes_on n fits).all f)
+no_key (literal_shape (empty array w)) rest fits f = key_and_equals_at-dark _ refl
+no_key (literal_shape (empty object w)) rest fits f = key_and_equals_at-dark _ refl
+no_key (literal_shape (filled array lead l w more)) rest fits f = key_and_equals_at-dark _ refl
+no_key (literal_shape (filled object lead l w more)) rest fits f = key_and_equals_at-dark _ refl
 no_key (path_shape t means) rest fits f =
     let all : reference_len t ≡ length t = ap reference_len (sym (append-nil t)) ∙ reference_len-append t [] means fits ∙ none_more t in
-    key_at-none (t ++ rest) (path_no_equals t rest all f)
-no_key (nested_shape w name items v) rest fits f = key_at-dark _ refl
+    key_and_equals_at-none (t ++ rest) (path_no_equals t rest all f)
+no_key (nested_shape w name items v) rest fits f = key_and_equals_at-dark _ refl

@@ -6,19 +6,20 @@ use Rattle.std.specs.Option.{option_map}
 use Rattle.std.proofs.lemmas.Bool.{ne_eqb, cases_Bool}
 use Rattle.std.proofs.lemmas.List.{take-append-drop, append_cancel_right}
 use Rattle.std.proofs.lemmas.Option.{same_Some}
-use Rattle.handlebars_base.specs.Bytes.{is_white, behind_white}
-use Rattle.handlebars_base.specs.Path.{is_symbol, IsIdentifier, Reference, raw_of, IsPath}
-use Rattle.handlebars_base.specs.PathReading.{◌>>=◌, after, symbols_of, behind_symbols, slice_at, path_at, stops}
+use Rattle.handlebars_base.specs.Bytes.{is_white, behind_white, is_symbol}
+use Rattle.handlebars_base.specs.Path.{IsIdentifier, Reference, raw_of, IsPath}
+use Rattle.handlebars_base.specs.PathReading.{slice_at, path_at, stops}
+use Rattle.handlebars_base.specs.Options.{◌>>=◌}
 use Rattle.handlebars_base.proofs.OptionBinds.{bind_some, map_some, guard_bind}
 use Rattle.handlebars_base.proofs.PathsInFront.{path_at-some, path_at-stops}
 use Rattle.handlebars_base.proofs.Fronts.{after_takes, behind_white-skips, behind_white-append, after-not, after-same}
 use Rattle.handlebars_base.proofs.Runs.{prefix_pass, prefix_len-none, run-front, run-rest, symbols_some}
-use Rattle.handlebars_base.specs.Texts.{IsWhite, starts}
+use Rattle.handlebars_base.specs.Texts.{IsWhite, starts, after, symbols_of, behind_symbols}
 use Rattle.handlebars_base.proofs.Bytes.{white_symbol}
 use Rattle.handlebars_lines.specs.Literal.{Literal, spelled_literal, literal_depth, keeps_numbers, IsLiteralAt}
-use Rattle.handlebars_lines.specs.LiteralReading.{Slice, literal_at}
+use Rattle.handlebars_lines.specs.LiteralReading.{LiteralSlice, literal_at}
 use Rattle.handlebars_lines.specs.Laws.{HasLiteral}
-use Rattle.handlebars_lines.specs.LineReading.{key_at}
+use Rattle.handlebars_lines.specs.LineReading.{key_and_equals_at}
 use Rattle.handlebars_lines.proofs.LiteralsFound.{literal_at-is, literal_at-some}
 
 -- ---- paths
@@ -44,7 +45,7 @@ slice_at-stops raw rest means h stop =
 -- ---- literals
 
 pub record FindsLiteral (t : List ℕ) (l : Literal) (behind : List ℕ) : Type 0 where
-  pub slice : Slice
+  pub slice : LiteralSlice
   pub found : literal_at t ≡ Some slice
   pub raw : slice.raw ≡ spelled_literal l
   pub rest : slice.rest ≡ behind
@@ -52,14 +53,14 @@ pub record FindsLiteral (t : List ℕ) (l : Literal) (behind : List ℕ) : Type 
 
 pub literal_at-finds : (t : List ℕ) (l : Literal) (rest : List ℕ) → IsLiteralAt t l rest → FindsLiteral t l rest
 literal_at-finds t l rest h =
-    let f : Slice = record { raw = spelled_literal l; rest = rest; depth = literal_depth l; kept = keeps_numbers l } in
+    let f : LiteralSlice = record { raw = spelled_literal l; rest = rest; depth = literal_depth l; kept = keeps_numbers l } in
     let is : HasLiteral t f = record { literal = l; is = h; raw = refl; depth = refl; kept = refl } in
     record { slice = f; found = literal_at-is t f is; raw = refl; rest = refl; depth = refl }
 
 pub literal_at-missing : (t : List ℕ) → ((l : Literal) (behind : List ℕ) → IsLiteralAt t l behind → ⊥) → literal_at t ≡ None
 literal_at-missing t none = on (literal_at t) refl
   where
-    on : (o : Option Slice) → literal_at t ≡ o → literal_at t ≡ None
+    on : (o : Option LiteralSlice) → literal_at t ≡ o → literal_at t ≡ None
     on None e = e
     on (Some f) e = let h = literal_at-some t f e in absurd (none h.literal f.rest h.is)
 
@@ -73,9 +74,9 @@ pub record TakesKey (t key rest : List ℕ) : Type 0 where
   pub white_before : IsWhite before
   pub white_behind : IsWhite behind
 
-pub key_at-some : (t : List ℕ) (k : List ℕ × List ℕ) → key_at t ≡ Some k → TakesKey t k.0 k.1
-unfolding key_at
-key_at-some t k e =
+pub key_and_equals_at-some : (t : List ℕ) (k : List ℕ × List ℕ) → key_and_equals_at t ≡ Some k → TakesKey t k.0 k.1
+unfolding key_and_equals_at
+key_and_equals_at-some t k e =
     let g = guard_bind (prefix_len is_symbol t == 0) (after 61 (behind_white (behind_symbols t)) >>= λ r. Some (symbols_of t, behind_white r)) k e in
     let b = bind_some (after 61 (behind_white (behind_symbols t))) (λ r. Some (symbols_of t, behind_white r)) k g.1 in
     let before = behind_white-skips (behind_symbols t) in
@@ -91,20 +92,20 @@ key_at-some t k e =
       white_behind = behind.is;
     })
 
-pub key_at-none : (t : List ℕ) → starts (λ b. b == 61) (behind_white (behind_symbols t)) ≡ false → key_at t ≡ None
-unfolding key_at
-key_at-none t h = elim (cases_Bool (prefix_len is_symbol t == 0)) [
+pub key_and_equals_at-none : (t : List ℕ) → starts (λ b. b == 61) (behind_white (behind_symbols t)) ≡ false → key_and_equals_at t ≡ None
+unfolding key_and_equals_at
+key_and_equals_at-none t h = elim (cases_Bool (prefix_len is_symbol t == 0)) [
   | inl none ↦ rw none refl
   | inr some ↦ rw (some, after-not 61 (behind_white (behind_symbols t)) h) refl
 ]
 
-pub key_at-dark : (t : List ℕ) → starts is_symbol t ≡ false → key_at t ≡ None
-unfolding key_at
-key_at-dark t h = rw (prefix_len-none is_symbol t h) refl
+pub key_and_equals_at-dark : (t : List ℕ) → starts is_symbol t ≡ false → key_and_equals_at t ≡ None
+unfolding key_and_equals_at
+key_and_equals_at-dark t h = rw (prefix_len-none is_symbol t h) refl
 
-pub key_at-append : (key u v t : List ℕ) → IsIdentifier key → IsWhite u → IsWhite v → starts is_white t ≡ false → key_at (key ++ (u ++ 61 ∷ (v ++ t))) ≡ Some (key, t)
-unfolding key_at
-key_at-append key u v t id white-u white-v dark_t =
+pub key_and_equals_at-append : (key u v t : List ℕ) → IsIdentifier key → IsWhite u → IsWhite v → starts is_white t ≡ false → key_and_equals_at (key ++ (u ++ 61 ∷ (v ++ t))) ≡ Some (key, t)
+unfolding key_and_equals_at
+key_and_equals_at-append key u v t id white-u white-v dark_t =
     let sign_at : List ℕ = u ++ 61 ∷ (v ++ t) in
     let stop : prefix_len is_symbol sign_at ≡ 0 = prefix_len-none is_symbol sign_at (ends_key u white-u) in
     let take_it = run-front is_symbol key sign_at id.1 stop in

@@ -3,60 +3,61 @@ use Rattle.std.proofs.Common.{◌≡◌, ◌≢◌, ℕ, zero, suc, ◌+◌, ◌
 use Rattle.std.proofs.Math.Dec.{eqb-suc-zero}
 use Rattle.handlebars_base.specs.Bytes.{is_white, behind_white}
 use Rattle.handlebars_base.specs.Path.{IsIdentifier, Reference, IsPath}
-use Rattle.handlebars_base.specs.PathReading.{with_or, after, slice_at}
+use Rattle.handlebars_base.specs.PathReading.{slice_at}
+use Rattle.handlebars_base.specs.Options.{with_or}
 use Rattle.handlebars_base.proofs.OptionBinds.{with_or_is, cond_is}
 use Rattle.handlebars_base.proofs.Fronts.{after_takes, behind_white-skips, white_some, dark_behind}
-use Rattle.handlebars_base.specs.Texts.{IsWhite, starts}
+use Rattle.handlebars_base.specs.Texts.{IsWhite, starts, after}
 use Rattle.handlebars_lines.specs.Runs.{Next, goes, ends, stuck}
 use Rattle.handlebars_lines.specs.Literal.{Literal, spelled_literal, literal_depth, IsLiteralAt}
-use Rattle.handlebars_lines.specs.LiteralReading.{Slice, literal_at}
+use Rattle.handlebars_lines.specs.LiteralReading.{LiteralSlice, literal_at}
 use Rattle.handlebars_lines.specs.Line.{Enclosure, is_end, Closes}
-use Rattle.handlebars_lines.specs.LineReading.{Event, opened, literal_event, path_event, closed, Stand, at_name, at_items, at_end, State, state, key_at, behind_name, open_step, name_step, is_excluded, path_step, parameter_step, item_step, next_step, outer_step, inner_step, behind_step, line_step}
+use Rattle.handlebars_lines.specs.LineReading.{Event, opened, literal_event, path_event, closed, Stand, at_name, at_items, at_end, LineStand, line_stand, key_and_equals_at, behind_name, open_step, name_step, is_excluded, path_step, parameter_step, item_step, next_step, outer_step, inner_step, behind_step, line_step}
 use Rattle.handlebars_lines.proofs.Stepping.{goes-parts}
 use Rattle.handlebars_lines.proofs.Endings.{goes-not_stuck, goes-not_ends}
 use Rattle.handlebars_lines.proofs.LiteralsFound.{literal_at-some}
-use Rattle.handlebars_lines.proofs.LineMarks.{slice_at-some, key_at-some}
+use Rattle.handlebars_lines.proofs.LineMarks.{slice_at-some, key_and_equals_at-some}
 
 -- ---- what a step takes
 
-pub data ParameterStepped (key : Option (List ℕ)) (n : ℕ) (t : List ℕ) (x : Event) (s' : State) (t' : List ℕ) : Type 0 where
-  to_nested : (w : List ℕ) → s' ≡ state at_name (suc n) → x ≡ opened key (suc n) → IsWhite w → t ≡ 40 ∷ (w ++ t') → ParameterStepped key n t x s' t'
-  to_literal : (l : Literal) → s' ≡ state at_items n → x ≡ literal_event key (spelled_literal l) (n + literal_depth l) → IsLiteralAt t l t' → ParameterStepped key n t x s' t'
-  to_path : (raw : List ℕ) (means : Reference) → s' ≡ state at_items n → x ≡ path_event key raw n → t ≡ raw ++ t' → IsPath raw means → literal_at t ≡ None → is_excluded key raw ≡ false → ParameterStepped key n t x s' t'
+pub data ParameterStepped (key : Option (List ℕ)) (n : ℕ) (t : List ℕ) (x : Event) (s' : LineStand) (t' : List ℕ) : Type 0 where
+  to_nested : (w : List ℕ) → s' ≡ line_stand at_name (suc n) → x ≡ opened key (suc n) → IsWhite w → t ≡ 40 ∷ (w ++ t') → ParameterStepped key n t x s' t'
+  to_literal : (l : Literal) → s' ≡ line_stand at_items n → x ≡ literal_event key (spelled_literal l) (n + literal_depth l) → IsLiteralAt t l t' → ParameterStepped key n t x s' t'
+  to_path : (raw : List ℕ) (means : Reference) → s' ≡ line_stand at_items n → x ≡ path_event key raw n → t ≡ raw ++ t' → IsPath raw means → literal_at t ≡ None → is_excluded key raw ≡ false → ParameterStepped key n t x s' t'
 
-pub data LineStepped (s : State) (t : List ℕ) (x : Event) (s' : State) (t' : List ℕ) : Type 0 where
-  to_inner : (n : ℕ) (w : List ℕ) → s ≡ state at_name n → s' ≡ state at_name (suc n) → x ≡ opened None (suc n) → IsWhite w → t ≡ 40 ∷ (w ++ t') → LineStepped s t x s' t'
-  to_name : (n : ℕ) (raw : List ℕ) (means : Reference) → s ≡ state at_name n → s' ≡ state (behind_name raw) n → x ≡ path_event None raw n → t ≡ raw ++ t' → IsPath raw means → LineStepped s t x s' t'
-  to_parameter : (n : ℕ) (w r : List ℕ) → s ≡ state at_items n → IsWhite w → w ≢ [] → t ≡ w ++ r → ParameterStepped None n r x s' t' → LineStepped s t x s' t'
-  to_pair : (n : ℕ) (w key u v r : List ℕ) → s ≡ state at_items n → IsWhite w → w ≢ [] → IsIdentifier key → IsWhite u → IsWhite v → t ≡ w ++ (key ++ (u ++ 61 ∷ (v ++ r))) → ParameterStepped (Some key) n r x s' t' → LineStepped s t x s' t'
-  to_closed : (n : ℕ) (st : Stand) (w : List ℕ) → s ≡ state st (suc n) → (st ≡ at_name → ⊥) → s' ≡ state at_items n → x ≡ closed → IsWhite w → t ≡ w ++ 41 ∷ t' → LineStepped s t x s' t'
+pub data LineStepped (s : LineStand) (t : List ℕ) (x : Event) (s' : LineStand) (t' : List ℕ) : Type 0 where
+  to_inner : (n : ℕ) (w : List ℕ) → s ≡ line_stand at_name n → s' ≡ line_stand at_name (suc n) → x ≡ opened None (suc n) → IsWhite w → t ≡ 40 ∷ (w ++ t') → LineStepped s t x s' t'
+  to_name : (n : ℕ) (raw : List ℕ) (means : Reference) → s ≡ line_stand at_name n → s' ≡ line_stand (behind_name raw) n → x ≡ path_event None raw n → t ≡ raw ++ t' → IsPath raw means → LineStepped s t x s' t'
+  to_parameter : (n : ℕ) (w r : List ℕ) → s ≡ line_stand at_items n → IsWhite w → w ≢ [] → t ≡ w ++ r → ParameterStepped None n r x s' t' → LineStepped s t x s' t'
+  to_pair : (n : ℕ) (w key u v r : List ℕ) → s ≡ line_stand at_items n → IsWhite w → w ≢ [] → IsIdentifier key → IsWhite u → IsWhite v → t ≡ w ++ (key ++ (u ++ 61 ∷ (v ++ r))) → ParameterStepped (Some key) n r x s' t' → LineStepped s t x s' t'
+  to_closed : (n : ℕ) (st : Stand) (w : List ℕ) → s ≡ line_stand st (suc n) → (st ≡ at_name → ⊥) → s' ≡ line_stand at_items n → x ≡ closed → IsWhite w → t ≡ w ++ 41 ∷ t' → LineStepped s t x s' t'
 
-abbrev literal_goes : Option (List ℕ) → ℕ → Slice → Next Event State
-literal_goes key n l = goes (literal_event key l.raw (n + l.depth)) (state at_items n) l.rest
+abbrev literal_goes : Option (List ℕ) → ℕ → LiteralSlice → Next Event LineStand
+literal_goes key n l = goes (literal_event key l.raw (n + l.depth)) (line_stand at_items n) l.rest
 
-abbrev path_goes : Option (List ℕ) → ℕ → List ℕ × List ℕ → Next Event State
-path_goes key n p = goes (path_event key p.0 n) (state at_items n) p.1
+abbrev path_goes : Option (List ℕ) → ℕ → List ℕ × List ℕ → Next Event LineStand
+path_goes key n p = goes (path_event key p.0 n) (line_stand at_items n) p.1
 
-abbrev name_goes : ℕ → List ℕ × List ℕ → Next Event State
-name_goes n p = goes (path_event None p.0 n) (state (behind_name p.0) n) p.1
+abbrev name_goes : ℕ → List ℕ × List ℕ → Next Event LineStand
+name_goes n p = goes (path_event None p.0 n) (line_stand (behind_name p.0) n) p.1
 
-path_stepped : (key : Option (List ℕ)) (n : ℕ) (t : List ℕ) (x : Event) (s' : State) (t' : List ℕ) → literal_at t ≡ None → path_step key n t ≡ goes x s' t' → ParameterStepped key n t x s' t'
+path_stepped : (key : Option (List ℕ)) (n : ℕ) (t : List ℕ) (x : Event) (s' : LineStand) (t' : List ℕ) → literal_at t ≡ None → path_step key n t ≡ goes x s' t' → ParameterStepped key n t x s' t'
 path_stepped key n t x s' t' none e = elim (with_or_is (slice_at t) (λ p. cond (is_excluded key p.0) stuck (path_goes key n p)) stuck (goes x s' t') e) [
   | inl found ↦ elim (cond_is (is_excluded key found.0.0) stuck (path_goes key n found.0) (goes x s' t') found.2) [
     | inl fails ↦ goes-not_stuck (goes x s' t') x s' t' refl (sym fails.1)
     | inr fine ↦
         let p = slice_at-some t found.0 found.1 in
-        let same = goes-parts (path_event key found.0.0 n) x (state at_items n) s' found.0.1 t' fine.1 in
+        let same = goes-parts (path_event key found.0.0 n) x (line_stand at_items n) s' found.0.1 t' fine.1 in
         to_path found.0.0 p.means (sym same.states) (sym same.events) (p.whole ∙ ap (λ (z : List ℕ). found.0.0 ++ z) same.lefts) p.is none fine.0
   ]
   | inr fails ↦ goes-not_stuck (goes x s' t') x s' t' refl (sym fails.1)
 ]
 
-parameter_stepped : (key : Option (List ℕ)) (n : ℕ) (t : List ℕ) (x : Event) (s' : State) (t' : List ℕ) → parameter_step key n t ≡ goes x s' t' → ParameterStepped key n t x s' t'
+parameter_stepped : (key : Option (List ℕ)) (n : ℕ) (t : List ℕ) (x : Event) (s' : LineStand) (t' : List ℕ) → parameter_step key n t ≡ goes x s' t' → ParameterStepped key n t x s' t'
 unfolding parameter_step
 parameter_stepped key n t x s' t' e = elim (with_or_is (after 40 t) (open_step key n) (with_or (literal_at t) (literal_goes key n) (path_step key n t)) (goes x s' t') e) [
   | inl inner ↦
-      let same = goes-parts (opened key (suc n)) x (state at_name (suc n)) s' (behind_white inner.0) t' inner.2 in
+      let same = goes-parts (opened key (suc n)) x (line_stand at_name (suc n)) s' (behind_white inner.0) t' inner.2 in
       let white = behind_white-skips inner.0 in
       to_nested white.white (sym same.states) (sym same.events) white.is
       (after_takes 40 t inner.0 inner.1 ∙ ap (λ (z : List ℕ). 40 ∷ z) (white.whole ∙ ap (λ (z : List ℕ). white.white ++ z) same.lefts))
@@ -64,7 +65,7 @@ parameter_stepped key n t x s' t' e = elim (with_or_is (after 40 t) (open_step k
     | inl found ↦
         let f = found.0 in
         let l = literal_at-some t f found.1 in
-        let same = goes-parts (literal_event key f.raw (n + f.depth)) x (state at_items n) s' f.rest t' found.2 in
+        let same = goes-parts (literal_event key f.raw (n + f.depth)) x (line_stand at_items n) s' f.rest t' found.2 in
         to_literal l.literal (sym same.states)
         (sym same.events ∙ ap (λ (z : List ℕ). literal_event key z (n + f.depth)) l.raw ∙ ap (λ (z : ℕ). literal_event key (spelled_literal l.literal) (n + z)) l.depth)
         (subst (λ (z : List ℕ). IsLiteralAt t l.literal z) same.lefts l.is)
@@ -72,18 +73,18 @@ parameter_stepped key n t x s' t' e = elim (with_or_is (after 40 t) (open_step k
   ]
 ]
 
-name_stepped : (n : ℕ) (t : List ℕ) (x : Event) (s' : State) (t' : List ℕ) → name_step n t ≡ goes x s' t' → LineStepped (state at_name n) t x s' t'
+name_stepped : (n : ℕ) (t : List ℕ) (x : Event) (s' : LineStand) (t' : List ℕ) → name_step n t ≡ goes x s' t' → LineStepped (line_stand at_name n) t x s' t'
 unfolding name_step
 name_stepped n t x s' t' e = elim (with_or_is (after 40 t) (open_step None n) (with_or (slice_at t) (name_goes n) stuck) (goes x s' t') e) [
   | inl inner ↦
-      let same = goes-parts (opened None (suc n)) x (state at_name (suc n)) s' (behind_white inner.0) t' inner.2 in
+      let same = goes-parts (opened None (suc n)) x (line_stand at_name (suc n)) s' (behind_white inner.0) t' inner.2 in
       let white = behind_white-skips inner.0 in
       to_inner n white.white refl (sym same.states) (sym same.events) white.is
       (after_takes 40 t inner.0 inner.1 ∙ ap (λ (z : List ℕ). 40 ∷ z) (white.whole ∙ ap (λ (z : List ℕ). white.white ++ z) same.lefts))
   | inr name ↦ elim (with_or_is (slice_at t) (name_goes n) stuck (goes x s' t') name.1) [
     | inl found ↦
         let p = slice_at-some t found.0 found.1 in
-        let same = goes-parts (path_event None found.0.0 n) x (state (behind_name found.0.0) n) s' found.0.1 t' found.2 in
+        let same = goes-parts (path_event None found.0.0 n) x (line_stand (behind_name found.0.0) n) s' found.0.1 t' found.2 in
         to_name n found.0.0 p.means refl (sym same.states) (sym same.events) (p.whole ∙ ap (λ (z : List ℕ). found.0.0 ++ z) same.lefts) p.is
     | inr fails ↦ goes-not_stuck (goes x s' t') x s' t' refl (sym fails.1)
   ]
@@ -91,58 +92,58 @@ name_stepped n t x s' t' e = elim (with_or_is (after 40 t) (open_step None n) (w
 
 -- ---- behind white
 
-item_stepped : (n : ℕ) (t : List ℕ) (x : Event) (s' : State) (t' : List ℕ) → starts is_white t ≡ true → item_step n (behind_white t) ≡ goes x s' t' → LineStepped (state at_items n) t x s' t'
+item_stepped : (n : ℕ) (t : List ℕ) (x : Event) (s' : LineStand) (t' : List ℕ) → starts is_white t ≡ true → item_step n (behind_white t) ≡ goes x s' t' → LineStepped (line_stand at_items n) t x s' t'
 unfolding item_step
 item_stepped n t x s' t' white e =
     let front = behind_white-skips t in
     let some = white_some t front.white (behind_white t) white front.whole (dark_behind t) in
-    elim (with_or_is (key_at (behind_white t)) (λ k. parameter_step (Some k.0) n k.1) (parameter_step None n (behind_white t)) (goes x s' t') e) [
+    elim (with_or_is (key_and_equals_at (behind_white t)) (λ k. parameter_step (Some k.0) n k.1) (parameter_step None n (behind_white t)) (goes x s' t') e) [
       | inl pair ↦
-          let key = key_at-some (behind_white t) pair.0 pair.1 in
+          let key = key_and_equals_at-some (behind_white t) pair.0 pair.1 in
           to_pair n front.white pair.0.0 key.before key.behind pair.0.1 refl front.is some key.is key.white_before key.white_behind
           (front.whole ∙ ap (λ (z : List ℕ). front.white ++ z) key.whole)
           (parameter_stepped (Some pair.0.0) n pair.0.1 x s' t' pair.2)
       | inr alone ↦ to_parameter n front.white (behind_white t) refl front.is some front.whole (parameter_stepped None n (behind_white t) x s' t' alone.1)
     ]
 
-next_stepped : (st : Stand) (n : ℕ) (t : List ℕ) (x : Event) (s' : State) (t' : List ℕ) → next_step st n t ≡ goes x s' t' → LineStepped (state st n) t x s' t'
+next_stepped : (st : Stand) (n : ℕ) (t : List ℕ) (x : Event) (s' : LineStand) (t' : List ℕ) → next_step st n t ≡ goes x s' t' → LineStepped (line_stand st n) t x s' t'
 next_stepped at_name n t x s' t' e = goes-not_stuck (goes x s' t') x s' t' refl (sym e)
 next_stepped at_end n t x s' t' e = goes-not_stuck (goes x s' t') x s' t' refl (sym e)
 next_stepped at_items n t x s' t' e = on (starts is_white t) refl e
   where
-    on : (c : Bool) → starts is_white t ≡ c → cond c (item_step n (behind_white t)) stuck ≡ goes x s' t' → LineStepped (state at_items n) t x s' t'
+    on : (c : Bool) → starts is_white t ≡ c → cond c (item_step n (behind_white t)) stuck ≡ goes x s' t' → LineStepped (line_stand at_items n) t x s' t'
     on true is e = item_stepped n t x s' t' is e
     on false is e = goes-not_stuck (goes x s' t') x s' t' refl (sym e)
 
 -- ---- behind a name or an item
 
-outer_stepped : (around : Enclosure) (st : Stand) (t : List ℕ) (x : Event) (s' : State) (t' : List ℕ) → outer_step around st t ≡ goes x s' t' → LineStepped (state st 0) t x s' t'
+outer_stepped : (around : Enclosure) (st : Stand) (t : List ℕ) (x : Event) (s' : LineStand) (t' : List ℕ) → outer_step around st t ≡ goes x s' t' → LineStepped (line_stand st 0) t x s' t'
 outer_stepped around st t x s' t' e = elim (cond_is (is_end around t) ends (next_step st 0 t) (goes x s' t') e) [
   | inl over ↦ goes-not_ends (goes x s' t') x s' t' refl (sym over.1)
   | inr item ↦ next_stepped st 0 t x s' t' item.1
 ]
 
-inner_stepped : (st : Stand) (n : ℕ) (t : List ℕ) (x : Event) (s' : State) (t' : List ℕ) → (st ≡ at_name → ⊥) → inner_step st (suc n) t ≡ goes x s' t' → LineStepped (state st (suc n)) t x s' t'
-inner_stepped st n t x s' t' other e = elim (with_or_is (after 41 (behind_white t)) (λ r. goes closed (state at_items (suc n - 1)) r) (next_step st (suc n) t) (goes x s' t') e) [
+inner_stepped : (st : Stand) (n : ℕ) (t : List ℕ) (x : Event) (s' : LineStand) (t' : List ℕ) → (st ≡ at_name → ⊥) → inner_step st (suc n) t ≡ goes x s' t' → LineStepped (line_stand st (suc n)) t x s' t'
+inner_stepped st n t x s' t' other e = elim (with_or_is (after 41 (behind_white t)) (λ r. goes closed (line_stand at_items (suc n - 1)) r) (next_step st (suc n) t) (goes x s' t') e) [
   | inl shut ↦
-      let same = goes-parts closed x (state at_items (suc n - 1)) s' shut.0 t' shut.2 in
+      let same = goes-parts closed x (line_stand at_items (suc n - 1)) s' shut.0 t' shut.2 in
       let front = behind_white-skips t in
       let less : suc n - 1 ≡ n = omega arith in
-      to_closed n st front.white refl other (sym same.states ∙ ap (state at_items) less) (sym same.events) front.is
+      to_closed n st front.white refl other (sym same.states ∙ ap (line_stand at_items) less) (sym same.events) front.is
       (front.whole ∙ ap (λ (z : List ℕ). front.white ++ z) (after_takes 41 (behind_white t) shut.0 shut.1 ∙ ap (λ (z : List ℕ). 41 ∷ z) same.lefts))
   | inr item ↦ next_stepped st (suc n) t x s' t' item.1
 ]
 
-behind_stepped : (around : Enclosure) (st : Stand) (n : ℕ) (t : List ℕ) (x : Event) (s' : State) (t' : List ℕ) → (st ≡ at_name → ⊥) → behind_step around st n t ≡ goes x s' t' → LineStepped (state st n) t x s' t'
+behind_stepped : (around : Enclosure) (st : Stand) (n : ℕ) (t : List ℕ) (x : Event) (s' : LineStand) (t' : List ℕ) → (st ≡ at_name → ⊥) → behind_step around st n t ≡ goes x s' t' → LineStepped (line_stand st n) t x s' t'
 unfolding behind_step
 behind_stepped around st zero t x s' t' other e = outer_stepped around st t x s' t' e
 behind_stepped around st (suc n) t x s' t' other e = inner_stepped st n t x s' t' other (rw (eqb-suc-zero n) at e)
 
-pub line_stepped : (around : Enclosure) (s : State) (t : List ℕ) (x : Event) (s' : State) (t' : List ℕ) → line_step around s t ≡ goes x s' t' → LineStepped s t x s' t'
+pub line_stepped : (around : Enclosure) (s : LineStand) (t : List ℕ) (x : Event) (s' : LineStand) (t' : List ℕ) → line_step around s t ≡ goes x s' t' → LineStepped s t x s' t'
 unfolding line_step
 line_stepped around s t x s' t' e = on s.stand s.level e
   where
-    on : (st : Stand) (n : ℕ) → line_step around (state st n) t ≡ goes x s' t' → LineStepped (state st n) t x s' t'
+    on : (st : Stand) (n : ℕ) → line_step around (line_stand st n) t ≡ goes x s' t' → LineStepped (line_stand st n) t x s' t'
     on at_name n e = name_stepped n t x s' t' e
     on at_items n e = behind_stepped around at_items n t x s' t' (λ same. absurd cc) e
     on at_end n e = behind_stepped around at_end n t x s' t' (λ same. absurd cc) e
@@ -165,7 +166,7 @@ parameter_ends : (key : Option (List ℕ)) (n : ℕ) (t : List ℕ) → is_ends 
 unfolding parameter_step
 parameter_ends key n t = on (after 40 t) (literal_at t) (slice_at t)
   where
-    on : (o : Option (List ℕ)) (f : Option Slice) (q : Option (List ℕ × List ℕ))
+    on : (o : Option (List ℕ)) (f : Option LiteralSlice) (q : Option (List ℕ × List ℕ))
         → is_ends (with_or o (open_step key n) (with_or f (literal_goes key n) (with_or q (λ p. cond (is_excluded key p.0) stuck (path_goes key n p)) stuck))) ≡ false
     on (Some r) f q = refl
     on None (Some l) q = refl
@@ -183,7 +184,7 @@ name_ends n t = on (after 40 t) (slice_at t)
 
 item_ends : (n : ℕ) (t : List ℕ) → is_ends (item_step n t) ≡ false
 unfolding item_step
-item_ends n t = on (key_at t)
+item_ends n t = on (key_and_equals_at t)
   where
     on : (o : Option (List ℕ × List ℕ)) → is_ends (with_or o (λ k. parameter_step (Some k.0) n k.1) (parameter_step None n t)) ≡ false
     on None = parameter_ends None n t
@@ -201,7 +202,7 @@ next_ends at_items n t = on (starts is_white t)
 inner_ends : (st : Stand) (n : ℕ) (t : List ℕ) → is_ends (inner_step st n t) ≡ false
 inner_ends st n t = on (after 41 (behind_white t))
   where
-    on : (o : Option (List ℕ)) → is_ends (with_or o (λ r. goes closed (state at_items (n - 1)) r) (next_step st n t)) ≡ false
+    on : (o : Option (List ℕ)) → is_ends (with_or o (λ r. goes closed (line_stand at_items (n - 1)) r) (next_step st n t)) ≡ false
     on None = next_ends st n t
     on (Some r) = refl
 
@@ -217,16 +218,16 @@ behind_ends around st zero t e = (outer_ends around st t e, refl)
 behind_ends around st (suc n) t e = never_ends (inner_step st (suc n) t) (rw (eqb-suc-zero n) at e) (inner_ends st (suc n) t)
 
 -- At the end no parenthesis is open, no name is awaited, and what is left closes.
-pub record LineEnds (around : Enclosure) (s : State) (t : List ℕ) : Type 0 where
+pub record LineEnds (around : Enclosure) (s : LineStand) (t : List ℕ) : Type 0 where
   pub other : s.stand ≡ at_name → ⊥
   pub level : s.level ≡ 0
   pub closes : Closes around t
 
-pub line_ends : (around : Enclosure) (s : State) (t : List ℕ) → line_step around s t ≡ ends → LineEnds around s t
+pub line_ends : (around : Enclosure) (s : LineStand) (t : List ℕ) → line_step around s t ≡ ends → LineEnds around s t
 unfolding line_step
 line_ends around s t e = on s.stand s.level e
   where
-    on : (st : Stand) (n : ℕ) → line_step around (state st n) t ≡ ends → LineEnds around (state st n) t
+    on : (st : Stand) (n : ℕ) → line_step around (line_stand st n) t ≡ ends → LineEnds around (line_stand st n) t
     on at_name n e = never_ends (name_step n t) e (name_ends n t)
     on at_items n e = let h = behind_ends around at_items n t e in record { other = λ same. absurd cc; level = h.1; closes = h.0 }
     on at_end n e = let h = behind_ends around at_end n t e in record { other = λ same. absurd cc; level = h.1; closes = h.0 }

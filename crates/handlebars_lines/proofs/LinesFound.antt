@@ -4,32 +4,31 @@ use Rattle.std.specs.Prelude.{◌==◌}
 use Rattle.std.specs.List.{list_all}
 use Rattle.std.proofs.Math.Dec.{eqb-suc-zero}
 use Rattle.std.proofs.lemmas.Bool.{eqb-true}
-use Rattle.handlebars_base.specs.Bytes.{is_white, behind_white}
-use Rattle.handlebars_base.specs.Path.{is_symbol, IsIdentifier, Reference, IsPath}
-use Rattle.handlebars_base.specs.PathReading.{after}
-use Rattle.handlebars_base.specs.Texts.{IsWhite, starts}
+use Rattle.handlebars_base.specs.Bytes.{is_white, behind_white, is_symbol}
+use Rattle.handlebars_base.specs.Path.{IsIdentifier, Reference, IsPath}
+use Rattle.handlebars_base.specs.Texts.{IsWhite, starts, after}
 use Rattle.handlebars_base.proofs.Fronts.{behind_white-skips, behind_white-append, starts-other, starts-append, after-not, after-same}
 use Rattle.handlebars_base.proofs.Bytes.{other_byte}
 use Rattle.handlebars_base.proofs.Ends.{regroup_four}
 use Rattle.handlebars_lines.specs.Runs.{goes, ends}
 use Rattle.handlebars_lines.specs.Literal.{Literal, spelled_literal, IsLiteral, literal_depth, goes_on}
-use Rattle.handlebars_lines.specs.Parameter.{Shape, literal_shape, path_shape, nested_shape, Items, no_items, parameter_item, pair_item, spelled_shape, spelled_items, is_name, IsChosen, Fits, AreItems}
+use Rattle.handlebars_lines.specs.Parameter.{TermShape, literal_shape, path_shape, nested_shape, Items, no_items, parameter_item, pair_item, spelled_shape, spelled_items, is_name, IsChosen, Fits, AreItems}
 use Rattle.handlebars_lines.specs.Line.{Enclosure, in_parentheses, is_end, Closes}
-use Rattle.handlebars_lines.specs.LineReading.{Event, opened, literal_event, path_event, closed, Stand, at_name, at_items, at_end, State, state, behind_name, name_step, is_excluded, parameter_step, item_step, behind_step, line_step}
+use Rattle.handlebars_lines.specs.LineReading.{Event, opened, literal_event, path_event, closed, Stand, at_name, at_items, at_end, LineStand, line_stand, behind_name, name_step, is_excluded, parameter_step, item_step, behind_step, line_step}
 use Rattle.handlebars_lines.proofs.Stepping.{Runs, last, onward}
-use Rattle.handlebars_lines.proofs.LineMarks.{slice_at-stops, literal_at-finds, literal_at-missing, key_at-append}
+use Rattle.handlebars_lines.proofs.LineMarks.{slice_at-stops, literal_at-finds, literal_at-missing, key_and_equals_at-append}
 use Rattle.handlebars_lines.proofs.LineFronts.{begins, begins_single, begins_no_white, path_begins, literal_begins, shape_starts, key_starts, single_no_parenthesis, Follows, follows_stops, items_follow, no_key}
 use Rattle.handlebars_lines.proofs.LineEnds.{item_no_end}
 use Rattle.handlebars_lines.proofs.LinesRead.{events, item_events, IsAllowed, nested_group, events_group, pair_group}
 
 -- ---- steps: a parenthesis, a literal, a path
 
-parameter_opens : (key : Option (List ℕ)) (n : ℕ) (w t : List ℕ) → IsWhite w → starts begins t ≡ true → parameter_step key n (40 ∷ (w ++ t)) ≡ goes (opened key (suc n)) (state at_name (suc n)) t
+parameter_opens : (key : Option (List ℕ)) (n : ℕ) (w t : List ℕ) → IsWhite w → starts begins t ≡ true → parameter_step key n (40 ∷ (w ++ t)) ≡ goes (opened key (suc n)) (line_stand at_name (suc n)) t
 unfolding parameter_step
 parameter_opens key n w t white start =
     rw (after-same 40 (w ++ t), behind_white-append w t white (begins_no_white t start)) refl
 
-name_opens : (around : Enclosure) (n : ℕ) (w t : List ℕ) → IsWhite w → starts begins t ≡ true → line_step around (state at_name n) (40 ∷ (w ++ t)) ≡ goes (opened None (suc n)) (state at_name (suc n)) t
+name_opens : (around : Enclosure) (n : ℕ) (w t : List ℕ) → IsWhite w → starts begins t ≡ true → line_step around (line_stand at_name n) (40 ∷ (w ++ t)) ≡ goes (opened None (suc n)) (line_stand at_name (suc n)) t
 unfolding line_step name_step
 name_opens around n w t white start =
     rw (after-same 40 (w ++ t), behind_white-append w t white (begins_no_white t start)) refl
@@ -41,12 +40,12 @@ literal_no_parenthesis : (l : Literal) (rest : List ℕ) → IsLiteral l → aft
 literal_no_parenthesis l rest fits =
     single_no_parenthesis (spelled_literal l ++ rest) (starts-append begins_single (spelled_literal l) rest (literal_begins l fits))
 
-name_goes_on : (around : Enclosure) (n : ℕ) (t rest : List ℕ) (means : Reference) → IsPath t means → Follows rest → line_step around (state at_name n) (t ++ rest) ≡ goes (path_event None t n) (state (behind_name t) n) rest
+name_goes_on : (around : Enclosure) (n : ℕ) (t rest : List ℕ) (means : Reference) → IsPath t means → Follows rest → line_step around (line_stand at_name n) (t ++ rest) ≡ goes (path_event None t n) (line_stand (behind_name t) n) rest
 unfolding line_step name_step
 name_goes_on around n t rest means h f =
     rw (path_no_parenthesis t rest means h, slice_at-stops t rest means h (follows_stops rest f)) refl
 
-literal_goes_on : (key : Option (List ℕ)) (n : ℕ) (l : Literal) (rest : List ℕ) → IsLiteral l → starts goes_on rest ≡ false → parameter_step key n (spelled_literal l ++ rest) ≡ goes (literal_event key (spelled_literal l) (n + literal_depth l)) (state at_items n) rest
+literal_goes_on : (key : Option (List ℕ)) (n : ℕ) (l : Literal) (rest : List ℕ) → IsLiteral l → starts goes_on rest ≡ false → parameter_step key n (spelled_literal l ++ rest) ≡ goes (literal_event key (spelled_literal l) (n + literal_depth l)) (line_stand at_items n) rest
 unfolding parameter_step
 literal_goes_on key n l rest fits stop =
     let f = literal_at-finds (spelled_literal l ++ rest) l rest (record { whole = refl; fits = fits; stops = stop }) in
@@ -57,7 +56,7 @@ not_excluded None t means e = e
 not_excluded (Some key) t means e = refl
 
 path_goes_on : (key : Option (List ℕ)) (n : ℕ) (t rest : List ℕ) (means : Reference) → IsPath t means → IsChosen (path_shape t means) rest → IsAllowed key (path_shape t means) → Follows rest
-    → parameter_step key n (t ++ rest) ≡ goes (path_event key t n) (state at_items n) rest
+    → parameter_step key n (t ++ rest) ≡ goes (path_event key t n) (line_stand at_items n) rest
 unfolding parameter_step
 path_goes_on key n t rest means h chosen allowed f =
     rw (path_no_parenthesis t rest means h, literal_at-missing (t ++ rest) chosen, slice_at-stops t rest means h (follows_stops rest f), not_excluded key t means allowed) refl
@@ -69,7 +68,7 @@ white_first [] t white some = absurd (some refl)
 white_first (b ∷ w) t white some = white.0
 
 -- where the step of an item goes on, so does that of the line
-item_at : (around : Enclosure) (n : ℕ) (w t : List ℕ) (x : Event) (s' : State) (t' : List ℕ) → IsWhite w → w ≢ [] → starts begins t ≡ true → item_step n t ≡ goes x s' t' → line_step around (state at_items n) (w ++ t) ≡ goes x s' t'
+item_at : (around : Enclosure) (n : ℕ) (w t : List ℕ) (x : Event) (s' : LineStand) (t' : List ℕ) → IsWhite w → w ≢ [] → starts begins t ≡ true → item_step n t ≡ goes x s' t' → line_step around (line_stand at_items n) (w ++ t) ≡ goes x s' t'
 unfolding line_step behind_step
 item_at around zero w t x s' t' white some start e =
     let dark = behind_white-append w t white (begins_no_white t start) in
@@ -80,26 +79,26 @@ item_at around (suc n) w t x s' t' white some start e =
     rw (eqb-suc-zero n, dark, no_shut, white_first w t white some) e
 
 -- where the step of a parameter goes on, so does that of the line
-abbrev GoesAt : Enclosure → State → List ℕ → Option (List ℕ) → ℕ → List ℕ → Type 0
-GoesAt around s from key n t = (x : Event) (s' : State) (t' : List ℕ) → parameter_step key n t ≡ goes x s' t' → line_step around s from ≡ goes x s' t'
+abbrev GoesAt : Enclosure → LineStand → List ℕ → Option (List ℕ) → ℕ → List ℕ → Type 0
+GoesAt around s from key n t = (x : Event) (s' : LineStand) (t' : List ℕ) → parameter_step key n t ≡ goes x s' t' → line_step around s from ≡ goes x s' t'
 
-parameter_at : (around : Enclosure) (n : ℕ) (w : List ℕ) (p : Shape) (rest : List ℕ) → IsWhite w → w ≢ [] → Fits p rest → Follows rest → GoesAt around (state at_items n) (w ++ (spelled_shape p ++ rest)) None n (spelled_shape p ++ rest)
+parameter_at : (around : Enclosure) (n : ℕ) (w : List ℕ) (p : TermShape) (rest : List ℕ) → IsWhite w → w ≢ [] → Fits p rest → Follows rest → GoesAt around (line_stand at_items n) (w ++ (spelled_shape p ++ rest)) None n (spelled_shape p ++ rest)
 unfolding item_step
 parameter_at around n w p rest white some fits f x s' t' e =
     item_at around n w (spelled_shape p ++ rest) x s' t' white some (shape_starts p rest rest fits) (rw (no_key p rest fits f) e)
 
-pair_at : (around : Enclosure) (n : ℕ) (w key u v : List ℕ) (p : Shape) (rest : List ℕ) → IsWhite w → w ≢ [] → IsIdentifier key → IsWhite u → IsWhite v → Fits p rest
-    → GoesAt around (state at_items n) (w ++ (key ++ (u ++ 61 ∷ (v ++ (spelled_shape p ++ rest))))) (Some key) n (spelled_shape p ++ rest)
+pair_at : (around : Enclosure) (n : ℕ) (w key u v : List ℕ) (p : TermShape) (rest : List ℕ) → IsWhite w → w ≢ [] → IsIdentifier key → IsWhite u → IsWhite v → Fits p rest
+    → GoesAt around (line_stand at_items n) (w ++ (key ++ (u ++ 61 ∷ (v ++ (spelled_shape p ++ rest))))) (Some key) n (spelled_shape p ++ rest)
 unfolding item_step
 pair_at around n w key u v p rest white some id white-u white-v fits x s' t' e =
     let t : List ℕ = spelled_shape p ++ rest in
     let dark = begins_no_white t (shape_starts p rest rest fits) in
     item_at around n w (key ++ (u ++ 61 ∷ (v ++ t))) x s' t' white some (key_starts key (u ++ 61 ∷ (v ++ t)) id)
-    (rw (key_at-append key u v t id white-u white-v dark) e)
+    (rw (key_and_equals_at-append key u v t id white-u white-v dark) e)
 
 -- ---- steps: what closes
 
-closed_at : (around : Enclosure) (st : Stand) (n : ℕ) (v r : List ℕ) → (st ≡ at_name → ⊥) → IsWhite v → line_step around (state st (suc n)) (v ++ 41 ∷ r) ≡ goes closed (state at_items n) r
+closed_at : (around : Enclosure) (st : Stand) (n : ℕ) (v r : List ℕ) → (st ≡ at_name → ⊥) → IsWhite v → line_step around (line_stand st (suc n)) (v ++ 41 ∷ r) ≡ goes closed (line_stand at_items n) r
 unfolding line_step behind_step
 closed_at around at_name n v r other white = absurd (other refl)
 closed_at around at_items n v r other white =
@@ -109,7 +108,7 @@ closed_at around at_end n v r other white =
     let less : suc n - 1 ≡ n = omega arith in
     rw (eqb-suc-zero n, behind_white-append v (41 ∷ r) white refl, after-same 41 r, less) refl
 
-end_at : (around : Enclosure) (t : List ℕ) → Closes around t → line_step around (state at_items 0) t ≡ ends
+end_at : (around : Enclosure) (t : List ℕ) → Closes around t → line_step around (line_stand at_items 0) t ≡ ends
 unfolding line_step behind_step
 end_at around t h = let is : is_end around t ≡ true = h in rw is refl
 
@@ -123,40 +122,40 @@ starts-mark c [] h = absurd cc
 starts-mark c (b ∷ t) h = let same : b ≡ c = eqb-true b c h in (t, ap (λ (z : ℕ). z ∷ t) same)
 
 -- where a line closes, items or none may follow
-same_end : (around : Enclosure) (n : ℕ) (t : List ℕ) → Closes (enclosed around n) t → line_step around (state at_end n) t ≡ line_step around (state at_items n) t
+same_end : (around : Enclosure) (n : ℕ) (t : List ℕ) → Closes (enclosed around n) t → line_step around (line_stand at_end n) t ≡ line_step around (line_stand at_items n) t
 unfolding line_step behind_step
 same_end around zero t h = let is : is_end around t ≡ true = h in rw is refl
 same_end around (suc n) t h =
     let front = behind_white-skips t in
     let mark = starts-mark 41 (behind_white t) h in
     let whole : t ≡ front.white ++ 41 ∷ mark.0 = front.whole ∙ ap (λ (z : List ℕ). front.white ++ z) mark.1 in
-    let same : (st : Stand) → (st ≡ at_name → ⊥) → line_step around (state st (suc n)) t ≡ goes closed (state at_items n) mark.0 =
-    λ st other. ap (line_step around (state st (suc n))) whole ∙ closed_at around st n front.white mark.0 other front.is in
+    let same : (st : Stand) → (st ≡ at_name → ⊥) → line_step around (line_stand st (suc n)) t ≡ goes closed (line_stand at_items n) mark.0 =
+    λ st other. ap (line_step around (line_stand st (suc n))) whole ∙ closed_at around st n front.white mark.0 other front.is in
     same at_end (λ e. absurd cc) ∙ sym (same at_items (λ e. absurd cc))
 
-end_runs : (around : Enclosure) (n : ℕ) (t : List ℕ) (xs : List Event) (e : List ℕ) → Closes (enclosed around n) t → Runs (line_step around) (state at_items n) t xs e → Runs (line_step around) (state at_end n) t xs e
+end_runs : (around : Enclosure) (n : ℕ) (t : List ℕ) (xs : List Event) (e : List ℕ) → Closes (enclosed around n) t → Runs (line_step around) (line_stand at_items n) t xs e → Runs (line_step around) (line_stand at_end n) t xs e
 end_runs around n t _ _ c (last is) = last (same_end around n t c ∙ is)
 end_runs around n t _ _ c (onward x s' t' {xs} {e} is h) = onward x s' t' (same_end around n t c ∙ is) h
 
 -- ---- behind a name
 
-abbrev pub stand_behind : Shape → Stand
+abbrev pub stand_behind : TermShape → Stand
 stand_behind (literal_shape l) = at_items
 stand_behind (path_shape t means) = behind_name t
 stand_behind (nested_shape w name items v) = at_items
 
 path_stand : (around : Enclosure) (n : ℕ) (t : List ℕ) (means : Reference) (items : Items) (rest : List ℕ) (xs : List Event) (e : List ℕ) → is_name (path_shape t means) items ≡ true → Closes (enclosed around n) rest
-    → Runs (line_step around) (state at_items n) (spelled_items items ++ rest) xs e → Runs (line_step around) (state (behind_name t) n) (spelled_items items ++ rest) xs e
+    → Runs (line_step around) (line_stand at_items n) (spelled_items items ++ rest) xs e → Runs (line_step around) (line_stand (behind_name t) n) (spelled_items items ++ rest) xs e
 path_stand around n t means items rest xs e named closes runs = on (list_all is_symbol t) items refl named runs
   where
-    on : (c : Bool) (items : Items) → list_all is_symbol t ≡ c → is_name (path_shape t means) items ≡ true → Runs (line_step around) (state at_items n) (spelled_items items ++ rest) xs e → Runs (line_step around) (state (behind_name t) n) (spelled_items items ++ rest) xs e
+    on : (c : Bool) (items : Items) → list_all is_symbol t ≡ c → is_name (path_shape t means) items ≡ true → Runs (line_step around) (line_stand at_items n) (spelled_items items ++ rest) xs e → Runs (line_step around) (line_stand (behind_name t) n) (spelled_items items ++ rest) xs e
     on true items all named runs = rw all runs
     on false no_items all named runs = rw all (end_runs around n rest xs e closes runs)
     on false (parameter_item w p more) all named runs = let never : false ≡ true = rw all at named in absurd cc
     on false (pair_item w key u v p more) all named runs = let never : false ≡ true = rw all at named in absurd cc
 
-to_stand : (around : Enclosure) (name : Shape) (items : Items) (n : ℕ) (rest : List ℕ) (xs : List Event) (e : List ℕ) → is_name name items ≡ true → Closes (enclosed around n) rest
-    → Runs (line_step around) (state at_items n) (spelled_items items ++ rest) xs e → Runs (line_step around) (state (stand_behind name) n) (spelled_items items ++ rest) xs e
+to_stand : (around : Enclosure) (name : TermShape) (items : Items) (n : ℕ) (rest : List ℕ) (xs : List Event) (e : List ℕ) → is_name name items ≡ true → Closes (enclosed around n) rest
+    → Runs (line_step around) (line_stand at_items n) (spelled_items items ++ rest) xs e → Runs (line_step around) (line_stand (stand_behind name) n) (spelled_items items ++ rest) xs e
 to_stand around (literal_shape l) items n rest xs e named closes runs = absurd cc
 to_stand around (path_shape t means) items n rest xs e named closes runs = path_stand around n t means items rest xs e named closes runs
 to_stand around (nested_shape w name inner v) items n rest xs e named closes runs = runs
@@ -164,53 +163,53 @@ to_stand around (nested_shape w name inner v) items n rest xs e named closes run
 -- ---- whole lines
 
 -- what is known of a name, and of items
-abbrev NameRuns : Enclosure → Shape → Type 0
-NameRuns around name = (n : ℕ) (t : List ℕ) (xs : List Event) (e : List ℕ) (items : Items) → is_name name items ≡ true → Fits name t → Follows t → Runs (line_step around) (state (stand_behind name) n) t xs e
-    → Runs (line_step around) (state at_name n) (spelled_shape name ++ t) (events n None name ++ xs) e
+abbrev NameRuns : Enclosure → TermShape → Type 0
+NameRuns around name = (n : ℕ) (t : List ℕ) (xs : List Event) (e : List ℕ) (items : Items) → is_name name items ≡ true → Fits name t → Follows t → Runs (line_step around) (line_stand (stand_behind name) n) t xs e
+    → Runs (line_step around) (line_stand at_name n) (spelled_shape name ++ t) (events n None name ++ xs) e
 
 abbrev ItemsRun : Enclosure → Items → Type 0
-ItemsRun around items = (n : ℕ) (rest : List ℕ) (xs : List Event) (e : List ℕ) → AreItems items rest → Closes (enclosed around n) rest → Runs (line_step around) (state at_items n) rest xs e
-    → Runs (line_step around) (state at_items n) (spelled_items items ++ rest) (item_events n items ++ xs) e
+ItemsRun around items = (n : ℕ) (rest : List ℕ) (xs : List Event) (e : List ℕ) → AreItems items rest → Closes (enclosed around n) rest → Runs (line_step around) (line_stand at_items n) rest xs e
+    → Runs (line_step around) (line_stand at_items n) (spelled_items items ++ rest) (item_events n items ++ xs) e
 
 -- a line in parentheses, behind the opening one
-inner_runs : (around : Enclosure) (name : Shape) (items : Items) → NameRuns around name → ItemsRun around items → (n : ℕ) (v t : List ℕ) (xs : List Event) (e : List ℕ) → is_name name items ≡ true → Fits name (spelled_items items ++ (v ++ 41 ∷ t)) → AreItems items (v ++ 41 ∷ t) → IsWhite v
-    → Runs (line_step around) (state at_items n) t xs e → Runs (line_step around) (state at_name (suc n)) (spelled_shape name ++ (spelled_items items ++ (v ++ 41 ∷ t))) (events (suc n) None name ++ (item_events (suc n) items ++ closed ∷ xs)) e
+inner_runs : (around : Enclosure) (name : TermShape) (items : Items) → NameRuns around name → ItemsRun around items → (n : ℕ) (v t : List ℕ) (xs : List Event) (e : List ℕ) → is_name name items ≡ true → Fits name (spelled_items items ++ (v ++ 41 ∷ t)) → AreItems items (v ++ 41 ∷ t) → IsWhite v
+    → Runs (line_step around) (line_stand at_items n) t xs e → Runs (line_step around) (line_stand at_name (suc n)) (spelled_shape name ++ (spelled_items items ++ (v ++ 41 ∷ t))) (events (suc n) None name ++ (item_events (suc n) items ++ closed ∷ xs)) e
 inner_runs around name items name_run items_run n v t xs e named fits are_items white runs =
     let behind : List ℕ = v ++ 41 ∷ t in
     let closes : Closes in_parentheses behind = rw (behind_white-append v (41 ∷ t) white refl) refl in
-    let shuts = onward closed (state at_items n) t (closed_at around at_items n v t (λ same. absurd cc) white) runs in
+    let shuts = onward closed (line_stand at_items n) t (closed_at around at_items n v t (λ same. absurd cc) white) runs in
     let others = items_run (suc n) behind (closed ∷ xs) e are_items closes shuts in
     name_run (suc n) (spelled_items items ++ behind) (item_events (suc n) items ++ closed ∷ xs) e items named fits (items_follow in_parentheses items behind are_items closes)
     (to_stand around name items (suc n) behind (item_events (suc n) items ++ closed ∷ xs) e named closes others)
 
 mutual
   -- a name, and what stands behind it
-  name_runs : (around : Enclosure) (name : Shape) → NameRuns around name
+  name_runs : (around : Enclosure) (name : TermShape) → NameRuns around name
   name_runs around (literal_shape l) n t xs e items named fits f runs = absurd cc
-  name_runs around (path_shape p means) n t xs e items named fits f runs = onward (path_event None p n) (state (behind_name p) n) t (name_goes_on around n p t means fits f) runs
+  name_runs around (path_shape p means) n t xs e items named fits f runs = onward (path_event None p n) (line_stand (behind_name p) n) t (name_goes_on around n p t means fits f) runs
   name_runs around (nested_shape w name inner v) n t xs e items named fits f runs =
       let behind : List ℕ = v ++ 41 ∷ t in
       let inside : List ℕ = spelled_shape name ++ (spelled_items inner ++ behind) in
       let go = inner_runs around name inner (name_runs around name) (items_run around inner) n v t xs e fits.1 fits.2 fits.3 fits.4 runs in
       let start = shape_starts name (spelled_items inner ++ behind) (spelled_items inner ++ behind) fits.2 in
-      let whole = onward (opened None (suc n)) (state at_name (suc n)) inside (name_opens around n w inside fits.0 start) go in
-      subst (λ (z : List ℕ). Runs (line_step around) (state at_name n) (40 ∷ z) (events n None (nested_shape w name inner v) ++ xs) e) (nested_group w (spelled_shape name) (spelled_items inner) v t)
-      (subst (λ (z : List Event). Runs (line_step around) (state at_name n) (40 ∷ (w ++ inside)) (opened None (suc n) ∷ z) e) (events_group (events (suc n) None name) (item_events (suc n) inner) xs) whole)
+      let whole = onward (opened None (suc n)) (line_stand at_name (suc n)) inside (name_opens around n w inside fits.0 start) go in
+      subst (λ (z : List ℕ). Runs (line_step around) (line_stand at_name n) (40 ∷ z) (events n None (nested_shape w name inner v) ++ xs) e) (nested_group w (spelled_shape name) (spelled_items inner) v t)
+      (subst (λ (z : List Event). Runs (line_step around) (line_stand at_name n) (40 ∷ (w ++ inside)) (opened None (suc n) ∷ z) e) (events_group (events (suc n) None name) (item_events (suc n) inner) xs) whole)
 
   -- a parameter, from where its step is taken
-  parameter_runs : (around : Enclosure) (p : Shape) (key : Option (List ℕ)) (n : ℕ) (t : List ℕ) (xs : List Event) (e : List ℕ) (s : State) (from : List ℕ) → IsChosen p t → IsAllowed key p → Fits p t → Follows t
-      → Runs (line_step around) (state at_items n) t xs e → GoesAt around s from key n (spelled_shape p ++ t) → Runs (line_step around) s from (events n key p ++ xs) e
-  parameter_runs around (literal_shape l) key n t xs e s from chosen allowed fits f runs step = onward (literal_event key (spelled_literal l) (n + literal_depth l)) (state at_items n) t (step (literal_event key (spelled_literal l) (n + literal_depth l)) (state at_items n) t (literal_goes_on key n l t fits chosen)) runs
-  parameter_runs around (path_shape p means) key n t xs e s from chosen allowed fits f runs step = onward (path_event key p n) (state at_items n) t (step (path_event key p n) (state at_items n) t (path_goes_on key n p t means fits chosen allowed f)) runs
+  parameter_runs : (around : Enclosure) (p : TermShape) (key : Option (List ℕ)) (n : ℕ) (t : List ℕ) (xs : List Event) (e : List ℕ) (s : LineStand) (from : List ℕ) → IsChosen p t → IsAllowed key p → Fits p t → Follows t
+      → Runs (line_step around) (line_stand at_items n) t xs e → GoesAt around s from key n (spelled_shape p ++ t) → Runs (line_step around) s from (events n key p ++ xs) e
+  parameter_runs around (literal_shape l) key n t xs e s from chosen allowed fits f runs step = onward (literal_event key (spelled_literal l) (n + literal_depth l)) (line_stand at_items n) t (step (literal_event key (spelled_literal l) (n + literal_depth l)) (line_stand at_items n) t (literal_goes_on key n l t fits chosen)) runs
+  parameter_runs around (path_shape p means) key n t xs e s from chosen allowed fits f runs step = onward (path_event key p n) (line_stand at_items n) t (step (path_event key p n) (line_stand at_items n) t (path_goes_on key n p t means fits chosen allowed f)) runs
   parameter_runs around (nested_shape w name inner v) key n t xs e s from chosen allowed fits f runs step =
       let behind : List ℕ = v ++ 41 ∷ t in
       let inside : List ℕ = spelled_shape name ++ (spelled_items inner ++ behind) in
       let go = inner_runs around name inner (name_runs around name) (items_run around inner) n v t xs e fits.1 fits.2 fits.3 fits.4 runs in
       let start = shape_starts name (spelled_items inner ++ behind) (spelled_items inner ++ behind) fits.2 in
       let same : 40 ∷ (w ++ inside) ≡ spelled_shape (nested_shape w name inner v) ++ t = ap (λ (z : List ℕ). 40 ∷ z) (nested_group w (spelled_shape name) (spelled_items inner) v t) in
-      let taken : line_step around s from ≡ goes (opened key (suc n)) (state at_name (suc n)) inside =
-      step (opened key (suc n)) (state at_name (suc n)) inside (ap (parameter_step key n) (sym same) ∙ parameter_opens key n w inside fits.0 start) in
-      let whole = onward (opened key (suc n)) (state at_name (suc n)) inside taken go in
+      let taken : line_step around s from ≡ goes (opened key (suc n)) (line_stand at_name (suc n)) inside =
+      step (opened key (suc n)) (line_stand at_name (suc n)) inside (ap (parameter_step key n) (sym same) ∙ parameter_opens key n w inside fits.0 start) in
+      let whole = onward (opened key (suc n)) (line_stand at_name (suc n)) inside taken go in
       subst (λ (z : List Event). Runs (line_step around) s from (opened key (suc n) ∷ z) e) (events_group (events (suc n) None name) (item_events (suc n) inner) xs) whole
 
   items_run : (around : Enclosure) (items : Items) → ItemsRun around items
@@ -219,20 +218,20 @@ mutual
       let behind : List ℕ = spelled_items more ++ rest in
       let follow = items_follow (enclosed around n) more rest fits.5 closes in
       let others = items_run around more n rest xs e fits.5 closes runs in
-      let first = parameter_runs around p None n behind (item_events n more ++ xs) e (state at_items n) (w ++ (spelled_shape p ++ behind)) fits.3 fits.2 fits.4 follow others (parameter_at around n w p behind fits.0 fits.1 fits.4 follow) in
-      subst (λ (z : List ℕ). Runs (line_step around) (state at_items n) z (item_events n (parameter_item w p more) ++ xs) e) (regroup_four w (spelled_shape p) (spelled_items more) rest)
-      (subst (λ (z : List Event). Runs (line_step around) (state at_items n) (w ++ (spelled_shape p ++ behind)) z e) (sym (append_assoc (events n None p) (item_events n more) xs)) first)
+      let first = parameter_runs around p None n behind (item_events n more ++ xs) e (line_stand at_items n) (w ++ (spelled_shape p ++ behind)) fits.3 fits.2 fits.4 follow others (parameter_at around n w p behind fits.0 fits.1 fits.4 follow) in
+      subst (λ (z : List ℕ). Runs (line_step around) (line_stand at_items n) z (item_events n (parameter_item w p more) ++ xs) e) (regroup_four w (spelled_shape p) (spelled_items more) rest)
+      (subst (λ (z : List Event). Runs (line_step around) (line_stand at_items n) (w ++ (spelled_shape p ++ behind)) z e) (sym (append_assoc (events n None p) (item_events n more) xs)) first)
   items_run around (pair_item w key u v p more) n rest xs e fits closes runs =
       let behind : List ℕ = spelled_items more ++ rest in
       let from : List ℕ = w ++ (key ++ (u ++ 61 ∷ (v ++ (spelled_shape p ++ behind)))) in
       let follow = items_follow (enclosed around n) more rest fits.7 closes in
       let others = items_run around more n rest xs e fits.7 closes runs in
-      let first = parameter_runs around p (Some key) n behind (item_events n more ++ xs) e (state at_items n) from fits.5 tt fits.6 follow others (pair_at around n w key u v p behind fits.0 fits.1 fits.2 fits.3 fits.4 fits.6) in
-      subst (λ (z : List ℕ). Runs (line_step around) (state at_items n) z (item_events n (pair_item w key u v p more) ++ xs) e) (pair_group w key u v (spelled_shape p) (spelled_items more) rest)
-      (subst (λ (z : List Event). Runs (line_step around) (state at_items n) from z e) (sym (append_assoc (events n (Some key) p) (item_events n more) xs)) first)
+      let first = parameter_runs around p (Some key) n behind (item_events n more ++ xs) e (line_stand at_items n) from fits.5 tt fits.6 follow others (pair_at around n w key u v p behind fits.0 fits.1 fits.2 fits.3 fits.4 fits.6) in
+      subst (λ (z : List ℕ). Runs (line_step around) (line_stand at_items n) z (item_events n (pair_item w key u v p more) ++ xs) e) (pair_group w key u v (spelled_shape p) (spelled_items more) rest)
+      (subst (λ (z : List Event). Runs (line_step around) (line_stand at_items n) from z e) (sym (append_assoc (events n (Some key) p) (item_events n more) xs)) first)
 
-pub line_runs : (around : Enclosure) (name : Shape) (items : Items) (t : List ℕ) → is_name name items ≡ true → Fits name (spelled_items items ++ t) → AreItems items t → Closes around t
-    → Runs (line_step around) (state at_name 0) (spelled_shape name ++ (spelled_items items ++ t)) (events 0 None name ++ (item_events 0 items ++ [])) t
+pub line_runs : (around : Enclosure) (name : TermShape) (items : Items) (t : List ℕ) → is_name name items ≡ true → Fits name (spelled_items items ++ t) → AreItems items t → Closes around t
+    → Runs (line_step around) (line_stand at_name 0) (spelled_shape name ++ (spelled_items items ++ t)) (events 0 None name ++ (item_events 0 items ++ [])) t
 line_runs around name items t named fits are_items closes =
     let others = items_run around items 0 t [] t are_items closes (last (end_at around t closes)) in
     name_runs around name 0 (spelled_items items ++ t) (item_events 0 items ++ []) t items named fits (items_follow around items t are_items closes) (to_stand around name items 0 t (item_events 0 items ++ []) t named closes others)

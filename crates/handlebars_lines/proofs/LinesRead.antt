@@ -3,15 +3,16 @@ use Rattle.std.proofs.Common.{◌≡◌, ◌≢◌, ℕ, zero, suc, ◌+◌, Boo
 use Rattle.std.specs.List.{list_all}
 use Rattle.std.proofs.Math.Bool.{or-true}
 use Rattle.std.proofs.lemmas.Option.{none-some}
-use Rattle.handlebars_base.specs.Path.{is_symbol, IsIdentifier, Reference, IsPath}
+use Rattle.handlebars_base.specs.Path.{IsIdentifier, Reference, IsPath}
+use Rattle.handlebars_base.specs.Bytes.{is_symbol}
 use Rattle.handlebars_base.specs.Texts.{IsWhite, starts}
 use Rattle.handlebars_base.proofs.Ends.{regroup_four}
 use Rattle.handlebars_lines.specs.Runs.{ends}
 use Rattle.handlebars_lines.specs.Literal.{Literal, spelled_literal, literal_depth, goes_on}
 use Rattle.handlebars_lines.specs.LiteralReading.{literal_at}
-use Rattle.handlebars_lines.specs.Parameter.{Shape, literal_shape, path_shape, nested_shape, Items, no_items, parameter_item, pair_item, spelled_shape, spelled_items, is_name, IsFree, IsChosen, Fits, AreItems}
+use Rattle.handlebars_lines.specs.Parameter.{TermShape, literal_shape, path_shape, nested_shape, Items, no_items, parameter_item, pair_item, spelled_shape, spelled_items, is_name, IsFree, IsChosen, Fits, AreItems}
 use Rattle.handlebars_lines.specs.Line.{Enclosure, Closes}
-use Rattle.handlebars_lines.specs.LineReading.{Event, opened, literal_event, path_event, closed, Stand, at_name, at_items, at_end, State, behind_name, is_excluded, line_step}
+use Rattle.handlebars_lines.specs.LineReading.{Event, opened, literal_event, path_event, closed, Stand, at_name, at_items, at_end, LineStand, behind_name, is_excluded, line_step}
 use Rattle.handlebars_lines.proofs.Stepping.{Runs, last, onward}
 use Rattle.handlebars_lines.proofs.LineMarks.{literal_at-finds}
 use Rattle.handlebars_lines.proofs.LineSteps.{ParameterStepped, to_nested, to_literal, to_path, LineStepped, to_inner, to_name, to_parameter, to_pair, to_closed, line_stepped, line_ends}
@@ -19,7 +20,7 @@ use Rattle.handlebars_lines.proofs.LineSteps.{ParameterStepped, to_nested, to_li
 -- ---- what the steps find of a line
 
 abbrev mutual
-  pub events : ℕ → Option (List ℕ) → Shape → List Event
+  pub events : ℕ → Option (List ℕ) → TermShape → List Event
   events n key (literal_shape l) = literal_event key (spelled_literal l) (n + literal_depth l) ∷ []
   events n key (path_shape t means) = path_event key t n ∷ []
   events n key (nested_shape w name items v) =
@@ -48,7 +49,7 @@ pub record ItemsThen (around : Enclosure) (n : ℕ) (t : List ℕ) (xs : List Ev
   pub shuts : Shuts around n rest others e
 
 pub record LineThen (around : Enclosure) (n : ℕ) (t : List ℕ) (xs : List Event) (e : List ℕ) : Type 0 where
-  pub name : Shape
+  pub name : TermShape
   pub items : Items
   pub rest : List ℕ
   pub others : List Event
@@ -64,17 +65,17 @@ Reads around at_name n t xs e = LineThen around n t xs e
 Reads around at_items n t xs e = ItemsThen around n t xs e
 Reads around at_end n t xs e = Shuts around n t xs e
 
-abbrev pub ReadsAt : Enclosure → State → List ℕ → List Event → List ℕ → Type 0
+abbrev pub ReadsAt : Enclosure → LineStand → List ℕ → List Event → List ℕ → Type 0
 ReadsAt around s t xs e = Reads around s.stand s.level t xs e
 
 -- a reserved word only behind a key
-abbrev pub IsAllowed : Option (List ℕ) → Shape → Type 0
+abbrev pub IsAllowed : Option (List ℕ) → TermShape → Type 0
 IsAllowed None p = IsFree p
 IsAllowed (Some key) p = Unit {0}
 
 -- a parameter, the items behind it, and what closes
 pub record ParameterThen (around : Enclosure) (key : Option (List ℕ)) (n : ℕ) (t : List ℕ) (xs : List Event) (e : List ℕ) : Type 0 where
-  pub first : Shape
+  pub first : TermShape
   pub items : Items
   pub rest : List ℕ
   pub others : List Event
@@ -90,7 +91,7 @@ pub record ParameterThen (around : Enclosure) (key : Option (List ℕ)) (n : ℕ
 
 pub record NestedThen (around : Enclosure) (key : Option (List ℕ)) (n : ℕ) (t : List ℕ) (xs : List Event) (e : List ℕ) : Type 0 where
   pub white : List ℕ
-  pub name : Shape
+  pub name : TermShape
   pub inner : Items
   pub behind : List ℕ
   pub items : Items
@@ -141,16 +142,16 @@ allowed_literal : (key : Option (List ℕ)) (l : Literal) → IsAllowed key (lit
 allowed_literal None l = tt
 allowed_literal (Some key) l = tt
 
-allowed_nested : (key : Option (List ℕ)) (w : List ℕ) (name : Shape) (items : Items) (v : List ℕ) → IsAllowed key (nested_shape w name items v)
+allowed_nested : (key : Option (List ℕ)) (w : List ℕ) (name : TermShape) (items : Items) (v : List ℕ) → IsAllowed key (nested_shape w name items v)
 allowed_nested None w name items v = tt
 allowed_nested (Some key) w name items v = tt
 
 pub path_chosen : (raw rest : List ℕ) (means : Reference) → literal_at (raw ++ rest) ≡ None → IsChosen (path_shape raw means) rest
 path_chosen raw rest means none l behind at = none-some _ (sym none ∙ (literal_at-finds (raw ++ rest) l behind at).found)
 
-parameter_then : (around : Enclosure) (key : Option (List ℕ)) (n : ℕ) (t : List ℕ) (x : Event) (s' : State) (t' : List ℕ) (xs : List Event) (e : List ℕ) → ParameterStepped key n t x s' t' → ReadsAt around s' t' xs e → ParameterThen around key n t (x ∷ xs) e
+parameter_then : (around : Enclosure) (key : Option (List ℕ)) (n : ℕ) (t : List ℕ) (x : Event) (s' : LineStand) (t' : List ℕ) (xs : List Event) (e : List ℕ) → ParameterStepped key n t x s' t' → ReadsAt around s' t' xs e → ParameterThen around key n t (x ∷ xs) e
 parameter_then around key n t x s' t' xs e (to_nested w is ev white whole) after =
-    let line : LineThen around (suc n) t' xs e = subst (λ (z : State). ReadsAt around z t' xs e) is after in
+    let line : LineThen around (suc n) t' xs e = subst (λ (z : LineStand). ReadsAt around z t' xs e) is after in
     let h = nested_then around key n w t t' xs e white whole line in
     record {
       first = nested_shape h.white h.name h.inner h.behind;
@@ -166,7 +167,7 @@ parameter_then around key n t x s' t' xs e (to_nested w is ev white whole) after
       shuts = h.shuts;
     }
 parameter_then around key n t x s' t' xs e (to_literal l is ev at) after =
-    let then : ItemsThen around n t' xs e = subst (λ (z : State). ReadsAt around z t' xs e) is after in
+    let then : ItemsThen around n t' xs e = subst (λ (z : LineStand). ReadsAt around z t' xs e) is after in
     record {
       first = literal_shape l;
       items = then.items;
@@ -181,7 +182,7 @@ parameter_then around key n t x s' t' xs e (to_literal l is ev at) after =
       shuts = then.shuts;
     }
 parameter_then around key n t x s' t' xs e (to_path raw means is ev whole h none fine) after =
-    let then : ItemsThen around n t' xs e = subst (λ (z : State). ReadsAt around z t' xs e) is after in
+    let then : ItemsThen around n t' xs e = subst (λ (z : LineStand). ReadsAt around z t' xs e) is after in
     let all : t ≡ raw ++ (spelled_items then.items ++ then.rest) = whole ∙ ap (λ (z : List ℕ). raw ++ z) then.whole in
     record {
       first = path_shape raw means;
@@ -275,11 +276,11 @@ shuts_read around at_name n t xs e other h = absurd (other refl)
 shuts_read around at_items n t xs e other h = record { items = no_items; rest = t; others = xs; are_items = tt; whole = refl; found = refl; shuts = h }
 shuts_read around at_end n t xs e other h = h
 
-step_read : (around : Enclosure) (s : State) (t : List ℕ) (x : Event) (s' : State) (t' : List ℕ) (xs : List Event) (e : List ℕ) → LineStepped s t x s' t' → ReadsAt around s' t' xs e → ReadsAt around s t (x ∷ xs) e
+step_read : (around : Enclosure) (s : LineStand) (t : List ℕ) (x : Event) (s' : LineStand) (t' : List ℕ) (xs : List Event) (e : List ℕ) → LineStepped s t x s' t' → ReadsAt around s' t' xs e → ReadsAt around s t (x ∷ xs) e
 step_read around s t x s' t' xs e (to_inner n w is is' ev white whole) after =
-    let line : LineThen around (suc n) t' xs e = subst (λ (z : State). ReadsAt around z t' xs e) is' after in
+    let line : LineThen around (suc n) t' xs e = subst (λ (z : LineStand). ReadsAt around z t' xs e) is' after in
     let h = nested_then around None n w t t' xs e white whole line in
-    subst (λ (z : State). ReadsAt around z t (x ∷ xs) e) (sym is) (record {
+    subst (λ (z : LineStand). ReadsAt around z t (x ∷ xs) e) (sym is) (record {
       name = nested_shape h.white h.name h.inner h.behind;
       items = h.items;
       rest = h.rest;
@@ -292,25 +293,25 @@ step_read around s t x s' t' xs e (to_inner n w is is' ev white whole) after =
       shuts = h.shuts;
     })
 step_read around s t x s' t' xs e (to_name n raw means is is' ev whole h) after =
-    let then : Reads around (behind_name raw) n t' xs e = subst (λ (z : State). ReadsAt around z t' xs e) is' after in
+    let then : Reads around (behind_name raw) n t' xs e = subst (λ (z : LineStand). ReadsAt around z t' xs e) is' after in
     let line = name_then around n raw t t' means xs e whole h then in
-    subst (λ (z : State). ReadsAt around z t (x ∷ xs) e) (sym is) (subst (λ (z : Event). LineThen around n t (z ∷ xs) e) (sym ev) line)
+    subst (λ (z : LineStand). ReadsAt around z t (x ∷ xs) e) (sym is) (subst (λ (z : Event). LineThen around n t (z ∷ xs) e) (sym ev) line)
 step_read around s t x s' t' xs e (to_parameter n w r is white some whole p) after =
-    subst (λ (z : State). ReadsAt around z t (x ∷ xs) e) (sym is)
+    subst (λ (z : LineStand). ReadsAt around z t (x ∷ xs) e) (sym is)
     (parameter_item_then around n w r t (x ∷ xs) e white some whole (parameter_then around None n r x s' t' xs e p after))
 step_read around s t x s' t' xs e (to_pair n w key u v r is white some id white-u white-v whole p) after =
-    subst (λ (z : State). ReadsAt around z t (x ∷ xs) e) (sym is)
+    subst (λ (z : LineStand). ReadsAt around z t (x ∷ xs) e) (sym is)
     (pair_item_then around n w key u v r t (x ∷ xs) e white some id white-u white-v whole (parameter_then around (Some key) n r x s' t' xs e p after))
 step_read around s t x s' t' xs e (to_closed n st w is other is' ev white whole) after =
-    let then : ItemsThen around n t' xs e = subst (λ (z : State). ReadsAt around z t' xs e) is' after in
+    let then : ItemsThen around n t' xs e = subst (λ (z : LineStand). ReadsAt around z t' xs e) is' after in
     let h = shuts_read around st (suc n) t (closed ∷ xs) e other (closed_then around n w t t' xs e white whole then) in
-    subst (λ (z : State). ReadsAt around z t (x ∷ xs) e) (sym is) (subst (λ (z : Event). Reads around st (suc n) t (z ∷ xs) e) (sym ev) h)
+    subst (λ (z : LineStand). ReadsAt around z t (x ∷ xs) e) (sym is) (subst (λ (z : Event). Reads around st (suc n) t (z ∷ xs) e) (sym ev) h)
 
-end_read : (around : Enclosure) (s : State) (t : List ℕ) → line_step around s t ≡ ends → ReadsAt around s t [] t
+end_read : (around : Enclosure) (s : LineStand) (t : List ℕ) → line_step around s t ≡ ends → ReadsAt around s t [] t
 end_read around s t e =
     let h = line_ends around s t e in
     shuts_read around s.stand s.level t [] t h.other (subst (λ (z : ℕ). Shuts around z t [] t) (sym h.level) (h.closes, refl, refl))
 
-pub runs_read : (around : Enclosure) (s : State) (t : List ℕ) (xs : List Event) (e : List ℕ) → Runs (line_step around) s t xs e → ReadsAt around s t xs e
+pub runs_read : (around : Enclosure) (s : LineStand) (t : List ℕ) (xs : List Event) (e : List ℕ) → Runs (line_step around) s t xs e → ReadsAt around s t xs e
 runs_read around s t _ _ (last is) = end_read around s t is
 runs_read around s t _ _ (onward x s' t' {xs} {e} is h) = step_read around s t x s' t' xs e (line_stepped around s t x s' t' is) (runs_read around s' t' xs e h)

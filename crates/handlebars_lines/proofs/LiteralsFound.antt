@@ -3,15 +3,14 @@ use Rattle.std.proofs.Common.{is_some, ◌≡◌, ℕ, suc, ◌+◌, ◌-◌, �
 use Rattle.std.specs.Prelude.{◌==◌}
 use Rattle.std.proofs.lemmas.Option.{same_Some}
 use Rattle.handlebars_base.specs.Bytes.{is_white, behind_white}
-use Rattle.handlebars_base.specs.PathReading.{after}
 use Rattle.handlebars_base.proofs.OptionBinds.{bind_some, guard_some}
-use Rattle.handlebars_base.specs.Texts.{IsWhite, starts}
+use Rattle.handlebars_base.specs.Texts.{IsWhite, starts, after}
 use Rattle.handlebars_base.proofs.Fronts.{behind_white-append, starts-other, starts-append, after-not, after-same}
 use Rattle.handlebars_base.proofs.Bytes.{other_byte}
 use Rattle.handlebars_base.proofs.Ends.{take-front}
 use Rattle.handlebars_lines.specs.Runs.{goes, run}
 use Rattle.handlebars_lines.specs.Literal.{is_inner, is_number, is_kept, is_word, Bracket, array, object, opener, closer, Lead, unnamed, keyed, spelled_lead, IsLead, Literal, quoted, single_quoted, number, word, empty, filled, Entries, closing, another, spelled_literal, spelled_entries, is_element, IsLiteral, AreEntries, literal_depth, entries_depth, keeps_numbers, keeps_numbers_in, goes_on}
-use Rattle.handlebars_lines.specs.LiteralReading.{behind_quote, plain_at, undoubled_at, atom_at, keeps_at, key_at, behind_lead, Token, atom, hollow, opening, next, shutting, finished, misfit, bracket_token, value_token, entry_token, Place, ahead, behind, innermost, Find, opens, reads, taken, literal_step, most, all_kept, Slice, cut_to, slice_in, literal_at}
+use Rattle.handlebars_lines.specs.LiteralReading.{behind_quote, plain_at, undoubled_at, unbracketed_at, keeps_at, behind_key, behind_lead, Token, unbracketed, empty_brackets, opening_bracket, another_entry, closing_bracket, literal_end, no_token, bracket_token, value_token, entry_token, Place, ahead, behind, innermost, Find, opens, reads, taken, literal_step, most, all_kept, LiteralSlice, cut_to, slice_in, literal_at}
 use Rattle.handlebars_lines.specs.Laws.{HasLiteral, NoLiteral}
 use Rattle.handlebars_lines.proofs.Fronts.{run_of-append, behind_run-append, behind_quote-append, white_goes_on}
 use Rattle.handlebars_lines.proofs.Stepping.{Runs, last, onward, Shortens, run-runs, run-some}
@@ -22,13 +21,13 @@ use Rattle.handlebars_lines.proofs.LiteralsRead.{heights, entry_heights, regroup
 -- ---- a step takes a byte at least
 
 taken_left : (ks : List Bracket) (token : Token) (x : Find) (s' : Place) (t' : List ℕ) → taken ks token ≡ goes x s' t' → left_of token ≡ Some t'
-taken_left ks (atom kept r) x s' t' is = cc
-taken_left ks (hollow r) x s' t' is = cc
-taken_left ks (opening k r) x s' t' is = cc
-taken_left ks (next r) x s' t' is = cc
-taken_left ks (shutting r) x s' t' is = cc
-taken_left ks finished x s' t' is = absurd cc
-taken_left ks misfit x s' t' is = absurd cc
+taken_left ks (unbracketed kept r) x s' t' is = cc
+taken_left ks (empty_brackets r) x s' t' is = cc
+taken_left ks (opening_bracket k r) x s' t' is = cc
+taken_left ks (another_entry r) x s' t' is = cc
+taken_left ks (closing_bracket r) x s' t' is = cc
+taken_left ks literal_end x s' t' is = absurd cc
+taken_left ks no_token x s' t' is = absurd cc
 
 pub step_shorter : (s : Place) (t : List ℕ) (x : Find) (s' : Place) (t' : List ℕ) → literal_step s t ≡ goes x s' t' → Shorter t t'
 step_shorter (ahead ks) t x s' t' is = value_shorter (is_some (innermost ks)) t t' (value_token (is_some (innermost ks)) t) (value_tells (is_some (innermost ks)) t) (taken_left ks (value_token (is_some (innermost ks)) t) x s' t' is)
@@ -83,8 +82,8 @@ entries_begin k (another lead l w more) rest = refl
 pub no_mark : (c : ℕ) (t : List ℕ) → goes_on c ≡ false → starts goes_on t ≡ true → after c t ≡ None
 no_mark c t never h = after-not c t (starts-other goes_on (λ b. b == c) t (other_byte goes_on c never) h)
 
-atom_plain : (inside kept : Bool) (n rest : List ℕ) → (is_number n || is_word n) ≡ true → (not (is_number n) || is_kept n) ≡ kept → starts goes_on rest ≡ false → value_token inside (n ++ rest) ≡ atom kept rest
-unfolding value_token atom_at undoubled_at plain_at keeps_at
+atom_plain : (inside kept : Bool) (n rest : List ℕ) → (is_number n || is_word n) ≡ true → (not (is_number n) || is_kept n) ≡ kept → starts goes_on rest ≡ false → value_token inside (n ++ rest) ≡ unbracketed kept rest
+unfolding value_token unbracketed_at undoubled_at plain_at keeps_at
 atom_plain true kept n rest fits keeps stop =
     let goes_so = plain_goes_on n fits in
     let first = starts-append goes_on n rest (plain_begins n goes_so) in
@@ -94,15 +93,15 @@ atom_plain false kept n rest fits keeps stop =
     let first = starts-append goes_on n rest (plain_begins n goes_so) in
     rw (no_mark 91 (n ++ rest) refl first, no_mark 123 (n ++ rest) refl first, no_mark 34 (n ++ rest) refl first, no_mark 39 (n ++ rest) refl first, run_of-append n rest goes_so.all stop, behind_run-append n rest goes_so.all stop, fits, keeps) refl
 
-atom_quoted : (inside : Bool) (s rest : List ℕ) → is_inner 34 false s ≡ true → value_token inside (34 ∷ ((s ++ 34 ∷ []) ++ rest)) ≡ atom true rest
-unfolding value_token atom_at
+atom_quoted : (inside : Bool) (s rest : List ℕ) → is_inner 34 false s ≡ true → value_token inside (34 ∷ ((s ++ 34 ∷ []) ++ rest)) ≡ unbracketed true rest
+unfolding value_token unbracketed_at
 atom_quoted inside s rest fits =
     let behind_it : behind_quote 34 false ((s ++ 34 ∷ []) ++ rest) ≡ Some rest = ap (behind_quote 34 false) (append_assoc s (34 ∷ []) rest) ∙ behind_quote-append 34 false s rest fits in
     let text : List ℕ = 34 ∷ ((s ++ 34 ∷ []) ++ rest) in
     rw (after-not 91 (34 ∷ ((s ++ 34 ∷ []) ++ rest)) refl, after-not 123 (34 ∷ ((s ++ 34 ∷ []) ++ rest)) refl, after-same 34 ((s ++ 34 ∷ []) ++ rest), behind_it, sym (keeps_at-quote 34 ((s ++ 34 ∷ []) ++ rest) (34 ∷ ((s ++ 34 ∷ []) ++ rest)) refl refl)) refl
 
-atom_single : (s rest : List ℕ) → is_inner 39 false s ≡ true → value_token false (39 ∷ ((s ++ 39 ∷ []) ++ rest)) ≡ atom true rest
-unfolding value_token atom_at undoubled_at
+atom_single : (s rest : List ℕ) → is_inner 39 false s ≡ true → value_token false (39 ∷ ((s ++ 39 ∷ []) ++ rest)) ≡ unbracketed true rest
+unfolding value_token unbracketed_at undoubled_at
 atom_single s rest fits =
     let behind_it : behind_quote 39 false ((s ++ 39 ∷ []) ++ rest) ≡ Some rest = ap (behind_quote 39 false) (append_assoc s (39 ∷ []) rest) ∙ behind_quote-append 39 false s rest fits in
     rw (after-not 91 (39 ∷ ((s ++ 39 ∷ []) ++ rest)) refl, after-not 123 (39 ∷ ((s ++ 39 ∷ []) ++ rest)) refl, after-not 34 (39 ∷ ((s ++ 39 ∷ []) ++ rest)) refl, after-same 39 ((s ++ 39 ∷ []) ++ rest), behind_it, sym (keeps_at-quote 39 ((s ++ 39 ∷ []) ++ rest) (39 ∷ ((s ++ 39 ∷ []) ++ rest)) refl refl)) refl
@@ -114,7 +113,7 @@ unfolding value_token
 value_bracket inside array t = rw (after-same 91 t) refl
 value_bracket inside object t = rw (after-not 91 (123 ∷ t) refl, after-same 123 t) refl
 
-token_hollow : (k : Bracket) (w rest : List ℕ) → IsWhite w → bracket_token k (behind_white ((w ++ closer k ∷ []) ++ rest)) ≡ hollow rest
+token_hollow : (k : Bracket) (w rest : List ℕ) → IsWhite w → bracket_token k (behind_white ((w ++ closer k ∷ []) ++ rest)) ≡ empty_brackets rest
 unfolding bracket_token
 token_hollow array w rest white =
     let dark : behind_white ((w ++ 93 ∷ []) ++ rest) ≡ 93 ∷ rest = ap behind_white (append_assoc w (93 ∷ []) rest) ∙ behind_white-append w (93 ∷ rest) white refl in
@@ -128,8 +127,8 @@ record ReadsLead (k : Bracket) (u t : List ℕ) : Type 0 where
   leads : behind_lead k u ≡ Some t
   no_closer : after (closer k) u ≡ None
 
-reads_key : (key u v t : List ℕ) → is_inner 34 false key ≡ true → IsWhite u → IsWhite v → starts is_white t ≡ false → key_at (34 ∷ (key ++ 34 ∷ (u ++ 58 ∷ (v ++ t)))) ≡ Some t
-unfolding key_at
+reads_key : (key u v t : List ℕ) → is_inner 34 false key ≡ true → IsWhite u → IsWhite v → starts is_white t ≡ false → behind_key (34 ∷ (key ++ 34 ∷ (u ++ 58 ∷ (v ++ t)))) ≡ Some t
+unfolding behind_key
 reads_key key u v t fits white white' dark =
     rw (after-same 34 (key ++ 34 ∷ (u ++ 58 ∷ (v ++ t))), behind_quote-append 34 false key (u ++ 58 ∷ (v ++ t)) fits, behind_white-append u (58 ∷ (v ++ t)) white refl, after-same 58 (v ++ t), behind_white-append v t white' dark) refl
 
@@ -145,29 +144,29 @@ reads_lead object (keyed w key u v) t fits begins =
     let dark : behind_white ((w ++ 34 ∷ (key ++ 34 ∷ (u ++ 58 ∷ v))) ++ t) ≡ 34 ∷ (key ++ 34 ∷ (u ++ 58 ∷ (v ++ t))) =
     ap behind_white (sym (lead_regroup w key u v t)) ∙ behind_white-append w (34 ∷ (key ++ 34 ∷ (u ++ 58 ∷ (v ++ t)))) fits.0 refl in
     record {
-      leads = ap key_at dark ∙ reads_key key u v t fits.1 fits.2 fits.3 (starts-other begins_literal is_white t begins_dark begins);
+      leads = ap behind_key dark ∙ reads_key key u v t fits.1 fits.2 fits.3 (starts-other begins_literal is_white t begins_dark begins);
       no_closer = ap (after 125) dark ∙ after-not 125 (34 ∷ (key ++ 34 ∷ (u ++ 58 ∷ (v ++ t)))) refl;
     }
 
-token_opening : (k : Bracket) (lead : Lead) (t : List ℕ) → IsLead k lead → starts begins_literal t ≡ true → bracket_token k (behind_white (spelled_lead lead ++ t)) ≡ opening k t
+token_opening : (k : Bracket) (lead : Lead) (t : List ℕ) → IsLead k lead → starts begins_literal t ≡ true → bracket_token k (behind_white (spelled_lead lead ++ t)) ≡ opening_bracket k t
 unfolding bracket_token
 token_opening k lead t fits begins =
     let h = reads_lead k lead t fits begins in
     rw (h.no_closer, h.leads) refl
 
-token_next : (k : Bracket) (v : List ℕ) (lead : Lead) (t : List ℕ) → IsWhite v → IsLead k lead → starts begins_literal t ≡ true → entry_token k (behind_white (v ++ 44 ∷ (spelled_lead lead ++ t))) ≡ next t
+token_next : (k : Bracket) (v : List ℕ) (lead : Lead) (t : List ℕ) → IsWhite v → IsLead k lead → starts begins_literal t ≡ true → entry_token k (behind_white (v ++ 44 ∷ (spelled_lead lead ++ t))) ≡ another_entry t
 unfolding entry_token
 token_next k v lead t white fits begins =
     let h = reads_lead k lead t fits begins in
     rw (behind_white-append v (44 ∷ (spelled_lead lead ++ t)) white refl, after-same 44 (spelled_lead lead ++ t), h.leads) refl
 
-token_shutting : (k : Bracket) (v rest : List ℕ) → IsWhite v → entry_token k (behind_white (v ++ closer k ∷ rest)) ≡ shutting rest
+token_shutting : (k : Bracket) (v rest : List ℕ) → IsWhite v → entry_token k (behind_white (v ++ closer k ∷ rest)) ≡ closing_bracket rest
 unfolding entry_token
 token_shutting array v rest white = rw (behind_white-append v (93 ∷ rest) white refl, after-not 44 (93 ∷ rest) refl, after-same 93 rest) refl
 token_shutting object v rest white = rw (behind_white-append v (125 ∷ rest) white refl, after-not 44 (125 ∷ rest) refl, after-same 125 rest) refl
 
 -- outside brackets
-atom_single_in : (ks : List Bracket) (s rest : List ℕ) → is_inner 39 false s ≡ true → (is_some (innermost ks) ≡ true → false ≡ true) → value_token (is_some (innermost ks)) (39 ∷ ((s ++ 39 ∷ []) ++ rest)) ≡ atom true rest
+atom_single_in : (ks : List Bracket) (s rest : List ℕ) → is_inner 39 false s ≡ true → (is_some (innermost ks) ≡ true → false ≡ true) → value_token (is_some (innermost ks)) (39 ∷ ((s ++ 39 ∷ []) ++ rest)) ≡ unbracketed true rest
 atom_single_in [] s rest fits element = atom_single s rest fits
 atom_single_in (k ∷ ks) s rest fits element = let never : false ≡ true = element refl in absurd cc
 
@@ -273,12 +272,12 @@ kept-whole l = kept-literal l 0 true []
 
 -- ---- the literal in front
 
-pub literal_at-some : (t : List ℕ) (f : Slice) → literal_at t ≡ Some f → HasLiteral t f
+pub literal_at-some : (t : List ℕ) (f : LiteralSlice) → literal_at t ≡ Some f → HasLiteral t f
 unfolding literal_at
 literal_at-some t f e =
     let b = bind_some (run literal_step (length t + 1) (ahead []) t) (slice_in t) f e in
     let h = runs-spelled (ahead []) t b.0.0 b.0.1 (run-runs literal_step (length t + 1) (ahead []) t b.0 b.1) in
-    let made : Slice = cut_to t b.0.1 (most 0 b.0.0) (all_kept true b.0.0) in
+    let made : LiteralSlice = cut_to t b.0.1 (most 0 b.0.0) (all_kept true b.0.0) in
     let g = guard_some (starts goes_on b.0.1) made f b.2 in
     let whole : t ≡ spelled_literal h.literal ++ b.0.1 = h.whole ∙ ap (λ (z : List ℕ). spelled_literal h.literal ++ z) h.closes.0 in
     let found : b.0.0 ≡ heights 0 h.literal ++ [] = h.found ∙ ap (λ (z : List Find). heights 0 h.literal ++ z) h.closes.1 in
@@ -292,7 +291,7 @@ literal_at-some t f e =
       kept = kept;
     })
 
-pub literal_at-is : (t : List ℕ) (f : Slice) → HasLiteral t f → literal_at t ≡ Some f
+pub literal_at-is : (t : List ℕ) (f : LiteralSlice) → HasLiteral t f → literal_at t ≡ Some f
 unfolding literal_at
 literal_at-is t f h =
     let runs : Runs literal_step (ahead []) (spelled_literal h.literal ++ f.rest) (heights 0 h.literal ++ []) f.rest = literal_runs h.literal [] f.rest [] f.rest h.is.fits (λ never. absurd cc) h.is.stops (last refl) in
@@ -305,5 +304,5 @@ literal_at-is t f h =
 pub literal_at-none : (t : List ℕ) → literal_at t ≡ None → NoLiteral t
 literal_at-none t e f h = let no : None ≡ Some f = sym e ∙ literal_at-is t f h in absurd cc
 
-pub one_literal : (t : List ℕ) (a b : Slice) → HasLiteral t a → HasLiteral t b → a ≡ b
+pub one_literal : (t : List ℕ) (a b : LiteralSlice) → HasLiteral t a → HasLiteral t b → a ≡ b
 one_literal t a b h g = same_Some a b (sym (literal_at-is t a h) ∙ literal_at-is t b g)

@@ -4,7 +4,7 @@ use Rattle.handlebars_base.specs.Texts.{IsWhite}
 use Rattle.handlebars_base.specs.Bytes.{behind_white}
 use Rattle.handlebars_lines.specs.Runs.{goes, ends}
 use Rattle.handlebars_lines.specs.Literal.{Bracket, opener, closer, spelled_lead, Literal, quoted, single_quoted, number, word, empty, filled, Entries, closing, another, spelled_literal, spelled_entries, IsLiteral, is_element, AreEntries, is_kept, keeps_numbers}
-use Rattle.handlebars_lines.specs.LiteralReading.{Token, atom, hollow, opening, next, shutting, finished, misfit, value_token, entry_token, Place, ahead, behind, innermost, Find, opens, reads, taken, literal_step}
+use Rattle.handlebars_lines.specs.LiteralReading.{Token, unbracketed, empty_brackets, opening_bracket, another_entry, closing_bracket, literal_end, no_token, value_token, entry_token, Place, ahead, behind, innermost, Find, opens, reads, taken, literal_step}
 use Rattle.handlebars_lines.proofs.Stepping.{goes-parts, Runs, last, onward}
 use Rattle.handlebars_lines.proofs.Tokens.{is_flat, ValueTells, value_tells, EntryTells, entry_tells}
 
@@ -68,19 +68,19 @@ found_back x y s r q t u v xs e is h = subst (λ (z : Find). Spelled q v (z ∷ 
 -- ---- a step
 
 value_then : (ks : List Bracket) (t : List ℕ) (token : Token) (x : Find) (s' : Place) (t' : List ℕ) (xs : List Find) (e : List ℕ) → ValueTells (is_some (innermost ks)) t token → taken ks token ≡ goes x s' t' → Spelled s' t' xs e → LiteralThen ks t (x ∷ xs) e
-value_then ks t (atom kept r) x s' t' xs e h is after =
+value_then ks t (unbracketed kept r) x s' t' xs e h is after =
     let c : Closes ks r xs e = spelled_back (reads kept) x (behind ks) s' r t' xs e is after in
     found_back (reads kept) x (behind ks) s' (ahead ks) r t' t xs e is (record {
-      literal = h.atom;
+      literal = h.unbracketed;
       rest = r;
       others = xs;
       fits = h.fits;
       element = h.element;
       whole = h.whole;
-      found = ap (λ (z : List Find). z ++ xs) (ap (λ (z : Bool). reads z ∷ []) (sym h.keeps) ∙ sym (flat_heights (length ks) h.atom h.flat));
+      found = ap (λ (z : List Find). z ++ xs) (ap (λ (z : Bool). reads z ∷ []) (sym h.keeps) ∙ sym (flat_heights (length ks) h.unbracketed h.flat));
       closes = c;
     })
-value_then ks t (hollow r) x s' t' xs e h is after =
+value_then ks t (empty_brackets r) x s' t' xs e h is after =
     let c : Closes ks r xs e = spelled_back (opens (suc (length ks))) x (behind ks) s' r t' xs e is after in
     found_back (opens (suc (length ks))) x (behind ks) s' (ahead ks) r t' t xs e is (record {
       literal = empty h.kind h.white;
@@ -92,7 +92,7 @@ value_then ks t (hollow r) x s' t' xs e h is after =
       found = refl;
       closes = c;
     })
-value_then ks t (opening k r) x s' t' xs e h is after =
+value_then ks t (opening_bracket k r) x s' t' xs e h is after =
     let n : ℕ = suc (length ks) in
     let inner : LiteralThen (k ∷ ks) r xs e = spelled_back (opens (suc (length ks))) x (ahead (k ∷ ks)) s' r t' xs e is after in
     let c = inner.closes in
@@ -106,16 +106,16 @@ value_then ks t (opening k r) x s' t' xs e h is after =
       found = ap (λ (z : List Find). opens (suc (length ks)) ∷ z) (inner.found ∙ ap (λ (z : List Find). heights (suc (length ks)) inner.literal ++ z) c.7 ∙ sym (append_assoc (heights (suc (length ks)) inner.literal) (entry_heights (suc (length ks)) c.1) c.3));
       closes = c.8;
     })
-value_then ks t (next r) x s' t' xs e h is after = absurd h
-value_then ks t (shutting r) x s' t' xs e h is after = absurd h
-value_then ks t finished x s' t' xs e h is after = absurd h
-value_then ks t misfit x s' t' xs e h is after = absurd cc
+value_then ks t (another_entry r) x s' t' xs e h is after = absurd h
+value_then ks t (closing_bracket r) x s' t' xs e h is after = absurd h
+value_then ks t literal_end x s' t' xs e h is after = absurd h
+value_then ks t no_token x s' t' xs e h is after = absurd cc
 
 entry_then : (k : Bracket) (ks : List Bracket) (t : List ℕ) (token : Token) (x : Find) (s' : Place) (t' : List ℕ) (xs : List Find) (e : List ℕ) → EntryTells k t token → taken (k ∷ ks) token ≡ goes x s' t' → Spelled s' t' xs e → Closes (k ∷ ks) t (x ∷ xs) e
-entry_then k ks t (atom kept r) x s' t' xs e h is after = absurd h
-entry_then k ks t (hollow r) x s' t' xs e h is after = absurd h
-entry_then k ks t (opening j r) x s' t' xs e h is after = absurd h
-entry_then k ks t (next r) x s' t' xs e h is after =
+entry_then k ks t (unbracketed kept r) x s' t' xs e h is after = absurd h
+entry_then k ks t (empty_brackets r) x s' t' xs e h is after = absurd h
+entry_then k ks t (opening_bracket j r) x s' t' xs e h is after = absurd h
+entry_then k ks t (another_entry r) x s' t' xs e h is after =
     let inner : LiteralThen (k ∷ ks) r xs e = spelled_back (opens 0) x (ahead (k ∷ ks)) s' r t' xs e is after in
     let c = inner.closes in
     let inside : t ≡ h.white ++ (44 ∷ (spelled_lead h.lead ++ (spelled_literal inner.literal ++ (c.0 ++ (spelled_entries k c.1 ++ c.2))))) =
@@ -131,11 +131,11 @@ entry_then k ks t (next r) x s' t' xs e h is after =
       ap (λ (z : List Find). opens 0 ∷ z) (inner.found ∙ ap (λ (z : List Find). heights (suc (length ks)) inner.literal ++ z) c.7 ∙ sym (append_assoc (heights (suc (length ks)) inner.literal) (entry_heights (suc (length ks)) c.1) c.3)),
       c.8,
     )
-entry_then k ks t (shutting r) x s' t' xs e h is after =
+entry_then k ks t (closing_bracket r) x s' t' xs e h is after =
     let c : Closes ks r xs e = spelled_back (opens 0) x (behind ks) s' r t' xs e is after in
     found_back (opens 0) x (behind ks) s' (behind (k ∷ ks)) r t' t xs e is (h.white, closing, r, xs, h.is, tt, h.whole, refl, c)
-entry_then k ks t finished x s' t' xs e h is after = absurd h
-entry_then k ks t misfit x s' t' xs e h is after = absurd cc
+entry_then k ks t literal_end x s' t' xs e h is after = absurd h
+entry_then k ks t no_token x s' t' xs e h is after = absurd cc
 
 step_then : (s : Place) (t : List ℕ) (x : Find) (s' : Place) (t' : List ℕ) (xs : List Find) (e : List ℕ) → literal_step s t ≡ goes x s' t' → Spelled s' t' xs e → Spelled s t (x ∷ xs) e
 step_then (ahead ks) t x s' t' xs e is after = value_then ks t (value_token (is_some (innermost ks)) t) x s' t' xs e (value_tells (is_some (innermost ks)) t) is after
@@ -145,22 +145,22 @@ step_then (behind (k ∷ ks)) t x s' t' xs e is after = entry_then k ks t (entry
 -- ---- the end
 
 value_ends : (ks : List Bracket) (t : List ℕ) (token : Token) → ValueTells (is_some (innermost ks)) t token → taken ks token ≡ ends → ⊥
-value_ends ks t (atom kept r) h is = absurd cc
-value_ends ks t (hollow r) h is = absurd cc
-value_ends ks t (opening k r) h is = absurd cc
-value_ends ks t (next r) h is = h
-value_ends ks t (shutting r) h is = h
-value_ends ks t finished h is = h
-value_ends ks t misfit h is = absurd cc
+value_ends ks t (unbracketed kept r) h is = absurd cc
+value_ends ks t (empty_brackets r) h is = absurd cc
+value_ends ks t (opening_bracket k r) h is = absurd cc
+value_ends ks t (another_entry r) h is = h
+value_ends ks t (closing_bracket r) h is = h
+value_ends ks t literal_end h is = h
+value_ends ks t no_token h is = absurd cc
 
 entry_ends : (k : Bracket) (ks : List Bracket) (t : List ℕ) (token : Token) → EntryTells k t token → taken ks token ≡ ends → ⊥
-entry_ends k ks t (atom kept r) h is = h
-entry_ends k ks t (hollow r) h is = h
-entry_ends k ks t (opening j r) h is = h
-entry_ends k ks t (next r) h is = absurd cc
-entry_ends k ks t (shutting r) h is = absurd cc
-entry_ends k ks t finished h is = h
-entry_ends k ks t misfit h is = absurd cc
+entry_ends k ks t (unbracketed kept r) h is = h
+entry_ends k ks t (empty_brackets r) h is = h
+entry_ends k ks t (opening_bracket j r) h is = h
+entry_ends k ks t (another_entry r) h is = absurd cc
+entry_ends k ks t (closing_bracket r) h is = absurd cc
+entry_ends k ks t literal_end h is = h
+entry_ends k ks t no_token h is = absurd cc
 
 end_then : (s : Place) (t : List ℕ) → literal_step s t ≡ ends → Spelled s t [] t
 end_then (ahead ks) t is = absurd (value_ends ks t (value_token (is_some (innermost ks)) t) (value_tells (is_some (innermost ks)) t) is)

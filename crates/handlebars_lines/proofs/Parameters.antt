@@ -3,14 +3,14 @@ use Rattle.std.proofs.Common.{◌≡◌, ℕ, suc, List, [], ◌∷◌, ◌++◌
 use Rattle.std.specs.Prelude.{◌==◌}
 use Rattle.std.proofs.lemmas.Option.{same_Some, none-some}
 use Rattle.handlebars_base.specs.Path.{Reference}
-use Rattle.handlebars_base.specs.PathReading.{after, path_of}
+use Rattle.handlebars_base.specs.PathReading.{path_of}
 use Rattle.handlebars_base.proofs.PathShapes.{path_known, path_is}
 use Rattle.handlebars_base.proofs.Fronts.{after_takes, behind_white-skips, behind_white-append, after-same}
-use Rattle.handlebars_base.specs.Texts.{starts}
+use Rattle.handlebars_base.specs.Texts.{starts, after}
 use Rattle.handlebars_base.specs.Bytes.{behind_white}
 use Rattle.handlebars_lines.specs.Literal.{spelled_literal, IsLiteralAt}
-use Rattle.handlebars_lines.specs.LiteralReading.{Slice, literal_at}
-use Rattle.handlebars_lines.specs.Parameter.{Term, literal_term, path_term, call_term, Shape, literal_shape, path_shape, nested_shape, spelled_shape, spelled_items, IsChosen, Fits, AreItems, term_of, terms_of, depth_of, items_depth, IsParameter, NoParameter}
+use Rattle.handlebars_lines.specs.LiteralReading.{LiteralSlice, literal_at}
+use Rattle.handlebars_lines.specs.Parameter.{Term, literal_term, path_term, call_term, TermShape, literal_shape, path_shape, nested_shape, spelled_shape, spelled_items, IsChosen, Fits, AreItems, term_of, terms_of, depth_of, items_depth, IsParameter, NoParameter}
 use Rattle.handlebars_lines.specs.Line.{in_parentheses, Line, IsLine, NoLine}
 use Rattle.handlebars_lines.specs.LineLaws.{HasLine, OneParameter}
 use Rattle.handlebars_lines.proofs.LiteralsFound.{literal_at-some}
@@ -56,7 +56,7 @@ nested-read text r means depth opens h = on h.shape h.spells h.fits h.gives h.de
     never : (t : List ℕ) → text ≡ t → after 40 t ≡ None → NestedParameter r means depth
     never t same none = absurd (none-some r (sym none ∙ ap (after 40) (sym same) ∙ opens))
 
-    on : (p : Shape) → text ≡ spelled_shape p → Fits p [] → means ≡ term_of p → depth ≡ depth_of p → NestedParameter r means depth
+    on : (p : TermShape) → text ≡ spelled_shape p → Fits p [] → means ≡ term_of p → depth ≡ depth_of p → NestedParameter r means depth
     on (literal_shape l) spells fits gives deep = never (spelled_literal l) spells (single_no_parenthesis (spelled_literal l) (literal_begins l fits))
     on (path_shape t m) spells fits gives deep = never t spells (single_no_parenthesis t (path_begins t m fits))
     on (nested_shape w name items v) spells fits gives deep =
@@ -97,7 +97,7 @@ nested-goes_on text r depth left opens line more means deep h =
 
 -- ---- a literal, or a path
 
-pub literal-is : (text : List ℕ) (f : Slice) → literal_at text ≡ Some f → f.rest ≡ [] → IsParameter text (literal_term f.raw) f.depth
+pub literal-is : (text : List ℕ) (f : LiteralSlice) → literal_at text ≡ Some f → f.rest ≡ [] → IsParameter text (literal_term f.raw) f.depth
 literal-is text f e whole =
     let h = literal_at-some text f e in
     record {
@@ -121,13 +121,13 @@ path-is text means none e = record {
 
 -- what begins with no parenthesis
 pub data SingleParameter (text : List ℕ) (means : Term) (depth : ℕ) : Type 0 where
-  single_literal : (f : Slice) → literal_at text ≡ Some f → f.rest ≡ [] → means ≡ literal_term f.raw → depth ≡ f.depth → SingleParameter text means depth
+  single_literal : (f : LiteralSlice) → literal_at text ≡ Some f → f.rest ≡ [] → means ≡ literal_term f.raw → depth ≡ f.depth → SingleParameter text means depth
   single_path : (m : Reference) → literal_at text ≡ None → path_of text ≡ Some m → means ≡ path_term m → depth ≡ 0 → SingleParameter text means depth
 
 pub single-read : (text : List ℕ) (means : Term) (depth : ℕ) → after 40 text ≡ None → IsParameter text means depth → SingleParameter text means depth
 single-read text means depth closed h = on h.shape h.spells h.chosen h.fits h.gives h.deep
   where
-    on : (p : Shape) → text ≡ spelled_shape p → IsChosen p [] → Fits p [] → means ≡ term_of p → depth ≡ depth_of p → SingleParameter text means depth
+    on : (p : TermShape) → text ≡ spelled_shape p → IsChosen p [] → Fits p [] → means ≡ term_of p → depth ≡ depth_of p → SingleParameter text means depth
     on (literal_shape l) spells chosen fits gives deep =
         let at : IsLiteralAt text l [] = record { whole = spells ∙ sym (append-nil (spelled_literal l)); fits = fits; stops = chosen } in
         let f = literal_at-finds text l [] at in
@@ -139,11 +139,11 @@ single-read text means depth closed h = on h.shape h.spells h.chosen h.fits h.gi
         absurd (none-some _ (sym closed ∙ ap (after 40) spells ∙ after-same 40 _))
 
 -- a literal in front is not the whole
-pub single-goes_on : (text : List ℕ) (f : Slice) → after 40 text ≡ None → literal_at text ≡ Some f → (f.rest ≡ [] → ⊥) → NoParameter text
+pub single-goes_on : (text : List ℕ) (f : LiteralSlice) → after 40 text ≡ None → literal_at text ≡ Some f → (f.rest ≡ [] → ⊥) → NoParameter text
 single-goes_on text f closed e more means depth h = on (single-read text means depth closed h)
   where
     on : SingleParameter text means depth → ⊥
-    on (single_literal g is whole gives deep) = more (ap (λ (z : Slice). z.rest) (same_Some f g (sym e ∙ is)) ∙ whole)
+    on (single_literal g is whole gives deep) = more (ap (λ (z : LiteralSlice). z.rest) (same_Some f g (sym e ∙ is)) ∙ whole)
     on (single_path m none is gives deep) = none-some f (sym none ∙ e)
 
 -- and neither a literal nor a path
@@ -166,7 +166,7 @@ nested-one text r a b depth depth' opens h g =
 single-one : (text : List ℕ) (a b : Term) (depth depth' : ℕ) → SingleParameter text a depth → SingleParameter text b depth' → (a ≡ b) × (depth ≡ depth')
 single-one text a b depth depth' (single_literal f e whole gives deep) (single_literal g e' whole' gives' deep') =
     let same = same_Some f g (sym e ∙ e') in
-    (gives ∙ ap (λ (z : Slice). literal_term z.raw) same ∙ sym gives', deep ∙ ap (λ (z : Slice). z.depth) same ∙ sym deep')
+    (gives ∙ ap (λ (z : LiteralSlice). literal_term z.raw) same ∙ sym gives', deep ∙ ap (λ (z : LiteralSlice). z.depth) same ∙ sym deep')
 single-one text a b depth depth' (single_literal f e whole gives deep) (single_path m none is gives' deep') = absurd (none-some f (sym none ∙ e))
 single-one text a b depth depth' (single_path m none is gives deep) (single_literal g e whole gives' deep') = absurd (none-some g (sym none ∙ e))
 single-one text a b depth depth' (single_path m none is gives deep) (single_path m' none' is' gives' deep') =

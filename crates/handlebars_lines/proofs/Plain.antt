@@ -7,7 +7,7 @@ use Rattle.std.specs.Str.{bytes_eq}
 use Rattle.std.proofs.lemmas.Bool.{eqb-true, ltb-true, or_cases, and_parts, or_left, or_right}
 use Rattle.std.proofs.lemmas.Slice.Eq.{bytes_eq-Decides}
 use Rattle.std.proofs.lemmas.List.Sums.{split_at_first, passes_at_first}
-use Rattle.handlebars_base.specs.Path.{is_symbol}
+use Rattle.handlebars_base.specs.Bytes.{is_symbol}
 use Rattle.handlebars_lines.specs.Literal.{is_digits, is_integer, has, up_to, behind_first, is_decimal, is_number, is_word, goes_on}
 
 -- each byte goes on, and there is one

@@ -4,13 +4,13 @@ use Rattle.std.specs.List.{prefix_len}
 use Rattle.std.proofs.lemmas.Bool.{or_cases}
 use Rattle.std.proofs.lemmas.List.{take-append-drop}
 use Rattle.std.proofs.lemmas.Option.{same_Some}
-use Rattle.handlebars_base.specs.PathReading.{◌>>=◌, with_or, after}
+use Rattle.handlebars_base.specs.Options.{◌>>=◌, with_or}
 use Rattle.handlebars_base.proofs.OptionBinds.{bind_some, with_or_is}
 use Rattle.handlebars_base.proofs.Fronts.{after_takes, behind_white-skips}
-use Rattle.handlebars_base.specs.Texts.{IsWhite}
+use Rattle.handlebars_base.specs.Texts.{IsWhite, after}
 use Rattle.handlebars_base.specs.Bytes.{behind_white}
 use Rattle.handlebars_lines.specs.Literal.{is_number, is_word, Bracket, array, object, opener, closer, Lead, unnamed, keyed, spelled_lead, IsLead, Literal, quoted, single_quoted, number, word, empty, filled, spelled_literal, is_element, IsLiteral, is_kept, keeps_numbers, goes_on}
-use Rattle.handlebars_lines.specs.LiteralReading.{behind_quote, run_of, behind_run, plain_at, undoubled_at, atom_at, keeps_at, behind_colon, key_at, behind_lead, Token, atom, hollow, opening, next, shutting, finished, misfit, bracket_token, value_token, comma_token, entry_token}
+use Rattle.handlebars_lines.specs.LiteralReading.{behind_quote, run_of, behind_run, plain_at, undoubled_at, unbracketed_at, keeps_at, behind_colon, behind_key, behind_lead, Token, unbracketed, empty_brackets, opening_bracket, another_entry, closing_bracket, literal_end, no_token, bracket_token, value_token, comma_token, entry_token}
 use Rattle.handlebars_lines.proofs.Fronts.{behind_quote-takes, run_of-append}
 use Rattle.handlebars_lines.proofs.Plain.{plain_goes_on, word_no_number}
 
@@ -25,12 +25,12 @@ is_flat (empty k w) = false
 is_flat (filled k lead l w more) = false
 
 pub record TakesAtom (inside kept : Bool) (t r : List ℕ) : Type 0 where
-  pub atom : Literal
-  pub whole : t ≡ spelled_literal atom ++ r
-  pub fits : IsLiteral atom
-  pub flat : is_flat atom ≡ true
-  pub element : inside ≡ true → is_element atom ≡ true
-  pub keeps : keeps_numbers atom ≡ kept
+  pub unbracketed : Literal
+  pub whole : t ≡ spelled_literal unbracketed ++ r
+  pub fits : IsLiteral unbracketed
+  pub flat : is_flat unbracketed ≡ true
+  pub element : inside ≡ true → is_element unbracketed ≡ true
+  pub keeps : keeps_numbers unbracketed ≡ kept
   pub shorter : length r < length t
 
 keeps_at-number : (t : List ℕ) → is_number (run_of t) ≡ true → is_kept (run_of t) ≡ keeps_at t
@@ -58,8 +58,8 @@ plain_takes inside t r e = on (is_number (run_of t) || is_word (run_of t)) refl 
         let whole : t ≡ run_of t ++ r = sym (take-append-drop (prefix_len goes_on t) t) ∙ ap (λ (z : List ℕ). run_of t ++ z) rest in
         let shorter : length r < length t = omega (arith, ap length whole, length-append (run_of t) r, (plain_goes_on (run_of t) is).some) in
         elim (or_cases (is_number (run_of t)) (is_word (run_of t)) is) [
-          | inl fits ↦ record { atom = number (run_of t); whole = whole; fits = fits; flat = refl; element = λ inner. refl; keeps = keeps_at-number t fits; shorter = shorter }
-          | inr fits ↦ record { atom = word (run_of t); whole = whole; fits = fits; flat = refl; element = λ inner. refl; keeps = keeps_at-word t fits; shorter = shorter }
+          | inl fits ↦ record { unbracketed = number (run_of t); whole = whole; fits = fits; flat = refl; element = λ inner. refl; keeps = keeps_at-number t fits; shorter = shorter }
+          | inr fits ↦ record { unbracketed = word (run_of t); whole = whole; fits = fits; flat = refl; element = λ inner. refl; keeps = keeps_at-word t fits; shorter = shorter }
         ]
 
 -- a text in quotes, from its opening one on
@@ -75,7 +75,7 @@ undoubled_takes false t r e =
           let q = behind_quote-takes 39 false text.0 r text.2 in
           let whole = quote_whole 39 t text.0 q.inner r (after_takes 39 t text.0 text.1) q.whole in
           record {
-            atom = single_quoted q.inner;
+            unbracketed = single_quoted q.inner;
             whole = whole;
             fits = q.is;
             flat = refl;
@@ -86,15 +86,15 @@ undoubled_takes false t r e =
       | inr plain ↦ plain_takes false t r plain.1
     ]
 
-atom_takes : (inside : Bool) (t r : List ℕ) → atom_at inside t ≡ Some r → TakesAtom inside (keeps_at t) t r
-unfolding atom_at
+atom_takes : (inside : Bool) (t r : List ℕ) → unbracketed_at inside t ≡ Some r → TakesAtom inside (keeps_at t) t r
+unfolding unbracketed_at
 atom_takes inside t r e =
     elim (with_or_is (after 34 t) (behind_quote 34 false) (undoubled_at inside t) (Some r) e) [
       | inl text ↦
           let q = behind_quote-takes 34 false text.0 r text.2 in
           let whole = quote_whole 34 t text.0 q.inner r (after_takes 34 t text.0 text.1) q.whole in
           record {
-            atom = quoted q.inner;
+            unbracketed = quoted q.inner;
             whole = whole;
             fits = q.is;
             flat = refl;
@@ -116,7 +116,7 @@ pub lead_regroup : (w key u v r : List ℕ) → w ++ 34 ∷ (key ++ 34 ∷ (u ++
 lead_regroup w key u v r = simp append_assoc
 
 lead_takes : (k : Bracket) (t r : List ℕ) → behind_lead k (behind_white t) ≡ Some r → TakesLead k t r
-unfolding key_at
+unfolding behind_key
 lead_takes array t r e =
     let white = behind_white-skips t in
     let rest : behind_white t ≡ r = same_Some (behind_white t) r e in
@@ -162,19 +162,19 @@ pub record TakesOpening (k : Bracket) (t r : List ℕ) : Type 0 where
   pub whole : t ≡ opener k ∷ (spelled_lead lead ++ r)
 
 abbrev pub ValueTells : Bool → List ℕ → Token → Type 0
-ValueTells inside t (atom kept r) = TakesAtom inside kept t r
-ValueTells inside t (hollow r) = TakesHollow t r
-ValueTells inside t (opening k r) = TakesOpening k t r
-ValueTells inside t (next r) = ⊥
-ValueTells inside t (shutting r) = ⊥
-ValueTells inside t finished = ⊥
-ValueTells inside t misfit = Unit {0}
+ValueTells inside t (unbracketed kept r) = TakesAtom inside kept t r
+ValueTells inside t (empty_brackets r) = TakesHollow t r
+ValueTells inside t (opening_bracket k r) = TakesOpening k t r
+ValueTells inside t (another_entry r) = ⊥
+ValueTells inside t (closing_bracket r) = ⊥
+ValueTells inside t literal_end = ⊥
+ValueTells inside t no_token = Unit {0}
 
 bracket_tells : (inside : Bool) (k : Bracket) (t u : List ℕ) → t ≡ opener k ∷ u → ValueTells inside t (bracket_token k (behind_white u))
 unfolding bracket_token
 bracket_tells inside k t u first = on (after (closer k) (behind_white u)) refl (behind_lead k (behind_white u)) refl
   where
-    on : (o : Option (List ℕ)) → after (closer k) (behind_white u) ≡ o → (p : Option (List ℕ)) → behind_lead k (behind_white u) ≡ p → ValueTells inside t (with_or o hollow (with_or p (opening k) misfit))
+    on : (o : Option (List ℕ)) → after (closer k) (behind_white u) ≡ o → (p : Option (List ℕ)) → behind_lead k (behind_white u) ≡ p → ValueTells inside t (with_or o empty_brackets (with_or p (opening_bracket k) no_token))
     on (Some r) e p f =
         let white = behind_white-skips u in
         let shut = after_takes (closer k) (behind_white u) r e in
@@ -191,10 +191,10 @@ bracket_tells inside k t u first = on (after (closer k) (behind_white u)) refl (
 
 pub value_tells : (inside : Bool) (t : List ℕ) → ValueTells inside t (value_token inside t)
 unfolding value_token
-value_tells inside t = on (after 91 t) refl (after 123 t) refl (atom_at inside t) refl
+value_tells inside t = on (after 91 t) refl (after 123 t) refl (unbracketed_at inside t) refl
   where
-    on : (o : Option (List ℕ)) → after 91 t ≡ o → (p : Option (List ℕ)) → after 123 t ≡ p → (q : Option (List ℕ)) → atom_at inside t ≡ q
-        → ValueTells inside t (with_or o (λ r. bracket_token array (behind_white r)) (with_or p (λ r. bracket_token object (behind_white r)) (with_or q (atom (keeps_at t)) misfit)))
+    on : (o : Option (List ℕ)) → after 91 t ≡ o → (p : Option (List ℕ)) → after 123 t ≡ p → (q : Option (List ℕ)) → unbracketed_at inside t ≡ q
+        → ValueTells inside t (with_or o (λ r. bracket_token array (behind_white r)) (with_or p (λ r. bracket_token object (behind_white r)) (with_or q (unbracketed (keeps_at t)) no_token)))
     on (Some r) e p f q g = bracket_tells inside array t r (after_takes 91 t r e)
     on None e (Some r) f q g = bracket_tells inside object t r (after_takes 123 t r f)
     on None e None f (Some r) g = atom_takes inside t r g
@@ -215,18 +215,18 @@ pub record TakesShutting (k : Bracket) (t r : List ℕ) : Type 0 where
   pub whole : t ≡ white ++ closer k ∷ r
 
 abbrev pub EntryTells : Bracket → List ℕ → Token → Type 0
-EntryTells k t (atom kept r) = ⊥
-EntryTells k t (hollow r) = ⊥
-EntryTells k t (opening j r) = ⊥
-EntryTells k t (next r) = TakesNext k t r
-EntryTells k t (shutting r) = TakesShutting k t r
-EntryTells k t finished = ⊥
-EntryTells k t misfit = Unit {0}
+EntryTells k t (unbracketed kept r) = ⊥
+EntryTells k t (empty_brackets r) = ⊥
+EntryTells k t (opening_bracket j r) = ⊥
+EntryTells k t (another_entry r) = TakesNext k t r
+EntryTells k t (closing_bracket r) = TakesShutting k t r
+EntryTells k t literal_end = ⊥
+EntryTells k t no_token = Unit {0}
 
 comma_tells : (k : Bracket) (t u : List ℕ) → behind_white t ≡ 44 ∷ u → EntryTells k t (comma_token k u)
 comma_tells k t u first = on (behind_lead k (behind_white u)) refl
   where
-    on : (o : Option (List ℕ)) → behind_lead k (behind_white u) ≡ o → EntryTells k t (with_or o next misfit)
+    on : (o : Option (List ℕ)) → behind_lead k (behind_white u) ≡ o → EntryTells k t (with_or o another_entry no_token)
     on (Some r) e =
         let white = behind_white-skips t in
         let lead = lead_takes k u r e in
@@ -243,7 +243,7 @@ pub entry_tells : (k : Bracket) (t : List ℕ) → EntryTells k t (entry_token k
 unfolding entry_token
 entry_tells k t = on (after 44 (behind_white t)) refl (after (closer k) (behind_white t)) refl
   where
-    on : (o : Option (List ℕ)) → after 44 (behind_white t) ≡ o → (p : Option (List ℕ)) → after (closer k) (behind_white t) ≡ p → EntryTells k t (with_or o (comma_token k) (with_or p shutting misfit))
+    on : (o : Option (List ℕ)) → after 44 (behind_white t) ≡ o → (p : Option (List ℕ)) → after (closer k) (behind_white t) ≡ p → EntryTells k t (with_or o (comma_token k) (with_or p closing_bracket no_token))
     on (Some r) e p f = comma_tells k t r (after_takes 44 (behind_white t) r e)
     on None e (Some r) f =
         let white = behind_white-skips t in
@@ -254,13 +254,13 @@ entry_tells k t = on (after 44 (behind_white t)) refl (after (closer k) (behind_
 -- ---- how far a token goes
 
 abbrev pub left_of : Token → Option (List ℕ)
-left_of (atom kept r) = Some r
-left_of (hollow r) = Some r
-left_of (opening k r) = Some r
-left_of (next r) = Some r
-left_of (shutting r) = Some r
-left_of finished = None
-left_of misfit = None
+left_of (unbracketed kept r) = Some r
+left_of (empty_brackets r) = Some r
+left_of (opening_bracket k r) = Some r
+left_of (another_entry r) = Some r
+left_of (closing_bracket r) = Some r
+left_of literal_end = None
+left_of no_token = None
 
 pub record Shorter (t r : List ℕ) : Type 0 where
   pub front : List ℕ
@@ -268,39 +268,39 @@ pub record Shorter (t r : List ℕ) : Type 0 where
   pub shorter : length r < length t
 
 pub value_shorter : (inside : Bool) (t r : List ℕ) (token : Token) → ValueTells inside t token → left_of token ≡ Some r → Shorter t r
-value_shorter inside t r (atom kept q) h e = subst (Shorter t) (same_Some q r e) (record { front = spelled_literal h.atom; whole = h.whole; shorter = h.shorter })
-value_shorter inside t r (hollow q) h e =
+value_shorter inside t r (unbracketed kept q) h e = subst (Shorter t) (same_Some q r e) (record { front = spelled_literal h.unbracketed; whole = h.whole; shorter = h.shorter })
+value_shorter inside t r (empty_brackets q) h e =
     let long : length t ≡ suc (length h.white + suc (length q)) = ap length h.whole ∙ omega (arith, length-append h.white (closer h.kind ∷ q)) in
     subst (Shorter t) (same_Some q r e) (record {
       front = opener h.kind ∷ (h.white ++ closer h.kind ∷ []);
       whole = h.whole ∙ ap (λ (z : List ℕ). opener h.kind ∷ z) (sym (append_assoc h.white (closer h.kind ∷ []) q));
       shorter = omega arith;
     })
-value_shorter inside t r (opening k q) h e =
+value_shorter inside t r (opening_bracket k q) h e =
     let long : length t ≡ suc (length (spelled_lead h.lead) + length q) = ap length h.whole ∙ omega (arith, length-append (spelled_lead h.lead) q) in
     subst (Shorter t) (same_Some q r e) (record { front = opener k ∷ spelled_lead h.lead; whole = h.whole; shorter = omega arith })
-value_shorter inside t r (next q) h e = absurd h
-value_shorter inside t r (shutting q) h e = absurd h
-value_shorter inside t r finished h e = absurd h
-value_shorter inside t r misfit h e = absurd cc
+value_shorter inside t r (another_entry q) h e = absurd h
+value_shorter inside t r (closing_bracket q) h e = absurd h
+value_shorter inside t r literal_end h e = absurd h
+value_shorter inside t r no_token h e = absurd cc
 
 pub entry_shorter : (k : Bracket) (t r : List ℕ) (token : Token) → EntryTells k t token → left_of token ≡ Some r → Shorter t r
-entry_shorter k t r (atom kept q) h e = absurd h
-entry_shorter k t r (hollow q) h e = absurd h
-entry_shorter k t r (opening j q) h e = absurd h
-entry_shorter k t r (next q) h e =
+entry_shorter k t r (unbracketed kept q) h e = absurd h
+entry_shorter k t r (empty_brackets q) h e = absurd h
+entry_shorter k t r (opening_bracket j q) h e = absurd h
+entry_shorter k t r (another_entry q) h e =
     let long : length t ≡ length h.white + suc (length (spelled_lead h.lead) + length q) = ap length h.whole ∙ omega (arith, length-append h.white (44 ∷ (spelled_lead h.lead ++ q)), length-append (spelled_lead h.lead) q) in
     subst (Shorter t) (same_Some q r e) (record {
       front = h.white ++ 44 ∷ spelled_lead h.lead;
       whole = h.whole ∙ sym (append_assoc h.white (44 ∷ spelled_lead h.lead) q);
       shorter = omega arith;
     })
-entry_shorter k t r (shutting q) h e =
+entry_shorter k t r (closing_bracket q) h e =
     let long : length t ≡ length h.white + suc (length q) = ap length h.whole ∙ omega (arith, length-append h.white (closer k ∷ q)) in
     subst (Shorter t) (same_Some q r e) (record {
       front = h.white ++ closer k ∷ [];
       whole = h.whole ∙ sym (append_assoc h.white (closer k ∷ []) q);
       shorter = omega arith;
     })
-entry_shorter k t r finished h e = absurd h
-entry_shorter k t r misfit h e = absurd cc
+entry_shorter k t r literal_end h e = absurd h
+entry_shorter k t r no_token h e = absurd cc

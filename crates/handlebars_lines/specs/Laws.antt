@@ -2,12 +2,12 @@
 use Rattle.std.specs.Prelude.{◌≡◌, ◌≢◌, None}
 use Rattle.handlebars_base.specs.Bytes.{Text}
 use Rattle.handlebars_lines.specs.Literal.{Literal, spelled_literal, literal_depth, keeps_numbers, IsLiteral, IsLiteralAt}
-use Rattle.handlebars_lines.specs.LiteralReading.{Slice}
+use Rattle.handlebars_lines.specs.LiteralReading.{LiteralSlice}
 use Rattle.handlebars_lines.specs.Worth.{worth}
 use Rattle.handlebars_lines.specs.WorthReading.{worth_of}
 
 -- The slice is that of a literal in front of the text.
-pub record HasLiteral (text : Text) (slice : Slice) : Type 0 where
+pub record HasLiteral (text : Text) (slice : LiteralSlice) : Type 0 where
   pub literal : Literal
   pub is : IsLiteralAt text literal slice.rest
   pub raw : slice.raw ≡ spelled_literal literal
@@ -16,11 +16,11 @@ pub record HasLiteral (text : Text) (slice : Slice) : Type 0 where
 
 -- no literal stands in front
 abbrev pub NoLiteral : Text → Type 0
-NoLiteral text = (slice : Slice) → HasLiteral text slice → ⊥
+NoLiteral text = (slice : LiteralSlice) → HasLiteral text slice → ⊥
 
 -- a text has at most one literal in front
 abbrev pub OneLiteral : Type 0
-OneLiteral = (text : Text) (a b : Slice) → HasLiteral text a → HasLiteral text b → a ≡ b
+OneLiteral = (text : Text) (a b : LiteralSlice) → HasLiteral text a → HasLiteral text b → a ≡ b
 
 -- What is read of a literal's text is what the literal is worth.
 abbrev pub WorthOfLiteral : Type 0

@@ -3,7 +3,7 @@ use Rattle.std.specs.Prelude.{◌≡◌, ℕ, Bool, true, ◌||◌, ◌==◌, ma
 use Rattle.handlebars_base.specs.Bytes.{Text, right_brace, behind_white}
 use Rattle.handlebars_base.specs.Texts.{starts}
 use Rattle.handlebars_lines.specs.Binding.{begins_binding}
-use Rattle.handlebars_lines.specs.Parameter.{right_parenthesis, Term, Terms, Shape, Items, spelled_shape, spelled_items, is_name, Fits, AreItems, term_of, terms_of, depth_of, items_depth}
+use Rattle.handlebars_lines.specs.Parameter.{right_parenthesis, Term, Terms, TermShape, Items, spelled_shape, spelled_items, is_name, Fits, AreItems, term_of, terms_of, depth_of, items_depth}
 
 abbrev pub tilde : ℕ
 tilde = 126
@@ -36,7 +36,7 @@ pub record Line : Type 0 where
 
 -- In front of the text stands a line that means this, and what is left ends it where it stands.
 pub record IsLine (around : Enclosure) (text : Text) (line : Line) (left : Text) : Type 0 where
-  pub name : Shape
+  pub name : TermShape
   pub items : Items
   pub whole : text ≡ spelled_shape name ++ (spelled_items items ++ left)
   pub is_name : is_name name items ≡ true

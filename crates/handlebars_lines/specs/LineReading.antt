@@ -2,10 +2,10 @@
 use Rattle.std.specs.Prelude.{ℕ, suc, ◌+◌, ◌-◌, Bool, true, false, ◌&&◌, ◌==◌, if◌then◌else◌, max, List, [], ◌∷◌, Option, Some, None}
 use Rattle.std.specs.Option.{option_map}
 use Rattle.std.specs.List.{prefix_len, list_all}
-use Rattle.handlebars_base.specs.Bytes.{Text, equals_sign, is_white, behind_white}
-use Rattle.handlebars_base.specs.Path.{is_symbol}
-use Rattle.handlebars_base.specs.PathReading.{◌>>=◌, with_or, after, symbols_of, behind_symbols, path_of, slice_at}
-use Rattle.handlebars_base.specs.Texts.{starts}
+use Rattle.handlebars_base.specs.Bytes.{Text, equals_sign, is_white, behind_white, is_symbol}
+use Rattle.handlebars_base.specs.PathReading.{path_of, slice_at}
+use Rattle.handlebars_base.specs.Options.{◌>>=◌, with_or}
+use Rattle.handlebars_base.specs.Texts.{starts, after, symbols_of, behind_symbols}
 use Rattle.handlebars_lines.specs.Runs.{Next, goes, ends, stuck}
 use Rattle.handlebars_lines.specs.LiteralReading.{literal_at}
 use Rattle.handlebars_lines.specs.Parameter.{left_parenthesis, right_parenthesis, Term, literal_term, path_term, call_term, Terms, no_terms, term, is_reserved}
@@ -28,18 +28,18 @@ pub data Stand : Type 0 where
   at_end : Stand
 
 -- and how many parentheses are open
-pub record State : Type 0 where
+pub record LineStand : Type 0 where
   pub stand : Stand
   pub level : ℕ
 
-abbrev pub state : Stand → ℕ → State
-state s n = record { stand = s; level = n }
+abbrev pub line_stand : Stand → ℕ → LineStand
+line_stand s n = record { stand = s; level = n }
 
 -- ---- marks
 
 -- a key, and what follows its `=` and white
-unfoldable pub key_at : Text → Option (Text × Text)
-key_at t =
+unfoldable pub key_and_equals_at : Text → Option (Text × Text)
+key_and_equals_at t =
     if prefix_len is_symbol t == 0
     then None
     else (after equals_sign (behind_white (behind_symbols t)) >>= λ r. Some (symbols_of t, behind_white r))
@@ -50,32 +50,32 @@ key_at t =
 abbrev pub behind_name : Text → Stand
 behind_name raw = if list_all is_symbol raw then at_items else at_end
 
-abbrev pub open_step : Option Text → ℕ → Text → Next Event State
-open_step key n r = goes (opened key (suc n)) (state at_name (suc n)) (behind_white r)
+abbrev pub open_step : Option Text → ℕ → Text → Next Event LineStand
+open_step key n r = goes (opened key (suc n)) (line_stand at_name (suc n)) (behind_white r)
 
-unfoldable pub name_step : ℕ → Text → Next Event State
+unfoldable pub name_step : ℕ → Text → Next Event LineStand
 name_step n t =
     with_or (after left_parenthesis t) (open_step None n)
-    (with_or (slice_at t) (λ p. goes (path_event None p.0 n) (state (behind_name p.0) n) p.1) stuck)
+    (with_or (slice_at t) (λ p. goes (path_event None p.0 n) (line_stand (behind_name p.0) n) p.1) stuck)
 
 -- a reserved word behind no key
 abbrev pub is_excluded : Option Text → Text → Bool
 is_excluded None raw = is_reserved raw
 is_excluded (Some key) raw = false
 
-abbrev pub path_step : Option Text → ℕ → Text → Next Event State
+abbrev pub path_step : Option Text → ℕ → Text → Next Event LineStand
 path_step key n t =
     with_or (slice_at t)
-    (λ p. if is_excluded key p.0 then stuck else goes (path_event key p.0 n) (state at_items n) p.1) stuck
+    (λ p. if is_excluded key p.0 then stuck else goes (path_event key p.0 n) (line_stand at_items n) p.1) stuck
 
-unfoldable pub parameter_step : Option Text → ℕ → Text → Next Event State
+unfoldable pub parameter_step : Option Text → ℕ → Text → Next Event LineStand
 parameter_step key n t =
     with_or (after left_parenthesis t) (open_step key n)
-    (with_or (literal_at t) (λ l. goes (literal_event key l.raw (n + l.depth)) (state at_items n) l.rest)
+    (with_or (literal_at t) (λ l. goes (literal_event key l.raw (n + l.depth)) (line_stand at_items n) l.rest)
     (path_step key n t))
 
-unfoldable pub item_step : ℕ → Text → Next Event State
-item_step n t = with_or (key_at t) (λ k. parameter_step (Some k.0) n k.1) (parameter_step None n t)
+unfoldable pub item_step : ℕ → Text → Next Event LineStand
+item_step n t = with_or (key_and_equals_at t) (λ k. parameter_step (Some k.0) n k.1) (parameter_step None n t)
 
 abbrev pub may_follow : Stand → Bool
 may_follow at_name = false
@@ -83,19 +83,19 @@ may_follow at_items = true
 may_follow at_end = false
 
 -- an item behind white, where items may follow
-abbrev pub next_step : Stand → ℕ → Text → Next Event State
+abbrev pub next_step : Stand → ℕ → Text → Next Event LineStand
 next_step s n t = if may_follow s && starts is_white t then item_step n (behind_white t) else stuck
 
 -- the end, where no parenthesis is open
-abbrev pub outer_step : Enclosure → Stand → Text → Next Event State
+abbrev pub outer_step : Enclosure → Stand → Text → Next Event LineStand
 outer_step around s t = if is_end around t then ends else next_step s 0 t
 
 -- a closing parenthesis, where one is open
-abbrev pub inner_step : Stand → ℕ → Text → Next Event State
+abbrev pub inner_step : Stand → ℕ → Text → Next Event LineStand
 inner_step s n t =
-    with_or (after right_parenthesis (behind_white t)) (λ r. goes closed (state at_items (n - 1)) r) (next_step s n t)
+    with_or (after right_parenthesis (behind_white t)) (λ r. goes closed (line_stand at_items (n - 1)) r) (next_step s n t)
 
-unfoldable pub behind_step : Enclosure → Stand → ℕ → Text → Next Event State
+unfoldable pub behind_step : Enclosure → Stand → ℕ → Text → Next Event LineStand
 behind_step around s n t = if n == 0 then outer_step around s t else inner_step s n t
 
 abbrev pub is_at_name : Stand → Bool
@@ -103,7 +103,7 @@ is_at_name at_name = true
 is_at_name at_items = false
 is_at_name at_end = false
 
-unfoldable pub line_step : Enclosure → State → Text → Next Event State
+unfoldable pub line_step : Enclosure → LineStand → Text → Next Event LineStand
 line_step around s t = if is_at_name s.stand then name_step s.level t else behind_step around s.stand s.level t
 
 -- ---- what was taken
@@ -119,8 +119,8 @@ abbrev pub most_open : ℕ → List Event → ℕ
 most_open m [] = m
 most_open m (x ∷ xs) = most_open (max m (height x)) xs
 
--- a call that is not yet closed: the key before it, its name, and the terms so far
-pub record Frame : Type 0 where
+-- a line that is not yet closed: the key before it, its name, and the terms so far
+pub record OpenLine : Type 0 where
   pub key : Option Text
   pub name : Option Term
   pub terms : Terms
@@ -129,49 +129,49 @@ abbrev pub joined : Terms → Terms → Terms
 joined no_terms more = more
 joined (term key t rest) more = term key t (joined rest more)
 
-abbrev pub new_frame : Option Text → Frame
-new_frame key = record { key = key; name = None; terms = no_terms }
+abbrev pub begun_line : Option Text → OpenLine
+begun_line key = record { key = key; name = None; terms = no_terms }
 
 -- The first term is the name.
-abbrev pub add_term : Option Text → Term → Frame → Frame
+abbrev pub add_term : Option Text → Term → OpenLine → OpenLine
 add_term key t f =
     with_or f.name
     (λ name. record { key = f.key; name = Some name; terms = joined f.terms (term key t no_terms) })
     (record { key = f.key; name = Some t; terms = f.terms })
 
--- the innermost call, and those around it
-pub record Frames : Type 0 where
-  pub top : Frame
-  pub around : List Frame
+-- the innermost line, and those around it
+pub record OpenLines : Type 0 where
+  pub top : OpenLine
+  pub around : List OpenLine
 
-abbrev pub first_frames : Frames
-first_frames = record { top = new_frame None; around = [] }
+abbrev pub first_lines : OpenLines
+first_lines = record { top = begun_line None; around = [] }
 
-abbrev pub opened_in : Option Text → Frames → Frames
-opened_in key fs = record { top = new_frame key; around = fs.top ∷ fs.around }
+abbrev pub opened_in : Option Text → OpenLines → OpenLines
+opened_in key fs = record { top = begun_line key; around = fs.top ∷ fs.around }
 
-abbrev pub added_in : Option Text → Term → Frames → Frames
+abbrev pub added_in : Option Text → Term → OpenLines → OpenLines
 added_in key t fs = record { top = add_term key t fs.top; around = fs.around }
 
--- the innermost call becomes a term of the one around it
-abbrev pub closed_in : Frame → List Frame → Option Frames
+-- the innermost line becomes a term of the one around it
+abbrev pub closed_in : OpenLine → List OpenLine → Option OpenLines
 closed_in f [] = None
 closed_in f (g ∷ gs) =
     option_map (λ name. record { top = add_term f.key (call_term name f.terms) g; around = gs }) f.name
 
-abbrev pub build : Frames → Event → Option Frames
+abbrev pub build : OpenLines → Event → Option OpenLines
 build fs (opened key n) = Some (opened_in key fs)
 build fs (literal_event key raw n) = Some (added_in key (literal_term raw) fs)
 build fs (path_event key raw n) = option_map (λ means. added_in key (path_term means) fs) (path_of raw)
 build fs closed = closed_in fs.top fs.around
 
-abbrev pub build_all : Frames → List Event → Option Frames
+abbrev pub build_all : OpenLines → List Event → Option OpenLines
 build_all fs [] = Some fs
 build_all fs (x ∷ xs) = build fs x >>= λ gs. build_all gs xs
 
 -- the line that the events are
-abbrev pub line_in : ℕ → Frames → Option Line
+abbrev pub line_in : ℕ → OpenLines → Option Line
 line_in depth fs = option_map (λ name. record { name = name; terms = fs.top.terms; depth = depth }) fs.top.name
 
 abbrev pub line_from : List Event → Option Line
-line_from xs = build_all first_frames xs >>= line_in (most_open 0 xs)
+line_from xs = build_all first_lines xs >>= line_in (most_open 0 xs)

@@ -5,12 +5,12 @@ use denote.Ref.{Bor}
 use Rattle.handlebars_base.specs.Bytes.{Text}
 use Rattle.handlebars_lines.specs.Runs.{Next, goes, ends, stuck}
 use Rattle.handlebars_lines.specs.Line.{Enclosure, in_tag, in_block, in_parentheses}
-use Rattle.handlebars_lines.specs.LineReading.{Event, opened, literal_event, path_event, closed, Stand, at_name, at_items, at_end, State, state, height}
+use Rattle.handlebars_lines.specs.LineReading.{Event, opened, literal_event, path_event, closed, Stand, at_name, at_items, at_end, LineStand, line_stand, height}
 use Rattle.handlebars_lines.specs.declared.line.step.Enclosure.{Enclosure as ReadEnclosure}
 use Rattle.handlebars_lines.specs.declared.line.step.Enclosure.TheVariants.{Tag, Block, Parentheses}
 use Rattle.handlebars_lines.specs.declared.line.step.Stand.{Stand as ReadStand}
 use Rattle.handlebars_lines.specs.declared.line.step.Stand.TheVariants as stand
-use Rattle.handlebars_lines.specs.declared.line.step.State.{State as ReadState}
+use Rattle.handlebars_lines.specs.declared.line.step.LineStand.{LineStand as ReadLineStand}
 use Rattle.handlebars_lines.specs.declared.line.step.Event.{Event as ReadEvent}
 use Rattle.handlebars_lines.specs.declared.line.step.Event.TheVariants as event
 use Rattle.handlebars_lines.specs.declared.line.step.Step.{Step}
@@ -33,8 +33,8 @@ stand_of stand.Name = at_name
 stand_of stand.Items = at_items
 stand_of stand.End = at_end
 
-abbrev pub state_of : ReadState → State
-state_of s = state (stand_of s.stand) s.level
+abbrev pub line_stand_of : ReadLineStand → LineStand
+line_stand_of s = line_stand (stand_of s.stand) s.level
 
 abbrev pub event_of : ReadEvent → Event
 event_of (event.Opened key n) = opened (key_of key) n
@@ -42,8 +42,8 @@ event_of (event.Literal key raw n) = literal_event (key_of key) raw.now n
 event_of (event.Path key raw n) = path_event (key_of key) raw.now n
 event_of event.Closed = closed
 
-abbrev pub step_of : Step → Next Event State
-step_of (step.Goes x s rest) = goes (event_of x) (state_of s) rest.now
+abbrev pub step_of : Step → Next Event LineStand
+step_of (step.Goes x s rest) = goes (event_of x) (line_stand_of s) rest.now
 step_of step.Ends = ends
 step_of step.Stuck = stuck
 

@@ -2,8 +2,8 @@
 use Rattle.std.specs.Prelude.{ℕ, suc, ◌+◌, ◌-◌, Bool, true, false, not, ◌&&◌, ◌||◌, ◌==◌, if◌then◌else◌, max, List, [], ◌∷◌, length, take, drop, Option, Some, None, is_some}
 use Rattle.std.specs.List.{prefix_len}
 use Rattle.handlebars_base.specs.Bytes.{Text, double_quote, single_quote, colon, backslash, left_bracket, left_brace, behind_white}
-use Rattle.handlebars_base.specs.PathReading.{◌>>=◌, with_or, after}
-use Rattle.handlebars_base.specs.Texts.{starts}
+use Rattle.handlebars_base.specs.Options.{◌>>=◌, with_or}
+use Rattle.handlebars_base.specs.Texts.{starts, after}
 use Rattle.handlebars_lines.specs.Runs.{Next, goes, ends, stuck, run}
 use Rattle.handlebars_lines.specs.Literal.{comma, is_number, is_kept, is_word, Bracket, array, object, closer, goes_on}
 
@@ -34,8 +34,8 @@ undoubled_at true t = plain_at t
 undoubled_at false t = with_or (after single_quote t) (behind_quote single_quote false) (plain_at t)
 
 -- what follows a text in quotes, a number or a word, inside brackets or not
-unfoldable pub atom_at : Bool → Text → Option Text
-atom_at inside t = with_or (after double_quote t) (behind_quote double_quote false) (undoubled_at inside t)
+unfoldable pub unbracketed_at : Bool → Text → Option Text
+unbracketed_at inside t = with_or (after double_quote t) (behind_quote double_quote false) (undoubled_at inside t)
 
 -- Whether the number in front is kept. Where another literal stands in front there is none to lose.
 unfoldable pub keeps_at : Text → Bool
@@ -46,46 +46,46 @@ abbrev pub behind_colon : Text → Option Text
 behind_colon t = after colon (behind_white t) >>= λ r. Some (behind_white r)
 
 -- what follows a key, its colon and white
-unfoldable pub key_at : Text → Option Text
-key_at t = after double_quote t >>= behind_quote double_quote false >>= behind_colon
+unfoldable pub behind_key : Text → Option Text
+behind_key t = after double_quote t >>= behind_quote double_quote false >>= behind_colon
 
 -- where an entry's literal stands
 abbrev pub behind_lead : Bracket → Text → Option Text
 behind_lead array t = Some t
-behind_lead object t = key_at t
+behind_lead object t = behind_key t
 
 -- what stands next, and what follows it: a literal with no brackets, its number kept or not; empty brackets; an opening bracket and what
 -- leads to its first entry; a comma and what leads to another; or a closing bracket
 pub data Token : Type 0 where
-  atom : Bool → Text → Token
-  hollow : Text → Token
-  opening : Bracket → Text → Token
-  next : Text → Token
-  shutting : Text → Token
-  finished : Token
-  misfit : Token
+  unbracketed : Bool → Text → Token
+  empty_brackets : Text → Token
+  opening_bracket : Bracket → Text → Token
+  another_entry : Text → Token
+  closing_bracket : Text → Token
+  literal_end : Token
+  no_token : Token
 
 -- behind an opening bracket and white
 unfoldable pub bracket_token : Bracket → Text → Token
-bracket_token k t = with_or (after (closer k) t) hollow (with_or (behind_lead k t) (opening k) misfit)
+bracket_token k t = with_or (after (closer k) t) empty_brackets (with_or (behind_lead k t) (opening_bracket k) no_token)
 
 -- where a literal is to stand, inside brackets or not
 unfoldable pub value_token : Bool → Text → Token
 value_token inside t =
     with_or (after left_bracket t) (λ r. bracket_token array (behind_white r))
-    (with_or (after left_brace t) (λ r. bracket_token object (behind_white r)) (with_or (atom_at inside t) (atom (keeps_at t)) misfit))
+    (with_or (after left_brace t) (λ r. bracket_token object (behind_white r)) (with_or (unbracketed_at inside t) (unbracketed (keeps_at t)) no_token))
 
 -- behind a comma
 abbrev pub comma_token : Bracket → Text → Token
-comma_token k t = with_or (behind_lead k (behind_white t)) next misfit
+comma_token k t = with_or (behind_lead k (behind_white t)) another_entry no_token
 
 -- behind an entry and white
 unfoldable pub entry_token : Bracket → Text → Token
-entry_token k t = with_or (after comma t) (comma_token k) (with_or (after (closer k) t) shutting misfit)
+entry_token k t = with_or (after comma t) (comma_token k) (with_or (after (closer k) t) closing_bracket no_token)
 
 -- behind a literal, in brackets or not
 abbrev pub behind_token : Option Bracket → Text → Token
-behind_token None t = finished
+behind_token None t = literal_end
 behind_token (Some k) t = entry_token k (behind_white t)
 
 unfoldable pub token_at : Bool → Option Bracket → Text → Token
@@ -120,13 +120,13 @@ abbrev pub reads : Bool → Find
 reads kept = record { height = 0; keeps = kept }
 
 abbrev pub taken : List Bracket → Token → Next Find Place
-taken ks (atom kept r) = goes (reads kept) (behind ks) r
-taken ks (hollow r) = goes (opens (suc (length ks))) (behind ks) r
-taken ks (opening k r) = goes (opens (suc (length ks))) (ahead (k ∷ ks)) r
-taken ks (next r) = goes (opens 0) (ahead ks) r
-taken ks (shutting r) = goes (opens 0) (behind (outer ks)) r
-taken ks finished = ends
-taken ks misfit = stuck
+taken ks (unbracketed kept r) = goes (reads kept) (behind ks) r
+taken ks (empty_brackets r) = goes (opens (suc (length ks))) (behind ks) r
+taken ks (opening_bracket k r) = goes (opens (suc (length ks))) (ahead (k ∷ ks)) r
+taken ks (another_entry r) = goes (opens 0) (ahead ks) r
+taken ks (closing_bracket r) = goes (opens 0) (behind (outer ks)) r
+taken ks literal_end = ends
+taken ks no_token = stuck
 
 abbrev pub literal_step : Place → Text → Next Find Place
 literal_step (ahead ks) t = taken ks (value_token (is_some (innermost ks)) t)
@@ -145,21 +145,21 @@ all_kept b (x ∷ xs) = all_kept (b && x.keeps) xs
 -- ---- the literal in front
 
 -- a literal's text, what follows it, how deep it is, and whether its numbers are kept
-pub record Slice : Type 0 where
+pub record LiteralSlice : Type 0 where
   pub raw : Text
   pub rest : Text
   pub depth : ℕ
   pub kept : Bool
 
-abbrev pub cut_to : Text → Text → ℕ → Bool → Slice
+abbrev pub cut_to : Text → Text → ℕ → Bool → LiteralSlice
 cut_to t rest depth kept = record { raw = take (length t - length rest) t; rest = rest; depth = depth; kept = kept }
 
 -- the literal that ends ahead of this rest, unless its last word goes on there
-abbrev pub slice_to : Text → Text → ℕ → Bool → Option Slice
+abbrev pub slice_to : Text → Text → ℕ → Bool → Option LiteralSlice
 slice_to t rest depth kept = if starts goes_on rest then None else Some (cut_to t rest depth kept)
 
-abbrev pub slice_in : Text → List Find × Text → Option Slice
+abbrev pub slice_in : Text → List Find × Text → Option LiteralSlice
 slice_in t r = slice_to t r.1 (most 0 r.0) (all_kept true r.0)
 
-unfoldable pub literal_at : Text → Option Slice
+unfoldable pub literal_at : Text → Option LiteralSlice
 literal_at t = run literal_step (length t + 1) (ahead []) t >>= slice_in t

@@ -1,12 +1,12 @@
 -- What the program's tokens and slices of literals stand for.
 use Rattle.std.specs.Prelude.{Bool, true, false, List, map, reverse}
 use Rattle.handlebars_lines.specs.Literal.{Bracket, array, object}
-use Rattle.handlebars_lines.specs.LiteralReading.{Token, atom, hollow, opening, next, shutting, finished, misfit, Place, ahead, behind, Slice}
+use Rattle.handlebars_lines.specs.LiteralReading.{Token, unbracketed, empty_brackets, opening_bracket, another_entry, closing_bracket, literal_end, no_token, Place, ahead, behind, LiteralSlice}
 use Rattle.handlebars_lines.specs.declared.literal.Bracket.{Bracket as ReadBracket}
 use Rattle.handlebars_lines.specs.declared.literal.Bracket.TheVariants.{Array, Object}
 use Rattle.handlebars_lines.specs.declared.literal.Token.{Token as ReadToken}
 use Rattle.handlebars_lines.specs.declared.literal.Token.TheVariants as token
-use Rattle.handlebars_lines.specs.declared.literal.LiteralSlice.{LiteralSlice}
+use Rattle.handlebars_lines.specs.declared.literal.LiteralSlice.{LiteralSlice as ReadLiteralSlice}
 
 abbrev pub bracket_of : ReadBracket → Bracket
 bracket_of Array = array
@@ -21,13 +21,13 @@ place_of true ks = ahead (stack_of ks)
 place_of false ks = behind (stack_of ks)
 
 abbrev pub token_of : ReadToken → Token
-token_of (token.Atom kept rest) = atom kept rest.now
-token_of (token.Hollow rest) = hollow rest.now
-token_of (token.Opening k rest) = opening (bracket_of k) rest.now
-token_of (token.Next rest) = next rest.now
-token_of (token.Shutting rest) = shutting rest.now
-token_of token.Finished = finished
-token_of token.Misfit = misfit
+token_of (token.Unbracketed kept rest) = unbracketed kept rest.now
+token_of (token.EmptyBrackets rest) = empty_brackets rest.now
+token_of (token.OpeningBracket k rest) = opening_bracket (bracket_of k) rest.now
+token_of (token.AnotherEntry rest) = another_entry rest.now
+token_of (token.ClosingBracket rest) = closing_bracket rest.now
+token_of token.LiteralEnd = literal_end
+token_of token.NoToken = no_token
 
-abbrev pub slice_of : LiteralSlice → Slice
+abbrev pub slice_of : ReadLiteralSlice → LiteralSlice
 slice_of slice = record { raw = slice.raw.now; rest = slice.rest.now; depth = slice.depth; kept = slice.kept }

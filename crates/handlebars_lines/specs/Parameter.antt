@@ -3,8 +3,8 @@
 use Rattle.std.specs.Prelude.{◌≡◌, ◌≢◌, ℕ, suc, Bool, true, false, ◌||◌, max, [], ◌∷◌, ◌++◌, codes, Option, Some, None, ⊤}
 use Rattle.std.specs.List.{list_all}
 use Rattle.std.specs.Str.{bytes_eq}
-use Rattle.handlebars_base.specs.Bytes.{Text, equals_sign}
-use Rattle.handlebars_base.specs.Path.{is_symbol, IsIdentifier, IsPath, Reference}
+use Rattle.handlebars_base.specs.Bytes.{Text, equals_sign, is_symbol}
+use Rattle.handlebars_base.specs.Path.{IsIdentifier, IsPath, Reference}
 use Rattle.handlebars_base.specs.Texts.{IsWhite, starts}
 use Rattle.handlebars_lines.specs.Literal.{Literal, spelled_literal, IsLiteral, literal_depth, goes_on, IsLiteralAt}
 
@@ -32,20 +32,20 @@ mutual
 
 -- A literal; a path with what it means; or a line in parentheses, with white on either side of it.
 mutual
-  pub data Shape : Type 0 where
-    literal_shape : Literal → Shape
-    path_shape : Text → Reference → Shape
-    nested_shape : Text → Shape → Items → Text → Shape
+  pub data TermShape : Type 0 where
+    literal_shape : Literal → TermShape
+    path_shape : Text → Reference → TermShape
+    nested_shape : Text → TermShape → Items → Text → TermShape
 
   -- What follows a name: parameters, each behind white, and pairs, each behind white: a key, and its parameter, with
   -- white on either side of the `=`.
   pub data Items : Type 0 where
     no_items : Items
-    parameter_item : Text → Shape → Items → Items
-    pair_item : Text → Text → Text → Text → Shape → Items → Items
+    parameter_item : Text → TermShape → Items → Items
+    pair_item : Text → Text → Text → Text → TermShape → Items → Items
 
 abbrev mutual
-  pub spelled_shape : Shape → Text
+  pub spelled_shape : TermShape → Text
   spelled_shape (literal_shape l) = spelled_literal l
   spelled_shape (path_shape t means) = t
   spelled_shape (nested_shape w name items v) =
@@ -65,7 +65,7 @@ lacks_items (parameter_item w p more) = false
 lacks_items (pair_item w key u v p more) = false
 
 -- what may be a line's name: a line in parentheses, an identifier, or, with no items behind it, any path
-abbrev pub is_name : Shape → Items → Bool
+abbrev pub is_name : TermShape → Items → Bool
 is_name (literal_shape l) items = false
 is_name (path_shape t means) items = list_all is_symbol t || lacks_items items
 is_name (nested_shape w name inner v) items = true
@@ -75,20 +75,20 @@ abbrev pub is_reserved : Text → Bool
 is_reserved t = bytes_eq t (codes "as") || bytes_eq t (codes "else")
 
 -- A path that is a reserved word is no parameter behind a name. Behind a key it is.
-abbrev pub IsFree : Shape → Type 0
+abbrev pub IsFree : TermShape → Type 0
 IsFree (literal_shape l) = ⊤
 IsFree (path_shape t means) = is_reserved t ≡ false
 IsFree (nested_shape w name items v) = ⊤
 
 -- Where a literal stands in front, it is the parameter, and no path is. A literal doesn't go on in the rest.
-abbrev pub IsChosen : Shape → Text → Type 0
+abbrev pub IsChosen : TermShape → Text → Type 0
 IsChosen (literal_shape l) rest = starts goes_on rest ≡ false
 IsChosen (path_shape t means) rest = (l : Literal) (behind : Text) → IsLiteralAt (t ++ rest) l behind → ⊥
 IsChosen (nested_shape w name items v) rest = ⊤
 
 -- its parts fit, in front of the rest
 abbrev mutual
-  pub Fits : Shape → Text → Type 0
+  pub Fits : TermShape → Text → Type 0
   Fits (literal_shape l) rest = IsLiteral l
   Fits (path_shape t means) rest = IsPath t means
   Fits (nested_shape w name items v) rest =
@@ -108,7 +108,7 @@ abbrev mutual
 -- ---- from the shape to the meaning
 
 abbrev mutual
-  pub term_of : Shape → Term
+  pub term_of : TermShape → Term
   term_of (literal_shape l) = literal_term (spelled_literal l)
   term_of (path_shape t means) = path_term means
   term_of (nested_shape w name items v) = call_term (term_of name) (terms_of items)
@@ -120,7 +120,7 @@ abbrev mutual
 
 -- the most parentheses and brackets of literals open at once
 abbrev mutual
-  pub depth_of : Shape → ℕ
+  pub depth_of : TermShape → ℕ
   depth_of (literal_shape l) = literal_depth l
   depth_of (path_shape t means) = 0
   depth_of (nested_shape w name items v) = suc (max (depth_of name) (items_depth items))
@@ -134,7 +134,7 @@ abbrev mutual
 
 -- The whole text is a parameter that means this, so deep.
 pub record IsParameter (text : Text) (means : Term) (depth : ℕ) : Type 0 where
-  pub shape : Shape
+  pub shape : TermShape
   pub spells : text ≡ spelled_shape shape
   pub chosen : IsChosen shape []
   pub fits : Fits shape []

@@ -3,8 +3,9 @@ use Rattle.std.specs.Prelude.{ℕ, ◌-◌, ◌&&◌, ◌==◌, nat_lt, if◌the
 use Rattle.serde_json.specs.Data.{Data}
 use Rattle.serde_json.specs.Read.{read as read_text}
 use Rattle.handlebars_base.specs.Bytes.{Text, single_quote}
-use Rattle.handlebars_base.specs.PathReading.{◌>>=◌, with_or, after}
-use Rattle.handlebars_lines.specs.LiteralReading.{Slice, literal_at}
+use Rattle.handlebars_base.specs.Options.{◌>>=◌, with_or}
+use Rattle.handlebars_base.specs.Texts.{after}
+use Rattle.handlebars_lines.specs.LiteralReading.{LiteralSlice, literal_at}
 use Rattle.handlebars_lines.specs.Worth.{double_quoted}
 
 -- what stands in front of the mark c at the end
@@ -21,7 +22,7 @@ abbrev pub json_text : Text → Text
 json_text t = with_or (unquoted t) double_quoted t
 
 -- what a literal in front of a text is worth, where it is the whole text and its numbers are kept
-abbrev pub slice_worth : Slice → Option Data
+abbrev pub slice_worth : LiteralSlice → Option Data
 slice_worth slice = if slice.kept && (length slice.rest == 0) then read_text (json_text slice.raw) else None
 
 -- what the literal is worth that a text is; a text that is none is worth nothing

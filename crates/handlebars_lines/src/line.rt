@@ -11,7 +11,7 @@ use std::alloc::{AllocError, Global};
 mod marks;
 mod step;
 
-pub use step::{Enclosure, Event, Stand, State, Step, take_step};
+pub use step::{Enclosure, Event, LineStand, Stand, Step, take_step};
 
 /// How many parentheses and brackets of a line are open at once at most, and what follows it.
 #[derive(Clone, Copy, Debug, PartialEq, Eq)]
@@ -29,7 +29,7 @@ pub fn split_line<'a>(
     ensures { IfOk result (λ read. MatchOption read (NoLine (enclosure_of around) text.now)
         (λ slice. HasLine (enclosure_of around) text.now slice.depth slice.rest.now)) }
 {
-    let mut state = State::first();
+    let mut state = LineStand::first();
     let mut rest = text;
     let mut depth = 0;
     'reading: loop {

@@ -6,7 +6,7 @@ ghost use Rattle.std.specs.Char.{is_ascii_digit};
 ghost use Rattle.std.specs.Option.{option_map};
 ghost use Rattle.handlebars_base.specs.Texts.{IsEnd};
 ghost use Rattle.handlebars_lines.specs.Literal.{is_digits, is_integer, is_decimal, is_number, number_of, is_kept_below, is_kept, is_word, closer};
-ghost use Rattle.handlebars_lines.specs.LiteralReading.{plain_at, undoubled_at, atom_at, keeps_at, behind_colon, key_at, behind_lead, bracket_token, value_token, comma_token, entry_token, token_at, innermost, slice_to, literal_at};
+ghost use Rattle.handlebars_lines.specs.LiteralReading.{plain_at, undoubled_at, unbracketed_at, keeps_at, behind_colon, behind_key, behind_lead, bracket_token, value_token, comma_token, entry_token, token_at, innermost, slice_to, literal_at};
 ghost use Rattle.handlebars_lines.specs.LiteralView.{bracket_of, stack_of, token_of, slice_of};
 ghost use Rattle.handlebars_lines.specs.Laws.{HasLiteral, NoLiteral};
 
@@ -44,17 +44,17 @@ enum Bracket {
 #[derive(Clone, Copy)]
 enum Token<'a> {
     /// A literal with no brackets, its number kept or not.
-    Atom(bool, &'a str),
+    Unbracketed(bool, &'a str),
     /// Brackets with white alone.
-    Hollow(&'a str),
+    EmptyBrackets(&'a str),
     /// An opening bracket and what leads to its first entry.
-    Opening(Bracket, &'a str),
+    OpeningBracket(Bracket, &'a str),
     /// A comma and what leads to another entry.
-    Next(&'a str),
+    AnotherEntry(&'a str),
     /// A closing bracket.
-    Shutting(&'a str),
-    Finished,
-    Misfit,
+    ClosingBracket(&'a str),
+    LiteralEnd,
+    NoToken,
 }
 
 fn all_digits(bytes: &[u8]) -> bool
@@ -161,9 +161,9 @@ fn undoubled_at(inside: bool, text: &str) -> Option<&str>
     }
 }
 
-#[tactic(auto, unfolding(crate::specs::LiteralReading::atom_at))]
-fn atom_at(inside: bool, text: &str) -> Option<&str>
-    ensures { option_map (λ rest. rest.now) result ≡ atom_at inside text.now }
+#[tactic(auto, unfolding(crate::specs::LiteralReading::unbracketed_at))]
+fn unbracketed_at(inside: bool, text: &str) -> Option<&str>
+    ensures { option_map (λ rest. rest.now) result ≡ unbracketed_at inside text.now }
 {
     match after(b'"', text) {
         Some(rest) => behind_quote(b'"', rest),
@@ -187,9 +187,9 @@ fn behind_colon(text: &str) -> Option<&str>
     Some(behind_white(rest))
 }
 
-#[tactic(auto, unfolding(crate::specs::LiteralReading::key_at))]
-fn key_at(text: &str) -> Option<&str>
-    ensures { option_map (λ rest. rest.now) result ≡ key_at text.now }
+#[tactic(auto, unfolding(crate::specs::LiteralReading::behind_key))]
+fn behind_key(text: &str) -> Option<&str>
+    ensures { option_map (λ rest. rest.now) result ≡ behind_key text.now }
 {
     let rest = behind_quote(b'"', after(b'"', text)?)?;
     behind_colon(rest)
@@ -200,7 +200,7 @@ fn behind_lead(bracket: Bracket, text: &str) -> Option<&str>
 {
     match bracket {
         Bracket::Array => Some(text),
-        Bracket::Object => key_at(text),
+        Bracket::Object => behind_key(text),
     }
 }
 
@@ -220,11 +220,11 @@ fn bracket_token(bracket: Bracket, text: &str) -> Token<'_>
     ensures { token_of result ≡ bracket_token (bracket_of bracket) text.now }
 {
     if let Some(rest) = after(closer(bracket), text) {
-        return Token::Hollow(rest);
+        return Token::EmptyBrackets(rest);
     }
     match behind_lead(bracket, text) {
-        Some(rest) => Token::Opening(bracket, rest),
-        None => Token::Misfit,
+        Some(rest) => Token::OpeningBracket(bracket, rest),
+        None => Token::NoToken,
     }
 }
 
@@ -239,9 +239,9 @@ fn value_token(inside: bool, text: &str) -> Token<'_>
     if let Some(rest) = after(b'{', text) {
         return bracket_token(Bracket::Object, behind_white(rest));
     }
-    match atom_at(inside, text) {
-        Some(rest) => Token::Atom(keeps_at(text), rest),
-        None => Token::Misfit,
+    match unbracketed_at(inside, text) {
+        Some(rest) => Token::Unbracketed(keeps_at(text), rest),
+        None => Token::NoToken,
     }
 }
 
@@ -249,8 +249,8 @@ fn comma_token(bracket: Bracket, text: &str) -> Token<'_>
     ensures { token_of result ≡ comma_token (bracket_of bracket) text.now }
 {
     match behind_lead(bracket, behind_white(text)) {
-        Some(rest) => Token::Next(rest),
-        None => Token::Misfit,
+        Some(rest) => Token::AnotherEntry(rest),
+        None => Token::NoToken,
     }
 }
 
@@ -263,8 +263,8 @@ fn entry_token(bracket: Bracket, text: &str) -> Token<'_>
         return comma_token(bracket, rest);
     }
     match after(closer(bracket), text) {
-        Some(rest) => Token::Shutting(rest),
-        None => Token::Misfit,
+        Some(rest) => Token::ClosingBracket(rest),
+        None => Token::NoToken,
     }
 }
 
@@ -278,7 +278,7 @@ fn token_at(ahead: bool, innermost: Option<Bracket>, text: &str) -> Token<'_>
     }
     match innermost {
         Some(bracket) => entry_token(bracket, behind_white(text)),
-        None => Token::Finished,
+        None => Token::LiteralEnd,
     }
 }
 
@@ -338,32 +338,32 @@ pub(crate) fn literal_at(alloc: Global, text: &str) -> Result<Option<LiteralSlic
     let mut kept = true;
     'reading: loop {
         match token_in(ahead, &around, rest) {
-            Token::Atom(keeps, behind) => {
+            Token::Unbracketed(keeps, behind) => {
                 kept &= keeps;
                 ahead = false;
                 rest = behind;
             }
-            Token::Hollow(behind) => {
+            Token::EmptyBrackets(behind) => {
                 depth = larger(depth, around.len() + 1);
                 ahead = false;
                 rest = behind;
             }
-            Token::Opening(bracket, behind) => {
+            Token::OpeningBracket(bracket, behind) => {
                 depth = open_bracket(&mut around, bracket, depth)?;
                 ahead = true;
                 rest = behind;
             }
-            Token::Next(behind) => {
+            Token::AnotherEntry(behind) => {
                 ahead = true;
                 rest = behind;
             }
-            Token::Shutting(behind) => {
+            Token::ClosingBracket(behind) => {
                 around.pop();
                 ahead = false;
                 rest = behind;
             }
-            Token::Finished => return Ok(slice_to(text, rest, depth, kept)),
-            Token::Misfit => return Ok(None),
+            Token::LiteralEnd => return Ok(slice_to(text, rest, depth, kept)),
+            Token::NoToken => return Ok(None),
         }
     }
 }

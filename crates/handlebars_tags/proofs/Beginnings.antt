@@ -3,9 +3,9 @@ use Rattle.std.proofs.Common.{◌≡◌, ◌≢◌, ◌<◌, Bool, true, false, 
 use Rattle.std.specs.List.{AllByRecursion}
 use Rattle.std.proofs.lemmas.Option.{same_Some, none-some}
 use Rattle.handlebars_base.specs.Bytes.{Text, behind_white}
-use Rattle.handlebars_base.specs.PathReading.{◌>>=◌, after}
+use Rattle.handlebars_base.specs.Options.{◌>>=◌}
 use Rattle.handlebars_base.proofs.OptionBinds.{bind_some, with_or_is, cond_is}
-use Rattle.handlebars_base.specs.Texts.{IsEnd}
+use Rattle.handlebars_base.specs.Texts.{IsEnd, after}
 use Rattle.handlebars_base.proofs.Ends.{end-all, end-behind, end-white, end-after_white, length-end}
 use Rattle.handlebars_lines.specs.Line.{tilde}
 use Rattle.handlebars_tags.specs.Kind.{Kind, expression_kind, html_kind, html_sign_kind, block_kind, close_kind, inverse_kind, else_kind, raw_kind, raw_close_kind, comment_kind, other_kind, past, Beginning, beginning, tilde_at, Tilde, maybe_tilde, a_tilde, no_tilde, Sign, no_sign, mark, word, Row, row, rows, behind_tilde, ends_word, behind_sign, row_at, first_of, beginning_of}

@@ -2,8 +2,8 @@
 use Rattle.std.proofs.Common.{◌≡◌, ℕ, true, Some, None, refl, sym, ap, subst, ◌∙◌}
 use Rattle.std.specs.List.{list_all}
 use Rattle.std.proofs.lemmas.Option.{same_Some, none-some, cond_some}
-use Rattle.handlebars_base.specs.Bytes.{Text}
-use Rattle.handlebars_base.specs.Path.{is_symbol, Reference, raw_of}
+use Rattle.handlebars_base.specs.Bytes.{Text, is_symbol}
+use Rattle.handlebars_base.specs.Path.{Reference, raw_of}
 use Rattle.handlebars_lines.specs.Parameter.{Term, literal_term, path_term, call_term, Terms}
 use Rattle.handlebars_lines.specs.Line.{Line, in_block, IsLine, NoLine}
 use Rattle.handlebars_lines.specs.Binding.{Binding, IsBinding, NoBinding}

@@ -8,8 +8,7 @@ use Rattle.std.proofs.lemmas.Bool.{or_parts, eqb-true}
 use Rattle.std.proofs.lemmas.List.Sums.{prefix_len-le-length, prefix_len_stops}
 use Rattle.std.proofs.lemmas.List.Quantifiers.{position-Some}
 use Rattle.std.proofs.Math.Seq.{get_or-drop}
-use Rattle.handlebars_base.specs.Bytes.{Text}
-use Rattle.handlebars_base.specs.Path.{is_symbol}
+use Rattle.handlebars_base.specs.Bytes.{Text, is_symbol}
 use Rattle.handlebars_base.proofs.Bytes.{no_symbol_ascii}
 use Rattle.handlebars_tags.specs.Tag.{is_close_symbol}
 

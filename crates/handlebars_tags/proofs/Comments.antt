@@ -9,10 +9,9 @@ use Rattle.std.proofs.lemmas.Bool.{cases_Bool}
 use Rattle.std.proofs.lemmas.Option.{same_Some, none-some}
 use Rattle.std.proofs.lemmas.List.{append_cancel_right}
 use Rattle.handlebars_base.specs.Bytes.{Text, right_brace, is_white, behind_white}
-use Rattle.handlebars_base.specs.PathReading.{after}
 use Rattle.handlebars_base.proofs.OptionBinds.{bind_some, none_or_some}
 use Rattle.handlebars_base.proofs.Fronts.{after_other}
-use Rattle.handlebars_base.specs.Texts.{IsEnd}
+use Rattle.handlebars_base.specs.Texts.{IsEnd, after}
 use Rattle.handlebars_base.proofs.Ends.{end-behind, end-white}
 use Rattle.handlebars_base.proofs.Bytes.{other_byte}
 use Rattle.handlebars_tags.specs.Kind.{past}

@@ -2,8 +2,7 @@
 use Rattle.std.proofs.Common.{◌≡◌, ◌≢◌, Bool, true, false, [], Some, None, refl, sym, ap, ◌∙◌, ◌⊎◌, inl, inr}
 use Rattle.std.proofs.lemmas.Option.{none-some}
 use Rattle.handlebars_base.specs.Bytes.{Text, behind_white, is_white}
-use Rattle.handlebars_base.specs.PathReading.{symbols_of, behind_symbols}
-use Rattle.handlebars_base.specs.Texts.{starts}
+use Rattle.handlebars_base.specs.Texts.{starts, symbols_of, behind_symbols}
 use Rattle.handlebars_lines.specs.Line.{Line, in_tag, IsLine}
 use Rattle.handlebars_lines.proofs.Lines.{one_line}
 use Rattle.handlebars_tags.specs.Kind.{Kind, expression_kind, html_kind, html_sign_kind, block_kind, close_kind, inverse_kind, else_kind, raw_kind, raw_close_kind, comment_kind, other_kind, closing_of}

@@ -12,7 +12,7 @@ use Rattle.handlebars_tags.specs.TagView.{Holds, HoldsLine, HoldsBlock, HasBlock
 use Rattle.handlebars_tags.specs.declared.tag.inside.Inside.{Inside}
 use Rattle.handlebars_tags.specs.declared.tag.inside.Content.{Content}
 use Rattle.handlebars_tags.specs.declared.tag.inside.Content.TheVariants.{Expression, Html, Inverse, Close, RawClose, Comment}
-use Rattle.handlebars_base.specs.PathReading.{symbols_of, behind_symbols}
+use Rattle.handlebars_base.specs.Texts.{symbols_of, behind_symbols}
 use Rattle.handlebars_lines.specs.LineView.{texts_of}
 use Rattle.handlebars_tags.specs.declared.tag.inside.BlockRead.{BlockRead}
 use Rattle.handlebars_tags.proofs.Insides.{OnlyBlock, none-closed_line, none-expression, none-html, none-html_sign, none_closing-block, none-close, none-raw_close, none-inverse}

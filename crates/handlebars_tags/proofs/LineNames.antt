@@ -2,12 +2,13 @@
 use Rattle.std.proofs.Common.{◌≡◌, true, false, cond, [], ◌∷◌, ◌++◌, Option, Some, None, refl, sym, ap, subst, ◌∙◌}
 use Rattle.std.specs.List.{list_all}
 use Rattle.std.proofs.lemmas.Bool.{false≢true}
-use Rattle.handlebars_base.specs.Bytes.{Text}
-use Rattle.handlebars_base.specs.Path.{is_symbol, raw_of, meaning, Shape as PathShape, itself, at_root, at_name, in_parts}
-use Rattle.handlebars_base.specs.PathReading.{◌>>=◌, stops, slice_at}
+use Rattle.handlebars_base.specs.Bytes.{Text, is_symbol}
+use Rattle.handlebars_base.specs.Path.{raw_of, meaning, Shape as PathShape, itself, at_root, at_name, in_parts}
+use Rattle.handlebars_base.specs.PathReading.{stops, slice_at}
+use Rattle.handlebars_base.specs.Options.{◌>>=◌}
 use Rattle.handlebars_base.proofs.References.{stops-path}
 use Rattle.handlebars_base.specs.Texts.{starts}
-use Rattle.handlebars_lines.specs.Parameter.{left_parenthesis, Shape, literal_shape, path_shape, nested_shape, Items, is_name, spelled_shape, spelled_items, Fits, AreItems, term_of}
+use Rattle.handlebars_lines.specs.Parameter.{left_parenthesis, TermShape, literal_shape, path_shape, nested_shape, Items, is_name, spelled_shape, spelled_items, Fits, AreItems, term_of}
 use Rattle.handlebars_lines.specs.Line.{Line, Enclosure, IsLine, Closes}
 use Rattle.handlebars_lines.proofs.LineMarks.{slice_at-some, slice_at-stops}
 use Rattle.handlebars_lines.proofs.LineFronts.{begins, shape_starts, items_follow, follows_stops}
@@ -45,7 +46,7 @@ raw-meaning t (at_root links) = refl
 raw-meaning t (at_name n name links) = refl
 raw-meaning t (in_parts dotted p links) = refl
 
-name-identifier : (around : Enclosure) (s : Shape) (items : Items) (left : Text) → is_name s items ≡ true → Fits s (spelled_items items ++ left) → AreItems items left → Closes around left
+name-identifier : (around : Enclosure) (s : TermShape) (items : Items) (left : Text) → is_name s items ≡ true → Fits s (spelled_items items ++ left) → AreItems items left → Closes around left
     → identifier_at (slice_at (spelled_shape s ++ (spelled_items items ++ left))) ≡ identifier_of (term_of s)
 name-identifier around (literal_shape l) items left named fits are closes = absurd cc
 name-identifier around (path_shape t means) items left named fits are closes =

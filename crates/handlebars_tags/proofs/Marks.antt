@@ -5,7 +5,7 @@ use Rattle.std.proofs.lemmas.List.{reverse-append, reverse-reverse, length-rever
 use Rattle.std.specs.Str.Pattern.{FindsText, SplitsAroundMatch, StripsPrefix, FindsTextPrefix, FindsTextSuffix, LacksTextAt, CutsPrefixes, CutsSuffixes, IsTrimStartMatches, IsTrimEndMatches}
 use denote.Ref.{Bor}
 use Rattle.handlebars_base.specs.Bytes.{Text}
-use Rattle.handlebars_base.specs.PathReading.{after}
+use Rattle.handlebars_base.specs.Texts.{after}
 use Rattle.handlebars_base.proofs.OptionBinds.{none_or_some, bind_some, with_or_is}
 use Rattle.handlebars_base.proofs.Fronts.{after_takes, after-same}
 use Rattle.handlebars_tags.specs.Kind.{past}

@@ -4,8 +4,7 @@ use Rattle.std.specs.Prelude.{◌==◌}
 use Rattle.std.proofs.lemmas.Option.{same_Some, none-some}
 use Rattle.std.proofs.lemmas.List.{append_cancel_right}
 use Rattle.handlebars_base.specs.Bytes.{Text, right_brace, behind_white}
-use Rattle.handlebars_base.specs.PathReading.{after}
-use Rattle.handlebars_base.specs.Texts.{starts}
+use Rattle.handlebars_base.specs.Texts.{starts, after}
 use Rattle.handlebars_base.proofs.Fronts.{starts-other, after-not}
 use Rattle.handlebars_base.proofs.Bytes.{other_byte}
 use Rattle.handlebars_lines.specs.Line.{Line, in_tag, tilde}

@@ -3,11 +3,10 @@ use Rattle.std.proofs.Common.{◌≡◌, ℕ, ◌+◌, Bool, true, false, cond, 
 use Rattle.std.specs.Prelude.{◌==◌, nat_lt}
 use Rattle.std.specs.List.{prefix_len, position_or_len}
 use Rattle.std.proofs.lemmas.Option.{same_Some, none-some}
-use Rattle.handlebars_base.specs.Bytes.{Text, right_brace, right_bracket, left_bracket, single_quote, behind_white}
-use Rattle.handlebars_base.specs.Path.{is_symbol}
-use Rattle.handlebars_base.specs.PathReading.{◌>>=◌, after}
+use Rattle.handlebars_base.specs.Bytes.{Text, right_brace, right_bracket, left_bracket, single_quote, behind_white, is_symbol}
+use Rattle.handlebars_base.specs.Options.{◌>>=◌}
 use Rattle.handlebars_base.proofs.OptionBinds.{bind_some, with_or_is}
-use Rattle.handlebars_base.specs.Texts.{starts, IsEnd}
+use Rattle.handlebars_base.specs.Texts.{starts, IsEnd, after}
 use Rattle.handlebars_base.proofs.Ends.{end-all, end-behind, end-after, end-white, end-drop}
 use Rattle.handlebars_lines.specs.Parameter.{spelled_shape, spelled_items}
 use Rattle.handlebars_lines.specs.Line.{Line, Enclosure, IsLine, tilde}

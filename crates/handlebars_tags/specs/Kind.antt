@@ -1,8 +1,8 @@
 -- The kind of a tag, by its beginning, and what closes it.
 use Rattle.std.specs.Prelude.{Bool, true, false, ◌||◌, ◌==◌, if◌then◌else◌, List, [], ◌∷◌, Option, Some, None, codes, is_some}
 use Rattle.handlebars_base.specs.Bytes.{Text, right_brace, is_white, behind_white}
-use Rattle.handlebars_base.specs.PathReading.{◌>>=◌, with_or, after}
-use Rattle.handlebars_base.specs.Texts.{starts}
+use Rattle.handlebars_base.specs.Options.{◌>>=◌, with_or}
+use Rattle.handlebars_base.specs.Texts.{starts, after}
 use Rattle.handlebars_lines.specs.Line.{tilde}
 
 -- what follows a mark of several bytes

@@ -1,10 +1,9 @@
 -- What a tag is, by the slice that spells it and what follows it.
 use Rattle.std.specs.Prelude.{◌≡◌, ◌≢◌, ℕ, ◌+◌, Bool, true, false, if◌then◌else◌, ◌==◌, ◌||◌, [], ◌++◌, Some, nat_lt, length, take, drop}
 use Rattle.std.specs.List.{list_all, prefix_len, position_or_len}
-use Rattle.handlebars_base.specs.Bytes.{Text, slash, dot, at_sign, left_bracket, right_bracket, single_quote, is_white, behind_white}
-use Rattle.handlebars_base.specs.Path.{is_symbol, Reference, raw_of}
-use Rattle.handlebars_base.specs.PathReading.{symbols_of, behind_symbols}
-use Rattle.handlebars_base.specs.Texts.{starts}
+use Rattle.handlebars_base.specs.Bytes.{Text, slash, dot, at_sign, left_bracket, right_bracket, single_quote, is_white, behind_white, is_symbol}
+use Rattle.handlebars_base.specs.Path.{Reference, raw_of}
+use Rattle.handlebars_base.specs.Texts.{starts, symbols_of, behind_symbols}
 use Rattle.handlebars_lines.specs.Parameter.{Terms, path_term}
 use Rattle.handlebars_lines.specs.Line.{Line, in_tag, in_block, IsLine}
 use Rattle.handlebars_lines.specs.Binding.{Binding, IsBinding}

@@ -1,8 +1,8 @@
 -- What stands inside tags, with what closes them. Only the code's own contracts cite this.
 use Rattle.std.specs.Prelude.{◌≡◌, Bool, Option, Some, None, if◌then◌else◌}
 use Rattle.std.specs.List.{list_all}
-use Rattle.handlebars_base.specs.Bytes.{Text}
-use Rattle.handlebars_base.specs.Path.{raw_of, is_symbol}
+use Rattle.handlebars_base.specs.Bytes.{Text, is_symbol}
+use Rattle.handlebars_base.specs.Path.{raw_of}
 use Rattle.handlebars_lines.specs.Parameter.{Term, literal_term, path_term, call_term}
 use Rattle.handlebars_lines.specs.Line.{Line, in_tag, IsLine}
 use Rattle.handlebars_tags.specs.Kind.{Kind, closing_of}

@@ -3,8 +3,7 @@
 ghost use Rattle.std.specs.Prelude.{◌≡◌, None, ◌-◌, ◌<◌, ◌≤◌, length, take, true, slice_index};
 ghost use Rattle.std.specs.List.{fold, suffix_len, list_all};
 ghost use Rattle.handlebars_base.specs.Bytes.{newline, is_white};
-ghost use Rattle.handlebars_base.specs.PathReading.{after};
-ghost use Rattle.handlebars_base.specs.Texts.{starts};
+ghost use Rattle.handlebars_base.specs.Texts.{starts, after};
 ghost use Rattle.handlebars_tags.specs.TextView.{braces_of};
 ghost use Rattle.handlebars_tags.specs.Trim.{is_blank, is_break, is_fresh_behind, breaks, is_ended, no_edge, edge_at, braces_behind, behind_blanks, behind_break, trimmed_start, trimmed_end, trimmed, has_element};
 ghost use Rattle.handlebars_tags.specs.TrimView.{edge_view};

@@ -6,7 +6,7 @@ use Rattle.std.proofs.lemmas.Bool.{cases_Bool, eqb-true, eqb-false}
 use Rattle.std.proofs.lemmas.Option.{none-some}
 use borrow.Author.Tests.{ltb-true, ltb-false}
 use Rattle.handlebars_base.specs.Bytes.{Text}
-use Rattle.handlebars_base.specs.PathReading.{after}
+use Rattle.handlebars_base.specs.Texts.{after}
 use Rattle.handlebars_tags.specs.Text.{IsText}
 use Rattle.handlebars_tags.specs.Kind.{beginning_of}
 use Rattle.handlebars_tags.specs.Trim.{Edge, no_edge, braces_behind}

@@ -8,9 +8,10 @@ use Rattle.std.specs.Ordering.{match_ordering, nat_cmp}
 use Rattle.serde_json.specs.Data.{Data}
 use Rattle.handlebars_base.specs.Bytes.{Text}
 use Rattle.handlebars_base.specs.Path.{Reference, raw_of}
-use Rattle.handlebars_base.specs.PathReading.{◌>>=◌, with_or, path_of}
+use Rattle.handlebars_base.specs.PathReading.{path_of}
+use Rattle.handlebars_base.specs.Options.{◌>>=◌, with_or}
 use Rattle.handlebars_lines.specs.Parameter.{Term, literal_term, path_term, call_term, Terms, no_terms, term}
-use Rattle.handlebars_lines.specs.LineReading.{Event, opened, literal_event, path_event, closed, Frame, joined, new_frame, add_term, Frames, added_in, closed_in, build, build_all}
+use Rattle.handlebars_lines.specs.LineReading.{Event, opened, literal_event, path_event, closed, OpenLine, joined, begun_line, add_term, OpenLines, added_in, closed_in, build, build_all}
 use Rattle.handlebars_lines.specs.WorthReading.{worth_of}
 use Rattle.handlebars_template.specs.Tree.{expression, Param, name, path, subexpression, Params, param, Pairs, no_pairs, pair, lacks_params, lacks_pairs}
 use Rattle.handlebars_template.specs.Calls.{plain_call, put_pair, literal_param, lacks_terms, param_of, name_of, params_in, pairs_in, literals_of, literals_in, first_refused}
@@ -18,26 +19,26 @@ use Rattle.handlebars_template.specs.LineBuilding.{OpenCall, open_call, OpenCall
 
 -- ---- what stands for open calls
 
-abbrev pub frame_image : Frame → OpenCall
+abbrev pub frame_image : OpenLine → OpenCall
 frame_image f = open_call f.key (option_map param_of f.name) (params_in f.terms) (pairs_in no_pairs f.terms)
 
-abbrev pub frame_literals : Frame → List Text
+abbrev pub frame_literals : OpenLine → List Text
 frame_literals f = with_or f.name literals_of [] ++ literals_in f.terms
 
 -- of the innermost call and those around it, from the outermost
-abbrev pub literals_so_far : Frame → List Frame → List Text
+abbrev pub literals_so_far : OpenLine → List OpenLine → List Text
 literals_so_far f [] = frame_literals f
 literals_so_far f (g ∷ gs) = literals_so_far g gs ++ frame_literals f
 
-abbrev pub frames_image : Frames → OpenCalls
+abbrev pub frames_image : OpenLines → OpenCalls
 frames_image fs =
     open_calls (frame_image fs.top) (map frame_image fs.around) (first_refused (literals_so_far fs.top fs.around))
 
 -- no terms stand behind a name that is still missing
-abbrev pub is_in_order : Frame → Bool
+abbrev pub is_in_order : OpenLine → Bool
 is_in_order f = is_some f.name || lacks_terms f.terms
 
-abbrev pub AreInOrder : Frame → List Frame → Type 0
+abbrev pub AreInOrder : OpenLine → List OpenLine → Type 0
 AreInOrder f [] = is_in_order f ≡ true
 AreInOrder f (g ∷ gs) = (is_in_order f ≡ true) × AreInOrder g gs
 
@@ -77,7 +78,7 @@ pairs_in-param no_terms hs t = refl
 pairs_in-param (term None u ts) hs t = pairs_in-param ts hs t
 pairs_in-param (term (Some k) u ts) hs t = pairs_in-param ts (put_pair k (param_of u) hs) t
 
-abbrev frame : Option Text → Option Term → Terms → Frame
+abbrev frame : Option Text → Option Term → Terms → OpenLine
 frame key n terms = record { key = key; name = n; terms = terms }
 
 add-by : (own : Option Text) (n : Option Term) (ts : Terms) (key : Option Text) (t : Term)
@@ -90,7 +91,7 @@ add-by own (Some n) ts (Some key) t =
     ap (λ (z : Params). open_call own (Some (param_of n)) z (pairs_in no_pairs (joined ts (term (Some key) t no_terms)))) (params_in-pair ts key t)
     ∙ ap (open_call own (Some (param_of n)) (params_in ts)) (pairs_in-joined ts no_pairs key t)
 
-pub frame_image-add : (f : Frame) (key : Option Text) (t : Term) → frame_image (add_term key t f) ≡ add key (param_of t) (frame_image f)
+pub frame_image-add : (f : OpenLine) (key : Option Text) (t : Term) → frame_image (add_term key t f) ≡ add key (param_of t) (frame_image f)
 frame_image-add f key t = add-by f.key f.name f.terms key t
 
 -- ---- the end of a call
@@ -156,7 +157,7 @@ frame_literals-by own None (term k u ts) key t h = absurd cc
 frame_literals-by own (Some n) ts key t h =
     ap (λ (z : List Text). literals_of n ++ z) (literals_in-joined ts key t) ∙ sym (append_assoc (literals_of n) (literals_in ts) (literals_of t))
 
-literals-add : (f : Frame) (fs : List Frame) (key : Option Text) (t : Term) → AreInOrder f fs
+literals-add : (f : OpenLine) (fs : List OpenLine) (key : Option Text) (t : Term) → AreInOrder f fs
     → literals_so_far (add_term key t f) fs ≡ literals_so_far f fs ++ literals_of t
 literals-add f [] key t h = frame_literals-by f.key f.name f.terms key t h
 literals-add f (g ∷ gs) key t h =
@@ -165,25 +166,25 @@ literals-add f (g ∷ gs) key t h =
 
 -- ---- a step
 
-image-opened : (key : Option Text) (f : Frame) (fs : List Frame) → first_refused (literals_so_far f fs) ≡ first_refused (literals_so_far (new_frame key) (f ∷ fs))
+image-opened : (key : Option Text) (f : OpenLine) (fs : List OpenLine) → first_refused (literals_so_far f fs) ≡ first_refused (literals_so_far (begun_line key) (f ∷ fs))
 image-opened key f fs = ap first_refused (sym (append-none (literals_so_far f fs)))
 
 -- a term is added: what it adds to the literals is still to be said
-image-added : (key : Option Text) (t : Term) (f : Frame) (fs : List Frame) (refused : Option Text) → AreInOrder f fs
+image-added : (key : Option Text) (t : Term) (f : OpenLine) (fs : List OpenLine) (refused : Option Text) → AreInOrder f fs
     → refused ≡ first_refused (literals_so_far f fs ++ literals_of t)
     → open_calls (add key (param_of t) (frame_image f)) (map frame_image fs) refused ≡ frames_image (record { top = add_term key t f; around = fs })
 image-added key t f fs refused h same =
     ap (λ (z : OpenCall). open_calls z (map frame_image fs) refused) (sym (frame_image-add f key t))
     ∙ ap (open_calls (frame_image (add_term key t f)) (map frame_image fs)) (same ∙ ap first_refused (sym (literals-add f fs key t h)))
 
-image-path : (key : Option Text) (f : Frame) (fs : List Frame) → AreInOrder f fs → (o : Option Reference)
+image-path : (key : Option Text) (f : OpenLine) (fs : List OpenLine) → AreInOrder f fs → (o : Option Reference)
     → option_map (λ means. open_calls (add key (path means) (frame_image f)) (map frame_image fs) (first_refused (literals_so_far f fs))) o
     ≡ option_map frames_image (option_map (λ means. added_in key (path_term means) (record { top = f; around = fs })) o)
 image-path key f fs h None = refl
 image-path key f fs h (Some means) =
     ap (λ (z : OpenCalls). Some z) (image-added key (path_term means) f fs (first_refused (literals_so_far f fs)) h (ap first_refused (sym (append-none (literals_so_far f fs)))))
 
-image-closed : (key : Option Text) (n : Option Term) (ts : Terms) (fs : List Frame) → AreInOrder (frame key n ts) fs
+image-closed : (key : Option Text) (n : Option Term) (ts : Terms) (fs : List OpenLine) → AreInOrder (frame key n ts) fs
     → close (frame_image (frame key n ts)) (map frame_image fs) (first_refused (literals_so_far (frame key n ts) fs))
     ≡ option_map frames_image (closed_in (frame key n ts) fs)
 image-closed key n ts [] h = refl
@@ -193,9 +194,9 @@ image-closed key (Some n) ts (g ∷ gs) h =
     ap (λ (z : Param). Some (open_calls (add key z (frame_image g)) (map frame_image gs) refused)) (called-terms n ts)
     ∙ ap (λ (z : OpenCalls). Some z) (image-added key (call_term n ts) g gs refused h.1 refl)
 
-take-image : (fs : Frames) (x : Event) → AreInOrder fs.top fs.around → take (frames_image fs) x ≡ option_map frames_image (build fs x)
+take-image : (fs : OpenLines) (x : Event) → AreInOrder fs.top fs.around → take (frames_image fs) x ≡ option_map frames_image (build fs x)
 take-image fs (opened key n) h =
-    ap (λ (z : Option Text). Some (open_calls (frame_image (new_frame key)) (frame_image fs.top ∷ map frame_image fs.around) z)) (image-opened key fs.top fs.around)
+    ap (λ (z : Option Text). Some (open_calls (frame_image (begun_line key)) (frame_image fs.top ∷ map frame_image fs.around) z)) (image-opened key fs.top fs.around)
 take-image fs (literal_event key raw n) h =
     ap (λ (z : OpenCalls). Some z) (image-added key (literal_term raw) fs.top fs.around (refuse (first_refused (literals_so_far fs.top fs.around)) raw) h (sym (first_refused-more (literals_so_far fs.top fs.around) raw)))
 take-image fs (path_event key raw n) h = image-path key fs.top fs.around h (path_of raw)
@@ -203,7 +204,7 @@ take-image fs closed h = image-closed fs.top.key fs.top.name fs.top.terms fs.aro
 
 -- ---- the order stays
 
-abbrev AreKept : Option Frames → Type 0
+abbrev AreKept : Option OpenLines → Type 0
 AreKept None = ⊤
 AreKept (Some fs) = AreInOrder fs.top fs.around
 
@@ -211,21 +212,21 @@ in_order-add : (own : Option Text) (n : Option Term) (ts : Terms) (key : Option 
 in_order-add own None ts key t = refl
 in_order-add own (Some n) ts key t = refl
 
-kept-added : (f : Frame) (fs : List Frame) (key : Option Text) (t : Term) → AreInOrder f fs → AreInOrder (add_term key t f) fs
+kept-added : (f : OpenLine) (fs : List OpenLine) (key : Option Text) (t : Term) → AreInOrder f fs → AreInOrder (add_term key t f) fs
 kept-added f [] key t h = in_order-add f.key f.name f.terms key t
 kept-added f (g ∷ gs) key t h = (in_order-add f.key f.name f.terms key t, h.1)
 
-kept-path : (f : Frame) (fs : List Frame) (key : Option Text) (o : Option Reference) → AreInOrder f fs
+kept-path : (f : OpenLine) (fs : List OpenLine) (key : Option Text) (o : Option Reference) → AreInOrder f fs
     → AreKept (option_map (λ means. added_in key (path_term means) (record { top = f; around = fs })) o)
 kept-path f fs key None h = tt
 kept-path f fs key (Some means) h = kept-added f fs key (path_term means) h
 
-kept-closed : (key : Option Text) (n : Option Term) (ts : Terms) (fs : List Frame) → AreInOrder (frame key n ts) fs → AreKept (closed_in (frame key n ts) fs)
+kept-closed : (key : Option Text) (n : Option Term) (ts : Terms) (fs : List OpenLine) → AreInOrder (frame key n ts) fs → AreKept (closed_in (frame key n ts) fs)
 kept-closed key n ts [] h = tt
 kept-closed key None ts (g ∷ gs) h = tt
 kept-closed key (Some n) ts (g ∷ gs) h = kept-added g gs key (call_term n ts) h.1
 
-build-kept : (fs : Frames) (x : Event) → AreInOrder fs.top fs.around → AreKept (build fs x)
+build-kept : (fs : OpenLines) (x : Event) → AreInOrder fs.top fs.around → AreKept (build fs x)
 build-kept fs (opened key n) h = (refl, h)
 build-kept fs (literal_event key raw n) h = kept-added fs.top fs.around key (literal_term raw) h
 build-kept fs (path_event key raw n) h = kept-path fs.top fs.around key (path_of raw) h
@@ -233,12 +234,12 @@ build-kept fs closed h = kept-closed fs.top.key fs.top.name fs.top.terms fs.arou
 
 -- ---- all steps
 
-pub take_all-image : (xs : List Event) (fs : Frames) → AreInOrder fs.top fs.around → take_all (frames_image fs) xs ≡ option_map frames_image (build_all fs xs)
+pub take_all-image : (xs : List Event) (fs : OpenLines) → AreInOrder fs.top fs.around → take_all (frames_image fs) xs ≡ option_map frames_image (build_all fs xs)
 take_all-image [] fs h = refl
 take_all-image (x ∷ xs) fs h =
     ap (λ (o : Option OpenCalls). o >>= λ gs. take_all gs xs) (take-image fs x h) ∙ on (build fs x) (build-kept fs x h) (take_all-image xs)
   where
-    on : (o : Option Frames) → AreKept o → ((gs : Frames) → AreInOrder gs.top gs.around → take_all (frames_image gs) xs ≡ option_map frames_image (build_all gs xs))
+    on : (o : Option OpenLines) → AreKept o → ((gs : OpenLines) → AreInOrder gs.top gs.around → take_all (frames_image gs) xs ≡ option_map frames_image (build_all gs xs))
         → (option_map frames_image o >>= λ gs. take_all gs xs) ≡ option_map frames_image (o >>= λ gs. build_all gs xs)
     on None kept more = refl
     on (Some gs) kept more = more gs kept

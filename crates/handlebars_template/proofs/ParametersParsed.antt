@@ -6,9 +6,11 @@ use Rattle.std.specs.Prelude.{true, false, ◌==◌, option_map}
 use Rattle.serde_json.specs.Data.{Data}
 use Rattle.handlebars_base.specs.Bytes.{Text, behind_white}
 use Rattle.handlebars_base.specs.Path.{Reference}
-use Rattle.handlebars_base.specs.PathReading.{with_or, after, path_of}
+use Rattle.handlebars_base.specs.PathReading.{path_of}
+use Rattle.handlebars_base.specs.Options.{with_or}
+use Rattle.handlebars_base.specs.Texts.{after}
 use Rattle.handlebars_lines.specs.Laws.{HasLiteral, NoLiteral}
-use Rattle.handlebars_lines.specs.LiteralReading.{Slice, literal_at}
+use Rattle.handlebars_lines.specs.LiteralReading.{LiteralSlice, literal_at}
 use Rattle.handlebars_lines.specs.Parameter.{Term, literal_term, path_term, call_term, IsParameter}
 use Rattle.handlebars_lines.specs.Line.{in_parentheses, Line, IsLine, NoLine}
 use Rattle.handlebars_lines.specs.LineLaws.{HasLine}
@@ -105,22 +107,22 @@ parses_call text inside depth built p opens h within builds worth is =
 
 -- ---- a literal
 
-pub parses_front : (text : Text) (slice : Slice) → after 40 text ≡ None → HasLiteral text slice → (length slice.rest == 0) ≡ false → Parses text (refused (invalid text))
+pub parses_front : (text : Text) (slice : LiteralSlice) → after 40 text ≡ None → HasLiteral text slice → (length slice.rest == 0) ≡ false → Parses text (refused (invalid text))
 parses_front text slice closed h more =
     unreadable (single-goes_on text slice closed (literal_at-is text slice h) (λ e. eqb-false (length slice.rest) 0 more (ap length e)))
 
-literal_parameter : (text : Text) (slice : Slice) → HasLiteral text slice → (length slice.rest == 0) ≡ true → IsParameter text (literal_term slice.raw) slice.depth
+literal_parameter : (text : Text) (slice : LiteralSlice) → HasLiteral text slice → (length slice.rest == 0) ≡ true → IsParameter text (literal_term slice.raw) slice.depth
 literal_parameter text slice h whole = literal-is text slice (literal_at-is text slice h) (length-none slice.rest whole)
 
-pub parses_deep_literal : (text : Text) (slice : Slice) → HasLiteral text slice → (length slice.rest == 0) ≡ true → 200 < slice.depth → Parses text (refused (invalid text))
+pub parses_deep_literal : (text : Text) (slice : LiteralSlice) → HasLiteral text slice → (length slice.rest == 0) ≡ true → 200 < slice.depth → Parses text (refused (invalid text))
 parses_deep_literal text slice h whole deep =
     too_deep (literal_term slice.raw) slice.depth (literal_parameter text slice h whole) deep
 
-pub parses_literal : (text : Text) (slice : Slice) (value : Data) → HasLiteral text slice → (length slice.rest == 0) ≡ true → slice.depth ≤ 200 → Some value ≡ worth_of slice.raw → Parses text (parsed (literal value))
+pub parses_literal : (text : Text) (slice : LiteralSlice) (value : Data) → HasLiteral text slice → (length slice.rest == 0) ≡ true → slice.depth ≤ 200 → Some value ≡ worth_of slice.raw → Parses text (parsed (literal value))
 parses_literal text slice value h whole within worth =
     parses_param text (literal_term slice.raw) slice.depth (literal value) (literal_parameter text slice h whole) within (rw (sym worth) refl) (rw (sym worth) refl)
 
-pub parses_worthless_literal : (text : Text) (slice : Slice) → HasLiteral text slice → (length slice.rest == 0) ≡ true → slice.depth ≤ 200 → None ≡ worth_of slice.raw → Parses text (refused (invalid slice.raw))
+pub parses_worthless_literal : (text : Text) (slice : LiteralSlice) → HasLiteral text slice → (length slice.rest == 0) ≡ true → slice.depth ≤ 200 → None ≡ worth_of slice.raw → Parses text (refused (invalid slice.raw))
 parses_worthless_literal text slice h whole within worthless =
     parses_refused text (literal_term slice.raw) slice.depth slice.raw (literal_parameter text slice h whole) within (rw (sym worthless) refl)
 
@@ -129,7 +131,7 @@ parses_worthless_literal text slice h whole within worthless =
 literal_at-missing : (text : Text) → NoLiteral text → literal_at text ≡ None
 literal_at-missing text none = on (literal_at text) refl
   where
-    on : (o : Option Slice) → literal_at text ≡ o → literal_at text ≡ None
+    on : (o : Option LiteralSlice) → literal_at text ≡ o → literal_at text ≡ None
     on None e = e
     on (Some f) e = absurd (none f (literal_at-some text f e))
 

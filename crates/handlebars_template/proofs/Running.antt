@@ -2,15 +2,15 @@
 use Rattle.std.proofs.Common.{◌≡◌, ℕ, suc, Bool, true, false, cond, Option, Some, None, [], ◌∷◌, ◌++◌, length, refl, sym, ap, ◌∙◌, subst, arith, inl, inr}
 use Rattle.std.specs.List.{list_all}
 use Rattle.std.proofs.lemmas.Option.{same_Some, none-some}
-use Rattle.handlebars_base.specs.Bytes.{Text, is_white, behind_white}
-use Rattle.handlebars_base.specs.Path.{is_symbol, Reference, raw_of}
-use Rattle.handlebars_base.specs.PathReading.{◌>>=◌, symbols_of, behind_symbols}
+use Rattle.handlebars_base.specs.Bytes.{Text, is_white, behind_white, is_symbol}
+use Rattle.handlebars_base.specs.Path.{Reference, raw_of}
+use Rattle.handlebars_base.specs.Options.{◌>>=◌}
 use Rattle.handlebars_base.proofs.OptionBinds.{bind_some, cond_is}
-use Rattle.handlebars_base.specs.Texts.{starts}
+use Rattle.handlebars_base.specs.Texts.{starts, symbols_of, behind_symbols}
 use Rattle.handlebars_lines.specs.Runs.{run as steps}
 use Rattle.handlebars_lines.specs.Parameter.{Term, literal_term, path_term, call_term}
 use Rattle.handlebars_lines.specs.Line.{Enclosure, in_tag, in_block, Line, IsLine, NoLine}
-use Rattle.handlebars_lines.specs.LineReading.{state, at_name, line_step, line_from}
+use Rattle.handlebars_lines.specs.LineReading.{line_stand, at_name, line_step, line_from}
 use Rattle.handlebars_lines.specs.Binding.{Binding}
 use Rattle.handlebars_lines.specs.BindingReading.{binding_at}
 use Rattle.handlebars_lines.proofs.Stepping.{run-runs, run-some}
@@ -33,13 +33,13 @@ guarded_some false x y e = absurd (none-some y e)
 -- ---- lines
 
 abbrev pub line_at : Enclosure → Text → Option (Line × Text)
-line_at around t = steps (line_step around) (suc (length t)) (state at_name 0) t >>= λ r. line_from r.0 >>= λ line. Some (line, r.1)
+line_at around t = steps (line_step around) (suc (length t)) (line_stand at_name 0) t >>= λ r. line_from r.0 >>= λ line. Some (line, r.1)
 
 line_at-is : (around : Enclosure) (t : Text) (q : Line × Text) → line_at around t ≡ Some q → IsLine around t q.0 q.1
 line_at-is around t q e =
-    let r = bind_some (steps (line_step around) (suc (length t)) (state at_name 0) t) _ q e in
+    let r = bind_some (steps (line_step around) (suc (length t)) (line_stand at_name 0) t) _ q e in
     let l = bind_some (line_from r.0.0) _ q r.2 in
-    let made = line_made around t r.0.0 r.0.1 (run-runs (line_step around) (suc (length t)) (state at_name 0) t r.0 r.1) in
+    let made = line_made around t r.0.0 r.0.1 (run-runs (line_step around) (suc (length t)) (line_stand at_name 0) t r.0 r.1) in
     let same : (made.line, r.0.1) ≡ q = ap (λ (z : Line). (z, r.0.1)) (same_Some made.line l.0 (sym made.from ∙ l.1)) ∙ same_Some (l.0, r.0.1) q l.2 in
     subst (λ (z : Line × Text). IsLine around t z.0 z.1) same made.is
 
@@ -178,10 +178,10 @@ tag_at-is slice rest f e is =
 
 -- ---- where nothing is read
 
-pub no_line_at : (around : Enclosure) (t : Text) → steps (line_step around) (suc (length t)) (state at_name 0) t ≡ None → NoLine around t
+pub no_line_at : (around : Enclosure) (t : Text) → steps (line_step around) (suc (length t)) (line_stand at_name 0) t ≡ None → NoLine around t
 no_line_at around t stops line left is =
     let found = line_found around t line left is in
-    none-some (found.events, left) (sym stops ∙ run-some (line_step around) (line_shortens around) (suc (length t)) (state at_name 0) t found.events left (omega arith) found.runs)
+    none-some (found.events, left) (sym stops ∙ run-some (line_step around) (line_shortens around) (suc (length t)) (line_stand at_name 0) t found.events left (omega arith) found.runs)
 
 no_value : (inside : Text) (tag : Tag) (behind : Text) → NoLine in_tag inside → Says expression_kind inside tag behind → ⊥
 no_value inside tag behind none (a_value {line = line} is) = none line behind is

@@ -1,7 +1,7 @@
 -- What the code reads a parameter as, and which texts it takes for a line in parentheses.
 use Rattle.std.specs.Prelude.{◌≡◌, ℕ, [], Some}
 use Rattle.handlebars_base.specs.Bytes.{Text, behind_white}
-use Rattle.handlebars_base.specs.PathReading.{after}
+use Rattle.handlebars_base.specs.Texts.{after}
 use Rattle.handlebars_lines.specs.Parameter.{left_parenthesis, right_parenthesis, NoParameter}
 use Rattle.handlebars_lines.specs.Line.{in_parentheses}
 use Rattle.handlebars_lines.specs.LineLaws.{HasLine}

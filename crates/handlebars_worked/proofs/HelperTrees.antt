@@ -6,6 +6,7 @@ use Rattle.serde_json.specs.Data.{string}
 use Rattle.serde_json.proofs.OnLiterals.{serde_json_on_literals}
 use Rattle.handlebars_base.specs.Bytes.{Text}
 use Rattle.handlebars_base.specs.PathReading as path
+use Rattle.handlebars_base.specs.Texts as texts
 use Rattle.handlebars_lines.specs.Binding.{behind_bar, behind_beginning}
 use Rattle.handlebars_lines.specs.LineReading as line
 use Rattle.handlebars_lines.specs.Literal.{is_kept, number_of}
@@ -23,11 +24,11 @@ use Rattle.handlebars_worked.specs.ScopeRows.{natural}
 -- ---- what is unfolded to compile a source: of each tag, of parameters, and of literals
 
 unfoldable on_lines : ⊤
-unfolding beginning_of closing_of chars line.name_step line.behind_step line.line_step path.after path.plain_at path.part_at path.links_at path.links_of path.unnamed_at path.start_at path.shape_at path.shape_of path.reference_from path.path_at
+unfolding beginning_of closing_of chars line.name_step line.behind_step line.line_step texts.after path.plain_at path.part_at path.links_at path.links_of path.unnamed_at path.start_at path.shape_at path.shape_of path.reference_from path.path_at
 on_lines = tt
 
 unfoldable on_parameters : ⊤
-unfolding line.key_at line.parameter_step line.item_step literal.literal_at literal.plain_at literal.undoubled_at literal.atom_at literal.value_token literal.token_at
+unfolding line.key_and_equals_at line.parameter_step line.item_step literal.literal_at literal.plain_at literal.undoubled_at literal.unbracketed_at literal.value_token literal.token_at
 on_parameters = tt
 
 unfoldable on_literals : ⊤

@@ -5,7 +5,7 @@ ghost use Rattle.std.specs.Option.{option_map};
 ghost use Rattle.handlebars_base.specs.Texts.{starts};
 ghost use Rattle.handlebars_lines.specs.Parameter.{right_parenthesis};
 ghost use Rattle.handlebars_lines.specs.Line.{ends_tag, is_end};
-ghost use Rattle.handlebars_lines.specs.LineReading.{key_at};
+ghost use Rattle.handlebars_lines.specs.LineReading.{key_and_equals_at};
 ghost use Rattle.handlebars_lines.specs.LineView.{enclosure_of, texts_of};
 
 use super::step::Enclosure;
@@ -50,9 +50,9 @@ pub fn is_end(around: Enclosure, text: &str) -> bool
 }
 
 /// A key, and what follows its `=` and white.
-#[tactic(auto, unfolding(crate::specs::LineReading::key_at))]
-pub fn key_at(text: &str) -> Option<(&str, &str)>
-    ensures { option_map texts_of result ≡ key_at text.now }
+#[tactic(auto, unfolding(crate::specs::LineReading::key_and_equals_at))]
+pub fn key_and_equals_at(text: &str) -> Option<(&str, &str)>
+    ensures { option_map texts_of result ≡ key_and_equals_at text.now }
 {
     let (key, rest) = symbols(text);
     if key.is_empty() {

@@ -2,10 +2,10 @@
 
 ghost use Rattle.std.specs.Prelude.{◌≡◌, ◌<◌, ◌^◌, IfOk};
 ghost use Rattle.handlebars_lines.specs.Parameter.{is_reserved};
-ghost use Rattle.handlebars_lines.specs.LineReading.{at_name, state, behind_name, open_step, name_step, is_excluded, path_step, parameter_step, item_step, may_follow, next_step, outer_step, inner_step, behind_step, is_at_name, line_step};
-ghost use Rattle.handlebars_lines.specs.LineView.{enclosure_of, key_of, stand_of, state_of, step_of, height_of};
+ghost use Rattle.handlebars_lines.specs.LineReading.{at_name, line_stand, behind_name, open_step, name_step, is_excluded, path_step, parameter_step, item_step, may_follow, next_step, outer_step, inner_step, behind_step, is_at_name, line_step};
+ghost use Rattle.handlebars_lines.specs.LineView.{enclosure_of, key_of, stand_of, line_stand_of, step_of, height_of};
 
-use super::marks::{is_end, key_at};
+use super::marks::{is_end, key_and_equals_at};
 use crate::literal::literal_at;
 use handlebars_base::json::path::marks::{after, all_symbols, behind_white, starts_white};
 use handlebars_base::json::path::split_path;
@@ -33,17 +33,17 @@ pub enum Stand {
 
 /// Where the reading stands, and how many parentheses are open.
 #[derive(Clone, Copy, Debug, PartialEq, Eq)]
-pub struct State {
+pub struct LineStand {
     pub stand: Stand,
     pub level: usize,
 }
 
-impl State {
+impl LineStand {
     /// At the beginning of a line, outside parentheses.
-    pub fn first() -> State
-        ensures { state_of result ≡ state at_name 0 }
+    pub fn first() -> LineStand
+        ensures { line_stand_of result ≡ line_stand at_name 0 }
     {
-        State {
+        LineStand {
             stand: Stand::Name,
             level: 0,
         }
@@ -78,7 +78,7 @@ impl Event<'_> {
 #[derive(Clone, Copy, Debug, PartialEq, Eq)]
 pub enum Step<'a> {
     /// What is taken, where that leads, and what follows it.
-    Goes(Event<'a>, State, &'a str),
+    Goes(Event<'a>, LineStand, &'a str),
     /// White or none, and the end of the line.
     Ends,
     /// Nothing that a line may go on with.
@@ -101,7 +101,7 @@ fn open_step<'a>(key: Option<&'a str>, level: usize, rest: &'a str) -> Step<'a>
     requires { level < 2 ^ 63 }
     ensures { step_of result ≡ open_step (key_of key.entry) level rest.now }
 {
-    let state = State {
+    let state = LineStand {
         stand: Stand::Name,
         level: level + 1,
     };
@@ -120,7 +120,7 @@ fn name_step(level: usize, text: &str) -> Step<'_>
         Some(slice) => {
             let stand = behind_name(slice.raw);
             let event = Event::Path(None, slice.raw, level);
-            Step::Goes(event, State { stand, level }, slice.rest)
+            Step::Goes(event, LineStand { stand, level }, slice.rest)
         }
         None => Step::Stuck,
     }
@@ -151,7 +151,7 @@ fn path_step<'a>(key: Option<&'a str>, level: usize, text: &'a str) -> Step<'a>
     if is_excluded(key, slice.raw) {
         return Step::Stuck;
     }
-    let state = State {
+    let state = LineStand {
         stand: Stand::Items,
         level,
     };
@@ -173,7 +173,7 @@ fn parameter_step<'a>(
     }
     match literal_at(alloc, text)? {
         Some(slice) => {
-            let state = State {
+            let state = LineStand {
                 stand: Stand::Items,
                 level,
             };
@@ -189,7 +189,7 @@ fn item_step(alloc: Global, level: usize, text: &str) -> Result<Step<'_>, AllocE
     requires { level < 2 ^ 63 }
     ensures { IfOk result (λ step. step_of step ≡ item_step level text.now) }
 {
-    match key_at(text) {
+    match key_and_equals_at(text) {
         Some((key, rest)) => parameter_step(alloc, Some(key), level, rest),
         None => parameter_step(alloc, None, level, text),
     }
@@ -240,7 +240,7 @@ fn inner_step(alloc: Global, stand: Stand, level: usize, text: &str) -> Result<S
 {
     match after(b')', behind_white(text)) {
         Some(rest) => {
-            let state = State {
+            let state = LineStand {
                 stand: Stand::Items,
                 level: level - 1,
             };
@@ -282,11 +282,11 @@ fn is_at_name(stand: Stand) -> bool
 pub fn take_step(
     alloc: Global,
     around: Enclosure,
-    state: State,
+    state: LineStand,
     text: &str,
 ) -> Result<Step<'_>, AllocError>
     requires { state.level < 2 ^ 63 }
-    ensures { IfOk result (λ step. step_of step ≡ line_step (enclosure_of around) (state_of state) text.now) }
+    ensures { IfOk result (λ step. step_of step ≡ line_step (enclosure_of around) (line_stand_of state) text.now) }
 {
     if is_at_name(state.stand) {
         Ok(name_step(state.level, text))

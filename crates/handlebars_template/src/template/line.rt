@@ -16,7 +16,7 @@ use crate::template::build::{first_calls, path_of};
 use crate::template::chain::{BlockKind, BlockNames, BlockOpening};
 use crate::template::tree::{HelperTemplate, Parameter, Subexpression};
 use handlebars_base::json::path::Path;
-use handlebars_lines::line::{Enclosure, Event, State, Step, take_step};
+use handlebars_lines::line::{Enclosure, Event, LineStand, Step, take_step};
 use std::alloc::{AllocError, Global};
 use std::collections::BTreeMap;
 
@@ -123,7 +123,7 @@ fn path_alone(alloc: Global, around: Enclosure, text: &str) -> Result<Option<Pat
     ensures { IfOk result (λ read. IfSome read (λ path. (line : Line) (left : Text)
         → IsLine (enclosure_of around) text.now line left → line_call line ≡ path_call (reference_of path))) }
 {
-    let Step::Goes(event, next, rest) = take_step(alloc, around, State::first(), text)? else {
+    let Step::Goes(event, next, rest) = take_step(alloc, around, LineStand::first(), text)? else {
         return Ok(None);
     };
     let Event::Path(_, raw, _) = event else {
@@ -171,7 +171,7 @@ fn build_terms<'a>(
     ensures { IfOk result (λ read. (line : Line) (left : Text)
         → IsLine (enclosure_of around) text.now line left → IsBuilt line read) }
 {
-    let mut state = State::first();
+    let mut state = LineStand::first();
     let mut rest = text;
     let mut calls = first_calls(alloc, text);
     'building: loop {

@@ -1,7 +1,7 @@
 //! Parameters from texts of their own.
 
 ghost use Rattle.std.specs.Prelude.{◌≡◌, ◌≢◌, None, Some, IfOk, IfErr, MatchOption};
-ghost use Rattle.handlebars_base.specs.PathReading.{after};
+ghost use Rattle.handlebars_base.specs.Texts.{after};
 ghost use Rattle.handlebars_base.specs.Reasons.{template_out_of_memory};
 ghost use Rattle.handlebars_base.specs.TemplateRefusals.{template_refusal_of};
 ghost use Rattle.handlebars_lines.specs.Laws.{HasLiteral, NoLiteral};

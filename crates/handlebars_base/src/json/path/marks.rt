@@ -3,10 +3,9 @@
 ghost use Rattle.std.specs.Prelude.{◌≡◌, ◌<◌};
 ghost use Rattle.std.specs.List.{list_all, prefix_len};
 ghost use Rattle.std.specs.Option.{option_map};
-ghost use Rattle.handlebars_base.specs.Bytes.{is_white, behind_white};
-ghost use Rattle.handlebars_base.specs.Path.{is_symbol};
-ghost use Rattle.handlebars_base.specs.Texts.{starts};
-ghost use Rattle.handlebars_base.specs.PathReading.{after, symbols_of, behind_symbols, after_up, ups_at};
+ghost use Rattle.handlebars_base.specs.Bytes.{is_white, behind_white, is_symbol};
+ghost use Rattle.handlebars_base.specs.Texts.{starts, after, symbols_of, behind_symbols};
+ghost use Rattle.handlebars_base.specs.PathReading.{after_up, ups_at};
 
 /// Whether a byte belongs to a symbol.
 pub fn is_symbol(byte: u8) -> bool
@@ -72,7 +71,7 @@ pub fn behind_white(text: &str) -> &str
 }
 
 /// What follows a mark, where it stands at the front.
-#[tactic(auto, unfolding(crate::specs::PathReading::after))]
+#[tactic(auto, unfolding(crate::specs::Texts::after))]
 pub fn after(mark: u8, text: &str) -> Option<&str>
     requires { mark < 128 }
     ensures { option_map (λ rest. rest.now) result ≡ after mark text.now }

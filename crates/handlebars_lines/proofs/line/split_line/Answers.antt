@@ -1,27 +1,27 @@
 use Rattle.std.proofs.Common.{rules, ◌≡◌, ap, ◌∙◌, max}
 use Rattle.handlebars_lines.specs.Runs.{goes}
 use Rattle.handlebars_lines.specs.LineReading.{line_step, height}
-use Rattle.handlebars_lines.specs.LineView.{enclosure_of, state_of, event_of}
+use Rattle.handlebars_lines.specs.LineView.{enclosure_of, line_stand_of, event_of}
 use Rattle.handlebars_lines.proofs.LineBounds.{line_bounds}
 use Rattle.handlebars_lines.proofs.Lines.{measure-goes, measure-ends, measure-stuck}
 use Rattle.handlebars_lines.proofs.line.split_line.Goals as goal
 
 pub reading-smaller : goal.reading-smaller
 reading-smaller c =
-    let at : goes (event_of c.in-Goes.event) (state_of c.in-Goes.next) c.in-Goes.behind.now ≡ line_step (enclosure_of c.args.around) (state_of c.reading.state) c.reading.rest.now = rw c.in-Goes.is at c.in_ok-event.ensures in
-    (line_bounds (enclosure_of c.args.around) (state_of c.reading.state) c.reading.rest.now (event_of c.in-Goes.event) (state_of c.in-Goes.next) c.in-Goes.behind.now at).shorter
+    let at : goes (event_of c.in-Goes.event) (line_stand_of c.in-Goes.next) c.in-Goes.behind.now ≡ line_step (enclosure_of c.args.around) (line_stand_of c.reading.state) c.reading.rest.now = rw c.in-Goes.is at c.in_ok-event.ensures in
+    (line_bounds (enclosure_of c.args.around) (line_stand_of c.reading.state) c.reading.rest.now (event_of c.in-Goes.event) (line_stand_of c.in-Goes.next) c.in-Goes.behind.now at).shorter
 
 pub reading-preserved : goal.reading-preserved
 reading-preserved c =
-    let at : goes (event_of c.in-Goes.event) (state_of c.in-Goes.next) c.in-Goes.behind.now ≡ line_step (enclosure_of c.args.around) (state_of c.reading.state) c.reading.rest.now = rw c.in-Goes.is at c.in_ok-event.ensures in
+    let at : goes (event_of c.in-Goes.event) (line_stand_of c.in-Goes.next) c.in-Goes.behind.now ≡ line_step (enclosure_of c.args.around) (line_stand_of c.reading.state) c.reading.rest.now = rw c.in-Goes.is at c.in_ok-event.ensures in
     let deeper : c.larger-depth.result ≡ max c.reading.depth (height (event_of c.in-Goes.event)) = c.larger-depth.ensures ∙ ap (max c.reading.depth) c.height.ensures in
     record {
       text = search rules;
-      measures = measure-goes (enclosure_of c.args.around) c.args.text.now (state_of c.reading.state) c.reading.rest.now c.reading.depth (event_of c.in-Goes.event) (state_of c.in-Goes.next) c.in-Goes.behind.now c.larger-depth.result at deeper c.reading.invariant.measures;
+      measures = measure-goes (enclosure_of c.args.around) c.args.text.now (line_stand_of c.reading.state) c.reading.rest.now c.reading.depth (event_of c.in-Goes.event) (line_stand_of c.in-Goes.next) c.in-Goes.behind.now c.larger-depth.result at deeper c.reading.invariant.measures;
     }
 
 pub returns-in-Ends : goal.returns-in-Ends
-returns-in-Ends c = measure-ends (enclosure_of c.args.around) c.args.text.now (state_of c.reading.state) c.reading.rest.now c.reading.depth (rw c.in-Ends.is at c.in_ok-event.ensures) c.reading.invariant.measures
+returns-in-Ends c = measure-ends (enclosure_of c.args.around) c.args.text.now (line_stand_of c.reading.state) c.reading.rest.now c.reading.depth (rw c.in-Ends.is at c.in_ok-event.ensures) c.reading.invariant.measures
 
 pub returns-in-Stuck : goal.returns-in-Stuck
-returns-in-Stuck c = measure-stuck (enclosure_of c.args.around) c.args.text.now (state_of c.reading.state) c.reading.rest.now c.reading.depth (rw c.in-Stuck.is at c.in_ok-event.ensures) c.reading.invariant.measures
+returns-in-Stuck c = measure-stuck (enclosure_of c.args.around) c.args.text.now (line_stand_of c.reading.state) c.reading.rest.now c.reading.depth (rw c.in-Stuck.is at c.in_ok-event.ensures) c.reading.invariant.measures

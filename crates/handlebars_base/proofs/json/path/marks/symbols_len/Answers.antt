@@ -1,6 +1,6 @@
 use Rattle.std.proofs.Common.{arith, sym, ◌∙◌}
 use Rattle.std.proofs.lemmas.List.Sums.{prefix_len_is}
-use Rattle.handlebars_base.specs.Path.{is_symbol}
+use Rattle.handlebars_base.specs.Bytes.{is_symbol}
 use Rattle.handlebars_base.proofs.json.path.marks.symbols_len.Goals as goal
 
 pub returns-else-is_symbol : goal.returns-else-is_symbol

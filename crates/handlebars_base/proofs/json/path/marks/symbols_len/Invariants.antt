@@ -1,5 +1,5 @@
 use Rattle.std.proofs.Common.{length, ◌-◌, ◌≡◌, ◌<◌, ◌≤◌, ℕ, get_or, true}
-use Rattle.handlebars_base.specs.Path.{is_symbol}
+use Rattle.handlebars_base.specs.Bytes.{is_symbol}
 use Rattle.handlebars_base.proofs.json.path.marks.symbols_len.Given as goal
 
 abbrev pub invariant-loop-n : goal.invariant-loop-n
