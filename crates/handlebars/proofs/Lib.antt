@@ -1,3 +1,4 @@
 pub mod AnswerLaws
+pub mod Rendered
 pub mod Stored
 pub mod Texts
