@@ -1,5 +1,5 @@
 -- When a piece may stand next, and what the machine does then; and why it is refused, by the machine and by the relation.
-use Rattle.std.proofs.Common.{◌≡◌, ℕ, suc, ◌+◌, ◌<◌, ◌≤◌, List, [], ◌∷◌, Bool, true, false, Option, None, Some, refl, ap, ◌∙◌, subst, arith}
+use Rattle.std.proofs.Common.{◌≡◌, ℕ, suc, ◌+◌, ◌<◌, ◌≤◌, nat_lt, sym, List, [], ◌∷◌, Bool, true, false, Option, None, Some, refl, ap, ◌∙◌, subst, arith}
 use Rattle.std.specs.Option.{option_or}
 use Rattle.std.proofs.lemmas.Bool.{lt-ltb, le-ltb}
 use Rattle.std.proofs.lemmas.Option.{same_Some, none-some}
@@ -9,9 +9,16 @@ use Rattle.handlebars_template.specs.Place.{Place}
 use Rattle.handlebars_template.specs.Tree.{Element}
 use Rattle.handlebars_template.specs.Calls.{max_nesting}
 use Rattle.handlebars_template.specs.Nest.{BlockKind, Opening, Piece, leaf, opens, turns, chains, closes, place_in, refused_in, may_end, Fault, unexpected, too_deep, mismatched, no_value, Placed, Test, syntax_alone, names_and_literals, may_close, has_values, Frame, takes_inverse, may_stand_in, cost, RefusesAt, out_of_place, past_limit, without_value, other_name}
-use Rattle.handlebars_template.specs.Machine.{Moved, stops, behind_piece, is_too_deep, syntax_fault_by, early_in, literal_fault, name_fault, name_fault_in, late_in, tried, fault_in, unless_fault, moved_by, apply}
+use Rattle.handlebars_template.specs.Machine.{Moved, stops, behind_piece, syntax_fault_by, early_in, literal_fault, name_fault, name_fault_in, late_in, tried, fault_in, unless_fault, moved_by, apply}
 
 -- ---- how deep
+
+abbrev pub is_too_deep : ℕ → Piece → Bool
+is_too_deep d (leaf p e n r) = nat_lt max_nesting (d + n)
+is_too_deep d (opens p o n r) = nat_lt max_nesting (d + suc n)
+is_too_deep d (turns p) = false
+is_too_deep d (chains p o n r) = nat_lt max_nesting (d + suc n)
+is_too_deep d (closes p raw m) = false
 
 deep-past : (d : ℕ) (x : Piece) → is_too_deep d x ≡ true → max_nesting < d + cost x
 deep-past d (leaf p e n r) is = ltb-true _ _ is
@@ -90,6 +97,16 @@ pub record Fits (t : Test) (d : ℕ) (fs : List Frame) (x : Piece) : Type 0 wher
 abbrev fault_by : Bool → Bool → Place → Option Fault → Option Fault
 fault_by b c p late = option_or (syntax_fault_by b c p) late
 
+early_in-by : (d : ℕ) (fs : List Frame) (x : Piece) → early_in d fs x ≡ syntax_fault_by (may_stand_in fs x) (is_too_deep d x) (place_in x)
+early_in-by d fs (leaf p e n r) = refl
+early_in-by d fs (opens p o n r) = refl
+early_in-by d fs (turns p) = refl
+early_in-by d fs (chains p o n r) = refl
+early_in-by d fs (closes p raw m) = refl
+
+fault_in-by : (t : Test) (d : ℕ) (fs : List Frame) (x : Piece) → fault_in t d fs x ≡ fault_by (may_stand_in fs x) (is_too_deep d x) (place_in x) (tried t (late_in fs x))
+fault_in-by t d fs x = ap (λ (f : Option Fault). option_or f (tried t (late_in fs x))) (early_in-by d fs x)
+
 fault_by-none : (b c : Bool) (p : Place) (late : Option Fault) → fault_by b c p late ≡ None → (b ≡ true) × (c ≡ false) × (late ≡ None)
 fault_by-none false c p late is = absurd cc
 fault_by-none true true p late is = absurd cc
@@ -97,12 +114,13 @@ fault_by-none true false p late is = (refl, refl, is)
 
 pub fault_in-none : (t : Test) (d : ℕ) (fs : List Frame) (x : Piece) → fault_in t d fs x ≡ None → Fits t d fs x
 fault_in-none t d fs x is =
-    let all = fault_by-none (may_stand_in fs x) (is_too_deep d x) (place_in x) (tried t (late_in fs x)) is in
+    let all = fault_by-none (may_stand_in fs x) (is_too_deep d x) (place_in x) (tried t (late_in fs x)) (sym (fault_in-by t d fs x) ∙ is) in
     record { stands = all.0; shallow = all.1; fair = all.2 }
 
 none-fault_in : (t : Test) (d : ℕ) (fs : List Frame) (x : Piece) → Fits t d fs x → fault_in t d fs x ≡ None
 none-fault_in t d fs x h =
-    ap (λ (b : Bool). fault_by b (is_too_deep d x) (place_in x) (tried t (late_in fs x))) h.stands
+    fault_in-by t d fs x
+    ∙ ap (λ (b : Bool). fault_by b (is_too_deep d x) (place_in x) (tried t (late_in fs x))) h.stands
     ∙ ap (λ (b : Bool). fault_by true b (place_in x) (tried t (late_in fs x))) h.shallow ∙ h.fair
 
 pub apply-moved_by : (t : Test) (x : Piece) (d : ℕ) (fs : List Frame) (es : List Placed) → apply t x d fs es ≡ moved_by t x d fs es
@@ -159,12 +177,15 @@ closes-name t d f fs p raw m h = named-tried f.opening.kind f.opening.closing m 
 -- ---- refusals
 
 pub RefusesAt-fault : {t : Test} {d : ℕ} {fs : List Frame} {x : Piece} {f : Fault} → d ≤ max_nesting → RefusesAt t d fs x f → fault_in t d fs x ≡ Some f
-RefusesAt-fault {t} {d} {fs} {x} le (out_of_place is) = ap (λ (b : Bool). fault_by b (is_too_deep d x) (place_in x) (tried t (late_in fs x))) is
+RefusesAt-fault {t} {d} {fs} {x} le (out_of_place is) =
+    fault_in-by t d fs x ∙ ap (λ (b : Bool). fault_by b (is_too_deep d x) (place_in x) (tried t (late_in fs x))) is
 RefusesAt-fault {t} {d} {fs} {x} le (past_limit is deep) =
-    ap (λ (b : Bool). fault_by b (is_too_deep d x) (place_in x) (tried t (late_in fs x))) is
+    fault_in-by t d fs x
+    ∙ ap (λ (b : Bool). fault_by b (is_too_deep d x) (place_in x) (tried t (late_in fs x))) is
     ∙ ap (λ (b : Bool). fault_by true b (place_in x) (tried t (late_in fs x))) (past-deep d x le deep)
 RefusesAt-fault {t} {d} {fs} {x} le (without_value {raw = raw} is fits refused bad) =
-    ap (λ (b : Bool). fault_by b (is_too_deep d x) (place_in x) (tried t (late_in fs x))) is
+    fault_in-by t d fs x
+    ∙ ap (λ (b : Bool). fault_by b (is_too_deep d x) (place_in x) (tried t (late_in fs x))) is
     ∙ ap (λ (b : Bool). fault_by true b (place_in x) (tried t (late_in fs x))) (fits-shallow d x fits)
     ∙ tried-worthless t (refused_in x) raw (name_fault_in fs x) refused bad
 RefusesAt-fault {t} {d} le (other_name {f = f} {fs = fs} {p = p} {raw = raw} {m = m} is other) =
@@ -196,4 +217,4 @@ RefusesAt-by t d fs x f true true le stands deep is = subst (RefusesAt t d fs x)
 RefusesAt-by t d fs x f true false le stands deep is = RefusesAt-late t d fs x f (refused_in x) refl stands (shallow-fits d x le deep) is
 
 pub fault-RefusesAt : (t : Test) (d : ℕ) (fs : List Frame) (x : Piece) (f : Fault) → d ≤ max_nesting → fault_in t d fs x ≡ Some f → RefusesAt t d fs x f
-fault-RefusesAt t d fs x f le is = RefusesAt-by t d fs x f (may_stand_in fs x) (is_too_deep d x) le refl refl is
+fault-RefusesAt t d fs x f le is = RefusesAt-by t d fs x f (may_stand_in fs x) (is_too_deep d x) le refl refl (sym (fault_in-by t d fs x) ∙ is)

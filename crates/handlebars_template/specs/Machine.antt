@@ -5,7 +5,7 @@ use Rattle.handlebars_base.specs.Bytes.{Text}
 use Rattle.handlebars_template.specs.Place.{Place}
 use Rattle.handlebars_template.specs.Tree.{Element, no_body}
 use Rattle.handlebars_template.specs.Calls.{max_nesting}
-use Rattle.handlebars_template.specs.Nest.{BlockKind, Opening, Piece, leaf, opens, turns, chains, closes, place_in, refused_in, Fault, unexpected, too_deep, mismatched, no_value, Placed, body_with, Branch, block_of, Test, syntax_alone, names_and_literals, may_close, Stage, in_first, in_branch, in_inverse, Frame, may_stand_in}
+use Rattle.handlebars_template.specs.Nest.{BlockKind, Opening, Piece, leaf, opens, turns, chains, closes, refused_in, Fault, unexpected, too_deep, mismatched, no_value, Placed, body_with, Branch, block_of, Test, syntax_alone, names_and_literals, may_close, Stage, in_first, in_branch, in_inverse, Frame, may_stand_in}
 
 -- the whole block, when its close comes
 abbrev pub closed_block : Stage → Opening → List Placed → List Branch → List Placed → Element
@@ -46,13 +46,6 @@ behind_piece (closes p raw m) d (f ∷ fs) es = goes f.around fs (f.outside ++ c
 
 -- ---- what the syntax refuses
 
-abbrev pub is_too_deep : ℕ → Piece → Bool
-is_too_deep d (leaf p e n r) = nat_lt max_nesting (d + n)
-is_too_deep d (opens p o n r) = nat_lt max_nesting (d + suc n)
-is_too_deep d (turns p) = false
-is_too_deep d (chains p o n r) = nat_lt max_nesting (d + suc n)
-is_too_deep d (closes p raw m) = false
-
 -- whether it may stand there, and whether it is too deep
 abbrev pub syntax_fault_by : Bool → Bool → Place → Option Fault
 syntax_fault_by false deep p = Some (unexpected p)
@@ -60,7 +53,12 @@ syntax_fault_by true true p = Some (too_deep p)
 syntax_fault_by true false p = None
 
 abbrev pub early_in : ℕ → List Frame → Piece → Option Fault
-early_in d fs x = syntax_fault_by (may_stand_in fs x) (is_too_deep d x) (place_in x)
+early_in d fs (leaf p e n r) = syntax_fault_by true (nat_lt max_nesting (d + n)) p
+early_in d fs (opens p o n r) = syntax_fault_by true (nat_lt max_nesting (d + suc n)) p
+early_in d fs (turns p) = syntax_fault_by (may_stand_in fs (turns p)) false p
+early_in d fs (chains p o n r) =
+    syntax_fault_by (may_stand_in fs (chains p o n r)) (nat_lt max_nesting (d + suc n)) p
+early_in d fs (closes p raw m) = syntax_fault_by (may_stand_in fs (closes p raw m)) false p
 
 -- ---- what comes late
 
