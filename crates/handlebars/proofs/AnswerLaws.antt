@@ -8,7 +8,7 @@ use Rattle.handlebars_base.specs.Reasons.{Refusal, TemplateRefusal, TemplateReas
 use Rattle.handlebars_base.specs.RenderRefusals.{plain_refusal, refusal_of, reason_in}
 use Rattle.handlebars_base.specs.declared.error.render_error.RenderError.{RenderError}
 use Rattle.handlebars_template.specs.Tree.{Tree}
-use Rattle.handlebars_template.specs.Options.{Options}
+use Rattle.handlebars_tags.specs.Options.{Options}
 use Rattle.handlebars_template.specs.Compile.{Compilation, Compiles, compiled, refused}
 use Rattle.handlebars_template.proofs.One.{one_compilation}
 use Rattle.handlebars_meaning.specs.Pieces.{Piece}

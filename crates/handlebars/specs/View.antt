@@ -1,5 +1,5 @@
 -- What a registry and its contexts stand for.
-use Rattle.handlebars_template.specs.Options.{Options, no_options}
+use Rattle.handlebars_tags.specs.Options.{Options, no_options}
 use Rattle.handlebars_scope.specs.Contexts.{data_of}
 use Rattle.handlebars_scope.specs.declared.context.Context.{Context}
 use Rattle.handlebars_helpers.specs.View.{kind_at}

@@ -5,7 +5,7 @@ ghost use Rattle.handlebars_base.specs.Bytes.{Text};
 ghost use Rattle.handlebars_base.specs.Reasons.{out_of_memory, template_out_of_memory};
 ghost use Rattle.handlebars_base.specs.RenderRefusals.{refusal_of, reason_in};
 ghost use Rattle.handlebars_base.specs.TemplateRefusals.{template_refusal_of};
-ghost use Rattle.handlebars_template.specs.Options.{named_options};
+ghost use Rattle.handlebars_tags.specs.Options.{named_options};
 ghost use Rattle.handlebars_template.specs.Compile.{Compiles, compiled, refused};
 ghost use Rattle.handlebars_template.specs.Tree.{Tree};
 ghost use Rattle.handlebars_template.specs.TreeView.{tree_view};

@@ -1,3 +1,4 @@
+pub mod Options
 pub mod Text
 pub mod TextReading
 pub mod TextView

@@ -4,6 +4,7 @@ use Rattle.std.specs.List.{fold, suffix_len, list_all}
 use Rattle.handlebars_base.specs.Bytes.{Text, space, tab, newline, carriage_return, is_white}
 use Rattle.handlebars_base.specs.Options.{◌>>=◌, with_or}
 use Rattle.handlebars_base.specs.Texts.{after}
+use Rattle.handlebars_tags.specs.Options.{Options}
 use Rattle.handlebars_tags.specs.Text.{Braces, two_braces, four_braces}
 use Rattle.handlebars_tags.specs.Tag.{Tag, expression_tag, html_tag, block_tag, inverse_tag, chain_tag, close_tag, raw_tag, raw_close_tag, comment_tag, Tildes}
 use Rattle.std.specs.Str.{trim_start, trim_end}
@@ -122,9 +123,9 @@ abbrev pub trimmed_end : Text → Edge → Text
 trimmed_end t e =
     if e.left then trim_end t else (if e.standalone then take (length t - suffix_len is_blank t) t else t)
 
--- what is kept of a text between two tags, which is its slice less its dropped backslashes
-abbrev pub trimmed : Edge → Text → Edge → Text
-trimmed before t behind = trimmed_end (trimmed_start before t) behind
+-- what is kept of a text between two tags, which is its slice less its dropped backslashes; no option changes it yet
+abbrev pub trimmed : Options → Edge → Text → Edge → Text
+trimmed options before t behind = trimmed_end (trimmed_start before t) behind
 
 -- An empty slice has no element, nor has one of white alone behind a tilde. A raw block's text always has one.
 abbrev pub has_element : Edge → Text → Bool

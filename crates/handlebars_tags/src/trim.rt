@@ -5,6 +5,7 @@ ghost use Rattle.std.specs.List.{fold, suffix_len, list_all};
 ghost use Rattle.handlebars_base.specs.Bytes.{newline, is_white};
 ghost use Rattle.handlebars_base.specs.Texts.{starts, after};
 ghost use Rattle.handlebars_tags.specs.TextView.{braces_of};
+ghost use Rattle.handlebars_tags.specs.Options.{Options};
 ghost use Rattle.handlebars_tags.specs.Trim.{is_blank, is_break, is_fresh_behind, breaks, is_ended, no_edge, edge_at, braces_behind, behind_blanks, behind_break, trimmed_start, trimmed_end, trimmed, has_element};
 ghost use Rattle.handlebars_tags.specs.TrimView.{edge_view};
 
@@ -183,7 +184,7 @@ fn trimmed_end(text: &str, edge: Edge) -> &str
 
 /// What is kept of a text between two tags, or a tag and an end of the source, less its dropped backslashes.
 pub fn trimmed(before: Edge, text: &str, behind: Edge) -> &str
-    ensures { result.now ≡ trimmed (edge_view before) text.now (edge_view behind) }
+    ensures { (options : Options) → result.now ≡ trimmed options (edge_view before) text.now (edge_view behind) }
 {
     trimmed_end(trimmed_start(before, text), behind)
 }

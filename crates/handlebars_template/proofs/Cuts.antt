@@ -12,7 +12,7 @@ use Rattle.handlebars_tags.specs.Kind.{beginning_of}
 use Rattle.handlebars_tags.specs.Trim.{Edge, no_edge, braces_behind}
 use Rattle.handlebars_tags.proofs.OneText.{one_text}
 use Rattle.handlebars_tags.proofs.OneTag.{one_tag}
-use Rattle.handlebars_template.specs.Options.{Options}
+use Rattle.handlebars_tags.specs.Options.{Options}
 use Rattle.handlebars_template.specs.Place.{place}
 use Rattle.handlebars_template.specs.Cut.{Slice, text_slice, tag_slice, may_follow, TextAndTag, slices_of, Reads, starts, goes_on, IsCut, spelled, CutsJoin, OneCut}
 use Rattle.handlebars_template.specs.Compile.{NoTagBehind}

@@ -7,7 +7,7 @@ use Rattle.handlebars_template.proofs.Scan.{pieces_in-append}
 use Rattle.handlebars_tags.specs.Text.{braces}
 use Rattle.handlebars_tags.specs.Trim.{Edge, no_edge, braces_behind}
 use Rattle.handlebars_tags.proofs.Runs.{braces-none}
-use Rattle.handlebars_template.specs.Options.{Options}
+use Rattle.handlebars_tags.specs.Options.{Options}
 use Rattle.handlebars_template.specs.Place.{Place, place}
 use Rattle.handlebars_template.specs.Nest.{Piece, Fault, Placed, syntax_alone, names_and_literals, Nests, Refuses, LeavesOpen, left_open as still_open}
 use Rattle.handlebars_template.specs.Cut.{Slice, text_slice, Reads, IsCut}

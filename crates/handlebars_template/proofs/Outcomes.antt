@@ -11,7 +11,7 @@ use Rattle.handlebars_base.proofs.Ends.{regroup_four}
 use Rattle.handlebars_tags.specs.Text.{two_braces, braces, IsText}
 use Rattle.handlebars_tags.specs.Tag.{NoTag}
 use Rattle.handlebars_tags.specs.Trim.{Edge, no_edge, edge_of, braces_behind}
-use Rattle.handlebars_template.specs.Options.{Options}
+use Rattle.handlebars_tags.specs.Options.{Options}
 use Rattle.handlebars_template.specs.Place.{place}
 use Rattle.handlebars_template.specs.Nest.{Piece, Fault, not_closed, Placed, Test, syntax_alone, names_and_literals, Nests, nothing, Frame, Opens, none_open, Refuses, left_open as still_open}
 use Rattle.handlebars_template.specs.Machine.{Moved, goes, stops, apply}

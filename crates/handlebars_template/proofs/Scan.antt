@@ -14,7 +14,7 @@ use Rattle.handlebars_tags.specs.Text.{Braces, IsText, at_end, at_tag, a_byte, t
 use Rattle.handlebars_tags.specs.Tag.{Tag, Tildes, IsTag, NoTag, OneTag}
 use Rattle.handlebars_tags.specs.Trim.{Edge, no_edge, is_fresh_behind, is_fresh, edge_with, braces_behind, has_element, trimmed}
 use Rattle.handlebars_tags.proofs.TagLengths.{length-tag}
-use Rattle.handlebars_template.specs.Options.{Options}
+use Rattle.handlebars_tags.specs.Options.{Options}
 use Rattle.handlebars_template.specs.Place.{Place, origin, behind_char, behind, place}
 use Rattle.handlebars_template.specs.Tree.{raw_string}
 use Rattle.handlebars_template.specs.Nest.{Piece, leaf, Fault, Placed, syntax_alone, Frame, Refuses}
@@ -53,7 +53,7 @@ State-when false p x s = State-none s
 
 State-text : {late : Option Fault} {ps : List Piece} {d : ℕ} {fs : List Frame} {es : List Placed} (options : Options) → (p : Place) (e : Edge) (x k : Text) (n : Edge) → State late ps d fs es
     → State late (ps ++ text_pieces options p e x k n) d fs (es ++ text_placed options p e x k n)
-State-text options p e x k n s = State-when (has_element e x) p (trimmed e k n) s
+State-text options p e x k n s = State-when (has_element e x) p (trimmed options e k n) s
 
 -- ---- a beginning of the source
 

@@ -6,7 +6,7 @@ use Rattle.handlebars_lines.specs.Binding.{Binding, unbound, bound, both_bound}
 use Rattle.handlebars_tags.specs.Text.{IsText, braces}
 use Rattle.handlebars_tags.specs.Tag.{Tag, expression_tag, html_tag, block_tag, inverse_tag, chain_tag, close_tag, raw_tag, raw_close_tag, comment_tag, BlockLine, Tildes, IsTag}
 use Rattle.handlebars_tags.specs.Trim.{Edge, braces_behind, trimmed, has_element}
-use Rattle.handlebars_template.specs.Options.{Options}
+use Rattle.handlebars_tags.specs.Options.{Options}
 use Rattle.handlebars_template.specs.Place.{Place, place}
 use Rattle.handlebars_template.specs.Tree.{Tree, tree, elements_of, Element, raw_string, html_expression, expression, comment, args, name, no_pairs, no_binding, single, both}
 use Rattle.handlebars_template.specs.Tree as tree
@@ -52,7 +52,7 @@ tag_piece p e (comment_tag t) = leaf p (comment t) 0 None
 -- a text between two tags, where it has an element
 abbrev pub text_pieces : Options → Place → Edge → Text → Text → Edge → List Piece
 text_pieces options p e slice kept n =
-    if has_element e slice then leaf p (raw_string (trimmed e kept n)) 0 None ∷ [] else []
+    if has_element e slice then leaf p (raw_string (trimmed options e kept n)) 0 None ∷ [] else []
 
 abbrev pub pieces_in : Options → List Slice → List Piece
 pieces_in options [] = []

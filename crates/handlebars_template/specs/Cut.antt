@@ -4,7 +4,7 @@ use Rattle.handlebars_base.specs.Bytes.{Text}
 use Rattle.handlebars_tags.specs.Text.{IsText}
 use Rattle.handlebars_tags.specs.Tag.{Tag, Tildes, IsTag, is_raw_close}
 use Rattle.handlebars_tags.specs.Trim.{Edge, no_edge, edge_of, braces_behind}
-use Rattle.handlebars_template.specs.Options.{Options}
+use Rattle.handlebars_tags.specs.Options.{Options}
 use Rattle.handlebars_template.specs.Place.{Place, place}
 
 -- a text: its place, the edge before it, its slice, what is kept of it, and the edge behind it; a tag: its place, its

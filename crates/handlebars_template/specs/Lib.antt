@@ -1,4 +1,3 @@
-pub mod Options
 pub mod Place
 pub mod Tree
 pub mod Calls

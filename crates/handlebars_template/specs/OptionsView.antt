@@ -1,6 +1,6 @@
 -- The options that a `TemplateOptions` stands for.
 use Rattle.std.specs.Prelude.{option_map, string_bytes}
-use Rattle.handlebars_template.specs.Options.{Options}
+use Rattle.handlebars_tags.specs.Options.{Options}
 use Rattle.handlebars_template.specs.declared.template.compile.TemplateOptions.{TemplateOptions}
 
 abbrev pub options_view : TemplateOptions → Options

@@ -4,7 +4,7 @@ use Rattle.handlebars_base.specs.Bytes.{Text}
 use Rattle.handlebars_lines.specs.Line.{Line}
 use Rattle.handlebars_tags.specs.Tag.{BlockLine}
 use Rattle.handlebars_tags.specs.Trim.{Edge, trimmed, has_element}
-use Rattle.handlebars_template.specs.Options.{Options}
+use Rattle.handlebars_tags.specs.Options.{Options}
 use Rattle.handlebars_template.specs.Place.{Place}
 use Rattle.handlebars_template.specs.Tree.{Element, raw_string, html_expression, expression, Call}
 use Rattle.handlebars_template.specs.TreeView.{place_of}
@@ -49,7 +49,7 @@ IsOpening kind e line read = MatchOption read ⊥ (Opening kind e line)
 -- a text between two edges, where it has an element
 abbrev pub text_placed : Options → Place → Edge → Text → Text → Edge → List Placed
 text_placed options p e slice kept n =
-    if has_element e slice then record { place = p; element = raw_string (trimmed e kept n) } ∷ [] else []
+    if has_element e slice then record { place = p; element = raw_string (trimmed options e kept n) } ∷ [] else []
 
 -- ---- a source
 

@@ -14,7 +14,7 @@ use Rattle.handlebars_lines.specs.LiteralReading as literal
 use Rattle.handlebars_lines.specs.WorthReading.{worth_of, before}
 use Rattle.handlebars_tags.specs.Kind.{beginning_of, closing_of}
 use Rattle.handlebars_template.specs.Calls.{plain_call, plain_marks}
-use Rattle.handlebars_template.specs.Options.{no_options}
+use Rattle.handlebars_tags.specs.Options.{no_options}
 use Rattle.handlebars_template.specs.Compile.{Compiles, compiled}
 use Rattle.handlebars_worked.specs.SourceRows.{at, alone, path_to, call_with}
 use Rattle.handlebars_template.specs.Tree.{Tree, tree, elements_of, Element, raw_string, expression, helper_block, call, args, bodies, Body, no_body, body, no_binding, Params, no_params, param, no_pairs, Param, name, literal, subexpression}

@@ -11,7 +11,7 @@ use Rattle.handlebars_lines.specs.LineReading as line
 use Rattle.handlebars_lines.specs.LiteralReading as literal
 use Rattle.handlebars_tags.specs.Kind.{beginning_of, closing_of}
 use Rattle.handlebars_template.specs.Calls.{plain_call, plain_marks}
-use Rattle.handlebars_template.specs.Options.{no_options}
+use Rattle.handlebars_tags.specs.Options.{no_options}
 use Rattle.handlebars_template.specs.Compile.{Compiles, compiled}
 use Rattle.handlebars_template.specs.Place.{Place}
 use Rattle.handlebars_worked.specs.SourceRows.{at, alone, path_to}

@@ -15,7 +15,7 @@ use Rattle.handlebars_lines.specs.LiteralReading as literal
 use Rattle.handlebars_lines.specs.WorthReading.{worth_of, before}
 use Rattle.handlebars_tags.specs.Text.{two_braces, IsText, at_tag, a_byte, two_escaped}
 use Rattle.handlebars_tags.specs.Kind.{beginning_of, closing_of}
-use Rattle.handlebars_template.specs.Options.{no_options}
+use Rattle.handlebars_tags.specs.Options.{no_options}
 use Rattle.handlebars_worked.specs.SourceRows.{EmptyRow, ValueRow, EscapedRow, MemberRow, UnclosedRow, PlaceRow, HtmlRow, AmpersandRow, CallRow, NestedRow, UpRow, ChainRow, LinesRow, TildeRow, InverseRow, RawRow, ElseRow, CloseRow, OpenRow, DeepRow, OtherNameRow, NumberRow}
 use Rattle.handlebars_template.proofs.Running.{text_at-is, no_line_at, no_value_tag}
 use Rattle.handlebars_template.proofs.Outcomes.{answer_of-compiles, answer-compiles, first_tag, first_unreadable}

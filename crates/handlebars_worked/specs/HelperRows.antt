@@ -8,7 +8,7 @@ use Rattle.handlebars_base.specs.Bytes.{Text}
 use Rattle.handlebars_base.specs.Compare.{compared}
 use Rattle.handlebars_base.specs.Equal.{equals}
 use Rattle.handlebars_base.specs.Reasons.{Reason, missing_variable, param_not_found_for_index, param_not_found_for_name}
-use Rattle.handlebars_template.specs.Options.{no_options}
+use Rattle.handlebars_tags.specs.Options.{no_options}
 use Rattle.handlebars_meaning.specs.Pieces.{Piece, of_text}
 use Rattle.handlebars_meaning.specs.Sites.{first_tree, element_in}
 use Rattle.handlebars_helpers.specs.Choice.{Kind, kind_len, built_in}

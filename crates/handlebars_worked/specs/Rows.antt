@@ -8,7 +8,7 @@ use Rattle.handlebars_base.specs.Reasons.{Reason, Refusal, invalid_json_index, h
 use Rattle.handlebars_base.specs.RenderRefusals.{plain_refusal}
 use Rattle.handlebars_base.specs.Scoped.{value}
 use Rattle.handlebars_template.specs.Calls.{plain_call, plain_marks}
-use Rattle.handlebars_template.specs.Options.{no_options}
+use Rattle.handlebars_tags.specs.Options.{no_options}
 use Rattle.handlebars_template.specs.Compile.{unreadable_tag}
 use Rattle.handlebars_worked.specs.SourceRows.{at, escaped_source}
 use Rattle.handlebars_template.specs.Tree.{Tree, tree, elements_of, Element, html_expression, expression, raw_string, helper_block, Call, call, args, bodies, Body, no_body, body, no_binding, no_pairs, params_of, Param, name, path, literal, subexpression}

@@ -3,7 +3,7 @@ use Rattle.std.specs.Prelude.{ℕ, List, [], ◌∷◌, Some, None, codes, true,
 use Rattle.serde_json.specs.Data.{unsigned, Data, boolean, number, string, array, object, Items, no_items, item, no_members, member}
 use Rattle.handlebars_base.specs.Bytes.{Text}
 use Rattle.handlebars_base.specs.Reasons.{Refusal, invalid_json_index}
-use Rattle.handlebars_template.specs.Options.{no_options}
+use Rattle.handlebars_tags.specs.Options.{no_options}
 use Rattle.handlebars_template.specs.Tree.{expression, name, literal}
 use Rattle.handlebars_helpers.specs.Choice.{built_in}
 use Rattle.handlebars_meaning.specs.State.{Setting}

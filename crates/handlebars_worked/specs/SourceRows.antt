@@ -8,7 +8,7 @@ use Rattle.handlebars_template.specs.Place.{Place}
 use Rattle.handlebars_template.specs.Tree.{Tree, tree, empty_tree, Element, no_elements, element, raw_string, html_expression, expression, Param, name, path, literal, subexpression, args, no_params, param, no_pairs, pair, no_binding, no_body}
 use Rattle.handlebars_template.specs.Calls.{plain_call, invalid}
 use Rattle.handlebars_template.specs.Nest.{helper_opening, raw_opening, Opening, mismatched, Placed, body_with, block_of}
-use Rattle.handlebars_template.specs.Options.{no_options}
+use Rattle.handlebars_tags.specs.Options.{no_options}
 use Rattle.handlebars_template.specs.Compile.{Compiles, compiled, refused, syntax_refusal, unreadable_tag, refusal_for}
 
 abbrev pub at : ℕ → ℕ → Place

@@ -4,7 +4,7 @@ ghost use Rattle.std.specs.Prelude.{◌≡◌, ◌≢◌, [], IfOk, IfErr, IsSom
 ghost use Rattle.handlebars_base.specs.Reasons.{template_out_of_memory};
 ghost use Rattle.handlebars_base.specs.TemplateRefusals.{template_reason_of, template_refusal_of, shown_lines};
 ghost use Rattle.handlebars_template.specs.Compile.{Compiles, compiled, refused, syntax_refusal, mismatch, refusal_for};
-ghost use Rattle.handlebars_template.specs.Options.{Options, no_options, named_options};
+ghost use Rattle.handlebars_tags.specs.Options.{Options, no_options, named_options};
 ghost use Rattle.handlebars_template.specs.OptionsView.{options_view};
 ghost use Rattle.handlebars_template.specs.NestView.{kind_view, late_fault, syntax_fault, end_view};
 ghost use Rattle.handlebars_template.specs.ScanView.{ComesTo};

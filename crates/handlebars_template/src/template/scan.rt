@@ -64,12 +64,25 @@ pub fn scan(alloc: Global, source: &str, options: &TemplateOptions) -> Result<Fo
     Ok(Found::Through(nesting.finish()))
 }
 
-// What is kept of a text between two edges, which is copied again only where something of it goes.
-fn kept_text(alloc: Global, before: Edge, kept: String, behind: Edge) -> Result<String, AllocError>
-    ensures { IfOk result (λ text. string_bytes text
-        ≡ trimmed (edge_view before) (string_bytes kept) (edge_view behind)) }
+// What is kept of a text between two edges, as a part of it.
+fn trimmed_text<'a>(options: &TemplateOptions, before: Edge, kept: &'a str, behind: Edge) -> &'a str
+    ensures { result.now ≡ trimmed (options_view options.now) (edge_view before) kept.now (edge_view behind) }
 {
-    let part = trimmed(before, kept.as_str(), behind);
+    trimmed(before, kept, behind)
+}
+
+// What is kept of a text between two edges, which is copied again only where something of it goes.
+fn kept_text(
+    alloc: Global,
+    options: &TemplateOptions,
+    before: Edge,
+    kept: String,
+    behind: Edge,
+) -> Result<String, AllocError>
+    ensures { IfOk result (λ text. string_bytes text
+        ≡ trimmed (options_view options.now) (edge_view before) (string_bytes kept) (edge_view behind)) }
+{
+    let part = trimmed_text(options, before, kept.as_str(), behind);
     if part == kept.as_str() {
         Ok(kept)
     } else {
@@ -96,7 +109,7 @@ fn add_text(
     if !has_element(before, front.slice) {
         return Ok(());
     }
-    let kept = kept_text(alloc, before, front.kept, behind)?;
+    let kept = kept_text(alloc, options, before, front.kept, behind)?;
     nesting
         .elements
         .push(alloc, place, TemplateElement::RawString(kept))
