@@ -1,7 +1,7 @@
 //! Render contexts that are used more than once.
 
 use crate::caller::rendered_again;
-use crate::tests::helpers::{Bench, Held, compiled, is_same, parsed, refuses, text_of};
+use crate::tests::helpers::{Bench, Held, compiled, is_same, is_shown, refuses, text_of};
 use handlebars::template::{Parameter, TemplateElement};
 use handlebars::{
     Expand, Output, PathAndJson, RenderContext, StringOutput, Template, indent_aware_write,
@@ -15,20 +15,24 @@ fn one_output(rt: &impl Abort, alloc: Global, bench: &mut Bench) {
     let name = text_of(rt, alloc, "main");
     bench.rc = RenderContext::new(alloc, Some(&name)).expect(rt, "memory");
     let mut out = StringOutput::new(alloc);
-    for source in ["x{{a}}\n", "", "{{a}}y"] {
-        bench.writes(rt, alloc, &compiled(rt, alloc, source).value, &mut out);
-    }
+    bench.compiles(rt, alloc, "x{{a}}\n", &mut out, "Ok(())");
+    bench.compiles(rt, alloc, "", &mut out, "Ok(())");
+    bench.compiles(rt, alloc, "{{a}}y", &mut out, "Ok(())");
     is_same(rt, out.into_string().as_str(), "x1\n1y");
 }
 
 // Where escaping is off it stays off, also behind an html expression.
-fn escaping_off(rt: &impl Abort, alloc: Global, bench: &mut Bench) {
+fn escapes(rt: &impl Abort, alloc: Global, bench: &mut Bench, disable: bool, wanted: &str) {
+    bench.rc.set_disable_escape(disable);
     let template = compiled(rt, alloc, "{{x}}{{{x}}}{{x}}");
-    for (disable, wanted) in [(false, "&lt;<&lt;"), (true, "<<<"), (false, "&lt;<&lt;")] {
-        bench.rc.set_disable_escape(disable);
-        bench.gives(rt, alloc, &template.value, wanted);
-        assert!(rt; bench.rc.is_disable_escape() == disable);
-    }
+    bench.gives(rt, alloc, &template.value, wanted);
+    assert!(rt; bench.rc.is_disable_escape() == disable);
+}
+
+fn escaping_off(rt: &impl Abort, alloc: Global, bench: &mut Bench) {
+    escapes(rt, alloc, bench, false, r#"Ok("&lt;<&lt;")"#);
+    escapes(rt, alloc, bench, true, r#"Ok("<<<")"#);
+    escapes(rt, alloc, bench, false, r#"Ok("&lt;<&lt;")"#);
 }
 
 #[test]
@@ -39,22 +43,25 @@ fn renders_one_after_another(rt: HostRuntime) {
     escaping_off(&rt, alloc, &mut Bench::new(&rt, alloc, data));
 }
 
-fn line_is(rc: &RenderContext, newline: bool, content: bool, indent: bool) -> bool {
-    rc.get_trailine_newline() == newline
-        && rc.get_content_produced() == content
-        && rc.get_indent_before_write() == indent
+// Whether a line has ended, whether content was written, and whether white is to come first.
+fn line_is(rt: &impl Abort, alloc: Global, rc: &RenderContext, wanted: &str) {
+    let newline = rc.get_trailine_newline();
+    let content = rc.get_content_produced();
+    let indent = rc.get_indent_before_write();
+    is_shown(rt, alloc, (newline, content, indent), wanted);
 }
 
-fn set_line(rc: &mut RenderContext) {
+fn line_is_set(rt: &impl Abort, alloc: Global, rc: &mut RenderContext) {
     rc.set_content_produced(false);
     rc.set_trailing_newline(true);
     rc.set_indent_before_write(true);
+    line_is(rt, alloc, rc, "(true, false, true)");
 }
 
 fn writes_on(rt: &impl Abort, out: &mut StringOutput) {
-    for text in ["ab", "", "c"] {
-        out.write(text).expect(rt, "no fault");
-    }
+    out.write("ab").expect(rt, "no fault");
+    out.write("").expect(rt, "no fault");
+    out.write("c").expect(rt, "no fault");
 }
 
 // The line's state after a block whose body ends a line; what is set is read.
@@ -63,109 +70,106 @@ fn the_line_goes_along(rt: HostRuntime) {
     let alloc = rt.alloc();
     let mut bench = Bench::new(&rt, alloc, r#"{"a":1}"#);
     let mut out = StringOutput::new(alloc);
-    let template = compiled(&rt, alloc, "{{#if a}}\nx\n{{/if}}");
-    bench.writes(&rt, alloc, &template.value, &mut out);
-    assert!(rt; line_is(&bench.rc, true, true, true));
-
+    let source = "{{#if a}}\nx\n{{/if}}";
+    bench.compiles(&rt, alloc, source, &mut out, "Ok(())");
+    line_is(&rt, alloc, &bench.rc, "(true, true, true)");
     indent_aware_write("y", &mut bench.rc, &mut out).expect(&rt, "no fault");
-    assert!(rt; line_is(&bench.rc, false, true, false));
-    set_line(&mut bench.rc);
-    assert!(rt; line_is(&bench.rc, true, false, true));
+    line_is(&rt, alloc, &bench.rc, "(false, true, false)");
+    line_is_set(&rt, alloc, &mut bench.rc);
     writes_on(&rt, &mut out);
     is_same(&rt, out.into_string().as_str(), "x\nyabc");
 }
+
+const LISTED: &str = r#"{"a":[1]}"#;
+
+const ALONE: &str =
+    r#"Err(RenderError { template_name: None, line_no: None, column_no: None, reason: InvalidJsonIndex("x") })"#;
 
 // An element alone has no position.
 fn elements_alone(rt: &impl Abort, alloc: Global, bench: &mut Bench, elements: &[TemplateElement]) {
     match elements {
         [shown, refused] => {
-            bench.gives(rt, alloc, shown, "[1]");
-            bench.refuses(
-                rt,
-                alloc,
-                refused,
-                r#"InvalidJsonIndex("x") None None None"#,
-            );
+            bench.gives(rt, alloc, shown, r#"Ok("[1]")"#);
+            bench.gives(rt, alloc, refused, ALONE);
         }
         _ => panic!(rt; "no two elements"),
     }
-}
-
-fn both_agree(rt: &impl Abort, bench: &Bench) {
-    let texts = rendered_again(&bench.registry, "{{a}}!", &bench.data, &Discard);
-    let (first, second) = texts.expect(rt, "no refusal");
-    is_same(rt, first.as_str(), "[1]!");
-    is_same(rt, second.as_str(), "[1]!");
 }
 
 // Rendering changes nothing that the next one reads.
 #[test]
 fn renders_elements_alone(rt: HostRuntime) {
     let alloc = rt.alloc();
-    let mut bench = Bench::new(&rt, alloc, r#"{"a":[1]}"#);
+    let mut bench = Bench::new(&rt, alloc, LISTED);
     let template = compiled(&rt, alloc, "{{a}}{{a.x}}");
     elements_alone(&rt, alloc, &mut bench, template.value.elements.as_slice());
-    both_agree(&rt, &bench);
+    let texts = rendered_again(&bench.registry, "{{a}}!", &bench.data, &Discard);
+    is_shown(&rt, alloc, texts, r#"Ok(("[1]!", "[1]!"))"#);
 }
 
-const LISTED: &str = r#"{"a":[1]}"#;
+const REFUSED: &str =
+    r#"Err(RenderError { template_name: None, line_no: Some(1), column_no: Some(2), reason: InvalidJsonIndex("x") })"#;
 
-const REFUSED: &str = r#"InvalidJsonIndex("x") Some(1) Some(2) None"#;
-
-const FAILED: &str = "Failed None None None";
+const FAILED: &str =
+    "Err(RenderError { template_name: None, line_no: None, column_no: None, reason: Failed })";
 
 // Once it has failed, a context renders no template, and nothing more is written.
 fn fails_in(rt: &impl Abort, alloc: Global, good: &Template, bad: &Template) {
     let mut bench = Bench::new(rt, alloc, LISTED);
     let mut out = StringOutput::new(alloc);
-    bench.writes(rt, alloc, good, &mut out);
+    bench.writes(rt, alloc, good, &mut out, "Ok(())");
     assert!(rt; !bench.rc.has_failed());
-    bench.stops(rt, alloc, bad, &mut out, REFUSED);
+    bench.writes(rt, alloc, bad, &mut out, REFUSED);
     assert!(rt; bench.rc.has_failed());
-    for template in [bad, good] {
-        bench.stops(rt, alloc, template, &mut out, FAILED);
-        bench.refuses(rt, alloc, template, FAILED);
-    }
+    bench.writes(rt, alloc, bad, &mut out, FAILED);
+    bench.gives(rt, alloc, bad, FAILED);
+    bench.writes(rt, alloc, good, &mut out, FAILED);
+    bench.gives(rt, alloc, good, FAILED);
     is_same(rt, out.into_string().as_str(), "x[1]x");
 }
 
 fn fails_alone(rt: &impl Abort, alloc: Global, good: &Template, bad: &Template) {
     let mut bench = Bench::new(rt, alloc, LISTED);
-    bench.gives(rt, alloc, good, "x[1]");
-    bench.refuses(rt, alloc, bad, REFUSED);
+    bench.gives(rt, alloc, good, r#"Ok("x[1]")"#);
+    bench.gives(rt, alloc, bad, REFUSED);
     assert!(rt; bench.rc.has_failed());
 }
 
-fn has_no_value(given: &PathAndJson<'_>) -> bool {
-    given.is_value_missing()
-        && given.context_path().is_none()
-        && given.value().is_null()
-        && given.try_get_constant_value().is_none()
-}
-
-fn is_written(given: &PathAndJson<'_>, name: &str) -> bool {
-    match given.relative_path() {
-        Some(path) => path.as_str() == name,
-        None => false,
-    }
+// Its path as written, its place in the data, its value, the constant, and whether it is missing.
+fn tells(rt: &impl Abort, alloc: Global, given: &PathAndJson<'_>, wanted: &str) {
+    let places = (given.relative_path(), given.context_path());
+    let constant = given.try_get_constant_value();
+    let missing = given.is_value_missing();
+    is_shown(
+        rt,
+        alloc,
+        (places, given.value(), constant, missing),
+        wanted,
+    );
 }
 
 fn expands(rt: &impl Abort, alloc: Global, bench: &mut Bench, name: &Parameter) {
     let given = name.expand(alloc, &bench.registry, &bench.data, &mut bench.rc, &Discard);
     let given = given.expect(rt, "no refusal");
-    assert!(rt; is_written(&given, "n"));
-    assert!(rt; has_no_value(&given));
+    let wanted = r#"((Some("n"), None), Null, None, true)"#;
+    tells(rt, alloc, &given, wanted);
 }
+
+const NO_HELPER: &str =
+    r#"RenderError { template_name: None, line_no: None, column_no: None, reason: HelperNotFound("f") }"#;
 
 fn expands_no_call(rt: &impl Abort, alloc: Global, bench: &mut Bench, call: &Parameter) {
     let answer = call.expand(alloc, &bench.registry, &bench.data, &mut bench.rc, &Discard);
-    refuses(rt, alloc, answer, r#"HelperNotFound("f") None None None"#);
+    refuses(rt, alloc, answer, NO_HELPER);
     assert!(rt; bench.rc.has_failed());
 }
 
+const HAS_FAILED: &str =
+    "RenderError { template_name: None, line_no: None, column_no: None, reason: Failed }";
+
 fn expands_no_name(rt: &impl Abort, alloc: Global, bench: &mut Bench, name: &Parameter) {
     let answer = name.expand_as_name(alloc, &bench.registry, &bench.data, &mut bench.rc, &Discard);
-    refuses(rt, alloc, answer, FAILED);
+    refuses(rt, alloc, answer, HAS_FAILED);
 }
 
 // A name is a parameter that no text is read as; it has no value. A failed context expands none.
@@ -174,7 +178,7 @@ fn fails_expanding(rt: &impl Abort, alloc: Global) {
         value: Parameter::Name(text_of(rt, alloc, "n")),
     };
     let call = Held {
-        value: parsed(rt, alloc, "(f a)"),
+        value: Parameter::parse(alloc, "(f a)").expect(rt, "a parameter"),
     };
     let mut bench = Bench::new(rt, alloc, LISTED);
     expands(rt, alloc, &mut bench, &name.value);

@@ -1,13 +1,13 @@
 //! What the tests share. Each of these ends the test where something else comes than is wanted: an owned value that is
-//! kept across an early return writes out at each how it is let go, and ending needs none.
+//! kept across an early return writes out at each how it is let go, and ending needs none. In a function over any type a
+//! value is let go by one call, and so is one that is `Held`.
 
-use handlebars::template::Parameter;
 use handlebars::{
     Context, JsonValue, Registry, RenderContext, RenderError, Renderable, StringOutput, Template,
 };
 use log::sink::Discard;
 use std::alloc::Global;
-use std::fmt::{Debug, Display};
+use std::fmt::Debug;
 use std::process::Abort;
 
 /// A value that is let go by one call, whatever it is made of.
@@ -48,7 +48,7 @@ impl Bench {
         }
     }
 
-    /// The text that is wanted.
+    /// The text, or the refusal, that is wanted, by its constructors.
     pub fn gives(
         &mut self,
         rt: &impl Abort,
@@ -57,58 +57,34 @@ impl Bench {
         wanted: &str,
     ) {
         let answer = rendered.renders(alloc, &self.registry, &self.data, &mut self.rc, &Discard);
-        gives(rt, answer, wanted);
+        is_shown(rt, alloc, answer, wanted);
     }
 
-    /// The refusal that is wanted.
-    pub fn refuses(
-        &mut self,
-        rt: &impl Abort,
-        alloc: Global,
-        rendered: &impl Renderable,
-        wanted: &str,
-    ) {
-        let answer = rendered.renders(alloc, &self.registry, &self.data, &mut self.rc, &Discard);
-        refuses(rt, alloc, answer, wanted);
-    }
-
-    /// That it goes into an output.
+    /// That it goes into an output, or the refusal, by its constructors.
     pub fn writes(
         &mut self,
         rt: &impl Abort,
         alloc: Global,
         template: &Template,
         out: &mut StringOutput,
+        wanted: &str,
     ) {
-        let answer = template.render(
-            alloc,
-            &self.registry,
-            &self.data,
-            &mut self.rc,
-            out,
-            &Discard,
-        );
-        answer.expect(rt, "no refusal");
+        let (registry, data, rc) = (&self.registry, &self.data, &mut self.rc);
+        let answer = template.render(alloc, registry, data, rc, out, &Discard);
+        is_shown(rt, alloc, answer, wanted);
     }
 
-    /// The refusal that is wanted, over an output.
-    pub fn stops(
+    /// The same of the template of a source.
+    pub fn compiles(
         &mut self,
         rt: &impl Abort,
         alloc: Global,
-        template: &Template,
+        source: &str,
         out: &mut StringOutput,
         wanted: &str,
     ) {
-        let answer = template.render(
-            alloc,
-            &self.registry,
-            &self.data,
-            &mut self.rc,
-            out,
-            &Discard,
-        );
-        refuses(rt, alloc, answer, wanted);
+        let template = compiled(rt, alloc, source);
+        self.writes(rt, alloc, &template.value, out, wanted);
     }
 }
 
@@ -117,14 +93,10 @@ pub fn text_of(rt: &impl Abort, alloc: Global, text: &str) -> String {
     String::from_str(alloc, text).expect(rt, "memory")
 }
 
-/// The value of a text in JSON.
-pub fn json_of(rt: &impl Abort, alloc: Global, text: &str) -> JsonValue {
-    JsonValue::from_str(alloc, text).expect(rt, "a value")
-}
-
 /// The data of a text in JSON.
 pub fn data_of(rt: &impl Abort, alloc: Global, text: &str) -> Context {
-    Context::try_from(json_of(rt, alloc, text)).expect(rt, "data")
+    let value = JsonValue::from_str(alloc, text).expect(rt, "a value");
+    Context::try_from(value).expect(rt, "data")
 }
 
 /// The template of a source.
@@ -134,39 +106,18 @@ pub fn compiled(rt: &impl Abort, alloc: Global, source: &str) -> Held<Template> 
     }
 }
 
-/// The parameter of a text.
-pub fn parsed(rt: &impl Abort, alloc: Global, text: &str) -> Parameter {
-    Parameter::parse(alloc, text).expect(rt, "a parameter")
-}
-
-/// A value on the heap.
-pub fn boxed<T: Drop>(rt: &impl Abort, alloc: Global, value: T) -> Box<T> {
-    Box::new(alloc, value).expect(rt, "memory")
-}
-
 /// That a text is the one that is wanted.
 pub fn is_same(rt: &impl Abort, text: &str, wanted: &str) {
     assert!(rt; text == wanted, "{text} in place of {wanted}");
 }
 
-/// What a value is printed as.
-pub fn prints(rt: &impl Abort, alloc: Global, value: &impl Display, wanted: &str) {
-    let text = value.to_string(alloc).expect(rt, "memory");
-    is_same(rt, text.as_str(), wanted);
-}
-
 /// What a value is, by its constructors.
-pub fn shown(rt: &impl Abort, alloc: Global, value: &impl Debug) -> String {
-    format!(in alloc; "{value:?}").expect(rt, "memory")
-}
-
-/// The text where there is to be one.
-pub fn gives(rt: &impl Abort, answer: Result<String, RenderError>, wanted: &str) {
-    let text = answer.expect(rt, "no refusal");
+pub fn is_shown<T: Debug + Drop>(rt: &impl Abort, alloc: Global, value: T, wanted: &str) {
+    let text = format!(in alloc; "{value:?}").expect(rt, "memory");
     is_same(rt, text.as_str(), wanted);
 }
 
-/// The refusal where there is to be one: its reason, its line, its column and its name, by their constructors.
+/// The refusal where there is to be one, by its constructors.
 pub fn refuses<T: Drop>(
     rt: &impl Abort,
     alloc: Global,
@@ -175,16 +126,6 @@ pub fn refuses<T: Drop>(
 ) {
     match answer {
         Ok(_) => panic!(rt; "no refusal"),
-        Err(error) => says(rt, alloc, &error, wanted),
+        Err(error) => is_shown(rt, alloc, error, wanted),
     }
-}
-
-/// What an error says: its reason, its line, its column and its name, by their constructors.
-pub fn says(rt: &impl Abort, alloc: Global, error: &RenderError, wanted: &str) {
-    let reason = error.reason();
-    let line = error.line_no;
-    let column = error.column_no;
-    let name = &error.template_name;
-    let text = format!(in alloc; "{reason:?} {line:?} {column:?} {name:?}").expect(rt, "memory");
-    is_same(rt, text.as_str(), wanted);
 }

@@ -1,14 +1,79 @@
 //! Registries that change, and the reader that they don't ask.
 
-use crate::tests::helpers::{Bench, gives, refuses};
-use handlebars::{
-    BuiltIn, Context, EntryKind, HelperEntry, NoFiles, Registry, RenderError, TemplateReader,
-};
+use crate::tests::helpers::{data_of, is_shown};
+use handlebars::{BuiltIn, Context, EntryKind, HelperEntry, NoFiles, Registry, TemplateReader};
 use log::sink::Discard;
 use std::alloc::Global;
 use std::io;
 use std::io::ErrorKind;
 use std::process::Abort;
+
+// What a source gives over no data.
+fn answers(rt: &impl Abort, alloc: Global, registry: &Registry, source: &str, wanted: &str) {
+    let data = Context::null();
+    let answer = registry.render_template_with_context(source, &data, &Discard, &mut NoFiles);
+    is_shown(rt, alloc, answer, wanted);
+}
+
+const UNKNOWN: &str =
+    r#"Err(RenderError { template_name: None, line_no: Some(1), column_no: Some(1), reason: HelperNotFound("size") })"#;
+
+// What a call of `size` gives, if there is such a helper.
+fn calls(rt: &impl Abort, alloc: Global, registry: &Registry, wanted: &str) {
+    answers(rt, alloc, registry, r#"{{size "abc"}}"#, wanted);
+}
+
+fn register(rt: &impl Abort, registry: &mut Registry, name: &str, helper: BuiltIn) {
+    let answer = registry.register_helper(name, HelperEntry::Built(helper));
+    answer.expect(rt, "memory");
+}
+
+// Helpers under other names, and the hook, there and taken back.
+fn helpers_change(rt: &impl Abort, alloc: Global, registry: &mut Registry) {
+    calls(rt, alloc, registry, UNKNOWN);
+    register(rt, registry, "size", BuiltIn::Len);
+    calls(rt, alloc, registry, r#"Ok("3")"#);
+    register(rt, registry, "size", BuiltIn::And);
+    calls(rt, alloc, registry, r#"Ok("true")"#);
+    registry.unregister_helper("size");
+    calls(rt, alloc, registry, UNKNOWN);
+    registry.unregister_helper("size");
+    register(rt, registry, "helperMissing", BuiltIn::Len);
+    calls(rt, alloc, registry, r#"Ok("3")"#);
+    registry.unregister_helper("helperMissing");
+    calls(rt, alloc, registry, UNKNOWN);
+}
+
+const MISSING: &str =
+    r#"Err(RenderError { template_name: None, line_no: Some(1), column_no: Some(1), reason: MissingVariable(Some("no")) })"#;
+
+fn mode_changes(rt: &impl Abort, alloc: Global, registry: &mut Registry) {
+    assert!(rt; !registry.strict_mode());
+    answers(rt, alloc, registry, "{{no}}", r#"Ok("")"#);
+    registry.set_strict_mode(true);
+    assert!(rt; registry.strict_mode());
+    answers(rt, alloc, registry, "{{no}}", MISSING);
+    registry.set_strict_mode(false);
+    assert!(rt; !registry.strict_mode());
+    answers(rt, alloc, registry, "{{no}}", r#"Ok("")"#);
+}
+
+// A call that renders adds no name of its own to the error of its source.
+fn source_has_its_own(rt: &impl Abort, alloc: Global, registry: &Registry) {
+    let data = Context::null();
+    let answer = registry.render_template_with_context("{{", &data, &Discard, &mut NoFiles);
+    let error = answer.expect_err(rt, "a refusal");
+    is_shown(rt, alloc, &error.template_name, "None");
+}
+
+#[test]
+fn registries_change(rt: HostRuntime) {
+    let alloc = rt.alloc();
+    let mut registry = Registry::new(alloc).expect(&rt, "memory");
+    helpers_change(&rt, alloc, &mut registry);
+    mode_changes(&rt, alloc, &mut registry);
+    source_has_its_own(&rt, alloc, &registry);
+}
 
 // Counts how often it is asked.
 #[derive(Drop)]
@@ -32,80 +97,19 @@ impl TemplateReader for Counter {
     }
 }
 
-// What a source gives over no data.
-fn answer(registry: &Registry, source: &str) -> Result<String, RenderError> {
-    registry.render_template_with_context(source, &Context::null(), &Discard, &mut NoFiles)
-}
-
-fn answers(rt: &impl Abort, registry: &Registry, source: &str, wanted: &str) {
-    gives(rt, answer(registry, source), wanted);
-}
-
-fn fails(rt: &impl Abort, alloc: Global, registry: &Registry, source: &str, wanted: &str) {
-    refuses(rt, alloc, answer(registry, source), wanted);
-}
-
-const CALL: &str = r#"{{size "abc"}}"#;
-
-const UNKNOWN: &str = r#"HelperNotFound("size") Some(1) Some(1) None"#;
-
-fn register(rt: &impl Abort, registry: &mut Registry, name: &str, helper: BuiltIn) {
-    let answer = registry.register_helper(name, HelperEntry::Built(helper));
-    answer.expect(rt, "memory");
-}
-
-// Helpers under other names, and the hook, there and taken back.
-fn helpers_change(rt: &impl Abort, alloc: Global, registry: &mut Registry) {
-    fails(rt, alloc, registry, CALL, UNKNOWN);
-    register(rt, registry, "size", BuiltIn::Len);
-    answers(rt, registry, CALL, "3");
-    register(rt, registry, "size", BuiltIn::And);
-    answers(rt, registry, CALL, "true");
-    registry.unregister_helper("size");
-    fails(rt, alloc, registry, CALL, UNKNOWN);
-    registry.unregister_helper("size");
-    register(rt, registry, "helperMissing", BuiltIn::Len);
-    answers(rt, registry, CALL, "3");
-    registry.unregister_helper("helperMissing");
-    fails(rt, alloc, registry, CALL, UNKNOWN);
-}
-
-fn mode_changes(rt: &impl Abort, alloc: Global, registry: &mut Registry) {
-    assert!(rt; !registry.strict_mode());
-    answers(rt, registry, "{{no}}", "");
-    registry.set_strict_mode(true);
-    assert!(rt; registry.strict_mode());
-    let missing = r#"MissingVariable(Some("no")) Some(1) Some(1) None"#;
-    fails(rt, alloc, registry, "{{no}}", missing);
-    registry.set_strict_mode(false);
-    assert!(rt; !registry.strict_mode());
-    answers(rt, registry, "{{no}}", "");
-}
-
-#[test]
-fn registries_change(rt: HostRuntime) {
-    let alloc = rt.alloc();
-    let mut registry = Registry::new(alloc).expect(&rt, "memory");
-    helpers_change(&rt, alloc, &mut registry);
-    mode_changes(&rt, alloc, &mut registry);
-}
-
-fn renders(bench: &Bench, files: &mut Counter, source: &str) -> bool {
-    let registry = &bench.registry;
-    let answer = registry.render_template_with_context(source, &bench.data, &Discard, files);
-    answer.is_ok()
+// Whether a source renders over a list under `a`; no file is asked for.
+fn renders(rt: &impl Abort, alloc: Global, registry: &Registry, source: &str, wanted: &str) {
+    let data = data_of(rt, alloc, r#"{"a":[1]}"#);
+    let mut files = Counter { asked: 0 };
+    let answer = registry.render_template_with_context(source, &data, &Discard, &mut files);
+    is_shown(rt, alloc, (answer.is_ok(), files.asked), wanted);
 }
 
 #[test]
 fn asks_no_reader(rt: HostRuntime) {
     let alloc = rt.alloc();
-    let bench = Bench::new(&rt, alloc, r#"{"a":[1]}"#);
-    let mut files = Counter { asked: 0 };
-    for (source, wanted) in [("x{{a}}", true), ("{{a.x}}", false), ("{{> a}}", false)] {
-        assert!(rt;
-            renders(&bench, &mut files, source) == wanted,
-            "at {source}"
-        );
-    }
-    assert!(rt; files.asked == 0);
+    let registry = Registry::new(alloc).expect(&rt, "memory");
+    renders(&rt, alloc, &registry, "x{{a}}", "(true, 0)");
+    renders(&rt, alloc, &registry, "{{a.x}}", "(false, 0)");
+    renders(&rt, alloc, &registry, "{{> a}}", "(false, 0)");
 }

@@ -1,39 +1,47 @@
 //! Trees that are made by hand, and how they render.
 
-use crate::tests::helpers::{Bench, Held, boxed, parsed, text_of};
+use crate::tests::helpers::{Bench, Held, text_of};
 use handlebars::template::{
-    DecoratorTemplate, ExpressionSpec, HelperTemplate, Parameter, Subexpression, Template,
-    TemplateElement, TemplateMapping,
+    DecoratorTemplate, ExpressionSpec, HelperTemplate, Parameter, Template, TemplateElement,
+    TemplateMapping,
 };
 use std::alloc::Global;
 use std::collections::BTreeMap;
 use std::process::Abort;
 
-fn name(rt: &impl Abort, alloc: Global, name: &str) -> Parameter {
-    Parameter::Name(text_of(rt, alloc, name))
-}
-
 // A call of a name with these parameters.
-fn spec(alloc: Global, name: Parameter, params: Vec<Parameter>) -> ExpressionSpec {
-    ExpressionSpec {
-        name,
+fn call_of(
+    rt: &impl Abort,
+    alloc: Global,
+    name: &str,
+    params: Vec<Parameter>,
+    block: bool,
+) -> HelperTemplate {
+    let spec = ExpressionSpec {
+        name: Parameter::Name(text_of(rt, alloc, name)),
         params,
         hash: BTreeMap::new(alloc),
         block_param: None,
         omit_pre_ws: false,
         omit_pro_ws: false,
-    }
+    };
+    HelperTemplate::new(spec, block, false)
 }
 
-fn block(rt: &impl Abort, alloc: Global, named: &str) -> TemplateElement {
-    let spec = spec(alloc, name(rt, alloc, named), Vec::new(alloc));
-    TemplateElement::HelperBlock(boxed(rt, alloc, HelperTemplate::new(spec, true, false)))
+fn boxed<T: Drop>(rt: &impl Abort, alloc: Global, value: T) -> Box<T> {
+    Box::new(alloc, value).expect(rt, "memory")
+}
+
+// A block of a name that has no helper.
+fn unknown(rt: &impl Abort, alloc: Global) -> TemplateElement {
+    let call = call_of(rt, alloc, "none", Vec::new(alloc), true);
+    TemplateElement::HelperBlock(boxed(rt, alloc, call))
 }
 
 // What names a decorator or an inclusion.
-fn naming(rt: &impl Abort, alloc: Global, named: &str) -> Box<DecoratorTemplate> {
+fn naming(rt: &impl Abort, alloc: Global, name: &str) -> Box<DecoratorTemplate> {
     let tag = DecoratorTemplate {
-        name: name(rt, alloc, named),
+        name: Parameter::Name(text_of(rt, alloc, name)),
         params: Vec::new(alloc),
         hash: BTreeMap::new(alloc),
         template: None,
@@ -43,84 +51,70 @@ fn naming(rt: &impl Abort, alloc: Global, named: &str) -> Box<DecoratorTemplate>
     boxed(rt, alloc, tag)
 }
 
-// What an element alone gives over data.
-fn gives_alone(rt: &impl Abort, alloc: Global, element: TemplateElement, data: &str, wanted: &str) {
-    let element = Held { value: element };
-    Bench::new(rt, alloc, data).gives(rt, alloc, &element.value, wanted);
-}
-
-// The template `t` of one element.
-fn template_of(
+// What the template `t` of one element gives over no data.
+fn gives_in(
     rt: &impl Abort,
     alloc: Global,
     element: TemplateElement,
     mapping: Vec<TemplateMapping>,
-) -> Held<Template> {
+    wanted: &str,
+) {
     let mut template = Held {
         value: Template::new(alloc),
     };
     template.value.elements.push(element).expect(rt, "memory");
     template.value.mapping = mapping;
     template.value.name = Some(text_of(rt, alloc, "t"));
-    template
+    Bench::new(rt, alloc, "null").gives(rt, alloc, &template.value, wanted);
 }
 
-fn refuses_element(rt: &impl Abort, alloc: Global, element: TemplateElement, wanted: &str) {
-    let template = template_of(rt, alloc, element, Vec::new(alloc));
-    Bench::new(rt, alloc, "null").refuses(rt, alloc, &template.value, wanted);
+// One whose element has no position.
+fn gives_placeless(rt: &impl Abort, alloc: Global, element: TemplateElement, wanted: &str) {
+    gives_in(rt, alloc, element, Vec::new(alloc), wanted);
 }
 
-fn refuses_placed(rt: &impl Abort, alloc: Global) {
-    let mapping = vec![in alloc; TemplateMapping(3, 4)].expect(rt, "memory");
-    let template = template_of(rt, alloc, block(rt, alloc, "none"), mapping);
-    let wanted = r#"HelperNotFound("none") Some(3) Some(4) Some("t")"#;
-    Bench::new(rt, alloc, "null").refuses(rt, alloc, &template.value, wanted);
-}
+const NO_HELPER: &str =
+    r#"Err(RenderError { template_name: Some("t"), line_no: None, column_no: None, reason: HelperNotFound("none") })"#;
 
-fn gives_no_comment(rt: &impl Abort, alloc: Global) {
-    let comment = TemplateElement::Comment(text_of(rt, alloc, "c"));
-    let template = template_of(rt, alloc, comment, Vec::new(alloc));
-    Bench::new(rt, alloc, "null").gives(rt, alloc, &template.value, "");
-}
+const NO_HELPER_THERE: &str =
+    r#"Err(RenderError { template_name: Some("t"), line_no: Some(3), column_no: Some(4), reason: HelperNotFound("none") })"#;
 
-fn refuses_partials(rt: &impl Abort, alloc: Global) {
-    let wanted = r#"PartialNotFound("p") None None Some("t")"#;
+const NO_PARTIAL: &str =
+    r#"Err(RenderError { template_name: Some("t"), line_no: None, column_no: None, reason: PartialNotFound("p") })"#;
+
+const NO_DECORATOR: &str =
+    r#"Err(RenderError { template_name: Some("t"), line_no: None, column_no: None, reason: DecoratorNotFound("d") })"#;
+
+fn refuses_names(rt: &impl Abort, alloc: Global) {
     let element = TemplateElement::PartialExpression(naming(rt, alloc, "p"));
-    refuses_element(rt, alloc, element, wanted);
+    gives_placeless(rt, alloc, element, NO_PARTIAL);
     let element = TemplateElement::PartialBlock(naming(rt, alloc, "p"));
-    refuses_element(rt, alloc, element, wanted);
-}
-
-fn refuses_decorators(rt: &impl Abort, alloc: Global) {
-    let wanted = r#"DecoratorNotFound("d") None None Some("t")"#;
+    gives_placeless(rt, alloc, element, NO_PARTIAL);
     let element = TemplateElement::DecoratorExpression(naming(rt, alloc, "d"));
-    refuses_element(rt, alloc, element, wanted);
+    gives_placeless(rt, alloc, element, NO_DECORATOR);
     let element = TemplateElement::DecoratorBlock(naming(rt, alloc, "d"));
-    refuses_element(rt, alloc, element, wanted);
+    gives_placeless(rt, alloc, element, NO_DECORATOR);
 }
 
 // A refusal has the template's name, and the position of its element where the mapping has one.
 #[test]
 fn elements_render_by_hand(rt: HostRuntime) {
     let alloc = rt.alloc();
-    let wanted = r#"HelperNotFound("none") None None Some("t")"#;
-    refuses_element(&rt, alloc, block(&rt, alloc, "none"), wanted);
-    refuses_partials(&rt, alloc);
-    refuses_decorators(&rt, alloc);
-    refuses_placed(&rt, alloc);
-    gives_no_comment(&rt, alloc);
+    gives_placeless(&rt, alloc, unknown(&rt, alloc), NO_HELPER);
+    refuses_names(&rt, alloc);
+    let mapping = vec![in alloc; TemplateMapping(3, 4)].expect(&rt, "memory");
+    gives_in(&rt, alloc, unknown(&rt, alloc), mapping, NO_HELPER_THERE);
+    let comment = TemplateElement::Comment(text_of(&rt, alloc, "c"));
+    gives_placeless(&rt, alloc, comment, r#"Ok("")"#);
 }
 
-// A call of `if` with what holds.
-fn if_call(rt: &impl Abort, alloc: Global) -> ExpressionSpec {
-    let mut params = Vec::new(alloc);
-    params
-        .push(Parameter::Literal(true.into()))
-        .expect(rt, "memory");
-    spec(alloc, name(rt, alloc, "if"), params)
+// What an element alone gives over data.
+fn gives_alone(rt: &impl Abort, alloc: Global, element: TemplateElement, wanted: &str) {
+    let element = Held { value: element };
+    Bench::new(rt, alloc, r#"{"x":1}"#).gives(rt, alloc, &element.value, wanted);
 }
 
-// A block with a body.
+// A call with a body.
 fn with_body(
     rt: &impl Abort,
     alloc: Global,
@@ -132,125 +126,43 @@ fn with_body(
     boxed(rt, alloc, call)
 }
 
-fn chained_are_made(rt: &impl Abort, alloc: Global) {
-    let call = Held {
-        value: HelperTemplate::new_chain(if_call(rt, alloc), true, true),
-    };
-    let made = &call.value;
-    assert!(rt; made.block && made.is_chained() && made.indent_before_write);
-}
-
 // A block by hand renders its body.
-fn blocks_are_made(rt: &impl Abort, alloc: Global) {
-    let block = HelperTemplate::new(if_call(rt, alloc), true, false);
-    assert!(rt; block.block && !block.is_chained() && !block.indent_before_write);
-    let element = TemplateElement::HelperBlock(with_body(rt, alloc, block, "{{x}}"));
-    gives_alone(rt, alloc, element, r#"{"x":1}"#, "1");
-}
-
-fn call_by_hand(rt: &impl Abort, alloc: Global) -> Subexpression {
+fn gives_its_body(rt: &impl Abort, alloc: Global) {
     let mut params = Vec::new(alloc);
-    params.push(parsed(rt, alloc, "a")).expect(rt, "memory");
-    let mut hash = BTreeMap::new(alloc);
-    let set: Result<_, _> = hash.insert(text_of(rt, alloc, "k"), parsed(rt, alloc, "1"));
-    set.expect(rt, "memory");
-    Subexpression::new(alloc, name(rt, alloc, "f"), params, hash).expect(rt, "memory")
+    let holds = Parameter::Literal(true.into());
+    params.push(holds).expect(rt, "memory");
+    let block = call_of(rt, alloc, "if", params, true);
+    let element = TemplateElement::HelperBlock(with_body(rt, alloc, block, "{{x}}"));
+    gives_alone(rt, alloc, element, r#"Ok("1")"#);
 }
 
-fn is_call(call: &Subexpression) -> bool {
-    call.is_helper()
-        && call.name() == Some("f")
-        && matches!(call.as_element(), TemplateElement::Expression(_))
-}
-
-fn is_read_as(rt: &impl Abort, alloc: Global, given: &Parameter, text: &str) {
-    let read = Held {
-        value: parsed(rt, alloc, text),
-    };
-    assert!(rt; *given == read.value);
-}
-
-// A call that is made by hand is what its text is read as.
-fn calls_are_made(rt: &impl Abort, alloc: Global) {
-    let call = call_by_hand(rt, alloc);
-    assert!(rt; is_call(&call));
-    let call = Held {
-        value: Parameter::Subexpression(call),
-    };
-    is_read_as(rt, alloc, &call.value, "(f a k=1)");
-}
-
-fn is_no_call(other: &Subexpression) -> bool {
-    !other.is_helper()
-        && other.name().is_none()
-        && other.params().is_none()
-        && other.hash().is_none()
-}
-
-fn no_call(rt: &impl Abort, alloc: Global) {
-    let comment = TemplateElement::Comment(String::new(alloc));
-    let other = Held {
-        value: Subexpression {
-            element: boxed(rt, alloc, comment),
-        },
-    };
-    assert!(rt; is_no_call(&other.value));
-}
-
-fn specs_are_made(rt: &impl Abort, alloc: Global) {
-    let spec = Held {
-        value: ExpressionSpec {
-            name: parsed(rt, alloc, "a"),
-            params: Vec::new(alloc),
-            hash: BTreeMap::new(alloc),
-            block_param: None,
-            omit_pre_ws: false,
-            omit_pro_ws: true,
-        },
-    };
-    is_read_as(rt, alloc, &spec.value.name, "a");
-    assert!(rt; spec.value.omit_pro_ws);
-}
-
-fn nothing_is_in_a_new_one(rt: &impl Abort, alloc: Global) {
-    let new = Held {
-        value: Template::new(alloc),
-    };
-    let template = &new.value;
-    assert!(rt; template.name.is_none() && template.elements.is_empty());
-    assert!(rt; template.mapping.is_empty());
-}
-
-#[test]
-fn trees_are_made(rt: HostRuntime) {
-    let alloc = rt.alloc();
-    chained_are_made(&rt, alloc);
-    blocks_are_made(&rt, alloc);
-    calls_are_made(&rt, alloc);
-    no_call(&rt, alloc);
-    specs_are_made(&rt, alloc);
-    nothing_is_in_a_new_one(&rt, alloc);
+fn one(rt: &impl Abort, alloc: Global) -> Parameter {
+    Parameter::parse(alloc, "1").expect(rt, "a parameter")
 }
 
 // A call of `eq` with two equal values and a body, whose field says whether it is a block.
 fn equal_call(rt: &impl Abort, alloc: Global, block: bool) -> Box<HelperTemplate> {
     let mut params = Vec::new(alloc);
-    params.push(parsed(rt, alloc, "1")).expect(rt, "memory");
-    params.push(parsed(rt, alloc, "1")).expect(rt, "memory");
-    let spec = spec(alloc, name(rt, alloc, "eq"), params);
-    with_body(rt, alloc, HelperTemplate::new(spec, block, false), "body")
+    params.push(one(rt, alloc)).expect(rt, "memory");
+    params.push(one(rt, alloc)).expect(rt, "memory");
+    let call = call_of(rt, alloc, "eq", params, block);
+    with_body(rt, alloc, call, "body")
 }
 
 // The kind of the element tells, whatever its field says.
+fn gives_by_kind(rt: &impl Abort, alloc: Global, block: bool) {
+    let element = TemplateElement::HelperBlock(equal_call(rt, alloc, block));
+    gives_alone(rt, alloc, element, r#"Ok("body")"#);
+    let element = TemplateElement::Expression(equal_call(rt, alloc, block));
+    gives_alone(rt, alloc, element, r#"Ok("true")"#);
+    let element = TemplateElement::HtmlExpression(equal_call(rt, alloc, block));
+    gives_alone(rt, alloc, element, r#"Ok("true")"#);
+}
+
 #[test]
 fn the_kind_says_what_is_a_block(rt: HostRuntime) {
     let alloc = rt.alloc();
-    for block in [false, true] {
-        let element = TemplateElement::HelperBlock(equal_call(&rt, alloc, block));
-        gives_alone(&rt, alloc, element, "null", "body");
-        let element = TemplateElement::Expression(equal_call(&rt, alloc, block));
-        gives_alone(&rt, alloc, element, "null", "true");
-        let element = TemplateElement::HtmlExpression(equal_call(&rt, alloc, block));
-        gives_alone(&rt, alloc, element, "null", "true");
-    }
+    gives_its_body(&rt, alloc);
+    gives_by_kind(&rt, alloc, false);
+    gives_by_kind(&rt, alloc, true);
 }

@@ -1,0 +1,9 @@
+//! Errors, trees, values, data, blocks of scope and the lines of `log`, each without a rendering.
+
+mod blocks;
+mod data;
+mod errors;
+mod helpers;
+mod log_lines;
+mod trees;
+mod values;
