@@ -6,7 +6,7 @@ use Rattle.std.proofs.lemmas.Slice.Eq.{bytes_eq-Decides}
 use Rattle.std.specs.Ordering.{int_eq}
 use Rattle.serde_json.specs.Data.{unsigned, negative, float, Data, null, boolean, number, string, array, object, Items, no_items, item, Members, no_members, member}
 use Rattle.serde_json.specs.Find.{as_integer, of_integer}
-use Rattle.handlebars_base.specs.Options.{with_or}
+use Rattle.handlebars_base.specs.Optional.{with_or}
 use Rattle.handlebars_base.specs.Equal.{is_null, same_boolean, integer_in, number_equals, equals, items_equal, members_equal}
 use Rattle.handlebars_base.specs.ComparisonLaws.{in_range, items_in_range, members_in_range, EqualIsSame, EqualIsReflexive, EqualIsSymmetric, EqualIsTransitive}
 

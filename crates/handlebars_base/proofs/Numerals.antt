@@ -8,7 +8,7 @@ use Rattle.std.specs.Str.{all_ascii_digits}
 use Rattle.std.specs.Str.Parse.{ParsesUnsigned, digits_value}
 use Rattle.handlebars_base.specs.Bytes.{Text}
 use Rattle.handlebars_base.specs.Compare.{is_empty, spelled_digits, spelled_number, below_zero}
-use Rattle.handlebars_base.specs.Options.{◌>>=◌}
+use Rattle.handlebars_base.specs.Optional.{◌>>=◌}
 use Rattle.handlebars_base.proofs.Digits.{digits}
 
 result_ok-tests : {E : Type 0} (a b : Bool) (v : ℕ) (P Q : Type 0) (r : Result ℕ E) →

@@ -8,7 +8,7 @@ use Rattle.std.proofs.lemmas.List.{take-append-drop, take_at, drop_at, nil_from_
 use Rattle.std.proofs.lemmas.List.Sums.{prefix_len_stops, split_at_first}
 use Rattle.handlebars_base.specs.Path.{IsIdentifier, Part, dots, plain, bracketed, spelled_part, IsPart, is_dots, Link, joins}
 use Rattle.handlebars_base.specs.PathReading.{bracketed_at, plain_at, part_at, link_by, slash_link, dot_link, link_at}
-use Rattle.handlebars_base.specs.Options.{◌>>=◌, with_or}
+use Rattle.handlebars_base.specs.Optional.{◌>>=◌, with_or}
 use Rattle.handlebars_base.specs.Texts.{after, symbols_of, behind_symbols}
 use Rattle.handlebars_base.specs.Bytes.{is_symbol}
 use Rattle.handlebars_base.proofs.OptionBinds.{bind_some, with_or_is, guard_some}

@@ -11,7 +11,7 @@ use Rattle.std.proofs.lemmas.List.{take-append-drop, take_at, drop_at, nil_from_
 use Rattle.std.proofs.lemmas.Slice.Eq.{bytes_eq-Decides}
 use Rattle.handlebars_base.specs.Path.{Reference, meaning, IsPath, IsIdentifier, Part, dots, plain, bracketed, spelled_part, IsPart, is_dots, Link, spelled_links, AreLinks, ups, Shape, itself, at_root, at_name, in_parts, spelled, IsShape}
 use Rattle.handlebars_base.specs.PathReading.{is_up_mark, after_up, ups_at, part_at, link_at, links_of, Start, here, from_root, from_variable, from_part, is_no_name, named_start, named_at, part_start, dot_start, unnamed_at, start_at, links_behind, is_dotted, shape_from, shape_at, shape_of, path_of, reference_from, reference_len}
-use Rattle.handlebars_base.specs.Options.{◌>>=◌}
+use Rattle.handlebars_base.specs.Optional.{◌>>=◌}
 use Rattle.handlebars_base.specs.Texts.{after, symbols_of, behind_symbols}
 use Rattle.handlebars_base.specs.Bytes.{is_symbol}
 use Rattle.handlebars_base.proofs.OptionBinds.{bind_some, with_or_is, guard_some, map_some}

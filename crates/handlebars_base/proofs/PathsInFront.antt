@@ -7,7 +7,7 @@ use Rattle.std.proofs.lemmas.List.{take-append-drop, take_at, drop_at, length-ta
 use Rattle.std.proofs.lemmas.Option.{same_Some, none-some}
 use Rattle.handlebars_base.specs.Path.{Reference, raw_of, IsPath, meaning, Link, Shape, itself, at_root, at_name, in_parts, spelled}
 use Rattle.handlebars_base.specs.PathReading.{Start, here, from_root, from_variable, from_part, start_at, links_behind, is_dotted, shape_from, start_segments, start_meaning, shape_at, IsLeft, path_of, path_at, slice_at, reference_from, reference_len, stops}
-use Rattle.handlebars_base.specs.Options.{◌>>=◌}
+use Rattle.handlebars_base.specs.Optional.{◌>>=◌}
 use Rattle.handlebars_base.specs.Laws.{IsInFront}
 use Rattle.handlebars_base.proofs.OptionBinds.{bind_some, map_some, none_or_some}
 use Rattle.handlebars_base.proofs.PathShapes.{shape_at_takes, shape_at_again, path_known, path_is}

@@ -1,6 +1,6 @@
 pub mod Bytes
 pub mod Texts
-pub mod Options
+pub mod Optional
 pub mod Reasons
 pub mod TemplateRefusals
 pub mod RenderRefusals

@@ -4,7 +4,7 @@ use Rattle.serde_json.specs.Data.{Data}
 use Rattle.handlebars_base.specs.Answers.{Answer, Answers, gives, refuses}
 use Rattle.handlebars_base.specs.Bytes.{Text}
 use Rattle.handlebars_base.specs.PathAndData.{PathAndData}
-use Rattle.handlebars_base.specs.Options.{with_or}
+use Rattle.handlebars_base.specs.Optional.{with_or}
 use Rattle.handlebars_base.specs.Reasons.{Refusal, param_not_found_for_index, out_of_memory}
 use Rattle.handlebars_base.specs.RenderRefusals.{plain_refusal, reason_in, refusal_of}
 use Rattle.handlebars_base.specs.Scoped.{data_in}

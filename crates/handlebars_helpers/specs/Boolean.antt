@@ -7,7 +7,7 @@ use Rattle.handlebars_base.specs.Answers.{Answer, gives, refuses_for}
 use Rattle.handlebars_base.specs.Compare.{compared}
 use Rattle.handlebars_base.specs.Equal.{equals}
 use Rattle.handlebars_base.specs.PathAndData.{PathAndData}
-use Rattle.handlebars_base.specs.Options.{with_or}
+use Rattle.handlebars_base.specs.Optional.{with_or}
 use Rattle.handlebars_base.specs.Reasons.{param_not_found_for_name}
 use Rattle.handlebars_base.specs.Scoped.{data_in}
 use Rattle.handlebars_base.specs.Values.{truth}

@@ -9,7 +9,7 @@ use Rattle.handlebars_base.specs.Answers.{Answer, gives, refuses_for, answer_map
 use Rattle.handlebars_base.specs.Bytes.{Text}
 use Rattle.handlebars_base.specs.Equal.{equals}
 use Rattle.handlebars_base.specs.PathAndData.{PathAndData}
-use Rattle.handlebars_base.specs.Options.{◌>>=◌, with_or}
+use Rattle.handlebars_base.specs.Optional.{◌>>=◌, with_or}
 use Rattle.handlebars_base.specs.Reasons.{missing_variable}
 use Rattle.handlebars_base.specs.Scoped.{data_in, path_in}
 use Rattle.handlebars_base.specs.Values.{truth}

@@ -6,7 +6,7 @@ use Rattle.log.specs.declared.level.Level.{Level}
 use Rattle.handlebars_base.specs.Answers.{Answer, gives, refuses_for}
 use Rattle.handlebars_base.specs.Bytes.{Text}
 use Rattle.handlebars_base.specs.PathAndData.{PathAndData}
-use Rattle.handlebars_base.specs.Options.{◌>>=◌, with_or}
+use Rattle.handlebars_base.specs.Optional.{◌>>=◌, with_or}
 use Rattle.handlebars_base.specs.Reasons.{invalid_logging_level}
 use Rattle.handlebars_base.specs.Scoped.{data_in}
 use Rattle.handlebars_base.specs.Values.{rendered, separator}

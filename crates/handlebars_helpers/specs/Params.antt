@@ -4,7 +4,7 @@ use Rattle.serde_json.specs.Data.{Data}
 use Rattle.handlebars_base.specs.Answers.{Answer, gives, refuses_for}
 use Rattle.handlebars_base.specs.Bytes.{Text}
 use Rattle.handlebars_base.specs.PathAndData.{PathAndData}
-use Rattle.handlebars_base.specs.Options.{with_or}
+use Rattle.handlebars_base.specs.Optional.{with_or}
 use Rattle.handlebars_base.specs.Reasons.{param_not_found_for_index}
 use Rattle.handlebars_base.specs.Scoped.{Found, walked, value, missing, data_in}
 use Rattle.handlebars_helpers.specs.CallView.{CallView, param_at}

@@ -10,7 +10,7 @@ use Rattle.std.proofs.lemmas.Option.{same_Some, none-some}
 use Rattle.std.proofs.lemmas.Slice.Eq.{bytes_eq-Decides}
 use Rattle.handlebars_base.specs.Bytes.{is_white, behind_white, is_symbol}
 use Rattle.handlebars_base.specs.Path.{IsIdentifier}
-use Rattle.handlebars_base.specs.Options.{◌>>=◌, with_or}
+use Rattle.handlebars_base.specs.Optional.{◌>>=◌, with_or}
 use Rattle.handlebars_base.proofs.OptionBinds.{bind_some, with_or_is, cond_is, guard_bind}
 use Rattle.handlebars_base.proofs.Fronts.{after_takes, behind_white-skips, behind_white-append, dark_behind, white_some, starts-other, after-not, after-same}
 use Rattle.handlebars_base.proofs.Runs.{prefix_pass, behind_symbols-stops, symbols_some, prefix_len-none, run-front, run-rest}

@@ -4,7 +4,7 @@ use Rattle.std.specs.Prelude.{◌==◌, nat_lt}
 use Rattle.std.proofs.Math.Dec.{eqb-suc-zero}
 use Rattle.std.proofs.lemmas.Bool.{lt-ltb, eq-eqb}
 use Rattle.std.proofs.lemmas.List.{take_at}
-use Rattle.handlebars_base.specs.Options.{◌>>=◌}
+use Rattle.handlebars_base.specs.Optional.{◌>>=◌}
 use Rattle.handlebars_base.specs.Texts.{after}
 use Rattle.handlebars_base.proofs.Fronts.{after-not, after-same}
 use Rattle.handlebars_lines.specs.Literal.{array, object, Literal, quoted, single_quoted, number, word, empty, filled, spelled_literal, literal_depth, keeps_numbers, IsLiteral}

@@ -9,7 +9,7 @@ use Rattle.std.proofs.lemmas.Option.{same_Some}
 use Rattle.handlebars_base.specs.Bytes.{is_white, behind_white, is_symbol}
 use Rattle.handlebars_base.specs.Path.{IsIdentifier, Reference, raw_of, IsPath}
 use Rattle.handlebars_base.specs.PathReading.{slice_at, path_at, stops}
-use Rattle.handlebars_base.specs.Options.{◌>>=◌}
+use Rattle.handlebars_base.specs.Optional.{◌>>=◌}
 use Rattle.handlebars_base.proofs.OptionBinds.{bind_some, map_some, guard_bind}
 use Rattle.handlebars_base.proofs.PathsInFront.{path_at-some, path_at-stops}
 use Rattle.handlebars_base.proofs.Fronts.{after_takes, behind_white-skips, behind_white-append, after-not, after-same}

@@ -4,7 +4,7 @@ use Rattle.std.proofs.Math.Dec.{eqb-suc-zero}
 use Rattle.handlebars_base.specs.Bytes.{is_white, behind_white}
 use Rattle.handlebars_base.specs.Path.{IsIdentifier, Reference, IsPath}
 use Rattle.handlebars_base.specs.PathReading.{slice_at}
-use Rattle.handlebars_base.specs.Options.{with_or}
+use Rattle.handlebars_base.specs.Optional.{with_or}
 use Rattle.handlebars_base.proofs.OptionBinds.{with_or_is, cond_is}
 use Rattle.handlebars_base.proofs.Fronts.{after_takes, behind_white-skips, white_some, dark_behind}
 use Rattle.handlebars_base.specs.Texts.{IsWhite, starts, after}

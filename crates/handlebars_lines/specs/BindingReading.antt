@@ -2,7 +2,7 @@
 use Rattle.std.specs.Prelude.{◌==◌, if◌then◌else◌, Option, Some, None}
 use Rattle.std.specs.List.{prefix_len}
 use Rattle.handlebars_base.specs.Bytes.{Text, behind_white, is_symbol}
-use Rattle.handlebars_base.specs.Options.{◌>>=◌, with_or}
+use Rattle.handlebars_base.specs.Optional.{◌>>=◌, with_or}
 use Rattle.handlebars_base.specs.Texts.{after, symbols_of, behind_symbols}
 use Rattle.handlebars_lines.specs.Binding.{bar, behind_beginning, Binding, unbound, bound, both_bound}
 

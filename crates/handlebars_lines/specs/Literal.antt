@@ -5,7 +5,7 @@ use Rattle.std.specs.List.{list_all, position_or_len, before_first, after_first}
 use Rattle.std.specs.Str.{bytes_eq}
 use Rattle.std.specs.Str.Parse.{digits_value}
 use Rattle.handlebars_base.specs.Bytes.{Text, double_quote, single_quote, hyphen, dot, slash, colon, left_bracket, backslash, right_bracket, left_brace, right_brace, is_symbol}
-use Rattle.handlebars_base.specs.Options.{with_or}
+use Rattle.handlebars_base.specs.Optional.{with_or}
 use Rattle.handlebars_base.specs.Texts.{IsWhite, starts, after}
 
 abbrev pub comma : ℕ

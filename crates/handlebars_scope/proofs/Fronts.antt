@@ -6,7 +6,7 @@ use Rattle.serde_json.specs.declared.value.Value.{Value}
 use Rattle.handlebars_base.specs.Answers.{Answer, gives, refuses}
 use Rattle.handlebars_base.specs.Bytes.{Text}
 use Rattle.handlebars_base.specs.Path.{named}
-use Rattle.handlebars_base.specs.Options.{◌>>=◌, with_or}
+use Rattle.handlebars_base.specs.Optional.{◌>>=◌, with_or}
 use Rattle.handlebars_base.specs.Scoped.{walked, missing}
 use Rattle.handlebars_scope.specs.Scopes.{Frame}
 use Rattle.handlebars_scope.specs.Resolve.{member_at, value_at, then_at, if_any, one_more, or_else, longest, found_by, found_front, bound_way, unbound_way, way_from, within, names_of, navigated}

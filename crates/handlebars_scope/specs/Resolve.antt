@@ -7,7 +7,7 @@ use Rattle.serde_json.specs.Find.{get_member, get_item}
 use Rattle.handlebars_base.specs.Answers.{Answer, gives, refuses, refuses_for, answer_map}
 use Rattle.handlebars_base.specs.Bytes.{Text}
 use Rattle.handlebars_base.specs.Path.{Segment, named, root, local, up, Reference, relative, variable}
-use Rattle.handlebars_base.specs.Options.{◌>>=◌, with_or}
+use Rattle.handlebars_base.specs.Optional.{◌>>=◌, with_or}
 use Rattle.handlebars_base.specs.Reasons.{invalid_json_index}
 use Rattle.handlebars_base.specs.Scoped.{Found, walked, value, missing}
 use Rattle.handlebars_scope.specs.Scopes.{Bound, bound_path, bound_value, Frame}

@@ -3,7 +3,7 @@ use Rattle.std.proofs.Common.{◌≡◌, ◌≢◌, ◌<◌, Bool, true, false, 
 use Rattle.std.specs.List.{AllByRecursion}
 use Rattle.std.proofs.lemmas.Option.{same_Some, none-some}
 use Rattle.handlebars_base.specs.Bytes.{Text, behind_white}
-use Rattle.handlebars_base.specs.Options.{◌>>=◌}
+use Rattle.handlebars_base.specs.Optional.{◌>>=◌}
 use Rattle.handlebars_base.proofs.OptionBinds.{bind_some, with_or_is, cond_is}
 use Rattle.handlebars_base.specs.Texts.{IsEnd, after}
 use Rattle.handlebars_base.proofs.Ends.{end-all, end-behind, end-white, end-after_white, length-end}

@@ -5,7 +5,7 @@ use Rattle.std.proofs.lemmas.Bool.{false≢true}
 use Rattle.handlebars_base.specs.Bytes.{Text, is_symbol}
 use Rattle.handlebars_base.specs.Path.{raw_of, meaning, Shape as PathShape, itself, at_root, at_name, in_parts}
 use Rattle.handlebars_base.specs.PathReading.{stops, slice_at}
-use Rattle.handlebars_base.specs.Options.{◌>>=◌}
+use Rattle.handlebars_base.specs.Optional.{◌>>=◌}
 use Rattle.handlebars_base.proofs.References.{stops-path}
 use Rattle.handlebars_base.specs.Texts.{starts}
 use Rattle.handlebars_lines.specs.Parameter.{left_parenthesis, TermShape, literal_shape, path_shape, nested_shape, Items, is_name, spelled_shape, spelled_items, Fits, AreItems, term_of}

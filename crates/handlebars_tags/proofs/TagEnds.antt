@@ -4,7 +4,7 @@ use Rattle.std.specs.Prelude.{◌==◌, nat_lt}
 use Rattle.std.specs.List.{prefix_len, position_or_len}
 use Rattle.std.proofs.lemmas.Option.{same_Some, none-some}
 use Rattle.handlebars_base.specs.Bytes.{Text, right_brace, right_bracket, left_bracket, single_quote, behind_white, is_symbol}
-use Rattle.handlebars_base.specs.Options.{◌>>=◌}
+use Rattle.handlebars_base.specs.Optional.{◌>>=◌}
 use Rattle.handlebars_base.proofs.OptionBinds.{bind_some, with_or_is}
 use Rattle.handlebars_base.specs.Texts.{starts, IsEnd, after}
 use Rattle.handlebars_base.proofs.Ends.{end-all, end-behind, end-after, end-white, end-drop}

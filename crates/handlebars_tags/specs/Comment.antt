@@ -1,7 +1,7 @@
 -- Comments: how far one goes, and its text.
 use Rattle.std.specs.Prelude.{◌≡◌, Bool, false, ℕ, zero, suc, [], ◌∷◌, ◌++◌, length, reverse, Option, Some, None, codes}
 use Rattle.handlebars_base.specs.Bytes.{Text, behind_white}
-use Rattle.handlebars_base.specs.Options.{◌>>=◌, with_or}
+use Rattle.handlebars_base.specs.Optional.{◌>>=◌, with_or}
 use Rattle.handlebars_tags.specs.Kind.{past}
 
 -- what follows the first such mark

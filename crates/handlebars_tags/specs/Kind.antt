@@ -1,7 +1,7 @@
 -- The kind of a tag, by its beginning, and what closes it.
 use Rattle.std.specs.Prelude.{Bool, true, false, ◌||◌, ◌==◌, if◌then◌else◌, List, [], ◌∷◌, Option, Some, None, codes, is_some}
 use Rattle.handlebars_base.specs.Bytes.{Text, right_brace, is_white, behind_white}
-use Rattle.handlebars_base.specs.Options.{◌>>=◌, with_or}
+use Rattle.handlebars_base.specs.Optional.{◌>>=◌, with_or}
 use Rattle.handlebars_base.specs.Texts.{starts, after}
 use Rattle.handlebars_lines.specs.Line.{tilde}
 

@@ -7,7 +7,7 @@ use Rattle.handlebars_base.specs.declared.json.path.Path.{Path}
 use Rattle.handlebars_base.specs.Bytes.{Text}
 use Rattle.handlebars_base.specs.Path.{Reference}
 use Rattle.handlebars_base.specs.PathReading.{path_of}
-use Rattle.handlebars_base.specs.Options.{◌>>=◌}
+use Rattle.handlebars_base.specs.Optional.{◌>>=◌}
 use Rattle.handlebars_lines.specs.Runs.{goes, ends, stuck}
 use Rattle.handlebars_lines.specs.Line.{Enclosure, Line, IsLine}
 use Rattle.handlebars_lines.specs.LineReading.{Event, path_event, at_name, LineStand, line_stand, line_step, first_lines, build_all}

@@ -9,7 +9,7 @@ use Rattle.serde_json.specs.Data.{Data}
 use Rattle.handlebars_base.specs.Bytes.{Text}
 use Rattle.handlebars_base.specs.Path.{Reference, raw_of}
 use Rattle.handlebars_base.specs.PathReading.{path_of}
-use Rattle.handlebars_base.specs.Options.{◌>>=◌, with_or}
+use Rattle.handlebars_base.specs.Optional.{◌>>=◌, with_or}
 use Rattle.handlebars_lines.specs.Parameter.{Term, literal_term, path_term, call_term, Terms, no_terms, term}
 use Rattle.handlebars_lines.specs.LineReading.{Event, opened, literal_event, path_event, closed, OpenLine, joined, begun_line, add_term, OpenLines, added_in, closed_in, build, build_all}
 use Rattle.handlebars_lines.specs.WorthReading.{worth_of}

@@ -7,7 +7,7 @@ use Rattle.serde_json.specs.Data.{Data}
 use Rattle.handlebars_base.specs.Bytes.{Text, behind_white}
 use Rattle.handlebars_base.specs.Path.{Reference}
 use Rattle.handlebars_base.specs.PathReading.{path_of}
-use Rattle.handlebars_base.specs.Options.{with_or}
+use Rattle.handlebars_base.specs.Optional.{with_or}
 use Rattle.handlebars_base.specs.Texts.{after}
 use Rattle.handlebars_lines.specs.Laws.{HasLiteral, NoLiteral}
 use Rattle.handlebars_lines.specs.LiteralReading.{LiteralSlice, literal_at}

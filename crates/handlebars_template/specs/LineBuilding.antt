@@ -4,7 +4,7 @@ use Rattle.std.specs.Prelude.{Bool, ◌&&◌, if◌then◌else◌, List, [], ◌
 use Rattle.handlebars_base.specs.Bytes.{Text}
 use Rattle.handlebars_base.specs.Path.{Reference, raw_of}
 use Rattle.handlebars_base.specs.PathReading.{path_of}
-use Rattle.handlebars_base.specs.Options.{◌>>=◌, with_or}
+use Rattle.handlebars_base.specs.Optional.{◌>>=◌, with_or}
 use Rattle.handlebars_lines.specs.Line.{Line}
 use Rattle.handlebars_lines.specs.LineReading.{Event, opened, literal_event, path_event, closed}
 use Rattle.handlebars_lines.specs.WorthReading.{worth_of}

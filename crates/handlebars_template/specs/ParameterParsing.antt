@@ -1,7 +1,7 @@
 -- What parsing a text as a parameter answers: the parameter, or a refusal.
 use Rattle.std.specs.Prelude.{◌≡◌, ℕ, ◌<◌, ◌≤◌}
 use Rattle.handlebars_base.specs.Bytes.{Text}
-use Rattle.handlebars_base.specs.Options.{with_or}
+use Rattle.handlebars_base.specs.Optional.{with_or}
 use Rattle.handlebars_base.specs.Reasons.{TemplateRefusal}
 use Rattle.handlebars_lines.specs.Parameter.{Term, IsParameter, NoParameter}
 use Rattle.handlebars_template.specs.Tree.{Param}
