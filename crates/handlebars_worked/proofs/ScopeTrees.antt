@@ -78,7 +78,7 @@ last_tree = alone (scope (codes "each") (path_to (codes "a")) no_binding
     (at 1 12 ∷ at 1 22 ∷ [])) no_body)
 
 pub last_source : Compiles (codes "{{#each a}}{{@first}}{{@last}}{{/each}}") no_options (compiled last_tree)
-unfolding beginning_of closing_of chars line.name_step line.behind_step line.line_step texts.after path.plain_at path.part_at path.links_at path.links_of path.unnamed_at path.start_at path.shape_at path.shape_of path.reference_from path.path_at line.key_and_equals_at line.parameter_step line.item_step literal.literal_at literal.plain_at literal.undoubled_at literal.unbracketed_at literal.value_token literal.token_at behind_bar behind_beginning path.named_at texts.after_up path.ups_at
+unfolding beginning_of closing_of chars line.name_step line.behind_step line.line_step texts.after path.plain_at path.part_at path.links_at path.links_of path.unnamed_at path.start_at path.shape_at path.shape_of path.reference_from path.path_at line.key_and_equals_at line.parameter_step line.item_step literal.literal_at literal.plain_at literal.undoubled_at literal.unbracketed_at literal.value_token literal.token_at behind_bar behind_beginning path.named_at path.after_up path.ups_at
 last_source = answer_of-compiles no_options 4 _ _ refl
 
 abbrev pub keys_tree : Tree
@@ -89,7 +89,7 @@ keys_tree = alone (scope (codes "each") this no_binding
     (at 1 15 ∷ at 1 23 ∷ [])) no_body)
 
 pub keys_source : Compiles (codes "{{#each this}}{{@key}}{{@index}}{{/each}}") no_options (compiled keys_tree)
-unfolding beginning_of closing_of chars line.name_step line.behind_step line.line_step texts.after path.plain_at path.part_at path.links_at path.links_of path.unnamed_at path.start_at path.shape_at path.shape_of path.reference_from path.path_at line.key_and_equals_at line.parameter_step line.item_step literal.literal_at literal.plain_at literal.undoubled_at literal.unbracketed_at literal.value_token literal.token_at behind_bar behind_beginning path.named_at texts.after_up path.ups_at
+unfolding beginning_of closing_of chars line.name_step line.behind_step line.line_step texts.after path.plain_at path.part_at path.links_at path.links_of path.unnamed_at path.start_at path.shape_at path.shape_of path.reference_from path.path_at line.key_and_equals_at line.parameter_step line.item_step literal.literal_at literal.plain_at literal.undoubled_at literal.unbracketed_at literal.value_token literal.token_at behind_bar behind_beginning path.named_at path.after_up path.ups_at
 keys_source = answer_of-compiles no_options 4 _ _ refl
 
 abbrev pub indices_tree : Tree
@@ -104,7 +104,7 @@ indices_tree = alone (scope (codes "each") (path_to (codes "a")) no_binding
 
 pub indices_source : Compiles (codes "{{#each a}}{{#each this}}{{@index}}{{@../index}}{{/each}}{{/each}}") no_options
     (compiled indices_tree)
-unfolding beginning_of closing_of chars line.name_step line.behind_step line.line_step texts.after path.plain_at path.part_at path.links_at path.links_of path.unnamed_at path.start_at path.shape_at path.shape_of path.reference_from path.path_at line.key_and_equals_at line.parameter_step line.item_step literal.literal_at literal.plain_at literal.undoubled_at literal.unbracketed_at literal.value_token literal.token_at behind_bar behind_beginning path.link_at texts.after_up path.ups_at path.named_at
+unfolding beginning_of closing_of chars line.name_step line.behind_step line.line_step texts.after path.plain_at path.part_at path.links_at path.links_of path.unnamed_at path.start_at path.shape_at path.shape_of path.reference_from path.path_at line.key_and_equals_at line.parameter_step line.item_step literal.literal_at literal.plain_at literal.undoubled_at literal.unbracketed_at literal.value_token literal.token_at behind_bar behind_beginning path.link_at path.after_up path.ups_at path.named_at
 indices_source = answer_of-compiles no_options 6 _ _ refl
 
 abbrev pub no_members_tree : Tree
@@ -136,7 +136,7 @@ too_far_up_tree = alone (scope (codes "with") (path_to (codes "a")) no_binding
     (inside (show (along (up ∷ up ∷ named (codes "d") ∷ []) (codes "../../d")) ∷ []) (at 1 12 ∷ [])) no_body)
 
 pub too_far_up_source : Compiles (codes "{{#with a}}{{../../d}}{{/with}}") no_options (compiled too_far_up_tree)
-unfolding beginning_of closing_of chars line.name_step line.behind_step line.line_step texts.after path.plain_at path.part_at path.links_at path.links_of path.unnamed_at path.start_at path.shape_at path.shape_of path.reference_from path.path_at line.key_and_equals_at line.parameter_step line.item_step literal.literal_at literal.plain_at literal.undoubled_at literal.unbracketed_at literal.value_token literal.token_at behind_bar behind_beginning path.link_at texts.after_up path.ups_at
+unfolding beginning_of closing_of chars line.name_step line.behind_step line.line_step texts.after path.plain_at path.part_at path.links_at path.links_of path.unnamed_at path.start_at path.shape_at path.shape_of path.reference_from path.path_at line.key_and_equals_at line.parameter_step line.item_step literal.literal_at literal.plain_at literal.undoubled_at literal.unbracketed_at literal.value_token literal.token_at behind_bar behind_beginning path.link_at path.after_up path.ups_at
 too_far_up_source = answer_of-compiles no_options 3 _ _ refl
 
 abbrev pub bound_up_tree : Tree
@@ -145,7 +145,7 @@ bound_up_tree = alone (scope (codes "with") (path_to (codes "a")) (single (name 
     (at 1 19 ∷ [])) no_body)
 
 pub bound_up_source : Compiles (codes "{{#with a as |z|}}{{../z.x}}{{/with}}") no_options (compiled bound_up_tree)
-unfolding beginning_of closing_of chars line.name_step line.behind_step line.line_step texts.after path.plain_at path.part_at path.links_at path.links_of path.unnamed_at path.start_at path.shape_at path.shape_of path.reference_from path.path_at line.key_and_equals_at line.parameter_step line.item_step literal.literal_at literal.plain_at literal.undoubled_at literal.unbracketed_at literal.value_token literal.token_at behind_bar behind_beginning path.link_at texts.after_up path.ups_at symbols_at
+unfolding beginning_of closing_of chars line.name_step line.behind_step line.line_step texts.after path.plain_at path.part_at path.links_at path.links_of path.unnamed_at path.start_at path.shape_at path.shape_of path.reference_from path.path_at line.key_and_equals_at line.parameter_step line.item_step literal.literal_at literal.plain_at literal.undoubled_at literal.unbracketed_at literal.value_token literal.token_at behind_bar behind_beginning path.link_at path.after_up path.ups_at symbols_at
 bound_up_source = answer_of-compiles no_options 3 _ _ refl
 
 abbrev pub up_tree : Tree
@@ -156,7 +156,7 @@ up_tree = alone (scope (codes "with") (path_to (codes "a")) no_binding
     (at 1 12 ∷ [])) no_body)
 
 pub up_source : Compiles (codes "{{#with a}}{{#each b}}{{../x}}{{/each}}{{/with}}") no_options (compiled up_tree)
-unfolding beginning_of closing_of chars line.name_step line.behind_step line.line_step texts.after path.plain_at path.part_at path.links_at path.links_of path.unnamed_at path.start_at path.shape_at path.shape_of path.reference_from path.path_at line.key_and_equals_at line.parameter_step line.item_step literal.literal_at literal.plain_at literal.undoubled_at literal.unbracketed_at literal.value_token literal.token_at behind_bar behind_beginning path.link_at texts.after_up path.ups_at
+unfolding beginning_of closing_of chars line.name_step line.behind_step line.line_step texts.after path.plain_at path.part_at path.links_at path.links_of path.unnamed_at path.start_at path.shape_at path.shape_of path.reference_from path.path_at line.key_and_equals_at line.parameter_step line.item_step literal.literal_at literal.plain_at literal.undoubled_at literal.unbracketed_at literal.value_token literal.token_at behind_bar behind_beginning path.link_at path.after_up path.ups_at
 up_source = answer_of-compiles no_options 5 _ _ refl
 
 abbrev pub recursive_tree : Tree
@@ -187,5 +187,5 @@ lookup_tree = alone (scope (codes "each") (path_to (codes "v1")) no_binding
     (at 1 13 ∷ [])) no_body)
 
 pub lookup_source : Compiles (codes "{{#each v1}}{{lookup ../v2 @index}}{{/each}}") no_options (compiled lookup_tree)
-unfolding beginning_of closing_of chars line.name_step line.behind_step line.line_step texts.after path.plain_at path.part_at path.links_at path.links_of path.unnamed_at path.start_at path.shape_at path.shape_of path.reference_from path.path_at line.key_and_equals_at line.parameter_step line.item_step literal.literal_at literal.plain_at literal.undoubled_at literal.unbracketed_at literal.value_token literal.token_at behind_bar behind_beginning path.link_at texts.after_up path.ups_at path.named_at
+unfolding beginning_of closing_of chars line.name_step line.behind_step line.line_step texts.after path.plain_at path.part_at path.links_at path.links_of path.unnamed_at path.start_at path.shape_at path.shape_of path.reference_from path.path_at line.key_and_equals_at line.parameter_step line.item_step literal.literal_at literal.plain_at literal.undoubled_at literal.unbracketed_at literal.value_token literal.token_at behind_bar behind_beginning path.link_at path.after_up path.ups_at path.named_at
 lookup_source = answer_of-compiles no_options 3 _ _ refl

@@ -52,7 +52,7 @@ unfolding beginning_of closing_of chars line.name_step line.behind_step line.lin
 ampersand_row = answer_of-compiles no_options 1 _ _ refl
 
 pub up_row : UpRow
-unfolding beginning_of closing_of chars line.name_step line.behind_step line.line_step texts.after path.plain_at path.part_at path.links_at path.links_of path.unnamed_at path.start_at path.shape_at path.shape_of path.reference_from path.path_at texts.after_up path.ups_at path.link_at
+unfolding beginning_of closing_of chars line.name_step line.behind_step line.line_step texts.after path.plain_at path.part_at path.links_at path.links_of path.unnamed_at path.start_at path.shape_at path.shape_of path.reference_from path.path_at path.after_up path.ups_at path.link_at
 up_row = answer_of-compiles no_options 1 _ _ refl
 
 -- ---- calls
