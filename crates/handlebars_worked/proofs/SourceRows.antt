@@ -16,7 +16,8 @@ use Rattle.handlebars_lines.specs.WorthReading.{worth_of, before}
 use Rattle.handlebars_tags.specs.Text.{two_braces, IsText, at_tag, a_byte, two_escaped}
 use Rattle.handlebars_tags.specs.Kind.{beginning_of, closing_of}
 use Rattle.handlebars_tags.specs.Options.{no_options}
-use Rattle.handlebars_worked.specs.SourceRows.{EmptyRow, ValueRow, EscapedRow, MemberRow, UnclosedRow, PlaceRow, HtmlRow, AmpersandRow, CallRow, NestedRow, UpRow, ChainRow, LinesRow, TildeRow, InverseRow, RawRow, ElseRow, CloseRow, OpenRow, DeepRow, OtherNameRow, NumberRow}
+use Rattle.handlebars_template.specs.Compile.{compiled}
+use Rattle.handlebars_worked.specs.SourceRows.{chain_tree, EmptyRow, ValueRow, EscapedRow, MemberRow, UnclosedRow, PlaceRow, HtmlRow, AmpersandRow, CallRow, NestedRow, UpRow, ChainRow, LinesRow, TildeRow, InverseRow, RawRow, ElseRow, CloseRow, OpenRow, DeepRow, OtherNameRow, NumberRow}
 use Rattle.handlebars_template.proofs.Running.{text_at-is, no_line_at, no_value_tag}
 use Rattle.handlebars_template.proofs.Outcomes.{answer_of-compiles, answer-compiles, first_tag, first_unreadable}
 
@@ -87,7 +88,7 @@ place_row =
 
 pub chain_row : ChainRow
 unfolding beginning_of closing_of chars line.name_step line.behind_step line.line_step texts.after path.plain_at path.part_at path.links_at path.links_of path.unnamed_at path.start_at path.shape_at path.shape_of path.reference_from path.path_at line.key_and_equals_at line.parameter_step line.item_step literal.literal_at literal.plain_at literal.undoubled_at literal.unbracketed_at literal.value_token literal.token_at behind_bar behind_beginning
-chain_row = answer_of-compiles no_options 4 _ _ refl
+chain_row = answer_of-compiles no_options 4 (codes "{{#if a}}1{{else if b}}2{{else}}0{{/if}}") (compiled chain_tree) refl
 
 pub lines_row : LinesRow
 unfolding beginning_of closing_of chars line.name_step line.behind_step line.line_step texts.after path.plain_at path.part_at path.links_at path.links_of path.unnamed_at path.start_at path.shape_at path.shape_of path.reference_from path.path_at line.key_and_equals_at line.parameter_step line.item_step literal.literal_at literal.plain_at literal.undoubled_at literal.unbracketed_at literal.value_token literal.token_at behind_bar behind_beginning
