@@ -4,8 +4,9 @@ use Rattle.std.specs.Fmt.{digits}
 use Rattle.handlebars_worked.proofs.SourceRows as compiling
 use Rattle.handlebars_scope.specs.Escape.{escaped}
 use Rattle.handlebars_meaning.specs.Steps.{◌>>=◌, ◌>>◌}
+use Rattle.handlebars_meaning.specs.Runs.{done, wrote, set, captured}
 use Rattle.handlebars_meaning.specs.Answer.{compiles, does_not, is_stored, not_begun, rendered}
-use Rattle.handlebars_worked.specs.Rows.{EmptyRow, ValueRow, MarkupRow, MissingRow, EscapedRow, RefusalRow, UnclosedRow, RawRow, CallRow, InnerRow, NameRow, LiteralRow, IfRow, NoInverseRow, ChainRow, NoParamRow, BlockRow, over, one_truth, in_first_block, nested_if, InnerIfRow}
+use Rattle.handlebars_worked.specs.Rows.{EmptyRow, ValueRow, MarkupRow, MissingRow, EscapedRow, RefusalRow, UnclosedRow, RawRow, CallRow, InnerRow, NameRow, LiteralRow, IfRow, NoInverseRow, ChainRow, NoParamRow, BlockRow, over, one_truth, in_first_block, nested_if, InnerIfRow, CaptureRow}
 use Rattle.handlebars_worked.proofs.Answered.{value_in}
 use Rattle.handlebars_worked.proofs.RunOf.{tree_run, gives_text}
 
@@ -93,3 +94,7 @@ inner_if_row false true s =
     (value_in (over (one_truth false)) (in_first_block true s) (nested_if (codes "a"))).1
 inner_if_row false false s =
     (value_in (over (one_truth false)) (in_first_block false s) (nested_if (codes "a"))).1
+
+pub capture_row : CaptureRow
+unfolding ◌>>=◌ ◌>>◌
+capture_row p s next x = captured (wrote (set done)) (wrote done)

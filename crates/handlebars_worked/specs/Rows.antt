@@ -12,13 +12,14 @@ use Rattle.handlebars_tags.specs.Options.{no_options}
 use Rattle.handlebars_template.specs.Compile.{unreadable_tag}
 use Rattle.handlebars_worked.specs.SourceRows.{at, escaped_source}
 use Rattle.handlebars_template.specs.Tree.{Tree, tree, elements_of, Element, html_expression, expression, raw_string, helper_block, Call, call, args, bodies, Body, no_body, body, no_binding, no_pairs, params_of, Param, name, path, literal, subexpression}
-use Rattle.handlebars_meaning.specs.Pieces.{of_text}
+use Rattle.handlebars_meaning.specs.Pieces.{Piece, of_text}
 use Rattle.handlebars_scope.specs.Scopes.{empty_frame}
 use Rattle.handlebars_meaning.specs.Sites.{first_tree, element_in}
 use Rattle.handlebars_helpers.specs.Choice.{built_in}
 use Rattle.handlebars_meaning.specs.State.{Setting, State}
 use Rattle.handlebars_meaning.specs.Values.{HasValue}
-use Rattle.handlebars_meaning.specs.Runs.{Refused}
+use Rattle.handlebars_meaning.specs.Steps.{◌>>=◌, ◌>>◌, run, write, become, capture}
+use Rattle.handlebars_meaning.specs.Runs.{Ended, Refused, Runs}
 use Rattle.handlebars_meaning.specs.Answer.{Beginning, FromSource, FromName, RenderAnswers, GivesText}
 use Rattle.handlebars_meaning.specs.Laws.{alone}
 
@@ -187,3 +188,8 @@ in_first_block recursive s = record s { blocks = empty_frame ∷ []; recursive =
 abbrev pub InnerIfRow : Type 0
 InnerIfRow = (a recursive : Bool) (s : State)
     → HasValue (over (one_truth a)) (in_first_block recursive s) (nested_if (codes "a")) (gives (value (string [])))
+
+-- What is captured is told to what comes next, which here writes it once, and the run goes on from the state behind it.
+abbrev pub CaptureRow : Type 0
+CaptureRow = (p : Setting) (s next : State) (x : Piece)
+    → Runs p (run (capture (write false (x ∷ []) >> become next) >>= λ told. write false told)) s (x ∷ []) (Ended next)

@@ -1,9 +1,9 @@
 //! Worked sources and trees, each with what it answers over some data.
 
-ghost use Rattle.handlebars_worked.specs.Rows.{EmptyRow, ValueRow, MarkupRow, MissingRow, EscapedRow, RefusalRow, UnclosedRow, RawRow, CallRow, InnerRow, NameRow, LiteralRow, IfRow, NoInverseRow, ChainRow, NoParamRow, BlockRow, InnerIfRow};
+ghost use Rattle.handlebars_worked.specs.Rows.{EmptyRow, ValueRow, MarkupRow, MissingRow, EscapedRow, RefusalRow, UnclosedRow, RawRow, CallRow, InnerRow, NameRow, LiteralRow, IfRow, NoInverseRow, ChainRow, NoParamRow, BlockRow, InnerIfRow, CaptureRow};
 
 /// What some sources and some trees answer over some data, with the helpers that every registry
-/// begins with.
+/// begins with; and what a capture tells and leaves.
 pub fn worked_rows()
     ensures empty { EmptyRow }
     ensures value { ValueRow }
@@ -23,4 +23,5 @@ pub fn worked_rows()
     ensures no_parameter { NoParamRow }
     ensures unknown_block { BlockRow }
     ensures inner_if { InnerIfRow }
+    ensures capture { CaptureRow }
 {}
