@@ -1,5 +1,6 @@
 -- What the table comes to by the bytes behind the braces: one lemma for each branch of the code.
-use Rattle.std.proofs.Common.{◌≡◌, ◌≢◌, ℕ, Bool, true, false, [], ◌∷◌, ◌++◌, Option, Some, None, refl, sym, ap, ◌∙◌, codes, nat_lt, ne_eqb}
+use Rattle.std.proofs.Common.{◌≡◌, ◌≢◌, ℕ, Bool, true, false, [], ◌∷◌, ◌++◌, Option, Some, None, refl, sym, ap, ◌∙◌, codes, ne_eqb}
+use Rattle.std.specs.Char.{is_ascii}
 use Rattle.std.proofs.lemmas.Bool.{true≢false}
 use Rattle.handlebars_base.specs.Bytes.{Text, slash, left_brace, behind_white}
 use Rattle.handlebars_base.specs.Texts.{starts, after}
@@ -9,9 +10,6 @@ use Rattle.handlebars_tags.specs.Kind.{beginning, tilde_at, expression_kind, htm
 use Rattle.handlebars_tags.specs.KindReading.{two_rows, sign_rows, word_rows, signed_by}
 
 -- ---- bytes
-
-abbrev pub is_ascii : ℕ → Bool
-is_ascii b = nat_lt b 128
 
 -- no byte from 128 on is a mark
 beyond : (b c : ℕ) → is_ascii c ≡ true → is_ascii b ≡ false → b ≢ c

@@ -1,6 +1,7 @@
 //! How tags begin.
 
-ghost use Rattle.std.specs.Prelude.{◌≡◌, ◌||◌, ◌==◌, ◌∷◌, ◌++◌, false, MatchOption, Some, codes, nat_lt};
+ghost use Rattle.std.specs.Prelude.{◌≡◌, ◌||◌, ◌==◌, ◌∷◌, ◌++◌, false, MatchOption, Some, codes};
+ghost use Rattle.std.specs.Char.{is_ascii};
 ghost use Rattle.std.specs.Option.{option_map};
 ghost use Rattle.handlebars_base.specs.Bytes.{is_white, behind_white};
 ghost use Rattle.handlebars_base.specs.Texts.{starts};
@@ -186,7 +187,7 @@ fn unsigned(tilde: bool, inside: &str) -> Beginning<'_>
 
 /// The first byte, where it is ASCII, and what follows it.
 fn first_byte(text: &str) -> Option<(u8, &str)>
-    ensures { MatchOption result (starts (λ b. nat_lt b 128) text.now ≡ false) (λ first. text.now ≡ first.0 ∷ first.1.now) }
+    ensures { MatchOption result (starts is_ascii text.now ≡ false) (λ first. text.now ≡ first.0 ∷ first.1.now) }
 {
     match text.as_bytes() {
         [first, ..] if *first < 128 => Some((*first, text.split_at(1).1)),
