@@ -128,12 +128,12 @@ fn signed_at(tilde: bool, text: &str) -> Beginning<'_>
 fn block_at(tilde: bool, text: &str) -> Beginning<'_>
     ensures { signed_by sign_rows tilde (codes "#" ++ text.now) ≡ Some (beginning_view result) }
 {
-    let Some((sign, behind)) = first_byte(text) else {
+    let Some((sign, inside)) = first_byte(text) else {
         return marked(Kind::Block, tilde, text);
     };
     match sign {
-        b'*' => marked(Kind::Other, tilde, behind),
-        b'>' => marked(Kind::Other, tilde, behind),
+        b'*' => marked(Kind::Other, tilde, inside),
+        b'>' => marked(Kind::Other, tilde, inside),
         _ => marked(Kind::Block, tilde, text),
     }
 }
