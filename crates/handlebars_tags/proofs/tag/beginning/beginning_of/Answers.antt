@@ -1,7 +1,6 @@
-use Rattle.std.proofs.Common.{◌∷◌, sym, ap, ◌∙◌}
-use Rattle.handlebars_base.specs.Bytes.{Text, left_brace}
+use Rattle.std.proofs.Common.{sym}
+use Rattle.handlebars_base.specs.Bytes.{left_brace}
 use Rattle.handlebars_base.proofs.Fronts.{after_takes}
-use Rattle.handlebars_tags.specs.Kind.{beginning_of}
 use Rattle.handlebars_tags.proofs.BeginningsRead.{none-brace, one-brace}
 use Rattle.handlebars_tags.proofs.tag.beginning.beginning_of.Goals as goal
 
