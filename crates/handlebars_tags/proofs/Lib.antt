@@ -15,4 +15,5 @@ pub mod InsideAt
 pub mod TagEnds
 pub mod Tags
 pub mod OneTag
+pub mod BeginningsRead
 pub mod TagLengths

@@ -3,6 +3,7 @@ pub mod Text
 pub mod TextReading
 pub mod TextView
 pub mod Kind
+pub mod KindReading
 pub mod KindView
 pub mod Comment
 pub mod CommentReading

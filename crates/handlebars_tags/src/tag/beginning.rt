@@ -1,11 +1,13 @@
 //! How tags begin.
 
-ghost use Rattle.std.specs.Prelude.{◌≡◌, ◌||◌, ◌==◌, map};
+ghost use Rattle.std.specs.Prelude.{◌≡◌, ◌||◌, ◌==◌, ◌∷◌, ◌++◌, false, MatchOption, Some, codes};
+ghost use Rattle.std.specs.Char.{is_ascii};
 ghost use Rattle.std.specs.Option.{option_map};
-ghost use Rattle.handlebars_base.specs.Bytes.{is_white};
+ghost use Rattle.handlebars_base.specs.Bytes.{is_white, behind_white};
 ghost use Rattle.handlebars_base.specs.Texts.{starts};
-ghost use Rattle.handlebars_tags.specs.Kind.{row, rows, row_at, behind_tilde, behind_sign, ends_word, beginning_of};
-ghost use Rattle.handlebars_tags.specs.KindView.{kind_of, tilde_of, sign_of, row_of, beginning_view, tilded};
+ghost use Rattle.handlebars_tags.specs.Kind.{expression_kind, beginning, word, behind_sign, ends_word, first_of, beginning_of};
+ghost use Rattle.handlebars_tags.specs.KindReading.{two_rows, sign_rows, word_rows, signed_by};
+ghost use Rattle.handlebars_tags.specs.KindView.{kind_of, beginning_view};
 
 use crate::front::{past, tilde_at};
 use handlebars_base::json::path::marks::{after, behind_white, is_white};
@@ -34,125 +36,162 @@ pub struct Beginning<'a> {
     pub inside: &'a str,
 }
 
-/// Whether a tilde stands behind braces, with white around it or none.
-#[derive(Clone, Copy)]
-enum Tilde {
-    Maybe,
-    One,
-    Unread,
-}
-
-/// What stands behind that.
-#[derive(Clone, Copy)]
-enum Sign {
-    Nothing,
-    /// These bytes, with white or none behind them.
-    Mark(&'static str),
-    /// A word by itself.
-    Word(&'static str),
-}
-
-#[derive(Clone, Copy)]
-struct Row {
-    braces: &'static str,
-    tilde: Tilde,
-    sign: Sign,
-    kind: Kind,
-}
-
-impl Row {
-    fn new(braces: &'static str, tilde: Tilde, sign: Sign, kind: Kind) -> Row
-        ensures { row_of result ≡ row braces.now (tilde_of tilde) (sign_of sign) (kind_of kind) }
-    {
-        Row {
-            braces,
-            tilde,
-            sign,
-            kind,
-        }
-    }
-}
-
-/// The beginning of the tag in front: that of the first row that stands there.
-#[tactic(auto, unfolding(crate::specs::Kind::beginning_of))]
+/// The beginning of the tag in front.
 pub fn beginning_of(left: &str) -> Option<Beginning<'_>>
     ensures { option_map beginning_view result ≡ beginning_of left.now }
 {
-    'rows: for row in &rows() {
-        if let Some(begins) = row_at(row, left) {
-            return Some(begins);
-        }
+    let one = after(b'{', left)?;
+    let two = after(b'{', one)?;
+    Some(behind_two(two))
+}
+
+/// Behind two braces: another, the mark of a comment, or neither.
+fn behind_two(text: &str) -> Beginning<'_>
+    ensures { beginning_of (codes "{{" ++ text.now) ≡ Some (beginning_view result) }
+{
+    let Some((mark, behind)) = first_byte(text) else {
+        return tilded_at(text);
+    };
+    match mark {
+        b'{' => behind_three(behind),
+        b'!' => Beginning {
+            kind: Kind::Comment,
+            tilde: false,
+            inside: behind,
+        },
+        _ => tilded_at(text),
     }
-    None
 }
 
-fn rows() -> [Row; 15]
-    ensures { map row_of result ≡ rows }
+fn behind_three(text: &str) -> Beginning<'_>
+    ensures { beginning_of (codes "{{{" ++ text.now) ≡ Some (beginning_view result) }
 {
-    [
-        Row::new("{{{{", Tilde::Maybe, Sign::Mark("/"), Kind::RawClose),
-        Row::new("{{{{", Tilde::Maybe, Sign::Nothing, Kind::Raw),
-        Row::new("{{{", Tilde::Maybe, Sign::Nothing, Kind::Html),
-        Row::new("{{!", Tilde::Unread, Sign::Nothing, Kind::Comment),
-        Row::new("{{", Tilde::One, Sign::Mark("{"), Kind::Html),
-        Row::new("{{", Tilde::Maybe, Sign::Mark("&"), Kind::HtmlSign),
-        Row::new("{{", Tilde::Maybe, Sign::Mark("#*"), Kind::Other),
-        Row::new("{{", Tilde::Maybe, Sign::Mark("#>"), Kind::Other),
-        Row::new("{{", Tilde::Maybe, Sign::Mark("#"), Kind::Block),
-        Row::new("{{", Tilde::Maybe, Sign::Mark("/"), Kind::Close),
-        Row::new("{{", Tilde::Maybe, Sign::Mark("^"), Kind::Inverse),
-        Row::new("{{", Tilde::Maybe, Sign::Mark("*"), Kind::Other),
-        Row::new("{{", Tilde::Maybe, Sign::Mark(">"), Kind::Other),
-        Row::new("{{", Tilde::Maybe, Sign::Word("else"), Kind::Else),
-        Row::new("{{", Tilde::Maybe, Sign::Nothing, Kind::Expression),
-    ]
-}
-
-/// The beginning that a row is.
-fn row_at<'a>(row: &Row, text: &'a str) -> Option<Beginning<'a>>
-    ensures { option_map beginning_view result ≡ row_at (row_of row.now) text.now }
-{
-    let behind = past(row.braces, text)?;
-    let (tilde, behind) = behind_tilde(row.tilde, behind)?;
-    let inside = behind_sign(row.sign, behind)?;
-    Some(Beginning {
-        kind: row.kind,
+    if let Some(behind) = after(b'{', text) {
+        return behind_four(behind);
+    }
+    let (tilde, inside) = tilde_at(text);
+    Beginning {
+        kind: Kind::Html,
         tilde,
         inside,
-    })
-}
-
-/// Whether a tilde stands there, and what follows it.
-fn behind_tilde(tilde: Tilde, text: &str) -> Option<(bool, &str)>
-    ensures { option_map tilded result ≡ behind_tilde (tilde_of tilde) text.now }
-{
-    match tilde {
-        Tilde::Maybe => Some(tilde_at(text)),
-        Tilde::One => {
-            let behind = after(b'~', behind_white(text))?;
-            Some((true, behind_white(behind)))
-        }
-        Tilde::Unread => Some((false, text)),
     }
 }
 
-fn behind_sign(sign: Sign, text: &str) -> Option<&str>
-    ensures { option_map (λ rest. rest.now) result ≡ behind_sign (sign_of sign) text.now }
+fn behind_four(text: &str) -> Beginning<'_>
+    ensures { beginning_of (codes "{{{{" ++ text.now) ≡ Some (beginning_view result) }
 {
+    let (tilde, inside) = tilde_at(text);
+    match after(b'/', inside) {
+        Some(behind) => marked(Kind::RawClose, tilde, behind),
+        None => Beginning {
+            kind: Kind::Raw,
+            tilde,
+            inside,
+        },
+    }
+}
+
+/// Behind two braces, in front of no third and no comment: behind a tilde a third counts again.
+fn tilded_at(text: &str) -> Beginning<'_>
+    ensures { first_of two_rows (codes "{{" ++ text.now) ≡ Some (beginning_view result) }
+{
+    let (tilde, inside) = tilde_at(text);
+    if !tilde {
+        return signed_at(false, inside);
+    }
+    match after(b'{', inside) {
+        Some(behind) => marked(Kind::Html, true, behind),
+        None => signed_at(true, inside),
+    }
+}
+
+/// Behind two braces and a tilde, if any: by the byte in front.
+fn signed_at(tilde: bool, text: &str) -> Beginning<'_>
+    ensures { signed_by sign_rows tilde text.now ≡ Some (beginning_view result) }
+{
+    let Some((sign, behind)) = first_byte(text) else {
+        return unsigned(tilde, text);
+    };
     match sign {
-        Sign::Nothing => Some(text),
-        Sign::Mark(mark) => {
-            let behind = past(mark, text)?;
-            Some(behind_white(behind))
-        }
-        Sign::Word(word) => {
-            let behind = past(word, text)?;
-            if ends_word(behind) {
-                Some(behind)
-            } else {
-                None
-            }
-        }
+        b'&' => marked(Kind::HtmlSign, tilde, behind),
+        b'#' => block_at(tilde, behind),
+        b'/' => marked(Kind::Close, tilde, behind),
+        b'^' => marked(Kind::Inverse, tilde, behind),
+        b'*' => marked(Kind::Other, tilde, behind),
+        b'>' => marked(Kind::Other, tilde, behind),
+        b'e' => worded_at(tilde, text),
+        _ => unsigned(tilde, text),
+    }
+}
+
+/// Behind `#`, where the sign of a decorator or of an inclusion may follow.
+fn block_at(tilde: bool, text: &str) -> Beginning<'_>
+    ensures { signed_by sign_rows tilde (codes "#" ++ text.now) ≡ Some (beginning_view result) }
+{
+    let Some((sign, inside)) = first_byte(text) else {
+        return marked(Kind::Block, tilde, text);
+    };
+    match sign {
+        b'*' => marked(Kind::Other, tilde, inside),
+        b'>' => marked(Kind::Other, tilde, inside),
+        _ => marked(Kind::Block, tilde, text),
+    }
+}
+
+/// In front of `e`: the word, or a value.
+fn worded_at(tilde: bool, text: &str) -> Beginning<'_>
+    ensures { signed_by word_rows tilde text.now ≡ Some (beginning_view result) }
+{
+    match else_at(text) {
+        Some(inside) => Beginning {
+            kind: Kind::Else,
+            tilde,
+            inside,
+        },
+        None => unsigned(tilde, text),
+    }
+}
+
+fn else_at(text: &str) -> Option<&str>
+    ensures { option_map (λ rest. rest.now) result ≡ behind_sign (word (codes "else")) text.now }
+{
+    let behind = past("else", text)?;
+    if ends_word(behind) {
+        Some(behind)
+    } else {
+        None
+    }
+}
+
+/// Behind a mark, with white or none behind it.
+fn marked(kind: Kind, tilde: bool, behind: &str) -> Beginning<'_>
+    ensures { beginning_view result ≡ beginning (kind_of kind) tilde (behind_white behind.now) }
+{
+    Beginning {
+        kind,
+        tilde,
+        inside: behind_white(behind),
+    }
+}
+
+/// With no mark.
+fn unsigned(tilde: bool, inside: &str) -> Beginning<'_>
+    ensures { beginning_view result ≡ beginning expression_kind tilde inside.now }
+{
+    Beginning {
+        kind: Kind::Expression,
+        tilde,
+        inside,
+    }
+}
+
+/// The first byte, where it is ASCII, and what follows it.
+fn first_byte(text: &str) -> Option<(u8, &str)>
+    ensures { MatchOption result (starts is_ascii text.now ≡ false) (λ first. text.now ≡ first.0 ∷ first.1.now) }
+{
+    match text.as_bytes() {
+        [first, ..] if *first < 128 => Some((*first, text.split_at(1).1)),
+        _ => None,
     }
 }
 
