@@ -3,7 +3,7 @@ use Rattle.std.proofs.Common.{◌≡◌, true, Ok, Err, sym, ap, subst}
 use Rattle.std.specs.Prelude.{OnErr, OnOk}
 use Rattle.std.specs.declared.io.Error.{Error}
 use Rattle.serde_json.specs.Data.{Data}
-use Rattle.handlebars_scope.specs.Outputs.{Held}
+use Rattle.handlebars_base.specs.Outputs.{Held}
 use Rattle.handlebars_meaning.specs.State.{Kept, Parts, Setting}
 use Rattle.handlebars_meaning.specs.Steps.{Steps}
 use Rattle.handlebars_render.specs.View.{Answered, CarriesOut, moment}

@@ -7,7 +7,7 @@ use Rattle.handlebars_base.specs.Bytes.{Text}
 use Rattle.handlebars_base.specs.Reasons.{out_of_memory}
 use Rattle.handlebars_base.specs.RenderRefusals.{reason_in, refusal_of}
 use Rattle.handlebars_base.specs.declared.error.render_error.RenderError.{RenderError}
-use Rattle.handlebars_scope.specs.Outputs.{Held, write_reason}
+use Rattle.handlebars_base.specs.Outputs.{Held, write_reason}
 use Rattle.handlebars_meaning.specs.Pieces.{join}
 use Rattle.handlebars_meaning.specs.State.{Setting, State}
 use Rattle.handlebars_meaning.specs.Steps.{Steps}

@@ -4,12 +4,14 @@ ghost use Rattle.handlebars_meaning.specs.Laws.{OneRun, StopsInBeginning, ComesO
 ghost use Rattle.handlebars.specs.View.{setting_of};
 
 use crate::registry::Registry;
-pub use handlebars_base::laws::{equality_laws, one_meaning, order_laws, paths_in_front};
+pub use handlebars_base::laws::{
+    equality_laws, escape_laws, one_meaning, order_laws, paths_in_front,
+};
 pub use handlebars_lines::laws::{
     one_binding, one_line, one_literal, one_parameter, worth_of_literal,
 };
 use handlebars_scope::context::Context;
-pub use handlebars_scope::laws::{escape_laws, recursive_lookup_law};
+pub use handlebars_scope::laws::recursive_lookup_law;
 pub use handlebars_tags::laws::{clear_text, one_comment, one_tag, one_text};
 pub use handlebars_template::laws::{cuts_join, one_compilation, one_cut, one_parsing};
 

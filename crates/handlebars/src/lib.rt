@@ -21,6 +21,8 @@ pub use handlebars_base::json::path::{Path, PathRule, PathSeg};
 pub use handlebars_base::json::value::{
     JsonRender, JsonTruthy, PathAndJson, ScopedJson, as_string, compare, equal, to_json,
 };
+pub use handlebars_base::output::{Output, StringOutput};
+pub use handlebars_base::support::{escape_html, html_escape, no_escape};
 pub use handlebars_helpers::built_in::{BuiltIn, HelperEntry};
 pub use handlebars_helpers::log_line::log_record;
 pub use handlebars_helpers::view::Helper;
@@ -29,8 +31,6 @@ pub use handlebars_render::write::indent_aware_write;
 pub use handlebars_scope::block::{BlockContext, BlockParamHolder, BlockParams};
 pub use handlebars_scope::context::Context;
 pub use handlebars_scope::local_vars::LocalVars;
-pub use handlebars_scope::output::{Output, StringOutput};
-pub use handlebars_scope::support::{escape_html, html_escape, no_escape};
 pub use handlebars_template::template;
 pub use handlebars_template::template::{
     BlockParam, DecoratorTemplate, ExpressionSpec, HelperTemplate, Parameter, Subexpression,

@@ -15,3 +15,9 @@ pub mod Truths
 pub mod Numerals
 pub mod Equality
 pub mod Orders
+pub mod EscapedBytes
+mod EscapedRuns
+mod EscapeLaws
+pub mod Writes
+pub mod EscapedNumbers
+pub mod ShownValues

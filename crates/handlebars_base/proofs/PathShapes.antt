@@ -10,7 +10,7 @@ use Rattle.std.proofs.lemmas.Option.{same_Some, cond_some}
 use Rattle.std.proofs.lemmas.List.{take-append-drop, take_at, drop_at, nil_from_length}
 use Rattle.std.proofs.lemmas.Slice.Eq.{bytes_eq-Decides}
 use Rattle.handlebars_base.specs.Path.{Reference, meaning, IsPath, IsIdentifier, Part, dots, plain, bracketed, spelled_part, IsPart, is_dots, Link, spelled_links, AreLinks, ups, Shape, itself, at_root, at_name, in_parts, spelled, IsShape}
-use Rattle.handlebars_base.specs.PathReading.{is_up_mark, after_up, ups_at, part_at, link_at, links_of, Start, here, from_root, from_variable, from_part, is_no_name, named_start, named_at, part_start, dot_start, unnamed_at, start_at, links_behind, is_dotted, shape_from, shape_at, shape_of, path_of, reference_from, reference_len}
+use Rattle.handlebars_base.specs.PathReading.{is_up_mark, after_up, ups_at, part_at, link_at, links_of, Start, here, from_root, from_variable, from_part, is_no_name, named_start, at_sign_start, part_start, dot_start, start_without_at_sign, start_at, links_behind, is_dotted, shape_from, shape_at, shape_of, path_of, reference_from, reference_len}
 use Rattle.handlebars_base.specs.Optional.{◌>>=◌}
 use Rattle.handlebars_base.specs.Texts.{after, symbols_of, behind_symbols}
 use Rattle.handlebars_base.specs.Bytes.{is_symbol}
@@ -86,9 +86,9 @@ links_behind-named n name t =
       | false ↦ refl
     ]
 
-name_takes : (dotted : Bool) (n : ℕ) (r : List ℕ) (x : Start × List ℕ) → named_at (n, r) ≡ Some x →
+name_takes : (dotted : Bool) (n : ℕ) (r : List ℕ) (x : Start × List ℕ) → at_sign_start (n, r) ≡ Some x →
     TakesFront (64 ∷ (ups n ++ r)) (shape_behind dotted x)
-unfolding named_at
+unfolding at_sign_start
 name_takes dotted n r x e =
     let name = symbols_of r in
     let g = guard_some (is_no_name name) (named_start n name, behind_symbols r) x e in
@@ -104,7 +104,7 @@ name_takes dotted n r x e =
     (subst (λ (q : List Link × List ℕ). TakesFront (64 ∷ (ups n ++ r)) (shape_from dotted (named_start n name) q.0, q.1)) (sym (links_behind-named n name (behind_symbols r)))
     (subst (λ (z : List ℕ). TakesFront (64 ∷ (ups n ++ z)) (shape_from dotted (named_start n name) read.0, read.1)) (sym whole) fits))
 
-at_takes : (dotted : Bool) (t : List ℕ) (x : Start × List ℕ) → named_at (ups_at 0 t) ≡ Some x →
+at_takes : (dotted : Bool) (t : List ℕ) (x : Start × List ℕ) → at_sign_start (ups_at 0 t) ≡ Some x →
     TakesFront (64 ∷ t) (shape_behind dotted x)
 at_takes dotted t x e =
     let u = ups_take 0 t in
@@ -173,9 +173,9 @@ dot_takes r x e =
           (record { parts = refl; fits = tt })
     ]
 
-unnamed_takes : (t : List ℕ) (x : Start × List ℕ) → unnamed_at t ≡ Some x → TakesFront t (shape_behind (is_dotted t) x)
-unfolding unnamed_at
-unnamed_takes t x e =
+without_at_sign_takes : (t : List ℕ) (x : Start × List ℕ) → start_without_at_sign t ≡ Some x → TakesFront t (shape_behind (is_dotted t) x)
+unfolding start_without_at_sign
+without_at_sign_takes t x e =
     elim (with_or_is (part_at t) part_start (after 46 t >>= dot_start) (Some x) e) [
       | inl first ↦
           subst (λ (y : Start × List ℕ). TakesFront t (shape_behind (is_dotted t) y)) (same_Some _ x first.2)
@@ -190,9 +190,9 @@ unnamed_takes t x e =
 start_takes : (t : List ℕ) (x : Start × List ℕ) → start_at t ≡ Some x → TakesFront t (shape_behind (is_dotted t) x)
 unfolding start_at
 start_takes t x e =
-    elim (with_or_is (after 64 t) (λ r. named_at (ups_at 0 r)) (unnamed_at t) (Some x) e) [
+    elim (with_or_is (after 64 t) (λ r. at_sign_start (ups_at 0 r)) (start_without_at_sign t) (Some x) e) [
       | inl at ↦ rw (after_takes 64 t at.0 at.1) (at_takes (is_dotted (64 ∷ at.0)) at.0 x at.2)
-      | inr other ↦ unnamed_takes t x other.1
+      | inr other ↦ without_at_sign_takes t x other.1
     ]
 
 pub shape_at_takes : (t : List ℕ) (x : Shape × List ℕ) → shape_at t ≡ Some x → TakesFront t x
@@ -251,8 +251,8 @@ not_up [] rest id = absurd (id.0 refl)
 not_up (x ∷ xs) rest id = after_up_other x (xs ++ rest) (other_byte is_symbol 46 refl x id.1.0)
 
 named_again : (n : ℕ) (name rest : List ℕ) → IsIdentifier name → bytes_eq name (codes "this") ≡ false →
-    prefix_len is_symbol rest ≡ 0 → named_at (n, name ++ rest) ≡ Some (named_start n name, rest)
-unfolding named_at
+    prefix_len is_symbol rest ≡ 0 → at_sign_start (n, name ++ rest) ≡ Some (named_start n name, rest)
+unfolding at_sign_start
 named_again n name rest id this stop =
     let len = prefix_again is_symbol name rest id.1 stop in
     let front = take_at name rest (length name) refl in
@@ -266,7 +266,7 @@ at_again : (n : ℕ) (name rest : List ℕ) → IsIdentifier name → bytes_eq n
 unfolding start_at after
 at_again n name rest id this stop =
     let level = ups_again n 0 (name ++ rest) (not_up name rest id) ∙ ap (λ (m : ℕ). (m, name ++ rest)) (omega arith) in
-    ap named_at level ∙ named_again n name rest id this stop
+    ap at_sign_start level ∙ named_again n name rest id this stop
 
 name_again : (n : ℕ) (name : List ℕ) (ss : List Link) (rest : List ℕ) → IsIdentifier name →
     bytes_eq name (codes "this") ≡ false → AreLinks false ss → reference_len rest ≡ 0 →
@@ -287,16 +287,16 @@ no_at (bracketed n) rest fits = refl
 
 start_part : (p : Part) (rest : List ℕ) → IsPart p → prefix_len is_symbol rest ≡ 0 →
     start_at (spelled_part p ++ rest) ≡ Some (from_part p, rest)
-unfolding start_at unnamed_at
+unfolding start_at start_without_at_sign
 start_part p rest fits stop = rw (no_at p rest fits, part_again p rest fits stop) refl
 
 start_dotted : (p : Part) (rest : List ℕ) → IsPart p → prefix_len is_symbol rest ≡ 0 →
     start_at (46 ∷ 47 ∷ (spelled_part p ++ rest)) ≡ Some (from_part p, rest)
-unfolding start_at unnamed_at part_at after
+unfolding start_at start_without_at_sign part_at after
 start_dotted p rest fits stop = ap (λ o. o >>= part_start) (part_again p rest fits stop)
 
 start_itself : (rest : List ℕ) → reference_len rest ≡ 0 → start_at (46 ∷ rest) ≡ Some (here, rest)
-unfolding start_at unnamed_at part_at after
+unfolding start_at start_without_at_sign part_at after
 start_itself rest e = rw (after-end 46 rest refl refl e, after-end 47 rest refl refl e) refl
 
 pub shape_at_again : (s : Shape) (rest : List ℕ) → IsShape s → reference_len rest ≡ 0 →

@@ -6,6 +6,10 @@ pub mod TemplateRefusals
 pub mod RenderRefusals
 pub mod Answers
 pub mod Values
+pub mod Escape
+pub mod EscapeLaws
+pub mod Shown
+pub mod Outputs
 pub mod Scoped
 pub mod PathAndData
 pub mod Path

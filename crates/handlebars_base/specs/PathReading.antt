@@ -90,8 +90,8 @@ abbrev pub named_start : ℕ → Text → Start
 named_start level name = if (level == 0) && bytes_eq name (codes "root") then from_root else from_variable level name
 
 -- a name behind an `@`, given as the number of `../` and the text behind them
-unfoldable pub named_at : ℕ × Text → Option (Start × Text)
-named_at u =
+unfoldable pub at_sign_start : ℕ × Text → Option (Start × Text)
+at_sign_start u =
     if is_no_name (symbols_of u.1)
     then None
     else Some (named_start u.0 (symbols_of u.1), behind_symbols u.1)
@@ -104,11 +104,11 @@ abbrev pub dot_start : Text → Option (Start × Text)
 dot_start r = with_or (after slash r) (λ r. part_at r >>= part_start) (Some (here, r))
 
 -- a path with no `@`
-unfoldable pub unnamed_at : Text → Option (Start × Text)
-unnamed_at t = with_or (part_at t) part_start (after dot t >>= dot_start)
+unfoldable pub start_without_at_sign : Text → Option (Start × Text)
+start_without_at_sign t = with_or (part_at t) part_start (after dot t >>= dot_start)
 
 unfoldable pub start_at : Text → Option (Start × Text)
-start_at t = with_or (after at_sign t) (λ r. named_at (ups_at 0 r)) (unnamed_at t)
+start_at t = with_or (after at_sign t) (λ r. at_sign_start (ups_at 0 r)) (start_without_at_sign t)
 
 -- ---- whole paths
 

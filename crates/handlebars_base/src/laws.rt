@@ -1,6 +1,7 @@
 //! Laws that callers may cite. Each is a function that does nothing: its contract is the law.
 
 ghost use Rattle.handlebars_base.specs.ComparisonLaws.{EqualIsSame, EqualIsReflexive, EqualIsSymmetric, EqualIsTransitive, OrderIsAntisymmetric, IsTotalOrder, IsNumber, IsText, OrderAgreesOnNumbers};
+ghost use Rattle.handlebars_base.specs.EscapeLaws.{Joins, IsInjective, IsUnmarked, BeginsEntities};
 ghost use Rattle.handlebars_base.specs.Laws.{OneMeaning, PathsInFront};
 
 /// No text is a path in two ways.
@@ -29,4 +30,12 @@ pub fn order_laws()
     ensures numbers { IsTotalOrder IsNumber }
     ensures texts { IsTotalOrder IsText }
     ensures agrees { OrderAgreesOnNumbers }
+{}
+
+/// The laws of escaping.
+pub fn escape_laws()
+    ensures joins { Joins }
+    ensures injective { IsInjective }
+    ensures unmarked { IsUnmarked }
+    ensures entities { BeginsEntities }
 {}

@@ -1,7 +1,7 @@
 -- What is written is determined: two whole runs are one, and a run that stopped wrote a beginning of the whole one.
 use Rattle.std.proofs.Common.{◌≡◌, Bool, List, [], ◌∷◌, ◌++◌, refl, sym, ap, ◌∙◌, subst, append_assoc, append-nil}
 use Rattle.handlebars_base.specs.Answers.{Answer}
-use Rattle.handlebars_scope.specs.Outputs.{IsBeginning}
+use Rattle.handlebars_base.specs.Outputs.{IsBeginning}
 use Rattle.handlebars_meaning.specs.Pieces.{Piece, join}
 use Rattle.handlebars_meaning.specs.Questions.{Question, Reply}
 use Rattle.handlebars_meaning.specs.State.{Setting, State}

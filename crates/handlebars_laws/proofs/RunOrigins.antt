@@ -10,7 +10,7 @@ use Rattle.handlebars_base.specs.Scoped.{Found, walked, value, missing, present_
 use Rattle.handlebars_base.specs.Values.{word}
 use Rattle.handlebars_template.specs.Place.{Place}
 use Rattle.handlebars_template.specs.Tree.{Tree, tree, Elements, no_elements, element, Element, raw_string, html_expression, expression, helper_block, decorator_expression, decorator_block, partial_expression, partial_block, comment, Call, call_name, call_args, call_body, call_inverse, call_marks, is_value, Decorator, Body, no_body, body}
-use Rattle.handlebars_scope.specs.Outputs.{IsBeginning}
+use Rattle.handlebars_base.specs.Outputs.{IsBeginning}
 use Rattle.handlebars_scope.specs.Scopes.{Frame, empty_frame, Base}
 use Rattle.handlebars_helpers.specs.CallView.{CallView}
 use Rattle.handlebars_helpers.specs.Choice.{Kind, Choice, the_body, the_inverse, body_in_block, body_in_turns, the_value, the_word, the_line, nothing}

@@ -1,7 +1,7 @@
 -- Laws of every run at one setting.
 use Rattle.std.specs.Prelude.{◌≡◌, true, List, [], None}
 use Rattle.handlebars_template.specs.Tree.{Tree, tree, no_elements, element, Element}
-use Rattle.handlebars_scope.specs.Outputs.{IsBeginning}
+use Rattle.handlebars_base.specs.Outputs.{IsBeginning}
 use Rattle.handlebars_meaning.specs.Pieces.{Piece, join}
 use Rattle.handlebars_meaning.specs.State.{Setting, State}
 use Rattle.handlebars_meaning.specs.Steps.{Steps}

@@ -8,7 +8,7 @@ use Rattle.handlebars_base.specs.Optional.{◌>>=◌, with_or}
 use Rattle.handlebars_base.specs.Scoped.{Found, value, missing, present_in}
 use Rattle.handlebars_base.specs.Values.{word}
 use Rattle.handlebars_template.specs.Tree.{Tree, tree_elements, Elements, no_elements, element, Element, raw_string, html_expression, expression, helper_block, decorator_expression, decorator_block, partial_expression, partial_block, Call, call_name, call_args, call_body, call_inverse, is_value, Decorator, decorator_body, Body, no_body, body}
-use Rattle.handlebars_scope.specs.Outputs.{IsBeginning}
+use Rattle.handlebars_base.specs.Outputs.{IsBeginning}
 use Rattle.handlebars_helpers.specs.CallView.{CallView}
 use Rattle.handlebars_helpers.specs.Choice.{Kind, Choice, the_value, the_word}
 use Rattle.handlebars_meaning.specs.CarryOut.{helper_call}

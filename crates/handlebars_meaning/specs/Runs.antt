@@ -6,7 +6,7 @@ use Rattle.handlebars_base.specs.Reasons.{Spot, nowhere, Refusal}
 use Rattle.handlebars_base.specs.RenderRefusals.{name_if_none, place_if_none}
 use Rattle.handlebars_template.specs.Place.{Place}
 use Rattle.handlebars_template.specs.Tree.{Tree, tree_name}
-use Rattle.handlebars_scope.specs.Outputs.{IsBeginning}
+use Rattle.handlebars_base.specs.Outputs.{IsBeginning}
 use Rattle.handlebars_meaning.specs.Pieces.{Piece}
 use Rattle.handlebars_meaning.specs.Questions.{Question, Reply, IsAnswered}
 use Rattle.handlebars_meaning.specs.State.{Setting, State}

@@ -4,7 +4,7 @@ use Rattle.serde_json.specs.Data.{Data}
 use Rattle.handlebars_base.specs.Bytes.{Text}
 use Rattle.handlebars_base.specs.Scoped.{Found, present_in}
 use Rattle.handlebars_base.specs.Values.{word}
-use Rattle.handlebars_scope.specs.Shown.{shown}
+use Rattle.handlebars_base.specs.Shown.{shown}
 use Rattle.handlebars_meaning.specs.Pieces.{Origin, of_value, of_raw, of_word, put}
 use Rattle.handlebars_meaning.specs.Sites.{Site}
 use Rattle.handlebars_meaning.specs.Steps.{Prog, ◌>>=◌, ◌>>◌, write, state, become}

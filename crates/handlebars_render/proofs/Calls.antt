@@ -9,7 +9,7 @@ use Rattle.handlebars_base.specs.RenderRefusals.{plain_refusal, reason_in, refus
 use Rattle.handlebars_base.specs.Scoped.{Found, walked, value, missing, present_in}
 use Rattle.handlebars_base.specs.declared.error.render_error.RenderError.{RenderError}
 use Rattle.handlebars_template.specs.Tree.{Param, Body, no_body, Call, call_name, Decorator, decorator_name, decorator_args}
-use Rattle.handlebars_scope.specs.Outputs.{Held}
+use Rattle.handlebars_base.specs.Outputs.{Held}
 use Rattle.handlebars_meaning.specs.Sites.{TreeSite, Site}
 use Rattle.handlebars_helpers.specs.CallView.{CallView, HelperView}
 use Rattle.handlebars_helpers.specs.Choice.{Kind, Choice, the_value, chosen}

@@ -11,7 +11,7 @@ use Rattle.handlebars_base.specs.declared.error.render_error.RenderError.{Render
 use Rattle.handlebars_template.specs.Tree.{Param, as_name, Call, call_name, call_args, is_value}
 use Rattle.handlebars_scope.specs.LineView.{line_of}
 use Rattle.handlebars_scope.specs.LineState.{LineState}
-use Rattle.handlebars_scope.specs.Outputs.{Held}
+use Rattle.handlebars_base.specs.Outputs.{Held}
 use Rattle.handlebars_helpers.specs.CallView.{CallView}
 use Rattle.handlebars_helpers.specs.Choice.{Kind}
 use Rattle.handlebars_meaning.specs.Asks.{is_refused}

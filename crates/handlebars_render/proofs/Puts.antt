@@ -11,10 +11,10 @@ use Rattle.handlebars_base.specs.RenderRefusals.{cause_of, reason_in, refusal_of
 use Rattle.handlebars_base.specs.declared.error.render_error.RenderError.{RenderError}
 use Rattle.handlebars_base.specs.declared.error.render_error.RenderErrorReason.TheVariants.{IOError}
 use Rattle.handlebars_base.specs.Values.{word}
-use Rattle.handlebars_scope.specs.Outputs.{Held, IsWhole, IsCutOff, write_reason}
-use Rattle.handlebars_scope.specs.Escape.{escaped}
+use Rattle.handlebars_base.specs.Outputs.{Held, IsWhole, IsCutOff, write_reason}
+use Rattle.handlebars_base.specs.Escape.{escaped}
 use Rattle.handlebars_scope.specs.LineState.{LineState, line_behind}
-use Rattle.handlebars_scope.specs.Shown.{shown}
+use Rattle.handlebars_base.specs.Shown.{shown}
 use Rattle.handlebars_meaning.specs.State.{State}
 use Rattle.handlebars_meaning.specs.Writing.{shown_if_any}
 use Rattle.handlebars_render.specs.View.{Moment, Answered, Puts, all_put, front_put, PutsWord, word_put, word_cut, word_reason, behind, with_line}

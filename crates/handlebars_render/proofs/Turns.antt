@@ -13,7 +13,7 @@ use Rattle.handlebars_template.specs.TreeView.{call_view, binding_of, binding_vi
 use Rattle.handlebars_template.specs.declared.template.tree.BlockParam.{BlockParam}
 use Rattle.handlebars_template.specs.declared.template.tree.HelperTemplate.{HelperTemplate, out-HelperTemplate}
 use Rattle.handlebars_template.proofs.Levels.{call_binding-view}
-use Rattle.handlebars_scope.specs.Outputs.{Held}
+use Rattle.handlebars_base.specs.Outputs.{Held}
 use Rattle.handlebars_scope.specs.Scopes.{Base, Frame}
 use Rattle.handlebars_meaning.specs.Sites.{Site}
 use Rattle.handlebars_helpers.specs.CallView.{HelperView}

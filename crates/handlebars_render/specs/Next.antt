@@ -6,7 +6,7 @@ use Rattle.handlebars_base.specs.RenderRefusals.{reason_in, refusal_of}
 use Rattle.handlebars_base.specs.declared.error.render_error.RenderError.{RenderError}
 use Rattle.handlebars_template.specs.Tree.{Call}
 use Rattle.handlebars_scope.specs.LineView.{line_of}
-use Rattle.handlebars_scope.specs.Outputs.{Held}
+use Rattle.handlebars_base.specs.Outputs.{Held}
 use Rattle.handlebars_meaning.specs.Pieces.{Piece}
 use Rattle.handlebars_meaning.specs.Sites.{Site}
 use Rattle.handlebars_helpers.specs.View.{kind_of}

@@ -21,7 +21,7 @@ use Rattle.handlebars_base.specs.declared.error.render_error.RenderErrorReason.T
 use Rattle.handlebars_base.specs.Values.{word}
 use Rattle.handlebars_scope.specs.LineView.{line_of}
 use Rattle.handlebars_scope.specs.ScopeView.{frames_of}
-use Rattle.handlebars_scope.specs.Outputs.{Held, IsWhole, IsCutOff, write_reason}
+use Rattle.handlebars_base.specs.Outputs.{Held, IsWhole, IsCutOff, write_reason}
 use Rattle.handlebars_scope.specs.LineState.{LineState, line_behind}
 use Rattle.handlebars_meaning.specs.Pieces.{Piece, join}
 use Rattle.handlebars_template.specs.Tree.{Param}

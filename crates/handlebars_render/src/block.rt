@@ -21,10 +21,10 @@ use crate::setting::Setting;
 use crate::tree::render_tree;
 use crate::write::{write_chosen, write_count, write_word};
 use handlebars_base::error::RenderError;
+use handlebars_base::output::Output;
 use handlebars_helpers::built_in::BuiltIn;
 use handlebars_helpers::choice::{Choice, choose};
 use handlebars_helpers::each_turns::Turns;
-use handlebars_scope::output::Output;
 use handlebars_template::template::HelperTemplate;
 
 /// Renders a block, or an expression: a value is written, or a helper is called.

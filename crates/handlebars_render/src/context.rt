@@ -26,7 +26,7 @@ use handlebars_base::json::value::{Json, ScopedJson};
 use handlebars_helpers::turn::{Turn, set_up_turn};
 use handlebars_scope::block::BlockContext;
 use handlebars_scope::context::{Context, walk};
-use handlebars_scope::line::Line;
+use handlebars_scope::line::LineState;
 use handlebars_scope::local_vars::LocalVars;
 use handlebars_template::template::BlockParam;
 use std::alloc::{AllocError, Global};
@@ -41,7 +41,7 @@ pub struct RenderContext {
     // Nearest first.
     blocks: VecDeque<BlockContext>,
     recursive_lookup: bool,
-    line: Line,
+    line: LineState,
     escapes: bool,
     failed: bool,
 }
@@ -81,7 +81,7 @@ impl RenderContext {
             current_template: None,
             blocks,
             recursive_lookup: false,
-            line: Line::first(),
+            line: LineState::first(),
             escapes: true,
             failed: false,
         })
@@ -342,14 +342,14 @@ impl RenderContext {
     }
 
     // The line that is being written.
-    pub(super) fn line(&self) -> Line
+    pub(super) fn line(&self) -> LineState
         ensures { line_of result ≡ (state_of self.now).line }
     {
         self.line
     }
 
     // From now on this is the line that is being written.
-    pub(super) fn set_line(&mut self, line: Line)
+    pub(super) fn set_line(&mut self, line: LineState)
         ensures state { state_of self.new ≡ with_line (line_of line) (state_of self.old) }
         ensures kept { IsKept self.old self.new }
     {

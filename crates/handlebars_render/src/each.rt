@@ -15,10 +15,10 @@ use crate::context::RenderContext;
 use crate::registered::Registered;
 use crate::setting::Setting;
 use handlebars_base::error::RenderError;
+use handlebars_base::output::Output;
 use handlebars_helpers::each_turns::Turns;
 use handlebars_helpers::turn::{Base, with_block};
 use handlebars_scope::block::BlockContext;
-use handlebars_scope::output::Output;
 use handlebars_template::template::HelperTemplate;
 
 /// The body, in a block that stands at a base.

@@ -19,7 +19,7 @@ use crate::registered::Registered;
 use crate::setting::Setting;
 use crate::write::indent_aware_write;
 use handlebars_base::error::{RenderError, RenderErrorReason};
-use handlebars_scope::output::Output;
+use handlebars_base::output::Output;
 use handlebars_template::template::{DecoratorTemplate, HelperTemplate, TemplateElement};
 use std::alloc::{AllocError, Global};
 use std::borrow::CowStr;

@@ -26,9 +26,9 @@ use crate::value::{called, written};
 use crate::write::write_found;
 use handlebars_base::error::{RenderError, RenderErrorReason};
 use handlebars_base::json::value::ScopedJson;
+use handlebars_base::output::Output;
 use handlebars_helpers::built_in::BuiltIn;
-use handlebars_scope::line::Line;
-use handlebars_scope::output::Output;
+use handlebars_scope::line::LineState;
 use handlebars_template::template::{HelperTemplate, Parameter};
 use std::alloc::{AllocError, Global};
 use std::borrow::CowStr;
@@ -37,7 +37,7 @@ use std::borrow::CowStr;
 #[derive(Drop)]
 pub enum Next<'a> {
     /// All is done, and this is the line behind it.
-    Done(Line),
+    Done(LineState),
     /// A helper is to be called.
     Call(ToCall<'a>),
 }
@@ -190,7 +190,7 @@ fn write_lone<'a, O: Output, P: Registered>(
     made: Option<ScopedJson<'a>>,
     rc: &RenderContext,
     out: &mut O,
-) -> Result<Option<Line>, RenderError>
+) -> Result<Option<LineState>, RenderError>
     ensures { (kept : Kept) → IsMade (setting_in P.parts setting.now) (state_with kept rc.now) (call_name (call_view helper.now)) made.entry
         → (site : Site) (v : CallView) → MatchResult result
         (λ line. MatchOption line

@@ -16,7 +16,7 @@ use crate::element::render_element;
 use crate::registered::Registered;
 use crate::setting::Setting;
 use handlebars_base::error::RenderError;
-use handlebars_scope::output::Output;
+use handlebars_base::output::Output;
 use handlebars_template::template::{Template, TemplateMapping};
 use std::alloc::Global;
 

@@ -15,10 +15,9 @@ ghost use Rattle.handlebars_render.specs.View.{state_of, moment, with_line, word
 
 use crate::context::RenderContext;
 use handlebars_base::error::{RenderError, RenderErrorReason};
-use handlebars_base::json::value::Json;
-use handlebars_scope::line::Line;
-use handlebars_scope::output::{Output, output_fault};
-use handlebars_scope::value::write_value;
+use handlebars_base::json::value::{Json, write_value};
+use handlebars_base::output::{Output, output_fault};
+use handlebars_scope::line::LineState;
 use serde_json::Number;
 use std::alloc::Global;
 use std::io;
@@ -49,7 +48,7 @@ pub(super) fn write_found<O: Output>(
     value: Option<&Json>,
     rc: &RenderContext,
     out: &mut O,
-) -> Result<Line, RenderError>
+) -> Result<LineState, RenderError>
     ensures puts { (kept : Kept) → MatchResult result
         (λ line. Puts (shown_if_any (state_of rc.now).escapes (option_map (λ v. view v.now) value.entry)) O.may_give
         (moment kept rc.now (O.held out.old)) (Ok tt)

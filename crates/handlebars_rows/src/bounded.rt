@@ -1,6 +1,6 @@
 //! An output that takes so much.
 
-use handlebars_scope::output::{Output, StringOutput};
+use handlebars_base::output::{Output, StringOutput};
 use std::alloc::Global;
 use std::io;
 use std::io::ErrorKind;
@@ -37,7 +37,7 @@ impl Bounded {
 }
 
 impl Output for Bounded {
-    ghost use Rattle.handlebars_scope.specs.Outputs.{held_of};
+    ghost use Rattle.handlebars_base.specs.Outputs.{held_of};
 
     ghost held = { λ o. record (held_of o.kept) { faults = o.refused } };
 

@@ -3,10 +3,6 @@ pub mod Wraps
 pub mod Scopes
 pub mod Resolve
 pub mod Fronts
-pub mod Escape
-pub mod EscapeLaws
-pub mod Shown
-pub mod Outputs
 pub mod LineState
 pub mod LineView
 pub mod ScopeView

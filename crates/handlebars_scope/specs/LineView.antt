@@ -1,6 +1,6 @@
 -- What the state of a line in the code stands for.
 use Rattle.handlebars_scope.specs.LineState.{LineState}
-use Rattle.handlebars_scope.specs.declared.line.Line.{Line}
+use Rattle.handlebars_scope.specs.declared.line.LineState.{LineState as CodeLine}
 
-abbrev pub line_of : Line → LineState
+abbrev pub line_of : CodeLine → LineState
 line_of l = record { before = l.before; trailing = l.trailing; produced = l.produced }

@@ -1,5 +1,5 @@
-//! What a rendering reads and writes: the data, blocks of scope and where paths lead among them, the
-//! output, the line that is written, and texts and values escaped.
+//! What a rendering goes through: the data, blocks of scope and where paths lead among them, and the
+//! line that is written.
 #![tactic(auto)]
 
 pub mod block;
@@ -7,6 +7,3 @@ pub mod context;
 pub mod laws;
 pub mod line;
 pub mod local_vars;
-pub mod output;
-pub mod support;
-pub mod value;

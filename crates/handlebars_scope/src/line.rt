@@ -3,10 +3,10 @@
 ghost use Rattle.std.specs.Prelude.{◌≡◌, Bool};
 ghost use Rattle.serde_json.specs.View.{view, number_view};
 ghost use Rattle.handlebars_base.specs.Values.{rendered_number};
-ghost use Rattle.handlebars_scope.specs.Escape.{escaped};
+ghost use Rattle.handlebars_base.specs.Escape.{escaped};
 ghost use Rattle.handlebars_scope.specs.LineView.{line_of};
 ghost use Rattle.handlebars_scope.specs.LineState.{first_line, line_after, line_behind, ends_line};
-ghost use Rattle.handlebars_scope.specs.Shown.{shown};
+ghost use Rattle.handlebars_base.specs.Shown.{shown};
 
 use handlebars_base::json::value::Json;
 use serde_json::Number;
@@ -14,18 +14,18 @@ use serde_json::Number;
 /// What is known of the line that is being written: whether indentation goes before the next text,
 /// whether the last text ended a line, and whether there was one.
 #[derive(Clone, Copy)]
-pub struct Line {
+pub struct LineState {
     pub before: bool,
     pub trailing: bool,
     pub produced: bool,
 }
 
-impl Line {
+impl LineState {
     /// The line that a run begins with.
-    pub fn first() -> Line
+    pub fn first() -> LineState
         ensures { line_of result ≡ first_line }
     {
-        Line {
+        LineState {
             before: false,
             trailing: false,
             produced: false,
@@ -33,7 +33,7 @@ impl Line {
     }
 
     /// The line behind a text that is written here.
-    pub fn behind(self, text: &str) -> Line
+    pub fn behind(self, text: &str) -> LineState
         ensures { line_of result ≡ line_behind text.now (line_of self) }
     {
         if text.is_empty() {
@@ -44,7 +44,7 @@ impl Line {
     }
 
     /// The line behind a value that is written here, whether escaping is on or not.
-    pub fn behind_value(self, value: &Json) -> Line
+    pub fn behind_value(self, value: &Json) -> LineState
         ensures { (escapes : Bool) → line_of result ≡ line_behind (shown escapes (view value.now)) (line_of self) }
     {
         match value {
@@ -57,7 +57,7 @@ impl Line {
     }
 
     // The line behind a number; one outside the range writes nothing.
-    fn behind_number(self, number: &Number) -> Line
+    fn behind_number(self, number: &Number) -> LineState
         ensures { line_of result ≡ line_behind (escaped (rendered_number (number_view number.now))) (line_of self) }
     {
         if number.is_f64() {
@@ -69,10 +69,10 @@ impl Line {
 }
 
 // The line behind a text that ends one or doesn't.
-fn line_after(ends: bool) -> Line
+fn line_after(ends: bool) -> LineState
     ensures { line_of result ≡ line_after ends }
 {
-    Line {
+    LineState {
         before: ends,
         trailing: ends,
         produced: true,

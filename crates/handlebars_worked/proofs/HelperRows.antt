@@ -2,7 +2,7 @@
 use Rattle.std.proofs.Common.{refl}
 use Rattle.std.specs.Fmt.{digits}
 use Rattle.log.specs.Level.{parse_level}
-use Rattle.handlebars_scope.specs.Escape.{escaped}
+use Rattle.handlebars_base.specs.Escape.{escaped}
 use Rattle.handlebars_meaning.specs.Steps.{◌>>=◌, ◌>>◌}
 use Rattle.handlebars_meaning.specs.Answer.{compiles, rendered}
 use Rattle.handlebars_worked.specs.HelperRows.{RangeRow, SpelledRow, MinusZeroRow, ZeroInFrontRow, DigitsRow, WordRow, BooleanBlockRow, InnerBooleanRow, OneValueRow, LenRow, LenAloneRow, LogRow, StrictRow, StrictNullRow, HookRow, UnregisteredRow}

@@ -24,7 +24,7 @@ use Rattle.handlebars_worked.specs.ScopeRows.{natural}
 -- ---- what is unfolded to compile a source: of each tag, of parameters, and of literals
 
 unfoldable on_lines : ⊤
-unfolding beginning_of closing_of chars line.name_step line.behind_step line.line_step texts.after path.plain_at path.part_at path.links_at path.links_of path.unnamed_at path.start_at path.shape_at path.shape_of path.reference_from path.path_at
+unfolding beginning_of closing_of chars line.name_step line.behind_step line.line_step texts.after path.plain_at path.part_at path.links_at path.links_of path.start_without_at_sign path.start_at path.shape_at path.shape_of path.reference_from path.path_at
 on_lines = tt
 
 unfoldable on_parameters : ⊤

@@ -1,7 +1,7 @@
 -- The worked sources of scopes answer as stated: each run is computed.
 use Rattle.std.proofs.Common.{refl}
 use Rattle.std.specs.Fmt.{digits}
-use Rattle.handlebars_scope.specs.Escape.{escaped}
+use Rattle.handlebars_base.specs.Escape.{escaped}
 use Rattle.handlebars_meaning.specs.Steps.{◌>>=◌, ◌>>◌}
 use Rattle.handlebars_meaning.specs.Answer.{compiles, is_stored, rendered}
 use Rattle.handlebars_worked.specs.ScopeRows.{ArrayNameRow, TwoNamesRow, ShadowRow, LastRow, KeysRow, IndicesRow, NoMembersRow, EachInverseRow, WithInverseRow, TooFarUpRow, BoundUpRow, UpRow, RecursiveRow, WholeRow, LookupRow, TextIndexRow, NumberKeyRow}

@@ -2,7 +2,7 @@
 use Rattle.std.proofs.Common.{refl, true, false, codes}
 use Rattle.std.specs.Fmt.{digits}
 use Rattle.handlebars_worked.proofs.SourceRows as compiling
-use Rattle.handlebars_scope.specs.Escape.{escaped}
+use Rattle.handlebars_base.specs.Escape.{escaped}
 use Rattle.handlebars_meaning.specs.Steps.{◌>>=◌, ◌>>◌}
 use Rattle.handlebars_meaning.specs.Runs.{done, wrote, set, captured}
 use Rattle.handlebars_meaning.specs.Answer.{compiles, does_not, is_stored, not_begun, rendered}

@@ -1,24 +1,26 @@
 //! Values of JSON: how they are rendered, whether they count as true, and where they come from.
 
-ghost use Rattle.std.specs.Prelude.{◌≡◌, ◌++◌, Bool, IfOk, OnOk, IsTrue, ◌↔◌, string_bytes, true, false, option_map, map, Some};
+ghost use Rattle.std.specs.Prelude.{◌≡◌, Bool, IfOk, IsTrue, ◌↔◌, string_bytes, true, false, option_map, map, Some};
 ghost use Rattle.handlebars_base.specs.Bytes.{Text};
 ghost use Rattle.serde_json.specs.Find.{as_str};
-ghost use Rattle.serde_json.specs.View.{view, number_view, items_view};
-ghost use Rattle.handlebars_base.specs.Values.{rendered, rendered_items, rendered_number, truth, truth_of_number};
+ghost use Rattle.serde_json.specs.View.{view, number_view};
+ghost use Rattle.handlebars_base.specs.Values.{rendered, truth, truth_of_number};
 ghost use Rattle.handlebars_base.specs.Scoped.{found_of, data_in, present_in, path_in, derived_in, missing, value};
 
 mod convert;
 mod equality;
 mod order;
 mod path_and_json;
+mod write;
 
+use crate::output::StringOutput;
 pub use convert::to_json;
 pub use equality::equal;
 pub use order::compare;
 pub use path_and_json::PathAndJson;
 use serde_json::{Number, Value};
 use std::alloc::{AllocError, Global};
-use std::fmt::Write;
+pub use write::write_value;
 
 /// A value of JSON.
 pub type Json = Value;
@@ -113,9 +115,12 @@ impl JsonRender for Value {
     ghost renders_as = { λ v. rendered (view v) };
 
     fn render(&self, alloc: Global) -> Result<String, AllocError> {
-        let mut out = String::new(alloc);
-        push_value(self, &mut out)?;
-        Ok(out)
+        let mut out = StringOutput::new(alloc);
+        match write_value(&mut out, self, false) {
+            Ok(()) => Ok(out.into_string()),
+            // An output in memory fails only for want of it.
+            Err(_) => Err(AllocError),
+        }
     }
 }
 
@@ -151,52 +156,4 @@ fn counts(number: &Number, include_zero: bool) -> bool
         return false;
     }
     include_zero || number.as_u64() != Some(0)
-}
-
-#[cycle(push)]
-fn push_value(value: &Value, out: &mut String) -> Result<(), AllocError>
-    ensures { OnOk result (string_bytes out.new ≡ string_bytes out.old ++ rendered (view value.now)) }
-{
-    match value {
-        Value::Null => Ok(()),
-        Value::Bool(true) => out.push_str("true"),
-        Value::Bool(false) => out.push_str("false"),
-        Value::Number(n) => push_number(n, out),
-        Value::String(s) => out.push_str(s.as_str()),
-        Value::Array(items) => {
-            out.push_str("[")?;
-            push_items(items, out)?;
-            out.push_str("]")
-        }
-        Value::Object(_) => out.push_str("[object]"),
-    }
-}
-
-#[cycle(push)]
-fn push_items(items: &Vec<Value>, out: &mut String) -> Result<(), AllocError>
-    ensures { OnOk result (string_bytes out.new
-        ≡ string_bytes out.old ++ rendered_items true (items_view items.now.items)) }
-{
-    let mut first = true;
-    for item in items {
-        if !first {
-            out.push_str(", ")?;
-        }
-        push_value(item, out)?;
-        first = false;
-    }
-    Ok(())
-}
-
-// A number outside the range counts as null.
-fn push_number(number: &Number, out: &mut String) -> Result<(), AllocError>
-    ensures { OnOk result (string_bytes out.new ≡ string_bytes out.old ++ rendered_number (number_view number.now)) }
-{
-    if let Some(x) = number.as_u64() {
-        write!(out, "{x}")
-    } else if let Some(x) = number.as_i64() {
-        write!(out, "{x}")
-    } else {
-        Ok(())
-    }
 }

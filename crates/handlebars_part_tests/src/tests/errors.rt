@@ -5,7 +5,7 @@ use handlebars_base::error::{
     RenderError, RenderErrorReason as Reason, TemplateError, TemplateErrorReason as Broken,
 };
 use handlebars_base::json::value::Json;
-use handlebars_scope::output::output_fault;
+use handlebars_base::output::output_fault;
 use std::alloc::{AllocError, Global};
 use std::fmt::Display;
 use std::io;

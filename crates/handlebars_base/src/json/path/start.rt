@@ -3,7 +3,7 @@
 ghost use Rattle.std.specs.Prelude.{◌≡◌, ◌++◌, IfOk, OnOk};
 ghost use Rattle.std.specs.Option.{option_map};
 ghost use Rattle.handlebars_base.specs.PathView.{segments_of, start_of, started_at, reference_of};
-ghost use Rattle.handlebars_base.specs.PathReading.{named_at, unnamed_at, dot_start, start_at, links_behind, start_segments, start_meaning, ups_at};
+ghost use Rattle.handlebars_base.specs.PathReading.{at_sign_start, start_without_at_sign, dot_start, start_at, links_behind, start_segments, start_meaning, ups_at};
 
 use super::links::{Part, behind_links, is_up, part_at, push, push_links};
 use super::marks::{after, symbols, ups};
@@ -21,9 +21,9 @@ pub enum Start<'a> {
 }
 
 /// What follows `@`: the root, or a variable of a block.
-#[tactic(auto, unfolding(crate::specs::PathReading::named_at))]
-fn named_at(text: &str) -> Option<(Start<'_>, &str)>
-    ensures { option_map started_at result ≡ named_at (ups_at 0 text.now) }
+#[tactic(auto, unfolding(crate::specs::PathReading::at_sign_start))]
+fn at_sign_start(text: &str) -> Option<(Start<'_>, &str)>
+    ensures { option_map started_at result ≡ at_sign_start (ups_at 0 text.now) }
 {
     let (level, rest) = ups(text);
     let (name, rest) = symbols(rest);
@@ -48,9 +48,9 @@ fn dot_start(text: &str) -> Option<(Start<'_>, &str)>
 }
 
 /// The start of a path with no `@`.
-#[tactic(auto, unfolding(crate::specs::PathReading::unnamed_at))]
-fn unnamed_at(text: &str) -> Option<(Start<'_>, &str)>
-    ensures { option_map started_at result ≡ unnamed_at text.now }
+#[tactic(auto, unfolding(crate::specs::PathReading::start_without_at_sign))]
+fn start_without_at_sign(text: &str) -> Option<(Start<'_>, &str)>
+    ensures { option_map started_at result ≡ start_without_at_sign text.now }
 {
     if let Some((first, rest)) = part_at(text) {
         return Some((Start::Part(first), rest));
@@ -64,8 +64,8 @@ pub fn start_at(text: &str) -> Option<(Start<'_>, &str)>
     ensures { option_map started_at result ≡ start_at text.now }
 {
     match after(b'@', text) {
-        Some(rest) => named_at(rest),
-        None => unnamed_at(text),
+        Some(rest) => at_sign_start(rest),
+        None => start_without_at_sign(text),
     }
 }
 

@@ -1,4 +1,4 @@
-use Rattle.handlebars_scope.proofs.Values.{view-Number}
+use Rattle.handlebars_base.proofs.ShownValues.{view-Number}
 use Rattle.handlebars_render.proofs.write.write_count.Goals as goal
 
 pub returns-clause-puts : goal.returns-clause-puts

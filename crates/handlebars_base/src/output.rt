@@ -1,0 +1,99 @@
+//! Where a rendering writes.
+
+ghost use Rattle.std.specs.Prelude.{◌≡◌, ◌≢◌, IfErr, IfOk, OnErr, string_bytes};
+ghost use Rattle.std.specs.IoError.{error_kind};
+ghost use Rattle.std.specs.declared.io.Error.{Error};
+ghost use Rattle.std.specs.declared.io.ErrorKind.TheVariants.{OutOfMemory};
+ghost use Rattle.handlebars_base.specs.RenderRefusals.{cause_of, refusal_of, plain_refusal};
+ghost use Rattle.handlebars_base.specs.Outputs.{Held, nothing, Written, held_of, write_reason};
+
+use crate::error::{RenderError, RenderErrorReason};
+use std::alloc::{AllocError, Global};
+use std::io;
+use std::io::ErrorKind;
+
+/// Takes the text of a rendering, segment by segment.
+pub trait Output {
+    // What has been written, and how many writes have failed.
+    ghost held: { Self → Held };
+
+    // The errors that a write may give: any, where the output does not say.
+    ghost may_give: { Error → Type 0 } = { λ _. Unit {0} };
+
+    /// Writes a segment. Where that fails, a beginning of the segment may have been written. To write
+    /// nothing never fails.
+    fn write(&mut self, seg: &str) -> Result<(), io::Error>
+        ensures written { Written seg.now (held self.old) result (held self.new) }
+        ensures given { IfErr result may_give };
+}
+
+/// Keeps the text. A write fails only for want of memory, and then nothing of it is kept.
+#[derive(Drop)]
+pub struct StringOutput {
+    text: String,
+    faults: u64,
+}
+
+impl StringOutput {
+    /// Nothing yet; this takes no memory.
+    pub fn new(alloc: Global) -> StringOutput
+        ensures { held_of result ≡ nothing }
+    {
+        StringOutput {
+            text: String::new(alloc),
+            faults: 0,
+        }
+    }
+
+    // Nothing yet, with room for a text of so many bytes.
+    pub(crate) fn with_capacity(alloc: Global, capacity: usize) -> Result<StringOutput, AllocError>
+        ensures { IfOk result (λ o. held_of o ≡ nothing) }
+    {
+        Ok(StringOutput {
+            text: String::with_capacity(alloc, capacity)?,
+            faults: 0,
+        })
+    }
+
+    /// All that was written.
+    pub fn into_string(self) -> String
+        ensures { string_bytes result ≡ (held_of self).text }
+    {
+        self.text
+    }
+}
+
+impl Output for StringOutput {
+    ghost held = { held_of };
+
+    ghost may_give = { λ e. error_kind e ≡ OutOfMemory };
+
+    fn write(&mut self, seg: &str) -> Result<(), io::Error>
+        ensures written { Written seg.now (held_of self.old) result (held_of self.new) }
+        ensures given { IfErr result (λ e. error_kind e ≡ OutOfMemory) }
+        ensures whole { OnErr result ((held_of self.new).text ≡ (held_of self.old).text) }
+    {
+        if seg.is_empty() {
+            return Ok(());
+        }
+        match self.text.push_str(seg) {
+            Ok(()) => Ok(()),
+            Err(cause) => {
+                self.faults = self.faults.saturating_add(1);
+                Err(cause.into())
+            }
+        }
+    }
+}
+
+/// The refusal for a write that failed: `OutOfMemory` for want of memory, and else `IOError` of the
+/// cause.
+pub fn output_fault(cause: io::Error) -> RenderError
+    ensures refusal { refusal_of result ≡ plain_refusal (write_reason (error_kind cause)) }
+    ensures cause { error_kind cause ≢ OutOfMemory → cause_of result ≡ RenderErrorReason.IOError cause }
+{
+    match cause.kind() {
+        ErrorKind::OutOfMemory => RenderErrorReason::OutOfMemory.into(),
+        _ => RenderError::from(RenderErrorReason::IOError(cause)),
+    }
+}

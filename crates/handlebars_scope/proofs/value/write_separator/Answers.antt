@@ -1,5 +1,0 @@
-use Rattle.handlebars_scope.proofs.Writes.{whole-nil}
-use Rattle.handlebars_scope.proofs.value.write_separator.Goals as goal
-
-pub returns-then-first-clause-written : goal.returns-then-first-clause-written
-returns-then-first-clause-written g c = rw c.if-first.true (whole-nil _)
