@@ -10,6 +10,7 @@ pub mod JsonOf
 pub mod LiteralLoop
 pub mod Endings
 pub mod LineMarks
+pub mod CloseNames
 pub mod Bindings
 pub mod LineFronts
 pub mod LineEnds

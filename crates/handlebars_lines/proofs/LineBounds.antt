@@ -1,13 +1,13 @@
 -- How far a step of a line goes, and how high.
-use Rattle.std.proofs.Common.{◌≡◌, ℕ, suc, ◌+◌, ◌<◌, ◌≤◌, List, ◌∷◌, ◌++◌, length, Option, Some, None, sym, ap, ◌∙◌, append_assoc, arith, length-append}
+use Rattle.std.proofs.Common.{◌≡◌, ◌≢◌, ℕ, suc, ◌+◌, ◌<◌, ◌≤◌, List, [], ◌∷◌, ◌++◌, length, Option, Some, None, refl, sym, ap, ◌∙◌, append_assoc, arith, length-append}
 use Rattle.handlebars_base.proofs.Fronts.{starts-length}
 use Rattle.handlebars_lines.specs.Runs.{goes}
 use Rattle.handlebars_lines.specs.Literal.{Bracket, spelled_lead, Literal, quoted, single_quoted, number, word, empty, filled, Entries, closing, another, spelled_literal, spelled_entries, literal_depth, entries_depth}
-use Rattle.handlebars_lines.specs.Line.{Enclosure}
+use Rattle.handlebars_lines.specs.Line.{NameMode, identifier_name, value_name, close_name, IsPlainName, Enclosure}
 use Rattle.handlebars_lines.specs.LineReading.{Event, LineStand, line_step, height}
 use Rattle.handlebars_lines.proofs.Stepping.{Shortens}
 use Rattle.handlebars_lines.proofs.LineFronts.{begins_single, path_begins, literal_begins}
-use Rattle.handlebars_lines.proofs.LineSteps.{ParameterStepped, to_nested, to_literal, to_path, LineStepped, to_inner, to_name, to_parameter, to_pair, to_closed, line_stepped}
+use Rattle.handlebars_lines.proofs.LineSteps.{ParameterStepped, to_nested, to_literal, to_path, LineStepped, to_inner, to_plain, to_name, to_parameter, to_pair, to_closed, line_stepped}
 
 -- ---- a literal is as long as it is deep
 
@@ -61,10 +61,23 @@ behind_front n w r t x s' t' whole b =
 behind_key : (key u v r : List ℕ) → key ++ (u ++ 61 ∷ (v ++ r)) ≡ (key ++ (u ++ 61 ∷ v)) ++ r
 behind_key key u v r = simp append_assoc
 
+some_length : (t : List ℕ) → t ≢ [] → 0 < length t
+some_length [] some = absurd (some refl)
+some_length (b ∷ t) some = omega arith
+
+plain_length : (mode : NameMode) (t rest : List ℕ) → IsPlainName mode t rest → 0 < length t
+plain_length identifier_name t rest h = some_length t h.0
+plain_length value_name t rest h = absurd h
+plain_length close_name t rest h = some_length t h.0
+
 step_bounds : (s : LineStand) (t : List ℕ) (x : Event) (s' : LineStand) (t' : List ℕ) → LineStepped s t x s' t' → LineBounds s.level t x s' t'
-step_bounds s t x s' t' (to_inner n w is is' ev white whole) =
+step_bounds s t x s' t' (to_inner mode n w takes is is' ev white whole) =
     let long : length t ≡ suc (length w + length t') = ap length whole ∙ omega (arith, length-append w t') in
     rw (is, is', ev) (record { shorter = omega arith; level_within = omega arith; height_within = omega arith })
+step_bounds s t x s' t' (to_plain mode n raw is is' ev whole h) =
+    let long = ap length whole ∙ length-append raw t' in
+    let first = plain_length mode raw t' h in
+    rw (is, is', ev) (record { shorter = omega (arith, long, first); level_within = omega (arith, long, first); height_within = omega (arith, long, first) })
 step_bounds s t x s' t' (to_name n raw means is is' ev whole h) =
     let long = ap length whole ∙ length-append raw t' in
     let first = starts-length begins_single raw (path_begins raw means h) in

@@ -1,9 +1,10 @@
 -- What the steps find of a line tells how deep it is, and what it means.
 use Rattle.std.proofs.Common.{◌≡◌, ℕ, suc, ◌+◌, ◌≤◌, List, [], ◌∷◌, ◌++◌, Option, Some, None, refl, sym, ap, ◌∙◌, append_assoc, arith, max}
 use Rattle.handlebars_base.proofs.PathShapes.{path_known}
-use Rattle.handlebars_lines.specs.Parameter.{Term, Terms, no_terms, term, TermShape, literal_shape, path_shape, nested_shape, Items, no_items, parameter_item, pair_item, Fits, AreItems, term_of, terms_of, depth_of, items_depth}
+use Rattle.handlebars_lines.specs.Parameter.{Term, Terms, no_terms, term, name_term, TermShape, literal_shape, path_shape, nested_shape, Items, no_items, parameter_item, pair_item, Fits, AreItems, term_of, terms_of, depth_of, items_depth}
+use Rattle.handlebars_lines.specs.Line.{NameMode, NameShape, plain_name, term_name, IsName, term_of_name, name_depth}
 use Rattle.handlebars_lines.specs.LineReading.{Event, closed, most_open, OpenLine, joined, begun_line, add_term, OpenLines, first_lines, build_all}
-use Rattle.handlebars_lines.proofs.LinesRead.{events, item_events}
+use Rattle.handlebars_lines.proofs.LinesRead.{events, item_events, name_events}
 
 -- ---- what is found of a line in parentheses, in front of more
 
@@ -41,11 +42,14 @@ mutual
       ∙ most_open-items more n (max m (n + depth_of p)) xs (omega arith)
       ∙ ap (λ (z : ℕ). most_open z xs) e
 
-pub most_open-line : (name : TermShape) (items : Items) → most_open 0 (events 0 None name ++ (item_events 0 items ++ [])) ≡ max (depth_of name) (items_depth items)
-most_open-line name items =
-    let e : max (max 0 (0 + depth_of name)) (0 + items_depth items) ≡ max (depth_of name) (items_depth items) = omega arith in
-    most_open-shape name None 0 0 (item_events 0 items ++ [])
-    ∙ most_open-items items 0 (max 0 (0 + depth_of name)) [] (omega arith)
+pub most_open-line : (name : NameShape) (items : Items) → most_open 0 (name_events 0 name ++ (item_events 0 items ++ [])) ≡ max (name_depth name) (items_depth items)
+most_open-line (plain_name t) items =
+    let e : max 0 (0 + items_depth items) ≡ max 0 (items_depth items) = omega arith in
+    most_open-items items 0 0 [] (omega arith) ∙ e
+most_open-line (term_name p) items =
+    let e : max (max 0 (0 + depth_of p)) (0 + items_depth items) ≡ max (depth_of p) (items_depth items) = omega arith in
+    most_open-shape p None 0 0 (item_events 0 items ++ [])
+    ∙ most_open-items items 0 (max 0 (0 + depth_of p)) [] (omega arith)
     ∙ e
 
 -- ---- what it means
@@ -92,7 +96,8 @@ mutual
       ∙ build-items more rest fits.7 n key name (joined terms (term (Some k) (term_of p) no_terms)) fs xs
       ∙ ap (λ (z : Terms). build_all (lines_around (named_line key name z) fs) xs) (joined-assoc terms (term (Some k) (term_of p) no_terms) (terms_of more))
 
-pub build-line : (name : TermShape) (items : Items) (t left : List ℕ) → Fits name t → AreItems items left → build_all first_lines (events 0 None name ++ (item_events 0 items ++ [])) ≡ Some (whole_lines (term_of name) (terms_of items))
-build-line name items t left fits are_items =
-    build-shape name t fits None 0 (begun_line None) [] (item_events 0 items ++ [])
-    ∙ build-items items left are_items 0 None (term_of name) no_terms [] []
+pub build-line : (mode : NameMode) (name : NameShape) (items : Items) (t left : List ℕ) → IsName mode name items t → AreItems items left → build_all first_lines (name_events 0 name ++ (item_events 0 items ++ [])) ≡ Some (whole_lines (term_of_name name) (terms_of items))
+build-line mode (plain_name raw) items t left named are_items = build-items items left are_items 0 None (name_term raw) no_terms [] []
+build-line mode (term_name p) items t left named are_items =
+    build-shape p t named.1 None 0 (begun_line None) [] (item_events 0 items ++ [])
+    ∙ build-items items left are_items 0 None (term_of p) no_terms [] []

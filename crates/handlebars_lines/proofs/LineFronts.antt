@@ -199,7 +199,7 @@ follows_stops t f = starts_stops t f.first
 no_symbol : (b : ℕ) → starts_reference b ≡ false → is_symbol b ≡ false
 no_symbol b h = (or_parts (is_symbol b) _ (or_parts (is_reference_byte b) (b == 91) h).0).0
 
-follows_no_symbol : (t : List ℕ) → Follows t → starts is_symbol t ≡ false
+pub follows_no_symbol : (t : List ℕ) → Follows t → starts is_symbol t ≡ false
 follows_no_symbol t f = starts-other closes_byte is_symbol t (λ b is. no_symbol b (closes_stops b is)) f.first
 
 -- ---- no key stands where a parameter does

@@ -1,18 +1,25 @@
 -- What each step of a line takes from the text, and how far it goes.
-use Rattle.std.proofs.Common.{◌≡◌, ◌≢◌, ℕ, zero, suc, ◌+◌, ◌-◌, Bool, true, false, cond, List, [], ◌∷◌, ◌++◌, Option, Some, None, refl, sym, ap, subst, ◌∙◌, arith, inl, inr}
+use Rattle.std.proofs.Common.{◌≡◌, ◌≢◌, ℕ, zero, suc, ◌+◌, ◌-◌, Bool, true, false, cond, List, [], ◌∷◌, ◌++◌, length, Option, Some, None, refl, sym, ap, subst, ◌∙◌, arith, inl, inr}
+use Rattle.std.specs.Prelude.{◌==◌}
+use Rattle.std.specs.List.{prefix_len}
+use Rattle.std.proofs.lemmas.Bool.{false≢true}
+use Rattle.std.proofs.lemmas.List.{take-append-drop}
 use Rattle.std.proofs.Math.Dec.{eqb-suc-zero}
-use Rattle.handlebars_base.specs.Bytes.{is_white, behind_white}
+use Rattle.handlebars_base.specs.Bytes.{is_white, behind_white, is_symbol}
 use Rattle.handlebars_base.specs.Path.{IsIdentifier, Reference, IsPath}
 use Rattle.handlebars_base.specs.PathReading.{slice_at}
 use Rattle.handlebars_base.specs.Optional.{with_or}
 use Rattle.handlebars_base.proofs.OptionBinds.{with_or_is, cond_is}
 use Rattle.handlebars_base.proofs.Fronts.{after_takes, behind_white-skips, white_some, dark_behind}
-use Rattle.handlebars_base.specs.Texts.{IsWhite, starts, after}
+use Rattle.handlebars_base.specs.Texts.{IsWhite, starts, after, symbols_of, behind_symbols}
+use Rattle.handlebars_base.proofs.Runs.{prefix_pass}
 use Rattle.handlebars_lines.specs.Runs.{Next, goes, ends, stuck}
 use Rattle.handlebars_lines.specs.Literal.{Literal, spelled_literal, literal_depth, IsLiteralAt}
 use Rattle.handlebars_lines.specs.LiteralReading.{LiteralSlice, literal_at}
-use Rattle.handlebars_lines.specs.Line.{Enclosure, is_end, Closes}
-use Rattle.handlebars_lines.specs.LineReading.{Event, opened, literal_event, path_event, closed, Stand, at_name, at_items, at_end, LineStand, line_stand, key_and_equals_at, behind_name, open_step, name_step, is_excluded, path_step, parameter_step, item_step, next_step, outer_step, inner_step, behind_step, line_step}
+use Rattle.handlebars_lines.specs.Line.{NameMode, identifier_name, value_name, close_name, IsPlainName, Enclosure, is_end, Closes}
+use Rattle.handlebars_lines.specs.LineReading.{Event, opened, literal_event, path_event, name_event, closed, Stand, at_name, at_items, at_end, LineStand, line_stand, key_and_equals_at, behind_name, open_step, plain_step, value_step, name_step, is_excluded, path_step, parameter_step, item_step, next_step, outer_step, inner_step, behind_step, line_step}
+use Rattle.handlebars_lines.specs.CloseName.{close_name_at}
+use Rattle.handlebars_lines.proofs.CloseNames.{close_name-whole}
 use Rattle.handlebars_lines.proofs.Stepping.{goes-parts}
 use Rattle.handlebars_lines.proofs.Endings.{goes-not_stuck, goes-not_ends}
 use Rattle.handlebars_lines.proofs.LiteralsFound.{literal_at-some}
@@ -21,16 +28,28 @@ use Rattle.handlebars_lines.proofs.LineMarks.{slice_at-some, key_and_equals_at-s
 -- ---- what a step takes
 
 pub data ParameterStepped (key : Option (List ℕ)) (n : ℕ) (t : List ℕ) (x : Event) (s' : LineStand) (t' : List ℕ) : Type 0 where
-  to_nested : (w : List ℕ) → s' ≡ line_stand at_name (suc n) → x ≡ opened key (suc n) → IsWhite w → t ≡ 40 ∷ (w ++ t') → ParameterStepped key n t x s' t'
+  to_nested : (w : List ℕ) → s' ≡ line_stand (at_name value_name) (suc n) → x ≡ opened key (suc n) → IsWhite w → t ≡ 40 ∷ (w ++ t') → ParameterStepped key n t x s' t'
   to_literal : (l : Literal) → s' ≡ line_stand at_items n → x ≡ literal_event key (spelled_literal l) (n + literal_depth l) → IsLiteralAt t l t' → ParameterStepped key n t x s' t'
   to_path : (raw : List ℕ) (means : Reference) → s' ≡ line_stand at_items n → x ≡ path_event key raw n → t ≡ raw ++ t' → IsPath raw means → literal_at t ≡ None → is_excluded key raw ≡ false → ParameterStepped key n t x s' t'
 
+-- a line in parentheses may be the name
+abbrev pub takes_parentheses : NameMode → Bool
+takes_parentheses identifier_name = false
+takes_parentheses value_name = true
+takes_parentheses close_name = true
+
+abbrev pub is_at_name : Stand → Bool
+is_at_name (at_name mode) = true
+is_at_name at_items = false
+is_at_name at_end = false
+
 pub data LineStepped (s : LineStand) (t : List ℕ) (x : Event) (s' : LineStand) (t' : List ℕ) : Type 0 where
-  to_inner : (n : ℕ) (w : List ℕ) → s ≡ line_stand at_name n → s' ≡ line_stand at_name (suc n) → x ≡ opened None (suc n) → IsWhite w → t ≡ 40 ∷ (w ++ t') → LineStepped s t x s' t'
-  to_name : (n : ℕ) (raw : List ℕ) (means : Reference) → s ≡ line_stand at_name n → s' ≡ line_stand (behind_name raw) n → x ≡ path_event None raw n → t ≡ raw ++ t' → IsPath raw means → LineStepped s t x s' t'
+  to_inner : (mode : NameMode) (n : ℕ) (w : List ℕ) → takes_parentheses mode ≡ true → s ≡ line_stand (at_name mode) n → s' ≡ line_stand (at_name value_name) (suc n) → x ≡ opened None (suc n) → IsWhite w → t ≡ 40 ∷ (w ++ t') → LineStepped s t x s' t'
+  to_plain : (mode : NameMode) (n : ℕ) (raw : List ℕ) → s ≡ line_stand (at_name mode) n → s' ≡ line_stand at_items n → x ≡ name_event raw → t ≡ raw ++ t' → IsPlainName mode raw t' → LineStepped s t x s' t'
+  to_name : (n : ℕ) (raw : List ℕ) (means : Reference) → s ≡ line_stand (at_name value_name) n → s' ≡ line_stand (behind_name raw) n → x ≡ path_event None raw n → t ≡ raw ++ t' → IsPath raw means → LineStepped s t x s' t'
   to_parameter : (n : ℕ) (w r : List ℕ) → s ≡ line_stand at_items n → IsWhite w → w ≢ [] → t ≡ w ++ r → ParameterStepped None n r x s' t' → LineStepped s t x s' t'
   to_pair : (n : ℕ) (w key u v r : List ℕ) → s ≡ line_stand at_items n → IsWhite w → w ≢ [] → IsIdentifier key → IsWhite u → IsWhite v → t ≡ w ++ (key ++ (u ++ 61 ∷ (v ++ r))) → ParameterStepped (Some key) n r x s' t' → LineStepped s t x s' t'
-  to_closed : (n : ℕ) (st : Stand) (w : List ℕ) → s ≡ line_stand st (suc n) → (st ≡ at_name → ⊥) → s' ≡ line_stand at_items n → x ≡ closed → IsWhite w → t ≡ w ++ 41 ∷ t' → LineStepped s t x s' t'
+  to_closed : (n : ℕ) (st : Stand) (w : List ℕ) → s ≡ line_stand st (suc n) → is_at_name st ≡ false → s' ≡ line_stand at_items n → x ≡ closed → IsWhite w → t ≡ w ++ 41 ∷ t' → LineStepped s t x s' t'
 
 abbrev literal_goes : Option (List ℕ) → ℕ → LiteralSlice → Next Event LineStand
 literal_goes key n l = goes (literal_event key l.raw (n + l.depth)) (line_stand at_items n) l.rest
@@ -57,7 +76,7 @@ parameter_stepped : (key : Option (List ℕ)) (n : ℕ) (t : List ℕ) (x : Even
 unfolding parameter_step
 parameter_stepped key n t x s' t' e = elim (with_or_is (after 40 t) (open_step key n) (with_or (literal_at t) (literal_goes key n) (path_step key n t)) (goes x s' t') e) [
   | inl inner ↦
-      let same = goes-parts (opened key (suc n)) x (line_stand at_name (suc n)) s' (behind_white inner.0) t' inner.2 in
+      let same = goes-parts (opened key (suc n)) x (line_stand (at_name value_name) (suc n)) s' (behind_white inner.0) t' inner.2 in
       let white = behind_white-skips inner.0 in
       to_nested white.white (sym same.states) (sym same.events) white.is
       (after_takes 40 t inner.0 inner.1 ∙ ap (λ (z : List ℕ). 40 ∷ z) (white.whole ∙ ap (λ (z : List ℕ). white.white ++ z) same.lefts))
@@ -73,21 +92,50 @@ parameter_stepped key n t x s' t' e = elim (with_or_is (after 40 t) (open_step k
   ]
 ]
 
-name_stepped : (n : ℕ) (t : List ℕ) (x : Event) (s' : LineStand) (t' : List ℕ) → name_step n t ≡ goes x s' t' → LineStepped (line_stand at_name n) t x s' t'
+opened_stepped : (mode : NameMode) (n : ℕ) (t r : List ℕ) (x : Event) (s' : LineStand) (t' : List ℕ) → takes_parentheses mode ≡ true → after 40 t ≡ Some r → open_step None n r ≡ goes x s' t' → LineStepped (line_stand (at_name mode) n) t x s' t'
+opened_stepped mode n t r x s' t' takes is e =
+    let same = goes-parts (opened None (suc n)) x (line_stand (at_name value_name) (suc n)) s' (behind_white r) t' e in
+    let white = behind_white-skips r in
+    to_inner mode n white.white takes refl (sym same.states) (sym same.events) white.is
+    (after_takes 40 t r is ∙ ap (λ (z : List ℕ). 40 ∷ z) (white.whole ∙ ap (λ (z : List ℕ). white.white ++ z) same.lefts))
+
+plain_stepped : (mode : NameMode) (n : ℕ) (t : List ℕ) (p : List ℕ × List ℕ) (x : Event) (s' : LineStand) (t' : List ℕ) → t ≡ p.0 ++ p.1 → (p.0 ≢ [] → IsPlainName mode p.0 p.1) → plain_step n p ≡ goes x s' t' → LineStepped (line_stand (at_name mode) n) t x s' t'
+plain_stepped mode n t p x s' t' whole is e = elim (cond_is (length p.0 == 0) stuck (goes (name_event p.0) (line_stand at_items n) p.1) (goes x s' t') e) [
+  | inl fails ↦ goes-not_stuck (goes x s' t') x s' t' refl (sym fails.1)
+  | inr found ↦
+      let same = goes-parts (name_event p.0) x (line_stand at_items n) s' p.1 t' found.1 in
+      let some : p.0 ≢ [] = λ none. false≢true (sym found.0 ∙ ap (λ (z : List ℕ). length z == 0) none) in
+      to_plain mode n p.0 refl (sym same.states) (sym same.events) (whole ∙ ap (λ (z : List ℕ). p.0 ++ z) same.lefts)
+      (subst (IsPlainName mode p.0) same.lefts (is some))
+]
+
+value_stepped : (n : ℕ) (t : List ℕ) (x : Event) (s' : LineStand) (t' : List ℕ) → value_step n t ≡ goes x s' t' → LineStepped (line_stand (at_name value_name) n) t x s' t'
+value_stepped n t x s' t' e = elim (with_or_is (slice_at t) (name_goes n) stuck (goes x s' t') e) [
+  | inl found ↦
+      let p = slice_at-some t found.0 found.1 in
+      let same = goes-parts (path_event None found.0.0 n) x (line_stand (behind_name found.0.0) n) s' found.0.1 t' found.2 in
+      to_name n found.0.0 p.means refl (sym same.states) (sym same.events) (p.whole ∙ ap (λ (z : List ℕ). found.0.0 ++ z) same.lefts) p.is
+  | inr fails ↦ goes-not_stuck (goes x s' t') x s' t' refl (sym fails.1)
+]
+
+-- the two parts of what begins with a close name
+close_parts : (t name rest : List ℕ) → close_name_at t ≡ (name, rest) → t ≡ name ++ rest
+close_parts t name rest e = close_name-whole t ∙ ap (λ (z : List ℕ × List ℕ). z.0 ++ z.1) e
+
+close_is : (t : List ℕ) (p : List ℕ × List ℕ) → close_name_at t ≡ p → p.0 ≢ [] → IsPlainName close_name p.0 p.1
+close_is t p e some = (some, ap close_name_at (sym (close_parts t p.0 p.1 e)) ∙ e)
+
+name_stepped : (mode : NameMode) (n : ℕ) (t : List ℕ) (x : Event) (s' : LineStand) (t' : List ℕ) → name_step mode n t ≡ goes x s' t' → LineStepped (line_stand (at_name mode) n) t x s' t'
 unfolding name_step
-name_stepped n t x s' t' e = elim (with_or_is (after 40 t) (open_step None n) (with_or (slice_at t) (name_goes n) stuck) (goes x s' t') e) [
-  | inl inner ↦
-      let same = goes-parts (opened None (suc n)) x (line_stand at_name (suc n)) s' (behind_white inner.0) t' inner.2 in
-      let white = behind_white-skips inner.0 in
-      to_inner n white.white refl (sym same.states) (sym same.events) white.is
-      (after_takes 40 t inner.0 inner.1 ∙ ap (λ (z : List ℕ). 40 ∷ z) (white.whole ∙ ap (λ (z : List ℕ). white.white ++ z) same.lefts))
-  | inr name ↦ elim (with_or_is (slice_at t) (name_goes n) stuck (goes x s' t') name.1) [
-    | inl found ↦
-        let p = slice_at-some t found.0 found.1 in
-        let same = goes-parts (path_event None found.0.0 n) x (line_stand (behind_name found.0.0) n) s' found.0.1 t' found.2 in
-        to_name n found.0.0 p.means refl (sym same.states) (sym same.events) (p.whole ∙ ap (λ (z : List ℕ). found.0.0 ++ z) same.lefts) p.is
-    | inr fails ↦ goes-not_stuck (goes x s' t') x s' t' refl (sym fails.1)
-  ]
+name_stepped identifier_name n t x s' t' e =
+    plain_stepped identifier_name n t (symbols_of t, behind_symbols t) x s' t' (sym (take-append-drop (prefix_len is_symbol t) t)) (λ some. (some, prefix_pass is_symbol t)) e
+name_stepped value_name n t x s' t' e = elim (with_or_is (after 40 t) (open_step None n) (value_step n t) (goes x s' t') e) [
+  | inl inner ↦ opened_stepped value_name n t inner.0 x s' t' refl inner.1 inner.2
+  | inr name ↦ value_stepped n t x s' t' name.1
+]
+name_stepped close_name n t x s' t' e = elim (with_or_is (after 40 t) (open_step None n) (plain_step n (close_name_at t)) (goes x s' t') e) [
+  | inl inner ↦ opened_stepped close_name n t inner.0 x s' t' refl inner.1 inner.2
+  | inr name ↦ plain_stepped close_name n t (close_name_at t) x s' t' (close_name-whole t) (close_is t (close_name_at t) refl) name.1
 ]
 
 -- ---- behind white
@@ -107,7 +155,7 @@ item_stepped n t x s' t' white e =
     ]
 
 next_stepped : (st : Stand) (n : ℕ) (t : List ℕ) (x : Event) (s' : LineStand) (t' : List ℕ) → next_step st n t ≡ goes x s' t' → LineStepped (line_stand st n) t x s' t'
-next_stepped at_name n t x s' t' e = goes-not_stuck (goes x s' t') x s' t' refl (sym e)
+next_stepped (at_name mode) n t x s' t' e = goes-not_stuck (goes x s' t') x s' t' refl (sym e)
 next_stepped at_end n t x s' t' e = goes-not_stuck (goes x s' t') x s' t' refl (sym e)
 next_stepped at_items n t x s' t' e = on (starts is_white t) refl e
   where
@@ -123,7 +171,7 @@ outer_stepped around st t x s' t' e = elim (cond_is (is_end around t) ends (next
   | inr item ↦ next_stepped st 0 t x s' t' item.1
 ]
 
-inner_stepped : (st : Stand) (n : ℕ) (t : List ℕ) (x : Event) (s' : LineStand) (t' : List ℕ) → (st ≡ at_name → ⊥) → inner_step st (suc n) t ≡ goes x s' t' → LineStepped (line_stand st (suc n)) t x s' t'
+inner_stepped : (st : Stand) (n : ℕ) (t : List ℕ) (x : Event) (s' : LineStand) (t' : List ℕ) → is_at_name st ≡ false → inner_step st (suc n) t ≡ goes x s' t' → LineStepped (line_stand st (suc n)) t x s' t'
 inner_stepped st n t x s' t' other e = elim (with_or_is (after 41 (behind_white t)) (λ r. goes closed (line_stand at_items (suc n - 1)) r) (next_step st (suc n) t) (goes x s' t') e) [
   | inl shut ↦
       let same = goes-parts closed x (line_stand at_items (suc n - 1)) s' shut.0 t' shut.2 in
@@ -134,7 +182,7 @@ inner_stepped st n t x s' t' other e = elim (with_or_is (after 41 (behind_white 
   | inr item ↦ next_stepped st (suc n) t x s' t' item.1
 ]
 
-behind_stepped : (around : Enclosure) (st : Stand) (n : ℕ) (t : List ℕ) (x : Event) (s' : LineStand) (t' : List ℕ) → (st ≡ at_name → ⊥) → behind_step around st n t ≡ goes x s' t' → LineStepped (line_stand st n) t x s' t'
+behind_stepped : (around : Enclosure) (st : Stand) (n : ℕ) (t : List ℕ) (x : Event) (s' : LineStand) (t' : List ℕ) → is_at_name st ≡ false → behind_step around st n t ≡ goes x s' t' → LineStepped (line_stand st n) t x s' t'
 unfolding behind_step
 behind_stepped around st zero t x s' t' other e = outer_stepped around st t x s' t' e
 behind_stepped around st (suc n) t x s' t' other e = inner_stepped st n t x s' t' other (rw (eqb-suc-zero n) at e)
@@ -144,9 +192,9 @@ unfolding line_step
 line_stepped around s t x s' t' e = on s.stand s.level e
   where
     on : (st : Stand) (n : ℕ) → line_step around (line_stand st n) t ≡ goes x s' t' → LineStepped (line_stand st n) t x s' t'
-    on at_name n e = name_stepped n t x s' t' e
-    on at_items n e = behind_stepped around at_items n t x s' t' (λ same. absurd cc) e
-    on at_end n e = behind_stepped around at_end n t x s' t' (λ same. absurd cc) e
+    on (at_name mode) n e = name_stepped mode n t x s' t' e
+    on at_items n e = behind_stepped around at_items n t x s' t' refl e
+    on at_end n e = behind_stepped around at_end n t x s' t' refl e
 
 -- ---- the end
 
@@ -173,14 +221,29 @@ parameter_ends key n t = on (after 40 t) (literal_at t) (slice_at t)
     on None None None = refl
     on None None (Some p) = path_goes_on key n p (is_excluded key p.0)
 
-name_ends : (n : ℕ) (t : List ℕ) → is_ends (name_step n t) ≡ false
-unfolding name_step
-name_ends n t = on (after 40 t) (slice_at t)
+plain_ends : (n : ℕ) (p : List ℕ × List ℕ) → is_ends (plain_step n p) ≡ false
+plain_ends n p = on (length p.0 == 0)
   where
-    on : (o : Option (List ℕ)) (q : Option (List ℕ × List ℕ)) → is_ends (with_or o (open_step None n) (with_or q (name_goes n) stuck)) ≡ false
-    on (Some r) q = refl
-    on None None = refl
-    on None (Some p) = refl
+    on : (c : Bool) → is_ends (cond c stuck (goes (name_event p.0) (line_stand at_items n) p.1)) ≡ false
+    on true = refl
+    on false = refl
+
+value_ends : (n : ℕ) (t : List ℕ) → is_ends (value_step n t) ≡ false
+value_ends n t = on (slice_at t)
+  where
+    on : (q : Option (List ℕ × List ℕ)) → is_ends (with_or q (name_goes n) stuck) ≡ false
+    on None = refl
+    on (Some p) = refl
+
+opened_ends : (n : ℕ) (o : Option (List ℕ)) (other : Next Event LineStand) → is_ends other ≡ false → is_ends (with_or o (open_step None n) other) ≡ false
+opened_ends n None other h = h
+opened_ends n (Some r) other h = refl
+
+name_ends : (mode : NameMode) (n : ℕ) (t : List ℕ) → is_ends (name_step mode n t) ≡ false
+unfolding name_step
+name_ends identifier_name n t = plain_ends n (symbols_of t, behind_symbols t)
+name_ends value_name n t = opened_ends n (after 40 t) (value_step n t) (value_ends n t)
+name_ends close_name n t = opened_ends n (after 40 t) (plain_step n (close_name_at t)) (plain_ends n (close_name_at t))
 
 item_ends : (n : ℕ) (t : List ℕ) → is_ends (item_step n t) ≡ false
 unfolding item_step
@@ -191,7 +254,7 @@ item_ends n t = on (key_and_equals_at t)
     on (Some k) = parameter_ends (Some k.0) n k.1
 
 next_ends : (st : Stand) (n : ℕ) (t : List ℕ) → is_ends (next_step st n t) ≡ false
-next_ends at_name n t = refl
+next_ends (at_name mode) n t = refl
 next_ends at_end n t = refl
 next_ends at_items n t = on (starts is_white t)
   where
@@ -219,7 +282,7 @@ behind_ends around st (suc n) t e = never_ends (inner_step st (suc n) t) (rw (eq
 
 -- At the end no parenthesis is open, no name is awaited, and what is left closes.
 pub record LineEnds (around : Enclosure) (s : LineStand) (t : List ℕ) : Type 0 where
-  pub other : s.stand ≡ at_name → ⊥
+  pub other : is_at_name s.stand ≡ false
   pub level : s.level ≡ 0
   pub closes : Closes around t
 
@@ -228,6 +291,6 @@ unfolding line_step
 line_ends around s t e = on s.stand s.level e
   where
     on : (st : Stand) (n : ℕ) → line_step around (line_stand st n) t ≡ ends → LineEnds around (line_stand st n) t
-    on at_name n e = never_ends (name_step n t) e (name_ends n t)
-    on at_items n e = let h = behind_ends around at_items n t e in record { other = λ same. absurd cc; level = h.1; closes = h.0 }
-    on at_end n e = let h = behind_ends around at_end n t e in record { other = λ same. absurd cc; level = h.1; closes = h.0 }
+    on (at_name mode) n e = never_ends (name_step mode n t) e (name_ends mode n t)
+    on at_items n e = let h = behind_ends around at_items n t e in record { other = refl; level = h.1; closes = h.0 }
+    on at_end n e = let h = behind_ends around at_end n t e in record { other = refl; level = h.1; closes = h.0 }

@@ -1,36 +1,42 @@
 -- Lines: what is spelled so is read.
-use Rattle.std.proofs.Common.{◌≡◌, ◌≢◌, ℕ, zero, suc, ◌+◌, ◌-◌, Bool, true, false, List, [], ◌∷◌, ◌++◌, Option, Some, None, refl, sym, ap, subst, ◌∙◌, append_assoc, arith}
+use Rattle.std.proofs.Common.{◌≡◌, ◌≢◌, ℕ, zero, suc, ◌+◌, ◌-◌, Bool, true, false, List, [], ◌∷◌, ◌++◌, length, Option, Some, None, refl, sym, ap, subst, ◌∙◌, append_assoc, arith}
 use Rattle.std.specs.Prelude.{◌==◌}
-use Rattle.std.specs.List.{list_all}
+use Rattle.std.specs.List.{list_all, prefix_len}
 use Rattle.std.proofs.Math.Dec.{eqb-suc-zero}
-use Rattle.std.proofs.lemmas.Bool.{eqb-true}
+use Rattle.std.proofs.lemmas.Bool.{eqb-true, false≢true}
 use Rattle.handlebars_base.specs.Bytes.{is_white, behind_white, is_symbol}
 use Rattle.handlebars_base.specs.Path.{IsIdentifier, Reference, IsPath}
 use Rattle.handlebars_base.specs.Texts.{IsWhite, starts, after}
 use Rattle.handlebars_base.proofs.Fronts.{behind_white-skips, behind_white-append, starts-other, starts-append, after-not, after-same}
 use Rattle.handlebars_base.proofs.Bytes.{other_byte}
 use Rattle.handlebars_base.proofs.Ends.{regroup_four}
+use Rattle.handlebars_base.proofs.Runs.{prefix_len-none, run-front, run-rest}
 use Rattle.handlebars_lines.specs.Runs.{goes, ends}
 use Rattle.handlebars_lines.specs.Literal.{Literal, spelled_literal, IsLiteral, literal_depth, goes_on}
 use Rattle.handlebars_lines.specs.Parameter.{TermShape, literal_shape, path_shape, nested_shape, Items, no_items, parameter_item, pair_item, spelled_shape, spelled_items, is_name, IsChosen, Fits, AreItems}
-use Rattle.handlebars_lines.specs.Line.{Enclosure, in_parentheses, is_end, Closes}
-use Rattle.handlebars_lines.specs.LineReading.{Event, opened, literal_event, path_event, closed, Stand, at_name, at_items, at_end, LineStand, line_stand, behind_name, name_step, is_excluded, parameter_step, item_step, behind_step, line_step}
+use Rattle.handlebars_lines.specs.Line.{NameMode, identifier_name, value_name, close_name, NameShape, plain_name, term_name, spelled_name, IsPlainName, IsName, Enclosure, in_parentheses, is_end, Closes}
+use Rattle.handlebars_lines.specs.LineReading.{Event, opened, literal_event, path_event, name_event, closed, Stand, at_name, at_items, at_end, LineStand, line_stand, behind_name, name_step, is_excluded, parameter_step, item_step, behind_step, line_step}
 use Rattle.handlebars_lines.proofs.Stepping.{Runs, last, onward}
+use Rattle.handlebars_lines.proofs.CloseNames.{close_name-parenthesis}
+use Rattle.handlebars_lines.proofs.LineSteps.{takes_parentheses, is_at_name}
 use Rattle.handlebars_lines.proofs.LineMarks.{slice_at-stops, literal_at-finds, literal_at-missing, key_and_equals_at-append}
-use Rattle.handlebars_lines.proofs.LineFronts.{begins, begins_single, begins_no_white, path_begins, literal_begins, shape_starts, key_starts, single_no_parenthesis, Follows, follows_stops, items_follow, no_key}
+use Rattle.handlebars_lines.proofs.LineFronts.{follows_no_symbol, begins, begins_single, begins_no_white, path_begins, literal_begins, shape_starts, key_starts, single_no_parenthesis, Follows, follows_stops, items_follow, no_key}
 use Rattle.handlebars_lines.proofs.LineEnds.{item_no_end}
-use Rattle.handlebars_lines.proofs.LinesRead.{events, item_events, IsAllowed, nested_group, events_group, pair_group}
+use Rattle.handlebars_lines.proofs.LinesRead.{events, item_events, name_events, IsAllowed, nested_group, events_group, pair_group}
 
 -- ---- steps: a parenthesis, a literal, a path
 
-parameter_opens : (key : Option (List ℕ)) (n : ℕ) (w t : List ℕ) → IsWhite w → starts begins t ≡ true → parameter_step key n (40 ∷ (w ++ t)) ≡ goes (opened key (suc n)) (line_stand at_name (suc n)) t
+parameter_opens : (key : Option (List ℕ)) (n : ℕ) (w t : List ℕ) → IsWhite w → starts begins t ≡ true → parameter_step key n (40 ∷ (w ++ t)) ≡ goes (opened key (suc n)) (line_stand (at_name value_name) (suc n)) t
 unfolding parameter_step
 parameter_opens key n w t white start =
     rw (after-same 40 (w ++ t), behind_white-append w t white (begins_no_white t start)) refl
 
-name_opens : (around : Enclosure) (n : ℕ) (w t : List ℕ) → IsWhite w → starts begins t ≡ true → line_step around (line_stand at_name n) (40 ∷ (w ++ t)) ≡ goes (opened None (suc n)) (line_stand at_name (suc n)) t
+name_opens : (around : Enclosure) (mode : NameMode) (n : ℕ) (w t : List ℕ) → takes_parentheses mode ≡ true → IsWhite w → starts begins t ≡ true → line_step around (line_stand (at_name mode) n) (40 ∷ (w ++ t)) ≡ goes (opened None (suc n)) (line_stand (at_name value_name) (suc n)) t
 unfolding line_step name_step
-name_opens around n w t white start =
+name_opens around identifier_name n w t takes white start = absurd cc
+name_opens around value_name n w t takes white start =
+    rw (after-same 40 (w ++ t), behind_white-append w t white (begins_no_white t start)) refl
+name_opens around close_name n w t takes white start =
     rw (after-same 40 (w ++ t), behind_white-append w t white (begins_no_white t start)) refl
 
 path_no_parenthesis : (t rest : List ℕ) (means : Reference) → IsPath t means → after 40 (t ++ rest) ≡ None
@@ -40,10 +46,23 @@ literal_no_parenthesis : (l : Literal) (rest : List ℕ) → IsLiteral l → aft
 literal_no_parenthesis l rest fits =
     single_no_parenthesis (spelled_literal l ++ rest) (starts-append begins_single (spelled_literal l) rest (literal_begins l fits))
 
-name_goes_on : (around : Enclosure) (n : ℕ) (t rest : List ℕ) (means : Reference) → IsPath t means → Follows rest → line_step around (line_stand at_name n) (t ++ rest) ≡ goes (path_event None t n) (line_stand (behind_name t) n) rest
+name_goes_on : (around : Enclosure) (n : ℕ) (t rest : List ℕ) (means : Reference) → IsPath t means → Follows rest → line_step around (line_stand (at_name value_name) n) (t ++ rest) ≡ goes (path_event None t n) (line_stand (behind_name t) n) rest
 unfolding line_step name_step
 name_goes_on around n t rest means h f =
     rw (path_no_parenthesis t rest means h, slice_at-stops t rest means h (follows_stops rest f)) refl
+
+not_empty : (t : List ℕ) → t ≢ [] → (length t == 0) ≡ false
+not_empty [] some = absurd (some refl)
+not_empty (b ∷ t) some = eqb-suc-zero (length t)
+
+plain_goes_on : (around : Enclosure) (mode : NameMode) (n : ℕ) (t rest : List ℕ) → IsPlainName mode t rest → Follows rest → line_step around (line_stand (at_name mode) n) (t ++ rest) ≡ goes (name_event t) (line_stand at_items n) rest
+unfolding line_step name_step
+plain_goes_on around identifier_name n t rest h f =
+    let stop : prefix_len is_symbol rest ≡ 0 = prefix_len-none is_symbol rest (follows_no_symbol rest f) in
+    rw (run-front is_symbol t rest h.1 stop, run-rest is_symbol t rest h.1 stop, not_empty t h.0) refl
+plain_goes_on around value_name n t rest h f = absurd h
+plain_goes_on around close_name n t rest h f =
+    rw (close_name-parenthesis (t ++ rest) t rest h.1 h.0, h.1, not_empty t h.0) refl
 
 literal_goes_on : (key : Option (List ℕ)) (n : ℕ) (l : Literal) (rest : List ℕ) → IsLiteral l → starts goes_on rest ≡ false → parameter_step key n (spelled_literal l ++ rest) ≡ goes (literal_event key (spelled_literal l) (n + literal_depth l)) (line_stand at_items n) rest
 unfolding parameter_step
@@ -98,9 +117,9 @@ pair_at around n w key u v p rest white some id white-u white-v fits x s' t' e =
 
 -- ---- steps: what closes
 
-closed_at : (around : Enclosure) (st : Stand) (n : ℕ) (v r : List ℕ) → (st ≡ at_name → ⊥) → IsWhite v → line_step around (line_stand st (suc n)) (v ++ 41 ∷ r) ≡ goes closed (line_stand at_items n) r
+closed_at : (around : Enclosure) (st : Stand) (n : ℕ) (v r : List ℕ) → is_at_name st ≡ false → IsWhite v → line_step around (line_stand st (suc n)) (v ++ 41 ∷ r) ≡ goes closed (line_stand at_items n) r
 unfolding line_step behind_step
-closed_at around at_name n v r other white = absurd (other refl)
+closed_at around (at_name mode) n v r other white = absurd cc
 closed_at around at_items n v r other white =
     let less : suc n - 1 ≡ n = omega arith in
     rw (eqb-suc-zero n, behind_white-append v (41 ∷ r) white refl, after-same 41 r, less) refl
@@ -129,9 +148,9 @@ same_end around (suc n) t h =
     let front = behind_white-skips t in
     let mark = starts-mark 41 (behind_white t) h in
     let whole : t ≡ front.white ++ 41 ∷ mark.0 = front.whole ∙ ap (λ (z : List ℕ). front.white ++ z) mark.1 in
-    let same : (st : Stand) → (st ≡ at_name → ⊥) → line_step around (line_stand st (suc n)) t ≡ goes closed (line_stand at_items n) mark.0 =
+    let same : (st : Stand) → is_at_name st ≡ false → line_step around (line_stand st (suc n)) t ≡ goes closed (line_stand at_items n) mark.0 =
     λ st other. ap (line_step around (line_stand st (suc n))) whole ∙ closed_at around st n front.white mark.0 other front.is in
-    same at_end (λ e. absurd cc) ∙ sym (same at_items (λ e. absurd cc))
+    same at_end refl ∙ sym (same at_items refl)
 
 end_runs : (around : Enclosure) (n : ℕ) (t : List ℕ) (xs : List Event) (e : List ℕ) → Closes (enclosed around n) t → Runs (line_step around) (line_stand at_items n) t xs e → Runs (line_step around) (line_stand at_end n) t xs e
 end_runs around n t _ _ c (last is) = last (same_end around n t c ∙ is)
@@ -165,7 +184,7 @@ to_stand around (nested_shape w name inner v) items n rest xs e named closes run
 -- what is known of a name, and of items
 abbrev NameRuns : Enclosure → TermShape → Type 0
 NameRuns around name = (n : ℕ) (t : List ℕ) (xs : List Event) (e : List ℕ) (items : Items) → is_name name items ≡ true → Fits name t → Follows t → Runs (line_step around) (line_stand (stand_behind name) n) t xs e
-    → Runs (line_step around) (line_stand at_name n) (spelled_shape name ++ t) (events n None name ++ xs) e
+    → Runs (line_step around) (line_stand (at_name value_name) n) (spelled_shape name ++ t) (events n None name ++ xs) e
 
 abbrev ItemsRun : Enclosure → Items → Type 0
 ItemsRun around items = (n : ℕ) (rest : List ℕ) (xs : List Event) (e : List ℕ) → AreItems items rest → Closes (enclosed around n) rest → Runs (line_step around) (line_stand at_items n) rest xs e
@@ -173,14 +192,26 @@ ItemsRun around items = (n : ℕ) (rest : List ℕ) (xs : List Event) (e : List 
 
 -- a line in parentheses, behind the opening one
 inner_runs : (around : Enclosure) (name : TermShape) (items : Items) → NameRuns around name → ItemsRun around items → (n : ℕ) (v t : List ℕ) (xs : List Event) (e : List ℕ) → is_name name items ≡ true → Fits name (spelled_items items ++ (v ++ 41 ∷ t)) → AreItems items (v ++ 41 ∷ t) → IsWhite v
-    → Runs (line_step around) (line_stand at_items n) t xs e → Runs (line_step around) (line_stand at_name (suc n)) (spelled_shape name ++ (spelled_items items ++ (v ++ 41 ∷ t))) (events (suc n) None name ++ (item_events (suc n) items ++ closed ∷ xs)) e
+    → Runs (line_step around) (line_stand at_items n) t xs e → Runs (line_step around) (line_stand (at_name value_name) (suc n)) (spelled_shape name ++ (spelled_items items ++ (v ++ 41 ∷ t))) (events (suc n) None name ++ (item_events (suc n) items ++ closed ∷ xs)) e
 inner_runs around name items name_run items_run n v t xs e named fits are_items white runs =
     let behind : List ℕ = v ++ 41 ∷ t in
     let closes : Closes in_parentheses behind = rw (behind_white-append v (41 ∷ t) white refl) refl in
-    let shuts = onward closed (line_stand at_items n) t (closed_at around at_items n v t (λ same. absurd cc) white) runs in
+    let shuts = onward closed (line_stand at_items n) t (closed_at around at_items n v t refl white) runs in
     let others = items_run (suc n) behind (closed ∷ xs) e are_items closes shuts in
     name_run (suc n) (spelled_items items ++ behind) (item_events (suc n) items ++ closed ∷ xs) e items named fits (items_follow in_parentheses items behind are_items closes)
     (to_stand around name items (suc n) behind (item_events (suc n) items ++ closed ∷ xs) e named closes others)
+
+-- a line in parentheses that is a name
+nested_runs : (around : Enclosure) (mode : NameMode) → takes_parentheses mode ≡ true → (w : List ℕ) (name : TermShape) (inner : Items) (v : List ℕ) → NameRuns around name → ItemsRun around inner → (n : ℕ) (t : List ℕ) (xs : List Event) (e : List ℕ) → Fits (nested_shape w name inner v) t
+    → Runs (line_step around) (line_stand at_items n) t xs e → Runs (line_step around) (line_stand (at_name mode) n) (spelled_shape (nested_shape w name inner v) ++ t) (events n None (nested_shape w name inner v) ++ xs) e
+nested_runs around mode takes w name inner v name_run items_run n t xs e fits runs =
+    let behind : List ℕ = v ++ 41 ∷ t in
+    let inside : List ℕ = spelled_shape name ++ (spelled_items inner ++ behind) in
+    let go = inner_runs around name inner name_run items_run n v t xs e fits.1 fits.2 fits.3 fits.4 runs in
+    let start = shape_starts name (spelled_items inner ++ behind) (spelled_items inner ++ behind) fits.2 in
+    let whole = onward (opened None (suc n)) (line_stand (at_name value_name) (suc n)) inside (name_opens around mode n w inside takes fits.0 start) go in
+    subst (λ (z : List ℕ). Runs (line_step around) (line_stand (at_name mode) n) (40 ∷ z) (events n None (nested_shape w name inner v) ++ xs) e) (nested_group w (spelled_shape name) (spelled_items inner) v t)
+    (subst (λ (z : List Event). Runs (line_step around) (line_stand (at_name mode) n) (40 ∷ (w ++ inside)) (opened None (suc n) ∷ z) e) (events_group (events (suc n) None name) (item_events (suc n) inner) xs) whole)
 
 mutual
   -- a name, and what stands behind it
@@ -188,13 +219,7 @@ mutual
   name_runs around (literal_shape l) n t xs e items named fits f runs = absurd cc
   name_runs around (path_shape p means) n t xs e items named fits f runs = onward (path_event None p n) (line_stand (behind_name p) n) t (name_goes_on around n p t means fits f) runs
   name_runs around (nested_shape w name inner v) n t xs e items named fits f runs =
-      let behind : List ℕ = v ++ 41 ∷ t in
-      let inside : List ℕ = spelled_shape name ++ (spelled_items inner ++ behind) in
-      let go = inner_runs around name inner (name_runs around name) (items_run around inner) n v t xs e fits.1 fits.2 fits.3 fits.4 runs in
-      let start = shape_starts name (spelled_items inner ++ behind) (spelled_items inner ++ behind) fits.2 in
-      let whole = onward (opened None (suc n)) (line_stand at_name (suc n)) inside (name_opens around n w inside fits.0 start) go in
-      subst (λ (z : List ℕ). Runs (line_step around) (line_stand at_name n) (40 ∷ z) (events n None (nested_shape w name inner v) ++ xs) e) (nested_group w (spelled_shape name) (spelled_items inner) v t)
-      (subst (λ (z : List Event). Runs (line_step around) (line_stand at_name n) (40 ∷ (w ++ inside)) (opened None (suc n) ∷ z) e) (events_group (events (suc n) None name) (item_events (suc n) inner) xs) whole)
+      nested_runs around value_name refl w name inner v (name_runs around name) (items_run around inner) n t xs e fits runs
 
   -- a parameter, from where its step is taken
   parameter_runs : (around : Enclosure) (p : TermShape) (key : Option (List ℕ)) (n : ℕ) (t : List ℕ) (xs : List Event) (e : List ℕ) (s : LineStand) (from : List ℕ) → IsChosen p t → IsAllowed key p → Fits p t → Follows t
@@ -207,9 +232,9 @@ mutual
       let go = inner_runs around name inner (name_runs around name) (items_run around inner) n v t xs e fits.1 fits.2 fits.3 fits.4 runs in
       let start = shape_starts name (spelled_items inner ++ behind) (spelled_items inner ++ behind) fits.2 in
       let same : 40 ∷ (w ++ inside) ≡ spelled_shape (nested_shape w name inner v) ++ t = ap (λ (z : List ℕ). 40 ∷ z) (nested_group w (spelled_shape name) (spelled_items inner) v t) in
-      let taken : line_step around s from ≡ goes (opened key (suc n)) (line_stand at_name (suc n)) inside =
-      step (opened key (suc n)) (line_stand at_name (suc n)) inside (ap (parameter_step key n) (sym same) ∙ parameter_opens key n w inside fits.0 start) in
-      let whole = onward (opened key (suc n)) (line_stand at_name (suc n)) inside taken go in
+      let taken : line_step around s from ≡ goes (opened key (suc n)) (line_stand (at_name value_name) (suc n)) inside =
+      step (opened key (suc n)) (line_stand (at_name value_name) (suc n)) inside (ap (parameter_step key n) (sym same) ∙ parameter_opens key n w inside fits.0 start) in
+      let whole = onward (opened key (suc n)) (line_stand (at_name value_name) (suc n)) inside taken go in
       subst (λ (z : List Event). Runs (line_step around) s from (opened key (suc n) ∷ z) e) (events_group (events (suc n) None name) (item_events (suc n) inner) xs) whole
 
   items_run : (around : Enclosure) (items : Items) → ItemsRun around items
@@ -230,8 +255,25 @@ mutual
       subst (λ (z : List ℕ). Runs (line_step around) (line_stand at_items n) z (item_events n (pair_item w key u v p more) ++ xs) e) (pair_group w key u v (spelled_shape p) (spelled_items more) rest)
       (subst (λ (z : List Event). Runs (line_step around) (line_stand at_items n) from z e) (sym (append_assoc (events n (Some key) p) (item_events n more) xs)) first)
 
-pub line_runs : (around : Enclosure) (name : TermShape) (items : Items) (t : List ℕ) → is_name name items ≡ true → Fits name (spelled_items items ++ t) → AreItems items t → Closes around t
-    → Runs (line_step around) (line_stand at_name 0) (spelled_shape name ++ (spelled_items items ++ t)) (events 0 None name ++ (item_events 0 items ++ [])) t
-line_runs around name items t named fits are_items closes =
-    let others = items_run around items 0 t [] t are_items closes (last (end_at around t closes)) in
-    name_runs around name 0 (spelled_items items ++ t) (item_events 0 items ++ []) t items named fits (items_follow around items t are_items closes) (to_stand around name items 0 t (item_events 0 items ++ []) t named closes others)
+-- a name that is no plain text, of this mode
+term_runs : (around : Enclosure) (mode : NameMode) (p : TermShape) (items : Items) (t : List ℕ) (xs : List Event) (e : List ℕ) → IsName mode (term_name p) items (spelled_items items ++ t) → AreItems items t → Closes around t
+    → Runs (line_step around) (line_stand at_items 0) (spelled_items items ++ t) xs e → Runs (line_step around) (line_stand (at_name mode) 0) (spelled_shape p ++ (spelled_items items ++ t)) (events 0 None p ++ xs) e
+term_runs around identifier_name p items t xs e named are_items closes runs = absurd (false≢true named.0)
+term_runs around value_name p items t xs e named are_items closes runs =
+    name_runs around p 0 (spelled_items items ++ t) xs e items named.0 named.1 (items_follow around items t are_items closes) (to_stand around p items 0 t xs e named.0 closes runs)
+term_runs around close_name (literal_shape l) items t xs e named are_items closes runs = absurd (false≢true named.0)
+term_runs around close_name (path_shape r means) items t xs e named are_items closes runs = absurd (false≢true named.0)
+term_runs around close_name (nested_shape w name inner v) items t xs e named are_items closes runs =
+    nested_runs around close_name refl w name inner v (name_runs around name) (items_run around inner) 0 (spelled_items items ++ t) xs e named.1 runs
+
+pub line_runs : (around : Enclosure) (mode : NameMode) (name : NameShape) (items : Items) (t : List ℕ) → IsName mode name items (spelled_items items ++ t) → AreItems items t → Closes around t
+    → Runs (line_step around) (line_stand (at_name mode) 0) (spelled_name name ++ (spelled_items items ++ t)) (name_events 0 name ++ (item_events 0 items ++ [])) t
+line_runs around mode name items t named are_items closes = on name named
+  where
+    behind : Runs (line_step around) (line_stand at_items 0) (spelled_items items ++ t) (item_events 0 items ++ []) t
+    behind = items_run around items 0 t [] t are_items closes (last (end_at around t closes))
+
+    on : (name : NameShape) → IsName mode name items (spelled_items items ++ t)
+        → Runs (line_step around) (line_stand (at_name mode) 0) (spelled_name name ++ (spelled_items items ++ t)) (name_events 0 name ++ (item_events 0 items ++ [])) t
+    on (plain_name raw) named = onward (name_event raw) (line_stand at_items 0) (spelled_items items ++ t) (plain_goes_on around mode 0 raw (spelled_items items ++ t) named (items_follow around items t are_items closes)) behind
+    on (term_name p) named = term_runs around mode p items t (item_events 0 items ++ []) t named are_items closes behind

@@ -11,11 +11,11 @@ use Rattle.handlebars_lines.specs.Runs.{ends}
 use Rattle.handlebars_lines.specs.Literal.{Literal, spelled_literal, literal_depth, goes_on}
 use Rattle.handlebars_lines.specs.LiteralReading.{literal_at}
 use Rattle.handlebars_lines.specs.Parameter.{TermShape, literal_shape, path_shape, nested_shape, Items, no_items, parameter_item, pair_item, spelled_shape, spelled_items, is_name, IsFree, IsChosen, Fits, AreItems}
-use Rattle.handlebars_lines.specs.Line.{Enclosure, Closes}
-use Rattle.handlebars_lines.specs.LineReading.{Event, opened, literal_event, path_event, closed, Stand, at_name, at_items, at_end, LineStand, behind_name, is_excluded, line_step}
+use Rattle.handlebars_lines.specs.Line.{NameMode, value_name, close_name, identifier_name, NameShape, plain_name, term_name, spelled_name, IsPlainName, IsName, Enclosure, Closes}
+use Rattle.handlebars_lines.specs.LineReading.{Event, opened, literal_event, path_event, name_event, closed, Stand, at_name, at_items, at_end, LineStand, behind_name, is_excluded, line_step}
 use Rattle.handlebars_lines.proofs.Stepping.{Runs, last, onward}
 use Rattle.handlebars_lines.proofs.LineMarks.{literal_at-finds}
-use Rattle.handlebars_lines.proofs.LineSteps.{ParameterStepped, to_nested, to_literal, to_path, LineStepped, to_inner, to_name, to_parameter, to_pair, to_closed, line_stepped, line_ends}
+use Rattle.handlebars_lines.proofs.LineSteps.{ParameterStepped, to_nested, to_literal, to_path, LineStepped, takes_parentheses, is_at_name, to_inner, to_plain, to_name, to_parameter, to_pair, to_closed, line_stepped, line_ends}
 
 -- ---- what the steps find of a line
 
@@ -30,6 +30,10 @@ abbrev mutual
   item_events n no_items = []
   item_events n (parameter_item w p more) = events n None p ++ item_events n more
   item_events n (pair_item w key u v p more) = events n (Some key) p ++ item_events n more
+
+abbrev pub name_events : ℕ → NameShape → List Event
+name_events n (plain_name t) = name_event t ∷ []
+name_events n (term_name p) = events n None p
 
 -- ---- what is left to be read
 
@@ -48,7 +52,20 @@ pub record ItemsThen (around : Enclosure) (n : ℕ) (t : List ℕ) (xs : List Ev
   pub found : xs ≡ item_events n items ++ others
   pub shuts : Shuts around n rest others e
 
-pub record LineThen (around : Enclosure) (n : ℕ) (t : List ℕ) (xs : List Event) (e : List ℕ) : Type 0 where
+-- a line of this mode
+pub record LineThen (mode : NameMode) (around : Enclosure) (n : ℕ) (t : List ℕ) (xs : List Event) (e : List ℕ) : Type 0 where
+  pub name : NameShape
+  pub items : Items
+  pub rest : List ℕ
+  pub others : List Event
+  pub is_name : IsName mode name items (spelled_items items ++ rest)
+  pub are_items : AreItems items rest
+  pub whole : t ≡ spelled_name name ++ (spelled_items items ++ rest)
+  pub found : xs ≡ name_events n name ++ (item_events n items ++ others)
+  pub shuts : Shuts around n rest others e
+
+-- a value's line
+pub record ValueThen (around : Enclosure) (n : ℕ) (t : List ℕ) (xs : List Event) (e : List ℕ) : Type 0 where
   pub name : TermShape
   pub items : Items
   pub rest : List ℕ
@@ -60,8 +77,26 @@ pub record LineThen (around : Enclosure) (n : ℕ) (t : List ℕ) (xs : List Eve
   pub found : xs ≡ events n None name ++ (item_events n items ++ others)
   pub shuts : Shuts around n rest others e
 
+value_then : (around : Enclosure) (n : ℕ) (t : List ℕ) (xs : List Event) (e : List ℕ) → LineThen value_name around n t xs e → ValueThen around n t xs e
+value_then around n t xs e h = on h.name h.is_name h.whole h.found
+  where
+    on : (name : NameShape) → IsName value_name name h.items (spelled_items h.items ++ h.rest) → t ≡ spelled_name name ++ (spelled_items h.items ++ h.rest) → xs ≡ name_events n name ++ (item_events n h.items ++ h.others) → ValueThen around n t xs e
+    on (plain_name raw) is whole found = absurd is
+    on (term_name p) is whole found = record {
+      name = p;
+      items = h.items;
+      rest = h.rest;
+      others = h.others;
+      is_name = is.0;
+      fits = is.1;
+      are_items = h.are_items;
+      whole = whole;
+      found = found;
+      shuts = h.shuts;
+    }
+
 abbrev pub Reads : Enclosure → Stand → ℕ → List ℕ → List Event → List ℕ → Type 0
-Reads around at_name n t xs e = LineThen around n t xs e
+Reads around (at_name mode) n t xs e = LineThen mode around n t xs e
 Reads around at_items n t xs e = ItemsThen around n t xs e
 Reads around at_end n t xs e = Shuts around n t xs e
 
@@ -109,8 +144,9 @@ nested_group w name items v r = simp append_assoc
 pub events_group : (a b c : List Event) → a ++ (b ++ closed ∷ c) ≡ (a ++ (b ++ closed ∷ [])) ++ c
 events_group a b c = simp append_assoc
 
-nested_then : (around : Enclosure) (key : Option (List ℕ)) (n : ℕ) (w t t' : List ℕ) (xs : List Event) (e : List ℕ) → IsWhite w → t ≡ 40 ∷ (w ++ t') → LineThen around (suc n) t' xs e → NestedThen around key n t (opened key (suc n) ∷ xs) e
-nested_then around key n w t t' xs e white whole line =
+nested_then : (around : Enclosure) (key : Option (List ℕ)) (n : ℕ) (w t t' : List ℕ) (xs : List Event) (e : List ℕ) → IsWhite w → t ≡ 40 ∷ (w ++ t') → LineThen value_name around (suc n) t' xs e → NestedThen around key n t (opened key (suc n) ∷ xs) e
+nested_then around key n w t t' xs e white whole then =
+    let line = value_then around (suc n) t' xs e then in
     let c = line.shuts in
     let behind : line.rest ≡ c.0 ++ 41 ∷ (spelled_items c.1 ++ c.2) = c.6 in
     record {
@@ -151,7 +187,7 @@ path_chosen raw rest means none l behind at = none-some _ (sym none ∙ (literal
 
 parameter_then : (around : Enclosure) (key : Option (List ℕ)) (n : ℕ) (t : List ℕ) (x : Event) (s' : LineStand) (t' : List ℕ) (xs : List Event) (e : List ℕ) → ParameterStepped key n t x s' t' → ReadsAt around s' t' xs e → ParameterThen around key n t (x ∷ xs) e
 parameter_then around key n t x s' t' xs e (to_nested w is ev white whole) after =
-    let line : LineThen around (suc n) t' xs e = subst (λ (z : LineStand). ReadsAt around z t' xs e) is after in
+    let line : LineThen value_name around (suc n) t' xs e = subst (λ (z : LineStand). ReadsAt around z t' xs e) is after in
     let h = nested_then around key n w t t' xs e white whole line in
     record {
       first = nested_shape h.white h.name h.inner h.behind;
@@ -200,29 +236,27 @@ parameter_then around key n t x s' t' xs e (to_path raw means is ev whole h none
 
 -- ---- one step back: a name
 
-name_then : (around : Enclosure) (n : ℕ) (raw t t' : List ℕ) (means : Reference) (xs : List Event) (e : List ℕ) → t ≡ raw ++ t' → IsPath raw means → Reads around (behind_name raw) n t' xs e → LineThen around n t (path_event None raw n ∷ xs) e
+name_then : (around : Enclosure) (n : ℕ) (raw t t' : List ℕ) (means : Reference) (xs : List Event) (e : List ℕ) → t ≡ raw ++ t' → IsPath raw means → Reads around (behind_name raw) n t' xs e → LineThen value_name around n t (path_event None raw n ∷ xs) e
 name_then around n raw t t' means xs e whole h after = on (list_all is_symbol raw) refl after
   where
-    on : (c : Bool) → list_all is_symbol raw ≡ c → Reads around (cond c at_items at_end) n t' xs e → LineThen around n t (path_event None raw n ∷ xs) e
+    on : (c : Bool) → list_all is_symbol raw ≡ c → Reads around (cond c at_items at_end) n t' xs e → LineThen value_name around n t (path_event None raw n ∷ xs) e
     on true is then = record {
-      name = path_shape raw means;
+      name = term_name (path_shape raw means);
       items = then.items;
       rest = then.rest;
       others = then.others;
-      is_name = rw is refl;
-      fits = h;
+      is_name = (rw is refl, h);
       are_items = then.are_items;
       whole = whole ∙ ap (λ (z : List ℕ). raw ++ z) then.whole;
       found = ap (λ (z : List Event). path_event None raw n ∷ z) then.found;
       shuts = then.shuts;
     }
     on false is then = record {
-      name = path_shape raw means;
+      name = term_name (path_shape raw means);
       items = no_items;
       rest = t';
       others = xs;
-      is_name = or-true (list_all is_symbol raw);
-      fits = h;
+      is_name = (or-true (list_all is_symbol raw), h);
       are_items = tt;
       whole = whole;
       found = refl;
@@ -271,31 +305,48 @@ closed_then around n w t t' xs e white whole i = (
   i.shuts,
 )
 
-shuts_read : (around : Enclosure) (st : Stand) (n : ℕ) (t : List ℕ) (xs : List Event) (e : List ℕ) → (st ≡ at_name → ⊥) → Shuts around n t xs e → Reads around st n t xs e
-shuts_read around at_name n t xs e other h = absurd (other refl)
+shuts_read : (around : Enclosure) (st : Stand) (n : ℕ) (t : List ℕ) (xs : List Event) (e : List ℕ) → is_at_name st ≡ false → Shuts around n t xs e → Reads around st n t xs e
+shuts_read around (at_name mode) n t xs e other h = absurd cc
 shuts_read around at_items n t xs e other h = record { items = no_items; rest = t; others = xs; are_items = tt; whole = refl; found = refl; shuts = h }
 shuts_read around at_end n t xs e other h = h
 
+nested_named : (mode : NameMode) (w : List ℕ) (name : TermShape) (inner : Items) (v : List ℕ) (items : Items) (rest : List ℕ) → takes_parentheses mode ≡ true → Fits (nested_shape w name inner v) rest → IsName mode (term_name (nested_shape w name inner v)) items rest
+nested_named identifier_name w name inner v items rest takes fits = absurd cc
+nested_named value_name w name inner v items rest takes fits = (refl, fits)
+nested_named close_name w name inner v items rest takes fits = (refl, fits)
+
 step_read : (around : Enclosure) (s : LineStand) (t : List ℕ) (x : Event) (s' : LineStand) (t' : List ℕ) (xs : List Event) (e : List ℕ) → LineStepped s t x s' t' → ReadsAt around s' t' xs e → ReadsAt around s t (x ∷ xs) e
-step_read around s t x s' t' xs e (to_inner n w is is' ev white whole) after =
-    let line : LineThen around (suc n) t' xs e = subst (λ (z : LineStand). ReadsAt around z t' xs e) is' after in
+step_read around s t x s' t' xs e (to_inner mode n w takes is is' ev white whole) after =
+    let line : LineThen value_name around (suc n) t' xs e = subst (λ (z : LineStand). ReadsAt around z t' xs e) is' after in
     let h = nested_then around None n w t t' xs e white whole line in
     subst (λ (z : LineStand). ReadsAt around z t (x ∷ xs) e) (sym is) (record {
-      name = nested_shape h.white h.name h.inner h.behind;
+      name = term_name (nested_shape h.white h.name h.inner h.behind);
       items = h.items;
       rest = h.rest;
       others = h.others;
-      is_name = refl;
-      fits = h.fits;
+      is_name = nested_named mode h.white h.name h.inner h.behind h.items _ takes h.fits;
       are_items = h.are_items;
       whole = h.whole;
       found = ap (λ (z : Event). z ∷ xs) ev ∙ h.found;
       shuts = h.shuts;
     })
+step_read around s t x s' t' xs e (to_plain mode n raw is is' ev whole h) after =
+    let then : ItemsThen around n t' xs e = subst (λ (z : LineStand). ReadsAt around z t' xs e) is' after in
+    subst (λ (z : LineStand). ReadsAt around z t (x ∷ xs) e) (sym is) (record {
+      name = plain_name raw;
+      items = then.items;
+      rest = then.rest;
+      others = then.others;
+      is_name = subst (IsPlainName mode raw) then.whole h;
+      are_items = then.are_items;
+      whole = whole ∙ ap (λ (z : List ℕ). raw ++ z) then.whole;
+      found = ap (λ (z : Event). z ∷ xs) ev ∙ ap (λ (z : List Event). name_event raw ∷ z) then.found;
+      shuts = then.shuts;
+    })
 step_read around s t x s' t' xs e (to_name n raw means is is' ev whole h) after =
     let then : Reads around (behind_name raw) n t' xs e = subst (λ (z : LineStand). ReadsAt around z t' xs e) is' after in
     let line = name_then around n raw t t' means xs e whole h then in
-    subst (λ (z : LineStand). ReadsAt around z t (x ∷ xs) e) (sym is) (subst (λ (z : Event). LineThen around n t (z ∷ xs) e) (sym ev) line)
+    subst (λ (z : LineStand). ReadsAt around z t (x ∷ xs) e) (sym is) (subst (λ (z : Event). LineThen value_name around n t (z ∷ xs) e) (sym ev) line)
 step_read around s t x s' t' xs e (to_parameter n w r is white some whole p) after =
     subst (λ (z : LineStand). ReadsAt around z t (x ∷ xs) e) (sym is)
     (parameter_item_then around n w r t (x ∷ xs) e white some whole (parameter_then around None n r x s' t' xs e p after))

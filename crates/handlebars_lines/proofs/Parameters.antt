@@ -11,7 +11,7 @@ use Rattle.handlebars_base.specs.Bytes.{behind_white}
 use Rattle.handlebars_lines.specs.Literal.{spelled_literal, IsLiteralAt}
 use Rattle.handlebars_lines.specs.LiteralReading.{LiteralSlice, literal_at}
 use Rattle.handlebars_lines.specs.Parameter.{Term, literal_term, path_term, call_term, TermShape, literal_shape, path_shape, nested_shape, spelled_shape, spelled_items, IsChosen, Fits, AreItems, term_of, terms_of, depth_of, items_depth, IsParameter, NoParameter}
-use Rattle.handlebars_lines.specs.Line.{in_parentheses, Line, IsLine, NoLine}
+use Rattle.handlebars_lines.specs.Line.{value_name, NameShape, plain_name, term_name, spelled_name, IsName, term_of_name, name_depth, in_parentheses, Line, IsLine, NoLine}
 use Rattle.handlebars_lines.specs.LineLaws.{HasLine, OneParameter}
 use Rattle.handlebars_lines.proofs.LiteralsFound.{literal_at-some}
 use Rattle.handlebars_lines.proofs.LineMarks.{literal_at-finds, literal_at-missing}
@@ -25,28 +25,33 @@ use Rattle.handlebars_lines.proofs.Lines.{one_line}
 pub record NestedParameter (r : List ℕ) (means : Term) (depth : ℕ) : Type 0 where
   pub line : Line
   pub left : List ℕ
-  pub is : IsLine in_parentheses (behind_white r) line left
+  pub is : IsLine value_name in_parentheses (behind_white r) line left
   pub closes : after 41 (behind_white left) ≡ Some []
   pub gives : means ≡ call_term line.name line.terms
   pub deep : depth ≡ suc line.depth
 
-pub nested-is : (text r : List ℕ) (line : Line) (left : List ℕ) → after 40 text ≡ Some r → IsLine in_parentheses (behind_white r) line left → after 41 (behind_white left) ≡ Some [] → IsParameter text (call_term line.name line.terms) (suc line.depth)
-nested-is text r line left opens h closes =
-    let before = behind_white-skips r in
-    let last = behind_white-skips left in
-    let end : left ≡ last.white ++ 41 ∷ [] = last.whole ∙ ap (λ (z : List ℕ). last.white ++ z) (after_takes 41 (behind_white left) [] closes) in
-    let inside : behind_white r ≡ spelled_shape h.name ++ (spelled_items h.items ++ (last.white ++ 41 ∷ [])) = h.whole ∙ ap (λ (z : List ℕ). spelled_shape h.name ++ (spelled_items h.items ++ z)) end in
-    record {
-      shape = nested_shape before.white h.name h.items last.white;
-      spells = after_takes 40 text r opens ∙ ap (λ (z : List ℕ). 40 ∷ z) (before.whole ∙ ap (λ (z : List ℕ). before.white ++ z) inside);
-      chosen = tt;
-      fits = (before.is, h.is_name, subst (λ (z : List ℕ). Fits h.name (spelled_items h.items ++ z)) end h.fits, subst (AreItems h.items) end h.are_items, last.is);
-      gives = ap (λ (z : Line). call_term z.name z.terms) h.gives;
-      deep = ap (λ (z : Line). suc z.depth) h.gives;
-    }
+pub nested-is : (text r : List ℕ) (line : Line) (left : List ℕ) → after 40 text ≡ Some r → IsLine value_name in_parentheses (behind_white r) line left → after 41 (behind_white left) ≡ Some [] → IsParameter text (call_term line.name line.terms) (suc line.depth)
+nested-is text r line left opens h closes = on h.name h.is_name h.whole h.gives
+  where
+    on : (name : NameShape) → IsName value_name name h.items (spelled_items h.items ++ left) → behind_white r ≡ spelled_name name ++ (spelled_items h.items ++ left)
+        → line ≡ record { name = term_of_name name; terms = terms_of h.items; depth = max (name_depth name) (items_depth h.items) } → IsParameter text (call_term line.name line.terms) (suc line.depth)
+    on (plain_name t) named whole gives = absurd named
+    on (term_name p) named whole gives =
+        let before = behind_white-skips r in
+        let last = behind_white-skips left in
+        let end : left ≡ last.white ++ 41 ∷ [] = last.whole ∙ ap (λ (z : List ℕ). last.white ++ z) (after_takes 41 (behind_white left) [] closes) in
+        let inside : behind_white r ≡ spelled_shape p ++ (spelled_items h.items ++ (last.white ++ 41 ∷ [])) = whole ∙ ap (λ (z : List ℕ). spelled_shape p ++ (spelled_items h.items ++ z)) end in
+        record {
+          shape = nested_shape before.white p h.items last.white;
+          spells = after_takes 40 text r opens ∙ ap (λ (z : List ℕ). 40 ∷ z) (before.whole ∙ ap (λ (z : List ℕ). before.white ++ z) inside);
+          chosen = tt;
+          fits = (before.is, named.0, subst (λ (z : List ℕ). Fits p (spelled_items h.items ++ z)) end named.1, subst (AreItems h.items) end h.are_items, last.is);
+          gives = ap (λ (z : Line). call_term z.name z.terms) gives;
+          deep = ap (λ (z : Line). suc z.depth) gives;
+        }
 
 -- by how deep the line is
-pub nested-has : (text r : List ℕ) (depth : ℕ) (left : List ℕ) → after 40 text ≡ Some r → (h : HasLine in_parentheses (behind_white r) depth left) → after 41 (behind_white left) ≡ Some [] → IsParameter text (call_term h.line.name h.line.terms) (suc depth)
+pub nested-has : (text r : List ℕ) (depth : ℕ) (left : List ℕ) → after 40 text ≡ Some r → (h : HasLine value_name in_parentheses (behind_white r) depth left) → after 41 (behind_white left) ≡ Some [] → IsParameter text (call_term h.line.name h.line.terms) (suc depth)
 nested-has text r depth left opens h closes =
     subst (λ (z : ℕ). IsParameter text (call_term h.line.name h.line.terms) (suc z)) h.deep (nested-is text r h.line left opens h.is closes)
 
@@ -69,11 +74,10 @@ nested-read text r means depth opens h = on h.shape h.spells h.fits h.gives h.de
           line = record { name = term_of name; terms = terms_of items; depth = max (depth_of name) (items_depth items) };
           left = end;
           is = record {
-            name = name;
+            name = term_name name;
             items = items;
             whole = ap behind_white behind ∙ behind_white-append w inside fits.0 dark;
-            is_name = fits.1;
-            fits = fits.2;
+            is_name = (fits.1, fits.2);
             are_items = fits.3;
             closes = ap (starts (λ b. b == 41)) white;
             gives = refl;
@@ -83,16 +87,16 @@ nested-read text r means depth opens h = on h.shape h.spells h.fits h.gives h.de
           deep = deep;
         }
 
-pub nested-no_line : (text r : List ℕ) → after 40 text ≡ Some r → NoLine in_parentheses (behind_white r) → NoParameter text
+pub nested-no_line : (text r : List ℕ) → after 40 text ≡ Some r → NoLine value_name in_parentheses (behind_white r) → NoParameter text
 nested-no_line text r opens none means depth h =
     let n = nested-read text r means depth opens h in
     none n.line n.left n.is
 
 -- more than a closing parenthesis is left
-pub nested-goes_on : (text r : List ℕ) (depth : ℕ) (left : List ℕ) → after 40 text ≡ Some r → HasLine in_parentheses (behind_white r) depth left → (after 41 (behind_white left) ≡ Some [] → ⊥) → NoParameter text
+pub nested-goes_on : (text r : List ℕ) (depth : ℕ) (left : List ℕ) → after 40 text ≡ Some r → HasLine value_name in_parentheses (behind_white r) depth left → (after 41 (behind_white left) ≡ Some [] → ⊥) → NoParameter text
 nested-goes_on text r depth left opens line more means deep h =
     let n = nested-read text r means deep opens h in
-    let one = one_line in_parentheses (behind_white r) n.line line.line n.left left n.is line.is in
+    let one = one_line value_name in_parentheses (behind_white r) n.line line.line n.left left n.is line.is in
     more (subst (λ (z : List ℕ). after 41 (behind_white z) ≡ Some []) one.1 n.closes)
 
 -- ---- a literal, or a path
@@ -160,7 +164,7 @@ nested-one : (text r : List ℕ) (a b : Term) (depth depth' : ℕ) → after 40 
 nested-one text r a b depth depth' opens h g =
     let x = nested-read text r a depth opens h in
     let y = nested-read text r b depth' opens g in
-    let one = one_line in_parentheses (behind_white r) x.line y.line x.left y.left x.is y.is in
+    let one = one_line value_name in_parentheses (behind_white r) x.line y.line x.left y.left x.is y.is in
     (x.gives ∙ ap (λ (z : Line). call_term z.name z.terms) one.0 ∙ sym y.gives, x.deep ∙ ap (λ (z : Line). suc z.depth) one.0 ∙ sym y.deep)
 
 single-one : (text : List ℕ) (a b : Term) (depth depth' : ℕ) → SingleParameter text a depth → SingleParameter text b depth' → (a ≡ b) × (depth ≡ depth')

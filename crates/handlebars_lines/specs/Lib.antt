@@ -6,6 +6,7 @@ pub mod Worth
 pub mod WorthReading
 pub mod Laws
 pub mod Parameter
+pub mod CloseName
 pub mod Binding
 pub mod BindingReading
 pub mod BindingView

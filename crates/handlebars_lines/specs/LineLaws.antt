@@ -2,18 +2,18 @@
 use Rattle.std.specs.Prelude.{◌≡◌, ℕ}
 use Rattle.handlebars_base.specs.Bytes.{Text}
 use Rattle.handlebars_lines.specs.Parameter.{Term, IsParameter}
-use Rattle.handlebars_lines.specs.Line.{Enclosure, Line, IsLine}
+use Rattle.handlebars_lines.specs.Line.{NameMode, Enclosure, Line, IsLine}
 
 -- A line stands in front, so deep, with this behind it.
-pub record HasLine (around : Enclosure) (text : Text) (depth : ℕ) (rest : Text) : Type 0 where
+pub record HasLine (mode : NameMode) (around : Enclosure) (text : Text) (depth : ℕ) (rest : Text) : Type 0 where
   pub line : Line
-  pub is : IsLine around text line rest
+  pub is : IsLine mode around text line rest
   pub deep : line.depth ≡ depth
 
 -- a text has at most one line in front, with one rest behind it
 abbrev pub OneLine : Type 0
-OneLine = (around : Enclosure) (text : Text) (a b : Line) (left left' : Text) →
-    IsLine around text a left → IsLine around text b left' → (a ≡ b) × (left ≡ left')
+OneLine = (mode : NameMode) (around : Enclosure) (text : Text) (a b : Line) (left left' : Text) →
+    IsLine mode around text a left → IsLine mode around text b left' → (a ≡ b) × (left ≡ left')
 
 -- a text means at most one parameter, with one depth
 abbrev pub OneParameter : Type 0

@@ -1,5 +1,5 @@
 -- Reading a line from left to right, step by step, with a count of the open parentheses, as functions on lists.
-use Rattle.std.specs.Prelude.{ℕ, suc, ◌+◌, ◌-◌, Bool, true, false, ◌&&◌, ◌==◌, if◌then◌else◌, max, List, [], ◌∷◌, Option, Some, None}
+use Rattle.std.specs.Prelude.{ℕ, suc, ◌+◌, ◌-◌, Bool, true, false, ◌&&◌, ◌==◌, if◌then◌else◌, max, length, List, [], ◌∷◌, Option, Some, None}
 use Rattle.std.specs.Option.{option_map}
 use Rattle.std.specs.List.{prefix_len, list_all}
 use Rattle.handlebars_base.specs.Bytes.{Text, equals_sign, is_white, behind_white, is_symbol}
@@ -8,22 +8,25 @@ use Rattle.handlebars_base.specs.Optional.{◌>>=◌, with_or}
 use Rattle.handlebars_base.specs.Texts.{starts, after, symbols_of, behind_symbols}
 use Rattle.handlebars_lines.specs.Runs.{Next, goes, ends, stuck}
 use Rattle.handlebars_lines.specs.LiteralReading.{literal_at}
-use Rattle.handlebars_lines.specs.Parameter.{left_parenthesis, right_parenthesis, Term, literal_term, path_term, call_term, Terms, no_terms, term, is_reserved}
-use Rattle.handlebars_lines.specs.Line.{Enclosure, is_end, Line}
+use Rattle.handlebars_lines.specs.Parameter.{left_parenthesis, right_parenthesis, Term, literal_term, path_term, name_term, call_term, Terms, no_terms, term, is_reserved}
+use Rattle.handlebars_lines.specs.CloseName.{close_name_at}
+use Rattle.handlebars_lines.specs.Line.{NameMode, identifier_name, value_name, close_name, Enclosure, is_end, Line}
 
 -- ---- what steps take
 
--- What a step takes: an opening parenthesis, a literal by its text, or a path by its text, each behind a key or not; or
--- a closing parenthesis. The numbers say how many parentheses and brackets are then open at once.
+-- What a step takes: an opening parenthesis, a literal by its text, or a path by its text, each behind a key or not; a
+-- name by its text, outside parentheses; or a closing parenthesis. The numbers say how many parentheses and brackets are
+-- then open at once.
 pub data Event : Type 0 where
   opened : Option Text → ℕ → Event
   literal_event : Option Text → Text → ℕ → Event
   path_event : Option Text → Text → ℕ → Event
+  name_event : Text → Event
   closed : Event
 
--- at the beginning of a line; behind what items may follow; or behind a path that is alone in its line
+-- at the beginning of a line of this mode; behind what items may follow; or behind a path that is alone in its line
 pub data Stand : Type 0 where
-  at_name : Stand
+  at_name : NameMode → Stand
   at_items : Stand
   at_end : Stand
 
@@ -51,12 +54,20 @@ abbrev pub behind_name : Text → Stand
 behind_name raw = if list_all is_symbol raw then at_items else at_end
 
 abbrev pub open_step : Option Text → ℕ → Text → Next Event LineStand
-open_step key n r = goes (opened key (suc n)) (line_stand at_name (suc n)) (behind_white r)
+open_step key n r = goes (opened key (suc n)) (line_stand (at_name value_name) (suc n)) (behind_white r)
 
-unfoldable pub name_step : ℕ → Text → Next Event LineStand
-name_step n t =
-    with_or (after left_parenthesis t) (open_step None n)
-    (with_or (slice_at t) (λ p. goes (path_event None p.0 n) (line_stand (behind_name p.0) n) p.1) stuck)
+-- a name by its text, if it isn't empty, and what follows it
+abbrev pub plain_step : ℕ → Text × Text → Next Event LineStand
+plain_step n p = if length p.0 == 0 then stuck else goes (name_event p.0) (line_stand at_items n) p.1
+
+abbrev pub value_step : ℕ → Text → Next Event LineStand
+value_step n t =
+    with_or (slice_at t) (λ p. goes (path_event None p.0 n) (line_stand (behind_name p.0) n) p.1) stuck
+
+unfoldable pub name_step : NameMode → ℕ → Text → Next Event LineStand
+name_step identifier_name n t = plain_step n (symbols_of t, behind_symbols t)
+name_step value_name n t = with_or (after left_parenthesis t) (open_step None n) (value_step n t)
+name_step close_name n t = with_or (after left_parenthesis t) (open_step None n) (plain_step n (close_name_at t))
 
 -- a reserved word behind no key
 abbrev pub is_excluded : Option Text → Text → Bool
@@ -78,7 +89,7 @@ unfoldable pub item_step : ℕ → Text → Next Event LineStand
 item_step n t = with_or (key_and_equals_at t) (λ k. parameter_step (Some k.0) n k.1) (parameter_step None n t)
 
 abbrev pub may_follow : Stand → Bool
-may_follow at_name = false
+may_follow (at_name mode) = false
 may_follow at_items = true
 may_follow at_end = false
 
@@ -98,13 +109,13 @@ inner_step s n t =
 unfoldable pub behind_step : Enclosure → Stand → ℕ → Text → Next Event LineStand
 behind_step around s n t = if n == 0 then outer_step around s t else inner_step s n t
 
-abbrev pub is_at_name : Stand → Bool
-is_at_name at_name = true
-is_at_name at_items = false
-is_at_name at_end = false
+abbrev pub step_at : Enclosure → Stand → ℕ → Text → Next Event LineStand
+step_at around (at_name mode) n t = name_step mode n t
+step_at around at_items n t = behind_step around at_items n t
+step_at around at_end n t = behind_step around at_end n t
 
 unfoldable pub line_step : Enclosure → LineStand → Text → Next Event LineStand
-line_step around s t = if is_at_name s.stand then name_step s.level t else behind_step around s.stand s.level t
+line_step around s t = step_at around s.stand s.level t
 
 -- ---- what was taken
 
@@ -112,6 +123,7 @@ abbrev pub height : Event → ℕ
 height (opened key n) = n
 height (literal_event key raw n) = n
 height (path_event key raw n) = n
+height (name_event raw) = 0
 height closed = 0
 
 -- the most parentheses and brackets open at once
@@ -163,6 +175,7 @@ abbrev pub build : OpenLines → Event → Option OpenLines
 build fs (opened key n) = Some (opened_in key fs)
 build fs (literal_event key raw n) = Some (added_in key (literal_term raw) fs)
 build fs (path_event key raw n) = option_map (λ means. added_in key (path_term means) fs) (path_of raw)
+build fs (name_event raw) = Some (added_in None (name_term raw) fs)
 build fs closed = closed_in fs.top fs.around
 
 abbrev pub build_all : OpenLines → List Event → Option OpenLines

@@ -16,11 +16,12 @@ right_parenthesis = 41
 
 -- ---- what a parameter means
 
--- a literal by its text; a path; or a call by its name and the terms behind it
+-- a literal by its text; a path; a name by its text; or a call by its name and the terms behind it
 mutual
   pub data Term : Type 0 where
     literal_term : Text → Term
     path_term : Reference → Term
+    name_term : Text → Term
     call_term : Term → Terms → Term
 
   -- parameters, and pairs by their keys, in the order of the text
@@ -64,7 +65,7 @@ lacks_items no_items = true
 lacks_items (parameter_item w p more) = false
 lacks_items (pair_item w key u v p more) = false
 
--- what may be a line's name: a line in parentheses, an identifier, or, with no items behind it, any path
+-- what may be the name of a value's line: a line in parentheses, an identifier, or, with no items behind it, any path
 abbrev pub is_name : TermShape → Items → Bool
 is_name (literal_shape l) items = false
 is_name (path_shape t means) items = list_all is_symbol t || lacks_items items

@@ -3,15 +3,17 @@
 ghost use Rattle.std.specs.Prelude.{IfOk, MatchOption};
 ghost use Rattle.handlebars_lines.specs.Line.{NoLine};
 ghost use Rattle.handlebars_lines.specs.LineLaws.{HasLine};
-ghost use Rattle.handlebars_lines.specs.LineView.{enclosure_of};
+ghost use Rattle.handlebars_lines.specs.LineView.{mode_of, enclosure_of};
 
 use crate::literal::larger;
 use std::alloc::{AllocError, Global};
 
+mod close_name;
 mod marks;
 mod step;
 
-pub use step::{Enclosure, Event, LineStand, Stand, Step, take_step};
+pub use close_name::close_name_at;
+pub use step::{Enclosure, Event, LineStand, NameMode, Stand, Step, take_step};
 
 /// How many parentheses and brackets of a line are open at once at most, and what follows it.
 #[derive(Clone, Copy, Debug, PartialEq, Eq)]
@@ -20,16 +22,17 @@ pub struct LineSlice<'a> {
     pub rest: &'a str,
 }
 
-/// The line in front of a text, up to what ends it.
+/// The line of this mode in front of a text, up to what ends it.
 pub fn split_line<'a>(
     alloc: Global,
+    mode: NameMode,
     around: Enclosure,
     text: &'a str,
 ) -> Result<Option<LineSlice<'a>>, AllocError>
-    ensures { IfOk result (λ read. MatchOption read (NoLine (enclosure_of around) text.now)
-        (λ slice. HasLine (enclosure_of around) text.now slice.depth slice.rest.now)) }
+    ensures { IfOk result (λ read. MatchOption read (NoLine (mode_of mode) (enclosure_of around) text.now)
+        (λ slice. HasLine (mode_of mode) (enclosure_of around) text.now slice.depth slice.rest.now)) }
 {
-    let mut state = LineStand::first();
+    let mut state = LineStand::first(mode);
     let mut rest = text;
     let mut depth = 0;
     'reading: loop {

@@ -3,11 +3,12 @@ use Rattle.std.proofs.Common.{◌≡◌, ◌≢◌, Bool, true, false, [], Some,
 use Rattle.std.proofs.lemmas.Option.{none-some}
 use Rattle.handlebars_base.specs.Bytes.{Text, behind_white, is_white}
 use Rattle.handlebars_base.specs.Texts.{starts, symbols_of, behind_symbols}
-use Rattle.handlebars_lines.specs.Line.{Line, in_tag, IsLine}
+use Rattle.handlebars_lines.specs.Line.{value_name, Line, in_tag, IsLine}
 use Rattle.handlebars_lines.proofs.Lines.{one_line}
 use Rattle.handlebars_tags.specs.Kind.{Kind, expression_kind, html_kind, html_sign_kind, block_kind, close_kind, inverse_kind, else_kind, raw_kind, raw_close_kind, comment_kind, other_kind, closing_of}
 use Rattle.handlebars_tags.specs.Comment.{IsComment, NoComment}
-use Rattle.handlebars_tags.specs.Tag.{Tag, expression_tag, html_tag, block_tag, inverse_tag, chain_tag, close_tag, raw_tag, raw_close_tag, comment_tag, BlockLine, IsBlockLine, close_name_at, Says, a_value, a_raw_value, a_signed_value, a_block, a_close, an_inverse, an_else, a_chain, a_raw_block, a_raw_close, a_comment}
+use Rattle.handlebars_lines.specs.CloseName.{close_name_at}
+use Rattle.handlebars_tags.specs.Tag.{Tag, expression_tag, html_tag, block_tag, inverse_tag, chain_tag, close_tag, raw_tag, raw_close_tag, comment_tag, BlockLine, IsBlockLine, Says, a_value, a_raw_value, a_signed_value, a_block, a_close, an_inverse, an_else, a_chain, a_raw_block, a_raw_close, a_comment}
 use Rattle.handlebars_tags.specs.TagReading.{NoBlockLine, NoClosedLine, IsClosed, NoneClosed}
 use Rattle.handlebars_tags.proofs.BlockLines.{one_block_line}
 
@@ -15,7 +16,7 @@ use Rattle.handlebars_tags.proofs.BlockLines.{one_block_line}
 
 pub record ValueSaid (of : Line → Tag) (t : Text) (tag : Tag) (rest : Text) : Type 0 where
   pub line : Line
-  pub is : IsLine in_tag t line rest
+  pub is : IsLine value_name in_tag t line rest
   pub gives : tag ≡ of line
 
 pub record BlockSaid (of : BlockLine → Tag) (t : Text) (tag : Tag) (rest : Text) : Type 0 where
@@ -112,7 +113,7 @@ none_closing-block k of t inside left line only is none tag right rest h =
 pub record ValueClosed (k : Kind) (t : Text) (right : Bool) (rest : Text) : Type 0 where
   pub line : Line
   pub behind : Text
-  pub is : IsLine in_tag t line behind
+  pub is : IsLine value_name in_tag t line behind
   pub closes : closing_of k behind ≡ Some (right, rest)
 
 none-value : (k : Kind) (t : Text) → ((tag : Tag) (right : Bool) (rest : Text) → IsClosed k t tag right rest → ValueClosed k t right rest) → NoClosedLine k t → NoneClosed k t
@@ -127,9 +128,9 @@ none-html t none = none-value html_kind t (λ tag right rest h. let s = said htm
 pub none-html_sign : (t : Text) → NoClosedLine html_sign_kind t → NoneClosed html_sign_kind t
 none-html_sign t none = none-value html_sign_kind t (λ tag right rest h. let s = said html_sign_kind t tag h.behind h.says in record { line = s.line; behind = h.behind; is = s.is; closes = h.closes }) none
 
-pub none-closed_line : (k : Kind) (t left : Text) (line : Line) → IsLine in_tag t line left → closing_of k left ≡ None → NoClosedLine k t
+pub none-closed_line : (k : Kind) (t left : Text) (line : Line) → IsLine value_name in_tag t line left → closing_of k left ≡ None → NoClosedLine k t
 none-closed_line k t left line is none line' behind right rest is' closes =
-    let one = one_line in_tag t line line' left behind is is' in
+    let one = one_line value_name in_tag t line line' left behind is is' in
     none-some (right, rest) (sym none ∙ ap (closing_of k) one.1 ∙ closes)
 
 -- ---- texts

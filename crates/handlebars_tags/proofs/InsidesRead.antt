@@ -3,9 +3,10 @@ use Rattle.std.proofs.Common.{◌≡◌, ◌≢◌, ℕ, Bool, true, false, [], 
 use Rattle.std.specs.Option.{MatchOption}
 use denote.Ref.{Bor}
 use Rattle.handlebars_base.specs.Bytes.{Text}
-use Rattle.handlebars_lines.specs.Line.{Line, in_tag, IsLine}
+use Rattle.handlebars_lines.specs.Line.{value_name, Line, in_tag, IsLine}
 use Rattle.handlebars_tags.specs.Kind.{Kind, expression_kind, html_kind, html_sign_kind, close_kind, inverse_kind, raw_close_kind, comment_kind, closing_of}
-use Rattle.handlebars_tags.specs.Tag.{Tag, tag_depth, expression_tag, html_tag, BlockLine, IsBlockLine, Says, a_value, a_raw_value, a_signed_value, inverse_tag, close_tag, raw_close_tag, close_name_at, a_close, a_raw_close, an_inverse, comment_tag, a_comment}
+use Rattle.handlebars_lines.specs.CloseName.{close_name_at}
+use Rattle.handlebars_tags.specs.Tag.{Tag, tag_depth, expression_tag, html_tag, BlockLine, IsBlockLine, Says, a_value, a_raw_value, a_signed_value, inverse_tag, close_tag, raw_close_tag, a_close, a_raw_close, an_inverse, comment_tag, a_comment}
 use Rattle.handlebars_tags.specs.Comment.{IsComment}
 use Rattle.handlebars_tags.specs.TagReading.{NoClosedLine, NoneClosed}
 use Rattle.handlebars_tags.specs.TagView.{Holds, HoldsLine, HoldsBlock, HasBlock, HasClosing, HasClosedLine, HasInside}
@@ -19,7 +20,7 @@ use Rattle.handlebars_tags.proofs.Insides.{OnlyBlock, none-closed_line, none-exp
 
 -- ---- values
 
-pub value_read : (k : Kind) (t left : Text) (line : Line) (content : Content) (depth : ℕ) (r : Option Inside) → IsLine in_tag t line left → line.depth ≡ depth
+pub value_read : (k : Kind) (t left : Text) (line : Line) (content : Content) (depth : ℕ) (r : Option Inside) → IsLine value_name in_tag t line left → line.depth ≡ depth
     → MatchOption r (closing_of k left ≡ None) (λ i. HasClosing k left content depth i) → MatchOption r (NoClosedLine k t) (λ i. HasClosedLine k t content i)
 value_read k t left line content depth None is deep none = none-closed_line k t left line is none
 value_read k t left line content depth (Some i) is deep h = record {
@@ -30,7 +31,7 @@ value_read k t left line content depth (Some i) is deep h = record {
 }
 
 value_inside : (k : Kind) (of : Line → Tag) (t : Text) (content : Content) (i : Inside) → ((line : Line) → tag_depth (of line) ≡ line.depth)
-    → ((line : Line) (rest : Text) → IsLine in_tag t line rest → Says k t (of line) rest) → ((tag : Tag) → HoldsLine of t tag → Holds content tag)
+    → ((line : Line) (rest : Text) → IsLine value_name in_tag t line rest → Says k t (of line) rest) → ((tag : Tag) → HoldsLine of t tag → Holds content tag)
     → HasClosedLine k t content i → HasInside k t i
 value_inside k of t content i deep says holds h = record {
   tag = of h.line;

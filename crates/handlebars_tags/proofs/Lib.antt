@@ -6,7 +6,6 @@ pub mod Comments
 pub mod Trims
 pub mod LineNames
 pub mod BlockLines
-pub mod CloseNames
 pub mod Insides
 pub mod InsidesRead
 pub mod BlocksRead

@@ -1,62 +1,48 @@
--- With which bytes lines begin, and when their names are identifiers.
-use Rattle.std.proofs.Common.{◌≡◌, true, false, cond, [], ◌∷◌, ◌++◌, Option, Some, None, refl, sym, ap, subst, ◌∙◌}
-use Rattle.std.specs.List.{list_all}
+-- The names of lines that are identifiers, and what such lines begin with.
+use Rattle.std.proofs.Common.{◌≡◌, true, false, ◌++◌, sym, ap, subst, ◌∙◌}
 use Rattle.std.proofs.lemmas.Bool.{false≢true}
 use Rattle.handlebars_base.specs.Bytes.{Text, is_symbol}
-use Rattle.handlebars_base.specs.Path.{raw_of, meaning, Shape as PathShape, itself, at_root, at_name, in_parts}
-use Rattle.handlebars_base.specs.PathReading.{stops, slice_at}
-use Rattle.handlebars_base.specs.Optional.{◌>>=◌}
-use Rattle.handlebars_base.proofs.References.{stops-path}
-use Rattle.handlebars_base.specs.Texts.{starts}
-use Rattle.handlebars_lines.specs.Parameter.{left_parenthesis, TermShape, literal_shape, path_shape, nested_shape, Items, is_name, spelled_shape, spelled_items, Fits, AreItems, term_of}
-use Rattle.handlebars_lines.specs.Line.{Line, Enclosure, IsLine, Closes}
-use Rattle.handlebars_lines.proofs.LineMarks.{slice_at-some, slice_at-stops}
-use Rattle.handlebars_lines.proofs.LineFronts.{begins, shape_starts, items_follow, follows_stops}
-use Rattle.handlebars_tags.specs.TagReading.{identifier_of}
+use Rattle.handlebars_base.specs.Path.{IsIdentifier}
+use Rattle.handlebars_base.specs.Texts.{starts, symbols_of}
+use Rattle.handlebars_base.proofs.Runs.{prefix_len-none, run-front}
+use Rattle.handlebars_lines.specs.Parameter.{name_term, spelled_items}
+use Rattle.handlebars_lines.specs.Line.{identifier_name, NameShape, plain_name, term_name, spelled_name, IsName, term_of_name, Line, Enclosure, IsLine}
+use Rattle.handlebars_lines.proofs.LineFronts.{begins, key_starts, items_follow, follows_no_symbol}
 
--- ---- what a line begins with
+-- The text of the name stands in front, and no symbol behind it.
+record HasIdentifier (t : Text) (line : Line) : Type 0 where
+  name : Text
+  behind : Text
+  whole : t ≡ name ++ behind
+  is : IsIdentifier name
+  stops : starts is_symbol behind ≡ false
+  gives : line.name ≡ name_term name
 
-pub line_starts : {around : Enclosure} {t left : Text} {line : Line} → IsLine around t line left → starts begins t ≡ true
-line_starts {left = left} x =
-    subst (λ (z : Text). starts begins z ≡ true) (sym x.whole)
-    (shape_starts x.name (spelled_items x.items ++ left) (spelled_items x.items ++ left) x.fits)
-
--- ---- whether a line's name is an identifier
-
-abbrev pub identifier_at : Option (Text × Text) → Option Text
-identifier_at o = o >>= λ p. cond (list_all is_symbol p.0) (Some p.0) None
-
-stops-append : (t r : Text) → stops t ≡ false → stops (t ++ r) ≡ false
-stops-append [] r e = absurd cc
-stops-append (b ∷ t) r e = e
-
-no_path-nested : (t : Text) → slice_at (left_parenthesis ∷ t) ≡ None
-no_path-nested t = on (slice_at (left_parenthesis ∷ t)) refl
+has_identifier : {around : Enclosure} {t left : Text} {line : Line} → IsLine identifier_name around t line left → HasIdentifier t line
+has_identifier {around} {t} {left} {line} x = on x.name x.is_name x.whole (ap (λ (z : Line). z.name) x.gives)
   where
-    on : (o : Option (Text × Text)) → slice_at (left_parenthesis ∷ t) ≡ o → o ≡ None
-    on None e = refl
-    on (Some p) e =
-        let found = slice_at-some (left_parenthesis ∷ t) p e in
-        let never : stops (left_parenthesis ∷ t) ≡ false = ap stops found.whole ∙ stops-append p.0 p.1 (stops-path p.0 found.means found.is) in
-        absurd (false≢true (sym never ∙ refl))
+    behind : Text
+    behind = spelled_items x.items ++ left
 
-raw-meaning : (t : Text) (s : PathShape) → raw_of (meaning t s) ≡ t
-raw-meaning t itself = refl
-raw-meaning t (at_root links) = refl
-raw-meaning t (at_name n name links) = refl
-raw-meaning t (in_parts dotted p links) = refl
+    on : (name : NameShape) → IsName identifier_name name x.items behind → t ≡ spelled_name name ++ behind → line.name ≡ term_of_name name → HasIdentifier t line
+    on (plain_name n) is whole gives = record {
+      name = n;
+      behind = behind;
+      whole = whole;
+      is = is;
+      stops = follows_no_symbol behind (items_follow around x.items left x.are_items x.closes);
+      gives = gives;
+    }
+    on (term_name p) is whole gives = absurd (false≢true is.0)
 
-name-identifier : (around : Enclosure) (s : TermShape) (items : Items) (left : Text) → is_name s items ≡ true → Fits s (spelled_items items ++ left) → AreItems items left → Closes around left
-    → identifier_at (slice_at (spelled_shape s ++ (spelled_items items ++ left))) ≡ identifier_of (term_of s)
-name-identifier around (literal_shape l) items left named fits are closes = absurd cc
-name-identifier around (path_shape t means) items left named fits are closes =
-    let follows : Text = spelled_items items ++ left in
-    let raw : raw_of means ≡ t = ap raw_of fits.gives ∙ raw-meaning t fits.shape in
-    ap identifier_at (slice_at-stops t follows means fits (follows_stops follows (items_follow around items left are closes)))
-    ∙ ap (λ (z : Text). cond (list_all is_symbol z) (Some z) None) (sym raw)
-name-identifier around (nested_shape w name inner v) items left named fits are closes = ap identifier_at (no_path-nested _)
+pub line_starts : {around : Enclosure} {t left : Text} {line : Line} → IsLine identifier_name around t line left → starts begins t ≡ true
+line_starts x =
+    let h = has_identifier x in
+    subst (λ (z : Text). starts begins z ≡ true) (sym h.whole) (key_starts h.name h.behind h.is)
 
--- what is read as a path in front of a line tells whether its name is an identifier
-pub line-identifier : (around : Enclosure) (t : Text) {left : Text} {line : Line} → IsLine around t line left → identifier_at (slice_at t) ≡ identifier_of line.name
-line-identifier around t {left} x =
-    ap (λ (z : Text). identifier_at (slice_at z)) x.whole ∙ name-identifier around x.name x.items left x.is_name x.fits x.are_items x.closes ∙ sym (ap (λ (z : Line). identifier_of z.name) x.gives)
+-- the symbols in front are the name
+pub line-identifier : {around : Enclosure} {t left : Text} {line : Line} → IsLine identifier_name around t line left → line.name ≡ name_term (symbols_of t)
+line-identifier x =
+    let h = has_identifier x in
+    let all = run-front is_symbol h.name h.behind h.is.1 (prefix_len-none is_symbol h.behind h.stops) in
+    h.gives ∙ ap name_term (sym (ap symbols_of h.whole ∙ all))

@@ -7,7 +7,7 @@ use Rattle.handlebars_base.specs.Bytes.{Text, right_brace, behind_white}
 use Rattle.handlebars_base.specs.Texts.{starts, after}
 use Rattle.handlebars_base.proofs.Fronts.{starts-other, after-not}
 use Rattle.handlebars_base.proofs.Bytes.{other_byte}
-use Rattle.handlebars_lines.specs.Line.{Line, in_tag, tilde}
+use Rattle.handlebars_lines.specs.Line.{value_name, Line, in_tag, tilde}
 use Rattle.handlebars_lines.proofs.LineFronts.{begins}
 use Rattle.handlebars_lines.proofs.Lines.{one_line}
 use Rattle.handlebars_tags.specs.Kind.{Kind, expression_kind, html_kind, html_sign_kind, block_kind, close_kind, inverse_kind, else_kind, raw_kind, raw_close_kind, comment_kind, other_kind, beginning_of, closing_of}
@@ -36,7 +36,7 @@ record OneSaid (tag tag' : Tag) (rest rest' : Text) : Type 0 where
 
 one_value : (of : Line → Tag) (t : Text) (tag tag' : Tag) (rest rest' : Text) → ValueSaid of t tag rest → ValueSaid of t tag' rest' → OneSaid tag tag' rest rest'
 one_value of t tag tag' rest rest' h k =
-    let one = one_line in_tag t h.line k.line rest rest' h.is k.is in
+    let one = one_line value_name in_tag t h.line k.line rest rest' h.is k.is in
     record { tags = h.gives ∙ ap of one.0 ∙ sym k.gives; rests = one.1 }
 
 one_block : (of : BlockLine → Tag) (t : Text) (tag tag' : Tag) (rest rest' : Text) → BlockSaid of t tag rest → BlockSaid of t tag' rest' → OneSaid tag tag' rest rest'

@@ -1,19 +1,20 @@
 -- What follows a tag ends its source.
-use Rattle.std.proofs.Common.{◌≡◌, ℕ, ◌+◌, Bool, true, false, cond, [], ◌∷◌, ◌++◌, length, drop, take, Option, Some, sym, subst, ◌∙◌, append_assoc, codes, inl, inr}
-use Rattle.std.specs.Prelude.{◌==◌, nat_lt}
-use Rattle.std.specs.List.{prefix_len, position_or_len}
+use Rattle.std.proofs.Common.{◌≡◌, Bool, true, false, [], ◌∷◌, ◌++◌, Option, Some, sym, subst, ◌∙◌, append_assoc, codes, inl, inr}
+use Rattle.std.specs.List.{prefix_len}
 use Rattle.std.proofs.lemmas.Option.{same_Some, none-some}
-use Rattle.handlebars_base.specs.Bytes.{Text, right_brace, right_bracket, left_bracket, single_quote, behind_white, is_symbol}
+use Rattle.handlebars_base.specs.Bytes.{Text, right_brace, behind_white, is_symbol}
 use Rattle.handlebars_base.specs.Optional.{◌>>=◌}
 use Rattle.handlebars_base.proofs.OptionBinds.{bind_some, with_or_is}
-use Rattle.handlebars_base.specs.Texts.{starts, IsEnd, after}
+use Rattle.handlebars_base.specs.Texts.{IsEnd, after}
 use Rattle.handlebars_base.proofs.Ends.{end-all, end-behind, end-after, end-white, end-drop}
-use Rattle.handlebars_lines.specs.Parameter.{spelled_shape, spelled_items}
-use Rattle.handlebars_lines.specs.Line.{Line, Enclosure, IsLine, tilde}
+use Rattle.handlebars_lines.specs.Parameter.{spelled_items}
+use Rattle.handlebars_lines.specs.Line.{NameMode, spelled_name, Line, Enclosure, IsLine, tilde}
+use Rattle.handlebars_lines.proofs.CloseNames.{close_name-whole}
 use Rattle.handlebars_lines.specs.Binding.{Binding, bar, IsBinding, is_unbound, is_bound, spelled_names}
 use Rattle.handlebars_tags.specs.Kind.{Kind, expression_kind, html_kind, html_sign_kind, block_kind, close_kind, inverse_kind, else_kind, raw_kind, raw_close_kind, comment_kind, other_kind, past, tilde_at, close_by, brace_tilde_braces, three_close, closing_of}
 use Rattle.handlebars_tags.specs.Comment.{IsComment, long, compact}
-use Rattle.handlebars_tags.specs.Tag.{Tag, BlockLine, IsBlockLine, is_close_symbol, enclosed_at, close_name_at, Says}
+use Rattle.handlebars_lines.specs.CloseName.{close_name_at}
+use Rattle.handlebars_tags.specs.Tag.{Tag, BlockLine, IsBlockLine, Says}
 use Rattle.handlebars_tags.specs.TagReading.{IsClosed}
 use Rattle.handlebars_tags.proofs.Beginnings.{end-past, end-tilde}
 use Rattle.handlebars_tags.proofs.Insides.{said}
@@ -59,8 +60,8 @@ end-closing other_kind t p e = absurd (none-some p e)
 
 -- ---- what is said
 
-end-line : {around : Enclosure} {t rest : Text} {line : Line} → IsLine around t line rest → IsEnd t rest
-end-line {rest = rest} x = (spelled_shape x.name ++ spelled_items x.items, x.whole ∙ sym (append_assoc (spelled_shape x.name) (spelled_items x.items) rest))
+end-line : {mode : NameMode} {around : Enclosure} {t rest : Text} {line : Line} → IsLine mode around t line rest → IsEnd t rest
+end-line {rest = rest} x = (spelled_name x.name ++ spelled_items x.items, x.whole ∙ sym (append_assoc (spelled_name x.name) (spelled_items x.items) rest))
 
 end-binding : (t rest : Text) (means : Binding) → IsBinding t means rest → IsEnd t rest
 end-binding t rest means (is_unbound none gives all) = ([], sym all)
@@ -74,21 +75,8 @@ end-binding t rest means (is_bound b) =
 end-block : (t rest : Text) (line : BlockLine) → IsBlockLine t line rest → IsEnd t rest
 end-block t rest line x = end-behind t x.behind rest (end-line x.is_line) (end-binding x.behind rest line.binding x.binds)
 
-end-cond : (b : Bool) (t : Text) (p q : Text × Text) → IsEnd t p.1 → IsEnd t q.1 → IsEnd t (cond b p q).1
-end-cond true t p q h k = h
-end-cond false t p q h k = k
-
-end-enclosed : (c : ℕ) (t : Text) → IsEnd t (enclosed_at c t).1
-end-enclosed c t =
-    let n = position_or_len (λ b. b == c) (drop 1 t) in
-    end-cond (nat_lt n (length (drop 1 t))) t (take (n + 2) t, drop (n + 2) t) ([], t) (end-drop (n + 2) t) (end-all t)
-
 end-close_name : (t : Text) → IsEnd t (close_name_at t).1
-end-close_name t =
-    let n = prefix_len is_close_symbol t in
-    let rest : Text × Text = cond (starts (λ b. b == single_quote) t) (enclosed_at single_quote t) (take n t, drop n t) in
-    end-cond (starts (λ b. b == left_bracket) t) t (enclosed_at right_bracket t) rest (end-enclosed right_bracket t)
-    (end-cond (starts (λ b. b == single_quote) t) t (enclosed_at single_quote t) (take n t, drop n t) (end-enclosed single_quote t) (end-drop n t))
+end-close_name t = ((close_name_at t).0, close_name-whole t)
 
 end-comment : (t kept rest : Text) → IsComment t kept rest → IsEnd t rest
 end-comment t _ _ (long body whole is) = (body, whole)

@@ -1,11 +1,10 @@
 -- What a tag is, by the slice that spells it and what follows it.
-use Rattle.std.specs.Prelude.{◌≡◌, ◌≢◌, ℕ, ◌+◌, Bool, true, false, if◌then◌else◌, ◌==◌, ◌||◌, [], ◌++◌, Some, nat_lt, length, take, drop}
-use Rattle.std.specs.List.{list_all, prefix_len, position_or_len}
-use Rattle.handlebars_base.specs.Bytes.{Text, slash, dot, at_sign, left_bracket, right_bracket, single_quote, is_white, behind_white, is_symbol}
-use Rattle.handlebars_base.specs.Path.{Reference, raw_of}
+use Rattle.std.specs.Prelude.{◌≡◌, ◌≢◌, ℕ, Bool, true, false, [], ◌++◌, Some}
+use Rattle.handlebars_base.specs.Bytes.{Text, is_white, behind_white}
 use Rattle.handlebars_base.specs.Texts.{starts, symbols_of, behind_symbols}
-use Rattle.handlebars_lines.specs.Parameter.{Terms, path_term}
-use Rattle.handlebars_lines.specs.Line.{Line, in_tag, in_block, IsLine}
+use Rattle.handlebars_lines.specs.Parameter.{Terms, name_term}
+use Rattle.handlebars_lines.specs.CloseName.{close_name_at}
+use Rattle.handlebars_lines.specs.Line.{identifier_name, value_name, Line, in_tag, in_block, IsLine}
 use Rattle.handlebars_lines.specs.Binding.{Binding, IsBinding}
 use Rattle.handlebars_tags.specs.Kind.{Kind, expression_kind, html_kind, html_sign_kind, block_kind, close_kind, inverse_kind, else_kind, raw_kind, raw_close_kind, comment_kind, Beginning, beginning_of, closing_of}
 use Rattle.handlebars_tags.specs.Comment.{IsComment}
@@ -54,35 +53,16 @@ tag_depth (comment_tag t) = 0
 
 -- a line whose name is an identifier, and block parameters or none
 pub record IsBlockLine (text : Text) (means : BlockLine) (rest : Text) : Type 0 where
-  pub name : Reference
   pub behind : Text
-  pub is_line : IsLine in_block text (record { name = path_term name; terms = means.terms; depth = means.depth }) behind
-  pub is_name : raw_of name ≡ means.name
-  pub is_identifier : list_all is_symbol means.name ≡ true
+  pub is_line : IsLine identifier_name in_block text
+      (record { name = name_term means.name; terms = means.terms; depth = means.depth }) behind
   pub binds : IsBinding behind means.binding rest
-
-abbrev pub is_close_symbol : ℕ → Bool
-is_close_symbol b = is_symbol b || ((b == slash) || ((b == dot) || (b == at_sign)))
-
--- up to the byte and with it, where it stands behind the first byte; and what follows
-abbrev pub enclosed_at : ℕ → Text → Text × Text
-enclosed_at c t =
-    let n = position_or_len (λ b. b == c) (drop 1 t) in
-    if nat_lt n (length (drop 1 t)) then (take (n + 2) t, drop (n + 2) t) else ([], t)
-
--- The name in a closing tag, empty or not, and what follows it: in brackets, in single quotes, or a run of symbols, `/`,
--- `.` and `@`.
-abbrev pub close_name_at : Text → Text × Text
-close_name_at t =
-    if starts (λ b. b == left_bracket) t then enclosed_at right_bracket t
-    else (if starts (λ b. b == single_quote) t then enclosed_at single_quote t
-    else (take (prefix_len is_close_symbol t) t, drop (prefix_len is_close_symbol t) t))
 
 -- Says kind inside tag rest: what is inside a tag of this kind says so much, and the rest follows it.
 pub data Says : Kind → Text → Tag → Text → Type 0 where
-  a_value : {t rest : Text} {line : Line} → IsLine in_tag t line rest → Says expression_kind t (expression_tag line) rest
-  a_raw_value : {t rest : Text} {line : Line} → IsLine in_tag t line rest → Says html_kind t (html_tag line) rest
-  a_signed_value : {t rest : Text} {line : Line} → IsLine in_tag t line rest → Says html_sign_kind t (html_tag line) rest
+  a_value : {t rest : Text} {line : Line} → IsLine value_name in_tag t line rest → Says expression_kind t (expression_tag line) rest
+  a_raw_value : {t rest : Text} {line : Line} → IsLine value_name in_tag t line rest → Says html_kind t (html_tag line) rest
+  a_signed_value : {t rest : Text} {line : Line} → IsLine value_name in_tag t line rest → Says html_sign_kind t (html_tag line) rest
   a_block : {t rest : Text} {line : BlockLine} → IsBlockLine t line rest → Says block_kind t (block_tag line) rest
   a_close : (t : Text) → Says close_kind t (close_tag (close_name_at t).0) (close_name_at t).1
   an_inverse : (t : Text) → Says inverse_kind t inverse_tag t

@@ -1,7 +1,7 @@
 -- What the program's tags stand for.
 use Rattle.std.specs.Prelude.{◌≡◌, ℕ, true, ◌++◌, Some}
 use Rattle.handlebars_base.specs.Bytes.{Text}
-use Rattle.handlebars_lines.specs.Line.{Line, in_tag, IsLine}
+use Rattle.handlebars_lines.specs.Line.{value_name, Line, in_tag, IsLine}
 use Rattle.handlebars_lines.specs.BindingView.{binding_of}
 use Rattle.handlebars_tags.specs.Kind.{Kind, closing_of}
 use Rattle.handlebars_tags.specs.Tag.{BlockLine, IsBlockLine, Tag, expression_tag, html_tag, block_tag, inverse_tag, chain_tag, close_tag, raw_tag, raw_close_tag, comment_tag, tag_depth, IsTag}
@@ -17,7 +17,7 @@ use Rattle.handlebars_tags.specs.declared.tag.TagSlice.{TagSlice}
 pub record HoldsLine (of : Line → Tag) (text : Text) (tag : Tag) : Type 0 where
   pub line : Line
   pub behind : Text
-  pub is_line : IsLine in_tag text line behind
+  pub is_line : IsLine value_name in_tag text line behind
   pub gives : tag ≡ of line
 
 -- A text, which begins with a line of a block, a name and what it binds are those of the block.
@@ -62,7 +62,7 @@ pub record HasClosing (kind : Kind) (behind : Text) (content : Content) (depth :
 pub record HasClosedLine (kind : Kind) (text : Text) (content : Content) (read : Inside) : Type 0 where
   pub line : Line
   pub behind : Text
-  pub is_line : IsLine in_tag text line behind
+  pub is_line : IsLine value_name in_tag text line behind
   pub closing : HasClosing kind behind content line.depth read
 
 -- What stands inside a tag of this kind, and closes it, was read so.

@@ -10,7 +10,6 @@ use inside::inside_at;
 use std::alloc::{AllocError, Global};
 
 mod beginning;
-mod close_name;
 mod closing;
 mod inside;
 

@@ -9,7 +9,7 @@ use Rattle.handlebars_base.specs.Path.{Reference}
 use Rattle.handlebars_base.specs.PathReading.{path_of}
 use Rattle.handlebars_base.specs.Optional.{◌>>=◌}
 use Rattle.handlebars_lines.specs.Runs.{goes, ends, stuck}
-use Rattle.handlebars_lines.specs.Line.{Enclosure, Line, IsLine}
+use Rattle.handlebars_lines.specs.Line.{NameMode, Enclosure, Line, IsLine}
 use Rattle.handlebars_lines.specs.LineReading.{Event, path_event, at_name, LineStand, line_stand, line_step, first_lines, build_all}
 use Rattle.handlebars_lines.proofs.Endings.{Through, through-starts, through-goes, runs-goes, runs-ends, runs-stuck}
 use Rattle.handlebars_lines.proofs.LineEvents.{whole_lines}
@@ -22,16 +22,16 @@ use Rattle.handlebars_template.specs.declared.template.line.BuiltLine.{BuiltLine
 use Rattle.handlebars_template.proofs.LineImages.{frames_image, closed_name-terms, take_all-image}
 
 -- What is taken of all the steps is taken of those from here on.
-abbrev pub Takes : Enclosure → Text → LineStand → Text → OpenCalls → Type 0
-Takes around t s rest calls = Through (line_step around) (line_stand at_name 0) t (take_all first_calls) s rest (take_all calls)
+abbrev pub Takes : NameMode → Enclosure → Text → LineStand → Text → OpenCalls → Type 0
+Takes mode around t s rest calls = Through (line_step around) (line_stand (at_name mode) 0) t (take_all first_calls) s rest (take_all calls)
 
-pub take-starts : (around : Enclosure) (t : Text) → Takes around t (line_stand at_name 0) t first_calls
-take-starts around t = through-starts (line_step around) (line_stand at_name 0) t (take_all first_calls)
+pub take-starts : (mode : NameMode) (around : Enclosure) (t : Text) → Takes mode around t (line_stand (at_name mode) 0) t first_calls
+take-starts mode around t = through-starts (line_step around) (line_stand (at_name mode) 0) t (take_all first_calls)
 
-pub take-goes : (around : Enclosure) (t : Text) (s : LineStand) (rest : Text) (calls : OpenCalls) (x : Event) (s' : LineStand) (rest' : Text) (calls' : OpenCalls)
-    → goes x s' rest' ≡ line_step around s rest → Some calls' ≡ take calls x → Takes around t s rest calls → Takes around t s' rest' calls'
-take-goes around t s rest calls x s' rest' calls' is taken h =
-    through-goes (line_step around) (line_stand at_name 0) t (take_all first_calls) s rest (take_all calls) x s' rest' (take_all calls') (sym is)
+pub take-goes : (mode : NameMode) (around : Enclosure) (t : Text) (s : LineStand) (rest : Text) (calls : OpenCalls) (x : Event) (s' : LineStand) (rest' : Text) (calls' : OpenCalls)
+    → goes x s' rest' ≡ line_step around s rest → Some calls' ≡ take calls x → Takes mode around t s rest calls → Takes mode around t s' rest' calls'
+take-goes mode around t s rest calls x s' rest' calls' is taken h =
+    through-goes (line_step around) (line_stand (at_name mode) 0) t (take_all first_calls) s rest (take_all calls) x s' rest' (take_all calls') (sym is)
     (λ xs. ap (λ (z : Option OpenCalls). z >>= λ gs. take_all gs xs) (sym taken)) h
 
 -- all of a line's steps come to what stands for its frames
@@ -44,50 +44,50 @@ finish-line line =
     (closed_name-terms line.name line.terms)
 
 -- what the loop answers where a line stands
-abbrev pub IsFinished : Enclosure → Text → Option LineCall → Type 0
-IsFinished around t o = (line : Line) (left : Text) → IsLine around t line left → o ≡ Some (line_call line)
+abbrev pub IsFinished : NameMode → Enclosure → Text → Option LineCall → Type 0
+IsFinished mode around t o = (line : Line) (left : Text) → IsLine mode around t line left → o ≡ Some (line_call line)
 
-pub take-ends : (around : Enclosure) (t : Text) (s : LineStand) (rest : Text) (calls : OpenCalls) → ends ≡ line_step around s rest → Takes around t s rest calls → IsFinished around t (finish calls)
-take-ends around t s rest calls is h line left l =
-    let f = line_found around t line left l in
+pub take-ends : (mode : NameMode) (around : Enclosure) (t : Text) (s : LineStand) (rest : Text) (calls : OpenCalls) → ends ≡ line_step around s rest → Takes mode around t s rest calls → IsFinished mode around t (finish calls)
+take-ends mode around t s rest calls is h line left l =
+    let f = line_found mode around t line left l in
     let p = h.passes f.events left f.runs in
     let over = runs-ends (line_step around) s rest p.0 left p.1 (sym is) in
     let whole : Some calls ≡ Some (frames_image (whole_lines line.name line.terms)) = ap (take_all calls) (sym over.0) ∙ sym p.2 ∙ taken_whole f.events line f.built in
     ap finish (same_Some calls (frames_image (whole_lines line.name line.terms)) whole) ∙ finish-line line
 
-pub take-stuck : {A : Type 0} (around : Enclosure) (t : Text) (s : LineStand) (rest : Text) (calls : OpenCalls) (line : Line) (left : Text)
-    → stuck ≡ line_step around s rest → Takes around t s rest calls → IsLine around t line left → A
-take-stuck around t s rest calls line left is h l =
-    let f = line_found around t line left l in
+pub take-stuck : {A : Type 0} (mode : NameMode) (around : Enclosure) (t : Text) (s : LineStand) (rest : Text) (calls : OpenCalls) (line : Line) (left : Text)
+    → stuck ≡ line_step around s rest → Takes mode around t s rest calls → IsLine mode around t line left → A
+take-stuck mode around t s rest calls line left is h l =
+    let f = line_found mode around t line left l in
     let p = h.passes f.events left f.runs in
     runs-stuck (line_step around) s rest p.0 left p.1 (sym is)
 
-pub take-lost : {A : Type 0} (around : Enclosure) (t : Text) (s : LineStand) (rest : Text) (calls : OpenCalls) (x : Event) (s' : LineStand) (rest' : Text) (line : Line) (left : Text)
-    → goes x s' rest' ≡ line_step around s rest → None ≡ take calls x → Takes around t s rest calls → IsLine around t line left → A
-take-lost around t s rest calls x s' rest' line left is lost h l =
-    let f = line_found around t line left l in
+pub take-lost : {A : Type 0} (mode : NameMode) (around : Enclosure) (t : Text) (s : LineStand) (rest : Text) (calls : OpenCalls) (x : Event) (s' : LineStand) (rest' : Text) (line : Line) (left : Text)
+    → goes x s' rest' ≡ line_step around s rest → None ≡ take calls x → Takes mode around t s rest calls → IsLine mode around t line left → A
+take-lost mode around t s rest calls x s' rest' line left is lost h l =
+    let f = line_found mode around t line left l in
     let p = h.passes f.events left f.runs in
     let r = runs-goes (line_step around) s rest p.0 left x s' rest' p.1 (sym is) in
     let nothing : take_all calls p.0 ≡ None = ap (take_all calls) r.1 ∙ ap (λ (z : Option OpenCalls). z >>= λ gs. take_all gs r.0) (sym lost) in
     absurd (none-some (frames_image (whole_lines line.name line.terms)) (sym nothing ∙ sym p.2 ∙ taken_whole f.events line f.built))
 
 -- where a path is taken first and the steps then end, the line is that path
-pub path-alone : (around : Enclosure) (t raw : Text) (key : Option Text) (n : ℕ) (s : LineStand) (rest : Text) (means : Reference)
-    → goes (path_event key raw n) s rest ≡ line_step around (line_stand at_name 0) t → ends ≡ line_step around s rest → Some means ≡ path_of raw
-    → (line : Line) (left : Text) → IsLine around t line left → line_call line ≡ path_call means
-path-alone around t raw key n s rest means first last found line left l =
+pub path-alone : (mode : NameMode) (around : Enclosure) (t raw : Text) (key : Option Text) (n : ℕ) (s : LineStand) (rest : Text) (means : Reference)
+    → goes (path_event key raw n) s rest ≡ line_step around (line_stand (at_name mode) 0) t → ends ≡ line_step around s rest → Some means ≡ path_of raw
+    → (line : Line) (left : Text) → IsLine mode around t line left → line_call line ≡ path_call means
+path-alone mode around t raw key n s rest means first last found line left l =
     let taken : Some (open_calls (open_call None (Some (path means)) no_params no_pairs) [] None) ≡ take first_calls (path_event key raw n) =
     ap (option_map (λ m. open_calls (add key (path m) first_calls.top) first_calls.around first_calls.refused)) found in
-    let h = take-goes around t (line_stand at_name 0) t first_calls (path_event key raw n) s rest _ first taken (take-starts around t) in
-    same_Some (line_call line) (path_call means) (sym (take-ends around t s rest _ last h line left l))
+    let h = take-goes mode around t (line_stand (at_name mode) 0) t first_calls (path_event key raw n) s rest _ first taken (take-starts mode around t) in
+    same_Some (line_call line) (path_call means) (sym (take-ends mode around t s rest _ last h line left l))
 
-pub path-read : {E : Type 0} (around : Enclosure) (t raw : Text) (key : Option Text) (n : ℕ) (s : LineStand) (rest : Text)
-    → goes (path_event key raw n) s rest ≡ line_step around (line_stand at_name 0) t → ends ≡ line_step around s rest
+pub path-read : {E : Type 0} (mode : NameMode) (around : Enclosure) (t raw : Text) (key : Option Text) (n : ℕ) (s : LineStand) (rest : Text)
+    → goes (path_event key raw n) s rest ≡ line_step around (line_stand (at_name mode) 0) t → ends ≡ line_step around s rest
     → (r : Result (Option Path) E) → IfOk r (λ read. option_map reference_of read ≡ path_of raw)
-    → IfOk r (λ read. IfSome read (λ p. (line : Line) (left : Text) → IsLine around t line left → line_call line ≡ path_call (reference_of p)))
-path-read around t raw key n s rest first last (Ok None) found = tt
-path-read around t raw key n s rest first last (Ok (Some p)) found = path-alone around t raw key n s rest (reference_of p) first last found
-path-read around t raw key n s rest first last (Err e) found = tt
+    → IfOk r (λ read. IfSome read (λ p. (line : Line) (left : Text) → IsLine mode around t line left → line_call line ≡ path_call (reference_of p)))
+path-read mode around t raw key n s rest first last (Ok None) found = tt
+path-read mode around t raw key n s rest first last (Ok (Some p)) found = path-alone mode around t raw key n s rest (reference_of p) first last found
+path-read mode around t raw key n s rest first last (Err e) found = tt
 
 -- ---- the line of what is built
 

@@ -10,8 +10,8 @@ use Rattle.handlebars_base.specs.Bytes.{Text}
 use Rattle.handlebars_base.specs.Path.{Reference, raw_of}
 use Rattle.handlebars_base.specs.PathReading.{path_of}
 use Rattle.handlebars_base.specs.Optional.{◌>>=◌, with_or}
-use Rattle.handlebars_lines.specs.Parameter.{Term, literal_term, path_term, call_term, Terms, no_terms, term}
-use Rattle.handlebars_lines.specs.LineReading.{Event, opened, literal_event, path_event, closed, OpenLine, joined, begun_line, add_term, OpenLines, added_in, closed_in, build, build_all}
+use Rattle.handlebars_lines.specs.Parameter.{Term, literal_term, path_term, name_term, call_term, Terms, no_terms, term}
+use Rattle.handlebars_lines.specs.LineReading.{Event, opened, literal_event, path_event, name_event, closed, OpenLine, joined, begun_line, add_term, OpenLines, added_in, closed_in, build, build_all}
 use Rattle.handlebars_lines.specs.WorthReading.{worth_of}
 use Rattle.handlebars_template.specs.Tree.{expression, Param, name, path, subexpression, Params, param, Pairs, no_pairs, pair, lacks_params, lacks_pairs}
 use Rattle.handlebars_template.specs.Calls.{plain_call, put_pair, literal_param, lacks_terms, param_of, name_of, params_in, pairs_in, literals_of, literals_in, first_refused}
@@ -121,6 +121,7 @@ is_alone-terms (term (Some k) t ts) =
 pub closed_name-terms : (t : Term) (ts : Terms) → closed_name (param_of t) (params_in ts) (pairs_in no_pairs ts) ≡ name_of t ts
 closed_name-terms (literal_term raw) ts = cond-alike (is_alone (params_in ts) (pairs_in no_pairs ts)) (literal_param raw)
 closed_name-terms (path_term r) ts = ap (λ (b : Bool). cond b (path r) (name (raw_of r))) (is_alone-terms ts)
+closed_name-terms (name_term t) ts = cond-alike (is_alone (params_in ts) (pairs_in no_pairs ts)) (name t)
 closed_name-terms (call_term t inner) ts = cond-alike (is_alone (params_in ts) (pairs_in no_pairs ts)) (param_of (call_term t inner))
 
 called-terms : (t : Term) (ts : Terms) → called (param_of t) (params_in ts) (pairs_in no_pairs ts) ≡ param_of (call_term t ts)
@@ -200,6 +201,8 @@ take-image fs (opened key n) h =
 take-image fs (literal_event key raw n) h =
     ap (λ (z : OpenCalls). Some z) (image-added key (literal_term raw) fs.top fs.around (refuse (first_refused (literals_so_far fs.top fs.around)) raw) h (sym (first_refused-more (literals_so_far fs.top fs.around) raw)))
 take-image fs (path_event key raw n) h = image-path key fs.top fs.around h (path_of raw)
+take-image fs (name_event raw) h =
+    ap (λ (z : OpenCalls). Some z) (image-added None (name_term raw) fs.top fs.around (first_refused (literals_so_far fs.top fs.around)) h (ap first_refused (sym (append-none (literals_so_far fs.top fs.around)))))
 take-image fs closed h = image-closed fs.top.key fs.top.name fs.top.terms fs.around h
 
 -- ---- the order stays
@@ -230,6 +233,7 @@ build-kept : (fs : OpenLines) (x : Event) → AreInOrder fs.top fs.around → Ar
 build-kept fs (opened key n) h = (refl, h)
 build-kept fs (literal_event key raw n) h = kept-added fs.top fs.around key (literal_term raw) h
 build-kept fs (path_event key raw n) h = kept-path fs.top fs.around key (path_of raw) h
+build-kept fs (name_event raw) h = kept-added fs.top fs.around None (name_term raw) h
 build-kept fs closed h = kept-closed fs.top.key fs.top.name fs.top.terms fs.around h
 
 -- ---- all steps

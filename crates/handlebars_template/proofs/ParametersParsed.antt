@@ -12,7 +12,7 @@ use Rattle.handlebars_base.specs.Texts.{after}
 use Rattle.handlebars_lines.specs.Laws.{HasLiteral, NoLiteral}
 use Rattle.handlebars_lines.specs.LiteralReading.{LiteralSlice, literal_at}
 use Rattle.handlebars_lines.specs.Parameter.{Term, literal_term, path_term, call_term, IsParameter}
-use Rattle.handlebars_lines.specs.Line.{in_parentheses, Line, IsLine, NoLine}
+use Rattle.handlebars_lines.specs.Line.{value_name, in_parentheses, Line, IsLine, NoLine}
 use Rattle.handlebars_lines.specs.LineLaws.{HasLine}
 use Rattle.handlebars_lines.specs.WorthReading.{worth_of}
 use Rattle.handlebars_lines.proofs.LiteralsFound.{literal_at-is, literal_at-some}
@@ -56,14 +56,14 @@ parses_refused text means depth raw h le worthless =
 
 -- ---- a line in parentheses
 
-pub nested_none : (inside : Text) → NoLine in_parentheses (behind_white inside) → NoNested inside
+pub nested_none : (inside : Text) → NoLine value_name in_parentheses (behind_white inside) → NoNested inside
 nested_none inside none text opens = nested-no_line text inside opens none
 
-pub nested_open : (inside left : Text) (depth : ℕ) → HasLine in_parentheses (behind_white inside) depth left → None ≡ after 41 (behind_white left) → NoNested inside
+pub nested_open : (inside left : Text) (depth : ℕ) → HasLine value_name in_parentheses (behind_white inside) depth left → None ≡ after 41 (behind_white left) → NoNested inside
 nested_open inside left depth line none text opens =
     nested-goes_on text inside depth left opens line (λ e. none-some [] (none ∙ e))
 
-pub nested_more : (inside left rest : Text) (depth : ℕ) → HasLine in_parentheses (behind_white inside) depth left → Some rest ≡ after 41 (behind_white left) → (length rest == 0) ≡ false → NoNested inside
+pub nested_more : (inside left rest : Text) (depth : ℕ) → HasLine value_name in_parentheses (behind_white inside) depth left → Some rest ≡ after 41 (behind_white left) → (length rest == 0) ≡ false → NoNested inside
 nested_more inside left rest depth line some more text opens =
     nested-goes_on text inside depth left opens line (λ e. eqb-false (length rest) 0 more (ap length (same_Some rest [] (some ∙ e))))
 
@@ -71,7 +71,7 @@ length-none : (t : Text) → (length t == 0) ≡ true → t ≡ []
 length-none [] e = refl
 length-none (x ∷ xs) e = let never = eqb-true (length (x ∷ xs)) 0 e in absurd (omega (arith, never))
 
-pub nested_is : (inside left rest : Text) (depth : ℕ) → HasLine in_parentheses (behind_white inside) depth left → Some rest ≡ after 41 (behind_white left) → (length rest == 0) ≡ true → HasNested inside depth
+pub nested_is : (inside left rest : Text) (depth : ℕ) → HasLine value_name in_parentheses (behind_white inside) depth left → Some rest ≡ after 41 (behind_white left) → (length rest == 0) ≡ true → HasNested inside depth
 nested_is inside left rest depth line some none =
     record { left = left; line = line; closes = sym some ∙ ap (λ (z : Text). Some z) (length-none rest none) }
 
@@ -85,7 +85,7 @@ parses_deep text inside depth opens h deep =
 
 -- what building the line gives, where one stands there
 abbrev pub BuildsInside : Text → Option BuiltLine → Type 0
-BuildsInside inside read = (line : Line) (left : Text) → IsLine in_parentheses (behind_white inside) line left → IsBuilt line read
+BuildsInside inside read = (line : Line) (left : Text) → IsLine value_name in_parentheses (behind_white inside) line left → IsBuilt line read
 
 pub parses_lost : {A : Type 0} (inside : Text) (depth : ℕ) → HasNested inside depth → BuildsInside inside None → A
 parses_lost inside depth h built = absurd (built h.line.line h.left h.line.is)

@@ -1,15 +1,14 @@
 -- A source read by functions, so that running them tells what a worked source compiles to.
 use Rattle.std.proofs.Common.{◌≡◌, ℕ, suc, Bool, true, false, cond, Option, Some, None, [], ◌∷◌, ◌++◌, length, refl, sym, ap, ◌∙◌, subst, arith, inl, inr}
-use Rattle.std.specs.List.{list_all}
 use Rattle.std.proofs.lemmas.Option.{same_Some, none-some}
-use Rattle.handlebars_base.specs.Bytes.{Text, is_white, behind_white, is_symbol}
-use Rattle.handlebars_base.specs.Path.{Reference, raw_of}
+use Rattle.handlebars_base.specs.Bytes.{Text, is_white, behind_white}
 use Rattle.handlebars_base.specs.Optional.{◌>>=◌}
 use Rattle.handlebars_base.proofs.OptionBinds.{bind_some, cond_is}
 use Rattle.handlebars_base.specs.Texts.{starts, symbols_of, behind_symbols}
 use Rattle.handlebars_lines.specs.Runs.{run as steps}
-use Rattle.handlebars_lines.specs.Parameter.{Term, literal_term, path_term, call_term}
-use Rattle.handlebars_lines.specs.Line.{Enclosure, in_tag, in_block, Line, IsLine, NoLine}
+use Rattle.handlebars_lines.specs.Parameter.{Term, literal_term, path_term, name_term, call_term}
+use Rattle.handlebars_lines.specs.CloseName.{close_name_at}
+use Rattle.handlebars_lines.specs.Line.{NameMode, identifier_name, value_name, Enclosure, in_tag, in_block, Line, IsLine, NoLine}
 use Rattle.handlebars_lines.specs.LineReading.{line_stand, at_name, line_step, line_from}
 use Rattle.handlebars_lines.specs.Binding.{Binding}
 use Rattle.handlebars_lines.specs.BindingReading.{binding_at}
@@ -19,7 +18,7 @@ use Rattle.handlebars_lines.proofs.LineBounds.{line_shortens}
 use Rattle.handlebars_lines.proofs.Bindings.{binding_at-takes}
 use Rattle.handlebars_tags.specs.Text.{Braces, IsText, at_end, at_tag, a_byte, braces, before_braces}
 use Rattle.handlebars_tags.specs.Kind.{Kind, expression_kind, html_kind, html_sign_kind, block_kind, close_kind, inverse_kind, else_kind, raw_kind, raw_close_kind, comment_kind, other_kind, Beginning, beginning, beginning_of, closing_of}
-use Rattle.handlebars_tags.specs.Tag.{BlockLine, Tag, expression_tag, html_tag, block_tag, inverse_tag, chain_tag, close_tag, raw_tag, raw_close_tag, Tildes, IsBlockLine, close_name_at, Says, a_value, a_raw_value, a_signed_value, a_block, a_close, an_inverse, an_else, a_chain, a_raw_block, a_raw_close, IsTag, NoTag}
+use Rattle.handlebars_tags.specs.Tag.{BlockLine, Tag, expression_tag, html_tag, block_tag, inverse_tag, chain_tag, close_tag, raw_tag, raw_close_tag, Tildes, IsBlockLine, Says, a_value, a_raw_value, a_signed_value, a_block, a_close, an_inverse, an_else, a_chain, a_raw_block, a_raw_close, IsTag, NoTag}
 
 -- a value where a test holds
 abbrev pub guarded : {A : Type 0} → Bool → A → Option A
@@ -32,47 +31,45 @@ guarded_some false x y e = absurd (none-some y e)
 
 -- ---- lines
 
-abbrev pub line_at : Enclosure → Text → Option (Line × Text)
-line_at around t = steps (line_step around) (suc (length t)) (line_stand at_name 0) t >>= λ r. line_from r.0 >>= λ line. Some (line, r.1)
+abbrev pub line_at : NameMode → Enclosure → Text → Option (Line × Text)
+line_at mode around t = steps (line_step around) (suc (length t)) (line_stand (at_name mode) 0) t >>= λ r. line_from r.0 >>= λ line. Some (line, r.1)
 
-line_at-is : (around : Enclosure) (t : Text) (q : Line × Text) → line_at around t ≡ Some q → IsLine around t q.0 q.1
-line_at-is around t q e =
-    let r = bind_some (steps (line_step around) (suc (length t)) (line_stand at_name 0) t) _ q e in
+line_at-is : (mode : NameMode) (around : Enclosure) (t : Text) (q : Line × Text) → line_at mode around t ≡ Some q → IsLine mode around t q.0 q.1
+line_at-is mode around t q e =
+    let r = bind_some (steps (line_step around) (suc (length t)) (line_stand (at_name mode) 0) t) _ q e in
     let l = bind_some (line_from r.0.0) _ q r.2 in
-    let made = line_made around t r.0.0 r.0.1 (run-runs (line_step around) (suc (length t)) (line_stand at_name 0) t r.0 r.1) in
+    let made = line_made mode around t r.0.0 r.0.1 (run-runs (line_step around) (suc (length t)) (line_stand (at_name mode) 0) t r.0 r.1) in
     let same : (made.line, r.0.1) ≡ q = ap (λ (z : Line). (z, r.0.1)) (same_Some made.line l.0 (sym made.from ∙ l.1)) ∙ same_Some (l.0, r.0.1) q l.2 in
-    subst (λ (z : Line × Text). IsLine around t z.0 z.1) same made.is
+    subst (λ (z : Line × Text). IsLine mode around t z.0 z.1) same made.is
 
-abbrev name_of : Term → Option Reference
-name_of (literal_term raw) = None
-name_of (path_term r) = Some r
-name_of (call_term n terms) = None
+abbrev text_of : Term → Option Text
+text_of (literal_term raw) = None
+text_of (path_term r) = None
+text_of (name_term t) = Some t
+text_of (call_term n terms) = None
 
-name_of-is : (t : Term) (r : Reference) → name_of t ≡ Some r → t ≡ path_term r
-name_of-is (literal_term raw) r e = absurd (none-some r e)
-name_of-is (path_term x) r e = ap path_term (same_Some x r e)
-name_of-is (call_term n terms) r e = absurd (none-some r e)
+text_of-is : (t : Term) (n : Text) → text_of t ≡ Some n → t ≡ name_term n
+text_of-is (literal_term raw) n e = absurd (none-some n e)
+text_of-is (path_term r) n e = absurd (none-some n e)
+text_of-is (name_term x) n e = ap name_term (same_Some x n e)
+text_of-is (call_term t terms) n e = absurd (none-some n e)
 
-abbrev block_with : Line → Reference → Binding × Text → BlockLine × Text
-block_with line r b = (record { name = raw_of r; terms = line.terms; binding = b.0; depth = line.depth }, b.1)
+abbrev block_with : Line → Text → Binding × Text → BlockLine × Text
+block_with line n b = (record { name = n; terms = line.terms; binding = b.0; depth = line.depth }, b.1)
 
 abbrev pub block_line_at : Text → Option (BlockLine × Text)
-block_line_at t = line_at in_block t >>= λ l. name_of l.0.name >>= λ r. binding_at l.1 >>= λ b. guarded (list_all is_symbol (raw_of r)) (block_with l.0 r b)
+block_line_at t = line_at identifier_name in_block t >>= λ l. text_of l.0.name >>= λ n. binding_at l.1 >>= λ b. Some (block_with l.0 n b)
 
 block_line_at-is : (t : Text) (q : BlockLine × Text) → block_line_at t ≡ Some q → IsBlockLine t q.0 q.1
 block_line_at-is t q e =
-    let l = bind_some (line_at in_block t) _ q e in
-    let r = bind_some (name_of l.0.0.name) _ q l.2 in
-    let b = bind_some (binding_at l.0.1) _ q r.2 in
-    let g = guarded_some (list_all is_symbol (raw_of r.0)) (block_with l.0.0 r.0 b.0) q b.2 in
-    let is = line_at-is in_block t l.0 l.1 in
-    let named : l.0.0 ≡ record { name = path_term r.0; terms = l.0.0.terms; depth = l.0.0.depth } = ap (λ (z : Term). record { name = z; terms = l.0.0.terms; depth = l.0.0.depth }) (name_of-is l.0.0.name r.0 r.1) in
-    subst (λ (z : BlockLine × Text). IsBlockLine t z.0 z.1) g.1 (record {
-      name = r.0;
+    let l = bind_some (line_at identifier_name in_block t) _ q e in
+    let n = bind_some (text_of l.0.0.name) _ q l.2 in
+    let b = bind_some (binding_at l.0.1) _ q n.2 in
+    let is = line_at-is identifier_name in_block t l.0 l.1 in
+    let named : l.0.0 ≡ record { name = name_term n.0; terms = l.0.0.terms; depth = l.0.0.depth } = ap (λ (z : Term). record { name = z; terms = l.0.0.terms; depth = l.0.0.depth }) (text_of-is l.0.0.name n.0 n.1) in
+    subst (λ (z : BlockLine × Text). IsBlockLine t z.0 z.1) (same_Some (block_with l.0.0 n.0 b.0) q b.2) (record {
       behind = l.0.1;
-      is_line = subst (λ (z : Line). IsLine in_block t z l.0.1) named is;
-      is_name = refl;
-      is_identifier = g.0;
+      is_line = subst (λ (z : Line). IsLine identifier_name in_block t z l.0.1) named is;
       binds = binding_at-takes l.0.1 b.0 b.1;
     })
 
@@ -93,9 +90,9 @@ raw_close_at [] rest = None
 raw_close_at (b ∷ n) rest = Some (raw_close_tag (b ∷ n), rest)
 
 abbrev pub says_at : Kind → Text → Option (Tag × Text)
-says_at expression_kind t = tagged expression_tag (line_at in_tag t)
-says_at html_kind t = tagged html_tag (line_at in_tag t)
-says_at html_sign_kind t = tagged html_tag (line_at in_tag t)
+says_at expression_kind t = tagged expression_tag (line_at value_name in_tag t)
+says_at html_kind t = tagged html_tag (line_at value_name in_tag t)
+says_at html_sign_kind t = tagged html_tag (line_at value_name in_tag t)
 says_at block_kind t = block_tagged block_tag (block_line_at t)
 says_at close_kind t = Some (close_tag (close_name_at t).0, (close_name_at t).1)
 says_at inverse_kind t = Some (inverse_tag, t)
@@ -108,11 +105,11 @@ says_at other_kind t = None
 abbrev SaysSo : Kind → Text → Tag × Text → Type 0
 SaysSo k t q = Says k t q.0 q.1
 
-tagged-is : (k : Kind) (f : Line → Tag) (t : Text) (q : Tag × Text) → tagged f (line_at in_tag t) ≡ Some q
-    → ((line : Line) (rest : Text) → IsLine in_tag t line rest → Says k t (f line) rest) → Says k t q.0 q.1
+tagged-is : (k : Kind) (f : Line → Tag) (t : Text) (q : Tag × Text) → tagged f (line_at value_name in_tag t) ≡ Some q
+    → ((line : Line) (rest : Text) → IsLine value_name in_tag t line rest → Says k t (f line) rest) → Says k t q.0 q.1
 tagged-is k f t q e says =
-    let l = bind_some (line_at in_tag t) _ q e in
-    subst (SaysSo k t) (same_Some (f l.0.0, l.0.1) q l.2) (says l.0.0 l.0.1 (line_at-is in_tag t l.0 l.1))
+    let l = bind_some (line_at value_name in_tag t) _ q e in
+    subst (SaysSo k t) (same_Some (f l.0.0, l.0.1) q l.2) (says l.0.0 l.0.1 (line_at-is value_name in_tag t l.0 l.1))
 
 block_tagged-is : (k : Kind) (f : BlockLine → Tag) (t inside : Text) (q : Tag × Text) → block_tagged f (block_line_at t) ≡ Some q
     → ((line : BlockLine) (rest : Text) → IsBlockLine t line rest → Says k inside (f line) rest) → Says k inside q.0 q.1
@@ -178,15 +175,15 @@ tag_at-is slice rest f e is =
 
 -- ---- where nothing is read
 
-pub no_line_at : (around : Enclosure) (t : Text) → steps (line_step around) (suc (length t)) (line_stand at_name 0) t ≡ None → NoLine around t
-no_line_at around t stops line left is =
-    let found = line_found around t line left is in
-    none-some (found.events, left) (sym stops ∙ run-some (line_step around) (line_shortens around) (suc (length t)) (line_stand at_name 0) t found.events left (omega arith) found.runs)
+pub no_line_at : (mode : NameMode) (around : Enclosure) (t : Text) → steps (line_step around) (suc (length t)) (line_stand (at_name mode) 0) t ≡ None → NoLine mode around t
+no_line_at mode around t stops line left is =
+    let found = line_found mode around t line left is in
+    none-some (found.events, left) (sym stops ∙ run-some (line_step around) (line_shortens around) (suc (length t)) (line_stand (at_name mode) 0) t found.events left (omega arith) found.runs)
 
-no_value : (inside : Text) (tag : Tag) (behind : Text) → NoLine in_tag inside → Says expression_kind inside tag behind → ⊥
+no_value : (inside : Text) (tag : Tag) (behind : Text) → NoLine value_name in_tag inside → Says expression_kind inside tag behind → ⊥
 no_value inside tag behind none (a_value {line = line} is) = none line behind is
 
-pub no_value_tag : (left inside : Text) (tilde : Bool) → beginning_of left ≡ Some (beginning expression_kind tilde inside) → NoLine in_tag inside → NoTag left
+pub no_value_tag : (left inside : Text) (tilde : Bool) → beginning_of left ≡ Some (beginning expression_kind tilde inside) → NoLine value_name in_tag inside → NoTag left
 no_value_tag left inside tilde o none slice rest t tildes is tag =
     let same = same_Some (beginning expression_kind tilde inside) tag.begins (sym o ∙ ap beginning_of is ∙ tag.is_beginning) in
     no_value inside t tag.behind none (subst (λ (z : Beginning). Says z.kind z.inside t tag.behind) (sym same) tag.says)

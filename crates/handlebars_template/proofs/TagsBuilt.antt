@@ -3,7 +3,7 @@ use Rattle.std.proofs.Common.{◌≡◌, ℕ, Bool, refl, sym, ap, subst, ◌∙
 use Rattle.std.specs.Prelude.{String}
 use Rattle.std.specs.declared.alloc.Global.{Global}
 use Rattle.handlebars_base.specs.Bytes.{Text}
-use Rattle.handlebars_lines.specs.Line.{Line, in_tag, IsLine}
+use Rattle.handlebars_lines.specs.Line.{value_name, Line, in_tag, IsLine}
 use Rattle.handlebars_tags.specs.Tag.{Tag, tag_depth, BlockLine}
 use Rattle.handlebars_tags.specs.Trim.{Edge}
 use Rattle.handlebars_tags.specs.TagView.{HoldsLine, HoldsBlock, IsBlockSlice}
@@ -56,7 +56,7 @@ Does-chains old new p e line built o does =
     (subst (λ (x : Said). Does old (chains p x line.depth (option_map (λ t. t.now) built.refused)) new) o.opening (does line.depth))
 
 pub Does-line : (old new : Nesting) (p : Place) (e : Edge) (of : Line → Tag) (t : Text) (tag : Tag) → HoldsLine of t tag
-    → ((line : Line) (rest : Text) → IsLine in_tag t line rest → Does old (tag_piece p e (of line)) new) → Does old (tag_piece p e tag) new
+    → ((line : Line) (rest : Text) → IsLine value_name in_tag t line rest → Does old (tag_piece p e (of line)) new) → Does old (tag_piece p e tag) new
 Does-line old new p e of t tag h does = subst (λ (z : Tag). Does old (tag_piece p e z) new) (sym h.gives) (does h.line h.behind h.is_line)
 
 pub Does-block : (old new : Nesting) (p : Place) (e : Edge) (of : BlockLine → Tag) (slice : BlockSlice) (tag : Tag) → HoldsBlock of slice tag

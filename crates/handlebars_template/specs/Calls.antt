@@ -6,7 +6,7 @@ use Rattle.serde_json.specs.Data.{null}
 use Rattle.handlebars_base.specs.Bytes.{Text}
 use Rattle.handlebars_base.specs.Path.{Reference, raw_of}
 use Rattle.handlebars_base.specs.Reasons.{TemplateRefusal, invalid_param}
-use Rattle.handlebars_lines.specs.Parameter.{Term, literal_term, path_term, call_term, Terms, no_terms, term}
+use Rattle.handlebars_lines.specs.Parameter.{Term, literal_term, path_term, name_term, call_term, Terms, no_terms, term}
 use Rattle.handlebars_lines.specs.Line.{Line}
 use Rattle.handlebars_lines.specs.WorthReading.{worth_of}
 use Rattle.handlebars_template.specs.Tree.{CallMarks, expression, Call, call, args, bodies, Param, name, path, literal, subexpression, Params, no_params, param, Pairs, no_pairs, pair, no_binding, no_body}
@@ -49,12 +49,14 @@ abbrev mutual
   pub param_of : Term → Param
   param_of (literal_term raw) = literal_param raw
   param_of (path_term r) = path r
+  param_of (name_term t) = name t
   param_of (call_term t terms) =
       subexpression (expression (plain_call (name_of t terms) (params_in terms) (pairs_in no_pairs terms)))
 
   pub name_of : Term → Terms → Param
   name_of (literal_term raw) terms = literal_param raw
   name_of (path_term r) terms = path_name r terms
+  name_of (name_term t) terms = name t
   name_of (call_term t inner) terms =
       subexpression (expression (plain_call (name_of t inner) (params_in inner) (pairs_in no_pairs inner)))
 
@@ -79,6 +81,7 @@ abbrev mutual
   pub literals_of : Term → List Text
   literals_of (literal_term raw) = raw ∷ []
   literals_of (path_term r) = []
+  literals_of (name_term t) = []
   literals_of (call_term t terms) = literals_of t ++ literals_in terms
 
   pub literals_in : Terms → List Text

@@ -6,7 +6,7 @@ use Rattle.handlebars_base.specs.Path.{Reference, raw_of}
 use Rattle.handlebars_base.specs.PathReading.{path_of}
 use Rattle.handlebars_base.specs.Optional.{◌>>=◌, with_or}
 use Rattle.handlebars_lines.specs.Line.{Line}
-use Rattle.handlebars_lines.specs.LineReading.{Event, opened, literal_event, path_event, closed}
+use Rattle.handlebars_lines.specs.LineReading.{Event, opened, literal_event, path_event, name_event, closed}
 use Rattle.handlebars_lines.specs.WorthReading.{worth_of}
 use Rattle.handlebars_template.specs.Tree.{expression, Param, name, path, literal, subexpression, Params, no_params, param, Pairs, no_pairs, lacks_params, lacks_pairs}
 use Rattle.handlebars_template.specs.Calls.{plain_call, put_pair, literal_param, name_of, params_in, pairs_in, first_refused, line_literals}
@@ -84,10 +84,14 @@ abbrev pub add_path : Option Text → Text → OpenCalls → Option OpenCalls
 add_path key raw fs =
     option_map (λ means. open_calls (add key (path means) fs.top) fs.around fs.refused) (path_of raw)
 
+abbrev pub add_name : Text → OpenCalls → OpenCalls
+add_name raw fs = open_calls (add None (name raw) fs.top) fs.around fs.refused
+
 abbrev pub take : OpenCalls → Event → Option OpenCalls
 take fs (opened key n) = Some (begin key fs)
 take fs (literal_event key raw n) = Some (add_literal key raw fs)
 take fs (path_event key raw n) = add_path key raw fs
+take fs (name_event raw) = Some (add_name raw fs)
 take fs closed = close fs.top fs.around fs.refused
 
 abbrev pub take_all : OpenCalls → List Event → Option OpenCalls

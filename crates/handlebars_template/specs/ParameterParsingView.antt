@@ -3,7 +3,7 @@ use Rattle.std.specs.Prelude.{◌≡◌, ℕ, [], Some}
 use Rattle.handlebars_base.specs.Bytes.{Text, behind_white}
 use Rattle.handlebars_base.specs.Texts.{after}
 use Rattle.handlebars_lines.specs.Parameter.{left_parenthesis, right_parenthesis, NoParameter}
-use Rattle.handlebars_lines.specs.Line.{in_parentheses}
+use Rattle.handlebars_lines.specs.Line.{value_name, in_parentheses}
 use Rattle.handlebars_lines.specs.LineLaws.{HasLine}
 use Rattle.handlebars_template.specs.TreeView.{param_view}
 use Rattle.handlebars_template.specs.Calls.{invalid}
@@ -18,7 +18,7 @@ reading_view (Refuses raw) = refused (invalid raw.now)
 -- Behind an opening parenthesis stand a line, so deep, and the parenthesis that closes it, and nothing else.
 pub record HasNested (inside : Text) (depth : ℕ) : Type 0 where
   pub left : Text
-  pub line : HasLine in_parentheses (behind_white inside) depth left
+  pub line : HasLine value_name in_parentheses (behind_white inside) depth left
   pub closes : after right_parenthesis (behind_white left) ≡ Some []
 
 abbrev pub NoNested : Text → Type 0

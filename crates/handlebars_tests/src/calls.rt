@@ -8,7 +8,7 @@ use handlebars::{
 };
 use handlebars_base::json::path::{read_front, split_path};
 use handlebars_lines::binding::split_binding;
-use handlebars_lines::line::{Enclosure, split_line};
+use handlebars_lines::line::{Enclosure, NameMode, split_line};
 use handlebars_lines::literal::split_literal;
 use handlebars_lines::worth::literal_value;
 use handlebars_scope::context::walk::resolve;
@@ -25,7 +25,7 @@ pub enum TextCall {
     ReadFront,
     SplitLiteral,
     LiteralValue,
-    SplitLine(Enclosure),
+    SplitLine(NameMode, Enclosure),
     SplitBinding,
     ParseParameter,
     Compile,
@@ -49,9 +49,12 @@ impl TextCall {
             "read_front" => Some(TextCall::ReadFront),
             "split_literal" => Some(TextCall::SplitLiteral),
             "literal_value" => Some(TextCall::LiteralValue),
-            "split_line(Tag)" => Some(TextCall::SplitLine(Enclosure::Tag)),
-            "split_line(Block)" => Some(TextCall::SplitLine(Enclosure::Block)),
-            "split_line(Parentheses)" => Some(TextCall::SplitLine(Enclosure::Parentheses)),
+            "split_line(Tag)" => Some(TextCall::SplitLine(NameMode::Value, Enclosure::Tag)),
+            "split_line(Block)" => Some(TextCall::SplitLine(NameMode::Identifier, Enclosure::Block)),
+            "split_line(Parentheses)" => {
+                Some(TextCall::SplitLine(NameMode::Value, Enclosure::Parentheses))
+            }
+            "split_line(Close)" => Some(TextCall::SplitLine(NameMode::Close, Enclosure::Tag)),
             "split_binding" => Some(TextCall::SplitBinding),
             "Parameter::parse" => Some(TextCall::ParseParameter),
             "Template::compile" => Some(TextCall::Compile),
@@ -105,7 +108,9 @@ impl Call {
             TextCall::ReadFront => held(alloc, read_front(alloc, text)),
             TextCall::SplitLiteral => shown(alloc, &split_literal(alloc, text)?),
             TextCall::LiteralValue => held(alloc, literal_value(alloc, text)),
-            TextCall::SplitLine(enclosure) => shown(alloc, &split_line(alloc, enclosure, text)?),
+            TextCall::SplitLine(mode, enclosure) => {
+                shown(alloc, &split_line(alloc, mode, enclosure, text)?)
+            }
             TextCall::SplitBinding => shown(alloc, &split_binding(text)),
             TextCall::ParseParameter => answered(alloc, Parameter::parse(alloc, text)),
             TextCall::Compile => answered(alloc, Template::compile(alloc, text)),

@@ -8,7 +8,7 @@ use Rattle.handlebars_base.specs.Bytes.{backslash, right_brace, newline}
 use Rattle.handlebars_base.specs.PathReading as path
 use Rattle.handlebars_base.specs.Texts as texts
 use Rattle.handlebars_lines.specs.Binding.{behind_bar, behind_beginning}
-use Rattle.handlebars_lines.specs.Line.{in_tag}
+use Rattle.handlebars_lines.specs.Line.{value_name, in_tag}
 use Rattle.handlebars_lines.specs.LineReading as line
 use Rattle.handlebars_lines.specs.Literal.{is_kept, number_of}
 use Rattle.handlebars_lines.specs.LiteralReading as literal
@@ -76,13 +76,13 @@ pub unclosed_row : UnclosedRow
 unfolding beginning_of closing_of chars line.name_step line.behind_step line.line_step texts.after path.plain_at path.part_at path.links_at path.links_of path.start_without_at_sign path.start_at path.shape_at path.shape_of path.reference_from path.path_at
 unclosed_row =
     first_unreadable no_options (codes "ab") (codes "{{name") (text_at-is two_braces (codes "ab{{name") (codes "ab", codes "{{name") refl).is_text refl
-    (no_value_tag (codes "{{name") (codes "name") _ refl (no_line_at in_tag (codes "name") refl))
+    (no_value_tag (codes "{{name") (codes "name") _ refl (no_line_at value_name in_tag (codes "name") refl))
 
 pub place_row : PlaceRow
 unfolding beginning_of closing_of chars line.name_step line.behind_step line.line_step texts.after path.plain_at path.part_at path.links_at path.links_of path.start_without_at_sign path.start_at path.shape_at path.shape_of path.reference_from path.path_at
 place_row =
     first_unreadable no_options (newline ∷ 195 ∷ 169 ∷ []) (codes "{{a") (text_at-is two_braces (newline ∷ 195 ∷ 169 ∷ codes "{{a") (newline ∷ 195 ∷ 169 ∷ [], codes "{{a") refl).is_text refl
-    (no_value_tag (codes "{{a") (codes "a") _ refl (no_line_at in_tag (codes "a") refl))
+    (no_value_tag (codes "{{a") (codes "a") _ refl (no_line_at value_name in_tag (codes "a") refl))
 
 -- ---- blocks
 

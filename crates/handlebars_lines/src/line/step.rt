@@ -1,13 +1,16 @@
 //! One step through a line: what stands next.
 
 ghost use Rattle.std.specs.Prelude.{◌≡◌, ◌<◌, ◌^◌, IfOk};
+ghost use Rattle.handlebars_base.specs.Texts.{symbols_of, behind_symbols};
+ghost use Rattle.handlebars_lines.specs.CloseName.{close_name_at};
 ghost use Rattle.handlebars_lines.specs.Parameter.{is_reserved};
-ghost use Rattle.handlebars_lines.specs.LineReading.{at_name, line_stand, behind_name, open_step, name_step, is_excluded, path_step, parameter_step, item_step, may_follow, next_step, outer_step, inner_step, behind_step, is_at_name, line_step};
-ghost use Rattle.handlebars_lines.specs.LineView.{enclosure_of, key_of, stand_of, line_stand_of, step_of, height_of};
+ghost use Rattle.handlebars_lines.specs.LineReading.{at_name, line_stand, behind_name, open_step, plain_step, value_step, name_step, is_excluded, path_step, parameter_step, item_step, may_follow, next_step, outer_step, inner_step, behind_step, line_step};
+ghost use Rattle.handlebars_lines.specs.LineView.{mode_of, enclosure_of, key_of, stand_of, line_stand_of, step_of, height_of};
 
+use super::close_name::close_name_at;
 use super::marks::{is_end, key_and_equals_at};
 use crate::literal::literal_at;
-use handlebars_base::json::path::marks::{after, all_symbols, behind_white, starts_white};
+use handlebars_base::json::path::marks::{after, all_symbols, behind_white, starts_white, symbols};
 use handlebars_base::json::path::split_path;
 use std::alloc::{AllocError, Global};
 
@@ -20,11 +23,20 @@ pub enum Enclosure {
     Parentheses,
 }
 
+/// What a line's name may be: an identifier, as for a block; an identifier or, with nothing behind it, a path, as for a
+/// value; or the name in a closing tag. In place of the last two a line in parentheses may stand.
+#[derive(Clone, Copy, Debug, PartialEq, Eq)]
+pub enum NameMode {
+    Identifier,
+    Value,
+    Close,
+}
+
 /// How a line may go on.
 #[derive(Clone, Copy, Debug, PartialEq, Eq)]
 pub enum Stand {
-    /// With its name.
-    Name,
+    /// With its name, which may be so.
+    Name(NameMode),
     /// With items, or at its end.
     Items,
     /// At its end alone.
@@ -39,24 +51,26 @@ pub struct LineStand {
 }
 
 impl LineStand {
-    /// At the beginning of a line, outside parentheses.
-    pub fn first() -> LineStand
-        ensures { line_stand_of result ≡ line_stand at_name 0 }
+    /// At the beginning of a line of this mode, outside parentheses.
+    pub fn first(mode: NameMode) -> LineStand
+        ensures { line_stand_of result ≡ line_stand (at_name (mode_of mode)) 0 }
     {
         LineStand {
-            stand: Stand::Name,
+            stand: Stand::Name(mode),
             level: 0,
         }
     }
 }
 
-/// What a step takes: an opening parenthesis, or a literal or a path by its text, each behind a key or not; or a
-/// closing parenthesis. The numbers say how many parentheses and brackets are then open at once.
+/// What a step takes: an opening parenthesis, or a literal or a path by its text, each behind a key or not; a name by its
+/// text, outside parentheses; or a closing parenthesis. The numbers say how many parentheses and brackets are then open
+/// at once.
 #[derive(Clone, Copy, Debug, PartialEq, Eq)]
 pub enum Event<'a> {
     Opened(Option<&'a str>, usize),
     Literal(Option<&'a str>, &'a str, usize),
     Path(Option<&'a str>, &'a str, usize),
+    Name(&'a str),
     Closed,
 }
 
@@ -69,6 +83,7 @@ impl Event<'_> {
             Event::Opened(_, height) => height,
             Event::Literal(_, _, height) => height,
             Event::Path(_, _, height) => height,
+            Event::Name(_) => 0,
             Event::Closed => 0,
         }
     }
@@ -102,20 +117,43 @@ fn open_step<'a>(key: Option<&'a str>, level: usize, rest: &'a str) -> Step<'a>
     ensures { step_of result ≡ open_step (key_of key.entry) level rest.now }
 {
     let state = LineStand {
-        stand: Stand::Name,
+        stand: Stand::Name(NameMode::Value),
         level: level + 1,
     };
     Step::Goes(Event::Opened(key, level + 1), state, behind_white(rest))
 }
 
-#[tactic(auto, unfolding(crate::specs::LineReading::name_step))]
-fn name_step(level: usize, text: &str) -> Step<'_>
-    requires { level < 2 ^ 63 }
-    ensures { step_of result ≡ name_step level text.now }
+/// A name by its text, if it isn't empty, and what follows it.
+fn plain_step<'a>(level: usize, name: &'a str, rest: &'a str) -> Step<'a>
+    ensures { step_of result ≡ plain_step level (name.now, rest.now) }
 {
-    if let Some(rest) = after(b'(', text) {
-        return open_step(None, level, rest);
+    if name.is_empty() {
+        return Step::Stuck;
     }
+    let state = LineStand {
+        stand: Stand::Items,
+        level,
+    };
+    Step::Goes(Event::Name(name), state, rest)
+}
+
+fn identifier_step(level: usize, text: &str) -> Step<'_>
+    ensures { step_of result ≡ plain_step level (symbols_of text.now, behind_symbols text.now) }
+{
+    let (name, rest) = symbols(text);
+    plain_step(level, name, rest)
+}
+
+fn close_step(level: usize, text: &str) -> Step<'_>
+    ensures { step_of result ≡ plain_step level (close_name_at text.now) }
+{
+    let (name, rest) = close_name_at(text);
+    plain_step(level, name, rest)
+}
+
+fn value_step(level: usize, text: &str) -> Step<'_>
+    ensures { step_of result ≡ value_step level text.now }
+{
     match split_path(text) {
         Some(slice) => {
             let stand = behind_name(slice.raw);
@@ -123,6 +161,24 @@ fn name_step(level: usize, text: &str) -> Step<'_>
             Step::Goes(event, LineStand { stand, level }, slice.rest)
         }
         None => Step::Stuck,
+    }
+}
+
+#[tactic(auto, unfolding(crate::specs::LineReading::name_step))]
+fn name_step(mode: NameMode, level: usize, text: &str) -> Step<'_>
+    requires { level < 2 ^ 63 }
+    ensures { step_of result ≡ name_step (mode_of mode) level text.now }
+{
+    match mode {
+        NameMode::Identifier => identifier_step(level, text),
+        NameMode::Value => match after(b'(', text) {
+            Some(rest) => open_step(None, level, rest),
+            None => value_step(level, text),
+        },
+        NameMode::Close => match after(b'(', text) {
+            Some(rest) => open_step(None, level, rest),
+            None => close_step(level, text),
+        },
     }
 }
 
@@ -199,7 +255,7 @@ fn may_follow(stand: Stand) -> bool
     ensures { result ≡ may_follow (stand_of stand) }
 {
     match stand {
-        Stand::Name | Stand::End => false,
+        Stand::Name(_) | Stand::End => false,
         Stand::Items => true,
     }
 }
@@ -268,15 +324,6 @@ fn behind_step(
     }
 }
 
-fn is_at_name(stand: Stand) -> bool
-    ensures { result ≡ is_at_name (stand_of stand) }
-{
-    match stand {
-        Stand::Name => true,
-        Stand::Items | Stand::End => false,
-    }
-}
-
 /// The step from a state.
 #[tactic(auto, unfolding(crate::specs::LineReading::line_step))]
 pub fn take_step(
@@ -288,9 +335,9 @@ pub fn take_step(
     requires { state.level < 2 ^ 63 }
     ensures { IfOk result (λ step. step_of step ≡ line_step (enclosure_of around) (line_stand_of state) text.now) }
 {
-    if is_at_name(state.stand) {
-        Ok(name_step(state.level, text))
-    } else {
-        behind_step(alloc, around, state.stand, state.level, text)
+    match state.stand {
+        Stand::Name(mode) => Ok(name_step(mode, state.level, text)),
+        Stand::Items => behind_step(alloc, around, Stand::Items, state.level, text),
+        Stand::End => behind_step(alloc, around, Stand::End, state.level, text),
     }
 }

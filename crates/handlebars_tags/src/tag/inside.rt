@@ -1,23 +1,18 @@
 //! What stands inside tags, with what closes it.
 
 ghost use Rattle.std.specs.Prelude.{◌≡◌, true, IfOk, IfSome, MatchOption, Some, None, codes, drop};
-ghost use Rattle.std.specs.Option.{option_map};
-ghost use Rattle.handlebars_base.specs.Bytes.{Text};
-ghost use Rattle.handlebars_lines.specs.Line.{Line, in_block, IsLine};
 ghost use Rattle.handlebars_tags.specs.Comment.{HasNoLong};
 ghost use Rattle.handlebars_tags.specs.Kind.{past, closing_of, comment_kind, else_kind, block_kind, raw_kind, raw_close_kind, close_kind};
 ghost use Rattle.handlebars_tags.specs.KindView.{kind_of};
-ghost use Rattle.handlebars_tags.specs.TagReading.{identifier_of, NoBlockLine, NoneClosed, NoClosedLine};
+ghost use Rattle.handlebars_tags.specs.TagReading.{NoBlockLine, NoneClosed, NoClosedLine};
 ghost use Rattle.handlebars_tags.specs.TagView.{HasBlock, HasClosing, HasClosedLine, HasInside};
 
 use super::beginning::{Beginning, Kind};
-use super::close_name::close_name_at;
 use super::closing::closing_of;
 use crate::comment::split_comment;
-use handlebars_base::json::path::marks::{all_symbols, behind_white, starts_white, symbols};
-use handlebars_base::json::path::split_path;
+use handlebars_base::json::path::marks::{behind_white, starts_white, symbols};
 use handlebars_lines::binding::{Binding, split_binding};
-use handlebars_lines::line::{Enclosure, split_line};
+use handlebars_lines::line::{Enclosure, NameMode, close_name_at, split_line};
 use std::alloc::{AllocError, Global};
 
 /// What a tag says, by its parts of the source.
@@ -115,7 +110,7 @@ fn value<'a>(
     ensures { IfOk result (λ read. MatchOption read (NoClosedLine (kind_of kind) text.now)
         (λ inside. HasClosedLine (kind_of kind) text.now content.entry inside)) }
 {
-    match split_line(alloc, Enclosure::Tag, text)? {
+    match split_line(alloc, NameMode::Value, Enclosure::Tag, text)? {
         Some(line) => Ok(closed(kind, content, line.depth, line.rest)),
         None => Ok(None),
     }
@@ -225,12 +220,10 @@ pub struct BlockRead<'a> {
 fn block_line(alloc: Global, text: &str) -> Result<Option<BlockRead<'_>>, AllocError>
     ensures { IfOk result (λ read. MatchOption read (NoBlockLine text.now) (λ read. HasBlock text.now read)) }
 {
-    let Some(line) = split_line(alloc, Enclosure::Block, text)? else {
+    let Some(line) = split_line(alloc, NameMode::Identifier, Enclosure::Block, text)? else {
         return Ok(None);
     };
-    let Some(name) = identifier(text) else {
-        return Ok(None);
-    };
+    let (name, _) = symbols(text);
     match split_binding(line.rest) {
         Some(binding) => Ok(Some(BlockRead {
             slice: BlockSlice {
@@ -242,18 +235,5 @@ fn block_line(alloc: Global, text: &str) -> Result<Option<BlockRead<'_>>, AllocE
             rest: binding.rest,
         })),
         None => Ok(None),
-    }
-}
-
-/// The name of the line in front, where it is an identifier.
-fn identifier(text: &str) -> Option<&str>
-    ensures { (line : Line) (left : Text) → IsLine in_block text.now line left
-        → option_map (λ name. name.now) result ≡ identifier_of line.name }
-{
-    let path = split_path(text)?;
-    if all_symbols(path.raw) {
-        Some(path.raw)
-    } else {
-        None
     }
 }

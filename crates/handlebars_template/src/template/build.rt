@@ -9,7 +9,7 @@ ghost use Rattle.handlebars_lines.specs.LineView.{key_of, event_of};
 ghost use Rattle.handlebars_template.specs.Tree.{no_params, no_pairs};
 ghost use Rattle.handlebars_template.specs.Calls.{put_pair};
 ghost use Rattle.handlebars_template.specs.TreeView.{param_view, params_view, pairs_view};
-ghost use Rattle.handlebars_template.specs.LineBuilding.{open_call, add_behind, add, is_alone, named, closed_name, called, open_calls, begin, close, add_literal, add_path, take, first_calls, finish};
+ghost use Rattle.handlebars_template.specs.LineBuilding.{open_call, add_behind, add, is_alone, named, closed_name, called, open_calls, begin, close, add_literal, add_path, add_name, take, first_calls, finish};
 ghost use Rattle.handlebars_template.specs.LineBuildingView.{open_view, calls_view, calls_after, line_view};
 
 use crate::template::line::BuiltLine;
@@ -301,6 +301,13 @@ impl<'a> OpenCalls<'a> {
         Ok(true)
     }
 
+    fn add_name(&mut self, alloc: Global, raw: &str) -> Result<(), AllocError>
+        ensures { OnOk result (calls_view self.new ≡ add_name raw.now (calls_view self.old)) }
+    {
+        let name = Parameter::Name(String::from_str(alloc, raw)?);
+        self.top.add(None, name)
+    }
+
     /// A step is taken, where it can be.
     pub fn take(&mut self, alloc: Global, event: Event<'a>) -> Result<bool, AllocError>
         ensures { IfOk result (λ taken. calls_after taken self.new
@@ -316,6 +323,10 @@ impl<'a> OpenCalls<'a> {
                 Ok(true)
             }
             Event::Path(key, raw, _) => self.add_path(alloc, key, raw),
+            Event::Name(raw) => {
+                self.add_name(alloc, raw)?;
+                Ok(true)
+            }
             Event::Closed => self.close(alloc),
         }
     }

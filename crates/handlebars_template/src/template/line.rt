@@ -3,7 +3,7 @@
 ghost use Rattle.std.specs.Prelude.{◌≡◌, IfOk, IfSome, string_bytes};
 ghost use Rattle.handlebars_base.specs.Bytes.{Text};
 ghost use Rattle.handlebars_lines.specs.Line.{Line, IsLine};
-ghost use Rattle.handlebars_lines.specs.LineView.{enclosure_of};
+ghost use Rattle.handlebars_lines.specs.LineView.{mode_of, enclosure_of};
 ghost use Rattle.handlebars_base.specs.PathView.{reference_of};
 ghost use Rattle.handlebars_template.specs.LineBuilding.{line_call, path_call};
 ghost use Rattle.handlebars_template.specs.LineBuildingView.{line_view, IsBuilt, IsCallOf};
@@ -16,7 +16,7 @@ use crate::template::build::{first_calls, path_of};
 use crate::template::chain::{BlockKind, BlockNames, BlockOpening};
 use crate::template::tree::{HelperTemplate, Parameter, Subexpression};
 use handlebars_base::json::path::Path;
-use handlebars_lines::line::{Enclosure, Event, LineStand, Step, take_step};
+use handlebars_lines::line::{Enclosure, Event, LineStand, NameMode, Step, take_step};
 use std::alloc::{AllocError, Global};
 use std::collections::BTreeMap;
 
@@ -119,11 +119,17 @@ impl BuiltLine<'_> {
 }
 
 // The path that is alone in the line in front, as it is in most lines: no call is opened for it.
-fn path_alone(alloc: Global, around: Enclosure, text: &str) -> Result<Option<Path>, AllocError>
+fn path_alone(
+    alloc: Global,
+    mode: NameMode,
+    around: Enclosure,
+    text: &str,
+) -> Result<Option<Path>, AllocError>
     ensures { IfOk result (λ read. IfSome read (λ path. (line : Line) (left : Text)
-        → IsLine (enclosure_of around) text.now line left → line_call line ≡ path_call (reference_of path))) }
+        → IsLine (mode_of mode) (enclosure_of around) text.now line left → line_call line ≡ path_call (reference_of path))) }
 {
-    let Step::Goes(event, next, rest) = take_step(alloc, around, LineStand::first(), text)? else {
+    let Step::Goes(event, next, rest) = take_step(alloc, around, LineStand::first(mode), text)?
+    else {
         return Ok(None);
     };
     let Event::Path(_, raw, _) = event else {
@@ -136,18 +142,19 @@ fn path_alone(alloc: Global, around: Enclosure, text: &str) -> Result<Option<Pat
     }
 }
 
-/// The call that the line in front is. Where no line stands in front, the answer says nothing.
+/// The call that the line of this mode in front is. Where no line stands in front, the answer says nothing.
 pub fn build_line<'a>(
     alloc: Global,
+    mode: NameMode,
     around: Enclosure,
     text: &'a str,
 ) -> Result<Option<BuiltLine<'a>>, AllocError>
     ensures { IfOk result (λ read. (line : Line) (left : Text)
-        → IsLine (enclosure_of around) text.now line left → IsBuilt line read) }
+        → IsLine (mode_of mode) (enclosure_of around) text.now line left → IsBuilt line read) }
 {
-    match path_alone(alloc, around, text)? {
+    match path_alone(alloc, mode, around, text)? {
         Some(path) => Ok(Some(path_line(alloc, path))),
-        None => build_terms(alloc, around, text),
+        None => build_terms(alloc, mode, around, text),
     }
 }
 
@@ -165,13 +172,14 @@ fn path_line<'a>(alloc: Global, path: Path) -> BuiltLine<'a>
 // The call that the line in front is, term by term.
 fn build_terms<'a>(
     alloc: Global,
+    mode: NameMode,
     around: Enclosure,
     text: &'a str,
 ) -> Result<Option<BuiltLine<'a>>, AllocError>
     ensures { IfOk result (λ read. (line : Line) (left : Text)
-        → IsLine (enclosure_of around) text.now line left → IsBuilt line read) }
+        → IsLine (mode_of mode) (enclosure_of around) text.now line left → IsBuilt line read) }
 {
-    let mut state = LineStand::first();
+    let mut state = LineStand::first(mode);
     let mut rest = text;
     let mut calls = first_calls(alloc, text);
     'building: loop {

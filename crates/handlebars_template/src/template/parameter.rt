@@ -17,7 +17,7 @@ use crate::template::line::{MAX_NESTING, build_line};
 use crate::template::tree::{Parameter, Subexpression};
 use handlebars_base::error::{TemplateError, TemplateErrorReason};
 use handlebars_base::json::path::marks::{after, behind_white};
-use handlebars_lines::line::{Enclosure, split_line};
+use handlebars_lines::line::{Enclosure, NameMode, split_line};
 use handlebars_lines::literal::{LiteralSlice, split_literal};
 use handlebars_lines::worth::literal_value;
 use std::alloc::{AllocError, Global};
@@ -66,7 +66,7 @@ fn nested_depth(alloc: Global, inside: &str) -> Result<Option<usize>, AllocError
     ensures { IfOk result (λ read. MatchOption read (NoNested inside.now) (λ depth. HasNested inside.now depth)) }
 {
     let line = behind_white(inside);
-    let Some(slice) = split_line(alloc, Enclosure::Parentheses, line)? else {
+    let Some(slice) = split_line(alloc, NameMode::Value, Enclosure::Parentheses, line)? else {
         return Ok(None);
     };
     let Some(rest) = after(b')', behind_white(slice.rest)) else {
@@ -91,7 +91,7 @@ fn read_nested<'a>(alloc: Global, text: &'a str, inside: &'a str) -> Result<Read
         return Ok(Reading::Refuses(text));
     }
     let line = behind_white(inside);
-    let Some(built) = build_line(alloc, Enclosure::Parentheses, line)? else {
+    let Some(built) = build_line(alloc, NameMode::Value, Enclosure::Parentheses, line)? else {
         return Ok(Reading::Refuses(text));
     };
     if let Some(raw) = built.refused {

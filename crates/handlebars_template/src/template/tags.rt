@@ -2,7 +2,7 @@
 
 ghost use Rattle.std.specs.Prelude.{◌≡◌, ◌&&◌, not, None, IfOk, OnOk};
 ghost use Rattle.handlebars_base.specs.Bytes.{Text};
-ghost use Rattle.handlebars_lines.specs.Line.{Line, in_tag, IsLine};
+ghost use Rattle.handlebars_lines.specs.Line.{value_name, Line, in_tag, IsLine};
 ghost use Rattle.handlebars_lines.specs.BindingView.{binding_of as means_of};
 ghost use Rattle.handlebars_tags.specs.Tag.{Tag, tag_depth, is_raw_close, BlockLine};
 ghost use Rattle.handlebars_tags.specs.Trim.{Edge as TextEdge, may_stand_alone, opens_raw, edge_with};
@@ -22,7 +22,7 @@ use crate::template::line::build_line;
 use crate::template::nest::{Nesting, SyntaxFault};
 use crate::template::tree::{HelperTemplate, Parameter, TemplateElement, TemplateMapping};
 use handlebars_lines::binding::Binding;
-use handlebars_lines::line::Enclosure;
+use handlebars_lines::line::{Enclosure, NameMode};
 use handlebars_tags::tag::{BlockSlice, Content, TagSlice};
 use handlebars_tags::trim::{Edge, edge_at};
 use std::alloc::{AllocError, Global};
@@ -153,7 +153,7 @@ fn opening<'a>(
     ensures { IfOk result (λ built. (line : BlockLine) (rest : Text) → IsBlockSlice block.entry line rest
         → IsOpening (kind_view kind) (edge_view edge) line built) }
 {
-    let Some(line) = build_line(alloc, Enclosure::Block, block.line)? else {
+    let Some(line) = build_line(alloc, NameMode::Identifier, Enclosure::Block, block.line)? else {
         return Ok(None);
     };
     let name = Parameter::Name(String::from_str(alloc, block.name)?);
@@ -181,10 +181,10 @@ fn add_value(
     text: &str,
     is_escaped: bool,
 ) -> Result<(), AllocError>
-    ensures { OnOk result ((line : Line) (rest : Text) → IsLine in_tag text.now line rest
+    ensures { OnOk result ((line : Line) (rest : Text) → IsLine value_name in_tag text.now line rest
         → Does nesting.old (value_piece is_escaped (place_of at) line) nesting.new) }
 {
-    let Some(line) = build_line(alloc, Enclosure::Tag, text)? else {
+    let Some(line) = build_line(alloc, NameMode::Value, Enclosure::Tag, text)? else {
         return Ok(());
     };
     let refused = line.refused;

@@ -1,7 +1,7 @@
 use Rattle.std.proofs.Common.{rules, ◌≡◌, ap, ◌∙◌, max}
 use Rattle.handlebars_lines.specs.Runs.{goes}
 use Rattle.handlebars_lines.specs.LineReading.{line_step, height}
-use Rattle.handlebars_lines.specs.LineView.{enclosure_of, line_stand_of, event_of}
+use Rattle.handlebars_lines.specs.LineView.{mode_of, enclosure_of, line_stand_of, event_of}
 use Rattle.handlebars_lines.proofs.LineBounds.{line_bounds}
 use Rattle.handlebars_lines.proofs.Lines.{measure-goes, measure-ends, measure-stuck}
 use Rattle.handlebars_lines.proofs.line.split_line.Goals as goal
@@ -17,11 +17,11 @@ reading-preserved c =
     let deeper : c.larger-depth.result ≡ max c.reading.depth (height (event_of c.in-Goes.event)) = c.larger-depth.ensures ∙ ap (max c.reading.depth) c.height.ensures in
     record {
       text = search rules;
-      measures = measure-goes (enclosure_of c.args.around) c.args.text.now (line_stand_of c.reading.state) c.reading.rest.now c.reading.depth (event_of c.in-Goes.event) (line_stand_of c.in-Goes.next) c.in-Goes.behind.now c.larger-depth.result at deeper c.reading.invariant.measures;
+      measures = measure-goes (mode_of c.args.mode) (enclosure_of c.args.around) c.args.text.now (line_stand_of c.reading.state) c.reading.rest.now c.reading.depth (event_of c.in-Goes.event) (line_stand_of c.in-Goes.next) c.in-Goes.behind.now c.larger-depth.result at deeper c.reading.invariant.measures;
     }
 
 pub returns-in-Ends : goal.returns-in-Ends
-returns-in-Ends c = measure-ends (enclosure_of c.args.around) c.args.text.now (line_stand_of c.reading.state) c.reading.rest.now c.reading.depth (rw c.in-Ends.is at c.in_ok-event.ensures) c.reading.invariant.measures
+returns-in-Ends c = measure-ends (mode_of c.args.mode) (enclosure_of c.args.around) c.args.text.now (line_stand_of c.reading.state) c.reading.rest.now c.reading.depth (rw c.in-Ends.is at c.in_ok-event.ensures) c.reading.invariant.measures
 
 pub returns-in-Stuck : goal.returns-in-Stuck
-returns-in-Stuck c = measure-stuck (enclosure_of c.args.around) c.args.text.now (line_stand_of c.reading.state) c.reading.rest.now c.reading.depth (rw c.in-Stuck.is at c.in_ok-event.ensures) c.reading.invariant.measures
+returns-in-Stuck c = measure-stuck (mode_of c.args.mode) (enclosure_of c.args.around) c.args.text.now (line_stand_of c.reading.state) c.reading.rest.now c.reading.depth (rw c.in-Stuck.is at c.in_ok-event.ensures) c.reading.invariant.measures

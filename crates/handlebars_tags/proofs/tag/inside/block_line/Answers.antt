@@ -1,26 +1,21 @@
 use Rattle.std.proofs.Common.{sym, refl}
+use Rattle.handlebars_base.specs.Texts.{symbols_of}
 use Rattle.handlebars_lines.specs.BindingView.{binding_of}
-use Rattle.handlebars_tags.proofs.BlockLines.{block_line-is, none-line, none-name, none-binding}
+use Rattle.handlebars_tags.proofs.BlockLines.{block_line-is, none-line, none-binding}
 use Rattle.handlebars_tags.proofs.tag.inside.block_line.Goals as goal
 
 pub returns-in_default : goal.returns-in_default
 returns-in_default c = none-line c.args.text.now (rw c.in_default.is at c.in_ok-line.ensures)
 
-pub returns-in_default-identifier : goal.returns-in_default-identifier
-returns-in_default-identifier c =
-    let line = rw c.in-Some.is at c.in_ok-line.ensures in
-    none-name c.args.text.now c.in-Some.line.rest.now line.line line.is (sym (c.in_default-identifier.ensures line.line c.in-Some.line.rest.now line.is))
-
 pub returns-in-Some-split_binding : goal.returns-in-Some-split_binding
 returns-in-Some-split_binding c =
     let line = rw c.in-Some.is at c.in_ok-line.ensures in
-    let name = sym (c.in-Some-identifier.ensures line.line c.in-Some.line.rest.now line.is) in
     let binding = c.in-Some-split_binding.binding in
     record {
-      line = record { name = c.in-Some-identifier.name.now; terms = line.line.terms; binding = binding_of binding.means; depth = line.line.depth };
+      line = record { name = symbols_of c.args.text.now; terms = line.line.terms; binding = binding_of binding.means; depth = line.line.depth };
       is_slice = record {
-        is_line = block_line-is c.args.text.now c.in-Some-identifier.name.now c.in-Some.line.rest.now binding.rest.now line.line (binding_of binding.means) line.is name c.in-Some-split_binding.ensures;
-        is_name = refl;
+        is_line = block_line-is c.args.text.now c.in-Some.line.rest.now binding.rest.now line.line (binding_of binding.means) line.is c.in-Some-split_binding.ensures;
+        is_name = sym c.symbols.ensures.front;
         is_binding = refl;
       };
       whole = refl;

@@ -1,14 +1,14 @@
-//! The names in closing tags.
+//! The names in closing tags, by which lines may be named too.
 
 ghost use Rattle.std.specs.Prelude.{◌≡◌, ◌==◌, ◌<◌, ◌≤◌, drop, length};
 ghost use Rattle.std.specs.List.{prefix_len, position};
 ghost use Rattle.handlebars_base.specs.Texts.{starts};
-ghost use Rattle.handlebars_tags.specs.Tag.{is_close_symbol, enclosed_at, close_name_at};
+ghost use Rattle.handlebars_lines.specs.CloseName.{is_close_symbol, enclosed_at, close_name_at};
 ghost use Rattle.handlebars_lines.specs.LineView.{texts_of};
 
 use handlebars_base::json::path::marks::is_symbol;
 
-/// The name in a closing tag, empty or not, and what follows it.
+/// The close name in front, empty or not, and what follows it.
 pub fn close_name_at(text: &str) -> (&str, &str)
     ensures { texts_of result ≡ close_name_at text.now }
 {

@@ -1,8 +1,8 @@
 use borrow.Author.Count.{below_more}
 use Rattle.std.proofs.Common.{◌≡◌, ℕ, true, get_or, arith, sym, ◌∙◌}
 use Rattle.std.proofs.lemmas.List.Sums.{prefix_len_is}
-use Rattle.handlebars_tags.specs.Tag.{is_close_symbol}
-use Rattle.handlebars_tags.proofs.tag.close_name.close_symbols_len.Goals as goal
+use Rattle.handlebars_lines.specs.CloseName.{is_close_symbol}
+use Rattle.handlebars_lines.proofs.line.close_name.close_symbols_len.Goals as goal
 
 pub returns-else-is_close_symbol : goal.returns-else-is_close_symbol
 returns-else-is_close_symbol c = sym (prefix_len_is is_close_symbol c.args.bytes.now c.symbols.n 0 c.symbols.invariant.within c.symbols.invariant.pass (λ _. sym c.is_close_symbol.ensures ∙ c.if-is_close_symbol.false))

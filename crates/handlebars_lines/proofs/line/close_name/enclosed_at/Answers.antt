@@ -1,6 +1,6 @@
 use Rattle.std.proofs.Common.{sym, ◌∙◌}
-use Rattle.handlebars_tags.proofs.CloseNames.{enclosed-boundary}
-use Rattle.handlebars_tags.proofs.tag.close_name.enclosed_at.Goals as goal
+use Rattle.handlebars_lines.proofs.CloseNames.{enclosed-boundary}
+use Rattle.handlebars_lines.proofs.line.close_name.enclosed_at.Goals as goal
 
 pub split_at-requires : goal.split_at-requires
 split_at-requires c =

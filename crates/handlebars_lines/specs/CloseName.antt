@@ -1,0 +1,22 @@
+-- The names in closing tags, by which lines may be named too.
+use Rattle.std.specs.Prelude.{ℕ, ◌+◌, Bool, if◌then◌else◌, ◌==◌, ◌||◌, [], nat_lt, length, take, drop}
+use Rattle.std.specs.List.{prefix_len, position_or_len}
+use Rattle.handlebars_base.specs.Bytes.{Text, slash, dot, at_sign, left_bracket, right_bracket, single_quote, is_symbol}
+use Rattle.handlebars_base.specs.Texts.{starts}
+
+abbrev pub is_close_symbol : ℕ → Bool
+is_close_symbol b = is_symbol b || ((b == slash) || ((b == dot) || (b == at_sign)))
+
+-- up to the byte and with it, where it stands behind the first byte; and what follows
+abbrev pub enclosed_at : ℕ → Text → Text × Text
+enclosed_at c t =
+    let n = position_or_len (λ b. b == c) (drop 1 t) in
+    if nat_lt n (length (drop 1 t)) then (take (n + 2) t, drop (n + 2) t) else ([], t)
+
+-- The close name in front, empty or not, and what follows it: in brackets, in single quotes, or a run of symbols, `/`, `.`
+-- and `@`.
+abbrev pub close_name_at : Text → Text × Text
+close_name_at t =
+    if starts (λ b. b == left_bracket) t then enclosed_at right_bracket t
+    else (if starts (λ b. b == single_quote) t then enclosed_at single_quote t
+    else (take (prefix_len is_close_symbol t) t, drop (prefix_len is_close_symbol t) t))
