@@ -8,7 +8,7 @@ pub mod Levels
 pub mod Running
 pub mod Outcomes
 pub mod LinesBuilt
-pub mod LineImages
+pub mod OpenLines
 pub mod LineCalls
 pub mod ParametersParsed
 pub mod NestsBuilt

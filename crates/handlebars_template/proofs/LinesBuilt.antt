@@ -1,7 +1,9 @@
 -- What the code builds of a line, and what it stands for.
 use Rattle.std.proofs.Common.{◌≡◌, ◌∙◌, ◌&&◌, ◌==◌, Bool, Option, None, Some, length, sym, List, [], ◌∷◌, ◌++◌, map, refl, ap, String, Global}
 use Rattle.std.proofs.lemmas.List.{reverse-append, map-append}
-use Rattle.std.specs.Prelude.{string_cmp}
+use denote.Ref.{Bor}
+use Rattle.std.specs.Prelude.{string_cmp, unwrap_or}
+use Rattle.handlebars_lines.specs.LineView.{key_of}
 use Rattle.std.specs.declared.cmp.Ordering.{Ordering}
 use Rattle.std.specs.declared.cmp.Ordering.TheVariants.{Less, Equal, Greater}
 use Rattle.std.specs.Ordering.{match_ordering}
@@ -10,10 +12,9 @@ use Rattle.handlebars_base.specs.Bytes.{Text}
 use Rattle.handlebars_base.specs.Path.{Reference, IsPath}
 use Rattle.handlebars_base.specs.PathReading.{path_of}
 use Rattle.handlebars_base.proofs.PathShapes.{path_is}
-use Rattle.handlebars_template.specs.Tree.{lacks_pairs, Param, param, params_of, Pairs, pair}
+use Rattle.handlebars_template.specs.Tree.{lacks_pairs, args, lacks_arguments, Param, param, params_of, Pairs, pair}
 use Rattle.handlebars_template.specs.TreeView.{text, param_view, params_view, pairs_view}
-use Rattle.handlebars_template.specs.Calls.{put_pair}
-use Rattle.handlebars_template.specs.LineBuilding.{with_param, is_alone}
+use Rattle.handlebars_template.specs.Calls.{with_param, put_pair}
 use Rattle.handlebars_template.proofs.Levels.{lacks_params-view, lacks_pairs-view}
 use Rattle.handlebars_template.specs.LineBuildingView.{open_view, around_view}
 use Rattle.handlebars_template.specs.declared.template.tree.Parameter.{Parameter}
@@ -29,9 +30,9 @@ params_view_push ps p = ap params_of (map-append param_view ps (p ∷ [])) ∙ p
 pub around_view_push : (fs : List BuiltCall) (f : BuiltCall) → around_view (fs ++ f ∷ []) ≡ open_view f ∷ around_view fs
 around_view_push fs f = rw (map-append) (reverse-append (map open_view fs) (open_view f ∷ []))
 
-pub is_alone-view : (ps : List Parameter) (hs : List (String Global × Parameter))
-    → is_alone (params_view ps) (pairs_view hs) ≡ (length ps == 0) && (length hs == 0)
-is_alone-view ps hs =
+pub lacks_arguments-view : (ps : List Parameter) (hs : List (String Global × Parameter))
+    → lacks_arguments (args (params_view ps) (pairs_view hs)) ≡ (length ps == 0) && (length hs == 0)
+lacks_arguments-view ps hs =
     ap (λ (b : Bool). b && lacks_pairs (pairs_view hs)) (lacks_params-view ps)
     ∙ ap (λ (b : Bool). (length ps == 0) && b) (lacks_pairs-view hs)
 
@@ -56,3 +57,8 @@ pairs_view_insert (h ∷ hs) key value =
     let o : Ordering = string_cmp key h.0 in
     pairs_view-match o ((key, value) ∷ h ∷ hs) ((h.0, value) ∷ hs) (h ∷ insert_entry string_cmp hs key value)
     ∙ ap (λ (z : Pairs). match_ordering o (pairs_view ((key, value) ∷ h ∷ hs)) (pairs_view ((h.0, value) ∷ hs)) (pair (text h.0) (param_view h.1) z)) (pairs_view_insert hs key value)
+
+-- the text of the one that stays
+pub unwrap_or-now : (o : Option (Bor Text)) (t : Bor Text) → Some (unwrap_or o t).now ≡ Some (unwrap_or (key_of o) t.now)
+unwrap_or-now None t = refl
+unwrap_or-now (Some u) t = refl

@@ -17,9 +17,9 @@ use Rattle.handlebars_lines.specs.LineLaws.{HasLine}
 use Rattle.handlebars_lines.specs.WorthReading.{worth_of}
 use Rattle.handlebars_lines.proofs.LiteralsFound.{literal_at-is, literal_at-some}
 use Rattle.handlebars_lines.proofs.Parameters.{nested-has, nested-no_line, nested-goes_on, literal-is, path-is, single-goes_on, single-no_path, one_parameter}
-use Rattle.handlebars_template.specs.Tree.{expression, Param, path, literal, subexpression}
-use Rattle.handlebars_template.specs.Calls.{plain_call, max_nesting, param_of, literals_of, first_refused, invalid}
-use Rattle.handlebars_template.specs.LineBuildingView.{line_view, IsCallOf, IsBuilt}
+use Rattle.handlebars_template.specs.Tree.{expression, Call, Param, path, literal, subexpression}
+use Rattle.handlebars_template.specs.Calls.{max_nesting, param_of, literals_of, first_refused, invalid}
+use Rattle.handlebars_template.specs.LineBuildingView.{built_call, IsCallOf, IsBuilt}
 use Rattle.handlebars_template.specs.ParameterParsing.{parsed, refused, parsing_of, Parses, reads, too_deep, unreadable, OneParsing}
 use Rattle.handlebars_template.specs.ParameterParsingView.{HasNested, NoNested}
 use Rattle.handlebars_template.specs.declared.template.line.BuiltLine.{BuiltLine}
@@ -98,12 +98,12 @@ parses_worthless text inside raw depth built opens h within builds worthless =
 
 pub parses_call : (text inside : Text) (depth : ℕ) (built : BuiltLine) (p : Param) → after 40 text ≡ Some inside → HasNested inside depth → depth < 200
     → BuildsInside inside (Some built) → option_map (λ t. t.now) built.refused ≡ None
-    → p ≡ subexpression (expression (plain_call (line_view built).name (line_view built).params (line_view built).pairs))
+    → p ≡ subexpression (expression (built_call built))
     → Parses text (parsed p)
 parses_call text inside depth built p opens h within builds worth is =
     let call : IsCallOf h.line.line built = builds h.line.line h.left h.line.is in
     parses_param text (call_term h.line.line.name h.line.line.terms) (suc depth) p (nested_parameter text inside depth opens h) (omega (arith, within)) (sym call.refused ∙ worth)
-    (is ∙ rw (call.name, call.params, call.pairs) refl)
+    (is ∙ ap (λ (c : Call). subexpression (expression c)) call.call)
 
 -- ---- a literal
 

@@ -9,7 +9,7 @@ use Rattle.handlebars_tags.specs.Trim.{Edge}
 use Rattle.handlebars_tags.specs.TagView.{HoldsLine, HoldsBlock, IsBlockSlice}
 use Rattle.handlebars_tags.specs.declared.tag.inside.BlockSlice.{BlockSlice}
 use Rattle.handlebars_template.specs.Place.{Place}
-use Rattle.handlebars_template.specs.Tree.{Element, Binding, Param, Params, Pairs, args, name, both}
+use Rattle.handlebars_template.specs.Tree.{Element, Binding, Param, Args, name, both}
 use Rattle.handlebars_template.specs.TreeView.{text, binding_view}
 use Rattle.handlebars_template.specs.Calls.{call_of, first_refused, line_literals}
 use Rattle.handlebars_template.specs.Nest.{BlockKind, helper_opening, Opening as Said, Piece, leaf, opens, chains}
@@ -26,13 +26,13 @@ use Rattle.handlebars_template.specs.declared.template.tree.BlockParam.TheBlock.
 pub binding_view-Pair : (x y : String Global) → binding_view (Pair (Name x, Name y)) ≡ both (name (text x)) (name (text y))
 binding_view-Pair x y = search (rules, the_lemmas)
 
-abbrev pub said : BlockKind → Param → Text → Params → Pairs → Binding → Bool → Said
-said k p closing ps hs b indent =
-    record { kind = k; name = p; closing = closing; arguments = args ps hs; binding = b; indent = indent }
+abbrev pub said : BlockKind → Param → Text → Args → Binding → Bool → Said
+said k p closing xs b indent =
+    record { kind = k; name = p; closing = closing; arguments = xs; binding = b; indent = indent }
 
-pub said-along : (k : BlockKind) (p q : Param) (n m : Text) (ps qs : Params) (hs gs : Pairs) (b c : Binding) (i j : Bool) → p ≡ q → n ≡ m → ps ≡ qs → hs ≡ gs → b ≡ c → i ≡ j
-    → said k p n ps hs b i ≡ said k q m qs gs c j
-said-along k p q n m ps qs hs gs b c i j one two three four five six = rw (one, two, three, four, five, six) refl
+pub said-along : (k : BlockKind) (p q : Param) (n m : Text) (xs ys : Args) (b c : Binding) (i j : Bool) → p ≡ q → n ≡ m → xs ≡ ys → b ≡ c → i ≡ j
+    → said k p n xs b i ≡ said k q m ys c j
+said-along k p q n m xs ys b c i j one two three four five = rw (one, two, three, four, five) refl
 
 -- ---- a tag does what its line does
 

@@ -1,5 +1,5 @@
 -- The call that a line is, and the first of its literals that is refused.
-use Rattle.std.specs.Prelude.{ℕ, Bool, true, false, if◌then◌else◌, List, [], ◌∷◌, ◌++◌, Option, Some, None, unwrap_or, is_some}
+use Rattle.std.specs.Prelude.{ℕ, true, false, if◌then◌else◌, List, [], ◌∷◌, ◌++◌, Option, Some, None, unwrap_or, is_some}
 use Rattle.std.specs.Cmp.Lexicographic.{slice_cmp}
 use Rattle.std.specs.Ordering.{match_ordering, nat_cmp}
 use Rattle.serde_json.specs.Data.{null}
@@ -9,25 +9,25 @@ use Rattle.handlebars_base.specs.Reasons.{TemplateRefusal, invalid_param}
 use Rattle.handlebars_lines.specs.Parameter.{Term, literal_term, path_term, name_term, call_term, Terms, no_terms, term}
 use Rattle.handlebars_lines.specs.Line.{Line}
 use Rattle.handlebars_lines.specs.WorthReading.{worth_of}
-use Rattle.handlebars_template.specs.Tree.{CallMarks, expression, Call, call, args, bodies, Param, name, path, literal, subexpression, Params, no_params, param, Pairs, no_pairs, pair, no_binding, no_body}
+use Rattle.handlebars_template.specs.Tree.{CallMarks, expression, Call, call, Args, args, no_arguments, lacks_arguments, bodies, Param, name, path, literal, subexpression, Params, no_params, param, Pairs, no_pairs, pair, no_binding, no_body}
 
 -- no block, not chained, and not on a line of its own
 abbrev pub plain_marks : CallMarks
 plain_marks = record { block = false; chain = false; indent_before_write = false }
 
 -- an expression of this name and these arguments
-abbrev pub plain_call : Param → Params → Pairs → Call
-plain_call n params pairs = call n (args params pairs) no_binding (bodies no_body no_body) plain_marks
+abbrev pub plain_call : Param → Args → Call
+plain_call n xs = call n xs no_binding (bodies no_body no_body) plain_marks
 
 -- the most blocks, parentheses and brackets of literals that may be open at once
 abbrev pub max_nesting : ℕ
 max_nesting = 200
 
--- ---- parameters and pairs
+-- ---- arguments
 
-abbrev pub lacks_terms : Terms → Bool
-lacks_terms no_terms = true
-lacks_terms (term key t more) = false
+abbrev pub with_param : Params → Param → Params
+with_param no_params p = param p no_params
+with_param (param q more) p = param q (with_param more p)
 
 -- the parameter under its key, in place of one that stood there; the keys are in the order of their bytes
 abbrev pub put_pair : Text → Param → Pairs → Pairs
@@ -36,9 +36,25 @@ put_pair key p (pair k q more) =
     match_ordering (slice_cmp nat_cmp key k)
     (pair key p (pair k q more)) (pair k p more) (pair k q (put_pair key p more))
 
--- A path with terms behind it is a name; alone it is a path.
-abbrev pub path_name : Reference → Terms → Param
-path_name r terms = if lacks_terms terms then path r else name (raw_of r)
+-- one more behind these: a pair, where a key stands before it, or a parameter
+abbrev pub add_argument : Option Text → Param → Args → Args
+add_argument None p (args ps hs) = args (with_param ps p) hs
+add_argument (Some key) p (args ps hs) = args ps (put_pair key p hs)
+
+-- ---- calls
+
+abbrev pub named : Param → Param
+named (name n) = name n
+named (path r) = name (raw_of r)
+named (literal d) = literal d
+named (subexpression e) = subexpression e
+
+-- A path with arguments behind it is a name; alone it is a path.
+abbrev pub name_before : Args → Param → Param
+name_before xs p = if lacks_arguments xs then p else named p
+
+abbrev pub called : Param → Args → Call
+called p xs = plain_call (name_before xs p) xs
 
 -- A literal that is refused has no value. It stands as null in a tree that is handed to no one.
 abbrev pub literal_param : Text → Param
@@ -50,29 +66,15 @@ abbrev mutual
   param_of (literal_term raw) = literal_param raw
   param_of (path_term r) = path r
   param_of (name_term t) = name t
-  param_of (call_term t terms) =
-      subexpression (expression (plain_call (name_of t terms) (params_in terms) (pairs_in no_pairs terms)))
+  param_of (call_term t terms) = subexpression (expression (called (param_of t) (arguments_in no_arguments terms)))
 
-  pub name_of : Term → Terms → Param
-  name_of (literal_term raw) terms = literal_param raw
-  name_of (path_term r) terms = path_name r terms
-  name_of (name_term t) terms = name t
-  name_of (call_term t inner) terms =
-      subexpression (expression (plain_call (name_of t inner) (params_in inner) (pairs_in no_pairs inner)))
-
-  pub params_in : Terms → Params
-  params_in no_terms = no_params
-  params_in (term None t more) = param (param_of t) (params_in more)
-  params_in (term (Some key) t more) = params_in more
-
-  -- on top of these pairs
-  pub pairs_in : Pairs → Terms → Pairs
-  pairs_in pairs no_terms = pairs
-  pairs_in pairs (term None t more) = pairs_in pairs more
-  pairs_in pairs (term (Some key) t more) = pairs_in (put_pair key (param_of t) pairs) more
+  -- behind these arguments
+  pub arguments_in : Args → Terms → Args
+  arguments_in xs no_terms = xs
+  arguments_in xs (term key t more) = arguments_in (add_argument key (param_of t) xs) more
 
 abbrev pub call_of : Term → Terms → Call
-call_of t terms = plain_call (name_of t terms) (params_in terms) (pairs_in no_pairs terms)
+call_of t terms = called (param_of t) (arguments_in no_arguments terms)
 
 -- ---- literals
 

@@ -8,9 +8,9 @@ use Rattle.handlebars_tags.specs.Tag.{Tag, expression_tag, html_tag, block_tag, 
 use Rattle.handlebars_tags.specs.Trim.{Edge, braces_behind, trimmed, has_element}
 use Rattle.handlebars_tags.specs.Options.{Options}
 use Rattle.handlebars_template.specs.Place.{Place, place}
-use Rattle.handlebars_template.specs.Tree.{Tree, tree, elements_of, Element, raw_string, html_expression, expression, comment, args, name, no_pairs, no_binding, single, both}
+use Rattle.handlebars_template.specs.Tree.{Tree, tree, elements_of, Element, raw_string, html_expression, expression, comment, no_arguments, name, no_binding, single, both}
 use Rattle.handlebars_template.specs.Tree as tree
-use Rattle.handlebars_template.specs.Calls.{call_of, params_in, pairs_in, line_literals, literals_in, first_refused, invalid}
+use Rattle.handlebars_template.specs.Calls.{call_of, arguments_in, line_literals, literals_in, first_refused, invalid}
 use Rattle.handlebars_template.specs.Nest.{BlockKind, helper_opening, raw_opening, decorator_opening, partial_opening, Opening, Piece, leaf, opens, turns, chains, closes, Fault, unexpected, too_deep, not_closed, mismatched, no_value, Placed, syntax_alone, names_and_literals, Nests, Frame, Opens, Refuses, LeavesOpen}
 use Rattle.handlebars_template.specs.Cut.{Slice, text_slice, tag_slice, may_follow, Reads, IsCut}
 
@@ -28,7 +28,7 @@ opening_of kind e line = record {
   kind = kind;
   name = name line.name;
   closing = line.name;
-  arguments = args (params_in line.terms) (pairs_in no_pairs line.terms);
+  arguments = arguments_in no_arguments line.terms;
   binding = binding_of line.binding;
   indent = e.standalone && not e.left;
 }

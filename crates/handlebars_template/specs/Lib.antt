@@ -3,7 +3,6 @@ pub mod Tree
 pub mod Calls
 pub mod Nest
 pub mod Machine
-pub mod LineBuilding
 pub mod Cut
 pub mod Compile
 pub mod ParameterParsing

@@ -1,8 +1,8 @@
 -- What the program's open blocks stand for.
 use Rattle.std.specs.Prelude.{◌≡◌, List, [], ◌∷◌, map, reverse, Option, None, Some, option_map}
 use Rattle.handlebars_template.specs.Place.{Place}
-use Rattle.handlebars_template.specs.Tree.{args, name, Binding, no_binding, single, both}
-use Rattle.handlebars_template.specs.TreeView.{text, place_of, element_view, param_view, params_view, pairs_view}
+use Rattle.handlebars_template.specs.Tree.{name, Binding, no_binding, single, both}
+use Rattle.handlebars_template.specs.TreeView.{text, place_of, element_view, param_view, arguments_view}
 use Rattle.handlebars_template.specs.Nest.{BlockKind, helper_opening, raw_opening, decorator_opening, partial_opening, Opening, Piece, Fault, unexpected, too_deep, mismatched, no_value, Placed, Branch, Stage, in_first, in_branch, in_inverse, Frame}
 use Rattle.handlebars_template.specs.Machine.{goes, behind_piece, early_in, late_after, End, complete, unclosed, refused}
 use Rattle.handlebars_template.specs.declared.template.tree.TemplateMapping.{TemplateMapping}
@@ -50,7 +50,7 @@ opening_view o = record {
   kind = kind_view o.kind;
   name = param_view o.name;
   closing = text o.closing;
-  arguments = args (params_view o.params.items) (pairs_view o.hash.entries);
+  arguments = arguments_view o.arguments;
   binding = names_view o.names;
   indent = o.indent_before_write;
 }

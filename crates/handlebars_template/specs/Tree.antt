@@ -85,6 +85,9 @@ abbrev pub params_of : List Param → Params
 params_of [] = no_params
 params_of (p ∷ ps) = param p (params_of ps)
 
+abbrev pub no_arguments : Args
+no_arguments = args no_params no_pairs
+
 -- no name and no elements
 abbrev pub empty_tree : Tree
 empty_tree = tree None no_elements []
@@ -180,9 +183,12 @@ abbrev pub lacks_pairs : Pairs → Bool
 lacks_pairs no_pairs = true
 lacks_pairs (pair k p hs) = false
 
--- Without parameters and pairs it is a value, and otherwise a call.
+abbrev pub lacks_arguments : Args → Bool
+lacks_arguments xs = lacks_params (args_params xs) && lacks_pairs (args_pairs xs)
+
+-- Without arguments it is a value, and otherwise a call.
 abbrev pub is_value : Call → Bool
-is_value h = lacks_params (call_params h) && lacks_pairs (call_pairs h)
+is_value h = lacks_arguments (call_args h)
 
 -- the call of an expression; no other element has one here
 abbrev pub expression_call : Element → Option Call

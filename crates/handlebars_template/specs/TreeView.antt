@@ -5,7 +5,8 @@ use Rattle.serde_json.specs.View as json
 use Rattle.handlebars_base.specs.Bytes.{Text}
 use Rattle.handlebars_base.specs.PathView.{reference_of}
 use Rattle.handlebars_template.specs.Place.{Place}
-use Rattle.handlebars_template.specs.Tree.{CallMarks, Tree, tree, Elements, elements_of, Element, raw_string, html_expression, expression, helper_block, decorator_expression, decorator_block, partial_expression, partial_block, comment, Call, call, Decorator, decorator, args, bodies, Param, name, path, literal, subexpression, Params, params_of, Pairs, no_pairs, pair, Binding, no_binding, single, both, Body, no_body, body}
+use Rattle.handlebars_template.specs.Tree.{CallMarks, Tree, tree, Elements, elements_of, Element, raw_string, html_expression, expression, helper_block, decorator_expression, decorator_block, partial_expression, partial_block, comment, Call, call, Decorator, decorator, Args, args, bodies, Param, name, path, literal, subexpression, Params, params_of, Pairs, no_pairs, pair, Binding, no_binding, single, both, Body, no_body, body}
+use Rattle.handlebars_template.specs.declared.template.arguments.Arguments.{Arguments}
 use Rattle.handlebars_template.specs.declared.template.tree.TemplateMapping.{TemplateMapping}
 use Rattle.handlebars_template.specs.declared.template.tree.Template.{Template, fold-Template}
 use Rattle.handlebars_template.specs.declared.template.tree.TemplateElement.{TemplateElement, fold-TemplateElement}
@@ -123,6 +124,9 @@ body_view t = body_of (option_map tree_view t)
 
 abbrev pub block_param_view : Option BlockParam → Binding
 block_param_view b = binding_of (option_map binding_view b)
+
+abbrev pub arguments_view : Arguments → Args
+arguments_view xs = args (params_view xs.params.items) (pairs_view xs.hash.entries)
 
 -- the call that a tag's inside is, without bodies
 abbrev pub spec_call : ExpressionSpec → CallMarks → Call

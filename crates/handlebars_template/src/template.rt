@@ -1,5 +1,6 @@
 //! A template's tree, and how a source is compiled to it.
 
+mod arguments;
 mod build;
 mod chain;
 mod compile;

@@ -17,7 +17,7 @@ use Rattle.handlebars_template.specs.Calls.{plain_call, plain_marks}
 use Rattle.handlebars_tags.specs.Options.{no_options}
 use Rattle.handlebars_template.specs.Compile.{Compiles, compiled}
 use Rattle.handlebars_worked.specs.SourceRows.{at, alone, path_to, call_with}
-use Rattle.handlebars_template.specs.Tree.{Tree, tree, elements_of, Element, raw_string, expression, helper_block, call, args, bodies, Body, no_body, body, no_binding, Params, no_params, param, no_pairs, Param, name, literal, subexpression}
+use Rattle.handlebars_template.specs.Tree.{Tree, tree, elements_of, Element, raw_string, expression, helper_block, call, args, no_arguments, bodies, Body, no_body, body, no_binding, Params, no_params, param, no_pairs, Param, name, literal, subexpression}
 use Rattle.handlebars_template.proofs.Outcomes.{answer_of-compiles}
 use Rattle.handlebars_worked.specs.ScopeRows.{natural}
 
@@ -53,10 +53,10 @@ block_of n ps t i =
 
 -- a name alone
 abbrev lone : Text → Element
-lone n = expression (plain_call (path_to n) no_params no_pairs)
+lone n = expression (plain_call (path_to n) no_arguments)
 
 abbrev pub word_tree : Tree
-word_tree = alone (expression (plain_call (name (codes "eq")) (param (numeral 1) (param (numeral 1) no_params)) no_pairs))
+word_tree = alone (expression (plain_call (name (codes "eq")) (args (param (numeral 1) (param (numeral 1) no_params)) no_pairs)))
 
 pub word_source : Compiles (codes "{{eq 1 1}}") no_options (compiled word_tree)
 unfolding on_lines on_parameters on_literals

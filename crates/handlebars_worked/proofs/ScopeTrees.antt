@@ -15,7 +15,7 @@ use Rattle.handlebars_tags.specs.Options.{no_options}
 use Rattle.handlebars_template.specs.Compile.{Compiles, compiled}
 use Rattle.handlebars_template.specs.Place.{Place}
 use Rattle.handlebars_worked.specs.SourceRows.{at, alone, path_to}
-use Rattle.handlebars_template.specs.Tree.{Tree, tree, elements_of, Element, raw_string, expression, helper_block, call, args, bodies, Body, no_body, body, Binding, no_binding, single, both, no_params, param, no_pairs, Param, name, path}
+use Rattle.handlebars_template.specs.Tree.{Tree, tree, elements_of, Element, raw_string, expression, helper_block, call, args, no_arguments, bodies, Body, no_body, body, Binding, no_binding, single, both, no_params, param, no_pairs, Param, name, path}
 use Rattle.handlebars_template.proofs.Outcomes.{answer_of-compiles}
 
 -- a path by its segments, and one to a variable of the block so many blocks up, as written
@@ -30,10 +30,10 @@ this = along [] (codes "this")
 
 -- what is written of a parameter
 abbrev show : Param → Element
-show q = expression (plain_call q no_params no_pairs)
+show q = expression (plain_call q no_arguments)
 
 abbrev lookup : Param → Param → Element
-lookup q key = expression (plain_call (name (codes "lookup")) (param q (param key no_params)) no_pairs)
+lookup q key = expression (plain_call (name (codes "lookup")) (args (param q (param key no_params)) no_pairs))
 
 -- elements at their places
 abbrev inside : List Element → List Place → Tree

@@ -91,7 +91,7 @@ path_of n = path (relative (named n ∷ []) n)
 
 -- what stands in braces or in parentheses: a name and parameters
 abbrev pub call_of : Param → List Param → Call
-call_of n ps = plain_call n (params_of ps) no_pairs
+call_of n ps = plain_call n (args (params_of ps) no_pairs)
 
 -- a call in parentheses, with no parameters
 abbrev pub nested : Text → Param

@@ -5,7 +5,7 @@ use Rattle.handlebars_base.specs.Bytes.{Text, backslash, newline}
 use Rattle.handlebars_base.specs.Path.{Segment, named, up, relative}
 use Rattle.handlebars_lines.specs.Parameter.{left_parenthesis, right_parenthesis}
 use Rattle.handlebars_template.specs.Place.{Place}
-use Rattle.handlebars_template.specs.Tree.{Tree, tree, empty_tree, Element, no_elements, element, raw_string, html_expression, expression, Param, name, path, literal, subexpression, args, no_params, param, no_pairs, pair, no_binding, no_body}
+use Rattle.handlebars_template.specs.Tree.{Tree, tree, empty_tree, Element, no_elements, element, raw_string, html_expression, expression, Param, name, path, literal, subexpression, args, no_arguments, no_params, param, no_pairs, pair, no_binding, no_body}
 use Rattle.handlebars_template.specs.Calls.{plain_call, invalid}
 use Rattle.handlebars_template.specs.Nest.{helper_opening, raw_opening, Opening, mismatched, Placed, body_with, block_of}
 use Rattle.handlebars_tags.specs.Options.{no_options}
@@ -21,7 +21,7 @@ text_and_element text e there =
 
 -- the value that these segments lead to, written so
 abbrev pub value_at : List Segment → Text → Element
-value_at segments written = expression (plain_call (path (relative segments written)) no_params no_pairs)
+value_at segments written = expression (plain_call (path (relative segments written)) no_arguments)
 
 -- The empty source has no elements.
 abbrev pub EmptyRow : Type 0
@@ -68,7 +68,7 @@ path_to n = path (relative (named n ∷ []) n)
 
 -- `{{{x}}}` and `{{&x}}` are html expressions.
 abbrev pub html_x : Tree
-html_x = alone (html_expression (plain_call (path_to (codes "x")) no_params no_pairs))
+html_x = alone (html_expression (plain_call (path_to (codes "x")) no_arguments))
 
 abbrev pub HtmlRow : Type 0
 HtmlRow = Compiles (codes "{{{x}}}") no_options (compiled html_x)
@@ -83,12 +83,12 @@ CallRow =
     (compiled
     (alone
     (expression
-    (plain_call (name (codes "a")) (param (path_to (codes "b")) no_params)
-    (pair (codes "c") (path_to (codes "d")) no_pairs)))))
+    (plain_call (name (codes "a"))
+    (args (param (path_to (codes "b")) no_params) (pair (codes "c") (path_to (codes "d")) no_pairs))))))
 
 -- a call of this name with this parameter
 abbrev pub call_with : Text → Param → Element
-call_with n p = expression (plain_call (name n) (param p no_params) no_pairs)
+call_with n p = expression (plain_call (name n) (args (param p no_params) no_pairs))
 
 -- calls in parentheses
 abbrev pub NestedRow : Type 0

@@ -2,16 +2,19 @@
 //! calls itself.
 
 ghost use Rattle.std.specs.Prelude.{◌≡◌, [], IfOk, OnOk, None, option_map, string_bytes};
-ghost use Rattle.handlebars_base.specs.Path.{raw_of};
+ghost use Rattle.handlebars_base.specs.Path.{Reference, raw_of};
 ghost use Rattle.handlebars_base.specs.PathReading.{path_of};
 ghost use Rattle.handlebars_base.specs.PathView.{reference_of};
+ghost use Rattle.handlebars_lines.specs.Line.{Line};
+ghost use Rattle.handlebars_lines.specs.Parameter.{Term, literal_term, path_term, name_term};
+ghost use Rattle.handlebars_lines.specs.LineReading.{OpenLine, OpenLines, begun_line, add_term, opened_in, added_in, closed_in, build, first_lines};
 ghost use Rattle.handlebars_lines.specs.LineView.{key_of, event_of};
-ghost use Rattle.handlebars_template.specs.Tree.{no_params, no_pairs};
-ghost use Rattle.handlebars_template.specs.Calls.{put_pair};
-ghost use Rattle.handlebars_template.specs.TreeView.{param_view, params_view, pairs_view};
-ghost use Rattle.handlebars_template.specs.LineBuilding.{open_call, add_behind, add, is_alone, named, closed_name, called, open_calls, begin, close, add_literal, add_path, add_name, take, first_calls, finish};
-ghost use Rattle.handlebars_template.specs.LineBuildingView.{open_view, calls_view, calls_after, line_view};
+ghost use Rattle.handlebars_template.specs.Tree.{expression, subexpression};
+ghost use Rattle.handlebars_template.specs.Calls.{param_of, named, name_before, called, first_refused, line_literals};
+ghost use Rattle.handlebars_template.specs.TreeView.{param_view, arguments_view};
+ghost use Rattle.handlebars_template.specs.LineBuildingView.{open_view, calls_view, open_call_of, AreCallsOf, IsTaken, whole_line, IsBuilt};
 
+use crate::template::arguments::Arguments;
 use crate::template::line::BuiltLine;
 use crate::template::tree::{Parameter, Subexpression};
 use handlebars_base::json::path::{Path, read_path};
@@ -19,16 +22,14 @@ use handlebars_base::json::value::Json;
 use handlebars_lines::line::Event;
 use handlebars_lines::worth::literal_value;
 use std::alloc::{AllocError, Global};
-use std::collections::BTreeMap;
 use std::mem;
 
-/// A call that is not yet closed: the key before it, its name, its parameters and its pairs so far. A path stays a
-/// path until it is known whether anything follows it.
+/// A call that is not yet closed: the key before it, its name and its arguments so far. A path stays a path until it is
+/// known whether anything follows it.
 pub struct OpenCall<'a> {
     pub key: Option<&'a str>,
     pub name: Option<Parameter>,
-    pub params: Vec<Parameter>,
-    pub hash: BTreeMap<String, Parameter>,
+    pub arguments: Arguments,
 }
 
 impl Drop for OpenCall<'_> {
@@ -36,8 +37,7 @@ impl Drop for OpenCall<'_> {
         let OpenCall {
             key: _,
             name: _,
-            params: _,
-            hash: _,
+            arguments: _,
         } = self;
     }
 }
@@ -60,19 +60,18 @@ impl Drop for OpenCalls<'_> {
 }
 
 fn new_call<'a>(alloc: Global, key: Option<&'a str>) -> OpenCall<'a>
-    ensures { open_view result ≡ open_call (key_of key.entry) None no_params no_pairs }
+    ensures { open_view result ≡ open_call_of (begun_line (key_of key.entry)) }
 {
     OpenCall {
         key,
         name: None,
-        params: Vec::new(alloc),
-        hash: BTreeMap::new(alloc),
+        arguments: Arguments::new(alloc),
     }
 }
 
 /// One open call, with nothing in it. What is refused later is a part of the text, which so gives the lifetime.
 pub fn first_calls<'a>(alloc: Global, _text: &'a str) -> OpenCalls<'a>
-    ensures { calls_view result ≡ first_calls }
+    ensures { AreCallsOf first_lines (calls_view result) }
 {
     OpenCalls {
         top: new_call(alloc, None),
@@ -81,7 +80,6 @@ pub fn first_calls<'a>(alloc: Global, _text: &'a str) -> OpenCalls<'a>
     }
 }
 
-// The pair counts in place of an earlier one with its key.
 fn key_text(alloc: Global, key: Option<&str>) -> Result<Option<String>, AllocError>
     ensures { IfOk result (λ text. option_map string_bytes text ≡ key_of key.entry) }
 {
@@ -89,20 +87,6 @@ fn key_text(alloc: Global, key: Option<&str>) -> Result<Option<String>, AllocErr
         Some(name) => Ok(Some(String::from_str(alloc, name)?)),
         None => Ok(None),
     }
-}
-
-// The pair counts in place of an earlier one with its key.
-#[tactic(auto, using(crate::proofs::LinesBuilt::pairs_view_insert))]
-fn put_pair(
-    hash: &mut BTreeMap<String, Parameter>,
-    key: String,
-    value: Parameter,
-) -> Result<(), AllocError>
-    ensures { OnOk result (pairs_view hash.new.entries
-        ≡ put_pair (string_bytes key) (param_view value) (pairs_view hash.old.entries)) }
-{
-    hash.insert(key, value)?;
-    Ok(())
 }
 
 // The text of a path, as written.
@@ -126,110 +110,82 @@ fn named(name: Parameter) -> Parameter
     }
 }
 
-fn is_alone(params: &Vec<Parameter>, hash: &BTreeMap<String, Parameter>) -> bool
-    ensures { result ≡ is_alone (params_view params.now.items) (pairs_view hash.now.entries) }
+fn name_before(arguments: &Arguments, name: Parameter) -> Parameter
+    ensures { param_view result ≡ name_before (arguments_view arguments.now) (param_view name) }
 {
-    params.is_empty() && hash.is_empty()
-}
-
-fn closed_name(
-    name: Parameter,
-    params: &Vec<Parameter>,
-    hash: &BTreeMap<String, Parameter>,
-) -> Parameter
-    ensures { param_view result
-        ≡ closed_name (param_view name) (params_view params.now.items) (pairs_view hash.now.entries) }
-{
-    if is_alone(params, hash) {
+    if arguments.is_empty() {
         name
     } else {
         named(name)
     }
 }
 
-fn called(
-    alloc: Global,
-    name: Parameter,
-    params: Vec<Parameter>,
-    hash: BTreeMap<String, Parameter>,
-) -> Result<Parameter, AllocError>
+fn called(alloc: Global, name: Parameter, arguments: Arguments) -> Result<Parameter, AllocError>
     ensures { IfOk result (λ call. param_view call
-        ≡ called (param_view name) (params_view params.items) (pairs_view hash.entries)) }
+        ≡ subexpression (expression (called (param_view name) (arguments_view arguments)))) }
 {
-    let name = closed_name(name, &params, &hash);
+    let name = name_before(&arguments, name);
+    let Arguments { params, hash } = arguments;
     let call = Subexpression::new(alloc, name, params, hash)?;
     Ok(Parameter::Subexpression(call))
 }
 
 impl<'a> OpenCall<'a> {
-    #[tactic(auto, using(crate::proofs::LinesBuilt::params_view_push))]
-    fn add_behind(&mut self, key: Option<String>, value: Parameter) -> Result<(), AllocError>
-        ensures { OnOk result (open_view self.new
-            ≡ add_behind (option_map string_bytes key) (param_view value) (open_view self.old)) }
-    {
-        match key {
-            None => {
-                self.params.push(value)?;
-                Ok(())
-            }
-            Some(key) => put_pair(&mut self.hash, key, value),
-        }
-    }
-
     // The first term is the name.
+    #[tactic(auto, using(crate::proofs::OpenLines::arguments_in_joined))]
     fn add(&mut self, key: Option<String>, value: Parameter) -> Result<(), AllocError>
-        ensures { OnOk result (open_view self.new
-            ≡ add (option_map string_bytes key) (param_view value) (open_view self.old)) }
+        ensures { OnOk result ((line : OpenLine) (t : Term) → open_view self.old ≡ open_call_of line
+            → param_view value ≡ param_of t
+            → open_view self.new ≡ open_call_of (add_term (option_map string_bytes key) t line)) }
     {
         if self.name.is_some() {
-            return self.add_behind(key, value);
+            self.arguments.add(key, value)?;
+        } else {
+            self.name = Some(value);
         }
-        self.name = Some(value);
         Ok(())
     }
 
     // As a term of the call around it, once its name is there.
     fn term(self, alloc: Global) -> Result<Option<Parameter>, AllocError>
         ensures { IfOk result (λ call. option_map param_view call
-            ≡ option_map (λ n. called n (params_view self.entry.params.items) (pairs_view self.entry.hash.entries))
+            ≡ option_map (λ n. subexpression (expression (called n (arguments_view self.entry.arguments))))
             (option_map param_view self.entry.name)) }
     {
         let OpenCall {
             key: _,
             name,
-            params,
-            hash,
+            arguments,
         } = self;
         match name {
-            Some(name) => Ok(Some(called(alloc, name, params, hash)?)),
+            Some(name) => Ok(Some(called(alloc, name, arguments)?)),
             None => Ok(None),
         }
     }
 
     // As the outermost call of a line, once its name is there.
     fn line(self, refused: Option<&'a str>) -> Option<BuiltLine<'a>>
-        ensures { option_map line_view result ≡ finish (open_calls (open_view self.entry) [] (key_of refused.entry)) }
+        ensures { (line : Line) → open_view self.entry ≡ open_call_of (whole_line line)
+            → key_of refused.entry ≡ first_refused (line_literals line) → IsBuilt line result }
     {
         let OpenCall {
             key: _,
             name,
-            params,
-            hash,
+            arguments,
         } = self;
         let Some(name) = name else {
             return None;
         };
-        let name = closed_name(name, &params, &hash);
+        let name = name_before(&arguments, name);
         Some(BuiltLine {
             name,
-            params,
-            hash,
+            arguments,
             refused,
         })
     }
 }
 
-/// The path that the whole text is.
+/// The path that the whole text is. It says what `read_path` does by the function that the steps of lines cite.
 pub fn path_of(alloc: Global, raw: &str) -> Result<Option<Path>, AllocError>
     ensures { IfOk result (λ read. option_map reference_of read ≡ path_of raw.now) }
 {
@@ -240,9 +196,9 @@ pub fn path_of(alloc: Global, raw: &str) -> Result<Option<Path>, AllocError>
 }
 
 impl<'a> OpenCalls<'a> {
-    #[tactic(auto, using(crate::proofs::LinesBuilt::around_view_push))]
     fn begin(&mut self, alloc: Global, key: Option<&'a str>) -> Result<(), AllocError>
-        ensures { OnOk result (calls_view self.new ≡ begin (key_of key.entry) (calls_view self.old)) }
+        ensures { OnOk result ((lines : OpenLines) → AreCallsOf lines (calls_view self.old)
+            → AreCallsOf (opened_in (key_of key.entry) lines) (calls_view self.new)) }
     {
         let outer = mem::replace(&mut self.top, new_call(alloc, key));
         self.around.push(outer)?;
@@ -250,10 +206,9 @@ impl<'a> OpenCalls<'a> {
     }
 
     // Whether there is a call to close, and one around it.
-    #[tactic(auto, using(crate::proofs::LinesBuilt::around_view_push))]
     fn close(&mut self, alloc: Global) -> Result<bool, AllocError>
-        ensures { IfOk result (λ taken. calls_after taken self.new
-            ≡ close (calls_view self.old).top (calls_view self.old).around (calls_view self.old).refused) }
+        ensures { IfOk result (λ taken. (lines : OpenLines) → AreCallsOf lines (calls_view self.old)
+            → IsTaken (closed_in lines.top lines.around) taken (calls_view self.new)) }
     {
         let Some(outer) = self.around.pop() else {
             return Ok(false);
@@ -274,24 +229,24 @@ impl<'a> OpenCalls<'a> {
         key: Option<&str>,
         raw: &'a str,
     ) -> Result<(), AllocError>
-        ensures { OnOk result (calls_view self.new
-            ≡ add_literal (key_of key.entry) raw.now (calls_view self.old)) }
+        ensures { OnOk result ((lines : OpenLines) → AreCallsOf lines (calls_view self.old)
+            → AreCallsOf (added_in (key_of key.entry) (literal_term raw.now) lines) (calls_view self.new)) }
     {
         let key = key_text(alloc, key)?;
-        let value = match literal_value(alloc, raw)? {
-            Some(value) => value,
+        match literal_value(alloc, raw)? {
+            Some(value) => self.top.add(key, Parameter::Literal(value)),
             None => {
                 self.refused = Some(self.refused.unwrap_or(raw));
-                Json::Null
+                self.top.add(key, Parameter::Literal(Json::Null))
             }
-        };
-        self.top.add(key, Parameter::Literal(value))
+        }
     }
 
     // Whether the text is a path.
     fn add_path(&mut self, alloc: Global, key: Option<&str>, raw: &str) -> Result<bool, AllocError>
-        ensures { IfOk result (λ taken. calls_after taken self.new
-            ≡ add_path (key_of key.entry) raw.now (calls_view self.old)) }
+        ensures { IfOk result (λ taken. (lines : OpenLines) → AreCallsOf lines (calls_view self.old)
+            → IsTaken (option_map (λ means. added_in (key_of key.entry) (path_term means) lines) (path_of raw.now)) taken
+            (calls_view self.new)) }
     {
         let key = key_text(alloc, key)?;
         let Some(path) = path_of(alloc, raw)? else {
@@ -301,8 +256,10 @@ impl<'a> OpenCalls<'a> {
         Ok(true)
     }
 
+    // A name that is no path, behind no key.
     fn add_name(&mut self, alloc: Global, raw: &str) -> Result<(), AllocError>
-        ensures { OnOk result (calls_view self.new ≡ add_name raw.now (calls_view self.old)) }
+        ensures { OnOk result ((lines : OpenLines) → AreCallsOf lines (calls_view self.old)
+            → AreCallsOf (added_in None (name_term raw.now) lines) (calls_view self.new)) }
     {
         let name = Parameter::Name(String::from_str(alloc, raw)?);
         self.top.add(None, name)
@@ -310,8 +267,8 @@ impl<'a> OpenCalls<'a> {
 
     /// A step is taken, where it can be.
     pub fn take(&mut self, alloc: Global, event: Event<'a>) -> Result<bool, AllocError>
-        ensures { IfOk result (λ taken. calls_after taken self.new
-            ≡ take (calls_view self.old) (event_of event.entry)) }
+        ensures { IfOk result (λ taken. (lines : OpenLines) → AreCallsOf lines (calls_view self.old)
+            → IsTaken (build lines (event_of event.entry)) taken (calls_view self.new)) }
     {
         match event {
             Event::Opened(key, _) => {
@@ -333,7 +290,8 @@ impl<'a> OpenCalls<'a> {
 
     /// The line of the innermost call, once its name is there.
     pub fn finish(self) -> Option<BuiltLine<'a>>
-        ensures { option_map line_view result ≡ finish (calls_view self.entry) }
+        ensures { (line : Line) → AreCallsOf (record { top = whole_line line; around = [] }) (calls_view self.entry)
+            → IsBuilt line result }
     {
         let OpenCalls {
             top,

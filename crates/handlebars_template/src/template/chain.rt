@@ -7,10 +7,10 @@ ghost use Rattle.handlebars_template.specs.Nest.{admits_inverse, admits_no_name,
 ghost use Rattle.handlebars_template.specs.Machine.{closed_block};
 ghost use Rattle.handlebars_template.specs.NestView.{placed_view, names_view, kind_view, opening_view, branch_view, stage_view};
 
+use crate::template::arguments::Arguments;
 use crate::template::placed::PlacedElements;
 use crate::template::tree::{BlockParam, HelperTemplate, Parameter, Template, TemplateElement};
 use std::alloc::{AllocError, Global};
-use std::collections::BTreeMap;
 
 /// The names that a block binds, as texts: they are parameters only in its tree.
 #[derive(Drop)]
@@ -80,8 +80,7 @@ pub struct BlockOpening {
     pub kind: BlockKind,
     pub name: Parameter,
     pub closing: String,
-    pub params: Vec<Parameter>,
-    pub hash: BTreeMap<String, Parameter>,
+    pub arguments: Arguments,
     pub names: BlockNames,
     pub indent_before_write: bool,
 }
@@ -92,8 +91,7 @@ impl Drop for BlockOpening {
             kind: _,
             name: _,
             closing: _,
-            params: _,
-            hash: _,
+            arguments: _,
             names: _,
             indent_before_write: _,
         } = self;
@@ -151,8 +149,7 @@ impl BlockOpening {
             kind: _,
             name,
             closing: _,
-            params,
-            hash,
+            arguments: Arguments { params, hash },
             names,
             indent_before_write,
         } = self;

@@ -5,29 +5,27 @@ ghost use Rattle.handlebars_base.specs.Bytes.{Text};
 ghost use Rattle.handlebars_lines.specs.Line.{Line, IsLine};
 ghost use Rattle.handlebars_lines.specs.LineView.{mode_of, enclosure_of};
 ghost use Rattle.handlebars_base.specs.PathView.{reference_of};
-ghost use Rattle.handlebars_template.specs.LineBuilding.{line_call, path_call};
-ghost use Rattle.handlebars_template.specs.LineBuildingView.{line_view, IsBuilt, IsCallOf};
-ghost use Rattle.handlebars_template.specs.Tree.{expression, args};
-ghost use Rattle.handlebars_template.specs.TreeView.{call_view, param_view, params_view, pairs_view, subexpression_view};
-ghost use Rattle.handlebars_template.specs.Calls.{call_of, plain_call};
+ghost use Rattle.handlebars_template.specs.LineBuildingView.{built_call, IsBuilt, IsCallOf, IsPathAlone};
+ghost use Rattle.handlebars_template.specs.Tree.{expression};
+ghost use Rattle.handlebars_template.specs.TreeView.{call_view, param_view, arguments_view, subexpression_view};
+ghost use Rattle.handlebars_template.specs.Calls.{call_of};
 ghost use Rattle.handlebars_template.specs.NestView.{names_view, kind_view, opening_view};
 
+use crate::template::arguments::Arguments;
 use crate::template::build::{first_calls, path_of};
 use crate::template::chain::{BlockKind, BlockNames, BlockOpening};
 use crate::template::tree::{HelperTemplate, Parameter, Subexpression};
 use handlebars_base::json::path::Path;
 use handlebars_lines::line::{Enclosure, Event, LineStand, NameMode, Step, take_step};
 use std::alloc::{AllocError, Global};
-use std::collections::BTreeMap;
 
 /// The most blocks, parentheses and brackets of literals that may be open at once.
 pub const MAX_NESTING: usize = 200;
 
-/// A line's name, parameters and pairs, and the first of its literals that is refused, by its text.
+/// A line's name and arguments, and the first of its literals that is refused, by its text.
 pub struct BuiltLine<'a> {
     pub name: Parameter,
-    pub params: Vec<Parameter>,
-    pub hash: BTreeMap<String, Parameter>,
+    pub arguments: Arguments,
     pub refused: Option<&'a str>,
 }
 
@@ -35,8 +33,7 @@ impl Drop for BuiltLine<'_> {
     fn drop(self) {
         let BuiltLine {
             name: _,
-            params: _,
-            hash: _,
+            arguments: _,
             refused: _,
         } = self;
     }
@@ -49,8 +46,7 @@ impl BuiltLine<'_> {
     {
         let BuiltLine {
             name,
-            params,
-            hash,
+            arguments: Arguments { params, hash },
             refused: _,
         } = self;
         HelperTemplate {
@@ -69,13 +65,11 @@ impl BuiltLine<'_> {
     /// The call in parentheses.
     pub fn subexpression(self, alloc: Global) -> Result<Subexpression, AllocError>
         ensures { IfOk result (λ call. subexpression_view call
-            ≡ expression (plain_call (param_view self.entry.name) (params_view self.entry.params.items)
-            (pairs_view self.entry.hash.entries))) }
+            ≡ expression (built_call self.entry)) }
     {
         let BuiltLine {
             name,
-            params,
-            hash,
+            arguments: Arguments { params, hash },
             refused: _,
         } = self;
         Subexpression::new(alloc, name, params, hash)
@@ -95,23 +89,21 @@ impl BuiltLine<'_> {
               kind = kind_view kind;
               name = param_view name;
               closing = string_bytes closing;
-              arguments = args (params_view self.entry.params.items) (pairs_view self.entry.hash.entries);
+              arguments = arguments_view self.entry.arguments;
               binding = names_view names;
               indent = indent_before_write;
             } }
     {
         let BuiltLine {
             name: _,
-            params,
-            hash,
+            arguments,
             refused: _,
         } = self;
         BlockOpening {
             kind,
             name,
             closing,
-            params,
-            hash,
+            arguments,
             names,
             indent_before_write,
         }
@@ -126,7 +118,7 @@ fn path_alone(
     text: &str,
 ) -> Result<Option<Path>, AllocError>
     ensures { IfOk result (λ read. IfSome read (λ path. (line : Line) (left : Text)
-        → IsLine (mode_of mode) (enclosure_of around) text.now line left → line_call line ≡ path_call (reference_of path))) }
+        → IsLine (mode_of mode) (enclosure_of around) text.now line left → IsPathAlone line (reference_of path))) }
 {
     let Step::Goes(event, next, rest) = take_step(alloc, around, LineStand::first(mode), text)?
     else {
@@ -159,12 +151,11 @@ pub fn build_line<'a>(
 }
 
 fn path_line<'a>(alloc: Global, path: Path) -> BuiltLine<'a>
-    ensures { line_view result ≡ path_call (reference_of path) }
+    ensures { (line : Line) → IsPathAlone line (reference_of path) → IsCallOf line result }
 {
     BuiltLine {
         name: Parameter::Path(path),
-        params: Vec::new(alloc),
-        hash: BTreeMap::new(alloc),
+        arguments: Arguments::new(alloc),
         refused: None,
     }
 }

@@ -1,7 +1,7 @@
 //! The tree of a template.
 
 ghost use Rattle.std.specs.Prelude.{◌≡◌, true, false, IfOk, option_map};
-ghost use Rattle.handlebars_template.specs.Tree.{empty_tree, as_name, is_value, expression, expression_call, is_helper, element_name, call_params, call_pairs, call_marks};
+ghost use Rattle.handlebars_template.specs.Tree.{args, empty_tree, as_name, is_value, expression, expression_call, is_helper, element_name, call_params, call_pairs, call_marks};
 ghost use Rattle.handlebars_template.specs.Calls.{plain_call};
 ghost use Rattle.handlebars_template.specs.TreeView.{tree_view, param_view, params_view, pairs_view, call_view, element_view, subexpression_view, spec_call};
 
@@ -171,7 +171,7 @@ impl Subexpression {
         hash: BTreeMap<String, Parameter>,
     ) -> Result<Subexpression, AllocError>
         ensures { IfOk result (λ call. subexpression_view call
-            ≡ expression (plain_call (param_view name) (params_view params.items) (pairs_view hash.entries))) }
+            ≡ expression (plain_call (param_view name) (args (params_view params.items) (pairs_view hash.entries)))) }
     {
         let call = HelperTemplate {
             name,

@@ -2,21 +2,23 @@ use Rattle.std.proofs.Common.{◌≡◌, ◌∙◌, ◌&&◌, Bool, true, false,
 use Rattle.std.specs.Prelude.{◌==◌}
 use Rattle.std.specs.BTreeMap.{btree_map_len}
 use Rattle.std.proofs.lemmas.Bool.Decides.{same_from_decides, Decides-eqb}
-use Rattle.handlebars_template.proofs.LinesBuilt.{is_alone-view}
-use Rattle.handlebars_template.proofs.template.build.is_alone.Goals as goal
+use Rattle.handlebars_template.proofs.LinesBuilt.{lacks_arguments-view}
+use Rattle.handlebars_template.proofs.template.arguments.Arguments.is_empty.Goals as goal
 
 pub returns-then-is_empty : goal.returns-then-is_empty
 returns-then-is_empty c =
-    let ps = c.args.params.now in
+    let ps = c.args.self.now.params in
+    let hs = c.args.self.now.hash in
     let same : vec_len ps ≡ length ps.items = omega (arith, ps.ok.0) in
     let empty : (length ps.items == 0) ≡ true = ap (λ n. n == 0) (sym same) ∙ sym c.is_empty.ensures ∙ c.if-is_empty.true in
-    same_from_decides _ (btree_map_len c.args.hash.now == 0) c.is_empty-then-is_empty.ensures (Decides-eqb _ _)
-    ∙ sym (is_alone-view ps.items c.args.hash.now.entries ∙ ap (λ (b : Bool). b && (length c.args.hash.now.entries == 0)) empty)
+    same_from_decides _ (btree_map_len hs == 0) c.is_empty-then-is_empty.ensures (Decides-eqb _ _)
+    ∙ sym (lacks_arguments-view ps.items hs.entries ∙ ap (λ (b : Bool). b && (length hs.entries == 0)) empty)
 
 pub returns-else-is_empty : goal.returns-else-is_empty
 returns-else-is_empty c =
-    let ps = c.args.params.now in
+    let ps = c.args.self.now.params in
+    let hs = c.args.self.now.hash in
     let same : vec_len ps ≡ length ps.items = omega (arith, ps.ok.0) in
     let some : (length ps.items == 0) ≡ false = ap (λ n. n == 0) (sym same) ∙ sym c.is_empty.ensures ∙ c.if-is_empty.false in
     c.if-is_empty.false
-    ∙ sym (is_alone-view ps.items c.args.hash.now.entries ∙ ap (λ (b : Bool). b && (length c.args.hash.now.entries == 0)) some)
+    ∙ sym (lacks_arguments-view ps.items hs.entries ∙ ap (λ (b : Bool). b && (length hs.entries == 0)) some)

@@ -1,0 +1,173 @@
+-- What the code's open calls are of a line's open lines: step by step they stay that.
+use Rattle.std.proofs.Common.{◌≡◌, ◌∙◌, ◌||◌, Bool, true, false, cond, List, [], ◌∷◌, ◌++◌, map, Option, Some, None, refl, sym, ap, append_assoc}
+use Rattle.std.proofs.lemmas.Option.{same_Some, none-some}
+use Rattle.std.specs.Prelude.{is_some, option_map, unwrap_or}
+use Rattle.serde_json.specs.Data.{Data, null}
+use Rattle.handlebars_base.specs.Bytes.{Text}
+use Rattle.handlebars_base.specs.Path.{Reference}
+use Rattle.handlebars_base.specs.Optional.{with_or}
+use Rattle.handlebars_lines.specs.Parameter.{Term, literal_term, path_term, name_term, call_term, Terms, no_terms, term}
+use Rattle.handlebars_lines.specs.LineReading.{OpenLine, joined, begun_line, add_term, OpenLines, opened_in, added_in, closed_in}
+use Rattle.handlebars_lines.specs.WorthReading.{worth_of}
+use Rattle.handlebars_template.specs.Tree.{expression, Param, name, path, literal, subexpression, Args, no_arguments}
+use Rattle.handlebars_template.specs.Calls.{add_argument, called, param_of, arguments_in, literals_of, literals_in, first_refused}
+use Rattle.handlebars_template.specs.LineBuildingView.{OpenCall, OpenCalls, open_call_of, open_literals, literals_so_far, lacks_terms, is_in_order, AreInOrder, AreCallsOf, IsTaken}
+
+abbrev open_line : Option Text → Option Term → Terms → OpenLine
+open_line key n terms = record { key = key; name = n; terms = terms }
+
+abbrev open_call : Option Text → Option Param → Args → OpenCall
+open_call key n xs = record { key = key; name = n; arguments = xs }
+
+-- ---- one term more
+
+pub arguments_in_joined : (ts : Terms) (xs : Args) (key : Option Text) (t : Term) → arguments_in xs (joined ts (term key t no_terms)) ≡ add_argument key (param_of t) (arguments_in xs ts)
+arguments_in_joined no_terms xs key t = refl
+arguments_in_joined (term k u ts) xs key t = arguments_in_joined ts (add_argument k (param_of u) xs) key t
+
+-- ---- literals
+
+append-none : (xs : List Text) → xs ++ [] ≡ xs
+append-none [] = refl
+append-none (x ∷ xs) = ap (λ (z : List Text). x ∷ z) (append-none xs)
+
+literals_in-joined : (ts : Terms) (key : Option Text) (t : Term) → literals_in (joined ts (term key t no_terms)) ≡ literals_in ts ++ literals_of t
+literals_in-joined no_terms key t = append-none (literals_of t)
+literals_in-joined (term k u ts) key t =
+    ap (λ (z : List Text). literals_of u ++ z) (literals_in-joined ts key t) ∙ sym (append_assoc (literals_of u) (literals_in ts) (literals_of t))
+
+open_literals-by : (own : Option Text) (n : Option Term) (ts : Terms) (key : Option Text) (t : Term) → is_in_order (open_line own n ts) ≡ true
+    → open_literals (add_term key t (open_line own n ts)) ≡ open_literals (open_line own n ts) ++ literals_of t
+open_literals-by own None no_terms key t h = append-none (literals_of t)
+open_literals-by own None (term k u ts) key t h = absurd cc
+open_literals-by own (Some n) ts key t h =
+    ap (λ (z : List Text). literals_of n ++ z) (literals_in-joined ts key t) ∙ sym (append_assoc (literals_of n) (literals_in ts) (literals_of t))
+
+literals-added : (l : OpenLine) (os : List OpenLine) (key : Option Text) (t : Term) → AreInOrder l os
+    → literals_so_far (add_term key t l) os ≡ literals_so_far l os ++ literals_of t
+literals-added l [] key t h = open_literals-by l.key l.name l.terms key t h
+literals-added l (o ∷ os) key t h =
+    ap (λ (z : List Text). literals_so_far o os ++ z) (open_literals-by l.key l.name l.terms key t h.0)
+    ∙ sym (append_assoc (literals_so_far o os) (open_literals l) (literals_of t))
+
+-- the first refused one stays
+first_refused-append : (xs ys : List Text) → first_refused (xs ++ ys) ≡ with_or (first_refused xs) (λ raw. Some raw) (first_refused ys)
+first_refused-append [] ys = refl
+first_refused-append (x ∷ xs) ys = on (is_some (worth_of x)) (first_refused-append xs ys)
+  where
+    on : (b : Bool) → first_refused (xs ++ ys) ≡ with_or (first_refused xs) (λ raw. Some raw) (first_refused ys)
+        → cond b (first_refused (xs ++ ys)) (Some x) ≡ with_or (cond b (first_refused xs) (Some x)) (λ raw. Some raw) (first_refused ys)
+    on true more = more
+    on false more = refl
+
+with_or-none : (o : Option Text) → o ≡ with_or o (λ raw. Some raw) None
+with_or-none None = refl
+with_or-none (Some x) = refl
+
+with_or-some : (o : Option Text) (raw : Text) → Some (unwrap_or o raw) ≡ with_or o (λ raw. Some raw) (Some raw)
+with_or-some None raw = refl
+with_or-some (Some x) raw = refl
+
+-- none of these is refused
+refused-none : (xs ys : List Text) → None ≡ first_refused ys → first_refused xs ≡ first_refused (xs ++ ys)
+refused-none xs ys none = with_or-none (first_refused xs) ∙ ap (with_or (first_refused xs) (λ raw. Some raw)) none ∙ sym (first_refused-append xs ys)
+
+-- ---- the order
+
+in_order-by : (own : Option Text) (n : Option Term) (ts : Terms) (key : Option Text) (t : Term) → is_in_order (add_term key t (open_line own n ts)) ≡ true
+in_order-by own None ts key t = refl
+in_order-by own (Some n) ts key t = refl
+
+in_order-added : (l : OpenLine) (os : List OpenLine) (key : Option Text) (t : Term) → AreInOrder l os → AreInOrder (add_term key t l) os
+in_order-added l [] key t h = in_order-by l.key l.name l.terms key t
+in_order-added l (o ∷ os) key t h = (in_order-by l.key l.name l.terms key t, h.1)
+
+-- ---- a step
+
+-- The innermost call has one term more, and the first of all literals that is refused is there.
+pub calls-added : (lines : OpenLines) (calls after : OpenCalls) (key : Option Text) (t : Term) → AreCallsOf lines calls
+    → after.top ≡ open_call_of (add_term key t lines.top) → after.around ≡ calls.around → after.refused ≡ first_refused (literals_so_far lines.top lines.around ++ literals_of t)
+    → AreCallsOf (added_in key t lines) after
+calls-added lines calls after key t h top around refused = record {
+  top = top;
+  around = around ∙ h.around;
+  refused = refused ∙ ap first_refused (sym (literals-added lines.top lines.around key t h.in_order));
+  in_order = in_order-added lines.top lines.around key t h.in_order;
+}
+
+-- what adding a term to the innermost call does to it
+abbrev pub IsAdded : OpenCall → Option Text → Param → OpenCall → Type 0
+IsAdded c key p c' = (line : OpenLine) (t : Term) → c ≡ open_call_of line → p ≡ param_of t → c' ≡ open_call_of (add_term key t line)
+
+pub calls-literal : (lines : OpenLines) (calls after : OpenCalls) (key : Option Text) (raw : Text) (d : Data) → AreCallsOf lines calls
+    → IsAdded calls.top key (literal d) after.top → after.around ≡ calls.around → after.refused ≡ calls.refused → Some d ≡ worth_of raw
+    → AreCallsOf (added_in key (literal_term raw) lines) after
+calls-literal lines calls after key raw d h added around refused worth =
+    calls-added lines calls after key (literal_term raw) h (added lines.top (literal_term raw) h.top (rw (sym worth) refl)) around
+    (refused ∙ h.refused ∙ refused-none (literals_so_far lines.top lines.around) (raw ∷ []) (rw (sym worth) refl))
+
+pub calls-worthless : (lines : OpenLines) (calls after : OpenCalls) (key : Option Text) (raw : Text) → AreCallsOf lines calls
+    → IsAdded calls.top key (literal null) after.top → after.around ≡ calls.around → after.refused ≡ Some (unwrap_or calls.refused raw) → None ≡ worth_of raw
+    → AreCallsOf (added_in key (literal_term raw) lines) after
+calls-worthless lines calls after key raw h added around refused worthless =
+    let before : List Text = literals_so_far lines.top lines.around in
+    let last : Some raw ≡ first_refused (raw ∷ []) = rw (sym worthless) refl in
+    calls-added lines calls after key (literal_term raw) h (added lines.top (literal_term raw) h.top (rw (sym worthless) refl)) around
+    (refused ∙ ap (λ (o : Option Text). Some (unwrap_or o raw)) h.refused ∙ with_or-some (first_refused before) raw
+    ∙ ap (with_or (first_refused before) (λ r. Some r)) last ∙ sym (first_refused-append before (raw ∷ [])))
+
+pub calls-path : (lines : OpenLines) (calls after : OpenCalls) (key : Option Text) (means : Reference) (o : Option Reference) → AreCallsOf lines calls
+    → IsAdded calls.top key (path means) after.top → after.around ≡ calls.around → after.refused ≡ calls.refused → Some means ≡ o
+    → IsTaken (option_map (λ r. added_in key (path_term r) lines) o) true after
+calls-path lines calls after key means o h added around refused some =
+    rw (sym some) (
+      refl,
+      calls-added lines calls after key (path_term means) h (added lines.top (path_term means) h.top refl) around
+          (refused ∙ h.refused ∙ refused-none (literals_so_far lines.top lines.around) [] refl),
+    )
+
+pub calls-name : (lines : OpenLines) (calls after : OpenCalls) (key : Option Text) (n : Text) → AreCallsOf lines calls
+    → IsAdded calls.top key (name n) after.top → after.around ≡ calls.around → after.refused ≡ calls.refused → AreCallsOf (added_in key (name_term n) lines) after
+calls-name lines calls after key n h added around refused =
+    calls-added lines calls after key (name_term n) h (added lines.top (name_term n) h.top refl) around
+    (refused ∙ h.refused ∙ refused-none (literals_so_far lines.top lines.around) [] refl)
+
+-- ---- the end of a call
+
+abbrev first_of : OpenCall → List OpenCall → OpenCall
+first_of c [] = c
+first_of c (d ∷ ds) = d
+
+abbrev rest_of : List OpenCall → List OpenCall
+rest_of [] = []
+rest_of (d ∷ ds) = ds
+
+abbrev pub as_term : OpenCall → Option Param
+as_term c = option_map (λ n. subexpression (expression (called n c.arguments))) c.name
+
+-- the innermost call becomes a term of the one around it
+pub closed-call : (lines : OpenLines) (calls after : OpenCalls) (outer : OpenCall) (outermost : List OpenCall) (p : Param) → AreCallsOf lines calls
+    → calls.around ≡ outer ∷ outermost → Some p ≡ as_term calls.top
+    → IsAdded outer calls.top.key p after.top → after.around ≡ outermost → after.refused ≡ calls.refused → IsTaken (closed_in lines.top lines.around) true after
+closed-call lines calls after outer outermost p h around is added around' refused =
+    on lines.around lines.top.name (sym h.around ∙ around) (is ∙ ap as_term h.top) h.in_order h.refused
+  where
+    line : Option Term → OpenLine
+    line m = open_line lines.top.key m lines.top.terms
+
+    on : (os : List OpenLine) (m : Option Term) → map open_call_of os ≡ outer ∷ outermost → Some p ≡ as_term (open_call_of (line m)) → AreInOrder (line m) os
+        → calls.refused ≡ first_refused (literals_so_far (line m) os) → IsTaken (closed_in (line m) os) true after
+    on [] m e f order first = absurd cc
+    on (o ∷ os) None e f order first = absurd (none-some p (sym f))
+    on (o ∷ os) (Some t) e f order first =
+        let term : Term = call_term t lines.top.terms in
+        let same : p ≡ param_of term = same_Some p (param_of term) f in
+        let key : calls.top.key ≡ lines.top.key = ap (λ (c : OpenCall). c.key) h.top in (
+          refl,
+          record {
+            top = added o term (ap (first_of outer) (sym e)) same ∙ ap (λ (k : Option Text). open_call_of (add_term k term o)) key;
+            around = around' ∙ ap rest_of (sym e);
+            refused = refused ∙ first ∙ ap first_refused (sym (literals-added o os lines.top.key term order.1));
+            in_order = in_order-added o os lines.top.key term order.1;
+          },
+        )
