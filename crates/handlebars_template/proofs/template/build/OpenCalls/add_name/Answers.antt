@@ -10,5 +10,5 @@ use Rattle.handlebars_template.proofs.template.build.OpenCalls.add_name.Goals as
 pub returns : goal.returns
 returns c = on_ok_weaker c.add.result
     (λ added lines are. calls-name lines (calls_view c.args.self.now) _ None c.args.raw.now are
-    (λ line t is same. added line t is (param_view-Name c.in_ok-from_str.value ∙ ap name c.in_ok-from_str.ensures ∙ same)) refl refl)
+    (λ line t is same. added line t is (param_view-Name c.in_ok-from_str.field-0 ∙ ap name c.in_ok-from_str.ensures.ok ∙ same)) refl refl)
     c.add.ensures
