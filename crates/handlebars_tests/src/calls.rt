@@ -50,7 +50,10 @@ impl TextCall {
             "split_literal" => Some(TextCall::SplitLiteral),
             "literal_value" => Some(TextCall::LiteralValue),
             "split_line(Tag)" => Some(TextCall::SplitLine(NameMode::Value, Enclosure::Tag)),
-            "split_line(Block)" => Some(TextCall::SplitLine(NameMode::Identifier, Enclosure::Block)),
+            "split_line(Block)" => Some(TextCall::SplitLine(
+                NameMode::Identifier,
+                Enclosure::Block,
+            )),
             "split_line(Parentheses)" => {
                 Some(TextCall::SplitLine(NameMode::Value, Enclosure::Parentheses))
             }
