@@ -1,5 +1,5 @@
 -- The loop that builds a line's call: what it keeps, and what it comes to.
-use Rattle.std.proofs.Common.{◌≡◌, ◌∙◌, ℕ, Bool, true, false, List, [], Option, Some, None, refl, sym, ap, subst}
+use Rattle.std.proofs.Common.{◌≡◌, ◌∙◌, ℕ, Bool, true, false, [], Option, Some, None, refl, sym, ap, subst}
 use Rattle.std.proofs.lemmas.Option.{same_Some, none-some}
 use Rattle.std.specs.Prelude.{option_map, Result, Ok, Err, IfOk, IfSome}
 use Rattle.handlebars_base.specs.PathView.{reference_of}
@@ -10,8 +10,8 @@ use Rattle.handlebars_base.specs.PathReading.{path_of}
 use Rattle.handlebars_base.specs.Optional.{◌>>=◌}
 use Rattle.handlebars_lines.specs.Runs.{goes, ends, stuck}
 use Rattle.handlebars_lines.specs.Line.{NameMode, Enclosure, Line, IsLine}
-use Rattle.handlebars_lines.specs.Parameter.{Term, path_term, Terms, no_terms}
-use Rattle.handlebars_lines.specs.LineReading.{Event, path_event, at_name, LineStand, line_stand, line_step, OpenLine, OpenLines, first_lines, added_in, build, build_all}
+use Rattle.handlebars_lines.specs.Parameter.{path_term}
+use Rattle.handlebars_lines.specs.LineReading.{Event, path_event, at_name, LineStand, line_stand, line_step, OpenLines, first_lines, added_in, build, build_all}
 use Rattle.handlebars_lines.proofs.Endings.{Through, through-starts, through-goes, runs-goes, runs-ends, runs-stuck}
 use Rattle.handlebars_lines.proofs.Lines.{line_found}
 use Rattle.handlebars_template.specs.LineBuildingView.{OpenCalls, AreCallsOf, IsTaken, whole_line, IsPathAlone}

@@ -1,5 +1,5 @@
 -- What the code's open calls are of a line's open lines: step by step they stay that.
-use Rattle.std.proofs.Common.{◌≡◌, ◌∙◌, ◌||◌, Bool, true, false, cond, List, [], ◌∷◌, ◌++◌, map, Option, Some, None, refl, sym, ap, append_assoc}
+use Rattle.std.proofs.Common.{◌≡◌, ◌∙◌, Bool, true, false, cond, List, [], ◌∷◌, ◌++◌, map, Option, Some, None, refl, sym, ap, append_assoc}
 use Rattle.std.proofs.lemmas.Option.{same_Some, none-some}
 use Rattle.std.specs.Prelude.{is_some, option_map, unwrap_or}
 use Rattle.serde_json.specs.Data.{Data, null}
@@ -7,11 +7,11 @@ use Rattle.handlebars_base.specs.Bytes.{Text}
 use Rattle.handlebars_base.specs.Path.{Reference}
 use Rattle.handlebars_base.specs.Optional.{with_or}
 use Rattle.handlebars_lines.specs.Parameter.{Term, literal_term, path_term, name_term, call_term, Terms, no_terms, term}
-use Rattle.handlebars_lines.specs.LineReading.{OpenLine, joined, begun_line, add_term, OpenLines, opened_in, added_in, closed_in}
+use Rattle.handlebars_lines.specs.LineReading.{OpenLine, joined, add_term, OpenLines, added_in, closed_in}
 use Rattle.handlebars_lines.specs.WorthReading.{worth_of}
-use Rattle.handlebars_template.specs.Tree.{expression, Param, name, path, literal, subexpression, Args, no_arguments}
+use Rattle.handlebars_template.specs.Tree.{expression, Param, name, path, literal, subexpression, Args}
 use Rattle.handlebars_template.specs.Calls.{add_argument, called, param_of, arguments_in, literals_of, literals_in, first_refused}
-use Rattle.handlebars_template.specs.LineBuildingView.{OpenCall, OpenCalls, open_call_of, open_literals, literals_so_far, lacks_terms, is_in_order, AreInOrder, AreCallsOf, IsTaken}
+use Rattle.handlebars_template.specs.LineBuildingView.{OpenCall, OpenCalls, open_call_of, open_literals, literals_so_far, is_in_order, AreInOrder, AreCallsOf, IsTaken}
 
 abbrev open_line : Option Text → Option Term → Terms → OpenLine
 open_line key n terms = record { key = key; name = n; terms = terms }

@@ -3,18 +3,19 @@ use Rattle.std.proofs.Common.{◌≡◌, ℕ, Bool, refl, sym, ap, subst, ◌∙
 use Rattle.std.specs.Prelude.{String}
 use Rattle.std.specs.declared.alloc.Global.{Global}
 use Rattle.handlebars_base.specs.Bytes.{Text}
+use Rattle.handlebars_lines.specs.Binding as means
 use Rattle.handlebars_lines.specs.Line.{value_name, Line, in_tag, IsLine}
 use Rattle.handlebars_tags.specs.Tag.{Tag, tag_depth, BlockLine}
 use Rattle.handlebars_tags.specs.Trim.{Edge}
 use Rattle.handlebars_tags.specs.TagView.{HoldsLine, HoldsBlock, IsBlockSlice}
 use Rattle.handlebars_tags.specs.declared.tag.inside.BlockSlice.{BlockSlice}
 use Rattle.handlebars_template.specs.Place.{Place}
-use Rattle.handlebars_template.specs.Tree.{Element, Binding, Param, Args, name, both}
+use Rattle.handlebars_template.specs.Tree.{Element, Args, no_arguments, name, both}
 use Rattle.handlebars_template.specs.TreeView.{text, binding_view}
 use Rattle.handlebars_template.specs.Calls.{call_of, first_refused, line_literals}
 use Rattle.handlebars_template.specs.Nest.{BlockKind, helper_opening, Opening as Said, Piece, leaf, opens, chains}
 use Rattle.handlebars_template.specs.NestView.{opening_view, early, Looks, Does}
-use Rattle.handlebars_template.specs.Compile.{opening_of, tag_piece}
+use Rattle.handlebars_template.specs.Compile.{binding_of, opening_of, tag_piece}
 use Rattle.handlebars_template.specs.ScanView.{value_element, value_piece, block_piece, chain_piece, Opening}
 use Rattle.handlebars_template.specs.declared.template.nest.Nesting.{Nesting}
 use Rattle.handlebars_template.specs.declared.template.nest.SyntaxFault.{SyntaxFault}
@@ -26,13 +27,18 @@ use Rattle.handlebars_template.specs.declared.template.tree.BlockParam.TheBlock.
 pub binding_view-Pair : (x y : String Global) → binding_view (Pair (Name x, Name y)) ≡ both (name (text x)) (name (text y))
 binding_view-Pair x y = search (rules, the_lemmas)
 
-abbrev pub said : BlockKind → Param → Text → Args → Binding → Bool → Said
-said k p closing xs b indent =
-    record { kind = k; name = p; closing = closing; arguments = xs; binding = b; indent = indent }
+abbrev said : BlockKind → Text → Args → means.Binding → Bool → Said
+said k n xs b indent =
+    record { kind = k; name = name n; closing = n; arguments = xs; binding = binding_of b; indent = indent }
 
-pub said-along : (k : BlockKind) (p q : Param) (n m : Text) (xs ys : Args) (b c : Binding) (i j : Bool) → p ≡ q → n ≡ m → xs ≡ ys → b ≡ c → i ≡ j
-    → said k p n xs b i ≡ said k q m ys c j
-said-along k p q n m xs ys b c i j one two three four five = rw (one, two, three, four, five) refl
+abbrev with_arguments : Args → Said → Said
+with_arguments xs o =
+    record { kind = o.kind; name = o.name; closing = o.closing; arguments = xs; binding = o.binding; indent = o.indent }
+
+-- a bare opening with the arguments of its line
+pub said-along : {k : BlockKind} {n m : Text} {xs ys : Args} {b c : means.Binding} {i : Bool} {o : Said} → o ≡ said k n no_arguments b i → xs ≡ ys → n ≡ m → b ≡ c
+    → with_arguments xs o ≡ said k m ys c i
+said-along {k} {n} {m} {xs} {ys} {b} {c} {i} {o} is args names bindings = ap (with_arguments xs) is ∙ rw (args, names, bindings) refl
 
 -- ---- a tag does what its line does
 

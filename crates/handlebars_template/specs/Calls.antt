@@ -1,10 +1,10 @@
 -- The call that a line is, and the first of its literals that is refused.
-use Rattle.std.specs.Prelude.{ℕ, true, false, if◌then◌else◌, List, [], ◌∷◌, ◌++◌, Option, Some, None, unwrap_or, is_some}
+use Rattle.std.specs.Prelude.{ℕ, false, if◌then◌else◌, List, [], ◌∷◌, ◌++◌, Option, Some, None, unwrap_or, is_some}
 use Rattle.std.specs.Cmp.Lexicographic.{slice_cmp}
 use Rattle.std.specs.Ordering.{match_ordering, nat_cmp}
 use Rattle.serde_json.specs.Data.{null}
 use Rattle.handlebars_base.specs.Bytes.{Text}
-use Rattle.handlebars_base.specs.Path.{Reference, raw_of}
+use Rattle.handlebars_base.specs.Path.{raw_of}
 use Rattle.handlebars_base.specs.Reasons.{TemplateRefusal, invalid_param}
 use Rattle.handlebars_lines.specs.Parameter.{Term, literal_term, path_term, name_term, call_term, Terms, no_terms, term}
 use Rattle.handlebars_lines.specs.Line.{Line}

@@ -3,7 +3,7 @@ use Rattle.std.specs.Prelude.{◌≡◌, Bool, true, false, ◌||◌, List, [], 
 use Rattle.handlebars_base.specs.Bytes.{Text}
 use Rattle.handlebars_base.specs.Optional.{with_or}
 use Rattle.handlebars_base.specs.Path.{Reference}
-use Rattle.handlebars_lines.specs.Parameter.{Term, path_term, Terms, no_terms, term}
+use Rattle.handlebars_lines.specs.Parameter.{path_term, Terms, no_terms, term}
 use Rattle.handlebars_lines.specs.Line.{Line}
 use Rattle.handlebars_lines.specs.LineReading.{OpenLine, OpenLines}
 use Rattle.handlebars_lines.specs.LineView.{key_of}

@@ -1,19 +1,17 @@
 //! The call that a line is.
 
-ghost use Rattle.std.specs.Prelude.{◌≡◌, IfOk, IfSome, string_bytes};
+ghost use Rattle.std.specs.Prelude.{◌≡◌, IfOk, IfSome};
 ghost use Rattle.handlebars_base.specs.Bytes.{Text};
 ghost use Rattle.handlebars_lines.specs.Line.{Line, IsLine};
 ghost use Rattle.handlebars_lines.specs.LineView.{mode_of, enclosure_of};
 ghost use Rattle.handlebars_base.specs.PathView.{reference_of};
 ghost use Rattle.handlebars_template.specs.LineBuildingView.{built_call, IsBuilt, IsCallOf, IsPathAlone};
 ghost use Rattle.handlebars_template.specs.Tree.{expression};
-ghost use Rattle.handlebars_template.specs.TreeView.{call_view, param_view, arguments_view, subexpression_view};
+ghost use Rattle.handlebars_template.specs.TreeView.{call_view, arguments_view, subexpression_view};
 ghost use Rattle.handlebars_template.specs.Calls.{call_of};
-ghost use Rattle.handlebars_template.specs.NestView.{names_view, kind_view, opening_view};
 
 use crate::template::arguments::Arguments;
 use crate::template::build::{first_calls, path_of};
-use crate::template::chain::{BlockKind, BlockNames, BlockOpening};
 use crate::template::tree::{HelperTemplate, Parameter, Subexpression};
 use handlebars_base::json::path::Path;
 use handlebars_lines::line::{Enclosure, Event, LineStand, NameMode, Step, take_step};
@@ -75,38 +73,16 @@ impl BuiltLine<'_> {
         Subexpression::new(alloc, name, params, hash)
     }
 
-    /// The opening of a block of this kind and name, which this text closes.
-    pub fn opening(
-        self,
-        kind: BlockKind,
-        name: Parameter,
-        closing: String,
-        names: BlockNames,
-        indent_before_write: bool,
-    ) -> BlockOpening
-        ensures { opening_view result
-            ≡ record {
-              kind = kind_view kind;
-              name = param_view name;
-              closing = string_bytes closing;
-              arguments = arguments_view self.entry.arguments;
-              binding = names_view names;
-              indent = indent_before_write;
-            } }
+    /// The arguments alone.
+    pub fn into_arguments(self) -> Arguments
+        ensures { arguments_view result ≡ arguments_view self.entry.arguments }
     {
         let BuiltLine {
             name: _,
             arguments,
             refused: _,
         } = self;
-        BlockOpening {
-            kind,
-            name,
-            closing,
-            arguments,
-            names,
-            indent_before_write,
-        }
+        arguments
     }
 }
 

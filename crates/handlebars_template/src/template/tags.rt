@@ -10,13 +10,14 @@ ghost use Rattle.handlebars_tags.specs.TrimView.{edge_view};
 ghost use Rattle.handlebars_tags.specs.TagView.{Holds, IsBlockSlice};
 ghost use Rattle.handlebars_template.specs.Place.{Place};
 ghost use Rattle.handlebars_template.specs.TreeView.{call_view, element_view, place_of};
-ghost use Rattle.handlebars_template.specs.Tree.{comment};
+ghost use Rattle.handlebars_template.specs.Tree.{comment, name, no_arguments};
 ghost use Rattle.handlebars_template.specs.Nest.{leaf};
-ghost use Rattle.handlebars_template.specs.NestView.{names_view, kind_view, early, Looks, Does};
+ghost use Rattle.handlebars_template.specs.NestView.{names_view, kind_view, opening_view, early, Looks, Does};
 ghost use Rattle.handlebars_template.specs.Cut.{may_follow};
 ghost use Rattle.handlebars_template.specs.ScanView.{value_element, value_piece, block_piece, chain_piece, IsOpening};
 ghost use Rattle.handlebars_template.specs.Compile.{binding_of, tag_piece};
 
+use crate::template::arguments::Arguments;
 use crate::template::chain::{BlockKind, BlockNames, BlockOpening};
 use crate::template::line::build_line;
 use crate::template::nest::{Nesting, SyntaxFault};
@@ -143,6 +144,36 @@ struct BuiltOpening<'a> {
     refused: Option<&'a str>,
 }
 
+// With no arguments yet.
+fn bare_opening(
+    alloc: Global,
+    block: BlockSlice<'_>,
+    kind: BlockKind,
+    edge: Edge,
+) -> Result<BlockOpening, AllocError>
+    ensures { IfOk result (λ opening. opening_view opening
+        ≡ record {
+          kind = kind_view kind;
+          name = name block.entry.name.now;
+          closing = block.entry.name.now;
+          arguments = no_arguments;
+          binding = binding_of (means_of block.entry.binding);
+          indent = (edge_view edge).standalone && not (edge_view edge).left;
+        }) }
+{
+    let name = String::from_str(alloc, block.name)?;
+    let closing = String::from_str(alloc, block.name)?;
+    let names = block_names(alloc, block.binding)?;
+    Ok(BlockOpening {
+        kind,
+        name: Parameter::Name(name),
+        closing,
+        arguments: Arguments::new(alloc),
+        names,
+        indent_before_write: is_indented(edge),
+    })
+}
+
 // Where no line of a block stands there, the answer says nothing.
 fn opening<'a>(
     alloc: Global,
@@ -156,11 +187,9 @@ fn opening<'a>(
     let Some(line) = build_line(alloc, NameMode::Identifier, Enclosure::Block, block.line)? else {
         return Ok(None);
     };
-    let name = Parameter::Name(String::from_str(alloc, block.name)?);
-    let names = block_names(alloc, block.binding)?;
+    let mut opening = bare_opening(alloc, block, kind, edge)?;
     let refused = line.refused;
-    let closing = String::from_str(alloc, block.name)?;
-    let opening = line.opening(kind, name, closing, names, is_indented(edge));
+    opening.arguments = line.into_arguments();
     Ok(Some(BuiltOpening { opening, refused }))
 }
 

@@ -1,7 +1,5 @@
 use Rattle.std.proofs.Common.{◌∙◌, sym, ap}
-use Rattle.handlebars_template.specs.Compile.{binding_of}
-use Rattle.handlebars_template.specs.Tree.{name, call_args}
-use Rattle.handlebars_template.proofs.Levels.{param_view-Name}
+use Rattle.handlebars_template.specs.Tree.{call_args}
 use Rattle.handlebars_template.proofs.TagsBuilt.{said-along}
 use Rattle.handlebars_template.proofs.template.tags.opening.Goals as goal
 
@@ -13,6 +11,6 @@ pub returns : goal.returns
 returns c line rest is =
     let built = rw c.in-Some.is at c.in_ok-line.ensures _ is.is_line.behind is.is_line.is_line in
     record {
-      opening = c.opening-opening.ensures ∙ said-along _ _ (name line.name) _ line.name _ _ _ _ _ _ (param_view-Name _ ∙ ap name (c.in_ok-from_str.ensures.ok ∙ sym is.is_name)) (c.in_ok-closing.ensures.ok ∙ sym is.is_name) (ap call_args built.call) (c.in_ok-names.ensures ∙ ap binding_of (sym is.is_binding)) c.is_indented.ensures;
+      opening = said-along c.in_ok-opening.ensures (c.into_arguments.ensures ∙ ap call_args built.call) (sym is.is_name) (sym is.is_binding);
       refused = built.refused;
     }

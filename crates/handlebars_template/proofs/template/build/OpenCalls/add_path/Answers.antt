@@ -1,4 +1,4 @@
-use Rattle.std.proofs.Common.{◌∙◌, ap, refl}
+use Rattle.std.proofs.Common.{◌∙◌, refl}
 use Rattle.handlebars_base.specs.PathView.{reference_of}
 use Rattle.handlebars_lines.specs.LineView.{key_of}
 use Rattle.handlebars_template.specs.LineBuildingView.{calls_view}
