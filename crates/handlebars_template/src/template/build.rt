@@ -1,8 +1,8 @@
 //! The call that a line is, from its steps: the calls that are not yet closed stand in a list, so that no function
 //! calls itself.
 
-ghost use Rattle.std.specs.Prelude.{◌≡◌, [], IfOk, OnOk, None, option_map, string_bytes};
-ghost use Rattle.handlebars_base.specs.Path.{Reference, raw_of};
+ghost use Rattle.std.specs.Prelude.{◌≡◌, [], IfOk, OnOk, option_map, string_bytes};
+ghost use Rattle.handlebars_base.specs.Path.{raw_of};
 ghost use Rattle.handlebars_base.specs.PathReading.{path_of};
 ghost use Rattle.handlebars_base.specs.PathView.{reference_of};
 ghost use Rattle.handlebars_lines.specs.Line.{Line};
