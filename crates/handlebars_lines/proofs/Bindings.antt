@@ -16,7 +16,7 @@ use Rattle.handlebars_base.proofs.Fronts.{after_takes, behind_white-skips, behin
 use Rattle.handlebars_base.proofs.Runs.{prefix_pass, behind_symbols-stops, symbols_some, prefix_len-none, run-front, run-rest}
 use Rattle.handlebars_base.specs.Texts.{IsWhite, starts, after, symbols_of, behind_symbols}
 use Rattle.handlebars_base.proofs.Bytes.{other_byte, symbol_dark, white_symbol}
-use Rattle.handlebars_lines.specs.Binding.{behind_bar, behind_beginning, begins_binding, Binding, unbound, bound, both_bound, Names, one_name, two_names, spelled_names, AreNames, bound_by, IsBound, IsBinding, is_unbound, is_bound, NoBinding, OneBinding}
+use Rattle.handlebars_lines.specs.Binding.{behind_bar, behind_beginning, begins_binding, BoundNames, unbound, bound, both_bound, Names, one_name, two_names, spelled_names, AreNames, bound_by, IsBound, IsBinding, is_unbound, is_bound, NoBinding, OneBinding}
 use Rattle.handlebars_lines.specs.BindingReading.{symbols_at, name_at, behind_last, other_at, names_at, binding_at}
 use Rattle.handlebars_lines.specs.BindingView.{binding_of, slice_of}
 use Rattle.handlebars_lines.specs.declared.binding.BindingSlice.{BindingSlice}
@@ -145,7 +145,7 @@ behind_last-none u name r white id =
     rw (behind_white-append u (name ++ r) white (identifier_dark name r id), after-not 124 (name ++ r) other) refl
 
 -- what is left behind the last bar
-pub record TakesNames (t : List ℕ) (means : Binding) (r : List ℕ) : Type 0 where
+pub record TakesNames (t : List ℕ) (means : BoundNames) (r : List ℕ) : Type 0 where
   pub names : Names
   pub are : AreNames names
   pub whole : t ≡ spelled_names names ++ 124 ∷ r
@@ -197,20 +197,20 @@ two_taken t name behind other last r a b z = record {
   gives = refl;
 }
 
-other_at-takes : (t name behind : List ℕ) (q : Binding × List ℕ) → TakesName t name behind → other_at name behind ≡ Some q → TakesNames t q.0 q.1
+other_at-takes : (t name behind : List ℕ) (q : BoundNames × List ℕ) → TakesName t name behind → other_at name behind ≡ Some q → TakesNames t q.0 q.1
 other_at-takes t name behind q a e =
     let p = bind_some (name_at behind) (λ p. behind_last p.1 >>= λ r. Some (both_bound name p.0, r)) q e in
     let z = bind_some (behind_last p.0.1) (λ r. Some (both_bound name p.0.0, r)) q p.2 in
-    subst (λ (x : Binding × List ℕ). TakesNames t x.0 x.1) (same_Some (both_bound name p.0.0, z.0) q z.2)
+    subst (λ (x : BoundNames × List ℕ). TakesNames t x.0 x.1) (same_Some (both_bound name p.0.0, z.0) q z.2)
     (two_taken t name behind p.0.0 p.0.1 z.0 a (name_at-takes behind p.0 p.1) (behind_last-takes p.0.1 z.0 z.1))
 
-names_at-takes : (t : List ℕ) (q : Binding × List ℕ) → names_at t ≡ Some q → TakesNames t q.0 q.1
+names_at-takes : (t : List ℕ) (q : BoundNames × List ℕ) → names_at t ≡ Some q → TakesNames t q.0 q.1
 names_at-takes t q e =
     let p = bind_some (name_at t) (λ p. with_or (behind_last p.1) (λ r. Some (bound p.0, r)) (other_at p.0 p.1)) q e in
     let a = name_at-takes t p.0 p.1 in
     elim (with_or_is (behind_last p.0.1) (λ r. Some (bound p.0.0, r)) (other_at p.0.0 p.0.1) (Some q) p.2) [
       | inl z ↦
-          subst (λ (x : Binding × List ℕ). TakesNames t x.0 x.1) (same_Some (bound p.0.0, z.0) q z.2)
+          subst (λ (x : BoundNames × List ℕ). TakesNames t x.0 x.1) (same_Some (bound p.0.0, z.0) q z.2)
           (one_taken t p.0.0 p.0.1 z.0 a (behind_last-takes p.0.1 z.0 z.1))
       | inr more ↦ other_at-takes t p.0.0 p.0.1 q a more.1
     ]
@@ -233,7 +233,7 @@ names_at-append (two_names w name u other v) r are =
 
 -- ---- whole block parameters
 
-pub binding_at-takes : (t : List ℕ) (q : Binding × List ℕ) → binding_at t ≡ Some q → IsBinding t q.0 q.1
+pub binding_at-takes : (t : List ℕ) (q : BoundNames × List ℕ) → binding_at t ≡ Some q → IsBinding t q.0 q.1
 binding_at-takes t q e = elim (with_or_is (behind_beginning t) names_at (Some (unbound, t)) (Some q) e) [
   | inl begun ↦
       let b = beginning-takes t begun.0 begun.1 in
@@ -253,20 +253,20 @@ binding_at-takes t q e = elim (with_or_is (behind_beginning t) names_at (Some (u
       })
   | inr none ↦
       let same : (unbound, t) ≡ q = same_Some (unbound, t) q none.1 in
-      is_unbound (ap is_some none.0) (sym (ap (λ (z : Binding × List ℕ). z.0) same)) (sym (ap (λ (z : Binding × List ℕ). z.1) same))
+      is_unbound (ap is_some none.0) (sym (ap (λ (z : BoundNames × List ℕ). z.0) same)) (sym (ap (λ (z : BoundNames × List ℕ). z.1) same))
 ]
 
 none_is : {A : Type 0} (o : Option A) → is_some o ≡ false → o ≡ None
 none_is None e = refl
 none_is (Some x) e = absurd cc
 
-bound_found : (t r : List ℕ) (means : Binding) → IsBound t means r → binding_at t ≡ Some (means, r)
+bound_found : (t r : List ℕ) (means : BoundNames) → IsBound t means r → binding_at t ≡ Some (means, r)
 bound_found t r means h =
     let names : List ℕ = spelled_names h.names ++ 124 ∷ r in
     let begun : behind_beginning t ≡ Some names = ap behind_beginning h.whole ∙ behind_beginning-append h.white h.between names h.is_white h.some_white h.is_between in
-    rw begun (names_at-append h.names r h.are_names) ∙ ap (λ (z : Binding). Some (z, r)) (sym h.gives)
+    rw begun (names_at-append h.names r h.are_names) ∙ ap (λ (z : BoundNames). Some (z, r)) (sym h.gives)
 
-pub binding_found : (t : List ℕ) (means : Binding) (r : List ℕ) → IsBinding t means r → binding_at t ≡ Some (means, r)
+pub binding_found : (t : List ℕ) (means : BoundNames) (r : List ℕ) → IsBinding t means r → binding_at t ≡ Some (means, r)
 binding_found t means r (is_unbound none is rest) = rw (none_is (behind_beginning t) none, is, rest) refl
 binding_found t means r (is_bound h) = bound_found t r means h
 
@@ -276,7 +276,7 @@ no_binding t none means r h = none-some (means, r) (sym none ∙ binding_found t
 pub one_binding : OneBinding
 one_binding t a b r r' h g =
     let same = same_Some (a, r) (b, r') (sym (binding_found t a r h) ∙ binding_found t b r' g) in
-    (ap (λ (z : Binding × List ℕ). z.0) same, ap (λ (z : Binding × List ℕ). z.1) same)
+    (ap (λ (z : BoundNames × List ℕ). z.0) same, ap (λ (z : BoundNames × List ℕ). z.1) same)
 
 -- ---- what the program reads
 

@@ -8,7 +8,7 @@ use Rattle.std.proofs.lemmas.List.{take_at, drop_at, get_or-drop, reverse-append
 use Rattle.handlebars_base.specs.Texts.{starts}
 use Rattle.handlebars_lines.specs.Runs.{goes, ends, stuck}
 use Rattle.handlebars_lines.specs.Literal.{Bracket, goes_on}
-use Rattle.handlebars_lines.specs.LiteralReading.{Token, token_at, Place, ahead, innermost, outer, Find, taken, literal_step, most, all_kept, slice_to, literal_at}
+use Rattle.handlebars_lines.specs.LiteralReading.{Token, token_at, LiteralPlace, ahead, innermost, outer, Find, taken, literal_step, most, all_kept, slice_to, literal_at}
 use Rattle.handlebars_lines.specs.LiteralView.{bracket_of, stack_of, place_of, slice_of}
 use Rattle.handlebars_lines.specs.Laws.{HasLiteral, NoLiteral}
 use Rattle.handlebars_lines.specs.declared.literal.Bracket.{Bracket as ReadBracket}
@@ -82,13 +82,13 @@ tally-more : (depth depth' : ℕ) (kept kept' : Bool) (x : Find) (xs : List Find
 tally-more depth depth' kept kept' x xs more keeps = sym (ap (λ (z : ℕ). tally z kept' xs) more ∙ ap (λ (z : Bool). tally (max depth x.height) z xs) keeps)
 
 -- what holds at each turn, with so many brackets open
-pub record Holds (t0 : List ℕ) (s : Place) (n : ℕ) (t : List ℕ) (depth : ℕ) (kept : Bool) : Type 0 where
+pub record Holds (t0 : List ℕ) (s : LiteralPlace) (n : ℕ) (t : List ℕ) (depth : ℕ) (kept : Bool) : Type 0 where
   pub still : Still literal_step (ahead []) t0 (tally 0 true) s t (tally depth kept)
   pub within : n + length t ≤ length t0
   pub deep : depth + length t ≤ length t0
   pub whole : (front : List ℕ) × (t0 ≡ front ++ t)
 
-pub loop_goes : (t0 : List ℕ) (s : Place) (n : ℕ) (t : List ℕ) (depth : ℕ) (kept : Bool) (x : Find) (s' : Place) (n' : ℕ) (t' : List ℕ) (depth' : ℕ) (kept' : Bool) → literal_step s t ≡ goes x s' t'
+pub loop_goes : (t0 : List ℕ) (s : LiteralPlace) (n : ℕ) (t : List ℕ) (depth : ℕ) (kept : Bool) (x : Find) (s' : LiteralPlace) (n' : ℕ) (t' : List ℕ) (depth' : ℕ) (kept' : Bool) → literal_step s t ≡ goes x s' t'
     → depth' ≡ max depth x.height → kept' ≡ (kept && x.keeps) → n' ≤ n + 1 → x.height ≤ n + 1 → Holds t0 s n t depth kept → Holds t0 s' n' t' depth' kept'
 loop_goes t0 s n t depth kept x s' n' t' depth' kept' is more keeps up deep h =
     let step = step_shorter s t x s' t' is in
@@ -124,7 +124,7 @@ end_boundary t rest h stop =
           absurd (omega arith),
     )
 
-pub loop_ends : (t rest : List ℕ) (s : Place) (depth : ℕ) (kept : Bool) → Still literal_step (ahead []) t (tally 0 true) s rest (tally depth kept) → literal_step s rest ≡ ends
+pub loop_ends : (t rest : List ℕ) (s : LiteralPlace) (depth : ℕ) (kept : Bool) → Still literal_step (ahead []) t (tally 0 true) s rest (tally depth kept) → literal_step s rest ≡ ends
     → literal_at t ≡ slice_to t rest depth kept
 unfolding literal_at
 loop_ends t rest s depth kept still is =
@@ -138,7 +138,7 @@ pub ends_within : (n depth : ℕ) (read : Option LiteralSlice) → depth ≤ n �
 ends_within n depth None le h = h
 ends_within n depth (Some slice) le h = omega (arith, le, h)
 
-pub loop_misfit : (t rest : List ℕ) (s : Place) (depth : ℕ) (kept : Bool) → Still literal_step (ahead []) t (tally 0 true) s rest (tally depth kept) → literal_step s rest ≡ stuck → literal_at t ≡ None
+pub loop_misfit : (t rest : List ℕ) (s : LiteralPlace) (depth : ℕ) (kept : Bool) → Still literal_step (ahead []) t (tally 0 true) s rest (tally depth kept) → literal_step s rest ≡ stuck → literal_at t ≡ None
 unfolding literal_at
 loop_misfit t rest s depth kept still is = rw (run-none literal_step (length t + 1) (ahead []) t (still.failed (none is))) refl
 

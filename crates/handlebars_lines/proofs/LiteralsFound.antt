@@ -10,7 +10,7 @@ use Rattle.handlebars_base.proofs.Bytes.{other_byte}
 use Rattle.handlebars_base.proofs.Ends.{take-front}
 use Rattle.handlebars_lines.specs.Runs.{goes, run}
 use Rattle.handlebars_lines.specs.Literal.{is_inner, is_number, is_kept, is_word, Bracket, array, object, opener, closer, Lead, unnamed, keyed, spelled_lead, IsLead, Literal, quoted, single_quoted, number, word, empty, filled, Entries, closing, another, spelled_literal, spelled_entries, is_element, IsLiteral, AreEntries, literal_depth, entries_depth, keeps_numbers, keeps_numbers_in, goes_on}
-use Rattle.handlebars_lines.specs.LiteralReading.{behind_quote, plain_at, undoubled_at, unbracketed_at, keeps_at, behind_key, behind_lead, Token, unbracketed, empty_brackets, opening_bracket, another_entry, closing_bracket, literal_end, no_token, bracket_token, value_token, entry_token, Place, ahead, behind, innermost, Find, opens, reads, taken, literal_step, most, all_kept, LiteralSlice, cut_to, slice_in, literal_at}
+use Rattle.handlebars_lines.specs.LiteralReading.{behind_quote, plain_at, undoubled_at, unbracketed_at, keeps_at, behind_key, behind_lead, Token, unbracketed, empty_brackets, opening_bracket, another_entry, closing_bracket, literal_end, no_token, bracket_token, value_token, entry_token, LiteralPlace, ahead, behind, innermost, Find, opens, reads, taken, literal_step, most, all_kept, LiteralSlice, cut_to, slice_in, literal_at}
 use Rattle.handlebars_lines.specs.Laws.{HasLiteral, NoLiteral}
 use Rattle.handlebars_lines.proofs.Fronts.{run_of-append, behind_run-append, behind_quote-append, white_goes_on}
 use Rattle.handlebars_lines.proofs.Stepping.{Runs, last, onward, Shortens, run-runs, run-some}
@@ -20,7 +20,7 @@ use Rattle.handlebars_lines.proofs.LiteralsRead.{heights, entry_heights, regroup
 
 -- ---- a step takes a byte at least
 
-taken_left : (ks : List Bracket) (token : Token) (x : Find) (s' : Place) (t' : List ℕ) → taken ks token ≡ goes x s' t' → left_of token ≡ Some t'
+taken_left : (ks : List Bracket) (token : Token) (x : Find) (s' : LiteralPlace) (t' : List ℕ) → taken ks token ≡ goes x s' t' → left_of token ≡ Some t'
 taken_left ks (unbracketed kept r) x s' t' is = cc
 taken_left ks (empty_brackets r) x s' t' is = cc
 taken_left ks (opening_bracket k r) x s' t' is = cc
@@ -29,7 +29,7 @@ taken_left ks (closing_bracket r) x s' t' is = cc
 taken_left ks literal_end x s' t' is = absurd cc
 taken_left ks no_token x s' t' is = absurd cc
 
-pub step_shorter : (s : Place) (t : List ℕ) (x : Find) (s' : Place) (t' : List ℕ) → literal_step s t ≡ goes x s' t' → Shorter t t'
+pub step_shorter : (s : LiteralPlace) (t : List ℕ) (x : Find) (s' : LiteralPlace) (t' : List ℕ) → literal_step s t ≡ goes x s' t' → Shorter t t'
 step_shorter (ahead ks) t x s' t' is = value_shorter (is_some (innermost ks)) t t' (value_token (is_some (innermost ks)) t) (value_tells (is_some (innermost ks)) t) (taken_left ks (value_token (is_some (innermost ks)) t) x s' t' is)
 step_shorter (behind []) t x s' t' is = absurd cc
 step_shorter (behind (k ∷ ks)) t x s' t' is = entry_shorter k t t' (entry_token k (behind_white t)) (entry_tells k t) (taken_left (k ∷ ks) (entry_token k (behind_white t)) x s' t' is)

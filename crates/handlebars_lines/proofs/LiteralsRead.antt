@@ -4,7 +4,7 @@ use Rattle.handlebars_base.specs.Texts.{IsWhite}
 use Rattle.handlebars_base.specs.Bytes.{behind_white}
 use Rattle.handlebars_lines.specs.Runs.{goes, ends}
 use Rattle.handlebars_lines.specs.Literal.{Bracket, opener, closer, spelled_lead, Literal, quoted, single_quoted, number, word, empty, filled, Entries, closing, another, spelled_literal, spelled_entries, IsLiteral, is_element, AreEntries, is_kept, keeps_numbers}
-use Rattle.handlebars_lines.specs.LiteralReading.{Token, unbracketed, empty_brackets, opening_bracket, another_entry, closing_bracket, literal_end, no_token, value_token, entry_token, Place, ahead, behind, innermost, Find, opens, reads, taken, literal_step}
+use Rattle.handlebars_lines.specs.LiteralReading.{Token, unbracketed, empty_brackets, opening_bracket, another_entry, closing_bracket, literal_end, no_token, value_token, entry_token, LiteralPlace, ahead, behind, innermost, Find, opens, reads, taken, literal_step}
 use Rattle.handlebars_lines.proofs.Stepping.{goes-parts, Runs, last, onward}
 use Rattle.handlebars_lines.proofs.Tokens.{is_flat, ValueTells, value_tells, EntryTells, entry_tells}
 
@@ -49,7 +49,7 @@ pub record LiteralThen (ks : List Bracket) (t : List ℕ) (xs : List Find) (e : 
   pub found : xs ≡ heights (length ks) literal ++ others
   pub closes : Closes ks rest others e
 
-abbrev pub Spelled : Place → List ℕ → List Find → List ℕ → Type 0
+abbrev pub Spelled : LiteralPlace → List ℕ → List Find → List ℕ → Type 0
 Spelled (ahead ks) t xs e = LiteralThen ks t xs e
 Spelled (behind ks) t xs e = Closes ks t xs e
 
@@ -57,17 +57,17 @@ pub regroup : (w a v b r : List ℕ) → w ++ (a ++ (v ++ (b ++ r))) ≡ (w ++ (
 regroup w a v b r = simp append_assoc
 
 -- what follows a step, from what follows where it leads
-spelled_back : (x y : Find) (s r : Place) (t u : List ℕ) (xs : List Find) (e : List ℕ) → goes x s t ≡ goes y r u → Spelled r u xs e → Spelled s t xs e
+spelled_back : (x y : Find) (s r : LiteralPlace) (t u : List ℕ) (xs : List Find) (e : List ℕ) → goes x s t ≡ goes y r u → Spelled r u xs e → Spelled s t xs e
 spelled_back x y s r t u xs e is h =
     let same = goes-parts x y s r t u is in
-    subst (λ (z : Place). Spelled z t xs e) (sym same.states) (subst (λ (z : List ℕ). Spelled r z xs e) (sym same.lefts) h)
+    subst (λ (z : LiteralPlace). Spelled z t xs e) (sym same.states) (subst (λ (z : List ℕ). Spelled r z xs e) (sym same.lefts) h)
 
-found_back : (x y : Find) (s r q : Place) (t u v : List ℕ) (xs : List Find) (e : List ℕ) → goes x s t ≡ goes y r u → Spelled q v (x ∷ xs) e → Spelled q v (y ∷ xs) e
+found_back : (x y : Find) (s r q : LiteralPlace) (t u v : List ℕ) (xs : List Find) (e : List ℕ) → goes x s t ≡ goes y r u → Spelled q v (x ∷ xs) e → Spelled q v (y ∷ xs) e
 found_back x y s r q t u v xs e is h = subst (λ (z : Find). Spelled q v (z ∷ xs) e) (goes-parts x y s r t u is).events h
 
 -- ---- a step
 
-value_then : (ks : List Bracket) (t : List ℕ) (token : Token) (x : Find) (s' : Place) (t' : List ℕ) (xs : List Find) (e : List ℕ) → ValueTells (is_some (innermost ks)) t token → taken ks token ≡ goes x s' t' → Spelled s' t' xs e → LiteralThen ks t (x ∷ xs) e
+value_then : (ks : List Bracket) (t : List ℕ) (token : Token) (x : Find) (s' : LiteralPlace) (t' : List ℕ) (xs : List Find) (e : List ℕ) → ValueTells (is_some (innermost ks)) t token → taken ks token ≡ goes x s' t' → Spelled s' t' xs e → LiteralThen ks t (x ∷ xs) e
 value_then ks t (unbracketed kept r) x s' t' xs e h is after =
     let c : Closes ks r xs e = spelled_back (reads kept) x (behind ks) s' r t' xs e is after in
     found_back (reads kept) x (behind ks) s' (ahead ks) r t' t xs e is (record {
@@ -111,7 +111,7 @@ value_then ks t (closing_bracket r) x s' t' xs e h is after = absurd h
 value_then ks t literal_end x s' t' xs e h is after = absurd h
 value_then ks t no_token x s' t' xs e h is after = absurd cc
 
-entry_then : (k : Bracket) (ks : List Bracket) (t : List ℕ) (token : Token) (x : Find) (s' : Place) (t' : List ℕ) (xs : List Find) (e : List ℕ) → EntryTells k t token → taken (k ∷ ks) token ≡ goes x s' t' → Spelled s' t' xs e → Closes (k ∷ ks) t (x ∷ xs) e
+entry_then : (k : Bracket) (ks : List Bracket) (t : List ℕ) (token : Token) (x : Find) (s' : LiteralPlace) (t' : List ℕ) (xs : List Find) (e : List ℕ) → EntryTells k t token → taken (k ∷ ks) token ≡ goes x s' t' → Spelled s' t' xs e → Closes (k ∷ ks) t (x ∷ xs) e
 entry_then k ks t (unbracketed kept r) x s' t' xs e h is after = absurd h
 entry_then k ks t (empty_brackets r) x s' t' xs e h is after = absurd h
 entry_then k ks t (opening_bracket j r) x s' t' xs e h is after = absurd h
@@ -137,7 +137,7 @@ entry_then k ks t (closing_bracket r) x s' t' xs e h is after =
 entry_then k ks t literal_end x s' t' xs e h is after = absurd h
 entry_then k ks t no_token x s' t' xs e h is after = absurd cc
 
-step_then : (s : Place) (t : List ℕ) (x : Find) (s' : Place) (t' : List ℕ) (xs : List Find) (e : List ℕ) → literal_step s t ≡ goes x s' t' → Spelled s' t' xs e → Spelled s t (x ∷ xs) e
+step_then : (s : LiteralPlace) (t : List ℕ) (x : Find) (s' : LiteralPlace) (t' : List ℕ) (xs : List Find) (e : List ℕ) → literal_step s t ≡ goes x s' t' → Spelled s' t' xs e → Spelled s t (x ∷ xs) e
 step_then (ahead ks) t x s' t' xs e is after = value_then ks t (value_token (is_some (innermost ks)) t) x s' t' xs e (value_tells (is_some (innermost ks)) t) is after
 step_then (behind []) t x s' t' xs e is after = absurd cc
 step_then (behind (k ∷ ks)) t x s' t' xs e is after = entry_then k ks t (entry_token k (behind_white t)) x s' t' xs e (entry_tells k t) is after
@@ -162,11 +162,11 @@ entry_ends k ks t (closing_bracket r) h is = absurd cc
 entry_ends k ks t literal_end h is = h
 entry_ends k ks t no_token h is = absurd cc
 
-end_then : (s : Place) (t : List ℕ) → literal_step s t ≡ ends → Spelled s t [] t
+end_then : (s : LiteralPlace) (t : List ℕ) → literal_step s t ≡ ends → Spelled s t [] t
 end_then (ahead ks) t is = absurd (value_ends ks t (value_token (is_some (innermost ks)) t) (value_tells (is_some (innermost ks)) t) is)
 end_then (behind []) t is = (refl, refl)
 end_then (behind (k ∷ ks)) t is = absurd (entry_ends k (k ∷ ks) t (entry_token k (behind_white t)) (entry_tells k t) is)
 
-pub runs-spelled : (s : Place) (t : List ℕ) (xs : List Find) (e : List ℕ) → Runs literal_step s t xs e → Spelled s t xs e
+pub runs-spelled : (s : LiteralPlace) (t : List ℕ) (xs : List Find) (e : List ℕ) → Runs literal_step s t xs e → Spelled s t xs e
 runs-spelled s t _ _ (last is) = end_then s t is
 runs-spelled s t _ _ (onward x s' t' {xs} {e} is h) = step_then s t x s' t' xs e is (runs-spelled s' t' xs e h)

@@ -28,10 +28,10 @@ begins_binding t = is_some (behind_beginning t)
 -- ---- the names
 
 -- what a block binds: no name, one, or two
-pub data Binding : Type 0 where
-  unbound : Binding
-  bound : Text → Binding
-  both_bound : Text → Text → Binding
+pub data BoundNames : Type 0 where
+  unbound : BoundNames
+  bound : Text → BoundNames
+  both_bound : Text → Text → BoundNames
 
 -- what stands between the bars: a name, with white on either side of it; or two, with white between them as well
 pub data Names : Type 0 where
@@ -48,14 +48,14 @@ AreNames (one_name w name v) = IsWhite w × IsIdentifier name × IsWhite v
 AreNames (two_names w name u other v) =
     IsWhite w × IsIdentifier name × IsWhite u × (u ≢ []) × IsIdentifier other × IsWhite v
 
-abbrev pub bound_by : Names → Binding
+abbrev pub bound_by : Names → BoundNames
 bound_by (one_name w name v) = bound name
 bound_by (two_names w name u other v) = both_bound name other
 
 -- ---- in front of a text
 
 -- White, at least one byte, `as`, white or none, and names between bars that bind this; and then the rest.
-pub record IsBound (text : Text) (means : Binding) (rest : Text) : Type 0 where
+pub record IsBound (text : Text) (means : BoundNames) (rest : Text) : Type 0 where
   pub white : Text
   pub between : Text
   pub names : Names
@@ -68,15 +68,15 @@ pub record IsBound (text : Text) (means : Binding) (rest : Text) : Type 0 where
 
 -- Behind the items of a line stand block parameters that bind this, and then the rest; or, where none are begun,
 -- nothing, and the rest is all.
-pub data IsBinding (text : Text) (means : Binding) (rest : Text) : Type 0 where
+pub data IsBinding (text : Text) (means : BoundNames) (rest : Text) : Type 0 where
   is_unbound : begins_binding text ≡ false → means ≡ unbound → rest ≡ text → IsBinding text means rest
   is_bound : IsBound text means rest → IsBinding text means rest
 
 -- block parameters are begun that don't go on well
 abbrev pub NoBinding : Text → Type 0
-NoBinding text = (means : Binding) (rest : Text) → IsBinding text means rest → ⊥
+NoBinding text = (means : BoundNames) (rest : Text) → IsBinding text means rest → ⊥
 
 -- a text binds at most one way, with one rest behind
 abbrev pub OneBinding : Type 0
-OneBinding = (text : Text) (a b : Binding) (rest rest' : Text) →
+OneBinding = (text : Text) (a b : BoundNames) (rest rest' : Text) →
     IsBinding text a rest → IsBinding text b rest' → (a ≡ b) × (rest ≡ rest')

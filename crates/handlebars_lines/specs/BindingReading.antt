@@ -4,7 +4,7 @@ use Rattle.std.specs.List.{prefix_len}
 use Rattle.handlebars_base.specs.Bytes.{Text, behind_white, is_symbol}
 use Rattle.handlebars_base.specs.Optional.{◌>>=◌, with_or}
 use Rattle.handlebars_base.specs.Texts.{after, symbols_of, behind_symbols}
-use Rattle.handlebars_lines.specs.Binding.{bar, behind_beginning, Binding, unbound, bound, both_bound}
+use Rattle.handlebars_lines.specs.Binding.{bar, behind_beginning, BoundNames, unbound, bound, both_bound}
 
 -- symbols, at least one, and what follows them
 unfoldable pub symbols_at : Text → Option (Text × Text)
@@ -19,12 +19,12 @@ abbrev pub behind_last : Text → Option Text
 behind_last t = after bar (behind_white t)
 
 -- Where no symbol stands in front, another name needs white before it.
-abbrev pub other_at : Text → Text → Option (Binding × Text)
+abbrev pub other_at : Text → Text → Option (BoundNames × Text)
 other_at name t = name_at t >>= λ p. behind_last p.1 >>= λ r. Some (both_bound name p.0, r)
 
 -- names, and the bar behind them
-abbrev pub names_at : Text → Option (Binding × Text)
+abbrev pub names_at : Text → Option (BoundNames × Text)
 names_at t = name_at t >>= λ p. with_or (behind_last p.1) (λ r. Some (bound p.0, r)) (other_at p.0 p.1)
 
-abbrev pub binding_at : Text → Option (Binding × Text)
+abbrev pub binding_at : Text → Option (BoundNames × Text)
 binding_at t = with_or (behind_beginning t) names_at (Some (unbound, t))

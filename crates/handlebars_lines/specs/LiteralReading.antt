@@ -95,9 +95,9 @@ token_at false inner t = behind_token inner t
 -- ---- steps
 
 -- A literal is to stand here, or stands before; in these brackets, the innermost first.
-pub data Place : Type 0 where
-  ahead : List Bracket → Place
-  behind : List Bracket → Place
+pub data LiteralPlace : Type 0 where
+  ahead : List Bracket → LiteralPlace
+  behind : List Bracket → LiteralPlace
 
 abbrev pub innermost : List Bracket → Option Bracket
 innermost [] = None
@@ -119,7 +119,7 @@ opens n = record { height = n; keeps = true }
 abbrev pub reads : Bool → Find
 reads kept = record { height = 0; keeps = kept }
 
-abbrev pub taken : List Bracket → Token → Next Find Place
+abbrev pub taken : List Bracket → Token → Next Find LiteralPlace
 taken ks (unbracketed kept r) = goes (reads kept) (behind ks) r
 taken ks (empty_brackets r) = goes (opens (suc (length ks))) (behind ks) r
 taken ks (opening_bracket k r) = goes (opens (suc (length ks))) (ahead (k ∷ ks)) r
@@ -128,7 +128,7 @@ taken ks (closing_bracket r) = goes (opens 0) (behind (outer ks)) r
 taken ks literal_end = ends
 taken ks no_token = stuck
 
-abbrev pub literal_step : Place → Text → Next Find Place
+abbrev pub literal_step : LiteralPlace → Text → Next Find LiteralPlace
 literal_step (ahead ks) t = taken ks (value_token (is_some (innermost ks)) t)
 literal_step (behind ks) t = taken ks (behind_token (innermost ks) t)
 

@@ -11,7 +11,7 @@ use handlebars_base::json::path::marks::{after, behind_white, starts_white, symb
 
 /// The names that a block gives to what it shows.
 #[derive(Clone, Copy, Debug, PartialEq, Eq)]
-pub enum Binding<'a> {
+pub enum BoundNames<'a> {
     Unbound,
     Bound(&'a str),
     BothBound(&'a str, &'a str),
@@ -20,11 +20,11 @@ pub enum Binding<'a> {
 /// What is bound, and what follows it.
 #[derive(Clone, Copy, Debug, PartialEq, Eq)]
 pub struct BindingSlice<'a> {
-    pub means: Binding<'a>,
+    pub means: BoundNames<'a>,
     pub rest: &'a str,
 }
 
-#[tactic(auto, unfolding(crate::specs::Binding::behind_bar))]
+#[tactic(auto, unfolding(crate::specs::BoundNames::behind_bar))]
 fn behind_bar(text: &str) -> Option<&str>
     ensures { option_map (λ rest. rest.now) result ≡ behind_bar text.now }
 {
@@ -37,7 +37,7 @@ fn behind_bar(text: &str) -> Option<&str>
 }
 
 /// What follows the first bar, where block parameters are begun.
-#[tactic(auto, unfolding(crate::specs::Binding::behind_beginning))]
+#[tactic(auto, unfolding(crate::specs::BoundNames::behind_beginning))]
 pub(crate) fn behind_beginning(text: &str) -> Option<&str>
     ensures { option_map (λ rest. rest.now) result ≡ behind_beginning text.now }
 {
@@ -67,7 +67,7 @@ fn other_at<'a>(name: &'a str, text: &'a str) -> Option<BindingSlice<'a>>
     let (other, behind) = symbols_at(behind_white(text))?;
     let rest = after(b'|', behind_white(behind))?;
     Some(BindingSlice {
-        means: Binding::BothBound(name, other),
+        means: BoundNames::BothBound(name, other),
         rest,
     })
 }
@@ -79,7 +79,7 @@ fn names_at(text: &str) -> Option<BindingSlice<'_>>
     let (name, behind) = symbols_at(behind_white(text))?;
     match after(b'|', behind_white(behind)) {
         Some(rest) => Some(BindingSlice {
-            means: Binding::Bound(name),
+            means: BoundNames::Bound(name),
             rest,
         }),
         None => other_at(name, behind),
@@ -94,7 +94,7 @@ pub fn split_binding(text: &str) -> Option<BindingSlice<'_>>
     match behind_beginning(text) {
         Some(rest) => names_at(rest),
         None => Some(BindingSlice {
-            means: Binding::Unbound,
+            means: BoundNames::Unbound,
             rest: text,
         }),
     }

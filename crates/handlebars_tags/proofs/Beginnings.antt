@@ -8,7 +8,7 @@ use Rattle.handlebars_base.proofs.OptionBinds.{bind_some, with_or_is, cond_is}
 use Rattle.handlebars_base.specs.Texts.{IsEnd, after}
 use Rattle.handlebars_base.proofs.Ends.{end-all, end-behind, end-white, end-after_white, length-end}
 use Rattle.handlebars_lines.specs.Line.{tilde}
-use Rattle.handlebars_tags.specs.Kind.{Kind, expression_kind, html_kind, html_sign_kind, block_kind, close_kind, inverse_kind, else_kind, raw_kind, raw_close_kind, comment_kind, other_kind, past, Beginning, beginning, tilde_at, Tilde, maybe_tilde, a_tilde, no_tilde, Sign, no_sign, mark, word, Row, row, rows, behind_tilde, ends_word, behind_sign, row_at, first_of, beginning_of}
+use Rattle.handlebars_tags.specs.Kind.{TagKind, expression_kind, html_kind, html_sign_kind, block_kind, close_kind, inverse_kind, else_kind, raw_kind, raw_close_kind, comment_kind, other_kind, past, TagBeginning, beginning, tilde_at, Tilde, maybe_tilde, a_tilde, no_tilde, Sign, no_sign, mark, word, Row, row, rows, behind_tilde, ends_word, behind_sign, row_at, first_of, beginning_of}
 use Rattle.handlebars_tags.proofs.Marks.{past-takes}
 
 -- ---- ends of a text
@@ -45,13 +45,13 @@ end-behind_sign (word w) t r e =
 -- ---- what begins a tag
 
 -- In front of the tag's inside stand its braces, and `{{!` in front of a comment's.
-pub record Begun (left : Text) (b : Beginning) : Type 0 where
+pub record Begun (left : Text) (b : TagBeginning) : Type 0 where
   pub end : IsEnd left b.inside
   pub shorter : length b.inside < length left
   pub comment : b.kind ≡ comment_kind → past (codes "{{!") left ≡ Some b.inside
 
 -- what a row reads in front of a text: its braces, what is behind them, and its kind
-record RowRead (r : Row) (t : Text) (b : Beginning) : Type 0 where
+record RowRead (r : Row) (t : Text) (b : TagBeginning) : Type 0 where
   behind : Text
   read : Bool × Text
   braces : past r.braces t ≡ Some behind
@@ -59,9 +59,9 @@ record RowRead (r : Row) (t : Text) (b : Beginning) : Type 0 where
   sign : behind_sign r.sign read.1 ≡ Some b.inside
   kind : r.kind ≡ b.kind
 
-row-read : (r : Row) (t : Text) (b : Beginning) → row_at r t ≡ Some b → RowRead r t b
+row-read : (r : Row) (t : Text) (b : TagBeginning) → row_at r t ≡ Some b → RowRead r t b
 row-read r t b e =
-    let last : Bool × Text → Option Beginning = λ p. behind_sign r.sign p.1 >>= λ inside. Some (beginning r.kind p.0 inside) in
+    let last : Bool × Text → Option TagBeginning = λ p. behind_sign r.sign p.1 >>= λ inside. Some (beginning r.kind p.0 inside) in
     let h = bind_some (past r.braces t >>= behind_tilde r.tilde) last b e in
     let k = bind_some (past r.braces t) (behind_tilde r.tilde) h.0 h.1 in
     let l = bind_some (behind_sign r.sign h.0.1) (λ inside. Some (beginning r.kind h.0.0 inside)) b h.2 in
@@ -71,15 +71,15 @@ row-read r t b e =
       read = h.0;
       braces = k.1;
       tilde = k.2;
-      sign = l.1 ∙ ap (λ (c : Beginning). Some c.inside) same;
-      kind = ap (λ (c : Beginning). c.kind) same;
+      sign = l.1 ∙ ap (λ (c : TagBeginning). Some c.inside) same;
+      kind = ap (λ (c : TagBeginning). c.kind) same;
     }
 
 -- what begins by a row has begun
 record IsBegun (r : Row) : Type 0 where
-  begins : (t : Text) (b : Beginning) → row_at r t ≡ Some b → Begun t b
+  begins : (t : Text) (b : TagBeginning) → row_at r t ≡ Some b → Begun t b
 
-begun-row : (r : Row) → 0 < length r.braces → ((t : Text) (b : Beginning) → RowRead r t b → b.kind ≡ comment_kind → past (codes "{{!") t ≡ Some b.inside) → IsBegun r
+begun-row : (r : Row) → 0 < length r.braces → ((t : Text) (b : TagBeginning) → RowRead r t b → b.kind ≡ comment_kind → past (codes "{{!") t ≡ Some b.inside) → IsBegun r
 begun-row r long comment = record {
   begins = λ t b e.
       let x = row-read r t b e in
@@ -101,7 +101,7 @@ infixr 10 ◌&◌
 h & k = (h, k)
 
 -- a row of another kind
-other : (braces : Text) (tilde : Tilde) (sign : Sign) (kind : Kind) → 0 < length braces → kind ≢ comment_kind → IsBegun (row braces tilde sign kind)
+other : (braces : Text) (tilde : Tilde) (sign : Sign) (kind : TagKind) → 0 < length braces → kind ≢ comment_kind → IsBegun (row braces tilde sign kind)
 other braces tilde sign kind long plain = begun-row (row braces tilde sign kind) long (λ t b x k. absurd (plain (x.kind ∙ k)))
 
 begun-rows : AllByRecursion IsBegun rows
@@ -123,13 +123,13 @@ begun-rows =
     other _ _ _ expression_kind (omega arith) (λ e. cc) &
     record {}
 
-begun-first : (rs : List Row) (t : Text) (b : Beginning) → AllByRecursion IsBegun rs → first_of rs t ≡ Some b → Begun t b
+begun-first : (rs : List Row) (t : Text) (b : TagBeginning) → AllByRecursion IsBegun rs → first_of rs t ≡ Some b → Begun t b
 begun-first [] t b h e = absurd (none-some b e)
 begun-first (r ∷ rs) t b h e = elim (with_or_is (row_at r t) Some (first_of rs t) (Some b) e) [
   | inl here ↦ h.0.begins t b (here.1 ∙ here.2)
   | inr later ↦ begun-first rs t b h.1 later.1
 ]
 
-pub begun : (left : Text) (b : Beginning) → beginning_of left ≡ Some b → Begun left b
+pub begun : (left : Text) (b : TagBeginning) → beginning_of left ≡ Some b → Begun left b
 unfolding beginning_of
 begun left b e = begun-first rows left b begun-rows e

@@ -4,7 +4,7 @@ use Rattle.handlebars_base.specs.Bytes.{Text}
 use Rattle.handlebars_base.specs.Texts.{symbols_of}
 use Rattle.handlebars_lines.specs.Parameter.{Term, literal_term, path_term, name_term, call_term, Terms}
 use Rattle.handlebars_lines.specs.Line.{identifier_name, Line, in_block, IsLine, NoLine}
-use Rattle.handlebars_lines.specs.Binding.{Binding, IsBinding, NoBinding}
+use Rattle.handlebars_lines.specs.Binding.{BoundNames, IsBinding, NoBinding}
 use Rattle.handlebars_lines.proofs.Lines.{one_line}
 use Rattle.handlebars_lines.proofs.Bindings.{one_binding}
 use Rattle.handlebars_tags.specs.Tag.{BlockLine, IsBlockLine}
@@ -13,7 +13,7 @@ use Rattle.handlebars_tags.proofs.LineNames.{line-identifier}
 
 -- ---- what is read is one
 
-pub block_line-is : (t left rest : Text) (line : Line) (binding : Binding) → IsLine identifier_name in_block t line left → IsBinding left binding rest
+pub block_line-is : (t left rest : Text) (line : Line) (binding : BoundNames) → IsLine identifier_name in_block t line left → IsBinding left binding rest
     → IsBlockLine t (record { name = symbols_of t; terms = line.terms; binding = binding; depth = line.depth }) rest
 block_line-is t left rest line binding is binds =
     let whole : line ≡ record { name = name_term (symbols_of t); terms = line.terms; depth = line.depth } =
@@ -36,7 +36,7 @@ none-binding t left line is none means rest h =
 
 -- ---- there is one
 
-abbrev made : Text → Terms → Binding → ℕ → BlockLine
+abbrev made : Text → Terms → BoundNames → ℕ → BlockLine
 made name terms binding depth = record { name = name; terms = terms; binding = binding; depth = depth }
 
 abbrev text_in : Term → Text → Text
@@ -56,5 +56,5 @@ one_block_line t a b rest rest' h k =
   where
     same_block : (a b : BlockLine) → a.name ≡ b.name → a.terms ≡ b.terms → a.binding ≡ b.binding → a.depth ≡ b.depth → a ≡ b
     same_block a b n t d h =
-        ap (λ (z : Text). made z a.terms a.binding a.depth) n ∙ ap (λ (z : Terms). made b.name z a.binding a.depth) t ∙ ap (λ (z : Binding). made b.name b.terms z a.depth) d
+        ap (λ (z : Text). made z a.terms a.binding a.depth) n ∙ ap (λ (z : Terms). made b.name z a.binding a.depth) t ∙ ap (λ (z : BoundNames). made b.name b.terms z a.depth) d
         ∙ ap (λ (z : ℕ). made b.name b.terms b.binding z) h

@@ -4,7 +4,7 @@ use Rattle.std.specs.Prelude.{IfOk}
 use Rattle.std.specs.Option.{MatchOption}
 use denote.Ref.{Bor}
 use Rattle.handlebars_base.specs.Bytes.{Text}
-use Rattle.handlebars_tags.specs.Kind.{Kind, expression_kind, html_kind, html_sign_kind, past}
+use Rattle.handlebars_tags.specs.Kind.{TagKind, expression_kind, html_kind, html_sign_kind, past}
 use Rattle.handlebars_tags.specs.TagReading.{NoClosedLine, NoneClosed}
 use Rattle.handlebars_tags.specs.TagView.{HasClosedLine, HasInside}
 use Rattle.handlebars_tags.specs.declared.tag.inside.Inside.{Inside}
@@ -12,17 +12,17 @@ use Rattle.handlebars_tags.specs.declared.tag.inside.Content.TheVariants.{Expres
 use Rattle.handlebars_tags.proofs.Marks.{past-takes}
 use Rattle.handlebars_tags.proofs.InsidesRead.{expression_read, html_read, html_sign_read}
 
-abbrev pub Reads : Kind → Text → Option Inside → Type 0
+abbrev pub Reads : TagKind → Text → Option Inside → Type 0
 Reads k t r = MatchOption r (NoneClosed k t) (λ i. HasInside k t i)
 
-abbrev pub ReadsPlain : Kind → Text → Option Inside → Type 0
+abbrev pub ReadsPlain : TagKind → Text → Option Inside → Type 0
 ReadsPlain k t r = MatchOption r (NoneClosed k t) (λ i. HasInside k t i × (i.long_ahead ≡ true))
 
-pub plain_reads : (k : Kind) (t : Text) (r : Option Inside) → ReadsPlain k t r → Reads k t r
+pub plain_reads : (k : TagKind) (t : Text) (r : Option Inside) → ReadsPlain k t r → Reads k t r
 plain_reads k t None h = h
 plain_reads k t (Some i) h = h.0
 
-pub plain_reads-Ok : {E : Type 0} (k : Kind) (t : Text) (r : Result (Option Inside) E) → IfOk r (ReadsPlain k t) → IfOk r (Reads k t)
+pub plain_reads-Ok : {E : Type 0} (k : TagKind) (t : Text) (r : Result (Option Inside) E) → IfOk r (ReadsPlain k t) → IfOk r (Reads k t)
 plain_reads-Ok k t (Ok r) h = plain_reads k t r h
 plain_reads-Ok k t (Err e) h = h
 

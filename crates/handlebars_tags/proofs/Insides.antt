@@ -5,7 +5,7 @@ use Rattle.handlebars_base.specs.Bytes.{Text, behind_white, is_white}
 use Rattle.handlebars_base.specs.Texts.{starts, symbols_of, behind_symbols}
 use Rattle.handlebars_lines.specs.Line.{value_name, Line, in_tag, IsLine}
 use Rattle.handlebars_lines.proofs.Lines.{one_line}
-use Rattle.handlebars_tags.specs.Kind.{Kind, expression_kind, html_kind, html_sign_kind, block_kind, close_kind, inverse_kind, else_kind, raw_kind, raw_close_kind, comment_kind, other_kind, closing_of}
+use Rattle.handlebars_tags.specs.Kind.{TagKind, expression_kind, html_kind, html_sign_kind, block_kind, close_kind, inverse_kind, else_kind, raw_kind, raw_close_kind, comment_kind, other_kind, closing_of}
 use Rattle.handlebars_tags.specs.Comment.{IsComment, NoComment}
 use Rattle.handlebars_lines.specs.CloseName.{close_name_at}
 use Rattle.handlebars_tags.specs.Tag.{Tag, expression_tag, html_tag, block_tag, inverse_tag, chain_tag, close_tag, raw_tag, raw_close_tag, comment_tag, BlockLine, IsBlockLine, Says, a_value, a_raw_value, a_signed_value, a_block, a_close, an_inverse, an_else, a_chain, a_raw_block, a_raw_close, a_comment}
@@ -41,7 +41,7 @@ pub record CommentSaid (t : Text) (tag : Tag) (rest : Text) : Type 0 where
   pub is : IsComment t kept rest
   pub gives : tag ≡ comment_tag kept
 
-abbrev pub Said : Kind → Text → Tag → Text → Type 0
+abbrev pub Said : TagKind → Text → Tag → Text → Type 0
 Said expression_kind t tag rest = ValueSaid expression_tag t tag rest
 Said html_kind t tag rest = ValueSaid html_tag t tag rest
 Said html_sign_kind t tag rest = ValueSaid html_tag t tag rest
@@ -54,7 +54,7 @@ Said raw_close_kind t tag rest = RawCloseSaid t tag rest
 Said comment_kind t tag rest = CommentSaid t tag rest
 Said other_kind t tag rest = ⊥
 
-pub said : (k : Kind) (t : Text) (tag : Tag) (rest : Text) → Says k t tag rest → Said k t tag rest
+pub said : (k : TagKind) (t : Text) (tag : Tag) (rest : Text) → Says k t tag rest → Said k t tag rest
 said _ _ _ _ (a_value {line = line} is) = record { line = line; is = is; gives = refl }
 said _ _ _ _ (a_raw_value {line = line} is) = record { line = line; is = is; gives = refl }
 said _ _ _ _ (a_signed_value {line = line} is) = record { line = line; is = is; gives = refl }
@@ -69,13 +69,13 @@ said _ _ _ _ (a_comment {kept = kept} is) = record { kept = kept; is = is; gives
 
 -- ---- the lines of blocks inside tags
 
-pub record BlockClosed (k : Kind) (of : BlockLine → Tag) (t : Text) (tag : Tag) (right : Bool) (rest : Text) : Type 0 where
+pub record BlockClosed (k : TagKind) (of : BlockLine → Tag) (t : Text) (tag : Tag) (right : Bool) (rest : Text) : Type 0 where
   pub behind : Text
   pub said : BlockSaid of t tag behind
   pub closes : closing_of k behind ≡ Some (right, rest)
 
 -- inside is the line of a block alone
-abbrev pub OnlyBlock : Kind → (BlockLine → Tag) → Text → Text → Type 0
+abbrev pub OnlyBlock : TagKind → (BlockLine → Tag) → Text → Text → Type 0
 OnlyBlock k of t inside = (tag : Tag) (right : Bool) (rest : Text) → IsClosed k inside tag right rest → BlockClosed k of t tag right rest
 
 pub only_block : (t : Text) → OnlyBlock block_kind block_tag t t
@@ -99,10 +99,10 @@ only_chain t none tag right rest h =
 pub none-chain : (t : Text) → closing_of else_kind t ≡ None → starts is_white t ≡ false → NoneClosed else_kind t
 none-chain t none dark tag right rest h = let chain = open_else t tag right rest none h in let white : starts is_white t ≡ true = chain.white in absurd cc
 
-pub none-block : (k : Kind) (of : BlockLine → Tag) (t inside : Text) → OnlyBlock k of t inside → NoBlockLine t → NoneClosed k inside
+pub none-block : (k : TagKind) (of : BlockLine → Tag) (t inside : Text) → OnlyBlock k of t inside → NoBlockLine t → NoneClosed k inside
 none-block k of t inside only none tag right rest h = let b = only tag right rest h in none b.said.line b.behind b.said.is
 
-pub none_closing-block : (k : Kind) (of : BlockLine → Tag) (t inside left : Text) (line : BlockLine) → OnlyBlock k of t inside → IsBlockLine t line left → closing_of k left ≡ None → NoneClosed k inside
+pub none_closing-block : (k : TagKind) (of : BlockLine → Tag) (t inside left : Text) (line : BlockLine) → OnlyBlock k of t inside → IsBlockLine t line left → closing_of k left ≡ None → NoneClosed k inside
 none_closing-block k of t inside left line only is none tag right rest h =
     let b = only tag right rest h in
     let one = one_block_line t line b.said.line left b.behind is b.said.is in
@@ -110,13 +110,13 @@ none_closing-block k of t inside left line only is none tag right rest h =
 
 -- ---- values
 
-pub record ValueClosed (k : Kind) (t : Text) (right : Bool) (rest : Text) : Type 0 where
+pub record ValueClosed (k : TagKind) (t : Text) (right : Bool) (rest : Text) : Type 0 where
   pub line : Line
   pub behind : Text
   pub is : IsLine value_name in_tag t line behind
   pub closes : closing_of k behind ≡ Some (right, rest)
 
-none-value : (k : Kind) (t : Text) → ((tag : Tag) (right : Bool) (rest : Text) → IsClosed k t tag right rest → ValueClosed k t right rest) → NoClosedLine k t → NoneClosed k t
+none-value : (k : TagKind) (t : Text) → ((tag : Tag) (right : Bool) (rest : Text) → IsClosed k t tag right rest → ValueClosed k t right rest) → NoClosedLine k t → NoneClosed k t
 none-value k t only none tag right rest h = let v = only tag right rest h in none v.line v.behind right rest v.is v.closes
 
 pub none-expression : (t : Text) → NoClosedLine expression_kind t → NoneClosed expression_kind t
@@ -128,14 +128,14 @@ none-html t none = none-value html_kind t (λ tag right rest h. let s = said htm
 pub none-html_sign : (t : Text) → NoClosedLine html_sign_kind t → NoneClosed html_sign_kind t
 none-html_sign t none = none-value html_sign_kind t (λ tag right rest h. let s = said html_sign_kind t tag h.behind h.says in record { line = s.line; behind = h.behind; is = s.is; closes = h.closes }) none
 
-pub none-closed_line : (k : Kind) (t left : Text) (line : Line) → IsLine value_name in_tag t line left → closing_of k left ≡ None → NoClosedLine k t
+pub none-closed_line : (k : TagKind) (t left : Text) (line : Line) → IsLine value_name in_tag t line left → closing_of k left ≡ None → NoClosedLine k t
 none-closed_line k t left line is none line' behind right rest is' closes =
     let one = one_line value_name in_tag t line line' left behind is is' in
     none-some (right, rest) (sym none ∙ ap (closing_of k) one.1 ∙ closes)
 
 -- ---- texts
 
-none-text : (k : Kind) (left inside : Text) → ((tag : Tag) (behind : Text) → Says k inside tag behind → behind ≡ left) → closing_of k left ≡ None → NoneClosed k inside
+none-text : (k : TagKind) (left inside : Text) → ((tag : Tag) (behind : Text) → Says k inside tag behind → behind ≡ left) → closing_of k left ≡ None → NoneClosed k inside
 none-text k left inside only none tag right rest h = none-some (right, rest) (sym none ∙ ap (closing_of k) (sym (only tag h.behind h.says)) ∙ h.closes)
 
 pub none-close : (t : Text) → closing_of close_kind (close_name_at t).1 ≡ None → NoneClosed close_kind t

@@ -4,7 +4,7 @@ use Rattle.std.specs.Option.{MatchOption}
 use denote.Ref.{Bor}
 use Rattle.handlebars_base.specs.Bytes.{Text}
 use Rattle.handlebars_lines.specs.Line.{value_name, Line, in_tag, IsLine}
-use Rattle.handlebars_tags.specs.Kind.{Kind, expression_kind, html_kind, html_sign_kind, close_kind, inverse_kind, raw_close_kind, comment_kind, closing_of}
+use Rattle.handlebars_tags.specs.Kind.{TagKind, expression_kind, html_kind, html_sign_kind, close_kind, inverse_kind, raw_close_kind, comment_kind, closing_of}
 use Rattle.handlebars_lines.specs.CloseName.{close_name_at}
 use Rattle.handlebars_tags.specs.Tag.{Tag, tag_depth, expression_tag, html_tag, BlockLine, IsBlockLine, Says, a_value, a_raw_value, a_signed_value, inverse_tag, close_tag, raw_close_tag, a_close, a_raw_close, an_inverse, comment_tag, a_comment}
 use Rattle.handlebars_tags.specs.Comment.{IsComment}
@@ -20,7 +20,7 @@ use Rattle.handlebars_tags.proofs.Insides.{OnlyBlock, none-closed_line, none-exp
 
 -- ---- values
 
-pub value_read : (k : Kind) (t left : Text) (line : Line) (content : Content) (depth : ℕ) (r : Option Inside) → IsLine value_name in_tag t line left → line.depth ≡ depth
+pub value_read : (k : TagKind) (t left : Text) (line : Line) (content : Content) (depth : ℕ) (r : Option Inside) → IsLine value_name in_tag t line left → line.depth ≡ depth
     → MatchOption r (closing_of k left ≡ None) (λ i. HasClosing k left content depth i) → MatchOption r (NoClosedLine k t) (λ i. HasClosedLine k t content i)
 value_read k t left line content depth None is deep none = none-closed_line k t left line is none
 value_read k t left line content depth (Some i) is deep h = record {
@@ -30,7 +30,7 @@ value_read k t left line content depth (Some i) is deep h = record {
   closing = record { closes = h.closes; is_content = h.is_content; deep = h.deep ∙ sym deep; ahead = h.ahead };
 }
 
-value_inside : (k : Kind) (of : Line → Tag) (t : Text) (content : Content) (i : Inside) → ((line : Line) → tag_depth (of line) ≡ line.depth)
+value_inside : (k : TagKind) (of : Line → Tag) (t : Text) (content : Content) (i : Inside) → ((line : Line) → tag_depth (of line) ≡ line.depth)
     → ((line : Line) (rest : Text) → IsLine value_name in_tag t line rest → Says k t (of line) rest) → ((tag : Tag) → HoldsLine of t tag → Holds content tag)
     → HasClosedLine k t content i → HasInside k t i
 value_inside k of t content i deep says holds h = record {
@@ -58,13 +58,13 @@ html_sign_read t (Some i) h = value_inside html_sign_kind html_tag t.now (Html t
 -- ---- blocks
 
 -- how the tag of a kind is made of the line of a block
-pub record Blocks (k : Kind) (of : BlockLine → Tag) (t inside : Text) (content : Content) (read : BlockRead) : Type 0 where
+pub record Blocks (k : TagKind) (of : BlockLine → Tag) (t inside : Text) (content : Content) (read : BlockRead) : Type 0 where
   pub only : OnlyBlock k of t inside
   pub deep : (line : BlockLine) → tag_depth (of line) ≡ line.depth
   pub says : (line : BlockLine) (rest : Text) → IsBlockLine t line rest → Says k inside (of line) rest
   pub holds : (tag : Tag) → HoldsBlock of read.slice tag → Holds content tag
 
-pub block_read : (k : Kind) (of : BlockLine → Tag) (t inside : Text) (content : Content) (read : BlockRead) (r : Option Inside) → Blocks k of t inside content read → HasBlock t read
+pub block_read : (k : TagKind) (of : BlockLine → Tag) (t inside : Text) (content : Content) (read : BlockRead) (r : Option Inside) → Blocks k of t inside content read → HasBlock t read
     → MatchOption r (closing_of k read.rest.now ≡ None) (λ i. HasClosing k read.rest.now content read.depth i)
     → MatchOption r (NoneClosed k inside) (λ i. HasInside k inside i × (i.long_ahead ≡ true))
 block_read k of t inside content read None b has none =
@@ -83,7 +83,7 @@ block_read k of t inside content read (Some i) b has h =
 
 -- ---- texts
 
-pub text_read : (k : Kind) (t behind : Text) (tag : Tag) (content : Content) (i : Inside) → Says k t tag behind → tag_depth tag ≡ 0 → Holds content tag → HasClosing k behind content 0 i
+pub text_read : (k : TagKind) (t behind : Text) (tag : Tag) (content : Content) (i : Inside) → Says k t tag behind → tag_depth tag ≡ 0 → Holds content tag → HasClosing k behind content 0 i
     → HasInside k t i × (i.long_ahead ≡ true)
 text_read k t behind tag content i says deep holds h = (
   record {

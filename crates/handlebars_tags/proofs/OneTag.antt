@@ -10,7 +10,7 @@ use Rattle.handlebars_base.proofs.Bytes.{other_byte}
 use Rattle.handlebars_lines.specs.Line.{value_name, Line, in_tag, tilde}
 use Rattle.handlebars_lines.proofs.LineFronts.{begins}
 use Rattle.handlebars_lines.proofs.Lines.{one_line}
-use Rattle.handlebars_tags.specs.Kind.{Kind, expression_kind, html_kind, html_sign_kind, block_kind, close_kind, inverse_kind, else_kind, raw_kind, raw_close_kind, comment_kind, other_kind, beginning_of, closing_of}
+use Rattle.handlebars_tags.specs.Kind.{TagKind, expression_kind, html_kind, html_sign_kind, block_kind, close_kind, inverse_kind, else_kind, raw_kind, raw_close_kind, comment_kind, other_kind, beginning_of, closing_of}
 use Rattle.handlebars_tags.specs.Tag.{Tag, comment_tag, BlockLine, IsBlockLine, Tildes, OneTag}
 use Rattle.handlebars_tags.specs.TagReading.{IsClosed}
 use Rattle.handlebars_tags.proofs.LineNames.{line_starts}
@@ -51,7 +51,7 @@ closed_line : {A : Type 0} (t rest : Text) (line : BlockLine) (p : Bool × Text)
 closed_line t rest line p e h = absurd (none-some p (sym (line_open t (line_starts h.is_line)) ∙ e))
 
 -- both closed
-one_said : (k : Kind) (t : Text) (tag tag' : Tag) (rest rest' : Text) (p q : Bool × Text) → closing_of k rest ≡ Some p → closing_of k rest' ≡ Some q → Said k t tag rest → Said k t tag' rest'
+one_said : (k : TagKind) (t : Text) (tag tag' : Tag) (rest rest' : Text) (p q : Bool × Text) → closing_of k rest ≡ Some p → closing_of k rest' ≡ Some q → Said k t tag rest → Said k t tag' rest'
     → OneSaid tag tag' rest rest'
 one_said expression_kind t tag tag' rest rest' p q e f h k = one_value _ t tag tag' rest rest' h k
 one_said html_kind t tag tag' rest rest' p q e f h k = one_value _ t tag tag' rest rest' h k
@@ -77,7 +77,7 @@ record OneClosed (tag tag' : Tag) (right right' : Bool) (rest rest' : Text) : Ty
   rights : right ≡ right'
   rests : rest ≡ rest'
 
-one_closed : (k : Kind) (t : Text) (tag tag' : Tag) (right right' : Bool) (rest rest' : Text) → IsClosed k t tag right rest → IsClosed k t tag' right' rest' → OneClosed tag tag' right right' rest rest'
+one_closed : (k : TagKind) (t : Text) (tag tag' : Tag) (right right' : Bool) (rest rest' : Text) → IsClosed k t tag right rest → IsClosed k t tag' right' rest' → OneClosed tag tag' right right' rest rest'
 one_closed k t tag tag' right right' rest rest' h g =
     let one = one_said k t tag tag' h.behind g.behind (right, rest) (right', rest') h.closes g.closes (said k t tag h.behind h.says) (said k t tag' g.behind g.says) in
     let ends : ◌≡◌ {A = Bool × Text} (right, rest) (right', rest') = same_Some (right, rest) (right', rest') (sym h.closes ∙ ap (closing_of k) one.rests ∙ g.closes) in

@@ -10,8 +10,8 @@ use Rattle.handlebars_base.proofs.Ends.{end-all, end-behind, end-after, end-whit
 use Rattle.handlebars_lines.specs.Parameter.{spelled_items}
 use Rattle.handlebars_lines.specs.Line.{NameMode, spelled_name, Line, Enclosure, IsLine, tilde}
 use Rattle.handlebars_lines.proofs.CloseNames.{close_name-whole}
-use Rattle.handlebars_lines.specs.Binding.{Binding, bar, IsBinding, is_unbound, is_bound, spelled_names}
-use Rattle.handlebars_tags.specs.Kind.{Kind, expression_kind, html_kind, html_sign_kind, block_kind, close_kind, inverse_kind, else_kind, raw_kind, raw_close_kind, comment_kind, other_kind, past, tilde_at, close_by, brace_tilde_braces, three_close, closing_of}
+use Rattle.handlebars_lines.specs.Binding.{BoundNames, bar, IsBinding, is_unbound, is_bound, spelled_names}
+use Rattle.handlebars_tags.specs.Kind.{TagKind, expression_kind, html_kind, html_sign_kind, block_kind, close_kind, inverse_kind, else_kind, raw_kind, raw_close_kind, comment_kind, other_kind, past, tilde_at, close_by, brace_tilde_braces, three_close, closing_of}
 use Rattle.handlebars_tags.specs.Comment.{IsComment, long, compact}
 use Rattle.handlebars_lines.specs.CloseName.{close_name_at}
 use Rattle.handlebars_tags.specs.Tag.{Tag, BlockLine, IsBlockLine, Says}
@@ -44,7 +44,7 @@ end-three_close t p e = elim (with_or_is (close_by (codes "}}}") t) Some (brace_
   | inr none ↦ end-brace_tilde_braces t p none.1
 ]
 
-end-closing : (k : Kind) (t : Text) (p : Bool × Text) → closing_of k t ≡ Some p → IsEnd t p.1
+end-closing : (k : TagKind) (t : Text) (p : Bool × Text) → closing_of k t ≡ Some p → IsEnd t p.1
 unfolding closing_of
 end-closing expression_kind t p e = end-close_by (codes "}}") t p e
 end-closing html_kind t p e = end-three_close t p e
@@ -63,7 +63,7 @@ end-closing other_kind t p e = absurd (none-some p e)
 end-line : {mode : NameMode} {around : Enclosure} {t rest : Text} {line : Line} → IsLine mode around t line rest → IsEnd t rest
 end-line {rest = rest} x = (spelled_name x.name ++ spelled_items x.items, x.whole ∙ sym (append_assoc (spelled_name x.name) (spelled_items x.items) rest))
 
-end-binding : (t rest : Text) (means : Binding) → IsBinding t means rest → IsEnd t rest
+end-binding : (t rest : Text) (means : BoundNames) → IsBinding t means rest → IsEnd t rest
 end-binding t rest means (is_unbound none gives all) = ([], sym all)
 end-binding t rest means (is_bound b) =
     let front : Text = b.white ++ (codes "as" ++ (b.between ++ bar ∷ (spelled_names b.names ++ bar ∷ []))) in
@@ -82,7 +82,7 @@ end-comment : (t kept rest : Text) → IsComment t kept rest → IsEnd t rest
 end-comment t _ _ (long body whole is) = (body, whole)
 end-comment t _ _ (compact body whole none is) = (body, whole)
 
-end-says : (k : Kind) (t : Text) (tag : Tag) (rest : Text) → Says k t tag rest → IsEnd t rest
+end-says : (k : TagKind) (t : Text) (tag : Tag) (rest : Text) → Says k t tag rest → IsEnd t rest
 end-says expression_kind t tag rest h = let s = said expression_kind t tag rest h in end-line s.is
 end-says html_kind t tag rest h = let s = said html_kind t tag rest h in end-line s.is
 end-says html_sign_kind t tag rest h = let s = said html_sign_kind t tag rest h in end-line s.is
@@ -98,5 +98,5 @@ end-says raw_close_kind t tag rest h = let s = said raw_close_kind t tag rest h 
 end-says comment_kind t tag rest h = let s = said comment_kind t tag rest h in end-comment t s.kept rest s.is
 end-says other_kind t tag rest h = absurd (said other_kind t tag rest h)
 
-pub end-closed : (k : Kind) (t : Text) (tag : Tag) (right : Bool) (rest : Text) → IsClosed k t tag right rest → IsEnd t rest
+pub end-closed : (k : TagKind) (t : Text) (tag : Tag) (right : Bool) (rest : Text) → IsClosed k t tag right rest → IsEnd t rest
 end-closed k t tag right rest h = end-behind t h.behind rest (end-says k t tag h.behind h.says) (end-closing k h.behind (right, rest) h.closes)

@@ -4,7 +4,7 @@ use Rattle.std.proofs.lemmas.Option.{same_Some, none-some}
 use Rattle.handlebars_base.specs.Bytes.{Text}
 use Rattle.handlebars_base.specs.Texts.{IsEnd}
 use Rattle.handlebars_base.proofs.Ends.{end-behind}
-use Rattle.handlebars_tags.specs.Kind.{Beginning, beginning_of}
+use Rattle.handlebars_tags.specs.Kind.{TagBeginning, beginning_of}
 use Rattle.handlebars_tags.specs.Tag.{Tag, Tildes, IsTag, NoTag}
 use Rattle.handlebars_tags.specs.TagReading.{IsClosed, NoneClosed}
 use Rattle.handlebars_tags.specs.TagView.{HasInside, HasTag}
@@ -15,12 +15,12 @@ use Rattle.handlebars_tags.proofs.TagEnds.{end-closed}
 -- ---- what is inside a tag is closed
 
 -- a tag in front of the text that begins so
-pub tag-closed : (left slice rest : Text) (b : Beginning) (t : Tag) (tildes : Tildes) → beginning_of left ≡ Some b → left ≡ slice ++ rest → IsTag slice rest t tildes
+pub tag-closed : (left slice rest : Text) (b : TagBeginning) (t : Tag) (tildes : Tildes) → beginning_of left ≡ Some b → left ≡ slice ++ rest → IsTag slice rest t tildes
     → IsClosed b.kind b.inside t tildes.right rest × (b.tilde ≡ tildes.left)
 tag-closed left slice rest b t tildes e whole is =
     let same : is.begins ≡ b = same_Some is.begins b (sym is.is_beginning ∙ ap beginning_of (sym whole) ∙ e) in (
-      subst (λ (z : Beginning). IsClosed z.kind z.inside t tildes.right rest) same (record { behind = is.behind; says = is.says; closes = is.closes }),
-      ap (λ (z : Beginning). z.tilde) (sym same) ∙ is.left,
+      subst (λ (z : TagBeginning). IsClosed z.kind z.inside t tildes.right rest) same (record { behind = is.behind; says = is.says; closes = is.closes }),
+      ap (λ (z : TagBeginning). z.tilde) (sym same) ∙ is.left,
     )
 
 -- ---- where none is read
@@ -28,17 +28,17 @@ tag-closed left slice rest b t tildes e whole is =
 pub none-beginning : (left : Text) → beginning_of left ≡ None → NoTag left
 none-beginning left none slice rest t tildes whole is = none-some is.begins (sym none ∙ ap beginning_of whole ∙ is.is_beginning)
 
-pub none-inside : (left : Text) (b : Beginning) → beginning_of left ≡ Some b → NoneClosed b.kind b.inside → NoTag left
+pub none-inside : (left : Text) (b : TagBeginning) → beginning_of left ≡ Some b → NoneClosed b.kind b.inside → NoTag left
 none-inside left b e none slice rest t tildes whole is =
     let h = tag-closed left slice rest b t tildes e whole is in
     none t tildes.right rest h.0
 
 -- ---- what is read
 
-pub end-inside : (left : Text) (b : Beginning) (i : Inside) → beginning_of left ≡ Some b → HasInside b.kind b.inside i → IsEnd left i.rest.now
+pub end-inside : (left : Text) (b : TagBeginning) (i : Inside) → beginning_of left ≡ Some b → HasInside b.kind b.inside i → IsEnd left i.rest.now
 end-inside left b i e h = end-behind left b.inside i.rest.now (begun left b e).end (end-closed b.kind b.inside h.tag i.right i.rest.now h.is)
 
-pub tag_read : (left : Text) (b : Beginning) (i : Inside) (long_ahead : Bool) → beginning_of left ≡ Some b → HasInside b.kind b.inside i
+pub tag_read : (left : Text) (b : TagBeginning) (i : Inside) (long_ahead : Bool) → beginning_of left ≡ Some b → HasInside b.kind b.inside i
     → HasTag left (record { content = i.content; left = b.tilde; right = i.right; depth = i.depth; rest = i.rest; long_ahead = long_ahead })
 tag_read left b i long_ahead e h =
     let end = end-inside left b i e h in

@@ -12,26 +12,26 @@ past (b ∷ mark) t = after b t >>= past mark
 
 -- a value, escaped or raw; the beginning of a block, its end, its inverse, or a chained inverse; those of a raw block; a
 -- comment; or a tag of a kind that the language doesn't have yet
-pub data Kind : Type 0 where
-  expression_kind : Kind
-  html_kind : Kind
-  html_sign_kind : Kind
-  block_kind : Kind
-  close_kind : Kind
-  inverse_kind : Kind
-  else_kind : Kind
-  raw_kind : Kind
-  raw_close_kind : Kind
-  comment_kind : Kind
-  other_kind : Kind
+pub data TagKind : Type 0 where
+  expression_kind : TagKind
+  html_kind : TagKind
+  html_sign_kind : TagKind
+  block_kind : TagKind
+  close_kind : TagKind
+  inverse_kind : TagKind
+  else_kind : TagKind
+  raw_kind : TagKind
+  raw_close_kind : TagKind
+  comment_kind : TagKind
+  other_kind : TagKind
 
 -- the kind of a tag, whether a tilde stands behind its opening braces, and what is inside
-pub record Beginning : Type 0 where
-  pub kind : Kind
+pub record TagBeginning : Type 0 where
+  pub kind : TagKind
   pub tilde : Bool
   pub inside : Text
 
-abbrev pub beginning : Kind → Bool → Text → Beginning
+abbrev pub beginning : TagKind → Bool → Text → TagBeginning
 beginning kind tilde inside = record { kind = kind; tilde = tilde; inside = inside }
 
 -- white or none, and a tilde with white or none behind it, where one stands there
@@ -58,9 +58,9 @@ pub record Row : Type 0 where
   pub braces : Text
   pub tilde : Tilde
   pub sign : Sign
-  pub kind : Kind
+  pub kind : TagKind
 
-abbrev pub row : Text → Tilde → Sign → Kind → Row
+abbrev pub row : Text → Tilde → Sign → TagKind → Row
 row braces tilde sign kind = record { braces = braces; tilde = tilde; sign = sign; kind = kind }
 
 -- The ordered table: a tag is of the kind of the first row that stands in front. `*` and `>` are the signs of decorators
@@ -101,18 +101,18 @@ behind_sign (mark m) t = past m t >>= λ r. Some (behind_white r)
 behind_sign (word w) t = past w t >>= λ r. if ends_word r then Some r else None
 
 -- the beginning that a row is
-abbrev pub row_at : Row → Text → Option Beginning
+abbrev pub row_at : Row → Text → Option TagBeginning
 row_at row t =
     past row.braces t >>= behind_tilde row.tilde >>=
     λ p. behind_sign row.sign p.1 >>= λ inside. Some (beginning row.kind p.0 inside)
 
 -- that of the first row that stands in front
-abbrev pub first_of : List Row → Text → Option Beginning
+abbrev pub first_of : List Row → Text → Option TagBeginning
 first_of [] t = None
 first_of (row ∷ rest) t = with_or (row_at row t) Some (first_of rest t)
 
 -- the beginning of the tag in front
-unfoldable pub beginning_of : Text → Option Beginning
+unfoldable pub beginning_of : Text → Option TagBeginning
 beginning_of t = first_of rows t
 
 -- ---- what closes a tag
@@ -132,7 +132,7 @@ abbrev pub three_close : Text → Option (Bool × Text)
 three_close t = with_or (close_by (codes "}}}") t) Some (brace_tilde_braces t)
 
 -- whether a tilde stands before the closing braces, and what follows them. A comment holds its own.
-unfoldable pub closing_of : Kind → Text → Option (Bool × Text)
+unfoldable pub closing_of : TagKind → Text → Option (Bool × Text)
 closing_of expression_kind t = close_by (codes "}}") t
 closing_of html_kind t = three_close t
 closing_of html_sign_kind t = close_by (codes "}}") t

@@ -2,12 +2,12 @@
 use Rattle.std.specs.Prelude.{Bool}
 use denote.Ref.{Bor}
 use Rattle.handlebars_base.specs.Bytes.{Text}
-use Rattle.handlebars_tags.specs.Kind.{Kind, expression_kind, html_kind, html_sign_kind, block_kind, close_kind, inverse_kind, else_kind, raw_kind, raw_close_kind, comment_kind, other_kind, Beginning, beginning}
-use Rattle.handlebars_tags.specs.declared.tag.beginning.Kind.{Kind as ReadKind}
-use Rattle.handlebars_tags.specs.declared.tag.beginning.Kind.TheVariants as kind
-use Rattle.handlebars_tags.specs.declared.tag.beginning.Beginning.{Beginning as ReadBeginning}
+use Rattle.handlebars_tags.specs.Kind.{TagKind, expression_kind, html_kind, html_sign_kind, block_kind, close_kind, inverse_kind, else_kind, raw_kind, raw_close_kind, comment_kind, other_kind, TagBeginning, beginning}
+use Rattle.handlebars_tags.specs.declared.tag.beginning.TagKind.{TagKind as ReadKind}
+use Rattle.handlebars_tags.specs.declared.tag.beginning.TagKind.TheVariants as kind
+use Rattle.handlebars_tags.specs.declared.tag.beginning.TagBeginning.{TagBeginning as ReadBeginning}
 
-abbrev pub kind_of : ReadKind → Kind
+abbrev pub kind_of : ReadKind → TagKind
 kind_of kind.Expression = expression_kind
 kind_of kind.Html = html_kind
 kind_of kind.HtmlSign = html_sign_kind
@@ -20,7 +20,7 @@ kind_of kind.RawClose = raw_close_kind
 kind_of kind.Comment = comment_kind
 kind_of kind.Other = other_kind
 
-abbrev pub beginning_view : ReadBeginning → Beginning
+abbrev pub beginning_view : ReadBeginning → TagBeginning
 beginning_view b = beginning (kind_of b.kind) b.tilde b.inside.now
 
 -- a tilde or none, and a text, wherever it lies

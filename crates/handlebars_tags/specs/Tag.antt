@@ -5,8 +5,8 @@ use Rattle.handlebars_base.specs.Texts.{starts, symbols_of, behind_symbols}
 use Rattle.handlebars_lines.specs.Parameter.{Terms, name_term}
 use Rattle.handlebars_lines.specs.CloseName.{close_name_at}
 use Rattle.handlebars_lines.specs.Line.{identifier_name, value_name, Line, in_tag, in_block, IsLine}
-use Rattle.handlebars_lines.specs.Binding.{Binding, IsBinding}
-use Rattle.handlebars_tags.specs.Kind.{Kind, expression_kind, html_kind, html_sign_kind, block_kind, close_kind, inverse_kind, else_kind, raw_kind, raw_close_kind, comment_kind, Beginning, beginning_of, closing_of}
+use Rattle.handlebars_lines.specs.Binding.{BoundNames, IsBinding}
+use Rattle.handlebars_tags.specs.Kind.{TagKind, expression_kind, html_kind, html_sign_kind, block_kind, close_kind, inverse_kind, else_kind, raw_kind, raw_close_kind, comment_kind, TagBeginning, beginning_of, closing_of}
 use Rattle.handlebars_tags.specs.Comment.{IsComment}
 
 -- ---- what tags say
@@ -16,7 +16,7 @@ use Rattle.handlebars_tags.specs.Comment.{IsComment}
 pub record BlockLine : Type 0 where
   pub name : Text
   pub terms : Terms
-  pub binding : Binding
+  pub binding : BoundNames
   pub depth : ℕ
 
 -- a value or a call, escaped or raw; a block, its inverse, a chained inverse and its end, with the name that closes it,
@@ -59,7 +59,7 @@ pub record IsBlockLine (text : Text) (means : BlockLine) (rest : Text) : Type 0 
   pub binds : IsBinding behind means.binding rest
 
 -- Says kind inside tag rest: what is inside a tag of this kind says so much, and the rest follows it.
-pub data Says : Kind → Text → Tag → Text → Type 0 where
+pub data Says : TagKind → Text → Tag → Text → Type 0 where
   a_value : {t rest : Text} {line : Line} → IsLine value_name in_tag t line rest → Says expression_kind t (expression_tag line) rest
   a_raw_value : {t rest : Text} {line : Line} → IsLine value_name in_tag t line rest → Says html_kind t (html_tag line) rest
   a_signed_value : {t rest : Text} {line : Line} → IsLine value_name in_tag t line rest → Says html_sign_kind t (html_tag line) rest
@@ -79,7 +79,7 @@ pub data Says : Kind → Text → Tag → Text → Type 0 where
 -- In front of the rest, the slice spells the tag with these tildes: what it begins with, what it says, and what closes it.
 -- What a line means depends on what follows it, so the rest counts.
 pub record IsTag (slice rest : Text) (tag : Tag) (tildes : Tildes) : Type 0 where
-  pub begins : Beginning
+  pub begins : TagBeginning
   pub behind : Text
   pub is_beginning : beginning_of (slice ++ rest) ≡ Some begins
   pub left : begins.tilde ≡ tildes.left

@@ -2,7 +2,7 @@
 use Rattle.std.specs.Prelude.{◌≡◌, Bool, Some}
 use Rattle.handlebars_base.specs.Bytes.{Text}
 use Rattle.handlebars_lines.specs.Line.{value_name, Line, in_tag, IsLine}
-use Rattle.handlebars_tags.specs.Kind.{Kind, closing_of}
+use Rattle.handlebars_tags.specs.Kind.{TagKind, closing_of}
 use Rattle.handlebars_tags.specs.Tag.{Tag, BlockLine, IsBlockLine, Says}
 
 -- no line of a block stands in front
@@ -10,16 +10,16 @@ abbrev pub NoBlockLine : Text → Type 0
 NoBlockLine t = (line : BlockLine) (rest : Text) → IsBlockLine t line rest → ⊥
 
 -- What is inside a tag of this kind says so much, and is closed with a tilde or without, and the rest follows.
-pub record IsClosed (kind : Kind) (inside : Text) (tag : Tag) (right : Bool) (rest : Text) : Type 0 where
+pub record IsClosed (kind : TagKind) (inside : Text) (tag : Tag) (right : Bool) (rest : Text) : Type 0 where
   pub behind : Text
   pub says : Says kind inside tag behind
   pub closes : closing_of kind behind ≡ Some (right, rest)
 
 -- nothing is said there and closed
-abbrev pub NoneClosed : Kind → Text → Type 0
+abbrev pub NoneClosed : TagKind → Text → Type 0
 NoneClosed kind inside = (tag : Tag) (right : Bool) (rest : Text) → IsClosed kind inside tag right rest → ⊥
 
 -- no line of a value is there, or it isn't closed
-abbrev pub NoClosedLine : Kind → Text → Type 0
+abbrev pub NoClosedLine : TagKind → Text → Type 0
 NoClosedLine kind t = (line : Line) (behind : Text) (right : Bool) (rest : Text) →
     IsLine value_name in_tag t line behind → closing_of kind behind ≡ Some (right, rest) → ⊥

@@ -3,7 +3,7 @@ use Rattle.std.specs.Prelude.{◌≡◌, ℕ, true, ◌++◌, Some}
 use Rattle.handlebars_base.specs.Bytes.{Text}
 use Rattle.handlebars_lines.specs.Line.{value_name, Line, in_tag, IsLine}
 use Rattle.handlebars_lines.specs.BindingView.{binding_of}
-use Rattle.handlebars_tags.specs.Kind.{Kind, closing_of}
+use Rattle.handlebars_tags.specs.Kind.{TagKind, closing_of}
 use Rattle.handlebars_tags.specs.Tag.{BlockLine, IsBlockLine, Tag, expression_tag, html_tag, block_tag, inverse_tag, chain_tag, close_tag, raw_tag, raw_close_tag, comment_tag, tag_depth, IsTag}
 use Rattle.handlebars_tags.specs.TagReading.{IsClosed}
 use Rattle.handlebars_tags.specs.declared.tag.inside.BlockSlice.{BlockSlice}
@@ -52,21 +52,21 @@ pub record HasBlock (text : Text) (read : BlockRead) : Type 0 where
   pub deep : line.depth ≡ read.depth
 
 -- This closes a tag of the kind behind what it says, so deep.
-pub record HasClosing (kind : Kind) (behind : Text) (content : Content) (depth : ℕ) (read : Inside) : Type 0 where
+pub record HasClosing (kind : TagKind) (behind : Text) (content : Content) (depth : ℕ) (read : Inside) : Type 0 where
   pub closes : closing_of kind behind ≡ Some (read.right, read.rest.now)
   pub is_content : read.content ≡ content
   pub deep : read.depth ≡ depth
   pub ahead : read.long_ahead ≡ true
 
 -- A line of a tag stands in front, and is closed.
-pub record HasClosedLine (kind : Kind) (text : Text) (content : Content) (read : Inside) : Type 0 where
+pub record HasClosedLine (kind : TagKind) (text : Text) (content : Content) (read : Inside) : Type 0 where
   pub line : Line
   pub behind : Text
   pub is_line : IsLine value_name in_tag text line behind
   pub closing : HasClosing kind behind content line.depth read
 
 -- What stands inside a tag of this kind, and closes it, was read so.
-pub record HasInside (kind : Kind) (inside : Text) (read : Inside) : Type 0 where
+pub record HasInside (kind : TagKind) (inside : Text) (read : Inside) : Type 0 where
   pub tag : Tag
   pub is : IsClosed kind inside tag read.right read.rest.now
   pub deep : tag_depth tag ≡ read.depth

@@ -1,65 +1,65 @@
 -- At most one answer.
 use Rattle.std.proofs.Common.{◌≡◌, ℕ, List, [], ◌∷◌, refl, sym, ap, ◌∙◌}
-use Rattle.handlebars_template.specs.Nest.{BlockKind, Piece, Fault, not_closed, Placed, Branch, Test, syntax_alone, names_and_literals, Nests, nothing, a_leaf, a_block, Chains, no_more, a_branch, Turns, no_inverse, an_inverse, Frame, Opens, none_open, Refuses, LeavesOpen, left_open}
+use Rattle.handlebars_template.specs.Nest.{BlockKind, SourcePiece, NestFault, not_closed, Placed, Branch, Test, syntax_alone, names_and_literals, Nests, nothing, a_leaf, a_block, Chains, no_more, a_branch, Turns, no_inverse, an_inverse, OpenBlock, Opens, none_open, Refuses, LeavesOpen, left_open}
 use Rattle.handlebars_template.specs.Tree.{Body}
 use Rattle.handlebars_template.specs.Machine.{goes, stops}
 use Rattle.handlebars_template.proofs.NestsRuns.{Opens-run, Refuses-run}
 
 -- two states of the same pieces
-pub record AreSame (d e : ℕ) (fs gs : List Frame) (es hs : List Placed) : Type 0 where
+pub record AreSame (d e : ℕ) (fs gs : List OpenBlock) (es hs : List Placed) : Type 0 where
   pub depth : d ≡ e
   pub frames : fs ≡ gs
   pub elements : es ≡ hs
 
-goes-same : (d e : ℕ) (fs gs : List Frame) (es hs : List Placed) → goes d fs es ≡ goes e gs hs → AreSame d e fs gs es hs
+goes-same : (d e : ℕ) (fs gs : List OpenBlock) (es hs : List Placed) → goes d fs es ≡ goes e gs hs → AreSame d e fs gs es hs
 goes-same d e fs gs es hs is = record { depth = cc; frames = cc; elements = cc }
 
-stops-same : (f g : Fault) → stops f ≡ stops g → f ≡ g
+stops-same : (f g : NestFault) → stops f ≡ stops g → f ≡ g
 stops-same f g is = cc
 
-goes-stops : (d : ℕ) (fs : List Frame) (es : List Placed) (f : Fault) → goes d fs es ≡ stops f → ⊥
+goes-stops : (d : ℕ) (fs : List OpenBlock) (es : List Placed) (f : NestFault) → goes d fs es ≡ stops f → ⊥
 goes-stops d fs es f is = absurd cc
 
-pub Opens-one : {t : Test} {d e : ℕ} {ps : List Piece} {fs gs : List Frame} {es hs : List Placed} → Opens t d ps fs es → Opens t e ps gs hs → AreSame d e fs gs es hs
+pub Opens-one : {t : Test} {d e : ℕ} {ps : List SourcePiece} {fs gs : List OpenBlock} {es hs : List Placed} → Opens t d ps fs es → Opens t e ps gs hs → AreSame d e fs gs es hs
 Opens-one {d = d} {e = e} {fs = fs} {gs = gs} {es = es} {hs = hs} a b = goes-same d e fs gs es hs (sym (Opens-run a) ∙ Opens-run b)
 
-pub Opens-Refuses : {t : Test} {d : ℕ} {ps : List Piece} {fs : List Frame} {es : List Placed} {f : Fault} → Opens t d ps fs es → Refuses t ps f → ⊥
+pub Opens-Refuses : {t : Test} {d : ℕ} {ps : List SourcePiece} {fs : List OpenBlock} {es : List Placed} {f : NestFault} → Opens t d ps fs es → Refuses t ps f → ⊥
 Opens-Refuses {d = d} {fs = fs} {es = es} {f = f} a b = goes-stops d fs es f (sym (Opens-run a) ∙ Refuses-run b)
 
-pub Nests-one : {t : Test} {ps : List Piece} {es hs : List Placed} → Nests t 0 ps es → Nests t 0 ps hs → es ≡ hs
+pub Nests-one : {t : Test} {ps : List SourcePiece} {es hs : List Placed} → Nests t 0 ps es → Nests t 0 ps hs → es ≡ hs
 Nests-one a b = (Opens-one (none_open a) (none_open b)).elements
 
-pub Refuses-one : {t : Test} {ps : List Piece} {f g : Fault} → Refuses t ps f → Refuses t ps g → f ≡ g
+pub Refuses-one : {t : Test} {ps : List SourcePiece} {f g : NestFault} → Refuses t ps f → Refuses t ps g → f ≡ g
 Refuses-one {f = f} {g = g} a b = stops-same f g (sym (Refuses-run a) ∙ Refuses-run b)
 
-not_closed-same : (f g : Frame) (fs gs : List Frame) → (f ∷ fs) ≡ (g ∷ gs) → not_closed f.place ≡ not_closed g.place
-not_closed-same f g fs gs is = let same : f ≡ g = cc in ap (λ (z : Frame). not_closed z.place) same
+not_closed-same : (f g : OpenBlock) (fs gs : List OpenBlock) → (f ∷ fs) ≡ (g ∷ gs) → not_closed f.place ≡ not_closed g.place
+not_closed-same f g fs gs is = let same : f ≡ g = cc in ap (λ (z : OpenBlock). not_closed z.place) same
 
-pub LeavesOpen-one : {t : Test} {ps : List Piece} {f g : Fault} → LeavesOpen t ps f → LeavesOpen t ps g → f ≡ g
+pub LeavesOpen-one : {t : Test} {ps : List SourcePiece} {f g : NestFault} → LeavesOpen t ps f → LeavesOpen t ps g → f ≡ g
 LeavesOpen-one (left_open {f = f} {fs = fs} a) (left_open {f = g} {fs = gs} b) = not_closed-same f g fs gs (Opens-one a b).frames
 
-pub Nests-Refuses : {t : Test} {ps : List Piece} {es : List Placed} {f : Fault} → Nests t 0 ps es → Refuses t ps f → ⊥
+pub Nests-Refuses : {t : Test} {ps : List SourcePiece} {es : List Placed} {f : NestFault} → Nests t 0 ps es → Refuses t ps f → ⊥
 Nests-Refuses a b = Opens-Refuses (none_open a) b
 
-nil-cons : (f : Frame) (fs : List Frame) → [] ≡ (f ∷ fs) → ⊥
+nil-cons : (f : OpenBlock) (fs : List OpenBlock) → [] ≡ (f ∷ fs) → ⊥
 nil-cons f fs is = absurd cc
 
-pub Nests-LeavesOpen : {t : Test} {ps : List Piece} {es : List Placed} {f : Fault} → Nests t 0 ps es → LeavesOpen t ps f → ⊥
+pub Nests-LeavesOpen : {t : Test} {ps : List SourcePiece} {es : List Placed} {f : NestFault} → Nests t 0 ps es → LeavesOpen t ps f → ⊥
 Nests-LeavesOpen a (left_open {f = f} {fs = fs} b) = nil-cons f fs (Opens-one (none_open a) b).frames
 
 -- ---- what nests by its names and literals too nests by its syntax
 
 mutual
-  pub Nests-loose : {d : ℕ} {ps : List Piece} {es : List Placed} → Nests names_and_literals d ps es → Nests syntax_alone d ps es
+  pub Nests-loose : {d : ℕ} {ps : List SourcePiece} {es : List Placed} → Nests names_and_literals d ps es → Nests syntax_alone d ps es
   Nests-loose nothing = nothing
   Nests-loose (a_leaf p e n r fits fair h) = a_leaf p e n r fits refl (Nests-loose h)
   Nests-loose (a_block p q o n r raw m fits fair ends named nb ch la h) =
       a_block p q o n r raw m fits refl ends refl (Nests-loose nb) (Chains-loose ch) (Turns-loose la) (Nests-loose h)
 
-  Chains-loose : {k : BlockKind} {d e : ℕ} {cs : List Piece} {bs : List Branch} → Chains names_and_literals k d cs bs e → Chains syntax_alone k d cs bs e
+  Chains-loose : {k : BlockKind} {d e : ℕ} {cs : List SourcePiece} {bs : List Branch} → Chains names_and_literals k d cs bs e → Chains syntax_alone k d cs bs e
   Chains-loose no_more = no_more
   Chains-loose (a_branch p o n r may fits fair nb ch) = a_branch p o n r may fits refl (Nests-loose nb) (Chains-loose ch)
 
-  Turns-loose : {k : BlockKind} {d : ℕ} {ls : List Piece} {last : Body} → Turns names_and_literals k d ls last → Turns syntax_alone k d ls last
+  Turns-loose : {k : BlockKind} {d : ℕ} {ls : List SourcePiece} {last : Body} → Turns names_and_literals k d ls last → Turns syntax_alone k d ls last
   Turns-loose no_inverse = no_inverse
   Turns-loose (an_inverse p may nb) = an_inverse p may (Nests-loose nb)

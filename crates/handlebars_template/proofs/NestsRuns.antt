@@ -5,20 +5,20 @@ use Rattle.handlebars_base.specs.Bytes.{Text}
 use Rattle.handlebars_template.specs.Place.{Place}
 use Rattle.handlebars_template.specs.Tree.{Element, Body}
 use Rattle.handlebars_template.specs.Calls.{max_nesting}
-use Rattle.handlebars_template.specs.Nest.{may_end, Opening, Piece, leaf, opens, turns, chains, closes, Fault, Placed, Branch, block_of, Test, may_close, has_values, Nests, nothing, a_leaf, a_block, Chains, no_more, a_branch, Turns, no_inverse, an_inverse, Stage, in_first, in_branch, in_inverse, Frame, takes_inverse, Inside, in_its_body, in_a_branch, in_its_inverse, Opens, none_open, one_more, Refuses, refuses_at}
+use Rattle.handlebars_template.specs.Nest.{may_end, Opening, SourcePiece, leaf, opens, turns, chains, closes, NestFault, Placed, Branch, block_of, Test, may_close, has_values, Nests, nothing, a_leaf, a_block, Chains, no_more, a_branch, Turns, no_inverse, an_inverse, Stage, in_first, in_branch, in_inverse, OpenBlock, takes_inverse, Inside, in_its_body, in_a_branch, in_its_inverse, Opens, none_open, one_more, Refuses, refuses_at}
 use Rattle.handlebars_template.specs.Machine.{closed, next_stage, new_frame, Moved, goes, stops, behind_piece, unless_fault, apply}
 use Rattle.handlebars_template.proofs.NestsFits.{apply-moved_by, Fits, apply-fits, Fits-leaf, Fits-opens, Fits-turns, Fits-chains, Fits-closes, RefusesAt-fault}
 use Rattle.handlebars_template.proofs.NestsSteps.{Opens-shallow}
 
-abbrev go_on : Moved → (ℕ → List Frame → List Placed → Moved) → Moved
+abbrev go_on : Moved → (ℕ → List OpenBlock → List Placed → Moved) → Moved
 go_on (goes d fs es) k = k d fs es
 go_on (stops f) k = stops f
 
-abbrev pub run : Test → List Piece → ℕ → List Frame → List Placed → Moved
+abbrev pub run : Test → List SourcePiece → ℕ → List OpenBlock → List Placed → Moved
 run t [] d fs es = goes d fs es
 run t (x ∷ xs) d fs es = go_on (apply t x d fs es) (run t xs)
 
-abbrev frame : Place → Opening → ℕ → List Placed → List Branch → Stage → List Placed → Frame
+abbrev frame : Place → Opening → ℕ → List Placed → List Branch → Stage → List Placed → OpenBlock
 frame p o d first bs s out =
     record { place = p; opening = o; around = d; first = first; branches = bs; stage = s; outside = out }
 
@@ -27,49 +27,49 @@ branch g es = record { opening = g; elements = es }
 
 -- ---- one piece
 
-module _ (t : Test) (xs : List Piece) where
-  along : (ys : List Piece) (d : ℕ) (fs : List Frame) (es : List Placed) → xs ≡ ys → run t xs d fs es ≡ run t ys d fs es
-  along ys d fs es is = ap (λ (x : List Piece). run t x d fs es) is
+module _ (t : Test) (xs : List SourcePiece) where
+  along : (ys : List SourcePiece) (d : ℕ) (fs : List OpenBlock) (es : List Placed) → xs ≡ ys → run t xs d fs es ≡ run t ys d fs es
+  along ys d fs es is = ap (λ (x : List SourcePiece). run t x d fs es) is
 
   on : (m k : Moved) → m ≡ k → go_on m (run t xs) ≡ go_on k (run t xs)
   on m k is = ap (λ (z : Moved). go_on z (run t xs)) is
 
-  moves : (x : Piece) (d : ℕ) (fs : List Frame) (es : List Placed) → Fits t d fs x → run t (x ∷ xs) d fs es ≡ go_on (behind_piece x d fs es) (run t xs)
+  moves : (x : SourcePiece) (d : ℕ) (fs : List OpenBlock) (es : List Placed) → Fits t d fs x → run t (x ∷ xs) d fs es ≡ go_on (behind_piece x d fs es) (run t xs)
   moves x d fs es h = on (apply t x d fs es) (behind_piece x d fs es) (apply-fits t x d fs es h)
 
-  run-leaf : (p : Place) (e : Element) (n : ℕ) (r : Option Text) (d : ℕ) (fs : List Frame) (es : List Placed) → d + n ≤ max_nesting → has_values t r ≡ true
+  run-leaf : (p : Place) (e : Element) (n : ℕ) (r : Option Text) (d : ℕ) (fs : List OpenBlock) (es : List Placed) → d + n ≤ max_nesting → has_values t r ≡ true
       → run t (leaf p e n r ∷ xs) d fs es ≡ run t xs d fs (es ++ (record { place = p; element = e } ∷ []))
   run-leaf p e n r d fs es fits fair = moves (leaf p e n r) d fs es (Fits-leaf t d fs p e n r fits fair)
 
-  run-opens : (p : Place) (o : Opening) (n : ℕ) (r : Option Text) (d : ℕ) (fs : List Frame) (es : List Placed) → d + suc n ≤ max_nesting → has_values t r ≡ true
+  run-opens : (p : Place) (o : Opening) (n : ℕ) (r : Option Text) (d : ℕ) (fs : List OpenBlock) (es : List Placed) → d + suc n ≤ max_nesting → has_values t r ≡ true
       → run t (opens p o n r ∷ xs) d fs es ≡ run t xs (suc d) (new_frame p o d es ∷ fs) []
   run-opens p o n r d fs es fits fair = moves (opens p o n r) d fs es (Fits-opens t d fs p o n r fits fair)
 
-  run-turns : (p : Place) (d : ℕ) (f : Frame) (fs : List Frame) (es : List Placed) → takes_inverse f ≡ true
+  run-turns : (p : Place) (d : ℕ) (f : OpenBlock) (fs : List OpenBlock) (es : List Placed) → takes_inverse f ≡ true
       → run t (turns p ∷ xs) d (f ∷ fs) es ≡ run t xs d (next_stage f.stage f es in_inverse ∷ fs) []
   run-turns p d f fs es takes = moves (turns p) d (f ∷ fs) es (Fits-turns t d f fs p takes)
 
-  run-chains : (p : Place) (o : Opening) (n : ℕ) (r : Option Text) (d : ℕ) (f : Frame) (fs : List Frame) (es : List Placed) → takes_inverse f ≡ true → d + suc n ≤ max_nesting → has_values t r ≡ true
+  run-chains : (p : Place) (o : Opening) (n : ℕ) (r : Option Text) (d : ℕ) (f : OpenBlock) (fs : List OpenBlock) (es : List Placed) → takes_inverse f ≡ true → d + suc n ≤ max_nesting → has_values t r ≡ true
       → run t (chains p o n r ∷ xs) d (f ∷ fs) es ≡ run t xs (suc d) (next_stage f.stage f es (in_branch o) ∷ fs) []
   run-chains p o n r d f fs es takes fits fair = moves (chains p o n r) d (f ∷ fs) es (Fits-chains t d f fs p o n r takes fits fair)
 
-  run-closes : (p : Place) (raw : Bool) (m : Text) (d : ℕ) (f : Frame) (fs : List Frame) (es : List Placed) → may_end f.opening.kind raw m ≡ true → may_close t f.opening.closing m ≡ true
+  run-closes : (p : Place) (raw : Bool) (m : Text) (d : ℕ) (f : OpenBlock) (fs : List OpenBlock) (es : List Placed) → may_end f.opening.kind raw m ≡ true → may_close t f.opening.closing m ≡ true
       → run t (closes p raw m ∷ xs) d (f ∷ fs) es ≡ run t xs f.around fs (f.outside ++ (closed f es ∷ []))
   run-closes p raw m d f fs es ends named = moves (closes p raw m) d (f ∷ fs) es (Fits-closes t d f fs p raw m ends named)
 
 -- ---- behind a chain
 
 -- the machine with rest to go, after the chained inverses more and then all of a chain
-abbrev after_more : Test → List Piece → ℕ → Place → Opening → ℕ → List Placed → List Frame → List Placed → List Branch → Opening → List Placed → List Branch → Moved
+abbrev after_more : Test → List SourcePiece → ℕ → Place → Opening → ℕ → List Placed → List OpenBlock → List Placed → List Branch → Opening → List Placed → List Branch → Moved
 after_more t rest e p o d out fs first before g xs [] = run t rest e (frame p o d first before (in_branch g) out ∷ fs) xs
 after_more t rest e p o d out fs first before g xs (b ∷ more) = after_more t rest e p o d out fs first (before ++ (branch g xs ∷ [])) b.opening b.elements more
 
-abbrev after_chain : Test → List Piece → ℕ → Place → Opening → ℕ → List Placed → List Frame → List Placed → List Branch → Moved
+abbrev after_chain : Test → List SourcePiece → ℕ → Place → Opening → ℕ → List Placed → List OpenBlock → List Placed → List Branch → Moved
 after_chain t rest e p o d out fs first [] = run t rest e (frame p o d [] [] in_first out ∷ fs) first
 after_chain t rest e p o d out fs first (b ∷ more) = after_more t rest e p o d out fs first [] b.opening b.elements more
 
 -- what holds at each stage holds after any chain
-module _ (t : Test) (rest : List Piece) (e : ℕ) (p : Place) (o : Opening) (d : ℕ) (out : List Placed) (fs : List Frame) (first : List Placed) (goal : List Branch → Moved)
+module _ (t : Test) (rest : List SourcePiece) (e : ℕ) (p : Place) (o : Opening) (d : ℕ) (out : List Placed) (fs : List OpenBlock) (first : List Placed) (goal : List Branch → Moved)
     (each : (before : List Branch) (g : Opening) (xs : List Placed) → run t rest e (frame p o d first before (in_branch g) out ∷ fs) xs ≡ goal (before ++ (branch g xs ∷ []))) where
   at_more : (before : List Branch) (g : Opening) (xs : List Placed) (more : List Branch) → after_more t rest e p o d out fs first before g xs more ≡ goal (before ++ (branch g xs ∷ more))
   at_more before g xs [] = each before g xs
@@ -79,11 +79,11 @@ module _ (t : Test) (rest : List Piece) (e : ℕ) (p : Place) (o : Opening) (d :
   at_chain none [] = none
   at_chain none (b ∷ more) = at_more [] b.opening b.elements more
 
-abbrev whole : Test → List Piece → Place → Opening → ℕ → List Placed → List Frame → List Placed → Body → List Branch → Moved
+abbrev whole : Test → List SourcePiece → Place → Opening → ℕ → List Placed → List OpenBlock → List Placed → Body → List Branch → Moved
 whole t rest p o d out fs first last bs = run t rest d fs (out ++ (record { place = p; element = block_of o first bs last } ∷ []))
 
 mutual
-  Nests-run : {t : Test} {d : ℕ} {ps : List Piece} {es : List Placed} → Nests t d ps es → (rest : List Piece) (fs : List Frame) (out : List Placed)
+  Nests-run : {t : Test} {d : ℕ} {ps : List SourcePiece} {es : List Placed} → Nests t d ps es → (rest : List SourcePiece) (fs : List OpenBlock) (out : List Placed)
       → run t (ps ++ rest) d fs out ≡ run t rest d fs (out ++ es)
   Nests-run {t} {d} nothing rest fs out = ap (run t rest d fs) (sym (append-nil out))
   Nests-run {t} {d} (a_leaf {ps = ps} {es = es} p e n r fits fair h) rest fs out =
@@ -99,7 +99,7 @@ mutual
       ∙ Nests-run h rest fs (out ++ (record { place = p; element = block_of o first brs last } ∷ []))
       ∙ ap (run t rest d fs) (append_assoc out (record { place = p; element = block_of o first brs last } ∷ []) es)
 
-  Chains-run : {t : Test} {c e : ℕ} {cs : List Piece} {brs : List Branch} (o : Opening) → Chains t o.kind c cs brs e → (rest : List Piece) (p : Place) (d : ℕ) (out : List Placed) (fs : List Frame) (first : List Placed)
+  Chains-run : {t : Test} {c e : ℕ} {cs : List SourcePiece} {brs : List Branch} (o : Opening) → Chains t o.kind c cs brs e → (rest : List SourcePiece) (p : Place) (d : ℕ) (out : List Placed) (fs : List OpenBlock) (first : List Placed)
       → run t (cs ++ rest) c (frame p o d [] [] in_first out ∷ fs) first ≡ after_chain t rest e p o d out fs first brs
   Chains-run o no_more rest p d out fs first = refl
   Chains-run {t} {c} o (a_branch {bs = bs} {cs = cs} {es = xs} q g n r may fits fair nb ch) rest p d out fs first =
@@ -108,7 +108,7 @@ mutual
       ∙ Nests-run nb (cs ++ rest) (frame p o d first [] (in_branch g) out ∷ fs) []
       ∙ Chains-run-more o ch rest p d out fs first [] g xs
 
-  Chains-run-more : {t : Test} {c e : ℕ} {cs : List Piece} {more : List Branch} (o : Opening) → Chains t o.kind c cs more e → (rest : List Piece) (p : Place) (d : ℕ) (out : List Placed) (fs : List Frame) (first : List Placed) (before : List Branch) (g : Opening) (es : List Placed)
+  Chains-run-more : {t : Test} {c e : ℕ} {cs : List SourcePiece} {more : List Branch} (o : Opening) → Chains t o.kind c cs more e → (rest : List SourcePiece) (p : Place) (d : ℕ) (out : List Placed) (fs : List OpenBlock) (first : List Placed) (before : List Branch) (g : Opening) (es : List Placed)
       → run t (cs ++ rest) c (frame p o d first before (in_branch g) out ∷ fs) es ≡ after_more t rest e p o d out fs first before g es more
   Chains-run-more o no_more rest p d out fs first before g es = refl
   Chains-run-more {t} {c} o (a_branch {bs = bs} {cs = cs} {es = xs} q k n r may fits fair nb ch) rest p d out fs first before g es =
@@ -117,16 +117,16 @@ mutual
       ∙ Nests-run nb (cs ++ rest) (frame p o d first (before ++ (branch g es ∷ [])) (in_branch k) out ∷ fs) []
       ∙ Chains-run-more o ch rest p d out fs first (before ++ (branch g es ∷ [])) k xs
 
-  Turns-run-first : {t : Test} {e : ℕ} {ls : List Piece} {last : Body} (o : Opening) → Turns t o.kind e ls last → (raw : Bool) (m : Text) (q p : Place) → may_end o.kind raw m ≡ true → may_close t o.closing m ≡ true
-      → (d : ℕ) (out : List Placed) (fs : List Frame) (first : List Placed) (rest : List Piece)
+  Turns-run-first : {t : Test} {e : ℕ} {ls : List SourcePiece} {last : Body} (o : Opening) → Turns t o.kind e ls last → (raw : Bool) (m : Text) (q p : Place) → may_end o.kind raw m ≡ true → may_close t o.closing m ≡ true
+      → (d : ℕ) (out : List Placed) (fs : List OpenBlock) (first : List Placed) (rest : List SourcePiece)
       → run t (ls ++ (closes q raw m ∷ rest)) e (frame p o d [] [] in_first out ∷ fs) first ≡ whole t rest p o d out fs first last []
   Turns-run-first {t} {e} o no_inverse raw m q p ends named d out fs first rest = run-closes t rest q raw m e (frame p o d [] [] in_first out) fs first ends named
   Turns-run-first {t} {e} o (an_inverse {bs = bs} {es = es} r may nb) raw m q p ends named d out fs first rest =
       run-turns t (bs ++ (closes q raw m ∷ rest)) r e (frame p o d [] [] in_first out) fs first may
       ∙ Nests-run nb (closes q raw m ∷ rest) (frame p o d first [] in_inverse out ∷ fs) [] ∙ run-closes t rest q raw m e (frame p o d first [] in_inverse out) fs es ends named
 
-  Turns-run-branch : {t : Test} {e : ℕ} {ls : List Piece} {last : Body} (o : Opening) → Turns t o.kind e ls last → (raw : Bool) (m : Text) (q p : Place) → may_end o.kind raw m ≡ true → may_close t o.closing m ≡ true
-      → (d : ℕ) (out : List Placed) (fs : List Frame) (first : List Placed) (before : List Branch) (g : Opening) (es : List Placed) (rest : List Piece)
+  Turns-run-branch : {t : Test} {e : ℕ} {ls : List SourcePiece} {last : Body} (o : Opening) → Turns t o.kind e ls last → (raw : Bool) (m : Text) (q p : Place) → may_end o.kind raw m ≡ true → may_close t o.closing m ≡ true
+      → (d : ℕ) (out : List Placed) (fs : List OpenBlock) (first : List Placed) (before : List Branch) (g : Opening) (es : List Placed) (rest : List SourcePiece)
       → run t (ls ++ (closes q raw m ∷ rest)) e (frame p o d first before (in_branch g) out ∷ fs) es ≡ whole t rest p o d out fs first last (before ++ (branch g es ∷ []))
   Turns-run-branch {t} {e} o no_inverse raw m q p ends named d out fs first before g es rest = run-closes t rest q raw m e (frame p o d first before (in_branch g) out) fs es ends named
   Turns-run-branch {t} {e} o (an_inverse {bs = bs} {es = xs} r may nb) raw m q p ends named d out fs first before g es rest =
@@ -136,7 +136,7 @@ mutual
 
 -- ---- a block that is open
 
-Inside-run : {t : Test} {f : Frame} {qs : List Piece} {d : ℕ} {es : List Placed} → Inside t f qs d es → (rest : List Piece) (fs : List Frame)
+Inside-run : {t : Test} {f : OpenBlock} {qs : List SourcePiece} {d : ℕ} {es : List Placed} → Inside t f qs d es → (rest : List SourcePiece) (fs : List OpenBlock)
     → run t (qs ++ rest) f.around fs f.outside ≡ run t rest d (f ∷ fs) es
 Inside-run {t} (in_its_body {o = o} {bs = bs} {out = out} p x n r fits fair nb) rest fs =
     run-opens t (bs ++ rest) p x n r o fs out fits fair ∙ Nests-run nb rest (frame p x o [] [] in_first out ∷ fs) []
@@ -157,16 +157,16 @@ Inside-run {t} (in_its_inverse {o = o} {d = c} {bs = bs} {cs = cs} {gs = gs} {fi
     (λ before j xs. run-turns t (gs ++ rest) q c (frame p x o first before (in_branch j) out) fs xs may) (run-turns t (gs ++ rest) q c (frame p x o [] [] in_first out) fs first may) brs
     ∙ Nests-run ng rest (frame p x o first brs in_inverse out ∷ fs) []
 
-Opens-run-on : {t : Test} {d : ℕ} {ps : List Piece} {fs : List Frame} {es : List Placed} → Opens t d ps fs es → (rest : List Piece) → run t (ps ++ rest) 0 [] [] ≡ run t rest d fs es
+Opens-run-on : {t : Test} {d : ℕ} {ps : List SourcePiece} {fs : List OpenBlock} {es : List Placed} → Opens t d ps fs es → (rest : List SourcePiece) → run t (ps ++ rest) 0 [] [] ≡ run t rest d fs es
 Opens-run-on {t} (none_open h) rest = Nests-run h rest [] []
 Opens-run-on {t} (one_more {f = f} {ps = ps} {qs = qs} {fs = fs} o i) rest =
     along t ((ps ++ qs) ++ rest) (ps ++ (qs ++ rest)) 0 [] [] (append_assoc ps qs rest) ∙ Opens-run-on o (qs ++ rest) ∙ Inside-run i rest fs
 
-pub Opens-run : {t : Test} {d : ℕ} {ps : List Piece} {fs : List Frame} {es : List Placed} → Opens t d ps fs es → run t ps 0 [] [] ≡ goes d fs es
+pub Opens-run : {t : Test} {d : ℕ} {ps : List SourcePiece} {fs : List OpenBlock} {es : List Placed} → Opens t d ps fs es → run t ps 0 [] [] ≡ goes d fs es
 Opens-run {t} {ps = ps} o = along t ps (ps ++ []) 0 [] [] (sym (append-nil ps)) ∙ Opens-run-on o []
 
 -- ---- refusals
 
-pub Refuses-run : {t : Test} {ps : List Piece} {f : Fault} → Refuses t ps f → run t ps 0 [] [] ≡ stops f
+pub Refuses-run : {t : Test} {ps : List SourcePiece} {f : NestFault} → Refuses t ps f → run t ps 0 [] [] ≡ stops f
 Refuses-run {t} {f = f} (refuses_at {d = d} {fs = fs} {es = es} {x = x} rest o bad) =
-    Opens-run-on o (x ∷ rest) ∙ on t rest (apply t x d fs es) (stops f) (apply-moved_by t x d fs es ∙ ap (λ (z : Option Fault). unless_fault z (behind_piece x d fs es)) (RefusesAt-fault (Opens-shallow o) bad))
+    Opens-run-on o (x ∷ rest) ∙ on t rest (apply t x d fs es) (stops f) (apply-moved_by t x d fs es ∙ ap (λ (z : Option NestFault). unless_fault z (behind_piece x d fs es)) (RefusesAt-fault (Opens-shallow o) bad))

@@ -6,68 +6,68 @@ use borrow.Author.Tests.{ltb-false}
 use Rattle.handlebars_base.specs.Bytes.{Text}
 use Rattle.handlebars_template.specs.Place.{Place}
 use Rattle.handlebars_template.specs.Calls.{max_nesting}
-use Rattle.handlebars_template.specs.Nest.{BlockKind, admits_inverse, may_end, Opening, Piece, leaf, opens, turns, chains, closes, Fault, Placed, Branch, Test, may_close, has_values, Nests, nothing, a_leaf, a_block, Chains, no_more, a_branch, no_inverse, an_inverse, Frame, takes_inverse, Inside, in_its_body, in_a_branch, in_its_inverse, Opens, none_open, one_more, RefusesAt, Refuses, refuses_at}
+use Rattle.handlebars_template.specs.Nest.{BlockKind, admits_inverse, may_end, Opening, SourcePiece, leaf, opens, turns, chains, closes, NestFault, Placed, Branch, Test, may_close, has_values, Nests, nothing, a_leaf, a_block, Chains, no_more, a_branch, no_inverse, an_inverse, OpenBlock, takes_inverse, Inside, in_its_body, in_a_branch, in_its_inverse, Opens, none_open, one_more, RefusesAt, Refuses, refuses_at}
 use Rattle.handlebars_template.specs.Machine.{closed, Moved, goes, stops, behind_piece, fault_in, unless_fault, apply}
 use Rattle.handlebars_template.proofs.NestsFits.{apply-moved_by, Fits, fault_in-none, leaf-values, opens-values, chains-values, closes-name, fault-RefusesAt}
 
 -- ---- along an equation
 
-nests_at : {t : Test} {d : ℕ} {ps qs : List Piece} {es xs : List Placed} → Nests t d ps es → ps ≡ qs → es ≡ xs → Nests t d qs xs
+nests_at : {t : Test} {d : ℕ} {ps qs : List SourcePiece} {es xs : List Placed} → Nests t d ps es → ps ≡ qs → es ≡ xs → Nests t d qs xs
 nests_at {t} {d} {ps} {qs} {es} {xs} h e f =
-    subst (λ (x : List Placed). Nests t d qs x) f (subst (λ (x : List Piece). Nests t d x es) e h)
+    subst (λ (x : List Placed). Nests t d qs x) f (subst (λ (x : List SourcePiece). Nests t d x es) e h)
 
-chains_at : {t : Test} {k : BlockKind} {d e : ℕ} {ps qs : List Piece} {bs : List Branch} → Chains t k d ps bs e → ps ≡ qs → Chains t k d qs bs e
-chains_at {t} {k} {d} {e} {ps} {qs} {bs} h is = subst (λ (x : List Piece). Chains t k d x bs e) is h
+chains_at : {t : Test} {k : BlockKind} {d e : ℕ} {ps qs : List SourcePiece} {bs : List Branch} → Chains t k d ps bs e → ps ≡ qs → Chains t k d qs bs e
+chains_at {t} {k} {d} {e} {ps} {qs} {bs} h is = subst (λ (x : List SourcePiece). Chains t k d x bs e) is h
 
-inside_at : {t : Test} {f : Frame} {ps qs : List Piece} {d : ℕ} {es : List Placed} → Inside t f ps d es → ps ≡ qs → Inside t f qs d es
-inside_at {t} {f} {ps} {qs} {d} {es} h is = subst (λ (x : List Piece). Inside t f x d es) is h
+inside_at : {t : Test} {f : OpenBlock} {ps qs : List SourcePiece} {d : ℕ} {es : List Placed} → Inside t f ps d es → ps ≡ qs → Inside t f qs d es
+inside_at {t} {f} {ps} {qs} {d} {es} h is = subst (λ (x : List SourcePiece). Inside t f x d es) is h
 
-opens_at : {t : Test} {d : ℕ} {ps qs : List Piece} {fs : List Frame} {es : List Placed} → Opens t d ps fs es → ps ≡ qs → Opens t d qs fs es
-opens_at {t} {d} {ps} {qs} {fs} {es} h is = subst (λ (x : List Piece). Opens t d x fs es) is h
+opens_at : {t : Test} {d : ℕ} {ps qs : List SourcePiece} {fs : List OpenBlock} {es : List Placed} → Opens t d ps fs es → ps ≡ qs → Opens t d qs fs es
+opens_at {t} {d} {ps} {qs} {fs} {es} h is = subst (λ (x : List SourcePiece). Opens t d x fs es) is h
 
 -- ---- no more than the limit is open
 
-Chains-shallow : {t : Test} {k : BlockKind} {d e : ℕ} {cs : List Piece} {bs : List Branch} → Chains t k d cs bs e → d ≤ max_nesting → e ≤ max_nesting
+Chains-shallow : {t : Test} {k : BlockKind} {d e : ℕ} {cs : List SourcePiece} {bs : List Branch} → Chains t k d cs bs e → d ≤ max_nesting → e ≤ max_nesting
 Chains-shallow no_more le = le
 Chains-shallow (a_branch p o n r may fits fair nb ch) le = Chains-shallow ch (omega (arith, fits))
 
-Inside-shallow : {t : Test} {f : Frame} {qs : List Piece} {d : ℕ} {es : List Placed} → Inside t f qs d es → d ≤ max_nesting
+Inside-shallow : {t : Test} {f : OpenBlock} {qs : List SourcePiece} {d : ℕ} {es : List Placed} → Inside t f qs d es → d ≤ max_nesting
 Inside-shallow (in_its_body p x n r fits fair nb) = omega (arith, fits)
 Inside-shallow (in_a_branch p q x g n k r u fits fair nb ch may fits' fair' ng) = omega (arith, fits')
 Inside-shallow (in_its_inverse p q x n r fits fair nb ch may ng) = Chains-shallow ch (omega (arith, fits))
 
-pub Opens-shallow : {t : Test} {d : ℕ} {ps : List Piece} {fs : List Frame} {es : List Placed} → Opens t d ps fs es → d ≤ max_nesting
+pub Opens-shallow : {t : Test} {d : ℕ} {ps : List SourcePiece} {fs : List OpenBlock} {es : List Placed} → Opens t d ps fs es → d ≤ max_nesting
 Opens-shallow (none_open h) = omega arith
 Opens-shallow (one_more o i) = Inside-shallow i
 
 -- ---- more at the end
 
-Nests-append : {t : Test} {d : ℕ} {ps qs : List Piece} {es xs : List Placed} → Nests t d ps es → Nests t d qs xs → Nests t d (ps ++ qs) (es ++ xs)
+Nests-append : {t : Test} {d : ℕ} {ps qs : List SourcePiece} {es xs : List Placed} → Nests t d ps es → Nests t d qs xs → Nests t d (ps ++ qs) (es ++ xs)
 Nests-append nothing m = m
 Nests-append (a_leaf p e n r fits fair h) m = a_leaf p e n r fits fair (Nests-append h m)
 Nests-append (a_block p q o n r raw k fits fair ends named nb ch la h) m =
     nests_at (a_block p q o n r raw k fits fair ends named nb ch la (Nests-append h m)) (sym (simp append_assoc)) refl
 
-Chains-append : {t : Test} {k : BlockKind} {d e : ℕ} {cs gs : List Piece} {es : List Placed} {bs : List Branch}
+Chains-append : {t : Test} {k : BlockKind} {d e : ℕ} {cs gs : List SourcePiece} {es : List Placed} {bs : List Branch}
     → (q : Place) (g : Opening) (n : ℕ) (r : Option Text) → Chains t k d cs bs e → admits_inverse k ≡ true → e + suc n ≤ max_nesting → has_values t r ≡ true → Nests t (suc e) gs es
     → Chains t k d (cs ++ (chains q g n r ∷ gs)) (bs ++ (record { opening = g; elements = es } ∷ [])) (suc e)
 Chains-append q g n r no_more may fits fair m = chains_at (a_branch q g n r may fits fair m no_more) (simp append-nil)
 Chains-append q g n r (a_branch p o j u may' fits' fair' nb ch) may fits fair m =
     chains_at (a_branch p o j u may' fits' fair' nb (Chains-append q g n r ch may fits fair m)) (sym (simp append_assoc))
 
-Inside-append : {t : Test} {f : Frame} {qs xs : List Piece} {d : ℕ} {es ys : List Placed} → Inside t f qs d es → Nests t d xs ys → Inside t f (qs ++ xs) d (es ++ ys)
+Inside-append : {t : Test} {f : OpenBlock} {qs xs : List SourcePiece} {d : ℕ} {es ys : List Placed} → Inside t f qs d es → Nests t d xs ys → Inside t f (qs ++ xs) d (es ++ ys)
 Inside-append (in_its_body p x n r fits fair nb) m = in_its_body p x n r fits fair (Nests-append nb m)
 Inside-append (in_a_branch p q x g n k r u fits fair nb ch may fits' fair' ng) m =
     inside_at (in_a_branch p q x g n k r u fits fair nb ch may fits' fair' (Nests-append ng m)) (sym (simp append_assoc))
 Inside-append (in_its_inverse p q x n r fits fair nb ch may ng) m =
     inside_at (in_its_inverse p q x n r fits fair nb ch may (Nests-append ng m)) (sym (simp append_assoc))
 
-Opens-append : {t : Test} {d : ℕ} {ps xs : List Piece} {fs : List Frame} {es ys : List Placed} → Opens t d ps fs es → Nests t d xs ys → Opens t d (ps ++ xs) fs (es ++ ys)
+Opens-append : {t : Test} {d : ℕ} {ps xs : List SourcePiece} {fs : List OpenBlock} {es ys : List Placed} → Opens t d ps fs es → Nests t d xs ys → Opens t d (ps ++ xs) fs (es ++ ys)
 Opens-append (none_open h) m = none_open (Nests-append h m)
 Opens-append (one_more o i) m = opens_at (one_more o (Inside-append i m)) (sym (simp append_assoc))
 
 -- a close makes a whole block
-Inside-closed : {t : Test} {f : Frame} {qs : List Piece} {d : ℕ} {es : List Placed} → (q : Place) (raw : Bool) (m : Text) → may_end f.opening.kind raw m ≡ true → may_close t f.opening.closing m ≡ true
+Inside-closed : {t : Test} {f : OpenBlock} {qs : List SourcePiece} {d : ℕ} {es : List Placed} → (q : Place) (raw : Bool) (m : Text) → may_end f.opening.kind raw m ≡ true → may_close t f.opening.closing m ≡ true
     → Inside t f qs d es → Nests t f.around (qs ++ (closes q raw m ∷ [])) (closed f es ∷ [])
 Inside-closed q raw m ends named (in_its_body p x n r fits fair nb) = a_block p q x n r raw m fits fair ends named nb no_more no_inverse nothing
 Inside-closed q raw m ends named (in_a_branch p q' x g n k r u fits fair nb ch may fits' fair' ng) =
@@ -78,18 +78,18 @@ Inside-closed q raw m ends named (in_its_inverse p q' x n r fits fair nb ch may 
 -- ---- one piece that may stand
 
 -- what stands behind it, in the relation
-abbrev Leaves : Test → List Piece → Moved → Type 0
+abbrev Leaves : Test → List SourcePiece → Moved → Type 0
 Leaves t ps (goes d fs es) = Opens t d ps fs es
 Leaves t ps (stops f) = ⊥
 
-Leaves-turns : {t : Test} {d : ℕ} {ps qs : List Piece} {f : Frame} {fs : List Frame} {es : List Placed} → (q : Place) → takes_inverse f ≡ true
+Leaves-turns : {t : Test} {d : ℕ} {ps qs : List SourcePiece} {f : OpenBlock} {fs : List OpenBlock} {es : List Placed} → (q : Place) → takes_inverse f ≡ true
     → Opens t f.around ps fs f.outside → Inside t f qs d es → Leaves t ((ps ++ qs) ++ (turns q ∷ [])) (behind_piece (turns q) d (f ∷ fs) es)
 Leaves-turns q takes o (in_its_body p x n r fits fair nb) = opens_at (one_more o (in_its_inverse p q x n r fits fair nb no_more takes nothing)) (sym (simp append_assoc))
 Leaves-turns q takes o (in_a_branch p q' x g n k r u fits fair nb ch may fits' fair' ng) =
     opens_at (one_more o (in_its_inverse p q x n r fits fair nb (Chains-append q' g k u ch may fits' fair' ng) takes nothing)) (sym (simp append_assoc))
 Leaves-turns q takes o (in_its_inverse p q' x n r fits fair nb ch may ng) = absurd (false≢true takes)
 
-Leaves-chains : {t : Test} {d : ℕ} {ps qs : List Piece} {f : Frame} {fs : List Frame} {es : List Placed} → (q : Place) (g : Opening) (k : ℕ) (u : Option Text)
+Leaves-chains : {t : Test} {d : ℕ} {ps qs : List SourcePiece} {f : OpenBlock} {fs : List OpenBlock} {es : List Placed} → (q : Place) (g : Opening) (k : ℕ) (u : Option Text)
     → takes_inverse f ≡ true → d + suc k ≤ max_nesting → has_values t u ≡ true
     → Opens t f.around ps fs f.outside → Inside t f qs d es → Leaves t ((ps ++ qs) ++ (chains q g k u ∷ [])) (behind_piece (chains q g k u) d (f ∷ fs) es)
 Leaves-chains q g k u takes deep worth o (in_its_body p x n r fits fair nb) =
@@ -98,7 +98,7 @@ Leaves-chains q g k u takes deep worth o (in_a_branch p q' x g' n k' r u' fits f
     opens_at (one_more o (in_a_branch p q x g n k r u fits fair nb (Chains-append q' g' k' u' ch may fits' fair' ng) takes deep worth nothing)) (sym (simp append_assoc))
 Leaves-chains q g k u takes deep worth o (in_its_inverse p q' x n r fits fair nb ch may ng) = absurd (false≢true takes)
 
-leaves : {t : Test} {d : ℕ} {ps : List Piece} {fs : List Frame} {es : List Placed} → (x : Piece) → Fits t d fs x → Opens t d ps fs es → Leaves t (ps ++ (x ∷ [])) (behind_piece x d fs es)
+leaves : {t : Test} {d : ℕ} {ps : List SourcePiece} {fs : List OpenBlock} {es : List Placed} → (x : SourcePiece) → Fits t d fs x → Opens t d ps fs es → Leaves t (ps ++ (x ∷ [])) (behind_piece x d fs es)
 leaves {t} {d} {fs = fs} (leaf p e n r) h o = Opens-append o (a_leaf p e n r (ltb-false _ _ h.shallow) (leaf-values t d fs p e n r h) nothing)
 leaves {t} {d} {fs = fs} (opens p x n r) h o = one_more o (in_its_body p x n r (ltb-false _ _ h.shallow) (opens-values t d fs p x n r h) nothing)
 leaves {fs = []} (turns p) h o = absurd (false≢true h.stands)
@@ -111,28 +111,28 @@ leaves {t} {d} {fs = f ∷ fs} (closes p raw m) h (one_more o i) =
 
 -- ---- a step
 
-Opens-by : {t : Test} {d e : ℕ} {ps : List Piece} {fs gs : List Frame} {es hs : List Placed} → (x : Piece) (r : Option Fault) → fault_in t d fs x ≡ r
+Opens-by : {t : Test} {d e : ℕ} {ps : List SourcePiece} {fs gs : List OpenBlock} {es hs : List Placed} → (x : SourcePiece) (r : Option NestFault) → fault_in t d fs x ≡ r
     → Opens t d ps fs es → unless_fault r (behind_piece x d fs es) ≡ goes e gs hs → Opens t e (ps ++ (x ∷ [])) gs hs
 Opens-by {t} {d} {ps = ps} {fs = fs} x None none o is = subst (Leaves t (ps ++ (x ∷ []))) is (leaves x (fault_in-none t d fs x none) o)
 Opens-by x (Some f) some o is = absurd cc
 
-pub Opens-step : {t : Test} {d e : ℕ} {ps : List Piece} {fs gs : List Frame} {es hs : List Placed} → (x : Piece)
+pub Opens-step : {t : Test} {d e : ℕ} {ps : List SourcePiece} {fs gs : List OpenBlock} {es hs : List Placed} → (x : SourcePiece)
     → Opens t d ps fs es → apply t x d fs es ≡ goes e gs hs → Opens t e (ps ++ (x ∷ [])) gs hs
 Opens-step {t} {d} {fs = fs} x o is = Opens-by x (fault_in t d fs x) refl o (sym (apply-moved_by t x d fs _) ∙ is)
 
-RefusesAt-by : {t : Test} {d : ℕ} {ps : List Piece} {fs : List Frame} {es : List Placed} {f : Fault} → (x : Piece) (r : Option Fault) → fault_in t d fs x ≡ r
+RefusesAt-by : {t : Test} {d : ℕ} {ps : List SourcePiece} {fs : List OpenBlock} {es : List Placed} {f : NestFault} → (x : SourcePiece) (r : Option NestFault) → fault_in t d fs x ≡ r
     → Opens t d ps fs es → unless_fault r (behind_piece x d fs es) ≡ stops f → RefusesAt t d fs x f
 RefusesAt-by {t} {d} {ps} {fs} x None none o is = absurd (subst (Leaves t (ps ++ (x ∷ []))) is (leaves x (fault_in-none t d fs x none) o))
 RefusesAt-by {t} {d} {fs = fs} {f = f} x (Some g) some o is = subst (RefusesAt t d fs x) (stops-same g f is) (fault-RefusesAt t d fs x g (Opens-shallow o) some)
   where
-    stops-same : (g f : Fault) → stops g ≡ stops f → g ≡ f
+    stops-same : (g f : NestFault) → stops g ≡ stops f → g ≡ f
     stops-same g f is = cc
 
-pub Refuses-step : {t : Test} {d : ℕ} {ps : List Piece} {fs : List Frame} {es : List Placed} {f : Fault} → (x : Piece) (rest : List Piece)
+pub Refuses-step : {t : Test} {d : ℕ} {ps : List SourcePiece} {fs : List OpenBlock} {es : List Placed} {f : NestFault} → (x : SourcePiece) (rest : List SourcePiece)
     → Opens t d ps fs es → apply t x d fs es ≡ stops f → Refuses t (ps ++ (x ∷ rest)) f
 Refuses-step {t} {d} {fs = fs} x rest o is = refuses_at rest o (RefusesAt-by x (fault_in t d fs x) refl o (sym (apply-moved_by t x d fs _) ∙ is))
 
 -- A fault stays, whatever follows.
-pub Refuses-append : {t : Test} {ps : List Piece} {f : Fault} → (more : List Piece) → Refuses t ps f → Refuses t (ps ++ more) f
+pub Refuses-append : {t : Test} {ps : List SourcePiece} {f : NestFault} → (more : List SourcePiece) → Refuses t ps f → Refuses t (ps ++ more) f
 Refuses-append {t} {f = f} more (refuses_at {ps = ps} {x = x} rest o bad) =
-    subst (λ (z : List Piece). Refuses t z f) (sym (append_assoc ps (x ∷ rest) more)) (refuses_at (rest ++ more) o bad)
+    subst (λ (z : List SourcePiece). Refuses t z f) (sym (append_assoc ps (x ∷ rest) more)) (refuses_at (rest ++ more) o bad)

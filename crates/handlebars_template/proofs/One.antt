@@ -9,7 +9,7 @@ use Rattle.handlebars_tags.specs.Trim.{Edge, no_edge, braces_behind}
 use Rattle.handlebars_tags.proofs.Runs.{braces-none}
 use Rattle.handlebars_tags.specs.Options.{Options}
 use Rattle.handlebars_template.specs.Place.{Place, place}
-use Rattle.handlebars_template.specs.Nest.{Piece, Fault, Placed, syntax_alone, names_and_literals, Nests, Refuses, LeavesOpen, left_open as still_open}
+use Rattle.handlebars_template.specs.Nest.{SourcePiece, NestFault, Placed, syntax_alone, names_and_literals, Nests, Refuses, LeavesOpen, left_open as still_open}
 use Rattle.handlebars_template.specs.Cut.{Slice, text_slice, Reads, IsCut}
 use Rattle.handlebars_template.specs.Compile.{pieces_in, tree_of, unreadable_tag, refusal_for, IsUnreadable, Compilation, compiled, refused, Compiles, whole, no_tag, misplaced, left_open, late, OneCompilation}
 use Rattle.handlebars_template.proofs.NestsSteps.{Refuses-append}
@@ -18,34 +18,34 @@ use Rattle.handlebars_template.proofs.Cuts.{count, one_beginning, back, Ends, no
 
 -- ---- the pieces of slices
 
-refuses_more : (options : Options) (f : Fault) (ps more : List Slice) → Refuses syntax_alone (pieces_in options ps) f → Refuses syntax_alone (pieces_in options (ps ++ more)) f
-refuses_more options f ps more h = subst (λ (z : List Piece). Refuses syntax_alone z f) (sym (pieces_in-append options ps more)) (Refuses-append (pieces_in options more) h)
+refuses_more : (options : Options) (f : NestFault) (ps more : List Slice) → Refuses syntax_alone (pieces_in options ps) f → Refuses syntax_alone (pieces_in options (ps ++ more)) f
+refuses_more options f ps more h = subst (λ (z : List SourcePiece). Refuses syntax_alone z f) (sym (pieces_in-append options ps more)) (Refuses-append (pieces_in options more) h)
 
 -- ---- what a whole source answers
 
 -- what the pieces of a whole source say
-data Verdict (options : Options) (ps : List Piece) : Compilation → Type 0 where
+data Verdict (options : Options) (ps : List SourcePiece) : Compilation → Type 0 where
   nests : {es : List Placed} → Nests names_and_literals 0 ps es → Verdict options ps (compiled (tree_of options es))
-  open_block : {f : Fault} → LeavesOpen syntax_alone ps f → Verdict options ps (refused (refusal_for options f))
-  late_fault : {es : List Placed} {f : Fault} → Nests syntax_alone 0 ps es → Refuses names_and_literals ps f
+  open_block : {f : NestFault} → LeavesOpen syntax_alone ps f → Verdict options ps (refused (refusal_for options f))
+  late_fault : {es : List Placed} {f : NestFault} → Nests syntax_alone 0 ps es → Refuses names_and_literals ps f
       → Verdict options ps (refused (refusal_for options f))
 
-one_verdict : (options : Options) (ps : List Piece) (a b : Compilation) → Verdict options ps a → Verdict options ps b → a ≡ b
+one_verdict : (options : Options) (ps : List SourcePiece) (a b : Compilation) → Verdict options ps a → Verdict options ps b → a ≡ b
 one_verdict options ps a b (nests h) (nests k) = ap (λ (z : List Placed). compiled (tree_of options z)) (Nests-one h k)
 one_verdict options ps a b (nests h) (open_block k) = absurd (Nests-LeavesOpen (Nests-loose h) k)
 one_verdict options ps a b (nests h) (late_fault n k) = absurd (Nests-Refuses h k)
 one_verdict options ps a b (open_block h) (nests k) = absurd (Nests-LeavesOpen (Nests-loose k) h)
-one_verdict options ps a b (open_block h) (open_block k) = ap (λ (z : Fault). refused (refusal_for options z)) (LeavesOpen-one h k)
+one_verdict options ps a b (open_block h) (open_block k) = ap (λ (z : NestFault). refused (refusal_for options z)) (LeavesOpen-one h k)
 one_verdict options ps a b (open_block h) (late_fault n k) = absurd (Nests-LeavesOpen n h)
 one_verdict options ps a b (late_fault n h) (nests k) = absurd (Nests-Refuses k h)
 one_verdict options ps a b (late_fault n h) (open_block k) = absurd (Nests-LeavesOpen n k)
-one_verdict options ps a b (late_fault n h) (late_fault m k) = ap (λ (z : Fault). refused (refusal_for options z)) (Refuses-one h k)
+one_verdict options ps a b (late_fault n h) (late_fault m k) = ap (λ (z : NestFault). refused (refusal_for options z)) (Refuses-one h k)
 
 -- The syntax refuses nothing of a source that it goes along.
-LeavesOpen-fair : {ps : List Piece} {f g : Fault} → LeavesOpen syntax_alone ps f → Refuses syntax_alone ps g → ⊥
+LeavesOpen-fair : {ps : List SourcePiece} {f g : NestFault} → LeavesOpen syntax_alone ps f → Refuses syntax_alone ps g → ⊥
 LeavesOpen-fair (still_open o) bad = Opens-Refuses o bad
 
-verdict_fair : {options : Options} {ps : List Piece} {o : Compilation} {f : Fault} → Verdict options ps o → Refuses syntax_alone ps f → ⊥
+verdict_fair : {options : Options} {ps : List SourcePiece} {o : Compilation} {f : NestFault} → Verdict options ps o → Refuses syntax_alone ps f → ⊥
 verdict_fair (nests h) bad = Nests-Refuses (Nests-loose h) bad
 verdict_fair (open_block h) bad = LeavesOpen-fair h bad
 verdict_fair (late_fault n h) bad = Nests-Refuses n bad
@@ -62,7 +62,7 @@ record Early (s : Text) (options : Options) (o : Compilation) : Type 0 where
   pub edge : Edge
   pub slices : List Slice
   pub begins : Reads s options before edge slices
-  pub fault : Fault
+  pub fault : NestFault
   pub refuses : Refuses syntax_alone (pieces_in options slices) fault
   pub is : o ≡ refused (refusal_for options fault)
 
@@ -75,7 +75,7 @@ stuck_ends : (s : Text) (options : Options) (at : Place) → (u : IsUnreadable s
 stuck_ends s options at u = record { whole = u.whole; is_text = u.is_text; none = u.none }
 
 -- a fault in a beginning is there in what goes on behind it
-refuses_longer : {s b c : Text} {e f : Edge} {ps qs : List Slice} {options : Options} → (r : Reads s options b e ps) (q : Reads s options c f qs) (fault : Fault) (more : List Slice)
+refuses_longer : {s b c : Text} {e f : Edge} {ps qs : List Slice} {options : Options} → (r : Reads s options b e ps) (q : Reads s options c f qs) (fault : NestFault) (more : List Slice)
     → Refuses syntax_alone (pieces_in options qs) fault → (count q ≡ count r) ⊎ (count q < count r) → Refuses syntax_alone (pieces_in options (ps ++ more)) fault
 refuses_longer {ps = ps} {qs = qs} {options = options} r q fault more bad le = elim le [
   | inl same ↦ let a = one_beginning q r same in
@@ -88,7 +88,7 @@ refuses_longer {ps = ps} {qs = qs} {options = options} r q fault more bad le = e
 ]
 
 -- where a reading ends, a fault of the syntax is in what was read
-early_refuses : {s b c x kept left : Text} {e f : Edge} {ps qs : List Slice} {options : Options} → (r : Reads s options b e ps) → Ends s b e x kept left → (q : Reads s options c f qs) (fault : Fault) (more : List Slice)
+early_refuses : {s b c x kept left : Text} {e f : Edge} {ps qs : List Slice} {options : Options} → (r : Reads s options b e ps) → Ends s b e x kept left → (q : Reads s options c f qs) (fault : NestFault) (more : List Slice)
     → Refuses syntax_alone (pieces_in options qs) fault → Refuses syntax_alone (pieces_in options (ps ++ more)) fault
 early_refuses r ends q fault more bad = elim (by_order (count q) (count r)) [
   | inl same ↦ refuses_longer r q fault more bad (inl same)
@@ -109,7 +109,7 @@ two_early {s} {options} {o} {p} a b =
         | inr more ↦ Refuses-one (refuses_more options a.fault a.slices [] a.refuses) (refuses_longer a.begins b.begins b.fault [] b.refuses (inr more))
       ]
     ] in
-    a.is ∙ ap (λ (z : Fault). refused (refusal_for options z)) one ∙ sym b.is
+    a.is ∙ ap (λ (z : NestFault). refused (refusal_for options z)) one ∙ sym b.is
 
 two_full : {s : Text} {options : Options} {o p : Compilation} → Full s options o → Full s options p → o ≡ p
 two_full {s} {options} {o} {p} a b =

@@ -10,14 +10,14 @@ use Rattle.handlebars_lines.specs.Parameter.{Term, literal_term, path_term, name
 use Rattle.handlebars_lines.specs.CloseName.{close_name_at}
 use Rattle.handlebars_lines.specs.Line.{NameMode, identifier_name, value_name, Enclosure, in_tag, in_block, Line, IsLine, NoLine}
 use Rattle.handlebars_lines.specs.LineReading.{line_stand, at_name, line_step, line_from}
-use Rattle.handlebars_lines.specs.Binding.{Binding}
+use Rattle.handlebars_lines.specs.Binding.{BoundNames}
 use Rattle.handlebars_lines.specs.BindingReading.{binding_at}
 use Rattle.handlebars_lines.proofs.Stepping.{run-runs, run-some}
 use Rattle.handlebars_lines.proofs.Lines.{line_made, line_found}
 use Rattle.handlebars_lines.proofs.LineBounds.{line_shortens}
 use Rattle.handlebars_lines.proofs.Bindings.{binding_at-takes}
 use Rattle.handlebars_tags.specs.Text.{Braces, IsText, at_end, at_tag, a_byte, braces, before_braces}
-use Rattle.handlebars_tags.specs.Kind.{Kind, expression_kind, html_kind, html_sign_kind, block_kind, close_kind, inverse_kind, else_kind, raw_kind, raw_close_kind, comment_kind, other_kind, Beginning, beginning, beginning_of, closing_of}
+use Rattle.handlebars_tags.specs.Kind.{TagKind, expression_kind, html_kind, html_sign_kind, block_kind, close_kind, inverse_kind, else_kind, raw_kind, raw_close_kind, comment_kind, other_kind, TagBeginning, beginning, beginning_of, closing_of}
 use Rattle.handlebars_tags.specs.Tag.{BlockLine, Tag, expression_tag, html_tag, block_tag, inverse_tag, chain_tag, close_tag, raw_tag, raw_close_tag, Tildes, IsBlockLine, Says, a_value, a_raw_value, a_signed_value, a_block, a_close, an_inverse, an_else, a_chain, a_raw_block, a_raw_close, IsTag, NoTag}
 
 -- a value where a test holds
@@ -54,7 +54,7 @@ text_of-is (path_term r) n e = absurd (none-some n e)
 text_of-is (name_term x) n e = ap name_term (same_Some x n e)
 text_of-is (call_term t terms) n e = absurd (none-some n e)
 
-abbrev block_with : Line → Text → Binding × Text → BlockLine × Text
+abbrev block_with : Line → Text → BoundNames × Text → BlockLine × Text
 block_with line n b = (record { name = n; terms = line.terms; binding = b.0; depth = line.depth }, b.1)
 
 abbrev pub block_line_at : Text → Option (BlockLine × Text)
@@ -89,7 +89,7 @@ abbrev raw_close_at : Text → Text → Option (Tag × Text)
 raw_close_at [] rest = None
 raw_close_at (b ∷ n) rest = Some (raw_close_tag (b ∷ n), rest)
 
-abbrev pub says_at : Kind → Text → Option (Tag × Text)
+abbrev pub says_at : TagKind → Text → Option (Tag × Text)
 says_at expression_kind t = tagged expression_tag (line_at value_name in_tag t)
 says_at html_kind t = tagged html_tag (line_at value_name in_tag t)
 says_at html_sign_kind t = tagged html_tag (line_at value_name in_tag t)
@@ -102,16 +102,16 @@ says_at raw_close_kind t = raw_close_at (symbols_of t) (behind_symbols t)
 says_at comment_kind t = None
 says_at other_kind t = None
 
-abbrev SaysSo : Kind → Text → Tag × Text → Type 0
+abbrev SaysSo : TagKind → Text → Tag × Text → Type 0
 SaysSo k t q = Says k t q.0 q.1
 
-tagged-is : (k : Kind) (f : Line → Tag) (t : Text) (q : Tag × Text) → tagged f (line_at value_name in_tag t) ≡ Some q
+tagged-is : (k : TagKind) (f : Line → Tag) (t : Text) (q : Tag × Text) → tagged f (line_at value_name in_tag t) ≡ Some q
     → ((line : Line) (rest : Text) → IsLine value_name in_tag t line rest → Says k t (f line) rest) → Says k t q.0 q.1
 tagged-is k f t q e says =
     let l = bind_some (line_at value_name in_tag t) _ q e in
     subst (SaysSo k t) (same_Some (f l.0.0, l.0.1) q l.2) (says l.0.0 l.0.1 (line_at-is value_name in_tag t l.0 l.1))
 
-block_tagged-is : (k : Kind) (f : BlockLine → Tag) (t inside : Text) (q : Tag × Text) → block_tagged f (block_line_at t) ≡ Some q
+block_tagged-is : (k : TagKind) (f : BlockLine → Tag) (t inside : Text) (q : Tag × Text) → block_tagged f (block_line_at t) ≡ Some q
     → ((line : BlockLine) (rest : Text) → IsBlockLine t line rest → Says k inside (f line) rest) → Says k inside q.0 q.1
 block_tagged-is k f t inside q e says =
     let l = bind_some (block_line_at t) _ q e in
@@ -133,7 +133,7 @@ raw_close_at-is (b ∷ n) t q is e =
     cons-nil : (b : ℕ) (n : Text) → b ∷ n ≡ [] → ⊥
     cons-nil b n same = absurd cc
 
-says_at-is : (k : Kind) (t : Text) (q : Tag × Text) → says_at k t ≡ Some q → Says k t q.0 q.1
+says_at-is : (k : TagKind) (t : Text) (q : Tag × Text) → says_at k t ≡ Some q → Says k t q.0 q.1
 says_at-is expression_kind t q e = tagged-is expression_kind expression_tag t q e (λ line rest is. a_value is)
 says_at-is html_kind t q e = tagged-is html_kind html_tag t q e (λ line rest is. a_raw_value is)
 says_at-is html_sign_kind t q e = tagged-is html_sign_kind html_tag t q e (λ line rest is. a_signed_value is)
@@ -186,7 +186,7 @@ no_value inside tag behind none (a_value {line = line} is) = none line behind is
 pub no_value_tag : (left inside : Text) (tilde : Bool) → beginning_of left ≡ Some (beginning expression_kind tilde inside) → NoLine value_name in_tag inside → NoTag left
 no_value_tag left inside tilde o none slice rest t tildes is tag =
     let same = same_Some (beginning expression_kind tilde inside) tag.begins (sym o ∙ ap beginning_of is ∙ tag.is_beginning) in
-    no_value inside t tag.behind none (subst (λ (z : Beginning). Says z.kind z.inside t tag.behind) (sym same) tag.says)
+    no_value inside t tag.behind none (subst (λ (z : TagBeginning). Says z.kind z.inside t tag.behind) (sym same) tag.says)
 
 -- ---- texts without escapes
 

@@ -13,10 +13,10 @@ use Rattle.handlebars_template.specs.Place.{Place}
 use Rattle.handlebars_template.specs.Tree.{Element, Args, no_arguments, name, both}
 use Rattle.handlebars_template.specs.TreeView.{text, binding_view}
 use Rattle.handlebars_template.specs.Calls.{call_of, first_refused, line_literals}
-use Rattle.handlebars_template.specs.Nest.{BlockKind, helper_opening, Opening as Said, Piece, leaf, opens, chains}
+use Rattle.handlebars_template.specs.Nest.{BlockKind, helper_opening, Opening as Said, SourcePiece, leaf, opens, chains}
 use Rattle.handlebars_template.specs.NestView.{opening_view, early, Looks, Does}
 use Rattle.handlebars_template.specs.Compile.{binding_of, opening_of, tag_piece}
-use Rattle.handlebars_template.specs.ScanView.{value_element, value_piece, block_piece, chain_piece, Opening}
+use Rattle.handlebars_template.specs.ScanView.{value_element, value_piece, block_piece, chain_piece, HasOpening}
 use Rattle.handlebars_template.specs.declared.template.nest.Nesting.{Nesting}
 use Rattle.handlebars_template.specs.declared.template.nest.SyntaxFault.{SyntaxFault}
 use Rattle.handlebars_template.specs.declared.template.tags.BuiltOpening.{BuiltOpening}
@@ -27,7 +27,7 @@ use Rattle.handlebars_template.specs.declared.template.tree.BlockParam.TheBlock.
 pub binding_view-Pair : (x y : String Global) → binding_view (Pair (Name x, Name y)) ≡ both (name (text x)) (name (text y))
 binding_view-Pair x y = search (rules, the_lemmas)
 
-abbrev said : BlockKind → Text → Args → means.Binding → Bool → Said
+abbrev said : BlockKind → Text → Args → means.BoundNames → Bool → Said
 said k n xs b indent =
     record { kind = k; name = name n; closing = n; arguments = xs; binding = binding_of b; indent = indent }
 
@@ -36,7 +36,7 @@ with_arguments xs o =
     record { kind = o.kind; name = o.name; closing = o.closing; arguments = xs; binding = o.binding; indent = o.indent }
 
 -- a bare opening with the arguments of its line
-pub said-along : {k : BlockKind} {n m : Text} {xs ys : Args} {b c : means.Binding} {i : Bool} {o : Said} → o ≡ said k n no_arguments b i → xs ≡ ys → n ≡ m → b ≡ c
+pub said-along : {k : BlockKind} {n m : Text} {xs ys : Args} {b c : means.BoundNames} {i : Bool} {o : Said} → o ≡ said k n no_arguments b i → xs ≡ ys → n ≡ m → b ≡ c
     → with_arguments xs o ≡ said k m ys c i
 said-along {k} {n} {m} {xs} {ys} {b} {c} {i} {o} is args names bindings = ap (with_arguments xs) is ∙ rw (args, names, bindings) refl
 
@@ -71,10 +71,10 @@ Does-block old new p e of slice tag h does = subst (λ (z : Tag). Does old (tag_
 
 -- ---- what is said of a tag before it stands
 
-pub Looks-at : (old : Nesting) (p : Place) (e : Edge) (seen : Option SyntaxFault) (tag same : Tag) (x : ℕ → Piece) (depth : ℕ) → tag ≡ same → tag_depth tag ≡ depth
+pub Looks-at : (old : Nesting) (p : Place) (e : Edge) (seen : Option SyntaxFault) (tag same : Tag) (x : ℕ → SourcePiece) (depth : ℕ) → tag ≡ same → tag_depth tag ≡ depth
     → tag_piece p e same ≡ x (tag_depth same) → Looks p (early old (x depth)) seen → Looks p (early old (tag_piece p e tag)) seen
 Looks-at old p e seen tag same x depth is deep piece looks =
     let deeper : tag_depth same ≡ depth = ap tag_depth (sym is) ∙ deep in
     subst (λ (z : Tag). Looks p (early old (tag_piece p e z)) seen) (sym is)
-    (subst (λ (y : Piece). Looks p (early old y) seen) (sym piece)
+    (subst (λ (y : SourcePiece). Looks p (early old y) seen) (sym piece)
     (subst (λ (n : ℕ). Looks p (early old (x n)) seen) (sym deeper) looks))

@@ -2,7 +2,7 @@
 use Rattle.std.specs.Prelude.{◌≡◌, ℕ, true, false, not, ◌&&◌, if◌then◌else◌, List, [], ◌∷◌, ◌++◌, map, None, Some, unwrap_or, codes}
 use Rattle.handlebars_base.specs.Bytes.{Text}
 use Rattle.handlebars_base.specs.Reasons.{TemplateReason, TemplateRefusal, invalid_syntax, mismatching_closed_helper, mismatching_closed_decorator}
-use Rattle.handlebars_lines.specs.Binding.{Binding, unbound, bound, both_bound}
+use Rattle.handlebars_lines.specs.Binding.{BoundNames, unbound, bound, both_bound}
 use Rattle.handlebars_tags.specs.Text.{IsText, braces}
 use Rattle.handlebars_tags.specs.Tag.{Tag, expression_tag, html_tag, block_tag, inverse_tag, chain_tag, close_tag, raw_tag, raw_close_tag, comment_tag, BlockLine, Tildes, IsTag}
 use Rattle.handlebars_tags.specs.Trim.{Edge, braces_behind, trimmed, has_element}
@@ -11,12 +11,12 @@ use Rattle.handlebars_template.specs.Place.{Place, place}
 use Rattle.handlebars_template.specs.Tree.{Tree, tree, elements_of, Element, raw_string, html_expression, expression, comment, no_arguments, name, no_binding, single, both}
 use Rattle.handlebars_template.specs.Tree as tree
 use Rattle.handlebars_template.specs.Calls.{call_of, arguments_in, line_literals, literals_in, first_refused, invalid}
-use Rattle.handlebars_template.specs.Nest.{BlockKind, helper_opening, raw_opening, decorator_opening, partial_opening, Opening, Piece, leaf, opens, turns, chains, closes, Fault, unexpected, too_deep, not_closed, mismatched, no_value, Placed, syntax_alone, names_and_literals, Nests, Frame, Opens, Refuses, LeavesOpen}
+use Rattle.handlebars_template.specs.Nest.{BlockKind, helper_opening, raw_opening, decorator_opening, partial_opening, Opening, SourcePiece, leaf, opens, turns, chains, closes, NestFault, unexpected, too_deep, not_closed, mismatched, no_value, Placed, syntax_alone, names_and_literals, Nests, OpenBlock, Opens, Refuses, LeavesOpen}
 use Rattle.handlebars_template.specs.Cut.{Slice, text_slice, tag_slice, may_follow, Reads, IsCut}
 
 -- ---- what the slices stand for
 
-abbrev pub binding_of : Binding → tree.Binding
+abbrev pub binding_of : BoundNames → tree.Binding
 binding_of unbound = no_binding
 binding_of (bound x) = single (name x)
 binding_of (both_bound x y) = both (name x) (name y)
@@ -33,7 +33,7 @@ opening_of kind e line = record {
   indent = e.standalone && not e.left;
 }
 
-abbrev pub tag_piece : Place → Edge → Tag → Piece
+abbrev pub tag_piece : Place → Edge → Tag → SourcePiece
 tag_piece p e (expression_tag line) =
     leaf p (expression (call_of line.name line.terms)) line.depth (first_refused (line_literals line))
 tag_piece p e (html_tag line) =
@@ -50,11 +50,11 @@ tag_piece p e (raw_close_tag n) = closes p true n
 tag_piece p e (comment_tag t) = leaf p (comment t) 0 None
 
 -- a text between two tags, where it has an element
-abbrev pub text_pieces : Options → Place → Edge → Text → Text → Edge → List Piece
+abbrev pub text_pieces : Options → Place → Edge → Text → Text → Edge → List SourcePiece
 text_pieces options p e slice kept n =
     if has_element e slice then leaf p (raw_string (trimmed options e kept n)) 0 None ∷ [] else []
 
-abbrev pub pieces_in : Options → List Slice → List Piece
+abbrev pub pieces_in : Options → List Slice → List SourcePiece
 pieces_in options [] = []
 pieces_in options (text_slice p e slice kept n ∷ ps) = text_pieces options p e slice kept n ++ pieces_in options ps
 pieces_in options (tag_slice p slice t e ∷ ps) = tag_piece p e t ∷ pieces_in options ps
@@ -82,7 +82,7 @@ mismatch raw_opening n m = mismatching_closed_helper n m
 mismatch decorator_opening n m = mismatching_closed_decorator n m
 mismatch partial_opening n m = mismatching_closed_decorator n m
 
-abbrev pub refusal_for : Options → Fault → TemplateRefusal
+abbrev pub refusal_for : Options → NestFault → TemplateRefusal
 refusal_for options (unexpected p) = syntax_refusal (codes "unexpected tag") options p
 refusal_for options (too_deep p) = syntax_refusal (codes "nesting too deep") options p
 refusal_for options (not_closed p) = syntax_refusal (codes "block not closed") options p
@@ -102,7 +102,7 @@ pub record IsUnreadable (source : Text) (options : Options) (at : Place) : Type 
   pub slices : List Slice
   pub begins : Reads source options before edge slices
   pub depth : ℕ
-  pub frames : List Frame
+  pub frames : List OpenBlock
   pub elements : List Placed
   pub nests : Opens syntax_alone depth (pieces_in options slices) frames elements
   pub text : Text
@@ -126,12 +126,12 @@ pub data Compiles (source : Text) (options : Options) : Compilation → Type 0 w
   whole : {ps : List Slice} {es : List Placed} → IsCut source options ps → Nests names_and_literals 0 (pieces_in options ps) es
       → Compiles source options (compiled (tree_of options es))
   no_tag : {at : Place} → IsUnreadable source options at → Compiles source options (refused (unreadable_tag options at))
-  misplaced : {before : Text} {edge : Edge} {ps : List Slice} {f : Fault}
+  misplaced : {before : Text} {edge : Edge} {ps : List Slice} {f : NestFault}
       → Reads source options before edge ps → Refuses syntax_alone (pieces_in options ps) f
       → Compiles source options (refused (refusal_for options f))
-  left_open : {ps : List Slice} {f : Fault} → IsCut source options ps → LeavesOpen syntax_alone (pieces_in options ps) f
+  left_open : {ps : List Slice} {f : NestFault} → IsCut source options ps → LeavesOpen syntax_alone (pieces_in options ps) f
       → Compiles source options (refused (refusal_for options f))
-  late : {ps : List Slice} {es : List Placed} {f : Fault} → IsCut source options ps → Nests syntax_alone 0 (pieces_in options ps) es
+  late : {ps : List Slice} {es : List Placed} {f : NestFault} → IsCut source options ps → Nests syntax_alone 0 (pieces_in options ps) es
       → Refuses names_and_literals (pieces_in options ps) f
       → Compiles source options (refused (refusal_for options f))
 

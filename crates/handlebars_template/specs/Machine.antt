@@ -5,7 +5,7 @@ use Rattle.handlebars_base.specs.Bytes.{Text}
 use Rattle.handlebars_template.specs.Place.{Place}
 use Rattle.handlebars_template.specs.Tree.{Element, no_body}
 use Rattle.handlebars_template.specs.Calls.{max_nesting}
-use Rattle.handlebars_template.specs.Nest.{BlockKind, Opening, Piece, leaf, opens, turns, chains, closes, refused_in, Fault, unexpected, too_deep, mismatched, no_value, Placed, body_with, Branch, block_of, Test, syntax_alone, names_and_literals, may_close, Stage, in_first, in_branch, in_inverse, Frame, may_stand_in}
+use Rattle.handlebars_template.specs.Nest.{BlockKind, Opening, SourcePiece, leaf, opens, turns, chains, closes, refused_in, NestFault, unexpected, too_deep, mismatched, no_value, Placed, body_with, Branch, block_of, Test, syntax_alone, names_and_literals, may_close, Stage, in_first, in_branch, in_inverse, OpenBlock, may_stand_in}
 
 -- the whole block, when its close comes
 abbrev pub closed_block : Stage → Opening → List Placed → List Branch → List Placed → Element
@@ -14,27 +14,27 @@ closed_block (in_branch g) o first branches es =
     block_of o first (branches ++ record { opening = g; elements = es } ∷ []) no_body
 closed_block in_inverse o first branches es = block_of o first branches (body_with es)
 
-abbrev pub closed : Frame → List Placed → Placed
+abbrev pub closed : OpenBlock → List Placed → Placed
 closed f es = record { place = f.place; element = closed_block f.stage f.opening f.first f.branches es }
 
 -- the open block in its next stage: what stands behind its own was a first body, or a chained inverse
-abbrev pub next_stage : Stage → Frame → List Placed → Stage → Frame
+abbrev pub next_stage : Stage → OpenBlock → List Placed → Stage → OpenBlock
 next_stage in_first f es next = record f { first = es; stage = next }
 next_stage (in_branch g) f es next =
     record f { branches = f.branches ++ record { opening = g; elements = es } ∷ []; stage = next }
 next_stage in_inverse f es next = record f { stage = next }
 
-abbrev pub new_frame : Place → Opening → ℕ → List Placed → Frame
+abbrev pub new_frame : Place → Opening → ℕ → List Placed → OpenBlock
 new_frame p o d es =
     record { place = p; opening = o; around = d; first = []; branches = []; stage = in_first; outside = es }
 
 -- how much is open, the open blocks and the elements of the innermost then, or the fault
 pub data Moved : Type 0 where
-  goes : ℕ → List Frame → List Placed → Moved
-  stops : Fault → Moved
+  goes : ℕ → List OpenBlock → List Placed → Moved
+  stops : NestFault → Moved
 
 -- what stands behind a piece that may stand
-abbrev pub behind_piece : Piece → ℕ → List Frame → List Placed → Moved
+abbrev pub behind_piece : SourcePiece → ℕ → List OpenBlock → List Placed → Moved
 behind_piece (leaf p e n r) d fs es = goes d fs (es ++ record { place = p; element = e } ∷ [])
 behind_piece (opens p o n r) d fs es = goes (suc d) (new_frame p o d es ∷ fs) []
 behind_piece (turns p) d [] es = goes d [] es
@@ -47,12 +47,12 @@ behind_piece (closes p raw m) d (f ∷ fs) es = goes f.around fs (f.outside ++ c
 -- ---- what the syntax refuses
 
 -- whether it may stand there, and whether it is too deep
-abbrev pub syntax_fault_by : Bool → Bool → Place → Option Fault
+abbrev pub syntax_fault_by : Bool → Bool → Place → Option NestFault
 syntax_fault_by false deep p = Some (unexpected p)
 syntax_fault_by true true p = Some (too_deep p)
 syntax_fault_by true false p = None
 
-abbrev pub early_in : ℕ → List Frame → Piece → Option Fault
+abbrev pub early_in : ℕ → List OpenBlock → SourcePiece → Option NestFault
 early_in d fs (leaf p e n r) = syntax_fault_by true (nat_lt max_nesting (d + n)) p
 early_in d fs (opens p o n r) = syntax_fault_by true (nat_lt max_nesting (d + suc n)) p
 early_in d fs (turns p) = syntax_fault_by (may_stand_in fs (turns p)) false p
@@ -62,16 +62,16 @@ early_in d fs (closes p raw m) = syntax_fault_by (may_stand_in fs (closes p raw 
 
 -- ---- what comes late
 
-abbrev pub literal_fault : Option Text → Option Fault
+abbrev pub literal_fault : Option Text → Option NestFault
 literal_fault None = None
 literal_fault (Some raw) = Some (no_value raw)
 
 -- whether the name closes the block
-abbrev pub name_fault : Bool → BlockKind → Text → Text → Place → Option Fault
+abbrev pub name_fault : Bool → BlockKind → Text → Text → Place → Option NestFault
 name_fault true k n m p = None
 name_fault false k n m p = Some (mismatched k n m p)
 
-abbrev pub name_fault_in : List Frame → Piece → Option Fault
+abbrev pub name_fault_in : List OpenBlock → SourcePiece → Option NestFault
 name_fault_in fs (leaf p e n r) = None
 name_fault_in fs (opens p o n r) = None
 name_fault_in fs (turns p) = None
@@ -80,32 +80,32 @@ name_fault_in [] (closes p raw m) = None
 name_fault_in (f ∷ fs) (closes p raw m) =
     name_fault (may_close names_and_literals f.opening.closing m) f.opening.kind f.opening.closing m p
 
-abbrev pub late_in : List Frame → Piece → Option Fault
+abbrev pub late_in : List OpenBlock → SourcePiece → Option NestFault
 late_in fs x = option_or (literal_fault (refused_in x)) (name_fault_in fs x)
 
 -- What was kept stays.
-abbrev pub late_after : Option Fault → Piece → List Frame → Option Fault
+abbrev pub late_after : Option NestFault → SourcePiece → List OpenBlock → Option NestFault
 late_after late x fs = option_or late (late_in fs x)
 
 -- ---- a piece
 
-abbrev pub tried : Test → Option Fault → Option Fault
+abbrev pub tried : Test → Option NestFault → Option NestFault
 tried syntax_alone late = None
 tried names_and_literals late = late
 
-abbrev pub fault_in : Test → ℕ → List Frame → Piece → Option Fault
+abbrev pub fault_in : Test → ℕ → List OpenBlock → SourcePiece → Option NestFault
 fault_in t d fs x = option_or (early_in d fs x) (tried t (late_in fs x))
 
-abbrev pub unless_fault : Option Fault → Moved → Moved
+abbrev pub unless_fault : Option NestFault → Moved → Moved
 unless_fault None m = m
 unless_fault (Some f) m = stops f
 
 -- what a piece does behind the open blocks and the elements of the innermost
-abbrev pub moved_by : Test → Piece → ℕ → List Frame → List Placed → Moved
+abbrev pub moved_by : Test → SourcePiece → ℕ → List OpenBlock → List Placed → Moved
 moved_by t x d fs es = unless_fault (fault_in t d fs x) (behind_piece x d fs es)
 
 -- The same by cases, so that where it is run a tag is read once.
-abbrev pub apply : Test → Piece → ℕ → List Frame → List Placed → Moved
+abbrev pub apply : Test → SourcePiece → ℕ → List OpenBlock → List Placed → Moved
 apply t (leaf p e n r) d fs es = moved_by t (leaf p e n r) d fs es
 apply t (opens p o n r) d fs es = moved_by t (opens p o n r) d fs es
 apply t (turns p) d fs es = moved_by t (turns p) d fs es
@@ -118,9 +118,9 @@ apply t (closes p raw m) d fs es = moved_by t (closes p raw m) d fs es
 pub data End : Type 0 where
   complete : List Placed → End
   unclosed : Place → End
-  refused : Fault → End
+  refused : NestFault → End
 
-abbrev pub at_end : List Frame → Option Fault → List Placed → End
+abbrev pub at_end : List OpenBlock → Option NestFault → List Placed → End
 at_end (f ∷ fs) late es = unclosed f.place
 at_end [] (Some f) es = refused f
 at_end [] None es = complete es

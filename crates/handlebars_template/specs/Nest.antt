@@ -57,14 +57,14 @@ pub record Opening : Type 0 where
 -- An element with its place; a block's opening tag; an inverse; a chained inverse; a close with its name, of a raw block
 -- or not. The number says how many parentheses and brackets are open at once in a tag; the text is the first of its
 -- literals that is refused, if one is.
-pub data Piece : Type 0 where
-  leaf : Place → Element → ℕ → Option Text → Piece
-  opens : Place → Opening → ℕ → Option Text → Piece
-  turns : Place → Piece
-  chains : Place → Opening → ℕ → Option Text → Piece
-  closes : Place → Bool → Text → Piece
+pub data SourcePiece : Type 0 where
+  leaf : Place → Element → ℕ → Option Text → SourcePiece
+  opens : Place → Opening → ℕ → Option Text → SourcePiece
+  turns : Place → SourcePiece
+  chains : Place → Opening → ℕ → Option Text → SourcePiece
+  closes : Place → Bool → Text → SourcePiece
 
-abbrev pub place_in : Piece → Place
+abbrev pub place_in : SourcePiece → Place
 place_in (leaf p e n r) = p
 place_in (opens p o n r) = p
 place_in (turns p) = p
@@ -72,7 +72,7 @@ place_in (chains p o n r) = p
 place_in (closes p raw m) = p
 
 -- its first refused literal, if it has one
-abbrev pub refused_in : Piece → Option Text
+abbrev pub refused_in : SourcePiece → Option Text
 refused_in (leaf p e n r) = r
 refused_in (opens p o n r) = r
 refused_in (turns p) = None
@@ -81,12 +81,12 @@ refused_in (closes p raw m) = None
 
 -- why they don't nest, and where: of a close by another name what it closes, the name that would close that, and its
 -- own; a literal is refused without a place
-pub data Fault : Type 0 where
-  unexpected : Place → Fault
-  too_deep : Place → Fault
-  not_closed : Place → Fault
-  mismatched : BlockKind → Text → Text → Place → Fault
-  no_value : Text → Fault
+pub data NestFault : Type 0 where
+  unexpected : Place → NestFault
+  too_deep : Place → NestFault
+  not_closed : Place → NestFault
+  mismatched : BlockKind → Text → Text → Place → NestFault
+  no_value : Text → NestFault
 
 -- ---- blocks
 
@@ -145,13 +145,13 @@ has_values names_and_literals r = not (is_some r)
 
 -- Nests t d ps es: with d blocks and chained inverses open around them, the pieces ps are the elements es.
 mutual
-  pub data Nests (t : Test) : ℕ → List Piece → List Placed → Type 0 where
+  pub data Nests (t : Test) : ℕ → List SourcePiece → List Placed → Type 0 where
     nothing : {d : ℕ} → Nests t d [] []
-    a_leaf : {d : ℕ} {ps : List Piece} {es : List Placed} (p : Place) (e : Element) (n : ℕ) (r : Option Text)
+    a_leaf : {d : ℕ} {ps : List SourcePiece} {es : List Placed} (p : Place) (e : Element) (n : ℕ) (r : Option Text)
         → d + n ≤ max_nesting → has_values t r ≡ true → Nests t d ps es
         → Nests t d (leaf p e n r ∷ ps) (record { place = p; element = e } ∷ es)
     -- an opening tag, the first body, chained inverses, an inverse or none, and the close
-    a_block : {d e : ℕ} {bs cs ls ps : List Piece} {first es : List Placed} {branches : List Branch} {last : Body}
+    a_block : {d e : ℕ} {bs cs ls ps : List SourcePiece} {first es : List Placed} {branches : List Branch} {last : Body}
         (p q : Place) (o : Opening) (n : ℕ) (r : Option Text) (raw : Bool) (m : Text)
         → d + suc n ≤ max_nesting → has_values t r ≡ true → may_end o.kind raw m ≡ true → may_close t o.closing m ≡ true
         → Nests t (suc d) bs first → Chains t o.kind (suc d) cs branches e → Turns t o.kind e ls last → Nests t d ps es
@@ -159,18 +159,18 @@ mutual
         (record { place = p; element = block_of o first branches last } ∷ es)
 
   -- chained inverses in a block of this kind, and how much is open behind them
-  pub data Chains (t : Test) : BlockKind → ℕ → List Piece → List Branch → ℕ → Type 0 where
+  pub data Chains (t : Test) : BlockKind → ℕ → List SourcePiece → List Branch → ℕ → Type 0 where
     no_more : {k : BlockKind} {d : ℕ} → Chains t k d [] [] d
-    a_branch : {k : BlockKind} {d e : ℕ} {bs cs : List Piece} {es : List Placed} {branches : List Branch}
+    a_branch : {k : BlockKind} {d e : ℕ} {bs cs : List SourcePiece} {es : List Placed} {branches : List Branch}
         (p : Place) (o : Opening) (n : ℕ) (r : Option Text)
         → admits_inverse k ≡ true → d + suc n ≤ max_nesting → has_values t r ≡ true
         → Nests t (suc d) bs es → Chains t k (suc d) cs branches e
         → Chains t k d (chains p o n r ∷ (bs ++ cs)) (record { opening = o; elements = es } ∷ branches) e
 
   -- an inverse in a block of this kind, or none
-  pub data Turns (t : Test) : BlockKind → ℕ → List Piece → Body → Type 0 where
+  pub data Turns (t : Test) : BlockKind → ℕ → List SourcePiece → Body → Type 0 where
     no_inverse : {k : BlockKind} {d : ℕ} → Turns t k d [] no_body
-    an_inverse : {k : BlockKind} {d : ℕ} {bs : List Piece} {es : List Placed} (p : Place)
+    an_inverse : {k : BlockKind} {d : ℕ} {bs : List SourcePiece} {es : List Placed} (p : Place)
         → admits_inverse k ≡ true → Nests t d bs es → Turns t k d (turns p ∷ bs) (body_with es)
 
 -- ---- blocks that are open
@@ -183,7 +183,7 @@ pub data Stage : Type 0 where
 
 -- an open block: its place, what its tag says, how much was open around it, its first body and its whole chained
 -- inverses, the stage, and the elements that stood before it
-pub record Frame : Type 0 where
+pub record OpenBlock : Type 0 where
   pub place : Place
   pub opening : Opening
   pub around : ℕ
@@ -193,18 +193,18 @@ pub record Frame : Type 0 where
   pub outside : List Placed
 
 -- Inside t f qs d es: the pieces qs begin the block f and leave it open, with d open then, behind the elements es.
-pub data Inside (t : Test) : Frame → List Piece → ℕ → List Placed → Type 0 where
-  in_its_body : {o : ℕ} {bs : List Piece} {es out : List Placed} (p : Place) (x : Opening) (n : ℕ) (r : Option Text)
+pub data Inside (t : Test) : OpenBlock → List SourcePiece → ℕ → List Placed → Type 0 where
+  in_its_body : {o : ℕ} {bs : List SourcePiece} {es out : List Placed} (p : Place) (x : Opening) (n : ℕ) (r : Option Text)
       → o + suc n ≤ max_nesting → has_values t r ≡ true → Nests t (suc o) bs es
       → Inside t (record { place = p; opening = x; around = o; first = []; branches = []; stage = in_first; outside = out })
       (opens p x n r ∷ bs) (suc o) es
-  in_a_branch : {o d : ℕ} {bs cs gs : List Piece} {first es out : List Placed} {branches : List Branch}
+  in_a_branch : {o d : ℕ} {bs cs gs : List SourcePiece} {first es out : List Placed} {branches : List Branch}
       (p q : Place) (x g : Opening) (n k : ℕ) (r u : Option Text)
       → o + suc n ≤ max_nesting → has_values t r ≡ true → Nests t (suc o) bs first → Chains t x.kind (suc o) cs branches d
       → admits_inverse x.kind ≡ true → d + suc k ≤ max_nesting → has_values t u ≡ true → Nests t (suc d) gs es
       → Inside t (record { place = p; opening = x; around = o; first = first; branches = branches; stage = in_branch g; outside = out })
       (opens p x n r ∷ (bs ++ (cs ++ (chains q g k u ∷ gs)))) (suc d) es
-  in_its_inverse : {o d : ℕ} {bs cs gs : List Piece} {first es out : List Placed} {branches : List Branch}
+  in_its_inverse : {o d : ℕ} {bs cs gs : List SourcePiece} {first es out : List Placed} {branches : List Branch}
       (p q : Place) (x : Opening) (n : ℕ) (r : Option Text)
       → o + suc n ≤ max_nesting → has_values t r ≡ true → Nests t (suc o) bs first → Chains t x.kind (suc o) cs branches d
       → admits_inverse x.kind ≡ true → Nests t d gs es
@@ -213,9 +213,9 @@ pub data Inside (t : Test) : Frame → List Piece → ℕ → List Placed → Ty
 
 -- Opens t d ps fs es: the pieces ps leave the blocks fs open, the innermost first, with d open then, and the elements es
 -- stand in the innermost.
-pub data Opens (t : Test) : ℕ → List Piece → List Frame → List Placed → Type 0 where
-  none_open : {ps : List Piece} {es : List Placed} → Nests t 0 ps es → Opens t 0 ps [] es
-  one_more : {d : ℕ} {f : Frame} {ps qs : List Piece} {fs : List Frame} {es : List Placed}
+pub data Opens (t : Test) : ℕ → List SourcePiece → List OpenBlock → List Placed → Type 0 where
+  none_open : {ps : List SourcePiece} {es : List Placed} → Nests t 0 ps es → Opens t 0 ps [] es
+  one_more : {d : ℕ} {f : OpenBlock} {ps qs : List SourcePiece} {fs : List OpenBlock} {es : List Placed}
       → Opens t f.around ps fs f.outside → Inside t f qs d es → Opens t d (ps ++ qs) (f ∷ fs) es
 
 -- ---- refusals
@@ -226,11 +226,11 @@ is_in_inverse (in_branch o) = false
 is_in_inverse in_inverse = true
 
 -- whether an inverse, chained or not, may stand next in an open block
-abbrev pub takes_inverse : Frame → Bool
+abbrev pub takes_inverse : OpenBlock → Bool
 takes_inverse f = not (is_in_inverse f.stage) && admits_inverse f.opening.kind
 
 -- whether a piece may stand next where these blocks are open
-abbrev pub may_stand_in : List Frame → Piece → Bool
+abbrev pub may_stand_in : List OpenBlock → SourcePiece → Bool
 may_stand_in fs (leaf p e n r) = true
 may_stand_in fs (opens p o n r) = true
 may_stand_in [] (turns p) = false
@@ -241,7 +241,7 @@ may_stand_in [] (closes p raw m) = false
 may_stand_in (f ∷ fs) (closes p raw m) = may_end f.opening.kind raw m
 
 -- how many a tag opens at once: itself, where it is a block or a chained inverse, and its parentheses and brackets
-abbrev pub cost : Piece → ℕ
+abbrev pub cost : SourcePiece → ℕ
 cost (leaf p e n r) = n
 cost (opens p o n r) = suc n
 cost (turns p) = 0
@@ -250,22 +250,22 @@ cost (closes p raw m) = 0
 
 -- RefusesAt t d fs x f: with the blocks fs open, and d open in all, the piece x can't stand next. At one tag 'unexpected'
 -- comes before 'too deep', and that before its literals.
-pub data RefusesAt (t : Test) (d : ℕ) : List Frame → Piece → Fault → Type 0 where
-  out_of_place : {fs : List Frame} {x : Piece} → may_stand_in fs x ≡ false → RefusesAt t d fs x (unexpected (place_in x))
-  past_limit : {fs : List Frame} {x : Piece} → may_stand_in fs x ≡ true → max_nesting < d + cost x
+pub data RefusesAt (t : Test) (d : ℕ) : List OpenBlock → SourcePiece → NestFault → Type 0 where
+  out_of_place : {fs : List OpenBlock} {x : SourcePiece} → may_stand_in fs x ≡ false → RefusesAt t d fs x (unexpected (place_in x))
+  past_limit : {fs : List OpenBlock} {x : SourcePiece} → may_stand_in fs x ≡ true → max_nesting < d + cost x
       → RefusesAt t d fs x (too_deep (place_in x))
-  without_value : {fs : List Frame} {x : Piece} {raw : Text} → may_stand_in fs x ≡ true → d + cost x ≤ max_nesting
+  without_value : {fs : List OpenBlock} {x : SourcePiece} {raw : Text} → may_stand_in fs x ≡ true → d + cost x ≤ max_nesting
       → refused_in x ≡ Some raw → has_values t (Some raw) ≡ false → RefusesAt t d fs x (no_value raw)
-  other_name : {f : Frame} {fs : List Frame} {p : Place} {raw : Bool} {m : Text} → may_end f.opening.kind raw m ≡ true
+  other_name : {f : OpenBlock} {fs : List OpenBlock} {p : Place} {raw : Bool} {m : Text} → may_end f.opening.kind raw m ≡ true
       → may_close t f.opening.closing m ≡ false
       → RefusesAt t d (f ∷ fs) (closes p raw m) (mismatched f.opening.kind f.opening.closing m p)
 
 -- the first piece that can't stand where it stands
-pub data Refuses (t : Test) : List Piece → Fault → Type 0 where
-  refuses_at : {d : ℕ} {ps : List Piece} {fs : List Frame} {es : List Placed} {x : Piece} {f : Fault} (rest : List Piece)
+pub data Refuses (t : Test) : List SourcePiece → NestFault → Type 0 where
+  refuses_at : {d : ℕ} {ps : List SourcePiece} {fs : List OpenBlock} {es : List Placed} {x : SourcePiece} {f : NestFault} (rest : List SourcePiece)
       → Opens t d ps fs es → RefusesAt t d fs x f → Refuses t (ps ++ x ∷ rest) f
 
 -- at the end the innermost block is still open
-pub data LeavesOpen (t : Test) : List Piece → Fault → Type 0 where
-  left_open : {d : ℕ} {f : Frame} {ps : List Piece} {fs : List Frame} {es : List Placed}
+pub data LeavesOpen (t : Test) : List SourcePiece → NestFault → Type 0 where
+  left_open : {d : ℕ} {f : OpenBlock} {ps : List SourcePiece} {fs : List OpenBlock} {es : List Placed}
       → Opens t d ps (f ∷ fs) es → LeavesOpen t ps (not_closed f.place)

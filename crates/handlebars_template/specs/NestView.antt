@@ -3,7 +3,7 @@ use Rattle.std.specs.Prelude.{◌≡◌, List, [], ◌∷◌, map, reverse, Opti
 use Rattle.handlebars_template.specs.Place.{Place}
 use Rattle.handlebars_template.specs.Tree.{name, Binding, no_binding, single, both}
 use Rattle.handlebars_template.specs.TreeView.{text, place_of, element_view, param_view, arguments_view}
-use Rattle.handlebars_template.specs.Nest.{BlockKind, helper_opening, raw_opening, decorator_opening, partial_opening, Opening, Piece, Fault, unexpected, too_deep, mismatched, no_value, Placed, Branch, Stage, in_first, in_branch, in_inverse, Frame}
+use Rattle.handlebars_template.specs.Nest.{BlockKind, helper_opening, raw_opening, decorator_opening, partial_opening, Opening, SourcePiece, NestFault, unexpected, too_deep, mismatched, no_value, Placed, Branch, Stage, in_first, in_branch, in_inverse, OpenBlock}
 use Rattle.handlebars_template.specs.Machine.{goes, behind_piece, early_in, late_after, End, complete, unclosed, refused}
 use Rattle.handlebars_template.specs.declared.template.tree.TemplateMapping.{TemplateMapping}
 use Rattle.handlebars_template.specs.declared.template.tree.TemplateElement.{TemplateElement}
@@ -63,7 +63,7 @@ stage_view stage.First = in_first
 stage_view (stage.Chained o) = in_branch (opening_view o)
 stage_view stage.Inverse = in_inverse
 
-abbrev pub frame_view : Open → Frame
+abbrev pub frame_view : Open → OpenBlock
 frame_view b = record {
   place = place_of b.place;
   opening = opening_view b.opening;
@@ -75,43 +75,43 @@ frame_view b = record {
 }
 
 -- the innermost first
-abbrev pub stack_view : List Open → List Frame
+abbrev pub stack_view : List Open → List OpenBlock
 stack_view bs = reverse (map frame_view bs)
 
-abbrev pub late_fault : Late → Fault
+abbrev pub late_fault : Late → NestFault
 late_fault (late.NoValue raw) = no_value (text raw)
 late_fault (late.Mismatched k opened closing p) = mismatched (kind_view k) (text opened) (text closing) (place_of p)
 
-abbrev pub late_view : Option Late → Option Fault
+abbrev pub late_view : Option Late → Option NestFault
 late_view None = None
 late_view (Some l) = Some (late_fault l)
 
-abbrev pub frames : Nesting → List Frame
+abbrev pub frames : Nesting → List OpenBlock
 frames state = stack_view state.stack.items
 
-abbrev pub late_of : Nesting → Option Fault
+abbrev pub late_of : Nesting → Option NestFault
 late_of state = late_view state.late
 
 -- why the syntax refuses a piece, if it does
-abbrev pub early : Nesting → Piece → Option Fault
+abbrev pub early : Nesting → SourcePiece → Option NestFault
 early state x = early_in state.depth (frames state) x
 
-abbrev pub syntax_fault : Place → SyntaxFault → Fault
+abbrev pub syntax_fault : Place → SyntaxFault → NestFault
 syntax_fault p syntax.Unexpected = unexpected p
 syntax_fault p syntax.TooDeep = too_deep p
 
 -- what is said of a piece at this place, before it stands
-abbrev pub Looks : Place → Option Fault → Option SyntaxFault → Type 0
+abbrev pub Looks : Place → Option NestFault → Option SyntaxFault → Type 0
 Looks p fault seen = option_map (syntax_fault p) seen ≡ fault
 
 -- the state behind a piece
-pub record IsBehind (old : Nesting) (x : Piece) (new : Nesting) : Type 0 where
+pub record IsBehind (old : Nesting) (x : SourcePiece) (new : Nesting) : Type 0 where
   pub goes_on : behind_piece x old.depth (frames old) (placed_view old.elements)
       ≡ goes new.depth (frames new) (placed_view new.elements)
   pub late : late_of new ≡ late_after (late_of old) x (frames old)
 
 -- It does what the piece does, where that may stand.
-abbrev pub Does : Nesting → Piece → Nesting → Type 0
+abbrev pub Does : Nesting → SourcePiece → Nesting → Type 0
 Does old x new = early old x ≡ None → IsBehind old x new
 
 abbrev pub end_view : Nested → End

@@ -9,7 +9,7 @@ use Rattle.handlebars_template.specs.Place.{Place}
 use Rattle.handlebars_template.specs.Tree.{Element, raw_string, html_expression, expression, Call}
 use Rattle.handlebars_template.specs.TreeView.{place_of}
 use Rattle.handlebars_template.specs.Calls.{call_of, first_refused, literals_in, line_literals}
-use Rattle.handlebars_template.specs.Nest.{BlockKind, helper_opening, Piece, leaf, opens, chains, not_closed, Placed}
+use Rattle.handlebars_template.specs.Nest.{BlockKind, helper_opening, SourcePiece, leaf, opens, chains, not_closed, Placed}
 use Rattle.handlebars_template.specs.Machine.{End, complete, unclosed, refused as refused_end}
 use Rattle.handlebars_template.specs.NestView.{opening_view, syntax_fault, end_view}
 use Rattle.handlebars_template.specs.Compile.{opening_of, tree_of, unreadable_tag, refusal_for, Compiles, compiled, refused}
@@ -24,25 +24,25 @@ abbrev pub value_element : Bool → Call → Element
 value_element true h = expression h
 value_element false h = html_expression h
 
-abbrev pub value_piece : Bool → Place → Line → Piece
+abbrev pub value_piece : Bool → Place → Line → SourcePiece
 value_piece is_escaped p line =
     leaf p (value_element is_escaped (call_of line.name line.terms)) line.depth (first_refused (line_literals line))
 
 -- the opening tag of a block of this kind
-abbrev pub block_piece : BlockKind → Place → Edge → BlockLine → Piece
+abbrev pub block_piece : BlockKind → Place → Edge → BlockLine → SourcePiece
 block_piece kind p e line =
     opens p (opening_of kind e line) line.depth (first_refused (literals_in line.terms))
 
-abbrev pub chain_piece : Place → Edge → BlockLine → Piece
+abbrev pub chain_piece : Place → Edge → BlockLine → SourcePiece
 chain_piece p e line = chains p (opening_of helper_opening e line) line.depth (first_refused (literals_in line.terms))
 
 -- the opening that this line of a block says, and its first refused literal
-pub record Opening (kind : BlockKind) (e : Edge) (line : BlockLine) (built : BuiltOpening) : Type 0 where
+pub record HasOpening (kind : BlockKind) (e : Edge) (line : BlockLine) (built : BuiltOpening) : Type 0 where
   pub opening : opening_view built.opening ≡ opening_of kind e line
   pub refused : option_map (λ t. t.now) built.refused ≡ first_refused (literals_in line.terms)
 
 abbrev pub IsOpening : BlockKind → Edge → BlockLine → Option BuiltOpening → Type 0
-IsOpening kind e line read = MatchOption read ⊥ (Opening kind e line)
+IsOpening kind e line read = MatchOption read ⊥ (HasOpening kind e line)
 
 -- ---- texts
 

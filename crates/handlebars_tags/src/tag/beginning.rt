@@ -14,7 +14,7 @@ use handlebars_base::json::path::marks::{after, behind_white, is_white};
 
 /// The kind of a tag, by its beginning.
 #[derive(Clone, Copy, Debug, PartialEq, Eq)]
-pub enum Kind {
+pub enum TagKind {
     Expression,
     Html,
     HtmlSign,
@@ -30,14 +30,14 @@ pub enum Kind {
 
 /// The kind of a tag, whether a tilde stands behind its opening braces, and what is inside.
 #[derive(Clone, Copy, Debug, PartialEq, Eq)]
-pub struct Beginning<'a> {
-    pub kind: Kind,
+pub struct TagBeginning<'a> {
+    pub kind: TagKind,
     pub tilde: bool,
     pub inside: &'a str,
 }
 
 /// The beginning of the tag in front.
-pub fn beginning_of(left: &str) -> Option<Beginning<'_>>
+pub fn beginning_of(left: &str) -> Option<TagBeginning<'_>>
     ensures { option_map beginning_view result ≡ beginning_of left.now }
 {
     let one = after(b'{', left)?;
@@ -46,7 +46,7 @@ pub fn beginning_of(left: &str) -> Option<Beginning<'_>>
 }
 
 /// Behind two braces: another, the mark of a comment, or neither.
-fn behind_two(text: &str) -> Beginning<'_>
+fn behind_two(text: &str) -> TagBeginning<'_>
     ensures { beginning_of (codes "{{" ++ text.now) ≡ Some (beginning_view result) }
 {
     let Some((mark, behind)) = first_byte(text) else {
@@ -54,8 +54,8 @@ fn behind_two(text: &str) -> Beginning<'_>
     };
     match mark {
         b'{' => behind_three(behind),
-        b'!' => Beginning {
-            kind: Kind::Comment,
+        b'!' => TagBeginning {
+            kind: TagKind::Comment,
             tilde: false,
             inside: behind,
         },
@@ -63,28 +63,28 @@ fn behind_two(text: &str) -> Beginning<'_>
     }
 }
 
-fn behind_three(text: &str) -> Beginning<'_>
+fn behind_three(text: &str) -> TagBeginning<'_>
     ensures { beginning_of (codes "{{{" ++ text.now) ≡ Some (beginning_view result) }
 {
     if let Some(behind) = after(b'{', text) {
         return behind_four(behind);
     }
     let (tilde, inside) = tilde_at(text);
-    Beginning {
-        kind: Kind::Html,
+    TagBeginning {
+        kind: TagKind::Html,
         tilde,
         inside,
     }
 }
 
-fn behind_four(text: &str) -> Beginning<'_>
+fn behind_four(text: &str) -> TagBeginning<'_>
     ensures { beginning_of (codes "{{{{" ++ text.now) ≡ Some (beginning_view result) }
 {
     let (tilde, inside) = tilde_at(text);
     match after(b'/', inside) {
-        Some(behind) => marked(Kind::RawClose, tilde, behind),
-        None => Beginning {
-            kind: Kind::Raw,
+        Some(behind) => marked(TagKind::RawClose, tilde, behind),
+        None => TagBeginning {
+            kind: TagKind::Raw,
             tilde,
             inside,
         },
@@ -92,7 +92,7 @@ fn behind_four(text: &str) -> Beginning<'_>
 }
 
 /// Behind two braces, in front of no third and no comment: behind a tilde a third counts again.
-fn tilded_at(text: &str) -> Beginning<'_>
+fn tilded_at(text: &str) -> TagBeginning<'_>
     ensures { first_of two_rows (codes "{{" ++ text.now) ≡ Some (beginning_view result) }
 {
     let (tilde, inside) = tilde_at(text);
@@ -100,51 +100,51 @@ fn tilded_at(text: &str) -> Beginning<'_>
         return signed_at(false, inside);
     }
     match after(b'{', inside) {
-        Some(behind) => marked(Kind::Html, true, behind),
+        Some(behind) => marked(TagKind::Html, true, behind),
         None => signed_at(true, inside),
     }
 }
 
 /// Behind two braces and a tilde, if any: by the byte in front.
-fn signed_at(tilde: bool, text: &str) -> Beginning<'_>
+fn signed_at(tilde: bool, text: &str) -> TagBeginning<'_>
     ensures { signed_by sign_rows tilde text.now ≡ Some (beginning_view result) }
 {
     let Some((sign, behind)) = first_byte(text) else {
         return unsigned(tilde, text);
     };
     match sign {
-        b'&' => marked(Kind::HtmlSign, tilde, behind),
+        b'&' => marked(TagKind::HtmlSign, tilde, behind),
         b'#' => block_at(tilde, behind),
-        b'/' => marked(Kind::Close, tilde, behind),
-        b'^' => marked(Kind::Inverse, tilde, behind),
-        b'*' => marked(Kind::Other, tilde, behind),
-        b'>' => marked(Kind::Other, tilde, behind),
+        b'/' => marked(TagKind::Close, tilde, behind),
+        b'^' => marked(TagKind::Inverse, tilde, behind),
+        b'*' => marked(TagKind::Other, tilde, behind),
+        b'>' => marked(TagKind::Other, tilde, behind),
         b'e' => worded_at(tilde, text),
         _ => unsigned(tilde, text),
     }
 }
 
 /// Behind `#`, where the sign of a decorator or of an inclusion may follow.
-fn block_at(tilde: bool, text: &str) -> Beginning<'_>
+fn block_at(tilde: bool, text: &str) -> TagBeginning<'_>
     ensures { signed_by sign_rows tilde (codes "#" ++ text.now) ≡ Some (beginning_view result) }
 {
     let Some((sign, inside)) = first_byte(text) else {
-        return marked(Kind::Block, tilde, text);
+        return marked(TagKind::Block, tilde, text);
     };
     match sign {
-        b'*' => marked(Kind::Other, tilde, inside),
-        b'>' => marked(Kind::Other, tilde, inside),
-        _ => marked(Kind::Block, tilde, text),
+        b'*' => marked(TagKind::Other, tilde, inside),
+        b'>' => marked(TagKind::Other, tilde, inside),
+        _ => marked(TagKind::Block, tilde, text),
     }
 }
 
 /// In front of `e`: the word, or a value.
-fn worded_at(tilde: bool, text: &str) -> Beginning<'_>
+fn worded_at(tilde: bool, text: &str) -> TagBeginning<'_>
     ensures { signed_by word_rows tilde text.now ≡ Some (beginning_view result) }
 {
     match else_at(text) {
-        Some(inside) => Beginning {
-            kind: Kind::Else,
+        Some(inside) => TagBeginning {
+            kind: TagKind::Else,
             tilde,
             inside,
         },
@@ -164,10 +164,10 @@ fn else_at(text: &str) -> Option<&str>
 }
 
 /// Behind a mark, with white or none behind it.
-fn marked(kind: Kind, tilde: bool, behind: &str) -> Beginning<'_>
+fn marked(kind: TagKind, tilde: bool, behind: &str) -> TagBeginning<'_>
     ensures { beginning_view result ≡ beginning (kind_of kind) tilde (behind_white behind.now) }
 {
-    Beginning {
+    TagBeginning {
         kind,
         tilde,
         inside: behind_white(behind),
@@ -175,11 +175,11 @@ fn marked(kind: Kind, tilde: bool, behind: &str) -> Beginning<'_>
 }
 
 /// With no mark.
-fn unsigned(tilde: bool, inside: &str) -> Beginning<'_>
+fn unsigned(tilde: bool, inside: &str) -> TagBeginning<'_>
     ensures { beginning_view result ≡ beginning expression_kind tilde inside.now }
 {
-    Beginning {
-        kind: Kind::Expression,
+    TagBeginning {
+        kind: TagKind::Expression,
         tilde,
         inside,
     }

@@ -5,28 +5,28 @@ ghost use Rattle.std.specs.Option.{option_map};
 ghost use Rattle.handlebars_tags.specs.Kind.{close_by, three_close, brace_tilde_braces, closing_of};
 ghost use Rattle.handlebars_tags.specs.KindView.{kind_of, tilded};
 
-use super::beginning::Kind;
+use super::beginning::TagKind;
 use crate::front::{past, tilde_at};
 use handlebars_base::json::path::marks::{after, behind_white};
 
 /// Whether a tilde stands before the braces that close a tag of this kind, and what follows them. A comment holds its
 /// own.
-#[tactic(auto, unfolding(crate::specs::Kind::closing_of))]
-pub fn closing_of(kind: Kind, text: &str) -> Option<(bool, &str)>
+#[tactic(auto, unfolding(crate::specs::TagKind::closing_of))]
+pub fn closing_of(kind: TagKind, text: &str) -> Option<(bool, &str)>
     ensures { option_map tilded result ≡ closing_of (kind_of kind) text.now }
 {
     match kind {
-        Kind::Expression => close_by("}}", text),
-        Kind::Html => three_close(text),
-        Kind::HtmlSign => close_by("}}", text),
-        Kind::Block => close_by("}}", text),
-        Kind::Close => close_by("}}", text),
-        Kind::Inverse => close_by("}}", text),
-        Kind::Else => close_by("}}", text),
-        Kind::Raw => close_by("}}}}", text),
-        Kind::RawClose => close_by("}}}}", text),
-        Kind::Comment => Some((false, text)),
-        Kind::Other => None,
+        TagKind::Expression => close_by("}}", text),
+        TagKind::Html => three_close(text),
+        TagKind::HtmlSign => close_by("}}", text),
+        TagKind::Block => close_by("}}", text),
+        TagKind::Close => close_by("}}", text),
+        TagKind::Inverse => close_by("}}", text),
+        TagKind::Else => close_by("}}", text),
+        TagKind::Raw => close_by("}}}}", text),
+        TagKind::RawClose => close_by("}}}}", text),
+        TagKind::Comment => Some((false, text)),
+        TagKind::Other => None,
     }
 }
 

@@ -7,11 +7,11 @@ ghost use Rattle.handlebars_tags.specs.KindView.{kind_of};
 ghost use Rattle.handlebars_tags.specs.TagReading.{NoBlockLine, NoneClosed, NoClosedLine};
 ghost use Rattle.handlebars_tags.specs.TagView.{HasBlock, HasClosing, HasClosedLine, HasInside};
 
-use super::beginning::{Beginning, Kind};
+use super::beginning::{TagBeginning, TagKind};
 use super::closing::closing_of;
 use crate::comment::split_comment;
 use handlebars_base::json::path::marks::{behind_white, starts_white, symbols};
-use handlebars_lines::binding::{Binding, split_binding};
+use handlebars_lines::binding::{BoundNames, split_binding};
 use handlebars_lines::line::{Enclosure, NameMode, close_name_at, split_line};
 use std::alloc::{AllocError, Global};
 
@@ -39,7 +39,7 @@ pub enum Content<'a> {
 pub struct BlockSlice<'a> {
     pub line: &'a str,
     pub name: &'a str,
-    pub binding: Binding<'a>,
+    pub binding: BoundNames<'a>,
 }
 
 /// What is inside a tag: what it says, whether a tilde stands before its closing braces, how deep it nests, and what
@@ -57,7 +57,7 @@ pub struct Inside<'a> {
 /// What is inside the tag that begins so at the front of what is left, in which a long comment may end or not.
 pub fn inside_at<'a>(
     alloc: Global,
-    begins: Beginning<'a>,
+    begins: TagBeginning<'a>,
     left: &'a str,
     long_ahead: bool,
 ) -> Result<Option<Inside<'a>>, AllocError>
@@ -69,22 +69,27 @@ pub fn inside_at<'a>(
 {
     let text = begins.inside;
     match begins.kind {
-        Kind::Expression => value(alloc, Kind::Expression, Content::Expression(text), text),
-        Kind::Html => value(alloc, Kind::Html, Content::Html(text), text),
-        Kind::HtmlSign => value(alloc, Kind::HtmlSign, Content::Html(text), text),
-        Kind::Block => block(alloc, text),
-        Kind::Close => Ok(close(text)),
-        Kind::Inverse => Ok(closed(Kind::Inverse, Content::Inverse, 0, text)),
-        Kind::Else => inverse(alloc, text),
-        Kind::Raw => raw_block(alloc, text),
-        Kind::RawClose => Ok(raw_close(text)),
-        Kind::Comment => Ok(comment(left, long_ahead)),
-        Kind::Other => Ok(None),
+        TagKind::Expression => value(alloc, TagKind::Expression, Content::Expression(text), text),
+        TagKind::Html => value(alloc, TagKind::Html, Content::Html(text), text),
+        TagKind::HtmlSign => value(alloc, TagKind::HtmlSign, Content::Html(text), text),
+        TagKind::Block => block(alloc, text),
+        TagKind::Close => Ok(close(text)),
+        TagKind::Inverse => Ok(closed(TagKind::Inverse, Content::Inverse, 0, text)),
+        TagKind::Else => inverse(alloc, text),
+        TagKind::Raw => raw_block(alloc, text),
+        TagKind::RawClose => Ok(raw_close(text)),
+        TagKind::Comment => Ok(comment(left, long_ahead)),
+        TagKind::Other => Ok(None),
     }
 }
 
 /// What was read so far, with what closes it.
-fn closed<'a>(kind: Kind, content: Content<'a>, depth: usize, behind: &'a str) -> Option<Inside<'a>>
+fn closed<'a>(
+    kind: TagKind,
+    content: Content<'a>,
+    depth: usize,
+    behind: &'a str,
+) -> Option<Inside<'a>>
     ensures { MatchOption result (closing_of (kind_of kind) behind.now ≡ None)
         (λ inside. HasClosing (kind_of kind) behind.now content.entry depth inside) }
 {
@@ -103,7 +108,7 @@ fn closed<'a>(kind: Kind, content: Content<'a>, depth: usize, behind: &'a str) -
 /// The line of a value, and what closes it.
 fn value<'a>(
     alloc: Global,
-    kind: Kind,
+    kind: TagKind,
     content: Content<'a>,
     text: &'a str,
 ) -> Result<Option<Inside<'a>>, AllocError>
@@ -122,7 +127,7 @@ fn block(alloc: Global, text: &str) -> Result<Option<Inside<'_>>, AllocError>
 {
     match block_line(alloc, text)? {
         Some(line) => Ok(closed(
-            Kind::Block,
+            TagKind::Block,
             Content::Block(line.slice),
             line.depth,
             line.rest,
@@ -137,7 +142,7 @@ fn raw_block(alloc: Global, text: &str) -> Result<Option<Inside<'_>>, AllocError
 {
     match block_line(alloc, text)? {
         Some(line) => Ok(closed(
-            Kind::Raw,
+            TagKind::Raw,
             Content::RawBlock(line.slice),
             line.depth,
             line.rest,
@@ -151,7 +156,7 @@ fn inverse(alloc: Global, text: &str) -> Result<Option<Inside<'_>>, AllocError>
     ensures { IfOk result (λ read. MatchOption read (NoneClosed else_kind text.now)
         (λ inside. HasInside else_kind text.now inside × (inside.long_ahead ≡ true))) }
 {
-    if let Some(inside) = closed(Kind::Else, Content::Inverse, 0, text) {
+    if let Some(inside) = closed(TagKind::Else, Content::Inverse, 0, text) {
         return Ok(Some(inside));
     }
     if !starts_white(text) {
@@ -159,7 +164,7 @@ fn inverse(alloc: Global, text: &str) -> Result<Option<Inside<'_>>, AllocError>
     }
     match block_line(alloc, behind_white(text))? {
         Some(line) => Ok(closed(
-            Kind::Else,
+            TagKind::Else,
             Content::Chain(line.slice),
             line.depth,
             line.rest,
@@ -173,7 +178,7 @@ fn close(text: &str) -> Option<Inside<'_>>
         (λ inside. HasInside close_kind text.now inside × (inside.long_ahead ≡ true)) }
 {
     let (name, behind) = close_name_at(text);
-    closed(Kind::Close, Content::Close(name), 0, behind)
+    closed(TagKind::Close, Content::Close(name), 0, behind)
 }
 
 fn raw_close(text: &str) -> Option<Inside<'_>>
@@ -184,7 +189,7 @@ fn raw_close(text: &str) -> Option<Inside<'_>>
     if name.is_empty() {
         None
     } else {
-        closed(Kind::RawClose, Content::RawClose(name), 0, behind)
+        closed(TagKind::RawClose, Content::RawClose(name), 0, behind)
     }
 }
 

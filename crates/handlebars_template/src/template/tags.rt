@@ -22,7 +22,7 @@ use crate::template::chain::{BlockKind, BlockNames, BlockOpening};
 use crate::template::line::build_line;
 use crate::template::nest::{Nesting, SyntaxFault};
 use crate::template::tree::{HelperTemplate, Parameter, TemplateElement, TemplateMapping};
-use handlebars_lines::binding::Binding;
+use handlebars_lines::binding::BoundNames;
 use handlebars_lines::line::{Enclosure, NameMode};
 use handlebars_tags::tag::{BlockSlice, Content, TagSlice};
 use handlebars_tags::trim::{Edge, edge_at};
@@ -116,13 +116,13 @@ pub fn look(nesting: &Nesting, content: Content<'_>, depth: usize) -> Option<Syn
     }
 }
 
-fn block_names(alloc: Global, binding: Binding<'_>) -> Result<BlockNames, AllocError>
+fn block_names(alloc: Global, binding: BoundNames<'_>) -> Result<BlockNames, AllocError>
     ensures { IfOk result (λ names. names_view names ≡ binding_of (means_of binding.entry)) }
 {
     match binding {
-        Binding::Unbound => Ok(BlockNames::Unbound),
-        Binding::Bound(name) => Ok(BlockNames::Bound(String::from_str(alloc, name)?)),
-        Binding::BothBound(name, other) => {
+        BoundNames::Unbound => Ok(BlockNames::Unbound),
+        BoundNames::Bound(name) => Ok(BlockNames::Bound(String::from_str(alloc, name)?)),
+        BoundNames::BothBound(name, other) => {
             let name = String::from_str(alloc, name)?;
             let other = String::from_str(alloc, other)?;
             Ok(BlockNames::BothBound(name, other))

@@ -1,5 +1,5 @@
 use Rattle.std.proofs.Common.{Some, sym, ap, ◌∙◌}
-use Rattle.handlebars_tags.specs.Kind.{Beginning}
+use Rattle.handlebars_tags.specs.Kind.{TagBeginning}
 use Rattle.handlebars_tags.specs.KindView.{tilded}
 use Rattle.handlebars_tags.proofs.BeginningsRead.{four-slash, four-none}
 use Rattle.handlebars_tags.proofs.tag.beginning.behind_four.Goals as goal
@@ -7,7 +7,7 @@ use Rattle.handlebars_tags.proofs.tag.beginning.behind_four.Goals as goal
 pub returns-in-Some : goal.returns-in-Some
 returns-in-Some c =
     four-slash c.args.text.now c.in-Some.behind.now (tilded c.tilde_at-tilde.result) c.tilde_at-tilde.ensures (sym c.in-Some.ensures)
-    ∙ sym (ap (λ (b : Beginning). Some b) c.marked.ensures)
+    ∙ sym (ap (λ (b : TagBeginning). Some b) c.marked.ensures)
 
 pub returns-in-None : goal.returns-in-None
 returns-in-None c = four-none c.args.text.now (tilded c.tilde_at-tilde.result) c.tilde_at-tilde.ensures (sym c.in-None.ensures)

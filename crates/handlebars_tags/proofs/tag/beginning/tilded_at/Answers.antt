@@ -1,5 +1,5 @@
 use Rattle.std.proofs.Common.{Some, sym, ap, ◌∙◌}
-use Rattle.handlebars_tags.specs.Kind.{Beginning}
+use Rattle.handlebars_tags.specs.Kind.{TagBeginning}
 use Rattle.handlebars_tags.specs.KindView.{tilded}
 use Rattle.handlebars_tags.proofs.BeginningsRead.{two-read}
 use Rattle.handlebars_tags.proofs.tag.beginning.tilded_at.Goals as goal
@@ -10,7 +10,7 @@ returns-then-not-tilde c = (two-read c.args.text.now (tilded c.tilde_at-tilde.re
 pub returns-in-Some : goal.returns-in-Some
 returns-in-Some c =
     (two-read c.args.text.now (tilded c.tilde_at-tilde.result) c.tilde_at-tilde.ensures).brace c.in-Some.behind.now c.if-not-tilde.false (sym c.in-Some.ensures)
-    ∙ sym (ap (λ (b : Beginning). Some b) c.marked.ensures)
+    ∙ sym (ap (λ (b : TagBeginning). Some b) c.marked.ensures)
 
 pub returns-in-None : goal.returns-in-None
 returns-in-None c =

@@ -1,7 +1,7 @@
 use Rattle.std.proofs.Common.{◌≡◌, ◌∙◌, List, ◌∷◌, [], suc, ◌<◌, ap, sym, rules}
 use Rattle.std.specs.Option.{option_or}
 use Rattle.handlebars_template.specs.Calls.{max_nesting}
-use Rattle.handlebars_template.specs.Nest.{Frame, Placed, in_branch}
+use Rattle.handlebars_template.specs.Nest.{OpenBlock, Placed, in_branch}
 use Rattle.handlebars_template.specs.Machine.{goes, next_stage}
 use Rattle.handlebars_template.specs.NestView.{placed_view, opening_view, stage_view, frame_view, stack_view, frames, late_of}
 use Rattle.handlebars_template.proofs.NestsBuilt.{stack_view_push}
@@ -23,6 +23,6 @@ returns c n may =
     let none : placed_view new.elements ≡ [] = c.keep.ensures.elements ∙ search rules in
     record {
       goes_on = chains-goes _ _ n _ old.depth new.depth (frame_view c.in-Some.block) (frame_view c.enter.new.self) (frames old) behind (placed_view old.elements) front next (rw (c.keep.ensures.depth) more) may
-          ∙ ap (λ (z : List Frame). goes new.depth z []) (sym stack) ∙ ap (goes new.depth (frames new)) (sym none);
+          ∙ ap (λ (z : List OpenBlock). goes new.depth z []) (sym stack) ∙ ap (goes new.depth (frames new)) (sym none);
       late = c.keep.ensures.late ∙ ap (option_or (late_of old)) (c.in_ok-literal_fault.ensures ∙ sym (option_or-none _));
     }

@@ -2,7 +2,7 @@ use Rattle.std.proofs.Common.{◌≡◌, ◌∙◌, List, ◌∷◌, ◌++◌, [
 use Rattle.std.specs.Option.{option_or}
 use Rattle.handlebars_base.specs.Bytes.{Text}
 use Rattle.handlebars_template.specs.TreeView.{place_of}
-use Rattle.handlebars_template.specs.Nest.{Frame, Placed, closes, names_and_literals, may_close}
+use Rattle.handlebars_template.specs.Nest.{OpenBlock, Placed, closes, names_and_literals, may_close}
 use Rattle.handlebars_template.specs.Machine.{goes, closed, late_in, name_fault}
 use Rattle.handlebars_template.specs.NestView.{placed_view, frame_view, stack_view, frames, late_of, late_view}
 use Rattle.handlebars_template.proofs.NestsBuilt.{stack_view_push}
@@ -23,14 +23,14 @@ returns c =
     let p = place_of c.args.place in
     let name : late_view c.in_ok-name_fault.field-0 ≡ late_in (frames old) (closes p c.args.is_raw m) =
     c.in_ok-name_fault.ensures ∙ ap (λ (n : Text). name_fault (may_close names_and_literals n m) f.opening.kind n m p) c.as_str.ensures.value
-    ∙ ap (λ (z : List Frame). late_in z (closes p c.args.is_raw m)) (sym front) in
+    ∙ ap (λ (z : List OpenBlock). late_in z (closes p c.args.is_raw m)) (sym front) in
     on_ok_weaker c.end.result
     (λ made may.
     let whole : last ≡ f.outside ++ closed f (placed_view old.elements) ∷ [] = made ∙ ap (λ (o : List Placed). o ++ closed f (placed_view c.replace-elements.result) ∷ []) outside
     ∙ ap (λ (es : List Placed). f.outside ++ closed f es ∷ []) elements in
     record {
       goes_on = closes-goes p c.args.is_raw m old.depth f (frames old) behind (placed_view old.elements) last front whole
-          ∙ ap (λ (z : List Frame). goes f.around z last) (sym c.keep.ensures.frames);
+          ∙ ap (λ (z : List OpenBlock). goes f.around z last) (sym c.keep.ensures.frames);
       late = c.keep.ensures.late ∙ ap (option_or (late_of old)) name;
     })
     c.end.ensures
