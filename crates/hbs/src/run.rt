@@ -27,24 +27,11 @@ pub fn run<R: TemplateReader, O: Write, E: Write>(
     ensures usage { IfOk words (λ given. length (file_words given.items) ≢ 2 → result ≡ 2) }
 {
     match words {
-        Ok(words) => run_words(alloc, words.as_slice(), files, out, err),
+        Ok(words) => match print(alloc, words.as_slice(), files, out) {
+            Ok(()) => 0,
+            Err(failure) => report(&failure, err),
+        },
         Err(cause) => report(&cause.into(), err),
-    }
-}
-
-fn run_words<R: TemplateReader, O: Write, E: Write>(
-    alloc: Global,
-    words: &[Word],
-    files: &mut R,
-    out: &mut O,
-    err: &mut E,
-) -> u8
-    ensures status { result ≤ 2 }
-    ensures usage { length (file_words words.now) ≢ 2 → result ≡ 2 }
-{
-    match print(alloc, words, files, out) {
-        Ok(()) => 0,
-        Err(failure) => report(&failure, err),
     }
 }
 

@@ -4,7 +4,7 @@ use handlebars::{EntryKind, TemplateReader};
 use std::alloc::{AllocError, Global};
 use std::io;
 use std::io::{ErrorKind, Write};
-use std::test::Fail;
+use std::process::Abort;
 
 // Two files, the path that can't be read and why, and how often any was asked for.
 #[derive(Drop)]
@@ -74,10 +74,6 @@ fn readable(alloc: Global, template: &'static str, data: &'static str) -> Kept {
     }
 }
 
-fn hello(alloc: Global) -> Kept {
-    readable(alloc, "Hello {{name}}", "{\"name\":\"foo\"}")
-}
-
 // Words for files that are there, for files that aren't, and one that is no UTF-8.
 fn words(alloc: Global, given: &[&str]) -> Result<Vec<Word>, AllocError> {
     let mut words = Vec::new(alloc);
@@ -90,44 +86,71 @@ fn words(alloc: Global, given: &[&str]) -> Result<Vec<Word>, AllocError> {
     Ok(words)
 }
 
-// What a run did, over the words: its status, and what it wrote.
-#[derive(Drop)]
-struct Seen {
-    status: u8,
-    out: String,
-    err: String,
-}
-
-fn seen_of(files: &mut Kept, words: Result<Vec<Word>, AllocError>) -> Result<Seen, Fail> {
+// What a run over the words comes to: its status with how often it asks for a file, and what it writes.
+fn comes_to(
+    rt: &impl Abort,
+    files: &mut Kept,
+    words: Result<Vec<Word>, AllocError>,
+    wanted: (u8, u64),
+    out: &str,
+    err: &str,
+) {
     let alloc = files.alloc;
-    let mut out = Vec::new(alloc);
-    let mut err = Vec::new(alloc);
-    let status = run(alloc, words, files, &mut out, &mut err);
-    Ok(Seen {
-        status,
-        out: String::from_utf8(out)?,
-        err: String::from_utf8(err)?,
-    })
+    let mut written = Vec::new(alloc);
+    let mut told = Vec::new(alloc);
+    let status = run(alloc, words, files, &mut written, &mut told);
+    is_text(rt, told, err);
+    is_text(rt, written, out);
+    assert_eq!(rt; (status, files.asked), wanted, "at {err}");
 }
 
-#[test]
-fn renders_templates_over_data(rt: HostRuntime) -> Result<(), Fail> {
-    let alloc = rt.alloc();
-    let table = [
-        ("Hello {{name}}", "{\"name\":\"foo\"}", "Hello foo"),
-        ("", "null", ""),
-        ("{{a}}\n", " {\"a\": \"<\"}\n", "&lt;\n"),
-    ];
-    for (template, data, out) in table {
-        let seen = seen_of(
-            &mut readable(alloc, template, data),
-            words(alloc, &["t.hbs", "d.json"]),
-        )?;
-        assert_eq!(rt; seen.err.as_str(), "");
-        assert_eq!(rt; seen.out.as_str(), out);
-        assert_eq!(rt; seen.status, 0);
-    }
-    Ok(())
+fn is_text(rt: &impl Abort, bytes: Vec<u8>, wanted: &str) {
+    let text = String::from_utf8(bytes).expect(rt, "a text");
+    assert_eq!(rt; text.as_str(), wanted);
+}
+
+// Over a template and data that can both be read.
+fn renders(
+    rt: &impl Abort,
+    alloc: Global,
+    template: &'static str,
+    data: &'static str,
+    status: u8,
+    out: &str,
+    err: &str,
+) {
+    let mut files = readable(alloc, template, data);
+    let words = words(alloc, &["t.hbs", "d.json"]);
+    comes_to(rt, &mut files, words, (status, 2), out, err);
+}
+
+// Where a path can't be read.
+fn breaks(
+    rt: &impl Abort,
+    alloc: Global,
+    broken: &'static str,
+    kind: ErrorKind,
+    wanted: (u8, u64),
+    err: &str,
+) {
+    let mut files = readable(alloc, "", "null");
+    files.broken = broken;
+    files.kind = kind;
+    let words = words(alloc, &["t.hbs", "d.json"]);
+    comes_to(rt, &mut files, words, wanted, "", err);
+}
+
+// For these words, over files of which strict mode refuses the template.
+fn runs_for(
+    rt: &impl Abort,
+    alloc: Global,
+    given: &[&str],
+    wanted: (u8, u64),
+    out: &str,
+    err: &str,
+) {
+    let mut files = readable(alloc, "a\n{{x}}", "{}");
+    comes_to(rt, &mut files, words(alloc, given), wanted, out, err);
 }
 
 const UNREADABLE: &str =
@@ -141,92 +164,26 @@ const UNREADABLE: &str =
 
 "#;
 
-#[test]
-fn refuses_texts(rt: HostRuntime) -> Result<(), Fail> {
-    let alloc = rt.alloc();
-    let table = [
-        ("", "", 2, "hbs: not JSON: d.json\n"),
-        ("{{a", "{\"a\":}", 2, "hbs: not JSON: d.json\n"),
-        ("{{a", "1.5", 1, "Number outside the kept range\n"),
-        (
-            "x{{a.x}}",
-            "{\"a\":[1]}",
-            1,
-            "Error rendering \"Unnamed template\" line 1, col 2: Cannot access array/vector with string index, x\n",
-        ),
-        ("ab{{name", "null", 1, UNREADABLE),
-    ];
-    for (template, data, status, err) in table {
-        let seen = seen_of(
-            &mut readable(alloc, template, data),
-            words(alloc, &["t.hbs", "d.json"]),
-        )?;
-        assert_eq!(rt; seen.err.as_str(), err);
-        assert_eq!(rt; seen.out.as_str(), "");
-        assert_eq!(rt; seen.status, status);
-    }
-    Ok(())
-}
+const BY_NAME: &str =
+    "Error rendering \"Unnamed template\" line 1, col 2: Cannot access array/vector with string index, x\n";
 
 #[test]
-fn tells_of_files(rt: HostRuntime) -> Result<(), Fail> {
+fn renders_or_refuses(rt: HostRuntime) {
     let alloc = rt.alloc();
-    let table = [
-        (
-            "t.hbs",
-            ErrorKind::NotFound,
-            2,
-            1,
-            "hbs: cannot read t.hbs\n",
-        ),
-        (
-            "d.json",
-            ErrorKind::InvalidData,
-            2,
-            2,
-            "hbs: cannot read d.json\n",
-        ),
-        ("t.hbs", ErrorKind::OutOfMemory, 1, 1, "Out of memory\n"),
-        ("d.json", ErrorKind::OutOfMemory, 1, 2, "Out of memory\n"),
-    ];
-    for (broken, kind, status, asked, err) in table {
-        let mut files = hello(alloc);
-        files.broken = broken;
-        files.kind = kind;
-        let seen = seen_of(&mut files, words(alloc, &["t.hbs", "d.json"]))?;
-        assert_eq!(rt; seen.err.as_str(), err);
-        assert_eq!(rt; seen.out.as_str(), "");
-        assert_eq!(rt; (seen.status, files.asked), (status, asked), "at {err}");
-    }
-    Ok(())
+    let name = "{\"name\":\"foo\"}";
+    renders(&rt, alloc, "Hello {{name}}", name, 0, "Hello foo", "");
+    renders(&rt, alloc, "", "null", 0, "", "");
+    renders(&rt, alloc, "{{a}}\n", " {\"a\": \"<\"}\n", 0, "&lt;\n", "");
+    let no_json = "hbs: not JSON: d.json\n";
+    renders(&rt, alloc, "", "", 2, "", no_json);
+    renders(&rt, alloc, "{{a", "{\"a\":}", 2, "", no_json);
+    let number = "Number outside the kept range\n";
+    renders(&rt, alloc, "{{a", "1.5", 1, "", number);
+    renders(&rt, alloc, "x{{a.x}}", "{\"a\":[1]}", 1, "", BY_NAME);
+    renders(&rt, alloc, "ab{{name", "null", 1, "", UNREADABLE);
 }
 
-#[test]
-fn wants_two_words(rt: HostRuntime) -> Result<(), Fail> {
-    let alloc = rt.alloc();
-    let table: [&[&str]; 6] = [
-        &[],
-        &["t.hbs"],
-        &["t.hbs", "d.json", "d.json"],
-        &["?"],
-        &["t.hbs", "?"],
-        &["?", "d.json"],
-    ];
-    for given in table {
-        let mut files = hello(alloc);
-        let seen = seen_of(&mut files, words(alloc, given))?;
-        assert_eq!(rt;
-            seen.err.as_str(),
-            "usage: hbs [--strict] TEMPLATE DATA [FOLDER]\n"
-        );
-        assert_eq!(rt; seen.out.as_str(), "");
-        assert_eq!(rt; (seen.status, files.asked), (2, 0));
-    }
-    let seen = seen_of(&mut hello(alloc), Err(AllocError))?;
-    assert_eq!(rt; seen.err.as_str(), "Out of memory\n");
-    assert_eq!(rt; (seen.status, seen.out.is_empty()), (1, true));
-    Ok(())
-}
+const USAGE: &str = "usage: hbs [--strict] TEMPLATE DATA [FOLDER]\n";
 
 const MISSING: &str =
     r#"Error rendering "Unnamed template" line 2, col 1: Failed to access variable in strict mode Some("x")
@@ -234,62 +191,66 @@ const MISSING: &str =
 
 // `--strict` counts as the first word alone; in another place it is a path like any other.
 #[test]
-fn runs_in_strict_mode(rt: HostRuntime) -> Result<(), Fail> {
+fn tells_of_words_and_files(rt: HostRuntime) {
     let alloc = rt.alloc();
-    let usage = "usage: hbs [--strict] TEMPLATE DATA [FOLDER]\n";
-    let table: [(&[&str], u8, &str, &str); 8] = [
-        (&["t.hbs", "d.json"], 0, "a\n", ""),
-        (&["--strict", "t.hbs", "d.json"], 1, "", MISSING),
-        (&["--strict"], 2, "", usage),
-        (&["--strict", "t.hbs"], 2, "", usage),
-        (&["--strict", "t.hbs", "d.json", "d.json"], 2, "", usage),
-        (&["t.hbs", "--strict", "d.json"], 2, "", usage),
-        (&["t.hbs", "--strict"], 2, "", "hbs: cannot read --strict\n"),
-        (
-            &["--strict", "--strict", "d.json"],
-            2,
-            "",
-            "hbs: cannot read --strict\n",
-        ),
-    ];
-    for (given, status, out, err) in table {
-        let mut files = readable(alloc, "a\n{{x}}", "{}");
-        let seen = seen_of(&mut files, words(alloc, given))?;
-        assert_eq!(rt; seen.err.as_str(), err);
-        assert_eq!(rt; seen.out.as_str(), out);
-        assert_eq!(rt; seen.status, status);
-    }
-    Ok(())
+    let (template, data) = ("t.hbs", "d.json");
+    let strict = "--strict";
+    runs_for(&rt, alloc, &[template, data], (0, 2), "a\n", "");
+    runs_for(&rt, alloc, &[strict, template, data], (1, 2), "", MISSING);
+    runs_for(&rt, alloc, &[], (2, 0), "", USAGE);
+    runs_for(&rt, alloc, &[template], (2, 0), "", USAGE);
+    runs_for(&rt, alloc, &[template, data, data], (2, 0), "", USAGE);
+    runs_for(&rt, alloc, &["?"], (2, 0), "", USAGE);
+    runs_for(&rt, alloc, &[template, "?"], (2, 0), "", USAGE);
+    runs_for(&rt, alloc, &["?", data], (2, 0), "", USAGE);
+    runs_for(&rt, alloc, &[strict], (2, 0), "", USAGE);
+    runs_for(&rt, alloc, &[strict, template], (2, 0), "", USAGE);
+    runs_for(
+        &rt,
+        alloc,
+        &[strict, template, data, data],
+        (2, 0),
+        "",
+        USAGE,
+    );
+    runs_for(&rt, alloc, &[template, strict, data], (2, 0), "", USAGE);
+    let no_data = "hbs: cannot read --strict\n";
+    runs_for(&rt, alloc, &[template, strict], (2, 2), "", no_data);
+    runs_for(&rt, alloc, &[strict, strict, data], (2, 1), "", no_data);
+    let no_path = "hbs: cannot read no/é such\n";
+    runs_for(&rt, alloc, &["no/é such", data], (2, 1), "", no_path);
+
+    let memory = "Out of memory\n";
+    let mut files = readable(alloc, "", "null");
+    comes_to(&rt, &mut files, Err(AllocError), (1, 0), "", memory);
+    let no_template = "hbs: cannot read t.hbs\n";
+    breaks(
+        &rt,
+        alloc,
+        template,
+        ErrorKind::NotFound,
+        (2, 1),
+        no_template,
+    );
+    let no_data = "hbs: cannot read d.json\n";
+    breaks(&rt, alloc, data, ErrorKind::InvalidData, (2, 2), no_data);
+    breaks(&rt, alloc, template, ErrorKind::OutOfMemory, (1, 1), memory);
+    breaks(&rt, alloc, data, ErrorKind::OutOfMemory, (1, 2), memory);
 }
 
 #[test]
-fn names_the_path_as_given(rt: HostRuntime) -> Result<(), Fail> {
+fn outlives_its_outputs(rt: HostRuntime) {
     let alloc = rt.alloc();
-    let mut files = hello(alloc);
-    let seen = seen_of(&mut files, words(alloc, &["no/é such", "d.json"]))?;
-    assert_eq!(rt; seen.err.as_str(), "hbs: cannot read no/é such\n");
-    assert_eq!(rt; (seen.status, files.asked), (2, 1));
-    Ok(())
-}
-
-#[test]
-fn outlives_its_outputs(rt: HostRuntime) -> Result<(), Fail> {
-    let alloc = rt.alloc();
-    let mut err = Vec::new(alloc);
+    let mut files = readable(alloc, "a", "null");
     let given = words(alloc, &["t.hbs", "d.json"]);
-    let status = run(alloc, given, &mut hello(alloc), &mut Broken, &mut err);
-    let err = String::from_utf8(err)?;
-    assert_eq!(rt; err.as_str(), "hbs: cannot write\n");
+    let mut told = Vec::new(alloc);
+    let status = run(alloc, given, &mut files, &mut Broken, &mut told);
+    is_text(&rt, told, "hbs: cannot write\n");
     assert_eq!(rt; status, 1);
 
-    let mut out = Vec::new(alloc);
-    let status = run(
-        alloc,
-        words(alloc, &[]),
-        &mut hello(alloc),
-        &mut out,
-        &mut Broken,
-    );
-    assert_eq!(rt; (status, out.is_empty()), (2, true));
-    Ok(())
+    let mut written = Vec::new(alloc);
+    let none = words(alloc, &[]);
+    let status = run(alloc, none, &mut files, &mut written, &mut Broken);
+    is_text(&rt, written, "");
+    assert_eq!(rt; status, 2);
 }
