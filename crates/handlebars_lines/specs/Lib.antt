@@ -7,7 +7,7 @@ pub mod WorthReading
 pub mod Laws
 pub mod Parameter
 pub mod CloseName
-pub mod BoundNames
+pub mod Binding
 pub mod BindingReading
 pub mod BindingView
 pub mod Line

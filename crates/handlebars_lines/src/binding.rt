@@ -24,7 +24,7 @@ pub struct BindingSlice<'a> {
     pub rest: &'a str,
 }
 
-#[tactic(auto, unfolding(crate::specs::BoundNames::behind_bar))]
+#[tactic(auto, unfolding(crate::specs::Binding::behind_bar))]
 fn behind_bar(text: &str) -> Option<&str>
     ensures { option_map (λ rest. rest.now) result ≡ behind_bar text.now }
 {
@@ -37,7 +37,7 @@ fn behind_bar(text: &str) -> Option<&str>
 }
 
 /// What follows the first bar, where block parameters are begun.
-#[tactic(auto, unfolding(crate::specs::BoundNames::behind_beginning))]
+#[tactic(auto, unfolding(crate::specs::Binding::behind_beginning))]
 pub(crate) fn behind_beginning(text: &str) -> Option<&str>
     ensures { option_map (λ rest. rest.now) result ≡ behind_beginning text.now }
 {

@@ -2,7 +2,7 @@ pub mod Options
 pub mod Text
 pub mod TextReading
 pub mod TextView
-pub mod TagKind
+pub mod Kind
 pub mod KindReading
 pub mod KindView
 pub mod Comment

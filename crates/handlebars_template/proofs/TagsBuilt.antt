@@ -49,13 +49,13 @@ Does-value old new p is_escaped line e refused one two does =
     subst (λ (r : Option Text). Does old (leaf p (value_element is_escaped (call_of line.name line.terms)) line.depth r) new) two
     (subst (λ (x : Element). Does old (leaf p x line.depth refused) new) one (does line.depth))
 
-pub Does-opens : (old new : Nesting) (p : Place) (e : Edge) (line : BlockLine) (kind : BlockKind) (built : BuiltOpening) → Opening kind e line built
+pub Does-opens : (old new : Nesting) (p : Place) (e : Edge) (line : BlockLine) (kind : BlockKind) (built : BuiltOpening) → HasOpening kind e line built
     → ((n : ℕ) → Does old (opens p (opening_view built.opening) n (option_map (λ t. t.now) built.refused)) new) → Does old (block_piece kind p e line) new
 Does-opens old new p e line kind built o does =
     subst (λ (r : Option Text). Does old (opens p (opening_of kind e line) line.depth r) new) o.refused
     (subst (λ (x : Said). Does old (opens p x line.depth (option_map (λ t. t.now) built.refused)) new) o.opening (does line.depth))
 
-pub Does-chains : (old new : Nesting) (p : Place) (e : Edge) (line : BlockLine) (built : BuiltOpening) → Opening helper_opening e line built
+pub Does-chains : (old new : Nesting) (p : Place) (e : Edge) (line : BlockLine) (built : BuiltOpening) → HasOpening helper_opening e line built
     → ((n : ℕ) → Does old (chains p (opening_view built.opening) n (option_map (λ t. t.now) built.refused)) new) → Does old (chain_piece p e line) new
 Does-chains old new p e line built o does =
     subst (λ (r : Option Text). Does old (chains p (opening_of helper_opening e line) line.depth r) new) o.refused
