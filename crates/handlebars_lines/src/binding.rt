@@ -10,7 +10,7 @@ ghost use Rattle.handlebars_lines.specs.LineView.{texts_of};
 use handlebars_base::json::path::marks::{after, behind_white, starts_white, symbols};
 
 /// The names that a block gives to what it shows.
-#[derive(Clone, Copy, Debug, PartialEq, Eq)]
+#[derive(Clone, Copy, Debug)]
 pub enum BoundNames<'a> {
     Unbound,
     Bound(&'a str),
@@ -18,7 +18,7 @@ pub enum BoundNames<'a> {
 }
 
 /// What is bound, and what follows it.
-#[derive(Clone, Copy, Debug, PartialEq, Eq)]
+#[derive(Clone, Copy, Debug)]
 pub struct BindingSlice<'a> {
     pub means: BoundNames<'a>,
     pub rest: &'a str,

@@ -16,7 +16,7 @@ pub use close_name::close_name_at;
 pub use step::{Enclosure, Event, LineStand, NameMode, Stand, Step, take_step};
 
 /// How many parentheses and brackets of a line are open at once at most, and what follows it.
-#[derive(Clone, Copy, Debug, PartialEq, Eq)]
+#[derive(Clone, Copy, Debug)]
 pub struct LineSlice<'a> {
     pub depth: usize,
     pub rest: &'a str,

@@ -16,7 +16,7 @@ use std::alloc::{AllocError, Global};
 
 /// A literal's text, what follows it, how many of its brackets are open at once at most, and whether its numbers are
 /// kept: integers from -2^63 to 2^64 - 1, and no `-0`.
-#[derive(Clone, Copy, Debug, PartialEq, Eq)]
+#[derive(Clone, Copy, Debug)]
 pub struct LiteralSlice<'a> {
     pub raw: &'a str,
     pub rest: &'a str,
@@ -34,7 +34,7 @@ pub fn split_literal(alloc: Global, text: &str) -> Result<Option<LiteralSlice<'_
 }
 
 /// What opens an array or an object.
-#[derive(Clone, Copy, Debug, PartialEq, Eq)]
+#[derive(Clone, Copy)]
 enum Bracket {
     Array,
     Object,

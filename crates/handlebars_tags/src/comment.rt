@@ -11,7 +11,7 @@ ghost use Rattle.handlebars_tags.specs.CommentReading.{EndsComment, comment_text
 use handlebars_base::json::path::marks::behind_white;
 
 /// A comment: its text, what follows it, and whether a long one's end may still stand there.
-#[derive(Clone, Copy, Debug, PartialEq, Eq)]
+#[derive(Clone, Copy)]
 pub struct CommentSlice<'a> {
     pub text: &'a str,
     pub rest: &'a str,

@@ -17,7 +17,7 @@ pub use inside::{BlockSlice, Content};
 
 /// A tag by its parts of the source: what it says, whether tildes stand inside its braces, the most parentheses and
 /// brackets open at once in it, and what follows it.
-#[derive(Clone, Copy, Debug, PartialEq, Eq)]
+#[derive(Clone, Copy)]
 pub struct TagSlice<'a> {
     pub content: Content<'a>,
     pub left: bool,

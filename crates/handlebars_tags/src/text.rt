@@ -8,7 +8,7 @@ ghost use Rattle.handlebars_tags.specs.TextView.{braces_of};
 use std::alloc::{AllocError, Global};
 
 /// How many opening braces end a text, unless they are escaped: in a raw block four, and elsewhere two.
-#[derive(Clone, Copy, Debug, PartialEq, Eq)]
+#[derive(Clone, Copy)]
 pub enum Braces {
     Two,
     Four,

@@ -14,7 +14,7 @@ use handlebars_base::json::path::marks::{after, is_white};
 
 /// What a tag does to the texts beside it: whether it stands alone on its line, or may do so; whether it has a tilde on
 /// its left and on its right; and whether a raw block's text follows it.
-#[derive(Clone, Copy, Debug, PartialEq, Eq)]
+#[derive(Clone, Copy)]
 pub struct Edge {
     pub standalone: bool,
     pub left: bool,

@@ -16,7 +16,7 @@ use std::alloc::{AllocError, Global};
 
 /// Where a line stands: it ends before `~` or `}` in a tag, there or before `as |` in the tag of a block, and before
 /// `)` in parentheses.
-#[derive(Clone, Copy, Debug, PartialEq, Eq)]
+#[derive(Clone, Copy)]
 pub enum Enclosure {
     Tag,
     Block,
@@ -25,7 +25,7 @@ pub enum Enclosure {
 
 /// What a line's name may be: an identifier, as for a block; an identifier or, with nothing behind it, a path, as for a
 /// value; or the name in a closing tag. In place of the last two a line in parentheses may stand.
-#[derive(Clone, Copy, Debug, PartialEq, Eq)]
+#[derive(Clone, Copy)]
 pub enum NameMode {
     Identifier,
     Value,
@@ -33,7 +33,7 @@ pub enum NameMode {
 }
 
 /// How a line may go on.
-#[derive(Clone, Copy, Debug, PartialEq, Eq)]
+#[derive(Clone, Copy)]
 pub enum Stand {
     /// With its name, which may be so.
     Name(NameMode),
@@ -44,7 +44,7 @@ pub enum Stand {
 }
 
 /// Where the reading stands, and how many parentheses are open.
-#[derive(Clone, Copy, Debug, PartialEq, Eq)]
+#[derive(Clone, Copy)]
 pub struct LineStand {
     pub stand: Stand,
     pub level: usize,
@@ -65,7 +65,7 @@ impl LineStand {
 /// What a step takes: an opening parenthesis, or a literal or a path by its text, each behind a key or not; a name by its
 /// text, outside parentheses; or a closing parenthesis. The numbers say how many parentheses and brackets are then open
 /// at once.
-#[derive(Clone, Copy, Debug, PartialEq, Eq)]
+#[derive(Clone, Copy)]
 pub enum Event<'a> {
     Opened(Option<&'a str>, usize),
     Literal(Option<&'a str>, &'a str, usize),
@@ -90,7 +90,7 @@ impl Event<'_> {
 }
 
 /// What stands next.
-#[derive(Clone, Copy, Debug, PartialEq, Eq)]
+#[derive(Clone, Copy)]
 pub enum Step<'a> {
     /// What is taken, where that leads, and what follows it.
     Goes(Event<'a>, LineStand, &'a str),

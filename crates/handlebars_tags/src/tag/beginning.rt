@@ -13,7 +13,7 @@ use crate::front::{past, tilde_at};
 use handlebars_base::json::path::marks::{after, behind_white, is_white};
 
 /// The kind of a tag, by its beginning.
-#[derive(Clone, Copy, Debug, PartialEq, Eq)]
+#[derive(Clone, Copy)]
 pub enum TagKind {
     Expression,
     Html,
@@ -29,7 +29,7 @@ pub enum TagKind {
 }
 
 /// The kind of a tag, whether a tilde stands behind its opening braces, and what is inside.
-#[derive(Clone, Copy, Debug, PartialEq, Eq)]
+#[derive(Clone, Copy)]
 pub struct TagBeginning<'a> {
     pub kind: TagKind,
     pub tilde: bool,

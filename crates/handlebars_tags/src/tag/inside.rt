@@ -16,7 +16,7 @@ use handlebars_lines::line::{Enclosure, NameMode, close_name_at, split_line};
 use std::alloc::{AllocError, Global};
 
 /// What a tag says, by its parts of the source.
-#[derive(Clone, Copy, Debug, PartialEq, Eq)]
+#[derive(Clone, Copy)]
 pub enum Content<'a> {
     /// A value or a call, by the text that begins with its line.
     Expression(&'a str),
@@ -35,7 +35,7 @@ pub enum Content<'a> {
 }
 
 /// The line of a block: the text that begins with it, its name, and what it binds.
-#[derive(Clone, Copy, Debug, PartialEq, Eq)]
+#[derive(Clone, Copy)]
 pub struct BlockSlice<'a> {
     pub line: &'a str,
     pub name: &'a str,
@@ -44,7 +44,7 @@ pub struct BlockSlice<'a> {
 
 /// What is inside a tag: what it says, whether a tilde stands before its closing braces, how deep it nests, and what
 /// follows the braces.
-#[derive(Clone, Copy, Debug, PartialEq, Eq)]
+#[derive(Clone, Copy)]
 pub struct Inside<'a> {
     pub content: Content<'a>,
     pub right: bool,

@@ -22,7 +22,7 @@ pub enum BlockNames {
 
 /// What a tag opens: the block of a helper, a raw block, or the block of a decorator or of an inclusion. No tag of these
 /// two is read yet.
-#[derive(Clone, Copy, Debug, PartialEq, Eq)]
+#[derive(Clone, Copy)]
 pub enum BlockKind {
     Helper,
     Raw,

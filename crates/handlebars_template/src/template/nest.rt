@@ -45,7 +45,7 @@ impl Drop for Open {
 }
 
 /// Why a tag may not stand where it stands.
-#[derive(Clone, Copy, Debug, PartialEq, Eq)]
+#[derive(Clone, Copy)]
 pub enum SyntaxFault {
     Unexpected,
     TooDeep,
@@ -53,7 +53,7 @@ pub enum SyntaxFault {
 
 /// What is refused only where the whole source nests: a literal, by its text; or what a close closes, the name that
 /// would close it, the name of the close, and its place.
-#[derive(Debug, PartialEq, Drop)]
+#[derive(Drop)]
 pub enum Late {
     NoValue(String),
     Mismatched(BlockKind, String, String, TemplateMapping),

@@ -12,14 +12,14 @@ use super::start::{behind_start, path_from, start_at, start_segments};
 use std::alloc::{AllocError, Global};
 
 /// The text of a path, and what follows it.
-#[derive(Clone, Copy, Debug, PartialEq, Eq)]
+#[derive(Clone, Copy, Debug)]
 pub struct PathSlice<'a> {
     pub raw: &'a str,
     pub rest: &'a str,
 }
 
 /// A path, and what follows its text.
-#[derive(Debug, Drop, PartialEq, Eq)]
+#[derive(Debug, Drop)]
 pub struct PathFront<'a> {
     pub path: Path,
     pub rest: &'a str,
