@@ -1,11 +1,16 @@
-//! Rows that render a template: how they are read from JSON, and what they come to. `docs/ROWS.md` has the format.
+//! Rows: how they are read from JSON, what those that render come to, and what the calls of parts answer. `docs/ROWS.md`
+//! has the format.
 #![tactic(auto)]
 
 pub mod bounded;
+pub mod call;
 pub mod failure;
 pub mod fields;
 pub mod files;
 pub mod helpers;
 pub mod outcome;
+pub mod part_call;
 pub mod rendering;
+pub mod reply;
 pub mod told;
+pub mod value_call;

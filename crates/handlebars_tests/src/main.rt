@@ -3,8 +3,7 @@
 #![tactic(auto)]
 
 mod answer;
-mod call;
-mod calls;
+mod asked;
 mod row;
 mod run;
 

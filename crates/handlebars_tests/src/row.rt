@@ -1,7 +1,7 @@
 //! Rows, read from JSON.
 
-use crate::call::Call;
 use handlebars::JsonValue;
+use handlebars_rows::call::Call;
 use handlebars_rows::failure::{Failure, RowFailure};
 use handlebars_rows::rendering::Rendering;
 use std::alloc::Global;

@@ -1,11 +1,13 @@
 //! A run of the program.
 
 use crate::answer::Answer;
-use crate::call::{Call, Reply};
+use crate::asked::reply;
 use crate::row::{Row, rows};
+use handlebars_rows::call::Call;
 use handlebars_rows::failure::Failure;
 use handlebars_rows::files::{file_paths, words};
 use handlebars_rows::rendering::Rendering;
+use handlebars_rows::reply::Reply;
 use std::alloc::{AllocError, Global};
 use std::fmt;
 use std::rt::{Env, Files};
@@ -89,7 +91,7 @@ fn of_rendering(alloc: Global, row: &Rendering) -> Result<Option<Answered>, Allo
 }
 
 fn of_call(alloc: Global, call: &Call) -> Result<Option<Answered>, AllocError> {
-    let reply = call.reply(alloc)?;
+    let reply = reply(alloc, call)?;
     if reply.equals(&call.wanted) {
         return Ok(None);
     }

@@ -1,10 +1,11 @@
 //! Rows that ask one call.
 
-use crate::calls::{TextCall, ValueCall};
-use handlebars::JsonValue;
-use handlebars_rows::failure::RowFailure;
-use handlebars_rows::fields;
-use serde_json::Map;
+use crate::failure::RowFailure;
+use crate::fields;
+use crate::part_call::PartCall;
+use crate::reply::Reply;
+use crate::value_call::ValueCall;
+use serde_json::{Map, Value as JsonValue};
 use std::alloc::Global;
 use std::fmt;
 
@@ -31,44 +32,32 @@ impl Drop for Call {
     }
 }
 
+/// Calls that are asked of a text: of a part alone, or with a context of rendering.
+#[derive(Clone, Copy)]
+pub enum TextCall {
+    Part(PartCall),
+    Evaluate,
+    Expand,
+    ExpandAsName,
+}
+
+impl TextCall {
+    /// The call of that name.
+    pub fn named(name: &str) -> Option<TextCall> {
+        match name {
+            "evaluate" => Some(TextCall::Evaluate),
+            "expand" => Some(TextCall::Expand),
+            "expand_as_name" => Some(TextCall::ExpandAsName),
+            _ => PartCall::named(name).map(TextCall::Part),
+        }
+    }
+}
+
 /// A call, and what it is asked of.
 #[derive(Drop)]
 pub enum Asked {
     Text(TextCall, String),
     Value(ValueCall, JsonValue),
-}
-
-/// What a call answers, printed.
-#[derive(PartialEq, Drop)]
-pub enum Reply {
-    Gives(String),
-    /// The whole text of the error.
-    Prints(String),
-}
-
-impl Reply {
-    ghost use Rattle.std.specs.Prelude.{◌≡◌, IsTrue};
-    ghost use Rattle.handlebars_tests.specs.Replies.{reply_view};
-
-    /// Whether both are one reply.
-    pub fn equals(&self, wanted: &Reply) -> bool
-        ensures { IsTrue result → reply_view self.now ≡ reply_view wanted.now }
-    {
-        match (self, wanted) {
-            (Reply::Gives(own), Reply::Gives(wanted)) => *own == *wanted,
-            (Reply::Prints(own), Reply::Prints(wanted)) => *own == *wanted,
-            _ => false,
-        }
-    }
-}
-
-impl fmt::Display for Reply {
-    fn fmt<W: fmt::Write>(&self, f: &mut fmt::Formatter<W>) -> fmt::Result {
-        match self {
-            Reply::Gives(text) => write!(f, "gives {text:?}"),
-            Reply::Prints(text) => write!(f, "prints {text:?}"),
-        }
-    }
 }
 
 impl fmt::Display for Call {

@@ -1,7 +1,7 @@
 -- What rows that ask one call come to, as plain data.
 use Rattle.std.specs.Prelude.{ℕ, List, string_bytes}
-use Rattle.handlebars_tests.specs.declared.call.Reply.{Reply}
-use Rattle.handlebars_tests.specs.declared.call.Reply.TheVariants.{Gives, Prints}
+use Rattle.handlebars_rows.specs.declared.reply.Reply.{Reply}
+use Rattle.handlebars_rows.specs.declared.reply.Reply.TheVariants.{Gives, Prints}
 
 -- what a call answers: what it gives, or the text of its error
 pub data ReplyView : Type 0 where
