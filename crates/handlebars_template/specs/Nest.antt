@@ -16,10 +16,10 @@ pub data BlockKind : Type 0 where
   decorator_opening : BlockKind
   partial_opening : BlockKind
 
--- whether chained inverses and an inverse may stand in it; in a raw block none is read
+-- whether chained inverses and an inverse may stand in it; in a raw block only its end may stand
 abbrev pub admits_inverse : BlockKind → Bool
 admits_inverse helper_opening = true
-admits_inverse raw_opening = true
+admits_inverse raw_opening = false
 admits_inverse decorator_opening = false
 admits_inverse partial_opening = false
 
@@ -154,7 +154,8 @@ mutual
     a_block : {d e : ℕ} {bs cs ls ps : List SourcePiece} {first es : List Placed} {branches : List Branch} {last : Body}
         (p q : Place) (o : Opening) (n : ℕ) (r : Option Text) (raw : Bool) (m : Text)
         → d + suc n ≤ max_nesting → has_values t r ≡ true → may_end o.kind raw m ≡ true → may_close t o.closing m ≡ true
-        → Nests t (suc d) bs first → Chains t o.kind (suc d) cs branches e → Inverts t o.kind e ls last → Nests t d ps es
+        → Nests t (suc d) bs first → Chains t o.kind (suc d) cs branches e → Inverts t o.kind e ls last
+        → Nests t d ps es
         → Nests t d (opens p o n r ∷ (bs ++ (cs ++ (ls ++ (closes q raw m ∷ ps)))))
         (record { place = p; element = block_of o first branches last } ∷ es)
 
@@ -196,19 +197,38 @@ pub record OpenBlock : Type 0 where
 pub data BeginsBlock (t : Test) : OpenBlock → List SourcePiece → ℕ → List Placed → Type 0 where
   in_its_body : {o : ℕ} {bs : List SourcePiece} {es out : List Placed} (p : Place) (x : Opening) (n : ℕ) (r : Option Text)
       → o + suc n ≤ max_nesting → has_values t r ≡ true → Nests t (suc o) bs es
-      → BeginsBlock t (record { place = p; opening = x; around = o; first = []; branches = []; stage = in_first; outside = out })
+      → BeginsBlock t
+      (record { place = p; opening = x; around = o; first = []; branches = []; stage = in_first; outside = out })
       (opens p x n r ∷ bs) (suc o) es
   in_a_branch : {o d : ℕ} {bs cs gs : List SourcePiece} {first es out : List Placed} {branches : List Branch}
       (p q : Place) (x g : Opening) (n k : ℕ) (r u : Option Text)
       → o + suc n ≤ max_nesting → has_values t r ≡ true → Nests t (suc o) bs first → Chains t x.kind (suc o) cs branches d
       → admits_inverse x.kind ≡ true → d + suc k ≤ max_nesting → has_values t u ≡ true → Nests t (suc d) gs es
-      → BeginsBlock t (record { place = p; opening = x; around = o; first = first; branches = branches; stage = in_branch g; outside = out })
+      → BeginsBlock t
+      (record {
+        place = p;
+        opening = x;
+        around = o;
+        first = first;
+        branches = branches;
+        stage = in_branch g;
+        outside = out;
+      })
       (opens p x n r ∷ (bs ++ (cs ++ (chains q g k u ∷ gs)))) (suc d) es
   in_its_inverse : {o d : ℕ} {bs cs gs : List SourcePiece} {first es out : List Placed} {branches : List Branch}
       (p q : Place) (x : Opening) (n : ℕ) (r : Option Text)
       → o + suc n ≤ max_nesting → has_values t r ≡ true → Nests t (suc o) bs first → Chains t x.kind (suc o) cs branches d
       → admits_inverse x.kind ≡ true → Nests t d gs es
-      → BeginsBlock t (record { place = p; opening = x; around = o; first = first; branches = branches; stage = in_inverse; outside = out })
+      → BeginsBlock t
+      (record {
+        place = p;
+        opening = x;
+        around = o;
+        first = first;
+        branches = branches;
+        stage = in_inverse;
+        outside = out;
+      })
       (opens p x n r ∷ (bs ++ (cs ++ (inverts q ∷ gs)))) d es
 
 -- Opens t d ps fs es: the pieces ps leave the blocks fs open, the innermost first, with d open then, and the elements es
