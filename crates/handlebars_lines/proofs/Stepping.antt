@@ -73,9 +73,6 @@ pub record Still {E S Y : Type 0} (step : S → List ℕ → ReadingStep E S) (s
   pub ran : (xs : List E) (e : List ℕ) → Runs step s t xs e → (ys : List E) × (Runs step s0 t0 ys e) × (f0 ys ≡ f xs)
   pub failed : Fails step s t → Fails step s0 t0
 
-pub still-starts : {E S Y : Type 0} (step : S → List ℕ → ReadingStep E S) (s : S) (t : List ℕ) (f : List E → Y) → Still step s t f s t f
-still-starts step s t f = record { ran = λ xs e h. (xs, h, refl); failed = λ h. h }
-
 pub still-goes : {E S Y : Type 0} (step : S → List ℕ → ReadingStep E S) (s0 : S) (t0 : List ℕ) (f0 : List E → Y) (s : S) (t : List ℕ) (f : List E → Y) (x : E) (s' : S) (t' : List ℕ) (f' : List E → Y)
     → step s t ≡ goes x s' t' → ((xs : List E) → f (x ∷ xs) ≡ f' xs) → Still step s0 t0 f0 s t f → Still step s0 t0 f0 s' t' f'
 still-goes step s0 t0 f0 s t f x s' t' f' is same h = record {
