@@ -1,4 +1,5 @@
--- The same as a machine over the open blocks, for the program's contracts alone: what is public cites Nest.
+-- How texts and tags nest, as Nest says it, by a machine that goes from piece to piece with the blocks that are open.
+-- Only this crate's own contracts cite it: what is public cites Nest.
 use Rattle.std.specs.Prelude.{ℕ, suc, ◌+◌, nat_lt, Bool, true, false, List, [], ◌∷◌, ◌++◌, Option, None, Some}
 use Rattle.std.specs.Option.{option_or}
 use Rattle.handlebars_base.specs.Bytes.{Text}
@@ -60,7 +61,7 @@ early_in d fs (chains p o n r) =
     syntax_fault_by (may_stand_in fs (chains p o n r)) (nat_lt max_nesting (d + suc n)) p
 early_in d fs (closes p raw m) = syntax_fault_by (may_stand_in fs (closes p raw m)) false p
 
--- ---- what comes late
+-- ---- what is refused only where the whole source nests
 
 abbrev pub literal_fault : Option Text → Option NestFault
 literal_fault None = None
@@ -89,6 +90,7 @@ late_after late x fs = option_or late (late_in fs x)
 
 -- ---- a piece
 
+-- what comes late counts where names and literals are tried
 abbrev pub tried : Test → Option NestFault → Option NestFault
 tried syntax_alone late = None
 tried names_and_literals late = late
@@ -114,7 +116,7 @@ apply t (closes p raw m) d fs es = moved_by t (closes p raw m) d fs es
 
 -- ---- the end
 
--- the elements, the place of the innermost block that is open, or what comes late
+-- the elements, the place of the innermost block that is open, or the first fault that came late
 pub data End : Type 0 where
   complete : List Placed → End
   unclosed : Place → End

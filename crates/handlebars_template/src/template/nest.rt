@@ -191,7 +191,8 @@ impl OpenBlock {
     // In this stage next.
     fn enter(&mut self, elements: PlacedElements, next: Stage) -> Result<(), AllocError>
         ensures { OnOk result (open_block_view self.new
-            ≡ next_stage (stage_view self.old.stage) (open_block_view self.old) (placed_view elements) (stage_view next)) }
+            ≡ next_stage (stage_view self.old.stage) (open_block_view self.old) (placed_view elements)
+            (stage_view next)) }
     {
         match mem::replace(&mut self.stage, next) {
             Stage::First => {
@@ -304,7 +305,8 @@ impl Nesting {
         misplaced.or(deep)
     }
 
-    /// Whether a close may stand next, by any name but none.
+    /// Whether a close may stand next: one of the innermost block's kind, with whatever name, or without one where such
+    /// a close may end it.
     pub fn look_at_close(&self, is_raw: bool, name: &str) -> Option<SyntaxFault>
         ensures { (p : Place) → Looks p (early self.now (closes p is_raw name.now)) result }
     {
