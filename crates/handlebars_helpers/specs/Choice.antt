@@ -1,4 +1,4 @@
--- Which names have a built-in helper, and what that chooses, by the call's view.
+-- The built-in helpers by their names, and what each chooses for the view of its call, in strict mode or not.
 use Rattle.std.specs.Prelude.{Bool, true, false, not, ◌&&◌, if◌then◌else◌, List, [], ◌∷◌, Option, None, Some, codes, unwrap_or}
 use Rattle.std.specs.Map.{lookup}
 use Rattle.std.specs.Str.{bytes_eq}

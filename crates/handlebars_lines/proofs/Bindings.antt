@@ -18,7 +18,7 @@ use Rattle.handlebars_base.specs.Texts.{IsWhite, starts, after, symbols_of, behi
 use Rattle.handlebars_base.proofs.Bytes.{other_byte, symbol_dark, white_symbol}
 use Rattle.handlebars_lines.specs.Binding.{behind_bar, behind_beginning, begins_binding, BoundNames, unbound, bound, both_bound, Names, one_name, two_names, spelled_names, AreNames, bound_by, IsBound, IsBinding, is_unbound, is_bound, NoBinding, OneBinding}
 use Rattle.handlebars_lines.specs.BindingReading.{symbols_at, name_at, behind_last, other_at, names_at, binding_at}
-use Rattle.handlebars_lines.specs.BindingView.{binding_of, slice_of}
+use Rattle.handlebars_lines.specs.BindingView.{bound_names_of, binding_slice_of}
 use Rattle.handlebars_lines.specs.declared.binding.BindingSlice.{BindingSlice}
 
 -- ---- where they begin
@@ -281,10 +281,10 @@ one_binding t a b r r' h g =
 -- ---- what the program reads
 
 -- where block parameters are begun, what the names give is what all gives
-pub names-answer : (t r : List ℕ) (read : Option BindingSlice) → Some r ≡ behind_beginning t → option_map slice_of read ≡ names_at r
-    → MatchOption read (NoBinding t) (λ slice. IsBinding t (binding_of slice.means) slice.rest.now)
+pub names-answer : (t r : List ℕ) (read : Option BindingSlice) → Some r ≡ behind_beginning t → option_map binding_slice_of read ≡ names_at r
+    → MatchOption read (NoBinding t) (λ slice. IsBinding t (bound_names_of slice.means) slice.rest.now)
 names-answer t r read begun gives = on read gives
   where
-    on : (read : Option BindingSlice) → option_map slice_of read ≡ names_at r → MatchOption read (NoBinding t) (λ slice. IsBinding t (binding_of slice.means) slice.rest.now)
+    on : (read : Option BindingSlice) → option_map binding_slice_of read ≡ names_at r → MatchOption read (NoBinding t) (λ slice. IsBinding t (bound_names_of slice.means) slice.rest.now)
     on None gives = no_binding t (rw (sym begun) (sym gives))
-    on (Some slice) gives = binding_at-takes t (slice_of slice) (rw (sym begun) (sym gives))
+    on (Some slice) gives = binding_at-takes t (binding_slice_of slice) (rw (sym begun) (sym gives))

@@ -61,7 +61,7 @@ lines_around f fs = record { top = f; around = fs }
 abbrev pub named_line : Option (List ℕ) → Term → Terms → OpenLine
 named_line key name terms = record { key = key; name = Some name; terms = terms }
 
--- the frames of a whole line
+-- the open lines of a whole line
 abbrev pub whole_lines : Term → Terms → OpenLines
 whole_lines name terms = lines_around (named_line None name terms) []
 

@@ -13,7 +13,7 @@ use Rattle.handlebars_base.proofs.OptionBinds.{with_or_is, cond_is}
 use Rattle.handlebars_base.proofs.Fronts.{after_takes, behind_white-skips, white_some, dark_behind}
 use Rattle.handlebars_base.specs.Texts.{IsWhite, starts, after, symbols_of, behind_symbols}
 use Rattle.handlebars_base.proofs.Runs.{prefix_pass}
-use Rattle.handlebars_lines.specs.Runs.{Next, goes, ends, stuck}
+use Rattle.handlebars_lines.specs.Runs.{ReadingStep, goes, ends, stuck}
 use Rattle.handlebars_lines.specs.Literal.{Literal, spelled_literal, literal_depth, IsLiteralAt}
 use Rattle.handlebars_lines.specs.LiteralReading.{LiteralSlice, literal_at}
 use Rattle.handlebars_lines.specs.Line.{NameMode, identifier_name, value_name, close_name, IsPlainName, Enclosure, is_end, Closes}
@@ -51,13 +51,13 @@ pub data LineStepped (s : LineStand) (t : List ℕ) (x : Event) (s' : LineStand)
   to_pair : (n : ℕ) (w key u v r : List ℕ) → s ≡ line_stand at_items n → IsWhite w → w ≢ [] → IsIdentifier key → IsWhite u → IsWhite v → t ≡ w ++ (key ++ (u ++ 61 ∷ (v ++ r))) → ParameterStepped (Some key) n r x s' t' → LineStepped s t x s' t'
   to_closed : (n : ℕ) (st : Stand) (w : List ℕ) → s ≡ line_stand st (suc n) → is_at_name st ≡ false → s' ≡ line_stand at_items n → x ≡ closed → IsWhite w → t ≡ w ++ 41 ∷ t' → LineStepped s t x s' t'
 
-abbrev literal_goes : Option (List ℕ) → ℕ → LiteralSlice → Next Event LineStand
+abbrev literal_goes : Option (List ℕ) → ℕ → LiteralSlice → ReadingStep Event LineStand
 literal_goes key n l = goes (literal_event key l.raw (n + l.depth)) (line_stand at_items n) l.rest
 
-abbrev path_goes : Option (List ℕ) → ℕ → List ℕ × List ℕ → Next Event LineStand
+abbrev path_goes : Option (List ℕ) → ℕ → List ℕ × List ℕ → ReadingStep Event LineStand
 path_goes key n p = goes (path_event key p.0 n) (line_stand at_items n) p.1
 
-abbrev name_goes : ℕ → List ℕ × List ℕ → Next Event LineStand
+abbrev name_goes : ℕ → List ℕ × List ℕ → ReadingStep Event LineStand
 name_goes n p = goes (path_event None p.0 n) (line_stand (behind_name p.0) n) p.1
 
 path_stepped : (key : Option (List ℕ)) (n : ℕ) (t : List ℕ) (x : Event) (s' : LineStand) (t' : List ℕ) → literal_at t ≡ None → path_step key n t ≡ goes x s' t' → ParameterStepped key n t x s' t'
@@ -198,12 +198,12 @@ line_stepped around s t x s' t' e = on s.stand s.level e
 
 -- ---- the end
 
-abbrev is_ends : {E S : Type 0} → Next E S → Bool
+abbrev is_ends : {E S : Type 0} → ReadingStep E S → Bool
 is_ends (goes x s t) = false
 is_ends ends = true
 is_ends stuck = false
 
-never_ends : {E S A : Type 0} (n : Next E S) → n ≡ ends → is_ends n ≡ false → A
+never_ends : {E S A : Type 0} (n : ReadingStep E S) → n ≡ ends → is_ends n ≡ false → A
 never_ends n e h = let no : true ≡ false = sym (ap is_ends e) ∙ h in absurd cc
 
 path_goes_on : (key : Option (List ℕ)) (n : ℕ) (p : List ℕ × List ℕ) (c : Bool) → is_ends (cond c stuck (path_goes key n p)) ≡ false
@@ -235,7 +235,7 @@ value_ends n t = on (slice_at t)
     on None = refl
     on (Some p) = refl
 
-opened_ends : (n : ℕ) (o : Option (List ℕ)) (other : Next Event LineStand) → is_ends other ≡ false → is_ends (with_or o (open_step None n) other) ≡ false
+opened_ends : (n : ℕ) (o : Option (List ℕ)) (other : ReadingStep Event LineStand) → is_ends other ≡ false → is_ends (with_or o (open_step None n) other) ≡ false
 opened_ends n None other h = h
 opened_ends n (Some r) other h = refl
 

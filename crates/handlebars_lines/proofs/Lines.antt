@@ -7,7 +7,7 @@ use Rattle.handlebars_lines.specs.Parameter.{Term, Terms, Items, terms_of, items
 use Rattle.handlebars_lines.specs.Line.{NameMode, NameShape, term_of_name, name_depth, Enclosure, Line, IsLine, NoLine}
 use Rattle.handlebars_lines.specs.LineReading.{Event, at_name, LineStand, line_stand, line_step, height, most_open, first_lines, build_all, line_from}
 use Rattle.handlebars_lines.specs.LineLaws.{HasLine, OneLine}
-use Rattle.handlebars_lines.proofs.Stepping.{Runs, last, none, Still, still-starts, still-goes}
+use Rattle.handlebars_lines.proofs.Stepping.{Runs, last, none, Still, still-goes}
 use Rattle.handlebars_lines.proofs.Endings.{one_end, not_both}
 use Rattle.handlebars_lines.proofs.LinesRead.{name_events, item_events, runs_read}
 use Rattle.handlebars_lines.proofs.LinesFound.{line_runs}
@@ -87,13 +87,6 @@ pub record Measures (mode : NameMode) (around : Enclosure) (t : List ℕ) (s : L
   pub still : Still (line_step around) (line_stand (at_name mode) 0) t (most_open 0) s rest (most_open depth)
   pub level_within : s.level + length rest ≤ length t
   pub depth_within : depth + length rest ≤ length t
-
-pub measure-starts : (mode : NameMode) (around : Enclosure) (t : List ℕ) → Measures mode around t (line_stand (at_name mode) 0) t 0
-measure-starts mode around t = record {
-  still = still-starts (line_step around) (line_stand (at_name mode) 0) t (most_open 0);
-  level_within = omega arith;
-  depth_within = omega arith;
-}
 
 pub measure-goes : (mode : NameMode) (around : Enclosure) (t : List ℕ) (s : LineStand) (rest : List ℕ) (depth : ℕ) (x : Event) (s' : LineStand) (rest' : List ℕ) (depth' : ℕ) → goes x s' rest' ≡ line_step around s rest → depth' ≡ max depth (height x)
     → Measures mode around t s rest depth → Measures mode around t s' rest' depth'

@@ -9,7 +9,7 @@ use Rattle.handlebars_base.specs.Texts.{starts}
 use Rattle.handlebars_lines.specs.Runs.{goes, ends, stuck}
 use Rattle.handlebars_lines.specs.Literal.{Bracket, goes_on}
 use Rattle.handlebars_lines.specs.LiteralReading.{Token, token_at, LiteralPlace, ahead, innermost, outer, Find, taken, literal_step, most, all_kept, slice_to, literal_at}
-use Rattle.handlebars_lines.specs.LiteralView.{bracket_of, stack_of, place_of, slice_of}
+use Rattle.handlebars_lines.specs.LiteralView.{bracket_of, stack_of, place_of, literal_slice_of}
 use Rattle.handlebars_lines.specs.Laws.{HasLiteral, NoLiteral}
 use Rattle.handlebars_lines.specs.declared.literal.Bracket.{Bracket as ReadBracket}
 use Rattle.handlebars_lines.specs.declared.literal.LiteralSlice.{LiteralSlice}
@@ -144,11 +144,11 @@ loop_misfit t rest s depth kept still is = rw (run-none literal_step (length t +
 
 -- ---- what the reading tells of the relation
 
-reading_tells : (t : List ℕ) (read : Option LiteralSlice) → option_map slice_of read ≡ literal_at t → MatchOption read (NoLiteral t) (λ slice. HasLiteral t (slice_of slice))
+reading_tells : (t : List ℕ) (read : Option LiteralSlice) → option_map literal_slice_of read ≡ literal_at t → MatchOption read (NoLiteral t) (λ slice. HasLiteral t (literal_slice_of slice))
 reading_tells t None e = literal_at-none t (sym e)
-reading_tells t (Some slice) e = literal_at-some t (slice_of slice) (sym e)
+reading_tells t (Some slice) e = literal_at-some t (literal_slice_of slice) (sym e)
 
-pub result_tells : {E : Type 0} (t : List ℕ) (r : Result (Option LiteralSlice) E) → IfOk r (λ read. option_map slice_of read ≡ literal_at t)
-    → IfOk r (λ read. MatchOption read (NoLiteral t) (λ slice. HasLiteral t (slice_of slice)))
+pub result_tells : {E : Type 0} (t : List ℕ) (r : Result (Option LiteralSlice) E) → IfOk r (λ read. option_map literal_slice_of read ≡ literal_at t)
+    → IfOk r (λ read. MatchOption read (NoLiteral t) (λ slice. HasLiteral t (literal_slice_of slice)))
 result_tells t (Ok read) h = reading_tells t read h
 result_tells t (Err e) h = tt

@@ -5,11 +5,11 @@ use Rattle.handlebars_lines.specs.declared.binding.BoundNames.{BoundNames as Rea
 use Rattle.handlebars_lines.specs.declared.binding.BoundNames.TheVariants.{Unbound, Bound, BothBound}
 use Rattle.handlebars_lines.specs.declared.binding.BindingSlice.{BindingSlice}
 
-abbrev pub binding_of : ReadBinding → BoundNames
-binding_of Unbound = unbound
-binding_of (Bound name) = bound name.now
-binding_of (BothBound name other) = both_bound name.now other.now
+abbrev pub bound_names_of : ReadBinding → BoundNames
+bound_names_of Unbound = unbound
+bound_names_of (Bound name) = bound name.now
+bound_names_of (BothBound name other) = both_bound name.now other.now
 
 -- what is bound, and the rest
-abbrev pub slice_of : BindingSlice → BoundNames × Text
-slice_of slice = (binding_of slice.means, slice.rest.now)
+abbrev pub binding_slice_of : BindingSlice → BoundNames × Text
+binding_slice_of slice = (bound_names_of slice.means, slice.rest.now)

@@ -21,8 +21,8 @@ pub data Enclosure : Type 0 where
 abbrev pub ends_tag : ℕ → Bool
 ends_tag b = (b == tilde) || (b == right_brace)
 
--- What ends a line, behind white or none: the byte that ends it in a tag; that, or the beginning of block parameters, in
--- the tag of a block; or a closing parenthesis.
+-- What ends a line: in a tag the byte that ends it, behind white or none; in that of a block also the beginning of
+-- block parameters, with white of its own in front; in parentheses the closing one, behind white or none.
 abbrev pub is_end : Enclosure → Text → Bool
 is_end in_tag left = starts ends_tag (behind_white left)
 is_end in_block left = starts ends_tag (behind_white left) || begins_binding left

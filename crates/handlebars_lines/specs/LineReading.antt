@@ -6,7 +6,7 @@ use Rattle.handlebars_base.specs.Bytes.{Text, equals_sign, is_white, behind_whit
 use Rattle.handlebars_base.specs.PathReading.{path_of, slice_at}
 use Rattle.handlebars_base.specs.Optional.{◌>>=◌, with_or}
 use Rattle.handlebars_base.specs.Texts.{starts, after, symbols_of, behind_symbols}
-use Rattle.handlebars_lines.specs.Runs.{Next, goes, ends, stuck}
+use Rattle.handlebars_lines.specs.Runs.{ReadingStep, goes, ends, stuck}
 use Rattle.handlebars_lines.specs.LiteralReading.{literal_at}
 use Rattle.handlebars_lines.specs.Parameter.{left_parenthesis, right_parenthesis, Term, literal_term, path_term, name_term, call_term, Terms, no_terms, term, is_reserved}
 use Rattle.handlebars_lines.specs.CloseName.{close_name_at}
@@ -53,18 +53,18 @@ key_and_equals_at t =
 abbrev pub behind_name : Text → Stand
 behind_name raw = if list_all is_symbol raw then at_items else at_end
 
-abbrev pub open_step : Option Text → ℕ → Text → Next Event LineStand
+abbrev pub open_step : Option Text → ℕ → Text → ReadingStep Event LineStand
 open_step key n r = goes (opened key (suc n)) (line_stand (at_name value_name) (suc n)) (behind_white r)
 
 -- a name by its text, if it isn't empty, and what follows it
-abbrev pub plain_step : ℕ → Text × Text → Next Event LineStand
+abbrev pub plain_step : ℕ → Text × Text → ReadingStep Event LineStand
 plain_step n p = if length p.0 == 0 then stuck else goes (name_event p.0) (line_stand at_items n) p.1
 
-abbrev pub value_step : ℕ → Text → Next Event LineStand
+abbrev pub value_step : ℕ → Text → ReadingStep Event LineStand
 value_step n t =
     with_or (slice_at t) (λ p. goes (path_event None p.0 n) (line_stand (behind_name p.0) n) p.1) stuck
 
-unfoldable pub name_step : NameMode → ℕ → Text → Next Event LineStand
+unfoldable pub name_step : NameMode → ℕ → Text → ReadingStep Event LineStand
 name_step identifier_name n t = plain_step n (symbols_of t, behind_symbols t)
 name_step value_name n t = with_or (after left_parenthesis t) (open_step None n) (value_step n t)
 name_step close_name n t = with_or (after left_parenthesis t) (open_step None n) (plain_step n (close_name_at t))
@@ -74,18 +74,18 @@ abbrev pub is_excluded : Option Text → Text → Bool
 is_excluded None raw = is_reserved raw
 is_excluded (Some key) raw = false
 
-abbrev pub path_step : Option Text → ℕ → Text → Next Event LineStand
+abbrev pub path_step : Option Text → ℕ → Text → ReadingStep Event LineStand
 path_step key n t =
     with_or (slice_at t)
     (λ p. if is_excluded key p.0 then stuck else goes (path_event key p.0 n) (line_stand at_items n) p.1) stuck
 
-unfoldable pub parameter_step : Option Text → ℕ → Text → Next Event LineStand
+unfoldable pub parameter_step : Option Text → ℕ → Text → ReadingStep Event LineStand
 parameter_step key n t =
     with_or (after left_parenthesis t) (open_step key n)
     (with_or (literal_at t) (λ l. goes (literal_event key l.raw (n + l.depth)) (line_stand at_items n) l.rest)
     (path_step key n t))
 
-unfoldable pub item_step : ℕ → Text → Next Event LineStand
+unfoldable pub item_step : ℕ → Text → ReadingStep Event LineStand
 item_step n t = with_or (key_and_equals_at t) (λ k. parameter_step (Some k.0) n k.1) (parameter_step None n t)
 
 abbrev pub may_follow : Stand → Bool
@@ -94,27 +94,27 @@ may_follow at_items = true
 may_follow at_end = false
 
 -- an item behind white, where items may follow
-abbrev pub next_step : Stand → ℕ → Text → Next Event LineStand
+abbrev pub next_step : Stand → ℕ → Text → ReadingStep Event LineStand
 next_step s n t = if may_follow s && starts is_white t then item_step n (behind_white t) else stuck
 
 -- the end, where no parenthesis is open
-abbrev pub outer_step : Enclosure → Stand → Text → Next Event LineStand
+abbrev pub outer_step : Enclosure → Stand → Text → ReadingStep Event LineStand
 outer_step around s t = if is_end around t then ends else next_step s 0 t
 
 -- a closing parenthesis, where one is open
-abbrev pub inner_step : Stand → ℕ → Text → Next Event LineStand
+abbrev pub inner_step : Stand → ℕ → Text → ReadingStep Event LineStand
 inner_step s n t =
     with_or (after right_parenthesis (behind_white t)) (λ r. goes closed (line_stand at_items (n - 1)) r) (next_step s n t)
 
-unfoldable pub behind_step : Enclosure → Stand → ℕ → Text → Next Event LineStand
+unfoldable pub behind_step : Enclosure → Stand → ℕ → Text → ReadingStep Event LineStand
 behind_step around s n t = if n == 0 then outer_step around s t else inner_step s n t
 
-abbrev pub step_at : Enclosure → Stand → ℕ → Text → Next Event LineStand
+abbrev pub step_at : Enclosure → Stand → ℕ → Text → ReadingStep Event LineStand
 step_at around (at_name mode) n t = name_step mode n t
 step_at around at_items n t = behind_step around at_items n t
 step_at around at_end n t = behind_step around at_end n t
 
-unfoldable pub line_step : Enclosure → LineStand → Text → Next Event LineStand
+unfoldable pub line_step : Enclosure → LineStand → Text → ReadingStep Event LineStand
 line_step around s t = step_at around s.stand s.level t
 
 -- ---- what was taken

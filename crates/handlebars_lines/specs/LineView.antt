@@ -3,7 +3,7 @@ use Rattle.std.specs.Prelude.{ℕ, Option}
 use Rattle.std.specs.Option.{option_map}
 use denote.Ref.{Bor}
 use Rattle.handlebars_base.specs.Bytes.{Text}
-use Rattle.handlebars_lines.specs.Runs.{Next, goes, ends, stuck}
+use Rattle.handlebars_lines.specs.Runs.{ReadingStep, goes, ends, stuck}
 use Rattle.handlebars_lines.specs.Line.{NameMode, identifier_name, value_name, close_name, Enclosure, in_tag, in_block, in_parentheses}
 use Rattle.handlebars_lines.specs.LineReading.{Event, opened, literal_event, path_event, name_event, closed, Stand, at_name, at_items, at_end, LineStand, line_stand, height}
 use Rattle.handlebars_lines.specs.declared.line.step.Enclosure.{Enclosure as ReadEnclosure}
@@ -50,7 +50,7 @@ event_of (event.Path key raw n) = path_event (key_of key) raw.now n
 event_of (event.Name raw) = name_event raw.now
 event_of event.Closed = closed
 
-abbrev pub step_of : Step → Next Event LineStand
+abbrev pub step_of : Step → ReadingStep Event LineStand
 step_of (step.Goes x s rest) = goes (event_of x) (line_stand_of s) rest.now
 step_of step.Ends = ends
 step_of step.Stuck = stuck

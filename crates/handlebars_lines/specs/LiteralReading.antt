@@ -4,7 +4,7 @@ use Rattle.std.specs.List.{prefix_len}
 use Rattle.handlebars_base.specs.Bytes.{Text, double_quote, single_quote, colon, backslash, left_bracket, left_brace, behind_white}
 use Rattle.handlebars_base.specs.Optional.{◌>>=◌, with_or}
 use Rattle.handlebars_base.specs.Texts.{starts, after}
-use Rattle.handlebars_lines.specs.Runs.{Next, goes, ends, stuck, run}
+use Rattle.handlebars_lines.specs.Runs.{ReadingStep, goes, ends, stuck, run}
 use Rattle.handlebars_lines.specs.Literal.{comma, is_number, is_kept, is_word, Bracket, array, object, closer, goes_on}
 
 -- ---- marks and runs
@@ -119,7 +119,7 @@ opens n = record { height = n; keeps = true }
 abbrev pub reads : Bool → Find
 reads kept = record { height = 0; keeps = kept }
 
-abbrev pub taken : List Bracket → Token → Next Find LiteralPlace
+abbrev pub taken : List Bracket → Token → ReadingStep Find LiteralPlace
 taken ks (unbracketed kept r) = goes (reads kept) (behind ks) r
 taken ks (empty_brackets r) = goes (opens (suc (length ks))) (behind ks) r
 taken ks (opening_bracket k r) = goes (opens (suc (length ks))) (ahead (k ∷ ks)) r
@@ -128,7 +128,7 @@ taken ks (closing_bracket r) = goes (opens 0) (behind (outer ks)) r
 taken ks literal_end = ends
 taken ks no_token = stuck
 
-abbrev pub literal_step : LiteralPlace → Text → Next Find LiteralPlace
+abbrev pub literal_step : LiteralPlace → Text → ReadingStep Find LiteralPlace
 literal_step (ahead ks) t = taken ks (value_token (is_some (innermost ks)) t)
 literal_step (behind ks) t = taken ks (behind_token (innermost ks) t)
 

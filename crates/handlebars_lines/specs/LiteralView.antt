@@ -29,5 +29,5 @@ token_of (token.ClosingBracket rest) = closing_bracket rest.now
 token_of token.LiteralEnd = literal_end
 token_of token.NoToken = no_token
 
-abbrev pub slice_of : ReadLiteralSlice → LiteralSlice
-slice_of slice = record { raw = slice.raw.now; rest = slice.rest.now; depth = slice.depth; kept = slice.kept }
+abbrev pub literal_slice_of : ReadLiteralSlice → LiteralSlice
+literal_slice_of slice = record { raw = slice.raw.now; rest = slice.rest.now; depth = slice.depth; kept = slice.kept }

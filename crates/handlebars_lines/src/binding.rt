@@ -4,7 +4,7 @@ ghost use Rattle.std.specs.Prelude.{◌≡◌, MatchOption};
 ghost use Rattle.std.specs.Option.{option_map};
 ghost use Rattle.handlebars_lines.specs.Binding.{behind_bar, behind_beginning, IsBinding, NoBinding};
 ghost use Rattle.handlebars_lines.specs.BindingReading.{symbols_at, other_at, names_at};
-ghost use Rattle.handlebars_lines.specs.BindingView.{binding_of, slice_of};
+ghost use Rattle.handlebars_lines.specs.BindingView.{bound_names_of, binding_slice_of};
 ghost use Rattle.handlebars_lines.specs.LineView.{texts_of};
 
 use handlebars_base::json::path::marks::{after, behind_white, starts_white, symbols};
@@ -62,7 +62,7 @@ fn symbols_at(text: &str) -> Option<(&str, &str)>
 
 /// The name behind another.
 fn other_at<'a>(name: &'a str, text: &'a str) -> Option<BindingSlice<'a>>
-    ensures { option_map slice_of result ≡ other_at name.now text.now }
+    ensures { option_map binding_slice_of result ≡ other_at name.now text.now }
 {
     let (other, behind) = symbols_at(behind_white(text))?;
     let rest = after(b'|', behind_white(behind))?;
@@ -74,7 +74,7 @@ fn other_at<'a>(name: &'a str, text: &'a str) -> Option<BindingSlice<'a>>
 
 /// The names behind the first bar, with the last one.
 fn names_at(text: &str) -> Option<BindingSlice<'_>>
-    ensures { option_map slice_of result ≡ names_at text.now }
+    ensures { option_map binding_slice_of result ≡ names_at text.now }
 {
     let (name, behind) = symbols_at(behind_white(text))?;
     match after(b'|', behind_white(behind)) {
@@ -89,7 +89,7 @@ fn names_at(text: &str) -> Option<BindingSlice<'_>>
 /// The block parameters that a text begins with, where it begins behind the items of a line: none where none are begun.
 pub fn split_binding(text: &str) -> Option<BindingSlice<'_>>
     ensures { MatchOption result (NoBinding text.now)
-        (λ slice. IsBinding text.now (binding_of slice.means) slice.rest.now) }
+        (λ slice. IsBinding text.now (bound_names_of slice.means) slice.rest.now) }
 {
     match behind_beginning(text) {
         Some(rest) => names_at(rest),

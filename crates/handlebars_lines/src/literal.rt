@@ -7,7 +7,7 @@ ghost use Rattle.std.specs.Option.{option_map};
 ghost use Rattle.handlebars_base.specs.Texts.{IsEnd};
 ghost use Rattle.handlebars_lines.specs.Literal.{is_digits, is_integer, is_decimal, is_number, number_of, is_kept_below, is_kept, is_word, closer};
 ghost use Rattle.handlebars_lines.specs.LiteralReading.{plain_at, undoubled_at, unbracketed_at, keeps_at, behind_colon, behind_key, behind_lead, bracket_token, value_token, comma_token, entry_token, token_at, innermost, slice_to, literal_at};
-ghost use Rattle.handlebars_lines.specs.LiteralView.{bracket_of, stack_of, token_of, slice_of};
+ghost use Rattle.handlebars_lines.specs.LiteralView.{bracket_of, stack_of, token_of, literal_slice_of};
 ghost use Rattle.handlebars_lines.specs.Laws.{HasLiteral, NoLiteral};
 
 use crate::marks::{behind_quote, run, starts_run};
@@ -27,7 +27,7 @@ pub struct LiteralSlice<'a> {
 /// The literal in front of a text.
 pub fn split_literal(alloc: Global, text: &str) -> Result<Option<LiteralSlice<'_>>, AllocError>
     ensures reads { IfOk result (λ read. MatchOption read (NoLiteral text.now)
-        (λ slice. HasLiteral text.now (slice_of slice))) }
+        (λ slice. HasLiteral text.now (literal_slice_of slice))) }
     ensures depth { IfOk result (λ read. IfSome read (λ slice. slice.depth ≤ length text.now)) }
 {
     literal_at(alloc, text)
@@ -311,7 +311,7 @@ fn open_bracket(
 /// The literal that ends ahead of this rest, unless its last word goes on there.
 fn slice_to<'a>(text: &'a str, rest: &'a str, depth: usize, kept: bool) -> Option<LiteralSlice<'a>>
     requires { IsEnd text.now rest.now }
-    ensures reads { option_map slice_of result ≡ slice_to text.now rest.now depth kept }
+    ensures reads { option_map literal_slice_of result ≡ slice_to text.now rest.now depth kept }
     ensures depth { IfSome result (λ slice. slice.depth ≡ depth) }
 {
     if starts_run(rest) {
@@ -328,7 +328,7 @@ fn slice_to<'a>(text: &'a str, rest: &'a str, depth: usize, kept: bool) -> Optio
 
 /// The literal in front, by its tokens.
 pub(crate) fn literal_at(alloc: Global, text: &str) -> Result<Option<LiteralSlice<'_>>, AllocError>
-    ensures reads { IfOk result (λ read. option_map slice_of read ≡ literal_at text.now) }
+    ensures reads { IfOk result (λ read. option_map literal_slice_of read ≡ literal_at text.now) }
     ensures depth { IfOk result (λ read. IfSome read (λ slice. slice.depth ≤ length text.now)) }
 {
     let mut around: Vec<Bracket> = Vec::new(alloc);

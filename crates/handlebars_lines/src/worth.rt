@@ -6,7 +6,7 @@ ghost use Rattle.serde_json.specs.Read.{read as read_text};
 ghost use Rattle.serde_json.specs.View.{view};
 ghost use Rattle.handlebars_base.specs.Bytes.{single_quote};
 ghost use Rattle.handlebars_base.specs.Texts.{starts};
-ghost use Rattle.handlebars_lines.specs.LiteralView.{slice_of};
+ghost use Rattle.handlebars_lines.specs.LiteralView.{literal_slice_of};
 ghost use Rattle.handlebars_lines.specs.Worth.{plain_singles, escaped_doubles, double_quoted};
 ghost use Rattle.handlebars_lines.specs.WorthReading.{before, unquoted, slice_worth, worth_of};
 
@@ -28,7 +28,7 @@ pub fn literal_value(alloc: Global, raw: &str) -> Result<Option<Json>, AllocErro
 }
 
 fn slice_value(alloc: Global, slice: LiteralSlice<'_>) -> Result<Option<Json>, AllocError>
-    ensures { IfOk result (λ read. option_map view read ≡ slice_worth (slice_of slice.entry)) }
+    ensures { IfOk result (λ read. option_map view read ≡ slice_worth (literal_slice_of slice.entry)) }
 {
     if !(slice.kept && slice.rest.is_empty()) {
         return Ok(None);

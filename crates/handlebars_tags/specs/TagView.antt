@@ -2,7 +2,7 @@
 use Rattle.std.specs.Prelude.{◌≡◌, ℕ, true, ◌++◌, Some}
 use Rattle.handlebars_base.specs.Bytes.{Text}
 use Rattle.handlebars_lines.specs.Line.{value_name, Line, in_tag, IsLine}
-use Rattle.handlebars_lines.specs.BindingView.{binding_of}
+use Rattle.handlebars_lines.specs.BindingView.{bound_names_of}
 use Rattle.handlebars_tags.specs.Kind.{TagKind, closing_of}
 use Rattle.handlebars_tags.specs.Tag.{BlockLine, IsBlockLine, Tag, expression_tag, html_tag, block_tag, inverse_tag, chain_tag, close_tag, raw_tag, raw_close_tag, comment_tag, tag_depth, IsTag}
 use Rattle.handlebars_tags.specs.TagReading.{IsClosed}
@@ -24,7 +24,7 @@ pub record HoldsLine (of : Line → Tag) (text : Text) (tag : Tag) : Type 0 wher
 pub record IsBlockSlice (slice : BlockSlice) (line : BlockLine) (rest : Text) : Type 0 where
   pub is_line : IsBlockLine slice.line.now line rest
   pub is_name : line.name ≡ slice.name.now
-  pub is_binding : line.binding ≡ binding_of slice.binding
+  pub is_binding : line.binding ≡ bound_names_of slice.binding
 
 pub record HoldsBlock (of : BlockLine → Tag) (slice : BlockSlice) (tag : Tag) : Type 0 where
   pub line : BlockLine

@@ -1,7 +1,7 @@
 -- The views, one level at a time.
-use Rattle.std.proofs.Common.{◌≡◌, ◌&&◌, suc, ◌==◌, List, [], ◌∷◌, length, option_map, refl, sym, ap, ◌∙◌, rules, arith, Box, Global, String}
+use Rattle.std.proofs.Common.{◌≡◌, ◌&&◌, suc, ◌==◌, List, [], ◌∷◌, length, refl, sym, ap, ◌∙◌, rules, arith, Box, Global, String}
 use Rattle.std.proofs.lemmas.Bool.{ne_eqb}
-use Rattle.handlebars_template.specs.Tree.{call_name, call_params, call_pairs, call_binding, call_body, call_inverse, call_marks, decorator_name, decorator_params, decorator_pairs, decorator_body, decorator_marks, lacks_params, lacks_pairs, is_value, html_expression, expression, helper_block, decorator_expression, decorator_block, partial_expression, partial_block, comment, raw_string, name, path, literal, subexpression}
+use Rattle.handlebars_template.specs.Tree.{call_name, call_params, call_pairs, call_binding, call_body, call_inverse, call_marks, decorator_name, decorator_params, decorator_pairs, lacks_params, lacks_pairs, is_value, expression, helper_block, decorator_expression, decorator_block, partial_expression, partial_block, comment, raw_string, name, path, literal, subexpression}
 use Rattle.handlebars_template.specs.TreeView.{text, element_view, call_view, decorator_view, param_view, params_view, pairs_view, body_view, block_param_view, subexpression_view}
 use Rattle.handlebars_template.specs.declared.template.tree.BlockParam.{the_lemmas}
 use Rattle.handlebars_template.specs.declared.template.tree.BlockParam.TheViews.{roll-Subexpression}
@@ -15,10 +15,7 @@ use Rattle.serde_json.specs.declared.value.Value.{Value}
 use Rattle.handlebars_template.specs.declared.template.tree.HelperTemplate.{HelperTemplate, out-HelperTemplate}
 use Rattle.handlebars_template.specs.declared.template.tree.DecoratorTemplate.{DecoratorTemplate, out-DecoratorTemplate}
 use Rattle.handlebars_template.specs.declared.template.tree.Parameter.{Parameter}
-use Rattle.handlebars_template.specs.declared.template.tree.TemplateElement.TheVariants.{HtmlExpression, Expression, HelperBlock, DecoratorExpression, DecoratorBlock, PartialExpression, PartialBlock, Comment, RawString}
-
-pub element_view-HtmlExpression : (b : Box HelperTemplate Global) → element_view (HtmlExpression b) ≡ html_expression (call_view b.value)
-element_view-HtmlExpression b = search (rules, the_lemmas)
+use Rattle.handlebars_template.specs.declared.template.tree.TemplateElement.TheVariants.{Expression, HelperBlock, DecoratorExpression, DecoratorBlock, PartialExpression, PartialBlock, Comment, RawString}
 
 pub element_view-Expression : (b : Box HelperTemplate Global) → element_view (Expression b) ≡ expression (call_view b.value)
 element_view-Expression b = search (rules, the_lemmas)
@@ -97,13 +94,6 @@ decorator_params-view t = search (rules, the_lemmas)
 
 pub decorator_pairs-view : (t : DecoratorTemplate) → decorator_pairs (decorator_view t) ≡ pairs_view (out-DecoratorTemplate t).hash.entries
 decorator_pairs-view t = search (rules, the_lemmas)
-
-pub decorator_body-view : (t : DecoratorTemplate) → decorator_body (decorator_view t) ≡ body_view (out-DecoratorTemplate t).template
-decorator_body-view t = search (rules, the_lemmas)
-
-pub decorator_marks-view : (t : DecoratorTemplate) → decorator_marks (decorator_view t)
-    ≡ record { indent = option_map text (out-DecoratorTemplate t).indent; indent_before_write = (out-DecoratorTemplate t).indent_before_write }
-decorator_marks-view t = search (rules, the_lemmas)
 
 -- ---- values
 

@@ -49,13 +49,6 @@ pub record Builds (mode : NameMode) (around : Enclosure) (t : Text) (s : LineSta
   pub leads : Leads mode around t s rest lines
   pub are_calls : AreCallsOf lines calls
 
-pub builds-starts : (mode : NameMode) (around : Enclosure) (t : Text) (calls : OpenCalls) → AreCallsOf first_lines calls → Builds mode around t (line_stand (at_name mode) 0) t calls
-builds-starts mode around t calls h = record {
-  lines = first_lines;
-  leads = through-starts (line_step around) (line_stand (at_name mode) 0) t (build_all first_lines);
-  are_calls = h;
-}
-
 -- what taking an event answers, of whatever open lines the calls stand for
 abbrev pub Takes : OpenCalls → Event → Bool → OpenCalls → Type 0
 Takes calls x taken calls' = (lines : OpenLines) → AreCallsOf lines calls → IsTaken (build lines x) taken calls'

@@ -8,11 +8,11 @@ use Rattle.handlebars_template.specs.Tree.{Element, helper_block, Call, Body, no
 use Rattle.handlebars_template.specs.TreeView.{place_of, element_view}
 use Rattle.handlebars_template.specs.Nest.{Opening, Placed, Branch, body_with, block_call, inverse_of, is_chain, in_branch, in_inverse}
 use Rattle.handlebars_template.specs.Machine.{closed_block}
-use Rattle.handlebars_template.specs.NestView.{paired, branch_view, frame_view, stack_view}
+use Rattle.handlebars_template.specs.NestView.{paired, branch_view, open_block_view, stack_view}
 use Rattle.handlebars_template.specs.declared.template.tree.TemplateMapping.{TemplateMapping}
 use Rattle.handlebars_template.specs.declared.template.tree.TemplateElement.{TemplateElement}
 use Rattle.handlebars_template.specs.declared.template.chain.Branch.{Branch as BuiltBranch}
-use Rattle.handlebars_template.specs.declared.template.nest.Open.{Open}
+use Rattle.handlebars_template.specs.declared.template.nest.OpenBlock.{OpenBlock as BuiltBlock}
 
 inverse_of-append : (bs cs : List Branch) (last : Body) → inverse_of (bs ++ cs) last ≡ inverse_of bs (inverse_of cs last)
 inverse_of-append [] cs last = refl
@@ -22,8 +22,8 @@ pub inverse_of_pop : (bs : List BuiltBranch) (b : BuiltBranch) (last : Body)
     → inverse_of (map branch_view (bs ++ b ∷ [])) last ≡ inverse_of (map branch_view bs) (inverse_of (branch_view b ∷ []) last)
 inverse_of_pop bs b last = rw (map-append) (inverse_of-append (map branch_view bs) (branch_view b ∷ []) last)
 
-pub stack_view_push : (os : List Open) (o : Open) → stack_view (os ++ o ∷ []) ≡ frame_view o ∷ stack_view os
-stack_view_push os o = rw (map-append) (reverse-append (map frame_view os) (frame_view o ∷ []))
+pub stack_view_push : (os : List BuiltBlock) (o : BuiltBlock) → stack_view (os ++ o ∷ []) ≡ open_block_view o ∷ stack_view os
+stack_view_push os o = rw (map-append) (reverse-append (map open_block_view os) (open_block_view o ∷ []))
 
 is_chain-append : (bs : List Branch) (b : Branch) → is_chain (bs ++ b ∷ []) ≡ true
 is_chain-append [] b = refl

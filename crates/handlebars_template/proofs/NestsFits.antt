@@ -8,7 +8,7 @@ use Rattle.handlebars_base.specs.Bytes.{Text}
 use Rattle.handlebars_template.specs.Place.{Place}
 use Rattle.handlebars_template.specs.Tree.{Element}
 use Rattle.handlebars_template.specs.Calls.{max_nesting}
-use Rattle.handlebars_template.specs.Nest.{BlockKind, Opening, SourcePiece, leaf, opens, turns, chains, closes, place_in, refused_in, may_end, NestFault, unexpected, too_deep, mismatched, no_value, Placed, Test, syntax_alone, names_and_literals, may_close, has_values, OpenBlock, takes_inverse, may_stand_in, cost, RefusesAt, out_of_place, past_limit, without_value, other_name}
+use Rattle.handlebars_template.specs.Nest.{BlockKind, Opening, SourcePiece, leaf, opens, inverts, chains, closes, place_in, refused_in, may_end, NestFault, unexpected, too_deep, mismatched, no_value, Placed, Test, syntax_alone, names_and_literals, may_close, has_values, OpenBlock, takes_inverse, may_stand_in, cost, RefusesAt, out_of_place, past_limit, without_value, other_name}
 use Rattle.handlebars_template.specs.Machine.{Moved, stops, behind_piece, syntax_fault_by, early_in, literal_fault, name_fault, name_fault_in, late_in, tried, fault_in, unless_fault, moved_by, apply}
 
 -- ---- how deep
@@ -16,35 +16,35 @@ use Rattle.handlebars_template.specs.Machine.{Moved, stops, behind_piece, syntax
 abbrev pub is_too_deep : ℕ → SourcePiece → Bool
 is_too_deep d (leaf p e n r) = nat_lt max_nesting (d + n)
 is_too_deep d (opens p o n r) = nat_lt max_nesting (d + suc n)
-is_too_deep d (turns p) = false
+is_too_deep d (inverts p) = false
 is_too_deep d (chains p o n r) = nat_lt max_nesting (d + suc n)
 is_too_deep d (closes p raw m) = false
 
 deep-past : (d : ℕ) (x : SourcePiece) → is_too_deep d x ≡ true → max_nesting < d + cost x
 deep-past d (leaf p e n r) is = ltb-true _ _ is
 deep-past d (opens p o n r) is = ltb-true _ _ is
-deep-past d (turns p) is = absurd cc
+deep-past d (inverts p) is = absurd cc
 deep-past d (chains p o n r) is = ltb-true _ _ is
 deep-past d (closes p raw m) is = absurd cc
 
 past-deep : (d : ℕ) (x : SourcePiece) → d ≤ max_nesting → max_nesting < d + cost x → is_too_deep d x ≡ true
 past-deep d (leaf p e n r) le lt = lt-ltb max_nesting (d + n) lt
 past-deep d (opens p o n r) le lt = lt-ltb max_nesting (d + suc n) lt
-past-deep d (turns p) le lt = absurd (omega (arith, le, lt))
+past-deep d (inverts p) le lt = absurd (omega (arith, le, lt))
 past-deep d (chains p o n r) le lt = lt-ltb max_nesting (d + suc n) lt
 past-deep d (closes p raw m) le lt = absurd (omega (arith, le, lt))
 
 shallow-fits : (d : ℕ) (x : SourcePiece) → d ≤ max_nesting → is_too_deep d x ≡ false → d + cost x ≤ max_nesting
 shallow-fits d (leaf p e n r) le is = ltb-false _ _ is
 shallow-fits d (opens p o n r) le is = ltb-false _ _ is
-shallow-fits d (turns p) le is = omega (arith, le)
+shallow-fits d (inverts p) le is = omega (arith, le)
 shallow-fits d (chains p o n r) le is = ltb-false _ _ is
 shallow-fits d (closes p raw m) le is = omega (arith, le)
 
 fits-shallow : (d : ℕ) (x : SourcePiece) → d + cost x ≤ max_nesting → is_too_deep d x ≡ false
 fits-shallow d (leaf p e n r) fits = le-ltb max_nesting (d + n) fits
 fits-shallow d (opens p o n r) fits = le-ltb max_nesting (d + suc n) fits
-fits-shallow d (turns p) fits = refl
+fits-shallow d (inverts p) fits = refl
 fits-shallow d (chains p o n r) fits = le-ltb max_nesting (d + suc n) fits
 fits-shallow d (closes p raw m) fits = refl
 
@@ -100,7 +100,7 @@ fault_by b c p late = option_or (syntax_fault_by b c p) late
 early_in-by : (d : ℕ) (fs : List OpenBlock) (x : SourcePiece) → early_in d fs x ≡ syntax_fault_by (may_stand_in fs x) (is_too_deep d x) (place_in x)
 early_in-by d fs (leaf p e n r) = refl
 early_in-by d fs (opens p o n r) = refl
-early_in-by d fs (turns p) = refl
+early_in-by d fs (inverts p) = refl
 early_in-by d fs (chains p o n r) = refl
 early_in-by d fs (closes p raw m) = refl
 
@@ -126,7 +126,7 @@ none-fault_in t d fs x h =
 pub apply-moved_by : (t : Test) (x : SourcePiece) (d : ℕ) (fs : List OpenBlock) (es : List Placed) → apply t x d fs es ≡ moved_by t x d fs es
 apply-moved_by t (leaf p e n r) d fs es = refl
 apply-moved_by t (opens p o n r) d fs es = refl
-apply-moved_by t (turns p) d fs es = refl
+apply-moved_by t (inverts p) d fs es = refl
 apply-moved_by t (chains p o n r) d fs es = refl
 apply-moved_by t (closes p raw m) d fs es = refl
 
@@ -151,8 +151,8 @@ Fits-leaf t d fs p e n r fits fair = record { stands = refl; shallow = le-ltb ma
 pub Fits-opens : (t : Test) (d : ℕ) (fs : List OpenBlock) (p : Place) (o : Opening) (n : ℕ) (r : Option Text) → d + suc n ≤ max_nesting → has_values t r ≡ true → Fits t d fs (opens p o n r)
 Fits-opens t d fs p o n r fits fair = record { stands = refl; shallow = le-ltb max_nesting (d + suc n) fits; fair = tried-values t r fair }
 
-pub Fits-turns : (t : Test) (d : ℕ) (f : OpenBlock) (fs : List OpenBlock) (p : Place) → takes_inverse f ≡ true → Fits t d (f ∷ fs) (turns p)
-Fits-turns t d f fs p takes = record { stands = takes; shallow = refl; fair = tried-none t }
+pub Fits-inverts : (t : Test) (d : ℕ) (f : OpenBlock) (fs : List OpenBlock) (p : Place) → takes_inverse f ≡ true → Fits t d (f ∷ fs) (inverts p)
+Fits-inverts t d f fs p takes = record { stands = takes; shallow = refl; fair = tried-none t }
 
 pub Fits-chains : (t : Test) (d : ℕ) (f : OpenBlock) (fs : List OpenBlock) (p : Place) (o : Opening) (n : ℕ) (r : Option Text) → takes_inverse f ≡ true → d + suc n ≤ max_nesting → has_values t r ≡ true
     → Fits t d (f ∷ fs) (chains p o n r)
@@ -194,7 +194,7 @@ RefusesAt-fault {t} {d} le (other_name {f = f} {fs = fs} {p = p} {raw = raw} {m 
 RefusesAt-name : (d : ℕ) (fs : List OpenBlock) (x : SourcePiece) (f : NestFault) → may_stand_in fs x ≡ true → name_fault_in fs x ≡ Some f → RefusesAt names_and_literals d fs x f
 RefusesAt-name d fs (leaf p e n r) f stands is = absurd (none-some f is)
 RefusesAt-name d fs (opens p o n r) f stands is = absurd (none-some f is)
-RefusesAt-name d fs (turns p) f stands is = absurd (none-some f is)
+RefusesAt-name d fs (inverts p) f stands is = absurd (none-some f is)
 RefusesAt-name d fs (chains p o n r) f stands is = absurd (none-some f is)
 RefusesAt-name d [] (closes p raw m) f stands is = absurd (none-some f is)
 RefusesAt-name d (g ∷ fs) (closes p raw m) f stands is = by_name (may_close names_and_literals g.opening.closing m) refl is

@@ -4,7 +4,7 @@ use Rattle.std.specs.Option.{option_or}
 use Rattle.handlebars_base.specs.Bytes.{Text}
 use Rattle.handlebars_template.specs.Place.{Place}
 use Rattle.handlebars_template.specs.Calls.{max_nesting}
-use Rattle.handlebars_template.specs.Nest.{Opening, opens, turns, chains, OpenBlock, takes_inverse}
+use Rattle.handlebars_template.specs.Nest.{Opening, opens, inverts, chains, OpenBlock, takes_inverse}
 use Rattle.handlebars_template.specs.Machine.{syntax_fault_by, early_in}
 use Rattle.handlebars_template.specs.NestView.{Looks}
 use Rattle.handlebars_template.specs.declared.template.nest.SyntaxFault.{SyntaxFault}
@@ -18,7 +18,7 @@ module _ (p : Place) where
   Looks-both false c (Some fault) deep h k = h
 
   pub Looks-chained : (o : Opening) (r : Option Text) (d n : ℕ) (fs : List OpenBlock) (misplaced deep : Option SyntaxFault)
-      → Looks p (early_in d fs (turns p)) misplaced → Looks p (early_in d fs (opens p o n r)) deep
+      → Looks p (early_in d fs (inverts p)) misplaced → Looks p (early_in d fs (opens p o n r)) deep
       → Looks p (early_in d fs (chains p o n r)) (option_or misplaced deep)
   Looks-chained o r d n [] misplaced deep h k = Looks-both false (nat_lt max_nesting (d + suc n)) misplaced deep h k
   Looks-chained o r d n (f ∷ fs) misplaced deep h k = Looks-both (takes_inverse f) (nat_lt max_nesting (d + suc n)) misplaced deep h k

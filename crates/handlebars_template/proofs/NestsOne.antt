@@ -1,6 +1,6 @@
 -- At most one answer.
 use Rattle.std.proofs.Common.{◌≡◌, ℕ, List, [], ◌∷◌, refl, sym, ap, ◌∙◌}
-use Rattle.handlebars_template.specs.Nest.{BlockKind, SourcePiece, NestFault, not_closed, Placed, Branch, Test, syntax_alone, names_and_literals, Nests, nothing, a_leaf, a_block, Chains, no_more, a_branch, Turns, no_inverse, an_inverse, OpenBlock, Opens, none_open, Refuses, LeavesOpen, left_open}
+use Rattle.handlebars_template.specs.Nest.{BlockKind, SourcePiece, NestFault, not_closed, Placed, Branch, Test, syntax_alone, names_and_literals, Nests, nothing, a_leaf, a_block, Chains, no_more, a_branch, Inverts, no_inverse, an_inverse, OpenBlock, Opens, none_open, Refuses, LeavesOpen, left_open}
 use Rattle.handlebars_template.specs.Tree.{Body}
 use Rattle.handlebars_template.specs.Machine.{goes, stops}
 use Rattle.handlebars_template.proofs.NestsRuns.{Opens-run, Refuses-run}
@@ -8,11 +8,11 @@ use Rattle.handlebars_template.proofs.NestsRuns.{Opens-run, Refuses-run}
 -- two states of the same pieces
 pub record AreSame (d e : ℕ) (fs gs : List OpenBlock) (es hs : List Placed) : Type 0 where
   pub depth : d ≡ e
-  pub frames : fs ≡ gs
+  pub open_blocks : fs ≡ gs
   pub elements : es ≡ hs
 
 goes-same : (d e : ℕ) (fs gs : List OpenBlock) (es hs : List Placed) → goes d fs es ≡ goes e gs hs → AreSame d e fs gs es hs
-goes-same d e fs gs es hs is = record { depth = cc; frames = cc; elements = cc }
+goes-same d e fs gs es hs is = record { depth = cc; open_blocks = cc; elements = cc }
 
 stops-same : (f g : NestFault) → stops f ≡ stops g → f ≡ g
 stops-same f g is = cc
@@ -36,7 +36,7 @@ not_closed-same : (f g : OpenBlock) (fs gs : List OpenBlock) → (f ∷ fs) ≡ 
 not_closed-same f g fs gs is = let same : f ≡ g = cc in ap (λ (z : OpenBlock). not_closed z.place) same
 
 pub LeavesOpen-one : {t : Test} {ps : List SourcePiece} {f g : NestFault} → LeavesOpen t ps f → LeavesOpen t ps g → f ≡ g
-LeavesOpen-one (left_open {f = f} {fs = fs} a) (left_open {f = g} {fs = gs} b) = not_closed-same f g fs gs (Opens-one a b).frames
+LeavesOpen-one (left_open {f = f} {fs = fs} a) (left_open {f = g} {fs = gs} b) = not_closed-same f g fs gs (Opens-one a b).open_blocks
 
 pub Nests-Refuses : {t : Test} {ps : List SourcePiece} {es : List Placed} {f : NestFault} → Nests t 0 ps es → Refuses t ps f → ⊥
 Nests-Refuses a b = Opens-Refuses (none_open a) b
@@ -45,7 +45,7 @@ nil-cons : (f : OpenBlock) (fs : List OpenBlock) → [] ≡ (f ∷ fs) → ⊥
 nil-cons f fs is = absurd cc
 
 pub Nests-LeavesOpen : {t : Test} {ps : List SourcePiece} {es : List Placed} {f : NestFault} → Nests t 0 ps es → LeavesOpen t ps f → ⊥
-Nests-LeavesOpen a (left_open {f = f} {fs = fs} b) = nil-cons f fs (Opens-one (none_open a) b).frames
+Nests-LeavesOpen a (left_open {f = f} {fs = fs} b) = nil-cons f fs (Opens-one (none_open a) b).open_blocks
 
 -- ---- what nests by its names and literals too nests by its syntax
 
@@ -54,12 +54,12 @@ mutual
   Nests-loose nothing = nothing
   Nests-loose (a_leaf p e n r fits fair h) = a_leaf p e n r fits refl (Nests-loose h)
   Nests-loose (a_block p q o n r raw m fits fair ends named nb ch la h) =
-      a_block p q o n r raw m fits refl ends refl (Nests-loose nb) (Chains-loose ch) (Turns-loose la) (Nests-loose h)
+      a_block p q o n r raw m fits refl ends refl (Nests-loose nb) (Chains-loose ch) (Inverts-loose la) (Nests-loose h)
 
   Chains-loose : {k : BlockKind} {d e : ℕ} {cs : List SourcePiece} {bs : List Branch} → Chains names_and_literals k d cs bs e → Chains syntax_alone k d cs bs e
   Chains-loose no_more = no_more
   Chains-loose (a_branch p o n r may fits fair nb ch) = a_branch p o n r may fits refl (Nests-loose nb) (Chains-loose ch)
 
-  Turns-loose : {k : BlockKind} {d : ℕ} {ls : List SourcePiece} {last : Body} → Turns names_and_literals k d ls last → Turns syntax_alone k d ls last
-  Turns-loose no_inverse = no_inverse
-  Turns-loose (an_inverse p may nb) = an_inverse p may (Nests-loose nb)
+  Inverts-loose : {k : BlockKind} {d : ℕ} {ls : List SourcePiece} {last : Body} → Inverts names_and_literals k d ls last → Inverts syntax_alone k d ls last
+  Inverts-loose no_inverse = no_inverse
+  Inverts-loose (an_inverse p may nb) = an_inverse p may (Nests-loose nb)

@@ -6,7 +6,7 @@ use borrow.Author.Tests.{ltb-false}
 use Rattle.handlebars_base.specs.Bytes.{Text}
 use Rattle.handlebars_template.specs.Place.{Place}
 use Rattle.handlebars_template.specs.Calls.{max_nesting}
-use Rattle.handlebars_template.specs.Nest.{BlockKind, admits_inverse, may_end, Opening, SourcePiece, leaf, opens, turns, chains, closes, NestFault, Placed, Branch, Test, may_close, has_values, Nests, nothing, a_leaf, a_block, Chains, no_more, a_branch, no_inverse, an_inverse, OpenBlock, takes_inverse, Inside, in_its_body, in_a_branch, in_its_inverse, Opens, none_open, one_more, RefusesAt, Refuses, refuses_at}
+use Rattle.handlebars_template.specs.Nest.{BlockKind, admits_inverse, may_end, Opening, SourcePiece, leaf, opens, inverts, chains, closes, NestFault, Placed, Branch, Test, may_close, has_values, Nests, nothing, a_leaf, a_block, Chains, no_more, a_branch, no_inverse, an_inverse, OpenBlock, takes_inverse, BeginsBlock, in_its_body, in_a_branch, in_its_inverse, Opens, none_open, one_more, RefusesAt, Refuses, refuses_at}
 use Rattle.handlebars_template.specs.Machine.{closed, Moved, goes, stops, behind_piece, fault_in, unless_fault, apply}
 use Rattle.handlebars_template.proofs.NestsFits.{apply-moved_by, Fits, fault_in-none, leaf-values, opens-values, chains-values, closes-name, fault-RefusesAt}
 
@@ -19,8 +19,8 @@ nests_at {t} {d} {ps} {qs} {es} {xs} h e f =
 chains_at : {t : Test} {k : BlockKind} {d e : ℕ} {ps qs : List SourcePiece} {bs : List Branch} → Chains t k d ps bs e → ps ≡ qs → Chains t k d qs bs e
 chains_at {t} {k} {d} {e} {ps} {qs} {bs} h is = subst (λ (x : List SourcePiece). Chains t k d x bs e) is h
 
-inside_at : {t : Test} {f : OpenBlock} {ps qs : List SourcePiece} {d : ℕ} {es : List Placed} → Inside t f ps d es → ps ≡ qs → Inside t f qs d es
-inside_at {t} {f} {ps} {qs} {d} {es} h is = subst (λ (x : List SourcePiece). Inside t f x d es) is h
+begins_block_at : {t : Test} {f : OpenBlock} {ps qs : List SourcePiece} {d : ℕ} {es : List Placed} → BeginsBlock t f ps d es → ps ≡ qs → BeginsBlock t f qs d es
+begins_block_at {t} {f} {ps} {qs} {d} {es} h is = subst (λ (x : List SourcePiece). BeginsBlock t f x d es) is h
 
 opens_at : {t : Test} {d : ℕ} {ps qs : List SourcePiece} {fs : List OpenBlock} {es : List Placed} → Opens t d ps fs es → ps ≡ qs → Opens t d qs fs es
 opens_at {t} {d} {ps} {qs} {fs} {es} h is = subst (λ (x : List SourcePiece). Opens t d x fs es) is h
@@ -31,14 +31,14 @@ Chains-shallow : {t : Test} {k : BlockKind} {d e : ℕ} {cs : List SourcePiece} 
 Chains-shallow no_more le = le
 Chains-shallow (a_branch p o n r may fits fair nb ch) le = Chains-shallow ch (omega (arith, fits))
 
-Inside-shallow : {t : Test} {f : OpenBlock} {qs : List SourcePiece} {d : ℕ} {es : List Placed} → Inside t f qs d es → d ≤ max_nesting
-Inside-shallow (in_its_body p x n r fits fair nb) = omega (arith, fits)
-Inside-shallow (in_a_branch p q x g n k r u fits fair nb ch may fits' fair' ng) = omega (arith, fits')
-Inside-shallow (in_its_inverse p q x n r fits fair nb ch may ng) = Chains-shallow ch (omega (arith, fits))
+BeginsBlock-shallow : {t : Test} {f : OpenBlock} {qs : List SourcePiece} {d : ℕ} {es : List Placed} → BeginsBlock t f qs d es → d ≤ max_nesting
+BeginsBlock-shallow (in_its_body p x n r fits fair nb) = omega (arith, fits)
+BeginsBlock-shallow (in_a_branch p q x g n k r u fits fair nb ch may fits' fair' ng) = omega (arith, fits')
+BeginsBlock-shallow (in_its_inverse p q x n r fits fair nb ch may ng) = Chains-shallow ch (omega (arith, fits))
 
 pub Opens-shallow : {t : Test} {d : ℕ} {ps : List SourcePiece} {fs : List OpenBlock} {es : List Placed} → Opens t d ps fs es → d ≤ max_nesting
 Opens-shallow (none_open h) = omega arith
-Opens-shallow (one_more o i) = Inside-shallow i
+Opens-shallow (one_more o i) = BeginsBlock-shallow i
 
 -- ---- more at the end
 
@@ -55,24 +55,24 @@ Chains-append q g n r no_more may fits fair m = chains_at (a_branch q g n r may 
 Chains-append q g n r (a_branch p o j u may' fits' fair' nb ch) may fits fair m =
     chains_at (a_branch p o j u may' fits' fair' nb (Chains-append q g n r ch may fits fair m)) (sym (simp append_assoc))
 
-Inside-append : {t : Test} {f : OpenBlock} {qs xs : List SourcePiece} {d : ℕ} {es ys : List Placed} → Inside t f qs d es → Nests t d xs ys → Inside t f (qs ++ xs) d (es ++ ys)
-Inside-append (in_its_body p x n r fits fair nb) m = in_its_body p x n r fits fair (Nests-append nb m)
-Inside-append (in_a_branch p q x g n k r u fits fair nb ch may fits' fair' ng) m =
-    inside_at (in_a_branch p q x g n k r u fits fair nb ch may fits' fair' (Nests-append ng m)) (sym (simp append_assoc))
-Inside-append (in_its_inverse p q x n r fits fair nb ch may ng) m =
-    inside_at (in_its_inverse p q x n r fits fair nb ch may (Nests-append ng m)) (sym (simp append_assoc))
+BeginsBlock-append : {t : Test} {f : OpenBlock} {qs xs : List SourcePiece} {d : ℕ} {es ys : List Placed} → BeginsBlock t f qs d es → Nests t d xs ys → BeginsBlock t f (qs ++ xs) d (es ++ ys)
+BeginsBlock-append (in_its_body p x n r fits fair nb) m = in_its_body p x n r fits fair (Nests-append nb m)
+BeginsBlock-append (in_a_branch p q x g n k r u fits fair nb ch may fits' fair' ng) m =
+    begins_block_at (in_a_branch p q x g n k r u fits fair nb ch may fits' fair' (Nests-append ng m)) (sym (simp append_assoc))
+BeginsBlock-append (in_its_inverse p q x n r fits fair nb ch may ng) m =
+    begins_block_at (in_its_inverse p q x n r fits fair nb ch may (Nests-append ng m)) (sym (simp append_assoc))
 
 Opens-append : {t : Test} {d : ℕ} {ps xs : List SourcePiece} {fs : List OpenBlock} {es ys : List Placed} → Opens t d ps fs es → Nests t d xs ys → Opens t d (ps ++ xs) fs (es ++ ys)
 Opens-append (none_open h) m = none_open (Nests-append h m)
-Opens-append (one_more o i) m = opens_at (one_more o (Inside-append i m)) (sym (simp append_assoc))
+Opens-append (one_more o i) m = opens_at (one_more o (BeginsBlock-append i m)) (sym (simp append_assoc))
 
 -- a close makes a whole block
-Inside-closed : {t : Test} {f : OpenBlock} {qs : List SourcePiece} {d : ℕ} {es : List Placed} → (q : Place) (raw : Bool) (m : Text) → may_end f.opening.kind raw m ≡ true → may_close t f.opening.closing m ≡ true
-    → Inside t f qs d es → Nests t f.around (qs ++ (closes q raw m ∷ [])) (closed f es ∷ [])
-Inside-closed q raw m ends named (in_its_body p x n r fits fair nb) = a_block p q x n r raw m fits fair ends named nb no_more no_inverse nothing
-Inside-closed q raw m ends named (in_a_branch p q' x g n k r u fits fair nb ch may fits' fair' ng) =
+BeginsBlock-closed : {t : Test} {f : OpenBlock} {qs : List SourcePiece} {d : ℕ} {es : List Placed} → (q : Place) (raw : Bool) (m : Text) → may_end f.opening.kind raw m ≡ true → may_close t f.opening.closing m ≡ true
+    → BeginsBlock t f qs d es → Nests t f.around (qs ++ (closes q raw m ∷ [])) (closed f es ∷ [])
+BeginsBlock-closed q raw m ends named (in_its_body p x n r fits fair nb) = a_block p q x n r raw m fits fair ends named nb no_more no_inverse nothing
+BeginsBlock-closed q raw m ends named (in_a_branch p q' x g n k r u fits fair nb ch may fits' fair' ng) =
     nests_at (a_block p q x n r raw m fits fair ends named nb (Chains-append q' g k u ch may fits' fair' ng) no_inverse nothing) (simp append_assoc) refl
-Inside-closed q raw m ends named (in_its_inverse p q' x n r fits fair nb ch may ng) =
+BeginsBlock-closed q raw m ends named (in_its_inverse p q' x n r fits fair nb ch may ng) =
     nests_at (a_block p q x n r raw m fits fair ends named nb ch (an_inverse q' may ng) nothing) (simp append_assoc) refl
 
 -- ---- one piece that may stand
@@ -82,16 +82,16 @@ abbrev Leaves : Test → List SourcePiece → Moved → Type 0
 Leaves t ps (goes d fs es) = Opens t d ps fs es
 Leaves t ps (stops f) = ⊥
 
-Leaves-turns : {t : Test} {d : ℕ} {ps qs : List SourcePiece} {f : OpenBlock} {fs : List OpenBlock} {es : List Placed} → (q : Place) → takes_inverse f ≡ true
-    → Opens t f.around ps fs f.outside → Inside t f qs d es → Leaves t ((ps ++ qs) ++ (turns q ∷ [])) (behind_piece (turns q) d (f ∷ fs) es)
-Leaves-turns q takes o (in_its_body p x n r fits fair nb) = opens_at (one_more o (in_its_inverse p q x n r fits fair nb no_more takes nothing)) (sym (simp append_assoc))
-Leaves-turns q takes o (in_a_branch p q' x g n k r u fits fair nb ch may fits' fair' ng) =
+Leaves-inverts : {t : Test} {d : ℕ} {ps qs : List SourcePiece} {f : OpenBlock} {fs : List OpenBlock} {es : List Placed} → (q : Place) → takes_inverse f ≡ true
+    → Opens t f.around ps fs f.outside → BeginsBlock t f qs d es → Leaves t ((ps ++ qs) ++ (inverts q ∷ [])) (behind_piece (inverts q) d (f ∷ fs) es)
+Leaves-inverts q takes o (in_its_body p x n r fits fair nb) = opens_at (one_more o (in_its_inverse p q x n r fits fair nb no_more takes nothing)) (sym (simp append_assoc))
+Leaves-inverts q takes o (in_a_branch p q' x g n k r u fits fair nb ch may fits' fair' ng) =
     opens_at (one_more o (in_its_inverse p q x n r fits fair nb (Chains-append q' g k u ch may fits' fair' ng) takes nothing)) (sym (simp append_assoc))
-Leaves-turns q takes o (in_its_inverse p q' x n r fits fair nb ch may ng) = absurd (false≢true takes)
+Leaves-inverts q takes o (in_its_inverse p q' x n r fits fair nb ch may ng) = absurd (false≢true takes)
 
 Leaves-chains : {t : Test} {d : ℕ} {ps qs : List SourcePiece} {f : OpenBlock} {fs : List OpenBlock} {es : List Placed} → (q : Place) (g : Opening) (k : ℕ) (u : Option Text)
     → takes_inverse f ≡ true → d + suc k ≤ max_nesting → has_values t u ≡ true
-    → Opens t f.around ps fs f.outside → Inside t f qs d es → Leaves t ((ps ++ qs) ++ (chains q g k u ∷ [])) (behind_piece (chains q g k u) d (f ∷ fs) es)
+    → Opens t f.around ps fs f.outside → BeginsBlock t f qs d es → Leaves t ((ps ++ qs) ++ (chains q g k u ∷ [])) (behind_piece (chains q g k u) d (f ∷ fs) es)
 Leaves-chains q g k u takes deep worth o (in_its_body p x n r fits fair nb) =
     opens_at (one_more o (in_a_branch p q x g n k r u fits fair nb no_more takes deep worth nothing)) (sym (simp append_assoc))
 Leaves-chains q g k u takes deep worth o (in_a_branch p q' x g' n k' r u' fits fair nb ch may fits' fair' ng) =
@@ -101,13 +101,13 @@ Leaves-chains q g k u takes deep worth o (in_its_inverse p q' x n r fits fair nb
 leaves : {t : Test} {d : ℕ} {ps : List SourcePiece} {fs : List OpenBlock} {es : List Placed} → (x : SourcePiece) → Fits t d fs x → Opens t d ps fs es → Leaves t (ps ++ (x ∷ [])) (behind_piece x d fs es)
 leaves {t} {d} {fs = fs} (leaf p e n r) h o = Opens-append o (a_leaf p e n r (ltb-false _ _ h.shallow) (leaf-values t d fs p e n r h) nothing)
 leaves {t} {d} {fs = fs} (opens p x n r) h o = one_more o (in_its_body p x n r (ltb-false _ _ h.shallow) (opens-values t d fs p x n r h) nothing)
-leaves {fs = []} (turns p) h o = absurd (false≢true h.stands)
-leaves {fs = f ∷ fs} (turns p) h (one_more o i) = Leaves-turns p h.stands o i
+leaves {fs = []} (inverts p) h o = absurd (false≢true h.stands)
+leaves {fs = f ∷ fs} (inverts p) h (one_more o i) = Leaves-inverts p h.stands o i
 leaves {fs = []} (chains p x n r) h o = absurd (false≢true h.stands)
 leaves {t} {d} {fs = f ∷ fs} (chains p x n r) h (one_more o i) = Leaves-chains p x n r h.stands (ltb-false _ _ h.shallow) (chains-values t d (f ∷ fs) p x n r h) o i
 leaves {fs = []} (closes p raw m) h o = absurd (false≢true h.stands)
 leaves {t} {d} {fs = f ∷ fs} (closes p raw m) h (one_more o i) =
-    opens_at (Opens-append o (Inside-closed p raw m h.stands (closes-name t d f fs p raw m h) i)) (sym (simp append_assoc))
+    opens_at (Opens-append o (BeginsBlock-closed p raw m h.stands (closes-name t d f fs p raw m h) i)) (sym (simp append_assoc))
 
 -- ---- a step
 

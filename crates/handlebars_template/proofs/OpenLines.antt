@@ -16,9 +16,6 @@ use Rattle.handlebars_template.specs.LineBuildingView.{OpenCall, OpenCalls, open
 abbrev open_line : Option Text → Option Term → Terms → OpenLine
 open_line key n terms = record { key = key; name = n; terms = terms }
 
-abbrev open_call : Option Text → Option Param → Args → OpenCall
-open_call key n xs = record { key = key; name = n; arguments = xs }
-
 -- ---- one term more
 
 pub arguments_in_joined : (ts : Terms) (xs : Args) (key : Option Text) (t : Term) → arguments_in xs (joined ts (term key t no_terms)) ≡ add_argument key (param_of t) (arguments_in xs ts)

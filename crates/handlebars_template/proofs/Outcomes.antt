@@ -51,16 +51,16 @@ ran t xs = run-ran t xs [] 0 [] [] (none_open nothing)
 -- ---- a reading
 
 -- a text, a tag's slice, and the tag
-abbrev Next : Type 0
-Next = Text × Text × TagFound
+abbrev TextThenTag : Type 0
+TextThenTag = Text × Text × TagFound
 
 abbrev slice_before : Text → Text → Text
 slice_before t rest = take (length t - length rest) t
 
-abbrev next_with : Edge → Text → Text → TagFound → Option Next
+abbrev next_with : Edge → Text → Text → TagFound → Option TextThenTag
 next_with e text left f = guarded (may_follow e f.tag) (text, slice_before left f.rest, f)
 
-abbrev next_at : Edge → Text → Option Next
+abbrev next_at : Edge → Text → Option TextThenTag
 next_at e left = text_at (braces_behind e) left >>= λ x. tag_at x.1 >>= λ f. guarded (bytes_eq (slice_before x.1 f.rest ++ f.rest) x.1) f >>= next_with e x.0 x.1
 
 -- where a reading is, with what is left behind it
@@ -70,7 +70,7 @@ pub record Spot : Type 0 where
   pub slices : List Slice
   pub left : Text
 
-abbrev spot_behind : Spot → Next → Spot
+abbrev spot_behind : Spot → TextThenTag → Spot
 spot_behind s x =
     let edge = edge_of (s.before ++ x.0) x.2.tag x.2.tildes x.2.rest in
     record {
@@ -89,7 +89,7 @@ pub record IsAt (source : Text) (options : Options) (s : Spot) : Type 0 where
   pub begins : Reads source options s.before s.edge s.slices
   pub whole : source ≡ s.before ++ s.left
 
-next_at-is : (source : Text) (options : Options) (s : Spot) (x : Next) → next_at s.edge s.left ≡ Some x → IsAt source options s → IsAt source options (spot_behind s x)
+next_at-is : (source : Text) (options : Options) (s : Spot) (x : TextThenTag) → next_at s.edge s.left ≡ Some x → IsAt source options s → IsAt source options (spot_behind s x)
 next_at-is source options s x e h =
     let words = bind_some (text_at (braces_behind s.edge) s.left) _ x e in
     let tag = bind_some (tag_at words.0.1) _ x words.2 in
@@ -114,7 +114,7 @@ next_at-is source options s x e h =
       is_tag = is;
       may_follow = fair.0;
     } in
-    subst (λ (z : Next). IsAt source options (spot_behind s z)) fair.1 (record {
+    subst (λ (z : TextThenTag). IsAt source options (spot_behind s z)) fair.1 (record {
       begins = goes_on h.begins next;
       whole = all ∙ regroup_four s.before words.0.0 slice f.rest;
     })
@@ -231,7 +231,7 @@ first_unreadable options text left words marks none = no_tag (record {
   slices = [];
   begins = starts;
   depth = 0;
-  frames = [];
+  open_blocks = [];
   elements = [];
   nests = none_open nothing;
   text = text;

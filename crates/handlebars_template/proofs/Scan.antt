@@ -142,7 +142,7 @@ pieces_in-pair options ps p e x k q spelled t n = pieces_in-append options ps (p
 pub record Mid {source : Text} {options : Options} {slice kept left : Text} {at : Place} {fresh : Bool} {e : Edge} {late : Option NestFault} {d : ℕ} {fs : List OpenBlock} {es : List Placed}
     (h : Scans source options slice kept left at fresh e late d fs es) (n : Edge) (late' : Option NestFault) (d' : ℕ) (fs' : List OpenBlock) (es' : List Placed) : Type 0 where
   pub depth : d' ≡ d
-  pub frames : fs' ≡ fs
+  pub open_blocks : fs' ≡ fs
   pub kept_late : late' ≡ late
   pub elements : es' ≡ es ++ text_placed options at e slice kept n
 
@@ -152,7 +152,7 @@ State-along a b c e s = rw (a, b, c, e) s
 Mid-state : {source : Text} {options : Options} {slice kept left : Text} {at : Place} {fresh : Bool} {e : Edge} {late : Option NestFault} {d : ℕ} {fs : List OpenBlock} {es : List Placed}
     → (h : Scans source options slice kept left at fresh e late d fs es) (n : Edge) (late' : Option NestFault) (d' : ℕ) (fs' : List OpenBlock) (es' : List Placed) → Mid h n late' d' fs' es'
     → State late' (pieces_in options h.slices ++ text_pieces options at e slice kept n) d' fs' es'
-Mid-state {options = options} {slice = slice} {kept = kept} {at = at} {e = e} h n late' d' fs' es' m = State-along m.kept_late m.depth m.frames m.elements (State-text options at e slice kept n h.state)
+Mid-state {options = options} {slice = slice} {kept = kept} {at = at} {e = e} h n late' d' fs' es' m = State-along m.kept_late m.depth m.open_blocks m.elements (State-text options at e slice kept n h.state)
 
 regroup : (b s t x y : Text) → b ++ (s ++ (t ++ (x ++ y))) ≡ (b ++ (s ++ t)) ++ (x ++ y)
 regroup b s t x y = sym (simp append_assoc)
@@ -229,7 +229,7 @@ Compiles-unreadable {source} {options} {slice} {kept} {left} {at} {fresh} {e} {l
   slices = h.slices;
   begins = h.begins;
   depth = d;
-  frames = fs;
+  open_blocks = fs;
   elements = es;
   nests = h.state.loose;
   text = slice;

@@ -15,7 +15,7 @@ use Rattle.handlebars_template.specs.TreeView.{text, binding_view}
 use Rattle.handlebars_template.specs.Calls.{call_of, first_refused, line_literals}
 use Rattle.handlebars_template.specs.Nest.{BlockKind, helper_opening, Opening as Said, SourcePiece, leaf, opens, chains}
 use Rattle.handlebars_template.specs.NestView.{opening_view, early, Looks, Does}
-use Rattle.handlebars_template.specs.Compile.{binding_of, opening_of, tag_piece}
+use Rattle.handlebars_template.specs.Compile.{block_binding, opening_of, tag_piece}
 use Rattle.handlebars_template.specs.ScanView.{value_element, value_piece, block_piece, chain_piece, HasOpening}
 use Rattle.handlebars_template.specs.declared.template.nest.Nesting.{Nesting}
 use Rattle.handlebars_template.specs.declared.template.nest.SyntaxFault.{SyntaxFault}
@@ -29,7 +29,7 @@ binding_view-Pair x y = search (rules, the_lemmas)
 
 abbrev said : BlockKind → Text → Args → means.BoundNames → Bool → Said
 said k n xs b indent =
-    record { kind = k; name = name n; closing = n; arguments = xs; binding = binding_of b; indent = indent }
+    record { kind = k; name = name n; closing = n; arguments = xs; binding = block_binding b; indent = indent }
 
 abbrev with_arguments : Args → Said → Said
 with_arguments xs o =

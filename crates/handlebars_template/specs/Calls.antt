@@ -11,7 +11,7 @@ use Rattle.handlebars_lines.specs.Line.{Line}
 use Rattle.handlebars_lines.specs.WorthReading.{worth_of}
 use Rattle.handlebars_template.specs.Tree.{CallMarks, expression, Call, call, Args, args, no_arguments, lacks_arguments, bodies, Param, name, path, literal, subexpression, Params, no_params, param, Pairs, no_pairs, pair, no_binding, no_body}
 
--- no block, not chained, and not on a line of its own
+-- no block, in no chain, and with no indentation before what it writes
 abbrev pub plain_marks : CallMarks
 plain_marks = record { block = false; chain = false; indent_before_write = false }
 
@@ -19,7 +19,7 @@ plain_marks = record { block = false; chain = false; indent_before_write = false
 abbrev pub plain_call : Param → Args → Call
 plain_call n xs = call n xs no_binding (bodies no_body no_body) plain_marks
 
--- the most blocks, parentheses and brackets of literals that may be open at once
+-- the most blocks, chained inverses, parentheses and brackets of literals that may be open at once
 abbrev pub max_nesting : ℕ
 max_nesting = 200
 

@@ -11,15 +11,15 @@ use Rattle.handlebars_template.specs.Place.{Place, place}
 use Rattle.handlebars_template.specs.Tree.{Tree, tree, elements_of, Element, raw_string, html_expression, expression, comment, no_arguments, name, no_binding, single, both}
 use Rattle.handlebars_template.specs.Tree as tree
 use Rattle.handlebars_template.specs.Calls.{call_of, arguments_in, line_literals, literals_in, first_refused, invalid}
-use Rattle.handlebars_template.specs.Nest.{BlockKind, helper_opening, raw_opening, decorator_opening, partial_opening, Opening, SourcePiece, leaf, opens, turns, chains, closes, NestFault, unexpected, too_deep, not_closed, mismatched, no_value, Placed, syntax_alone, names_and_literals, Nests, OpenBlock, Opens, Refuses, LeavesOpen}
+use Rattle.handlebars_template.specs.Nest.{BlockKind, helper_opening, raw_opening, decorator_opening, partial_opening, Opening, SourcePiece, leaf, opens, inverts, chains, closes, NestFault, unexpected, too_deep, not_closed, mismatched, no_value, Placed, syntax_alone, names_and_literals, Nests, OpenBlock, Opens, Refuses, LeavesOpen}
 use Rattle.handlebars_template.specs.Cut.{Slice, text_slice, tag_slice, may_follow, Reads, IsCut}
 
 -- ---- what the slices stand for
 
-abbrev pub binding_of : BoundNames → tree.Binding
-binding_of unbound = no_binding
-binding_of (bound x) = single (name x)
-binding_of (both_bound x y) = both (name x) (name y)
+abbrev pub block_binding : BoundNames → tree.Binding
+block_binding unbound = no_binding
+block_binding (bound x) = single (name x)
+block_binding (both_bound x y) = both (name x) (name y)
 
 -- What the opening tag of a block says. Indentation goes before what the block writes where the tag stands alone on its
 -- line, without a tilde in front.
@@ -29,7 +29,7 @@ opening_of kind e line = record {
   name = name line.name;
   closing = line.name;
   arguments = arguments_in no_arguments line.terms;
-  binding = binding_of line.binding;
+  binding = block_binding line.binding;
   indent = e.standalone && not e.left;
 }
 
@@ -40,7 +40,7 @@ tag_piece p e (html_tag line) =
     leaf p (html_expression (call_of line.name line.terms)) line.depth (first_refused (line_literals line))
 tag_piece p e (block_tag line) =
     opens p (opening_of helper_opening e line) line.depth (first_refused (literals_in line.terms))
-tag_piece p e inverse_tag = turns p
+tag_piece p e inverse_tag = inverts p
 tag_piece p e (chain_tag line) =
     chains p (opening_of helper_opening e line) line.depth (first_refused (literals_in line.terms))
 tag_piece p e (close_tag n) = closes p false n
@@ -102,9 +102,9 @@ pub record IsUnreadable (source : Text) (options : Options) (at : Place) : Type 
   pub slices : List Slice
   pub begins : Reads source options before edge slices
   pub depth : ℕ
-  pub frames : List OpenBlock
+  pub open_blocks : List OpenBlock
   pub elements : List Placed
-  pub nests : Opens syntax_alone depth (pieces_in options slices) frames elements
+  pub nests : Opens syntax_alone depth (pieces_in options slices) open_blocks elements
   pub text : Text
   pub kept : Text
   pub left : Text

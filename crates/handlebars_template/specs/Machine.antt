@@ -1,11 +1,12 @@
--- The same as a machine over the open blocks, for the program's contracts alone: what is public cites Nest.
+-- How texts and tags nest, as Nest says it, by a machine that goes from piece to piece with the blocks that are open.
+-- Only this crate's own contracts cite it: what is public cites Nest.
 use Rattle.std.specs.Prelude.{ℕ, suc, ◌+◌, nat_lt, Bool, true, false, List, [], ◌∷◌, ◌++◌, Option, None, Some}
 use Rattle.std.specs.Option.{option_or}
 use Rattle.handlebars_base.specs.Bytes.{Text}
 use Rattle.handlebars_template.specs.Place.{Place}
 use Rattle.handlebars_template.specs.Tree.{Element, no_body}
 use Rattle.handlebars_template.specs.Calls.{max_nesting}
-use Rattle.handlebars_template.specs.Nest.{BlockKind, Opening, SourcePiece, leaf, opens, turns, chains, closes, refused_in, NestFault, unexpected, too_deep, mismatched, no_value, Placed, body_with, Branch, block_of, Test, syntax_alone, names_and_literals, may_close, Stage, in_first, in_branch, in_inverse, OpenBlock, may_stand_in}
+use Rattle.handlebars_template.specs.Nest.{BlockKind, Opening, SourcePiece, leaf, opens, inverts, chains, closes, refused_in, NestFault, unexpected, too_deep, mismatched, no_value, Placed, body_with, Branch, block_of, Test, syntax_alone, names_and_literals, may_close, Stage, in_first, in_branch, in_inverse, OpenBlock, may_stand_in}
 
 -- the whole block, when its close comes
 abbrev pub closed_block : Stage → Opening → List Placed → List Branch → List Placed → Element
@@ -24,8 +25,8 @@ next_stage (in_branch g) f es next =
     record f { branches = f.branches ++ record { opening = g; elements = es } ∷ []; stage = next }
 next_stage in_inverse f es next = record f { stage = next }
 
-abbrev pub new_frame : Place → Opening → ℕ → List Placed → OpenBlock
-new_frame p o d es =
+abbrev pub new_open_block : Place → Opening → ℕ → List Placed → OpenBlock
+new_open_block p o d es =
     record { place = p; opening = o; around = d; first = []; branches = []; stage = in_first; outside = es }
 
 -- how much is open, the open blocks and the elements of the innermost then, or the fault
@@ -36,9 +37,9 @@ pub data Moved : Type 0 where
 -- what stands behind a piece that may stand
 abbrev pub behind_piece : SourcePiece → ℕ → List OpenBlock → List Placed → Moved
 behind_piece (leaf p e n r) d fs es = goes d fs (es ++ record { place = p; element = e } ∷ [])
-behind_piece (opens p o n r) d fs es = goes (suc d) (new_frame p o d es ∷ fs) []
-behind_piece (turns p) d [] es = goes d [] es
-behind_piece (turns p) d (f ∷ fs) es = goes d (next_stage f.stage f es in_inverse ∷ fs) []
+behind_piece (opens p o n r) d fs es = goes (suc d) (new_open_block p o d es ∷ fs) []
+behind_piece (inverts p) d [] es = goes d [] es
+behind_piece (inverts p) d (f ∷ fs) es = goes d (next_stage f.stage f es in_inverse ∷ fs) []
 behind_piece (chains p o n r) d [] es = goes d [] es
 behind_piece (chains p o n r) d (f ∷ fs) es = goes (suc d) (next_stage f.stage f es (in_branch o) ∷ fs) []
 behind_piece (closes p raw m) d [] es = goes d [] es
@@ -55,12 +56,12 @@ syntax_fault_by true false p = None
 abbrev pub early_in : ℕ → List OpenBlock → SourcePiece → Option NestFault
 early_in d fs (leaf p e n r) = syntax_fault_by true (nat_lt max_nesting (d + n)) p
 early_in d fs (opens p o n r) = syntax_fault_by true (nat_lt max_nesting (d + suc n)) p
-early_in d fs (turns p) = syntax_fault_by (may_stand_in fs (turns p)) false p
+early_in d fs (inverts p) = syntax_fault_by (may_stand_in fs (inverts p)) false p
 early_in d fs (chains p o n r) =
     syntax_fault_by (may_stand_in fs (chains p o n r)) (nat_lt max_nesting (d + suc n)) p
 early_in d fs (closes p raw m) = syntax_fault_by (may_stand_in fs (closes p raw m)) false p
 
--- ---- what comes late
+-- ---- what is refused only where the whole source nests
 
 abbrev pub literal_fault : Option Text → Option NestFault
 literal_fault None = None
@@ -74,7 +75,7 @@ name_fault false k n m p = Some (mismatched k n m p)
 abbrev pub name_fault_in : List OpenBlock → SourcePiece → Option NestFault
 name_fault_in fs (leaf p e n r) = None
 name_fault_in fs (opens p o n r) = None
-name_fault_in fs (turns p) = None
+name_fault_in fs (inverts p) = None
 name_fault_in fs (chains p o n r) = None
 name_fault_in [] (closes p raw m) = None
 name_fault_in (f ∷ fs) (closes p raw m) =
@@ -89,6 +90,7 @@ late_after late x fs = option_or late (late_in fs x)
 
 -- ---- a piece
 
+-- what comes late counts where names and literals are tried
 abbrev pub tried : Test → Option NestFault → Option NestFault
 tried syntax_alone late = None
 tried names_and_literals late = late
@@ -108,13 +110,13 @@ moved_by t x d fs es = unless_fault (fault_in t d fs x) (behind_piece x d fs es)
 abbrev pub apply : Test → SourcePiece → ℕ → List OpenBlock → List Placed → Moved
 apply t (leaf p e n r) d fs es = moved_by t (leaf p e n r) d fs es
 apply t (opens p o n r) d fs es = moved_by t (opens p o n r) d fs es
-apply t (turns p) d fs es = moved_by t (turns p) d fs es
+apply t (inverts p) d fs es = moved_by t (inverts p) d fs es
 apply t (chains p o n r) d fs es = moved_by t (chains p o n r) d fs es
 apply t (closes p raw m) d fs es = moved_by t (closes p raw m) d fs es
 
 -- ---- the end
 
--- the elements, the place of the innermost block that is open, or what comes late
+-- the elements, the place of the innermost block that is open, or the first fault that came late
 pub data End : Type 0 where
   complete : List Placed → End
   unclosed : Place → End

@@ -16,10 +16,10 @@ pub data BlockKind : Type 0 where
   decorator_opening : BlockKind
   partial_opening : BlockKind
 
--- whether chained inverses and an inverse may stand in it; in a raw block none is read
+-- whether chained inverses and an inverse may stand in it; in a raw block only its end may stand
 abbrev pub admits_inverse : BlockKind → Bool
 admits_inverse helper_opening = true
-admits_inverse raw_opening = true
+admits_inverse raw_opening = false
 admits_inverse decorator_opening = false
 admits_inverse partial_opening = false
 
@@ -60,14 +60,14 @@ pub record Opening : Type 0 where
 pub data SourcePiece : Type 0 where
   leaf : Place → Element → ℕ → Option Text → SourcePiece
   opens : Place → Opening → ℕ → Option Text → SourcePiece
-  turns : Place → SourcePiece
+  inverts : Place → SourcePiece
   chains : Place → Opening → ℕ → Option Text → SourcePiece
   closes : Place → Bool → Text → SourcePiece
 
 abbrev pub place_in : SourcePiece → Place
 place_in (leaf p e n r) = p
 place_in (opens p o n r) = p
-place_in (turns p) = p
+place_in (inverts p) = p
 place_in (chains p o n r) = p
 place_in (closes p raw m) = p
 
@@ -75,7 +75,7 @@ place_in (closes p raw m) = p
 abbrev pub refused_in : SourcePiece → Option Text
 refused_in (leaf p e n r) = r
 refused_in (opens p o n r) = r
-refused_in (turns p) = None
+refused_in (inverts p) = None
 refused_in (chains p o n r) = r
 refused_in (closes p raw m) = None
 
@@ -154,7 +154,8 @@ mutual
     a_block : {d e : ℕ} {bs cs ls ps : List SourcePiece} {first es : List Placed} {branches : List Branch} {last : Body}
         (p q : Place) (o : Opening) (n : ℕ) (r : Option Text) (raw : Bool) (m : Text)
         → d + suc n ≤ max_nesting → has_values t r ≡ true → may_end o.kind raw m ≡ true → may_close t o.closing m ≡ true
-        → Nests t (suc d) bs first → Chains t o.kind (suc d) cs branches e → Turns t o.kind e ls last → Nests t d ps es
+        → Nests t (suc d) bs first → Chains t o.kind (suc d) cs branches e → Inverts t o.kind e ls last
+        → Nests t d ps es
         → Nests t d (opens p o n r ∷ (bs ++ (cs ++ (ls ++ (closes q raw m ∷ ps)))))
         (record { place = p; element = block_of o first branches last } ∷ es)
 
@@ -168,10 +169,10 @@ mutual
         → Chains t k d (chains p o n r ∷ (bs ++ cs)) (record { opening = o; elements = es } ∷ branches) e
 
   -- an inverse in a block of this kind, or none
-  pub data Turns (t : Test) : BlockKind → ℕ → List SourcePiece → Body → Type 0 where
-    no_inverse : {k : BlockKind} {d : ℕ} → Turns t k d [] no_body
+  pub data Inverts (t : Test) : BlockKind → ℕ → List SourcePiece → Body → Type 0 where
+    no_inverse : {k : BlockKind} {d : ℕ} → Inverts t k d [] no_body
     an_inverse : {k : BlockKind} {d : ℕ} {bs : List SourcePiece} {es : List Placed} (p : Place)
-        → admits_inverse k ≡ true → Nests t d bs es → Turns t k d (turns p ∷ bs) (body_with es)
+        → admits_inverse k ≡ true → Nests t d bs es → Inverts t k d (inverts p ∷ bs) (body_with es)
 
 -- ---- blocks that are open
 
@@ -192,31 +193,50 @@ pub record OpenBlock : Type 0 where
   pub stage : Stage
   pub outside : List Placed
 
--- Inside t f qs d es: the pieces qs begin the block f and leave it open, with d open then, behind the elements es.
-pub data Inside (t : Test) : OpenBlock → List SourcePiece → ℕ → List Placed → Type 0 where
+-- BeginsBlock t f qs d es: the pieces qs begin the block f and leave it open, with d open then, behind the elements es.
+pub data BeginsBlock (t : Test) : OpenBlock → List SourcePiece → ℕ → List Placed → Type 0 where
   in_its_body : {o : ℕ} {bs : List SourcePiece} {es out : List Placed} (p : Place) (x : Opening) (n : ℕ) (r : Option Text)
       → o + suc n ≤ max_nesting → has_values t r ≡ true → Nests t (suc o) bs es
-      → Inside t (record { place = p; opening = x; around = o; first = []; branches = []; stage = in_first; outside = out })
+      → BeginsBlock t
+      (record { place = p; opening = x; around = o; first = []; branches = []; stage = in_first; outside = out })
       (opens p x n r ∷ bs) (suc o) es
   in_a_branch : {o d : ℕ} {bs cs gs : List SourcePiece} {first es out : List Placed} {branches : List Branch}
       (p q : Place) (x g : Opening) (n k : ℕ) (r u : Option Text)
       → o + suc n ≤ max_nesting → has_values t r ≡ true → Nests t (suc o) bs first → Chains t x.kind (suc o) cs branches d
       → admits_inverse x.kind ≡ true → d + suc k ≤ max_nesting → has_values t u ≡ true → Nests t (suc d) gs es
-      → Inside t (record { place = p; opening = x; around = o; first = first; branches = branches; stage = in_branch g; outside = out })
+      → BeginsBlock t
+      (record {
+        place = p;
+        opening = x;
+        around = o;
+        first = first;
+        branches = branches;
+        stage = in_branch g;
+        outside = out;
+      })
       (opens p x n r ∷ (bs ++ (cs ++ (chains q g k u ∷ gs)))) (suc d) es
   in_its_inverse : {o d : ℕ} {bs cs gs : List SourcePiece} {first es out : List Placed} {branches : List Branch}
       (p q : Place) (x : Opening) (n : ℕ) (r : Option Text)
       → o + suc n ≤ max_nesting → has_values t r ≡ true → Nests t (suc o) bs first → Chains t x.kind (suc o) cs branches d
       → admits_inverse x.kind ≡ true → Nests t d gs es
-      → Inside t (record { place = p; opening = x; around = o; first = first; branches = branches; stage = in_inverse; outside = out })
-      (opens p x n r ∷ (bs ++ (cs ++ (turns q ∷ gs)))) d es
+      → BeginsBlock t
+      (record {
+        place = p;
+        opening = x;
+        around = o;
+        first = first;
+        branches = branches;
+        stage = in_inverse;
+        outside = out;
+      })
+      (opens p x n r ∷ (bs ++ (cs ++ (inverts q ∷ gs)))) d es
 
 -- Opens t d ps fs es: the pieces ps leave the blocks fs open, the innermost first, with d open then, and the elements es
 -- stand in the innermost.
 pub data Opens (t : Test) : ℕ → List SourcePiece → List OpenBlock → List Placed → Type 0 where
   none_open : {ps : List SourcePiece} {es : List Placed} → Nests t 0 ps es → Opens t 0 ps [] es
   one_more : {d : ℕ} {f : OpenBlock} {ps qs : List SourcePiece} {fs : List OpenBlock} {es : List Placed}
-      → Opens t f.around ps fs f.outside → Inside t f qs d es → Opens t d (ps ++ qs) (f ∷ fs) es
+      → Opens t f.around ps fs f.outside → BeginsBlock t f qs d es → Opens t d (ps ++ qs) (f ∷ fs) es
 
 -- ---- refusals
 
@@ -233,8 +253,8 @@ takes_inverse f = not (is_in_inverse f.stage) && admits_inverse f.opening.kind
 abbrev pub may_stand_in : List OpenBlock → SourcePiece → Bool
 may_stand_in fs (leaf p e n r) = true
 may_stand_in fs (opens p o n r) = true
-may_stand_in [] (turns p) = false
-may_stand_in (f ∷ fs) (turns p) = takes_inverse f
+may_stand_in [] (inverts p) = false
+may_stand_in (f ∷ fs) (inverts p) = takes_inverse f
 may_stand_in [] (chains p o n r) = false
 may_stand_in (f ∷ fs) (chains p o n r) = takes_inverse f
 may_stand_in [] (closes p raw m) = false
@@ -244,7 +264,7 @@ may_stand_in (f ∷ fs) (closes p raw m) = may_end f.opening.kind raw m
 abbrev pub cost : SourcePiece → ℕ
 cost (leaf p e n r) = n
 cost (opens p o n r) = suc n
-cost (turns p) = 0
+cost (inverts p) = 0
 cost (chains p o n r) = suc n
 cost (closes p raw m) = 0
 

@@ -16,7 +16,7 @@ use Rattle.handlebars_template.specs.declared.template.chain.BlockOpening.{Block
 use Rattle.handlebars_template.specs.declared.template.chain.Branch.{Branch as BuiltBranch}
 use Rattle.handlebars_template.specs.declared.template.chain.Stage.{Stage as BuiltStage}
 use Rattle.handlebars_template.specs.declared.template.chain.Stage.TheVariants as stage
-use Rattle.handlebars_template.specs.declared.template.nest.Open.{Open}
+use Rattle.handlebars_template.specs.declared.template.nest.OpenBlock.{OpenBlock as BuiltBlock}
 use Rattle.handlebars_template.specs.declared.template.nest.SyntaxFault.{SyntaxFault}
 use Rattle.handlebars_template.specs.declared.template.nest.SyntaxFault.TheVariants as syntax
 use Rattle.handlebars_template.specs.declared.template.nest.Late.{Late}
@@ -63,8 +63,8 @@ stage_view stage.First = in_first
 stage_view (stage.Chained o) = in_branch (opening_view o)
 stage_view stage.Inverse = in_inverse
 
-abbrev pub frame_view : Open → OpenBlock
-frame_view b = record {
+abbrev pub open_block_view : BuiltBlock → OpenBlock
+open_block_view b = record {
   place = place_of b.place;
   opening = opening_view b.opening;
   around = b.around;
@@ -75,8 +75,8 @@ frame_view b = record {
 }
 
 -- the innermost first
-abbrev pub stack_view : List Open → List OpenBlock
-stack_view bs = reverse (map frame_view bs)
+abbrev pub stack_view : List BuiltBlock → List OpenBlock
+stack_view bs = reverse (map open_block_view bs)
 
 abbrev pub late_fault : Late → NestFault
 late_fault (late.NoValue raw) = no_value (text raw)
@@ -86,15 +86,15 @@ abbrev pub late_view : Option Late → Option NestFault
 late_view None = None
 late_view (Some l) = Some (late_fault l)
 
-abbrev pub frames : Nesting → List OpenBlock
-frames state = stack_view state.stack.items
+abbrev pub open_blocks : Nesting → List OpenBlock
+open_blocks state = stack_view state.stack.items
 
 abbrev pub late_of : Nesting → Option NestFault
 late_of state = late_view state.late
 
 -- why the syntax refuses a piece, if it does
 abbrev pub early : Nesting → SourcePiece → Option NestFault
-early state x = early_in state.depth (frames state) x
+early state x = early_in state.depth (open_blocks state) x
 
 abbrev pub syntax_fault : Place → SyntaxFault → NestFault
 syntax_fault p syntax.Unexpected = unexpected p
@@ -106,9 +106,9 @@ Looks p fault seen = option_map (syntax_fault p) seen ≡ fault
 
 -- the state behind a piece
 pub record IsBehind (old : Nesting) (x : SourcePiece) (new : Nesting) : Type 0 where
-  pub goes_on : behind_piece x old.depth (frames old) (placed_view old.elements)
-      ≡ goes new.depth (frames new) (placed_view new.elements)
-  pub late : late_of new ≡ late_after (late_of old) x (frames old)
+  pub goes_on : behind_piece x old.depth (open_blocks old) (placed_view old.elements)
+      ≡ goes new.depth (open_blocks new) (placed_view new.elements)
+  pub late : late_of new ≡ late_after (late_of old) x (open_blocks old)
 
 -- It does what the piece does, where that may stand.
 abbrev pub Does : Nesting → SourcePiece → Nesting → Type 0

@@ -1,4 +1,4 @@
--- What the program builds of tags, and finds a source to be. Only the code's own contracts cite this.
+-- What the program builds of tags, and scans a source to. Only the code's own contracts cite this.
 use Rattle.std.specs.Prelude.{◌≡◌, Bool, true, false, if◌then◌else◌, List, [], ◌∷◌, Option, option_map, MatchOption}
 use Rattle.handlebars_base.specs.Bytes.{Text}
 use Rattle.handlebars_lines.specs.Line.{Line}
@@ -14,8 +14,8 @@ use Rattle.handlebars_template.specs.Machine.{End, complete, unclosed, refused a
 use Rattle.handlebars_template.specs.NestView.{opening_view, syntax_fault, end_view}
 use Rattle.handlebars_template.specs.Compile.{opening_of, tree_of, unreadable_tag, refusal_for, Compiles, compiled, refused}
 use Rattle.handlebars_template.specs.declared.template.tags.BuiltOpening.{BuiltOpening}
-use Rattle.handlebars_template.specs.declared.template.scan.Found.{Found}
-use Rattle.handlebars_template.specs.declared.template.scan.Found.TheVariants as found
+use Rattle.handlebars_template.specs.declared.template.scan.Scanned.{Scanned}
+use Rattle.handlebars_template.specs.declared.template.scan.Scanned.TheVariants as scanned
 
 -- ---- tags
 
@@ -60,9 +60,9 @@ ComesTo source options (unclosed p) = Compiles source options (refused (refusal_
 ComesTo source options (refused_end f) = Compiles source options (refused (refusal_for options f))
 
 -- The source comes to this.
-abbrev pub IsFound : Text → Options → Found → Type 0
-IsFound source options (found.Through nested) = ComesTo source options (end_view nested)
-IsFound source options (found.Unreadable p) =
+abbrev pub ScansTo : Text → Options → Scanned → Type 0
+ScansTo source options (scanned.Through nested) = ComesTo source options (end_view nested)
+ScansTo source options (scanned.Unreadable p) =
     Compiles source options (refused (unreadable_tag options (place_of p)))
-IsFound source options (found.Misplaced f p) =
+ScansTo source options (scanned.Misplaced f p) =
     Compiles source options (refused (refusal_for options (syntax_fault (place_of p) f)))

@@ -6,8 +6,8 @@ use Rattle.handlebars_base.specs.Path.{Reference, raw_of}
 use Rattle.handlebars_base.specs.Optional.{◌>>=◌, with_or}
 use Rattle.handlebars_template.specs.Place.{Place}
 
--- Of a call: whether it is a block, whether that block is chained to the one around it, and whether it stands on a
--- line of its own, whose indentation is written before what it writes.
+-- Of a call: whether it is a block; whether that is chained to the block around it, or has one chained to it; and
+-- whether the indentation of its line is written before what it writes.
 pub record CallMarks : Type 0 where
   pub block : Bool
   pub chain : Bool
@@ -100,9 +100,6 @@ tree_name (tree n es places) = n
 abbrev pub tree_elements : Tree → Elements
 tree_elements (tree n es places) = es
 
-abbrev pub tree_places : Tree → List Place
-tree_places (tree n es places) = places
-
 -- ---- the parts of arguments and bodies
 
 abbrev pub args_params : Args → Params
@@ -186,7 +183,7 @@ lacks_pairs (pair k p hs) = false
 abbrev pub lacks_arguments : Args → Bool
 lacks_arguments xs = lacks_params (args_params xs) && lacks_pairs (args_pairs xs)
 
--- Without arguments it is a value, and otherwise a call.
+-- Of an expression: it stands alone, without parameters and pairs. Then it is a value, unless a helper has its name.
 abbrev pub is_value : Call → Bool
 is_value h = lacks_arguments (call_args h)
 
@@ -206,6 +203,6 @@ expression_call (comment t) = None
 abbrev pub element_name : Element → Option Text
 element_name e = expression_call e >>= λ h. as_name (call_name h)
 
--- an expression that is no value
+-- an expression with parameters or pairs
 abbrev pub is_helper : Element → Bool
 is_helper e = with_or (expression_call e) (λ h. not (is_value h)) false

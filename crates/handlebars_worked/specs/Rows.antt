@@ -1,4 +1,4 @@
--- Worked sources, each with its answer over data.
+-- Worked sources, and trees by hand, each with its answer over data; and a value in parentheses and what is captured.
 use Rattle.std.specs.Prelude.{List, [], ◌∷◌, ◌++◌, Some, None, codes, Bool, true, false, if◌then◌else◌}
 use Rattle.serde_json.specs.Data.{unsigned, Data, null, boolean, number, string, array, object, no_members, member, no_items, item}
 use Rattle.handlebars_base.specs.Answers.{gives}

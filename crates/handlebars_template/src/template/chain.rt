@@ -31,13 +31,13 @@ pub enum BlockKind {
 }
 
 impl BlockKind {
-    /// Whether chained inverses and an inverse may stand in it.
+    /// Whether chained inverses and an inverse may stand in it: in a raw block only its end may stand.
     pub fn admits_inverse(self) -> bool
         ensures { result ≡ admits_inverse (kind_view self) }
     {
         match self {
             BlockKind::Helper => true,
-            BlockKind::Raw => true,
+            BlockKind::Raw => false,
             BlockKind::Decorator => false,
             BlockKind::Partial => false,
         }

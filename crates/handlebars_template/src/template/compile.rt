@@ -13,7 +13,7 @@ ghost use Rattle.handlebars_template.specs.TreeView.{tree_view, place_of};
 
 use crate::template::chain::BlockKind;
 use crate::template::nest::{Late, Nested, SyntaxFault};
-use crate::template::scan::{Found, scan};
+use crate::template::scan::{Scanned, scan};
 use crate::template::tree::{Template, TemplateMapping};
 use handlebars_base::error::{TemplateError, TemplateErrorReason};
 use std::alloc::{AllocError, Global};
@@ -77,11 +77,11 @@ impl Template {
         ensures shown { IfErr result (λ e. IsSome (template_refusal_of e).position → IsSome (shown_lines e)) }
     {
         match scan(alloc, source, &options)? {
-            Found::Through(nested) => nested_tree(alloc, source, options, nested),
-            Found::Unreadable(at) => {
+            Scanned::Through(nested) => nested_tree(alloc, source, options, nested),
+            Scanned::Unreadable(at) => {
                 Err(syntax_error(alloc, source, options, at, "unreadable tag")?)
             }
-            Found::Misplaced(fault, at) => {
+            Scanned::Misplaced(fault, at) => {
                 Err(syntax_error(alloc, source, options, at, message(fault))?)
             }
         }

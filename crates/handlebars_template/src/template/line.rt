@@ -8,7 +8,6 @@ ghost use Rattle.handlebars_base.specs.PathView.{reference_of};
 ghost use Rattle.handlebars_template.specs.LineBuildingView.{built_call, IsBuilt, IsCallOf, IsPathAlone};
 ghost use Rattle.handlebars_template.specs.Tree.{expression};
 ghost use Rattle.handlebars_template.specs.TreeView.{call_view, arguments_view, subexpression_view};
-ghost use Rattle.handlebars_template.specs.Calls.{call_of};
 
 use crate::template::arguments::Arguments;
 use crate::template::build::{first_calls, path_of};
@@ -17,7 +16,7 @@ use handlebars_base::json::path::Path;
 use handlebars_lines::line::{Enclosure, Event, LineStand, NameMode, Step, take_step};
 use std::alloc::{AllocError, Global};
 
-/// The most blocks, parentheses and brackets of literals that may be open at once.
+/// The most blocks, chained inverses, parentheses and brackets of literals that may be open at once.
 pub const MAX_NESTING: usize = 200;
 
 /// A line's name and arguments, and the first of its literals that is refused, by its text.
@@ -40,7 +39,7 @@ impl Drop for BuiltLine<'_> {
 impl BuiltLine<'_> {
     /// The call of a value, or of a helper.
     pub fn call(self) -> HelperTemplate
-        ensures { (means : Line) → IsCallOf means self.entry → call_view result ≡ call_of means.name means.terms }
+        ensures { call_view result ≡ built_call self.entry }
     {
         let BuiltLine {
             name,
@@ -86,7 +85,8 @@ impl BuiltLine<'_> {
     }
 }
 
-// The path that is alone in the line in front, as it is in most lines: no call is opened for it.
+// The path that is alone in the line in front, as in most lines: no call is opened for it. Where it answers none, or no
+// line stands in front, that says nothing.
 fn path_alone(
     alloc: Global,
     mode: NameMode,

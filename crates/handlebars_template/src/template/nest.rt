@@ -7,9 +7,9 @@ ghost use Rattle.handlebars_template.specs.Place.{Place};
 ghost use Rattle.handlebars_template.specs.Tree.{Element};
 ghost use Rattle.handlebars_template.specs.Calls.{max_nesting};
 ghost use Rattle.handlebars_template.specs.TreeView.{element_view, place_of};
-ghost use Rattle.handlebars_template.specs.Nest.{Opening, leaf, opens, turns, chains, closes, names_and_literals, may_close, is_in_inverse, takes_inverse};
-ghost use Rattle.handlebars_template.specs.Machine.{at_end, closed, new_frame, next_stage, literal_fault, name_fault};
-ghost use Rattle.handlebars_template.specs.NestView.{placed_view, kind_view, opening_view, stage_view, frame_view, frames, late_view, late_of, early, Looks, Does, end_view};
+ghost use Rattle.handlebars_template.specs.Nest.{Opening, leaf, opens, inverts, chains, closes, names_and_literals, may_close, is_in_inverse, takes_inverse};
+ghost use Rattle.handlebars_template.specs.Machine.{at_end, closed, new_open_block, next_stage, literal_fault, name_fault};
+ghost use Rattle.handlebars_template.specs.NestView.{placed_view, kind_view, opening_view, stage_view, open_block_view, open_blocks, late_view, late_of, early, Looks, Does, end_view};
 
 use crate::template::chain::{BlockKind, BlockOpening, Branch, Stage, closed_block};
 use crate::template::line::MAX_NESTING;
@@ -20,7 +20,7 @@ use std::mem;
 
 /// An open block: its place, what its tag says, how much is open around it, its first body and its whole chained
 /// inverses, where it stands, and what stood before it.
-pub struct Open {
+pub struct OpenBlock {
     pub place: TemplateMapping,
     pub opening: BlockOpening,
     pub around: usize,
@@ -30,9 +30,9 @@ pub struct Open {
     pub outside: PlacedElements,
 }
 
-impl Drop for Open {
+impl Drop for OpenBlock {
     fn drop(self) {
-        let Open {
+        let OpenBlock {
             place: _,
             opening: _,
             around: _,
@@ -71,7 +71,7 @@ pub enum Nested {
 /// what comes late. A chained inverse is open too.
 pub struct Nesting {
     pub depth: usize,
-    pub stack: Vec<Open>,
+    pub stack: Vec<OpenBlock>,
     pub elements: PlacedElements,
     pub late: Option<Late>,
 }
@@ -159,18 +159,18 @@ fn is_in_inverse(stage: &Stage) -> bool
     }
 }
 
-impl Open {
+impl OpenBlock {
     fn new(
         alloc: Global,
         place: TemplateMapping,
         opening: BlockOpening,
         around: usize,
         outside: PlacedElements,
-    ) -> Open
-        ensures { frame_view result
-            ≡ new_frame (place_of place) (opening_view opening) around (placed_view outside) }
+    ) -> OpenBlock
+        ensures { open_block_view result
+            ≡ new_open_block (place_of place) (opening_view opening) around (placed_view outside) }
     {
-        Open {
+        OpenBlock {
             place,
             opening,
             around,
@@ -183,15 +183,16 @@ impl Open {
 
     // Whether an inverse, chained or not, may stand next.
     fn takes_inverse(&self) -> bool
-        ensures { result ≡ takes_inverse (frame_view self.now) }
+        ensures { result ≡ takes_inverse (open_block_view self.now) }
     {
         !is_in_inverse(&self.stage) && self.opening.kind.admits_inverse()
     }
 
     // In this stage next.
     fn enter(&mut self, elements: PlacedElements, next: Stage) -> Result<(), AllocError>
-        ensures { OnOk result (frame_view self.new
-            ≡ next_stage (stage_view self.old.stage) (frame_view self.old) (placed_view elements) (stage_view next)) }
+        ensures { OnOk result (open_block_view self.new
+            ≡ next_stage (stage_view self.old.stage) (open_block_view self.old) (placed_view elements)
+            (stage_view next)) }
     {
         match mem::replace(&mut self.stage, next) {
             Stage::First => {
@@ -208,9 +209,9 @@ impl Open {
 
     // The whole block, when its close comes.
     fn closed(self, alloc: Global, elements: PlacedElements) -> Result<TemplateElement, AllocError>
-        ensures { IfOk result (λ e. element_view e ≡ (closed (frame_view self) (placed_view elements)).element) }
+        ensures { IfOk result (λ e. element_view e ≡ (closed (open_block_view self) (placed_view elements)).element) }
     {
-        let Open {
+        let OpenBlock {
             place: _,
             opening,
             around: _,
@@ -231,7 +232,7 @@ impl Open {
         outside: &mut PlacedElements,
     ) -> Result<(), AllocError>
         ensures { OnOk result (placed_view outside.new
-            ≡ placed_view outside.old ++ closed (frame_view self) (placed_view elements) ∷ []) }
+            ≡ placed_view outside.old ++ closed (open_block_view self) (placed_view elements) ∷ []) }
     {
         let at = self.place;
         let element = self.closed(alloc, elements)?;
@@ -244,7 +245,7 @@ impl Nesting {
     /// Nothing is open, and nothing stands there.
     pub fn new(alloc: Global) -> Nesting
         ensures depth { result.depth ≡ 0 }
-        ensures frames { frames result ≡ [] }
+        ensures open_blocks { open_blocks result ≡ [] }
         ensures elements { placed_view result.elements ≡ [] }
         ensures late { late_of result ≡ None }
     {
@@ -282,7 +283,7 @@ impl Nesting {
 
     /// Whether an inverse may stand next.
     pub fn look_at_inverse(&self) -> Option<SyntaxFault>
-        ensures { (p : Place) → Looks p (early self.now (turns p)) result }
+        ensures { (p : Place) → Looks p (early self.now (inverts p)) result }
     {
         let Some(block) = self.stack.last() else {
             return Some(SyntaxFault::Unexpected);
@@ -304,7 +305,8 @@ impl Nesting {
         misplaced.or(deep)
     }
 
-    /// Whether a close may stand next, by any name but none.
+    /// Whether a close may stand next: one of the innermost block's kind, with whatever name, or without one where such
+    /// a close may end it.
     pub fn look_at_close(&self, is_raw: bool, name: &str) -> Option<SyntaxFault>
         ensures { (p : Place) → Looks p (early self.now (closes p is_raw name.now)) result }
     {
@@ -322,7 +324,7 @@ impl Nesting {
     fn keep(&mut self, late: Option<Late>)
         ensures late { late_of self.new ≡ option_or (late_of self.old) (late_view late) }
         ensures depth { self.new.depth ≡ self.old.depth }
-        ensures frames { frames self.new ≡ frames self.old }
+        ensures open_blocks { open_blocks self.new ≡ open_blocks self.old }
         ensures elements { placed_view self.new.elements ≡ placed_view self.old.elements }
     {
         if self.late.is_none() {
@@ -362,15 +364,15 @@ impl Nesting {
         let outside = mem::replace(&mut self.elements, PlacedElements::new(alloc));
         let around = self.depth;
         self.stack
-            .push(Open::new(alloc, place, opening, around, outside))?;
+            .push(OpenBlock::new(alloc, place, opening, around, outside))?;
         self.depth = one_more(around);
         self.keep(literal_fault(alloc, refused)?);
         Ok(())
     }
 
     /// An inverse stands next.
-    pub fn turn(&mut self, alloc: Global, place: TemplateMapping) -> Result<(), AllocError>
-        ensures { OnOk result (Does self.old (turns (place_of place)) self.new) }
+    pub fn invert(&mut self, alloc: Global, place: TemplateMapping) -> Result<(), AllocError>
+        ensures { OnOk result (Does self.old (inverts (place_of place)) self.new) }
     {
         let Some(mut block) = self.stack.pop() else {
             return Ok(());
@@ -427,7 +429,7 @@ impl Nesting {
 
     /// What stands at the end of the source.
     pub fn finish(self) -> Nested
-        ensures { end_view result ≡ at_end (frames self) (late_of self) (placed_view self.elements) }
+        ensures { end_view result ≡ at_end (open_blocks self) (late_of self) (placed_view self.elements) }
     {
         let Nesting {
             depth: _,

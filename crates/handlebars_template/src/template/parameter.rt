@@ -5,7 +5,7 @@ ghost use Rattle.handlebars_base.specs.Texts.{after};
 ghost use Rattle.handlebars_base.specs.Reasons.{template_out_of_memory};
 ghost use Rattle.handlebars_base.specs.TemplateRefusals.{template_refusal_of};
 ghost use Rattle.handlebars_lines.specs.Laws.{HasLiteral, NoLiteral};
-ghost use Rattle.handlebars_lines.specs.LiteralView.{slice_of};
+ghost use Rattle.handlebars_lines.specs.LiteralView.{literal_slice_of};
 ghost use Rattle.handlebars_lines.specs.Parameter.{left_parenthesis};
 ghost use Rattle.handlebars_template.specs.Calls.{invalid};
 ghost use Rattle.handlebars_template.specs.ParameterParsing.{Parses, parsed, refused};
@@ -118,7 +118,7 @@ fn read_literal<'a>(
     slice: LiteralSlice<'a>,
 ) -> Result<Reading<'a>, AllocError>
     ensures { IfOk result (λ reading. after left_parenthesis text.now ≡ None
-        → HasLiteral text.now (slice_of slice.entry) → Parses text.now (reading_view reading)) }
+        → HasLiteral text.now (literal_slice_of slice.entry) → Parses text.now (reading_view reading)) }
 {
     if !slice.rest.is_empty() {
         return Ok(Reading::Refuses(text));

@@ -4,9 +4,9 @@ ghost use Rattle.std.specs.Prelude.{◌≡◌, ◌++◌, IfOk, OnOk, string_byte
 ghost use Rattle.handlebars_tags.specs.TrimView.{edge_view};
 ghost use Rattle.handlebars_template.specs.OptionsView.{options_view};
 ghost use Rattle.handlebars_template.specs.TreeView.{place_of};
-ghost use Rattle.handlebars_template.specs.NestView.{placed_view, frames, late_of};
+ghost use Rattle.handlebars_template.specs.NestView.{placed_view, open_blocks, late_of};
 ghost use Rattle.handlebars_tags.specs.Trim.{trimmed};
-ghost use Rattle.handlebars_template.specs.ScanView.{text_placed, IsFound};
+ghost use Rattle.handlebars_template.specs.ScanView.{text_placed, ScansTo};
 
 use crate::template::compile::TemplateOptions;
 use crate::template::nest::{Nested, Nesting, SyntaxFault};
@@ -20,7 +20,7 @@ use std::alloc::{AllocError, Global};
 
 /// What a source is: what stands at its end, or the place of the tag that is refused first.
 #[derive(Drop)]
-pub enum Found {
+pub enum Scanned {
     Through(Nested),
     Unreadable(TemplateMapping),
     Misplaced(SyntaxFault, TemplateMapping),
@@ -28,8 +28,8 @@ pub enum Found {
 
 /// The elements of a source, or what is refused first. In time linear in the source, but for the order of keys and the
 /// values of literals.
-pub fn scan(alloc: Global, source: &str, options: &TemplateOptions) -> Result<Found, AllocError>
-    ensures { IfOk result (λ found. IsFound source.now (options_view options.now) found) }
+pub fn scan(alloc: Global, source: &str, options: &TemplateOptions) -> Result<Scanned, AllocError>
+    ensures { IfOk result (λ scanned. ScansTo source.now (options_view options.now) scanned) }
 {
     let mut nesting = Nesting::new(alloc);
     let mut place = TemplateMapping(1, 1);
@@ -41,17 +41,17 @@ pub fn scan(alloc: Global, source: &str, options: &TemplateOptions) -> Result<Fo
         let left = front.rest;
         let at = advance(place, front.slice);
         let Some(tag) = split_tag(alloc, left, long_ahead)? else {
-            return Ok(Found::Unreadable(at));
+            return Ok(Scanned::Unreadable(at));
         };
         if !may_follow(edge, tag.content) {
-            return Ok(Found::Unreadable(at));
+            return Ok(Scanned::Unreadable(at));
         }
         let spelled = left.split_at(left.len() - tag.rest.len()).0;
         let fresh_here = fresh_behind(fresh, front.slice);
         let next = edge_behind(fresh_here, tag);
         add_text(alloc, &mut nesting, options, place, edge, front, next)?;
         if let Some(fault) = look(&nesting, tag.content, tag.depth) {
-            return Ok(Found::Misplaced(fault, at));
+            return Ok(Scanned::Misplaced(fault, at));
         }
         take_tag(alloc, &mut nesting, at, tag.content, next)?;
         place = advance(at, spelled);
@@ -61,7 +61,7 @@ pub fn scan(alloc: Global, source: &str, options: &TemplateOptions) -> Result<Fo
         front = text(alloc, braces_behind(edge), tag.rest)?;
     }
     add_text(alloc, &mut nesting, options, place, edge, front, no_edge())?;
-    Ok(Found::Through(nesting.finish()))
+    Ok(Scanned::Through(nesting.finish()))
 }
 
 // What is kept of a text between two edges, as a part of it.
@@ -101,7 +101,7 @@ fn add_text(
     behind: Edge,
 ) -> Result<(), AllocError>
     ensures depth { OnOk result (nesting.new.depth ≡ nesting.old.depth) }
-    ensures frames { OnOk result (frames nesting.new ≡ frames nesting.old) }
+    ensures open_blocks { OnOk result (open_blocks nesting.new ≡ open_blocks nesting.old) }
     ensures late { OnOk result (late_of nesting.new ≡ late_of nesting.old) }
     ensures elements { OnOk result (placed_view nesting.new.elements ≡ placed_view nesting.old.elements
         ++ text_placed (options_view options.now) (place_of place) (edge_view before) front.entry.slice.now (string_bytes front.entry.kept) (edge_view behind)) }

@@ -3,7 +3,7 @@
 ghost use Rattle.std.specs.Prelude.{◌≡◌, ◌&&◌, not, None, IfOk, OnOk};
 ghost use Rattle.handlebars_base.specs.Bytes.{Text};
 ghost use Rattle.handlebars_lines.specs.Line.{value_name, Line, in_tag, IsLine};
-ghost use Rattle.handlebars_lines.specs.BindingView.{binding_of as means_of};
+ghost use Rattle.handlebars_lines.specs.BindingView.{bound_names_of};
 ghost use Rattle.handlebars_tags.specs.Tag.{Tag, tag_depth, is_raw_close, BlockLine};
 ghost use Rattle.handlebars_tags.specs.Trim.{Edge as TextEdge, may_stand_alone, opens_raw, edge_with};
 ghost use Rattle.handlebars_tags.specs.TrimView.{edge_view};
@@ -15,7 +15,7 @@ ghost use Rattle.handlebars_template.specs.Nest.{leaf};
 ghost use Rattle.handlebars_template.specs.NestView.{names_view, kind_view, opening_view, early, Looks, Does};
 ghost use Rattle.handlebars_template.specs.Cut.{may_follow};
 ghost use Rattle.handlebars_template.specs.ScanView.{value_element, value_piece, block_piece, chain_piece, IsOpening};
-ghost use Rattle.handlebars_template.specs.Compile.{binding_of, tag_piece};
+ghost use Rattle.handlebars_template.specs.Compile.{block_binding, tag_piece};
 
 use crate::template::arguments::Arguments;
 use crate::template::chain::{BlockKind, BlockNames, BlockOpening};
@@ -117,7 +117,7 @@ pub fn look(nesting: &Nesting, content: Content<'_>, depth: usize) -> Option<Syn
 }
 
 fn block_names(alloc: Global, binding: BoundNames<'_>) -> Result<BlockNames, AllocError>
-    ensures { IfOk result (λ names. names_view names ≡ binding_of (means_of binding.entry)) }
+    ensures { IfOk result (λ names. names_view names ≡ block_binding (bound_names_of binding.entry)) }
 {
     match binding {
         BoundNames::Unbound => Ok(BlockNames::Unbound),
@@ -157,7 +157,7 @@ fn bare_opening(
           name = name block.entry.name.now;
           closing = block.entry.name.now;
           arguments = no_arguments;
-          binding = binding_of (means_of block.entry.binding);
+          binding = block_binding (bound_names_of block.entry.binding);
           indent = (edge_view edge).standalone && not (edge_view edge).left;
         }) }
 {
@@ -281,7 +281,7 @@ pub fn take_tag(
         Content::Expression(text) => add_value(alloc, nesting, at, text, true),
         Content::Html(text) => add_value(alloc, nesting, at, text, false),
         Content::Block(block) => begin(alloc, nesting, at, block, BlockKind::Helper, edge),
-        Content::Inverse => nesting.turn(alloc, at),
+        Content::Inverse => nesting.invert(alloc, at),
         Content::Chain(block) => chain(alloc, nesting, at, block, edge),
         Content::Close(name) => nesting.close(alloc, at, false, name),
         Content::RawBlock(block) => begin(alloc, nesting, at, block, BlockKind::Raw, edge),

@@ -103,7 +103,8 @@ impl HelperTemplate {
         self.chain
     }
 
-    /// Whether it is a value, and not a call: without parameters and pairs.
+    /// Of an expression: whether it stands alone, without parameters and pairs. Then it is a value, unless a helper has
+    /// its name.
     pub fn is_value(&self) -> bool
         ensures { result ≡ is_value (call_view self.now) }
     {

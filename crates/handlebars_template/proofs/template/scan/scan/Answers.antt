@@ -11,7 +11,7 @@ use Rattle.handlebars_template.specs.OptionsView.{options_view}
 use Rattle.handlebars_template.specs.TreeView.{place_of}
 use Rattle.handlebars_template.specs.Machine.{early_in}
 use Rattle.handlebars_template.specs.Compile.{tag_piece}
-use Rattle.handlebars_template.specs.NestView.{placed_view, frames, late_of, syntax_fault, end_view}
+use Rattle.handlebars_template.specs.NestView.{placed_view, open_blocks, late_of, syntax_fault, end_view}
 use Rattle.handlebars_template.proofs.NestsFits.{apply-early, apply-stops}
 use Rattle.handlebars_template.proofs.Scan.{HasNoLong-behind, Scans-at, Scans-fits, Scans-fits_behind, Scans-step, Scans-end, Compiles-unreadable, Compiles-misplaced, NoTagBehind-none, NoTagBehind-other, IsCharBoundary-seam, IsUtf8-front, length-rest}
 use Rattle.handlebars_template.proofs.template.scan.scan.Goals as goal
@@ -24,7 +24,7 @@ tags-init c =
       rest_utf8 = search rules;
       no_long = λ e. cc;
       scans = Scans-at c.args.source.now (options_view c.args.options.now) front.slice.now (string_bytes front.kept) front.rest.now (edge_view c.no_edge-edge.result) _ _ _ _ c.no_edge-edge.ensures c.in_ok-front.ensures.whole
-          (rw c.braces_behind.ensures at c.in_ok-front.ensures.reads) c.new-nesting.ensures.late c.new-nesting.ensures.depth c.new-nesting.ensures.frames c.new-nesting.ensures.elements;
+          (rw c.braces_behind.ensures at c.in_ok-front.ensures.reads) c.new-nesting.ensures.late c.new-nesting.ensures.depth c.new-nesting.ensures.open_blocks c.new-nesting.ensures.elements;
     }
 
 pub advance-at-requires-clause-line : goal.advance-at-requires-clause-line
@@ -63,10 +63,10 @@ returns-in-Some-look c =
       lines = c.fresh_behind-fresh_here.ensures;
       edge = c.edge_behind-next.ensures f.tag f.holds;
     })
-    (late_of state) state.depth (frames state) (placed_view state.elements)
-    (record { depth = c.in_ok-add_text.ensures.depth; frames = c.in_ok-add_text.ensures.frames; kept_late = c.in_ok-add_text.ensures.late; elements = c.in_ok-add_text.ensures.elements })
+    (late_of state) state.depth (open_blocks state) (placed_view state.elements)
+    (record { depth = c.in_ok-add_text.ensures.depth; open_blocks = c.in_ok-add_text.ensures.open_blocks; kept_late = c.in_ok-add_text.ensures.late; elements = c.in_ok-add_text.ensures.elements })
     (syntax_fault at c.in-Some-look.fault)
-    (apply-stops (tag_piece at next f.tag) state.depth (frames state) (placed_view state.elements) (syntax_fault at c.in-Some-look.fault)
+    (apply-stops (tag_piece at next f.tag) state.depth (open_blocks state) (placed_view state.elements) (syntax_fault at c.in-Some-look.fault)
     (sym (rw c.in-Some-look.is at (c.look.ensures at next f.tag f.holds f.deep))))
 
 pub advance-place-requires-clause-line : goal.advance-place-requires-clause-line
@@ -97,7 +97,7 @@ tags-preserved c =
     let state = c.add_text.new.nesting in
     let last = c.take_tag.new.nesting in
     let rest_utf8 : IsUtf8 rest = search rules in
-    let early : early_in state.depth (frames state) (tag_piece at next f.tag) ≡ None = sym (rw c.in_default-look.is at (c.look.ensures at next f.tag f.holds f.deep)) in
+    let early : early_in state.depth (open_blocks state) (tag_piece at next f.tag) ≡ None = sym (rw c.in_default-look.is at (c.look.ensures at next f.tag f.holds f.deep)) in
     let done = c.in_ok-take_tag.ensures f.tag f.holds early in
     let same : c.split_at.result.0.now ≡ f.slice = c.split_at.ensures.front ∙ take-front left f.slice rest f.whole in
     record {
@@ -111,10 +111,10 @@ tags-preserved c =
             lines = c.fresh_behind-fresh_here.ensures;
             edge = c.edge_behind-next.ensures f.tag f.holds;
           })
-          (late_of state) state.depth (frames state) (placed_view state.elements)
-          (record { depth = c.in_ok-add_text.ensures.depth; frames = c.in_ok-add_text.ensures.frames; kept_late = c.in_ok-add_text.ensures.late; elements = c.in_ok-add_text.ensures.elements })
-          (late_of last) last.depth (frames last) (placed_view last.elements)
-          (apply-early (tag_piece at next f.tag) state.depth (frames state) (placed_view state.elements) _ early done.goes_on) done.late
+          (late_of state) state.depth (open_blocks state) (placed_view state.elements)
+          (record { depth = c.in_ok-add_text.ensures.depth; open_blocks = c.in_ok-add_text.ensures.open_blocks; kept_late = c.in_ok-add_text.ensures.late; elements = c.in_ok-add_text.ensures.elements })
+          (late_of last) last.depth (open_blocks last) (placed_view last.elements)
+          (apply-early (tag_piece at next f.tag) state.depth (open_blocks state) (placed_view state.elements) _ early done.goes_on) done.late
           front.slice.now (string_bytes front.kept) front.rest.now (place_of c.advance-place.result) c.fresh_behind-fresh.result
           (record {
             parts = c.in_ok-front-2.ensures.whole;
@@ -128,6 +128,6 @@ tags-preserved c =
 pub returns : goal.returns
 returns c =
     let state = c.add_text-2.new.nesting in
-    Scans-end c.tags.invariant.scans (empty c.tags.front.rest.now c.tags-test.ensures) (edge_view c.no_edge.result) c.no_edge.ensures (late_of state) state.depth (frames state) (placed_view state.elements)
-    (record { depth = c.in_ok-add_text-2.ensures.depth; frames = c.in_ok-add_text-2.ensures.frames; kept_late = c.in_ok-add_text-2.ensures.late; elements = c.in_ok-add_text-2.ensures.elements })
+    Scans-end c.tags.invariant.scans (empty c.tags.front.rest.now c.tags-test.ensures) (edge_view c.no_edge.result) c.no_edge.ensures (late_of state) state.depth (open_blocks state) (placed_view state.elements)
+    (record { depth = c.in_ok-add_text-2.ensures.depth; open_blocks = c.in_ok-add_text-2.ensures.open_blocks; kept_late = c.in_ok-add_text-2.ensures.late; elements = c.in_ok-add_text-2.ensures.elements })
     (end_view c.finish.result) c.finish.ensures

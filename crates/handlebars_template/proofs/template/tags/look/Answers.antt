@@ -2,7 +2,7 @@ use Rattle.std.proofs.Common.{refl, true, false, None}
 use Rattle.handlebars_tags.specs.Tag.{expression_tag, html_tag, block_tag, inverse_tag, chain_tag, close_tag, raw_tag, raw_close_tag, comment_tag}
 use Rattle.handlebars_template.specs.Tree.{expression, html_expression, comment}
 use Rattle.handlebars_template.specs.Calls.{call_of, first_refused, line_literals, literals_in}
-use Rattle.handlebars_template.specs.Nest.{helper_opening, raw_opening, leaf, opens, turns, chains, closes}
+use Rattle.handlebars_template.specs.Nest.{helper_opening, raw_opening, leaf, opens, inverts, chains, closes}
 use Rattle.handlebars_template.specs.Compile.{opening_of}
 use Rattle.handlebars_template.proofs.TagsBuilt.{Looks-at}
 use Rattle.handlebars_template.proofs.template.tags.look.Goals as goal
@@ -23,7 +23,7 @@ returns-in-Block c p e tag holds deep =
     Looks-at c.args.nesting.now p e c.look_at_opening.result tag (block_tag h.line) (λ n. opens p (opening_of helper_opening e h.line) n (first_refused (literals_in h.line.terms))) c.args.depth h.gives deep refl (c.look_at_opening.ensures p (opening_of helper_opening e h.line) (first_refused (literals_in h.line.terms)))
 
 pub returns-in-Inverse : goal.returns-in-Inverse
-returns-in-Inverse c p e tag holds deep = Looks-at c.args.nesting.now p e c.look_at_inverse.result tag inverse_tag (λ n. turns p) c.args.depth (rw c.in-Inverse.is at holds) deep refl (c.look_at_inverse.ensures p)
+returns-in-Inverse c p e tag holds deep = Looks-at c.args.nesting.now p e c.look_at_inverse.result tag inverse_tag (λ n. inverts p) c.args.depth (rw c.in-Inverse.is at holds) deep refl (c.look_at_inverse.ensures p)
 
 pub returns-in-Chain : goal.returns-in-Chain
 returns-in-Chain c p e tag holds deep =

@@ -4,7 +4,7 @@ use Rattle.handlebars_base.specs.Bytes.{Text}
 use Rattle.handlebars_template.specs.TreeView.{place_of}
 use Rattle.handlebars_template.specs.Nest.{OpenBlock, Placed, closes, names_and_literals, may_close}
 use Rattle.handlebars_template.specs.Machine.{goes, closed, late_in, name_fault}
-use Rattle.handlebars_template.specs.NestView.{placed_view, frame_view, stack_view, frames, late_of, late_view}
+use Rattle.handlebars_template.specs.NestView.{placed_view, open_block_view, stack_view, open_blocks, late_of, late_view}
 use Rattle.handlebars_template.proofs.NestsBuilt.{stack_view_push}
 use Rattle.handlebars_template.proofs.NestsDone.{closes-goes}
 use Rattle.std.proofs.lemmas.Result.{on_ok_weaker}
@@ -13,15 +13,15 @@ use Rattle.handlebars_template.proofs.template.nest.Nesting.close.Goals as goal
 pub returns : goal.returns
 returns c =
     let old = c.args.self.now in
-    let f = frame_view c.in-Some.block in
+    let f = open_block_view c.in-Some.block in
     let behind = stack_view c.pop.new.self.items in
-    let front : frames old ≡ f ∷ behind = search (rules, stack_view_push) in
+    let front : open_blocks old ≡ f ∷ behind = search (rules, stack_view_push) in
     let elements : placed_view c.replace-elements.result ≡ placed_view old.elements = search rules in
     let outside : placed_view c.replace-elements.new.dest ≡ f.outside = search rules in
     let last = placed_view c.end.new.outside in
     let m = c.args.name.now in
     let p = place_of c.args.place in
-    let name : late_view c.in_ok-name_fault.field-0 ≡ late_in (frames old) (closes p c.args.is_raw m) =
+    let name : late_view c.in_ok-name_fault.field-0 ≡ late_in (open_blocks old) (closes p c.args.is_raw m) =
     c.in_ok-name_fault.ensures ∙ ap (λ (n : Text). name_fault (may_close names_and_literals n m) f.opening.kind n m p) c.as_str.ensures.value
     ∙ ap (λ (z : List OpenBlock). late_in z (closes p c.args.is_raw m)) (sym front) in
     on_ok_weaker c.end.result
@@ -29,8 +29,8 @@ returns c =
     let whole : last ≡ f.outside ++ closed f (placed_view old.elements) ∷ [] = made ∙ ap (λ (o : List Placed). o ++ closed f (placed_view c.replace-elements.result) ∷ []) outside
     ∙ ap (λ (es : List Placed). f.outside ++ closed f es ∷ []) elements in
     record {
-      goes_on = closes-goes p c.args.is_raw m old.depth f (frames old) behind (placed_view old.elements) last front whole
-          ∙ ap (λ (z : List OpenBlock). goes f.around z last) (sym c.keep.ensures.frames);
+      goes_on = closes-goes p c.args.is_raw m old.depth f (open_blocks old) behind (placed_view old.elements) last front whole
+          ∙ ap (λ (z : List OpenBlock). goes f.around z last) (sym c.keep.ensures.open_blocks);
       late = c.keep.ensures.late ∙ ap (option_or (late_of old)) name;
     })
     c.end.ensures
