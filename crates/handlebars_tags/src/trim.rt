@@ -12,8 +12,8 @@ ghost use Rattle.handlebars_tags.specs.TrimView.{edge_view};
 use crate::text::Braces;
 use handlebars_base::json::path::marks::{after, is_white};
 
-/// What a tag does to the texts beside it: whether it stands alone on its line, or may do so; the blanks directly before
-/// it; whether it has a tilde on its left and on its right; and whether a raw block's text follows it.
+/// What a tag does to the texts beside it: whether it stands alone on its line, or may do so; the blanks directly
+/// before it; whether it has a tilde on its left and on its right; and whether a raw block's text follows it.
 #[derive(Clone, Copy, Debug, PartialEq, Eq)]
 pub struct Edge<'s> {
     pub standalone: bool,
@@ -36,8 +36,8 @@ pub fn no_edge() -> Edge<'static>
     }
 }
 
-/// The edge of a tag where it stands, of which so much is known whatever else is on its line: whether it may stand alone,
-/// the blanks before it, its tildes, and whether it opens a raw block.
+/// The edge of a tag where it stands, of which so much is known whatever else is on its line: whether it may stand
+/// alone, the blanks before it, its tildes, and whether it opens a raw block.
 pub fn edge_at<'s>(fresh: bool, tag: Edge<'s>, rest: &str) -> Edge<'s>
     ensures { edge_view result ≡ edge_at fresh (edge_view tag.entry) rest.now }
 {
@@ -73,8 +73,8 @@ fn is_break(byte: u8) -> bool
     byte == b'\n' || byte == b'\r'
 }
 
-/// Whether nothing but blanks stands since the last line's end, behind a text before which it was so or not. Of the text
-/// only its last blanks are read, and the byte before them.
+/// Whether nothing but blanks stands since the last line's end, behind a text before which it was so or not. Of the
+/// text only its last blanks are read, and the byte before them.
 pub fn fresh_behind(fresh: bool, text: &str) -> bool
     ensures { result ≡ fold is_fresh_behind fresh text.now }
 {

@@ -74,7 +74,8 @@ fn trimmed_text<'a>(
     kept: &'a str,
     behind: Edge<'_>,
 ) -> &'a str
-    ensures { result.now ≡ trimmed (options_view options.now) (edge_view before.entry) kept.now (edge_view behind.entry) }
+    ensures { result.now
+        ≡ trimmed (options_view options.now) (edge_view before.entry) kept.now (edge_view behind.entry) }
 {
     trimmed(before, kept, behind)
 }
@@ -112,7 +113,8 @@ fn add_text(
     ensures frames { OnOk result (frames nesting.new ≡ frames nesting.old) }
     ensures late { OnOk result (late_of nesting.new ≡ late_of nesting.old) }
     ensures elements { OnOk result (placed_view nesting.new.elements ≡ placed_view nesting.old.elements
-        ++ text_placed (options_view options.now) (place_of place) (edge_view before.entry) front.entry.slice.now (string_bytes front.entry.kept) (edge_view behind.entry)) }
+        ++ text_placed (options_view options.now) (place_of place) (edge_view before.entry) front.entry.slice.now
+        (string_bytes front.entry.kept) (edge_view behind.entry)) }
 {
     if !has_element(before, front.slice) {
         return Ok(());
