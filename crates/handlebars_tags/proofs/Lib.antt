@@ -4,6 +4,7 @@ pub mod OneText
 pub mod Marks
 pub mod Comments
 pub mod Trims
+pub mod Blanks
 pub mod LineNames
 pub mod BlockLines
 pub mod Insides

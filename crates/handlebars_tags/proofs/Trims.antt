@@ -19,13 +19,13 @@ is_blank-ascii b h = elim (or_cases (b == space) (b == tab) h) [
 pub is_blank-boundary : (t : Text) (n : ℕ) → n ≤ length t → (n < length t → is_blank (get_or t n 0) ≡ true) → IsCharBoundary t n
 is_blank-boundary t n within blank = (within, λ lt le. let low = is_blank-ascii (get_or t n 0) (blank lt) in absurd (omega arith))
 
-no_break : (b : ℕ) → is_blank b ≡ true → is_break b ≡ false
+pub no_break : (b : ℕ) → is_blank b ≡ true → is_break b ≡ false
 no_break b h = elim (or_cases (b == space) (b == tab) h) [
   | inl is ↦ ap is_break (eqb-true b space is)
   | inr is ↦ ap is_break (eqb-true b tab is)
 ]
 
-or_false : (p : Bool) → (p || false) ≡ p
+pub or_false : (p : Bool) → (p || false) ≡ p
 or_false true = refl
 or_false false = refl
 

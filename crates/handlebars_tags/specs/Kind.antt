@@ -10,7 +10,8 @@ abbrev pub past : Text → Text → Option Text
 past [] t = Some t
 past (b ∷ mark) t = after b t >>= past mark
 
--- a value, escaped or raw; the beginning of a block, its end, its inverse, or a chained inverse; those of a raw block; a
+-- a value, escaped, raw by its braces, or raw by a sign; the beginning of a block, its end, its inverse, or `else`,
+-- which is its inverse too or, with the line of a block, a chained one; the beginning of a raw block, or its end; a
 -- comment; or a tag of a kind that the language doesn't have yet
 pub data TagKind : Type 0 where
   expression_kind : TagKind

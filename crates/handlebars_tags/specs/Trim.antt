@@ -1,5 +1,5 @@
 -- What is kept of a text beside tags.
-use Rattle.std.specs.Prelude.{ℕ, ◌-◌, Bool, true, false, ◌==◌, ◌&&◌, ◌||◌, not, if◌then◌else◌, [], ◌∷◌, length, take}
+use Rattle.std.specs.Prelude.{◌≡◌, ℕ, ◌-◌, Bool, true, false, ◌==◌, ◌&&◌, ◌||◌, not, if◌then◌else◌, [], ◌∷◌, ◌++◌, length, take, drop}
 use Rattle.std.specs.List.{fold, suffix_len, list_all}
 use Rattle.handlebars_base.specs.Bytes.{Text, space, tab, newline, carriage_return, is_white}
 use Rattle.handlebars_base.specs.Optional.{◌>>=◌, with_or}
@@ -34,19 +34,43 @@ abbrev pub is_ended : Text → Bool
 is_ended [] = true
 is_ended (b ∷ t) = breaks (b ∷ t)
 
+-- ---- the blanks that end a text
+
+-- how long a text is without the spaces and tabs, or none, that end it
+abbrev pub dark_len : Text → ℕ
+dark_len t = length t - suffix_len is_blank t
+
+-- what stands before them
+abbrev pub before_blanks : Text → Text
+before_blanks t = take (dark_len t) t
+
+abbrev pub last_blanks : Text → Text
+last_blanks t = drop (dark_len t) t
+
+-- They join to the text behind what stands before them; they are spaces and tabs, and what stands before them ends with
+-- none.
+pub record BlanksEnd (t : Text) : Type 0 where
+  pub joins : before_blanks t ++ last_blanks t ≡ t
+  pub blank : list_all is_blank (last_blanks t) ≡ true
+  pub all : last_blanks (before_blanks t) ≡ []
+
+abbrev pub LastBlanks : Type 0
+LastBlanks = (t : Text) → BlanksEnd t
+
 -- ---- the edges of texts
 
--- what a tag does to the texts beside it: it may stand alone on its line, it has tildes, and a raw block's text may
--- follow it
+-- what a tag does to the texts beside it: it may stand alone on its line, it stands directly behind these spaces and
+-- tabs, or none, it has tildes, and a raw block's text may follow it
 pub record Edge : Type 0 where
   pub standalone : Bool
+  pub blanks : Text
   pub left : Bool
   pub right : Bool
   pub is_raw : Bool
 
 -- at the start and at the end of a source
 abbrev pub no_edge : Edge
-no_edge = record { standalone = false; left = false; right = false; is_raw = false }
+no_edge = record { standalone = false; blanks = []; left = false; right = false; is_raw = false }
 
 -- values never stand alone
 abbrev pub may_stand_alone : Tag → Bool
@@ -76,27 +100,29 @@ opens_raw (comment_tag t) = false
 abbrev pub edge_at : Bool → Edge → Text → Edge
 edge_at fresh tag rest = record {
   standalone = tag.standalone && (fresh && is_ended rest);
+  blanks = tag.blanks;
   left = tag.left;
   right = tag.right;
   is_raw = tag.is_raw;
 }
 
--- what a tag does wherever it stands
-abbrev pub sides_of : Tag → Tildes → Edge
-sides_of t tildes = record {
+-- what a tag behind these blanks does, whatever else is on its line
+abbrev pub sides_of : Text → Tag → Tildes → Edge
+sides_of blanks t tildes = record {
   standalone = may_stand_alone t;
+  blanks = blanks;
   left = tildes.left;
   right = tildes.right;
   is_raw = opens_raw t;
 }
 
--- a tag behind a line that is fresh or not, and before the rest
-abbrev pub edge_with : Bool → Tag → Tildes → Text → Edge
-edge_with fresh t tildes rest = edge_at fresh (sides_of t tildes) rest
+-- a tag behind a line that is fresh or not and ends with these blanks, and before the rest
+abbrev pub edge_with : Bool → Text → Tag → Tildes → Text → Edge
+edge_with fresh blanks t tildes rest = edge_at fresh (sides_of blanks t tildes) rest
 
--- a tag between two parts of the source
-abbrev pub edge_of : Text → Tag → Tildes → Text → Edge
-edge_of before t tildes rest = edge_with (is_fresh before) t tildes rest
+-- a tag behind a part of the source and a text, and before the rest
+abbrev pub edge_of : Text → Text → Tag → Tildes → Text → Edge
+edge_of before text t tildes rest = edge_with (is_fresh (before ++ text)) (last_blanks text) t tildes rest
 
 -- how many braces end the text behind a tag
 abbrev pub braces_behind : Edge → Braces
@@ -120,8 +146,7 @@ trimmed_start e t = if e.right then trim_start t else (if e.standalone then behi
 
 -- Before a tilde all white goes; before a tag that stands alone spaces and tabs.
 abbrev pub trimmed_end : Text → Edge → Text
-trimmed_end t e =
-    if e.left then trim_end t else (if e.standalone then take (length t - suffix_len is_blank t) t else t)
+trimmed_end t e = if e.left then trim_end t else (if e.standalone then before_blanks t else t)
 
 -- what is kept of a text between two tags, which is its slice less its dropped backslashes; no option changes it yet
 abbrev pub trimmed : Options → Edge → Text → Edge → Text

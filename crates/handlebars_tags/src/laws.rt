@@ -3,6 +3,7 @@
 ghost use Rattle.handlebars_tags.specs.Comment.{OneComment};
 ghost use Rattle.handlebars_tags.specs.Tag.{OneTag};
 ghost use Rattle.handlebars_tags.specs.Text.{OneText, ClearText};
+ghost use Rattle.handlebars_tags.specs.Trim.{LastBlanks};
 
 /// At most one text stands in front of a source.
 pub fn one_text()
@@ -22,4 +23,9 @@ pub fn one_comment()
 /// At most one tag stands in front of a source.
 pub fn one_tag()
     ensures { OneTag }
+{}
+
+/// The blanks that end a text are all that stand there.
+pub fn last_blanks()
+    ensures { LastBlanks }
 {}

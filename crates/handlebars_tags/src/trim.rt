@@ -1,46 +1,49 @@
 //! What is kept of a text beside tags.
 
-ghost use Rattle.std.specs.Prelude.{◌≡◌, None, ◌-◌, ◌<◌, ◌≤◌, length, take, true, slice_index};
-ghost use Rattle.std.specs.List.{fold, suffix_len, list_all};
+ghost use Rattle.std.specs.Prelude.{◌≡◌, None, ◌<◌, length, true, slice_index};
+ghost use Rattle.std.specs.List.{fold, list_all};
 ghost use Rattle.handlebars_base.specs.Bytes.{newline, is_white};
 ghost use Rattle.handlebars_base.specs.Texts.{starts, after};
 ghost use Rattle.handlebars_tags.specs.TextView.{braces_of};
 ghost use Rattle.handlebars_tags.specs.Options.{Options};
-ghost use Rattle.handlebars_tags.specs.Trim.{is_blank, is_break, is_fresh_behind, breaks, is_ended, no_edge, edge_at, braces_behind, behind_blanks, behind_break, trimmed_start, trimmed_end, trimmed, has_element};
+ghost use Rattle.handlebars_tags.specs.Trim.{is_blank, is_break, is_fresh_behind, breaks, is_ended, dark_len, before_blanks, last_blanks, no_edge, edge_at, braces_behind, behind_blanks, behind_break, trimmed_start, trimmed_end, trimmed, has_element};
 ghost use Rattle.handlebars_tags.specs.TrimView.{edge_view};
 
 use crate::text::Braces;
 use handlebars_base::json::path::marks::{after, is_white};
 
-/// What a tag does to the texts beside it: whether it stands alone on its line, or may do so; whether it has a tilde on
-/// its left and on its right; and whether a raw block's text follows it.
+/// What a tag does to the texts beside it: whether it stands alone on its line, or may do so; the blanks directly
+/// before it; whether it has a tilde on its left and on its right; and whether a raw block's text follows it.
 #[derive(Clone, Copy)]
-pub struct Edge {
+pub struct Edge<'s> {
     pub standalone: bool,
+    pub blanks: &'s str,
     pub left: bool,
     pub right: bool,
     pub is_raw: bool,
 }
 
 /// At the start and at the end of a source.
-pub fn no_edge() -> Edge
+pub fn no_edge() -> Edge<'static>
     ensures { edge_view result ≡ no_edge }
 {
     Edge {
         standalone: false,
+        blanks: "",
         left: false,
         right: false,
         is_raw: false,
     }
 }
 
-/// The edge of a tag where it stands, of which so much is known wherever it stands: whether it may stand alone, its
-/// tildes, and whether it opens a raw block.
-pub fn edge_at(fresh: bool, tag: Edge, rest: &str) -> Edge
-    ensures { edge_view result ≡ edge_at fresh (edge_view tag) rest.now }
+/// The edge of a tag where it stands, of which so much is known whatever else is on its line: whether it may stand
+/// alone, the blanks before it, its tildes, and whether it opens a raw block.
+pub fn edge_at<'s>(fresh: bool, tag: Edge<'s>, rest: &str) -> Edge<'s>
+    ensures { edge_view result ≡ edge_at fresh (edge_view tag.entry) rest.now }
 {
     Edge {
         standalone: tag.standalone && fresh && is_ended(rest),
+        blanks: tag.blanks,
         left: tag.left,
         right: tag.right,
         is_raw: tag.is_raw,
@@ -48,8 +51,8 @@ pub fn edge_at(fresh: bool, tag: Edge, rest: &str) -> Edge
 }
 
 /// How many braces end the text behind a tag.
-pub fn braces_behind(edge: Edge) -> Braces
-    ensures { braces_of result ≡ braces_behind (edge_view edge) }
+pub fn braces_behind(edge: Edge<'_>) -> Braces
+    ensures { braces_of result ≡ braces_behind (edge_view edge.entry) }
 {
     if edge.is_raw {
         Braces::Four
@@ -70,16 +73,18 @@ fn is_break(byte: u8) -> bool
     byte == b'\n' || byte == b'\r'
 }
 
-/// Whether nothing but blanks stands since the last line's end, behind a text before which it was so or not.
+/// Whether nothing but blanks stands since the last line's end, behind a text before which it was so or not. Of the
+/// text only its last blanks are read, and the byte before them.
 pub fn fresh_behind(fresh: bool, text: &str) -> bool
     ensures { result ≡ fold is_fresh_behind fresh text.now }
 {
     let bytes = text.as_bytes();
-    let mut still = fresh;
-    'bytes: for byte in bytes {
-        still = is_break(*byte) || (is_blank(*byte) && still);
+    let dark = dark_len(bytes);
+    if dark == 0 {
+        fresh
+    } else {
+        is_break(bytes[dark - 1])
     }
-    still
 }
 
 /// Whether the line ends behind a tag.
@@ -142,7 +147,7 @@ fn behind_return(text: &str) -> &str
 
 // The bytes before the blanks at the end.
 fn dark_len(bytes: &[u8]) -> usize
-    ensures len { result ≡ length bytes.now - suffix_len is_blank bytes.now }
+    ensures len { result ≡ dark_len bytes.now }
     ensures blank { result < length bytes.now → is_blank (slice_index bytes.now result) ≡ true }
 {
     let mut n = bytes.len();
@@ -152,14 +157,16 @@ fn dark_len(bytes: &[u8]) -> usize
     n
 }
 
-fn before_blanks(text: &str) -> &str
-    ensures { result.now ≡ take (length text.now - suffix_len is_blank text.now) text.now }
+/// What stands before the blanks that end a text, and these.
+pub fn split_blanks(text: &str) -> (&str, &str)
+    ensures front { result.0.now ≡ before_blanks text.now }
+    ensures blanks { result.1.now ≡ last_blanks text.now }
 {
-    text.split_at(dark_len(text.as_bytes())).0
+    text.split_at(dark_len(text.as_bytes()))
 }
 
-fn trimmed_start(edge: Edge, text: &str) -> &str
-    ensures { result.now ≡ trimmed_start (edge_view edge) text.now }
+fn trimmed_start<'s>(edge: Edge<'_>, text: &'s str) -> &'s str
+    ensures { result.now ≡ trimmed_start (edge_view edge.entry) text.now }
 {
     if edge.right {
         text.trim_start()
@@ -170,29 +177,30 @@ fn trimmed_start(edge: Edge, text: &str) -> &str
     }
 }
 
-fn trimmed_end(text: &str, edge: Edge) -> &str
-    ensures { result.now ≡ trimmed_end text.now (edge_view edge) }
+fn trimmed_end<'s>(text: &'s str, edge: Edge<'_>) -> &'s str
+    ensures { result.now ≡ trimmed_end text.now (edge_view edge.entry) }
 {
     if edge.left {
         text.trim_end()
     } else if edge.standalone {
-        before_blanks(text)
+        split_blanks(text).0
     } else {
         text
     }
 }
 
 /// What is kept of a text between two tags, or a tag and an end of the source, less its dropped backslashes.
-pub fn trimmed(before: Edge, text: &str, behind: Edge) -> &str
-    ensures { (options : Options) → result.now ≡ trimmed options (edge_view before) text.now (edge_view behind) }
+pub fn trimmed<'s>(before: Edge<'_>, text: &'s str, behind: Edge<'_>) -> &'s str
+    ensures { (options : Options) → result.now
+        ≡ trimmed options (edge_view before.entry) text.now (edge_view behind.entry) }
 {
     trimmed_end(trimmed_start(before, text), behind)
 }
 
 /// Whether a text makes an element, by what stands before it and its slice. A text that trimming leaves empty may make
 /// one.
-pub fn has_element(before: Edge, slice: &str) -> bool
-    ensures { result ≡ has_element (edge_view before) slice.now }
+pub fn has_element(before: Edge<'_>, slice: &str) -> bool
+    ensures { result ≡ has_element (edge_view before.entry) slice.now }
 {
     before.is_raw || !(slice.is_empty() || (before.right && is_all_white(slice)))
 }

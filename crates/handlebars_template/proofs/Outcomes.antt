@@ -72,7 +72,7 @@ pub record Spot : Type 0 where
 
 abbrev spot_behind : Spot → TextThenTag → Spot
 spot_behind s x =
-    let edge = edge_of (s.before ++ x.0) x.2.tag x.2.tildes x.2.rest in
+    let edge = edge_of s.before x.0 x.2.tag x.2.tildes x.2.rest in
     record {
       before = s.before ++ (x.0 ++ x.1);
       edge = edge;
@@ -202,8 +202,8 @@ answer_of-compiles options n source c e = answer-compiles options source n (firs
 pub first_tag : (options : Options) (text kept slice rest : Text) (f : TagFound) → IsText two_braces (slice ++ rest) text kept → tag_at (slice ++ rest) ≡ Some f → f.rest ≡ rest
     → IsAt (text ++ (slice ++ rest)) options (record {
       before = text ++ slice;
-      edge = edge_of text f.tag f.tildes rest;
-      slices = text_slice (place []) no_edge text kept (edge_of text f.tag f.tildes rest) ∷ tag_slice (place text) slice f.tag (edge_of text f.tag f.tildes rest) ∷ [];
+      edge = edge_of [] text f.tag f.tildes rest;
+      slices = text_slice (place []) no_edge text kept (edge_of [] text f.tag f.tildes rest) ∷ tag_slice (place text) slice f.tag (edge_of [] text f.tag f.tildes rest) ∷ [];
       left = rest;
     })
 first_tag options text kept slice rest f words e is = record {

@@ -12,8 +12,9 @@ use Rattle.handlebars_tags.specs.Comment.{behind_mark, HasNoLong}
 use Rattle.handlebars_tags.proofs.Marks.{behind_mark-end}
 use Rattle.handlebars_tags.specs.Text.{Braces, IsText, at_end, at_tag, a_byte, two_escaped, four_escaped, braces}
 use Rattle.handlebars_tags.specs.Tag.{Tag, Tildes, IsTag, NoTag, OneTag}
-use Rattle.handlebars_tags.specs.Trim.{Edge, no_edge, is_fresh_behind, is_fresh, edge_with, braces_behind, has_element, trimmed}
+use Rattle.handlebars_tags.specs.Trim.{Edge, no_edge, is_fresh_behind, is_fresh, before_blanks, last_blanks, edge_of, edge_with, braces_behind, has_element, trimmed}
 use Rattle.handlebars_tags.proofs.TagLengths.{length-tag}
+use Rattle.handlebars_tags.proofs.Blanks.{fresh-before_blanks}
 use Rattle.handlebars_tags.specs.Options.{Options}
 use Rattle.handlebars_template.specs.Place.{Place, origin, behind_char, behind, place}
 use Rattle.handlebars_template.specs.Tree.{raw_string}
@@ -102,7 +103,7 @@ pub record Turn {source : Text} {options : Options} {slice kept left : Text} {at
   pub here : TagHere left e t tildes spelled rest
   pub there : q ≡ behind at slice
   pub lines : mid ≡ fold is_fresh_behind fresh slice
-  pub edge : n ≡ edge_with mid t tildes rest
+  pub edge : n ≡ edge_with mid (last_blanks slice) t tildes rest
 
 pub behind-place : {source : Text} {options : Options} {slice kept left : Text} {at : Place} {fresh : Bool} {e : Edge} {late : Option NestFault} {d : ℕ} {fs : List OpenBlock} {es : List Placed}
     → (h : Scans source options slice kept left at fresh e late d fs es) (q : Place) → q ≡ behind at slice → q ≡ place (h.before ++ slice)
@@ -117,7 +118,7 @@ Turn-reads : {source : Text} {options : Options} {slice kept left : Text} {at : 
     → Turn h t tildes spelled rest q mid n → Reads source options (h.before ++ (slice ++ spelled)) n (h.slices ++ pair_of at e slice kept q spelled t n)
 Turn-reads {source} {options} {slice} {kept} {left} {at} {fresh} {e} h t tildes spelled rest q mid n turn =
     let b : Text = h.before in
-    let m : Edge = edge_with (is_fresh (b ++ slice)) t tildes rest in
+    let m : Edge = edge_of b slice t tildes rest in
     let one : Reads source options (b ++ (slice ++ spelled)) m (h.slices ++ pair_of (place b) e slice kept (place (b ++ slice)) spelled t m) = goes_on h.begins (record {
       text = slice;
       kept = kept;
@@ -131,7 +132,7 @@ Turn-reads {source} {options} {slice} {kept} {left} {at} {fresh} {e} h t tildes 
       may_follow = turn.here.follows;
     }) in
     Reads-along source options (b ++ (slice ++ spelled)) slice kept spelled h.slices t at (place b) q (place (b ++ slice)) e n m
-    h.there (behind-place h q turn.there) (turn.edge ∙ ap (λ (z : Bool). edge_with z t tildes rest) (fresh-place h mid turn.lines)) one
+    h.there (behind-place h q turn.there) (turn.edge ∙ ap (λ (z : Bool). edge_with z (last_blanks slice) t tildes rest) (fresh-place h mid turn.lines)) one
 
 -- the pieces behind the text and the tag
 pieces_in-pair : (options : Options) (ps : List Slice) (p : Place) (e : Edge) (x k : Text) (q : Place) (spelled : Text) (t : Tag) (n : Edge)
@@ -313,7 +314,13 @@ Scans-fits_behind {source} {options} {slice} {kept} {left} {at} h u q is k le =
     let long : length source ≡ length h.before + (length slice + length left) = omega (arith, ap length h.parts, length-append h.before (slice ++ left), length-append slice left) in
     (omega (arith, r.0), omega (arith, r.1))
 
--- ---- the tag's slice, as it is split off
+-- ---- the text's last blanks, and the tag's slice, as they are split off
+
+pub fresh-split : (fresh mid : Bool) (slice dark : Text) → dark ≡ before_blanks slice → mid ≡ fold is_fresh_behind fresh dark → mid ≡ fold is_fresh_behind fresh slice
+fresh-split fresh mid slice dark is lines = lines ∙ ap (fold is_fresh_behind fresh) is ∙ fresh-before_blanks fresh slice
+
+pub edge-split : (mid : Bool) (slice blanks : Text) (t : Tag) (tildes : Tildes) (rest : Text) (n : Edge) → blanks ≡ last_blanks slice → n ≡ edge_with mid blanks t tildes rest → n ≡ edge_with mid (last_blanks slice) t tildes rest
+edge-split mid slice blanks t tildes rest n is edge = edge ∙ ap (λ (z : Text). edge_with mid z t tildes rest) is
 
 pub IsCharBoundary-seam : (left s rest : Text) → left ≡ s ++ rest → IsUtf8 rest → IsCharBoundary left (length left - length rest)
 IsCharBoundary-seam left s rest e u = rw (length-front left s rest e) (IsCharBoundary-at_seam left s rest e u)

@@ -34,7 +34,7 @@ abbrev pub tag_place : {source : Text} {options : Options} {before : Text} {edge
 tag_place {before = before} x = place (before ++ x.text)
 
 abbrev pub tag_edge : {source : Text} {options : Options} {before : Text} {edge : Edge} → TextAndTag source options before edge → Edge
-tag_edge {before = before} x = edge_of (before ++ x.text) x.tag x.tildes x.rest
+tag_edge {before = before} x = edge_of before x.text x.tag x.tildes x.rest
 
 abbrev pub text_slice_of : {source : Text} {options : Options} {before : Text} {edge : Edge} → TextAndTag source options before edge → Slice
 text_slice_of {before = before} {edge = edge} x = text_slice (place before) edge x.text x.kept (tag_edge x)

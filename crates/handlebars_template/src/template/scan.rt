@@ -15,7 +15,9 @@ use crate::template::tags::{edge_behind, look, may_follow, take_tag};
 use crate::template::tree::{TemplateElement, TemplateMapping};
 use handlebars_tags::tag::split_tag;
 use handlebars_tags::text::{TextFront, text};
-use handlebars_tags::trim::{Edge, braces_behind, fresh_behind, has_element, no_edge, trimmed};
+use handlebars_tags::trim::{
+    Edge, braces_behind, fresh_behind, has_element, no_edge, split_blanks, trimmed,
+};
 use std::alloc::{AllocError, Global};
 
 /// What a source is: what stands at its end, or the place of the tag that is refused first.
@@ -47,8 +49,9 @@ pub fn scan(alloc: Global, source: &str, options: &TemplateOptions) -> Result<Sc
             return Ok(Scanned::Unreadable(at));
         }
         let spelled = left.split_at(left.len() - tag.rest.len()).0;
-        let fresh_here = fresh_behind(fresh, front.slice);
-        let next = edge_behind(fresh_here, tag);
+        let (dark, blanks) = split_blanks(front.slice);
+        let fresh_here = fresh_behind(fresh, dark);
+        let next = edge_behind(fresh_here, blanks, tag);
         add_text(alloc, &mut nesting, options, place, edge, front, next)?;
         if let Some(fault) = look(&nesting, tag.content, tag.depth) {
             return Ok(Scanned::Misplaced(fault, at));
@@ -65,8 +68,14 @@ pub fn scan(alloc: Global, source: &str, options: &TemplateOptions) -> Result<Sc
 }
 
 // What is kept of a text between two edges, as a part of it.
-fn trimmed_text<'a>(options: &TemplateOptions, before: Edge, kept: &'a str, behind: Edge) -> &'a str
-    ensures { result.now ≡ trimmed (options_view options.now) (edge_view before) kept.now (edge_view behind) }
+fn trimmed_text<'a>(
+    options: &TemplateOptions,
+    before: Edge<'_>,
+    kept: &'a str,
+    behind: Edge<'_>,
+) -> &'a str
+    ensures { result.now
+        ≡ trimmed (options_view options.now) (edge_view before.entry) kept.now (edge_view behind.entry) }
 {
     trimmed(before, kept, behind)
 }
@@ -75,12 +84,12 @@ fn trimmed_text<'a>(options: &TemplateOptions, before: Edge, kept: &'a str, behi
 fn kept_text(
     alloc: Global,
     options: &TemplateOptions,
-    before: Edge,
+    before: Edge<'_>,
     kept: String,
-    behind: Edge,
+    behind: Edge<'_>,
 ) -> Result<String, AllocError>
     ensures { IfOk result (λ text. string_bytes text
-        ≡ trimmed (options_view options.now) (edge_view before) (string_bytes kept) (edge_view behind)) }
+        ≡ trimmed (options_view options.now) (edge_view before.entry) (string_bytes kept) (edge_view behind.entry)) }
 {
     let part = trimmed_text(options, before, kept.as_str(), behind);
     if part == kept.as_str() {
@@ -96,15 +105,16 @@ fn add_text(
     nesting: &mut Nesting,
     options: &TemplateOptions,
     place: TemplateMapping,
-    before: Edge,
+    before: Edge<'_>,
     front: TextFront,
-    behind: Edge,
+    behind: Edge<'_>,
 ) -> Result<(), AllocError>
     ensures depth { OnOk result (nesting.new.depth ≡ nesting.old.depth) }
     ensures open_blocks { OnOk result (open_blocks nesting.new ≡ open_blocks nesting.old) }
     ensures late { OnOk result (late_of nesting.new ≡ late_of nesting.old) }
     ensures elements { OnOk result (placed_view nesting.new.elements ≡ placed_view nesting.old.elements
-        ++ text_placed (options_view options.now) (place_of place) (edge_view before) front.entry.slice.now (string_bytes front.entry.kept) (edge_view behind)) }
+        ++ text_placed (options_view options.now) (place_of place) (edge_view before.entry) front.entry.slice.now
+        (string_bytes front.entry.kept) (edge_view behind.entry)) }
 {
     if !has_element(before, front.slice) {
         return Ok(());

@@ -78,19 +78,20 @@ fn closes_raw(content: Content<'_>) -> bool
 }
 
 /// Behind the opening of a raw block only its end may stand.
-pub fn may_follow(edge: Edge, content: Content<'_>) -> bool
-    ensures { (tag : Tag) → Holds content.entry tag → result ≡ may_follow (edge_view edge) tag }
+pub fn may_follow(edge: Edge<'_>, content: Content<'_>) -> bool
+    ensures { (tag : Tag) → Holds content.entry tag → result ≡ may_follow (edge_view edge.entry) tag }
 {
     !edge.is_raw || closes_raw(content)
 }
 
-/// What a tag does to the texts beside it, behind a line that is fresh or not.
-pub fn edge_behind(fresh: bool, tag: TagSlice<'_>) -> Edge
+/// What a tag does to the texts beside it, behind a line that is fresh or not and ends with these blanks.
+pub fn edge_behind<'s>(fresh: bool, blanks: &'s str, tag: TagSlice<'_>) -> Edge<'s>
     ensures { (t : Tag) → Holds tag.entry.content t → edge_view result
-        ≡ edge_with fresh t (record { left = tag.entry.left; right = tag.entry.right }) tag.entry.rest.now }
+        ≡ edge_with fresh blanks.now t (record { left = tag.entry.left; right = tag.entry.right }) tag.entry.rest.now }
 {
     let sides = Edge {
         standalone: may_stand_alone(tag.content),
+        blanks,
         left: tag.left,
         right: tag.right,
         is_raw: opens_raw(tag.content),
@@ -131,8 +132,8 @@ fn block_names(alloc: Global, binding: BoundNames<'_>) -> Result<BlockNames, All
 }
 
 // Indentation goes before what a block writes where its tag stands alone, without a tilde in front.
-fn is_indented(edge: Edge) -> bool
-    ensures { result ≡ edge.standalone && not edge.left }
+fn is_indented(edge: Edge<'_>) -> bool
+    ensures { result ≡ edge.entry.standalone && not edge.entry.left }
 {
     edge.standalone && !edge.left
 }
@@ -149,7 +150,7 @@ fn bare_opening(
     alloc: Global,
     block: BlockSlice<'_>,
     kind: BlockKind,
-    edge: Edge,
+    edge: Edge<'_>,
 ) -> Result<BlockOpening, AllocError>
     ensures { IfOk result (λ opening. opening_view opening
         ≡ record {
@@ -158,7 +159,7 @@ fn bare_opening(
           closing = block.entry.name.now;
           arguments = no_arguments;
           binding = block_binding (bound_names_of block.entry.binding);
-          indent = (edge_view edge).standalone && not (edge_view edge).left;
+          indent = (edge_view edge.entry).standalone && not (edge_view edge.entry).left;
         }) }
 {
     let name = String::from_str(alloc, block.name)?;
@@ -179,10 +180,10 @@ fn opening<'a>(
     alloc: Global,
     block: BlockSlice<'a>,
     kind: BlockKind,
-    edge: Edge,
+    edge: Edge<'_>,
 ) -> Result<Option<BuiltOpening<'a>>, AllocError>
     ensures { IfOk result (λ built. (line : BlockLine) (rest : Text) → IsBlockSlice block.entry line rest
-        → IsOpening (kind_view kind) (edge_view edge) line built) }
+        → IsOpening (kind_view kind) (edge_view edge.entry) line built) }
 {
     let Some(line) = build_line(alloc, NameMode::Identifier, Enclosure::Block, block.line)? else {
         return Ok(None);
@@ -227,10 +228,10 @@ fn begin(
     at: TemplateMapping,
     block: BlockSlice<'_>,
     kind: BlockKind,
-    edge: Edge,
+    edge: Edge<'_>,
 ) -> Result<(), AllocError>
     ensures { OnOk result ((line : BlockLine) (rest : Text) → IsBlockSlice block.entry line rest
-        → Does nesting.old (block_piece (kind_view kind) (place_of at) (edge_view edge) line) nesting.new) }
+        → Does nesting.old (block_piece (kind_view kind) (place_of at) (edge_view edge.entry) line) nesting.new) }
 {
     match opening(alloc, block, kind, edge)? {
         Some(built) => nesting.begin(alloc, at, built.opening, built.refused),
@@ -243,10 +244,10 @@ fn chain(
     nesting: &mut Nesting,
     at: TemplateMapping,
     block: BlockSlice<'_>,
-    edge: Edge,
+    edge: Edge<'_>,
 ) -> Result<(), AllocError>
     ensures { OnOk result ((line : BlockLine) (rest : Text) → IsBlockSlice block.entry line rest
-        → Does nesting.old (chain_piece (place_of at) (edge_view edge) line) nesting.new) }
+        → Does nesting.old (chain_piece (place_of at) (edge_view edge.entry) line) nesting.new) }
 {
     match opening(alloc, block, BlockKind::Helper, edge)? {
         Some(built) => nesting.chain(alloc, at, built.opening, built.refused),
@@ -272,10 +273,10 @@ pub fn take_tag(
     nesting: &mut Nesting,
     at: TemplateMapping,
     content: Content<'_>,
-    edge: Edge,
+    edge: Edge<'_>,
 ) -> Result<(), AllocError>
     ensures { OnOk result ((tag : Tag) → Holds content.entry tag
-        → Does nesting.old (tag_piece (place_of at) (edge_view edge) tag) nesting.new) }
+        → Does nesting.old (tag_piece (place_of at) (edge_view edge.entry) tag) nesting.new) }
 {
     match content {
         Content::Expression(text) => add_value(alloc, nesting, at, text, true),

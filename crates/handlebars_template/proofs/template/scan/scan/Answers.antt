@@ -13,7 +13,7 @@ use Rattle.handlebars_template.specs.Machine.{early_in}
 use Rattle.handlebars_template.specs.Compile.{tag_piece}
 use Rattle.handlebars_template.specs.NestView.{placed_view, open_blocks, late_of, syntax_fault, end_view}
 use Rattle.handlebars_template.proofs.NestsFits.{apply-early, apply-stops}
-use Rattle.handlebars_template.proofs.Scan.{HasNoLong-behind, Scans-at, Scans-fits, Scans-fits_behind, Scans-step, Scans-end, Compiles-unreadable, Compiles-misplaced, NoTagBehind-none, NoTagBehind-other, IsCharBoundary-seam, IsUtf8-front, length-rest}
+use Rattle.handlebars_template.proofs.Scan.{HasNoLong-behind, Scans-at, Scans-fits, Scans-fits_behind, Scans-step, Scans-end, Compiles-unreadable, Compiles-misplaced, NoTagBehind-none, NoTagBehind-other, IsCharBoundary-seam, IsUtf8-front, length-rest, fresh-split, edge-split}
 use Rattle.handlebars_template.proofs.template.scan.scan.Goals as goal
 
 pub tags-init : goal.tags-init
@@ -60,8 +60,8 @@ returns-in-Some-look c =
     (record {
       here = record { whole = f.whole; is_tag = f.is_tag; follows = sym (c.may_follow.ensures f.tag f.holds) ∙ c.if-not-may_follow.false };
       there = c.advance-at.ensures;
-      lines = c.fresh_behind-fresh_here.ensures;
-      edge = c.edge_behind-next.ensures f.tag f.holds;
+      lines = fresh-split c.tags.fresh c.fresh_behind-fresh_here.result c.tags.front.slice.now c.split_blanks.result.0.now c.split_blanks.ensures.front c.fresh_behind-fresh_here.ensures;
+      edge = edge-split c.fresh_behind-fresh_here.result c.tags.front.slice.now c.split_blanks.result.1.now f.tag _ c.in-Some.tag.rest.now next c.split_blanks.ensures.blanks (c.edge_behind-next.ensures f.tag f.holds);
     })
     (late_of state) state.depth (open_blocks state) (placed_view state.elements)
     (record { depth = c.in_ok-add_text.ensures.depth; open_blocks = c.in_ok-add_text.ensures.open_blocks; kept_late = c.in_ok-add_text.ensures.late; elements = c.in_ok-add_text.ensures.elements })
@@ -108,8 +108,8 @@ tags-preserved c =
           (record {
             here = record { whole = f.whole; is_tag = f.is_tag; follows = sym (c.may_follow.ensures f.tag f.holds) ∙ c.if-not-may_follow.false };
             there = c.advance-at.ensures;
-            lines = c.fresh_behind-fresh_here.ensures;
-            edge = c.edge_behind-next.ensures f.tag f.holds;
+            lines = fresh-split c.tags.fresh c.fresh_behind-fresh_here.result c.tags.front.slice.now c.split_blanks.result.0.now c.split_blanks.ensures.front c.fresh_behind-fresh_here.ensures;
+            edge = edge-split c.fresh_behind-fresh_here.result c.tags.front.slice.now c.split_blanks.result.1.now f.tag _ c.in-Some.tag.rest.now next c.split_blanks.ensures.blanks (c.edge_behind-next.ensures f.tag f.holds);
           })
           (late_of state) state.depth (open_blocks state) (placed_view state.elements)
           (record { depth = c.in_ok-add_text.ensures.depth; open_blocks = c.in_ok-add_text.ensures.open_blocks; kept_late = c.in_ok-add_text.ensures.late; elements = c.in_ok-add_text.ensures.elements })

@@ -2,7 +2,7 @@ use Rattle.std.proofs.Common.{◌≡◌, ◌<◌, length, get_or, true, subst, a
 use Rattle.handlebars_base.specs.Bytes.{Text}
 use Rattle.handlebars_tags.specs.Trim.{is_blank}
 use Rattle.handlebars_tags.proofs.Trims.{is_blank-boundary}
-use Rattle.handlebars_tags.proofs.trim.before_blanks.Goals as goal
+use Rattle.handlebars_tags.proofs.trim.split_blanks.Goals as goal
 
 pub split_at-requires : goal.split_at-requires
 split_at-requires c =
