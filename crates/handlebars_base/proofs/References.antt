@@ -1,12 +1,11 @@
 -- Paths within longer texts: what a path's text is like, and that a front that goes as far as it can ends with it.
-use Rattle.std.proofs.Common.{◌≡◌, ℕ, zero, suc, ◌+◌, Bool, true, false, not, List, [], ◌∷◌, ◌++◌, length, take, drop, refl, sym, ap, subst, ◌∙◌, append_assoc, arith, inl, inr, length-append}
+use Rattle.std.proofs.Common.{◌≡◌, ℕ, zero, suc, ◌+◌, Bool, true, false, not, List, [], ◌∷◌, ◌++◌, length, refl, sym, ap, subst, ◌∙◌, append_assoc, arith, inl, inr, length-append}
 use Rattle.std.specs.Prelude.{◌==◌, codes}
 use Rattle.std.specs.List.{AllByRecursion}
 use Rattle.std.proofs.lemmas.Bool.{not-true, or_parts}
 use Rattle.handlebars_base.specs.Path.{Reference, IsPath, IsIdentifier, Part, dots, plain, bracketed, spelled_part, IsPart, is_dots, Link, spelled_links, AreLinks, ups, Shape, itself, at_root, at_name, in_parts, spelled, IsShape}
 use Rattle.handlebars_base.specs.PathReading.{is_reference_byte, starts_reference, stops, reference_from, reference_len}
 use Rattle.handlebars_base.specs.Bytes.{is_symbol}
-use Rattle.std.proofs.lemmas.List.{take_at, drop_at}
 use Rattle.handlebars_base.proofs.PathParts.{joins_cases}
 use Rattle.handlebars_base.proofs.Bytes.{other_byte}
 
@@ -108,21 +107,6 @@ reference_len-stops [] h = refl
 reference_len-stops (x ∷ xs) h =
     let no = or_parts (is_reference_byte x) (x == 91) (not-true (starts_reference x) h) in
     rw (no.1, no.0) refl
-
--- in front of what stops, a path is all of the front
-pub reference_len-path : (text follow : List ℕ) (means : Reference) → IsPath text means → stops follow ≡ true →
-    reference_len (text ++ follow) ≡ length text
-reference_len-path text follow means h stop =
-    omega (arith, reference_len-append text follow means h, reference_len-stops follow stop)
-
--- so it is the front that is split off, and the rest is what follows
-pub take-path : (text follow : List ℕ) (means : Reference) → IsPath text means → stops follow ≡ true →
-    take (reference_len (text ++ follow)) (text ++ follow) ≡ text
-take-path text follow means h stop = take_at text follow _ (sym (reference_len-path text follow means h stop))
-
-pub drop-path : (text follow : List ℕ) (means : Reference) → IsPath text means → stops follow ≡ true →
-    drop (reference_len (text ++ follow)) (text ++ follow) ≡ follow
-drop-path text follow means h stop = drop_at text follow _ (sym (reference_len-path text follow means h stop))
 
 -- ---- how a path begins
 

@@ -113,14 +113,6 @@ pub shown-bool : (escapes : Bool) (v : Value) (b is : Bool) → v ≡ BoolOf b �
 shown-bool true v b is e f = escaped-bool v b is e f
 shown-bool false v b is e f = ap rendered (ap view e ∙ view-Bool b ∙ ap boolean f)
 
-pub shown-number : (escapes : Bool) (v : Value) (n : Number) → v ≡ NumberOf n
-    → shown escapes (view v) ≡ escaped_if escapes (rendered_number (number_view n))
-shown-number escapes v n e = ap (λ d. shown escapes d) (ap view e ∙ view-Number n)
-
-pub shown-string : (escapes : Bool) (v : Value) (s : String Global) → v ≡ StringOf s
-    → shown escapes (view v) ≡ escaped_if escapes (string_bytes s)
-shown-string escapes v s e = ap (escaped_if escapes) (rendered-string v s e)
-
 pub shown-object : (escapes : Bool) (v : Value) (m : BTreeMap (String Global) Value) → v ≡ Object m → shown escapes (view v) ≡ codes "[object]"
 shown-object true v m e = escaped-object v m e
 shown-object false v m e = ap rendered (ap view e ∙ view-Object m)

@@ -1,5 +1,5 @@
 -- The line that is written, and what a text makes of it.
-use Rattle.std.specs.Prelude.{List, [], ◌∷◌, Bool, true, false, ◌||◌, ◌==◌}
+use Rattle.std.specs.Prelude.{[], ◌∷◌, Bool, true, false, ◌||◌, ◌==◌}
 use Rattle.handlebars_base.specs.Bytes.{Text, newline, carriage_return}
 
 -- whether indentation goes before the next text, whether the last text ended a line, and whether there was one

@@ -1,3 +1,5 @@
+//! Runs of the program over two files that a test keeps.
+
 use crate::run::run;
 use crate::words::Word;
 use handlebars::{EntryKind, TemplateReader};

@@ -1,3 +1,5 @@
+//! Why a rendering, a registration or a reading is refused, and where.
+
 ghost use Rattle.std.specs.Prelude.{◌≡◌, ◌≢◌, Some, None, option_map, string_bytes, IfOk, IfSome};
 ghost use Rattle.handlebars_base.specs.Bytes.{Text};
 ghost use Rattle.handlebars_base.specs.Reasons.{Reason, out_of_memory, io_error, utf8_error, serde_error, of_template, other, missing_variable, nested_error};
@@ -251,13 +253,16 @@ impl From<RenderErrorReason> for RenderError {
 
 /// The reason, or want of memory where its text found none.
 impl From<Result<RenderErrorReason, AllocError>> for RenderError {
-    ghost use Rattle.handlebars_base.specs.RenderRefusals.{reason_or_memory, plain_refusal, refusal_of};
+    ghost use Rattle.handlebars_base.specs.RenderRefusals.{reason_or_memory, cause_of, plain_refusal, refusal_of};
 
     ghost from_gives = { λ r e. refusal_of e ≡ plain_refusal (reason_or_memory r) };
 
-    fn from(reason: Result<RenderErrorReason, AllocError>) -> RenderError {
+    fn from(reason: Result<RenderErrorReason, AllocError>) -> RenderError
+        ensures refusal { refusal_of result ≡ plain_refusal (reason_or_memory reason) }
+        ensures cause { IfOk reason (λ r. cause_of result ≡ r) }
+    {
         match reason {
-            Ok(reason) => reason.into(),
+            Ok(reason) => RenderError::from(reason),
             Err(AllocError) => RenderErrorReason::OutOfMemory.into(),
         }
     }
