@@ -1,0 +1,70 @@
+//! Why a run ends before its words do.
+
+ghost use Rattle.std.specs.Prelude.{◌≡◌, ◌<◌, ◌≤◌};
+
+use handlebars::{RenderError, TemplateError};
+use std::alloc::AllocError;
+use std::fmt;
+
+/// Why a run ends before its words do.
+#[derive(Drop)]
+pub enum Failure {
+    Usage,
+    NotJson,
+    Uncompiled(TemplateError),
+    Refused(RenderError),
+    OutOfMemory,
+    NoClock,
+    CannotWrite,
+}
+
+impl Failure {
+    /// The status that a run ends with: 2 for words that are wrong, and else 1.
+    pub fn status(&self) -> u8
+        ensures bound { result ≤ 2 }
+        ensures failed { 0 < result }
+        ensures usage { self.now ≡ Failure.Usage → result ≡ 2 }
+    {
+        match self {
+            Failure::Usage => 2,
+            Failure::NotJson => 1,
+            Failure::Uncompiled(_) => 1,
+            Failure::Refused(_) => 1,
+            Failure::OutOfMemory => 1,
+            Failure::NoClock => 1,
+            Failure::CannotWrite => 1,
+        }
+    }
+}
+
+impl From<AllocError> for Failure {
+    fn from(_e: AllocError) -> Self {
+        Failure::OutOfMemory
+    }
+}
+
+impl From<TemplateError> for Failure {
+    fn from(cause: TemplateError) -> Self {
+        Failure::Uncompiled(cause)
+    }
+}
+
+impl From<RenderError> for Failure {
+    fn from(cause: RenderError) -> Self {
+        Failure::Refused(cause)
+    }
+}
+
+impl fmt::Display for Failure {
+    fn fmt<W: fmt::Write>(&self, f: &mut fmt::Formatter<W>) -> fmt::Result {
+        match self {
+            Failure::Usage => write!(f, "usage: handlebars_bench [times=N] WORK[=SIZE] .."),
+            Failure::NotJson => write!(f, "handlebars_bench: not JSON"),
+            Failure::Uncompiled(cause) => write!(f, "{cause}"),
+            Failure::Refused(cause) => write!(f, "{cause}"),
+            Failure::OutOfMemory => write!(f, "Out of memory"),
+            Failure::NoClock => write!(f, "handlebars_bench: no clock"),
+            Failure::CannotWrite => write!(f, "handlebars_bench: cannot write"),
+        }
+    }
+}

@@ -1,0 +1,110 @@
+//! A run of the program, over any clock and any outputs.
+
+ghost use Rattle.std.specs.Prelude.{◌≡◌, ◌≤◌, [], Err, IfOk};
+
+use crate::failure::Failure;
+use crate::measure::{Measure, measure_work};
+use crate::words::{Task, asked};
+use crate::work::Work;
+use std::alloc::Global;
+use std::io;
+use std::io::Write;
+use std::rt::Clock;
+
+/// Does what the words ask for, one after another, and answers the status that the program ends with. A
+/// word that asks for nothing is refused before any work is done. A run that fails says why in one line on
+/// `err`.
+pub fn run<C: Clock, O: Write, E: Write>(
+    alloc: Global,
+    clock: &C,
+    words: Result<Vec<String>, Failure>,
+    out: &mut O,
+    err: &mut E,
+) -> u8
+    ensures status { result ≤ 2 }
+    ensures usage { IfOk words (λ given. given.items ≡ [] → result ≡ 2) }
+{
+    match words {
+        Ok(words) => match run_words(alloc, clock, words.as_slice(), out) {
+            Ok(()) => 0,
+            Err(failure) => report(&failure, err),
+        },
+        Err(failure) => report(&failure, err),
+    }
+}
+
+// Says a failure, and answers its status. Where it can't be said, the status still tells of it.
+fn report<E: Write>(failure: &Failure, err: &mut E) -> u8
+    ensures bound { result ≤ 2 }
+    ensures usage { failure.now ≡ Failure.Usage → result ≡ 2 }
+{
+    let _ = writeln!(err, "{failure}");
+    failure.status()
+}
+
+fn run_words<C: Clock, O: Write>(
+    alloc: Global,
+    clock: &C,
+    words: &[String],
+    out: &mut O,
+) -> Result<(), Failure>
+    ensures usage { words.now ≡ [] → result ≡ Err Failure.Usage }
+{
+    if words.is_empty() {
+        return Err(Failure::Usage);
+    }
+    if words.iter().any(|word| asked(word.as_str()).is_none()) {
+        return Err(Failure::Usage);
+    }
+    let mut times = None;
+    for word in words {
+        match asked(word.as_str()) {
+            Some(Task::Times(number)) => times = Some(number),
+            Some(Task::Run(work, size)) => run_work(alloc, clock, work, size, times, out)?,
+            None => {}
+        }
+    }
+    Ok(())
+}
+
+// A work once, or so often, and then its times are told as well.
+fn run_work<C: Clock, O: Write>(
+    alloc: Global,
+    clock: &C,
+    work: Work,
+    size: u32,
+    times: Option<u32>,
+    out: &mut O,
+) -> Result<(), Failure> {
+    let measure = measure_work(alloc, clock, work, size, times.unwrap_or(1))?;
+    match tell(work.shape().name, size, &measure, times.is_some(), out) {
+        Ok(()) => Ok(()),
+        Err(_) => Err(Failure::CannotWrite),
+    }
+}
+
+fn tell<O: Write>(
+    name: &str,
+    size: u32,
+    measure: &Measure,
+    timed: bool,
+    out: &mut O,
+) -> io::Result<()> {
+    let source = measure.source;
+    let data = measure.data;
+    let answer = measure.answer;
+    write!(
+        out,
+        "{name} of {size}: template {source}, data {data}, answer {answer} bytes"
+    )?;
+    if timed {
+        let compiling = measure.compiling.as_micros();
+        let rendering = measure.rendering.as_micros();
+        write!(
+            out,
+            "; compiled in {compiling} us, rendered in {rendering} us"
+        )?;
+    }
+    writeln!(out)?;
+    out.flush()
+}

@@ -1,0 +1,58 @@
+//! The words of the command line.
+
+use crate::failure::Failure;
+use crate::work::Work;
+use std::env;
+use std::io::ErrorKind;
+use std::rt::Env;
+
+/// What a word asks for.
+#[derive(Clone, Copy, Debug)]
+pub enum Task {
+    /// That the works behind it are done so often, and their least times told.
+    Times(u32),
+    /// A work of a size.
+    Run(Work, u32),
+}
+
+/// The words behind the program's name.
+pub fn command_line<R: Env + AllocGlobal>(rt: &R) -> Result<Vec<String>, Failure> {
+    match env::args(rt) {
+        Ok(args) => Ok(args.skip(1).collect(rt.alloc())?),
+        Err(cause) => Err(unreadable(cause.kind())),
+    }
+}
+
+fn unreadable(cause: ErrorKind) -> Failure {
+    match cause {
+        ErrorKind::InvalidData => Failure::Usage,
+        _ => Failure::OutOfMemory,
+    }
+}
+
+/// What a word asks for, if it is `times=N` with an N above 0, `WORK=SIZE`, or a work alone, which has its
+/// full size.
+pub fn asked(word: &str) -> Option<Task> {
+    match word.split_once('=') {
+        Some((name, number)) => asked_of(name, number.parse::<u32>().ok()?),
+        None => {
+            let work = Work::of_name(word)?;
+            Some(Task::Run(work, work.shape().full_size))
+        }
+    }
+}
+
+fn asked_of(name: &str, number: u32) -> Option<Task> {
+    if name == "times" {
+        return times(number);
+    }
+    Some(Task::Run(Work::of_name(name)?, number))
+}
+
+fn times(number: u32) -> Option<Task> {
+    if number == 0 {
+        None
+    } else {
+        Some(Task::Times(number))
+    }
+}
