@@ -1,6 +1,6 @@
 //! Where a rendering writes.
 
-ghost use Rattle.std.specs.Prelude.{◌≡◌, ◌≢◌, IfErr, IfOk, OnErr, string_bytes};
+ghost use Rattle.std.specs.Prelude.{◌≡◌, ◌≢◌, ◌≤◌, IfErr, IfOk, OnErr, string_bytes, string_capacity};
 ghost use Rattle.std.specs.IoError.{error_kind};
 ghost use Rattle.std.specs.declared.io.Error.{Error};
 ghost use Rattle.std.specs.declared.io.ErrorKind.TheVariants.{OutOfMemory};
@@ -47,7 +47,8 @@ impl StringOutput {
 
     // Nothing yet, with room for a text of so many bytes.
     pub(crate) fn with_capacity(alloc: Global, capacity: usize) -> Result<StringOutput, AllocError>
-        ensures { IfOk result (λ o. held_of o ≡ nothing) }
+        ensures held { IfOk result (λ o. held_of o ≡ nothing) }
+        ensures room { IfOk result (λ o. capacity ≤ string_capacity o.text) }
     {
         Ok(StringOutput {
             text: String::with_capacity(alloc, capacity)?,
