@@ -1,4 +1,4 @@
-//! What the calls that rows ask answer; those that render make a registry of their own.
+//! What the calls that rows ask answer; those that expand a parameter make a registry of their own.
 
 use handlebars::template::Parameter;
 use handlebars::{
