@@ -7,7 +7,7 @@ ghost use Rattle.handlebars_template.specs.TreeView.{tree_view, element_view};
 ghost use Rattle.handlebars_meaning.specs.Steps.{Steps};
 ghost use Rattle.handlebars_meaning.specs.Means.{render_tree, render_alone};
 ghost use Rattle.handlebars_meaning.specs.State.{Kept};
-ghost use Rattle.handlebars_render.specs.View.{state_of, state_with, root_of, has_failed, moment, CarriesOut, GivesString, RefusesString};
+ghost use Rattle.handlebars_render.specs.View.{state_of, state_with, root_of, has_failed, moment, without_partials, CarriesOut, GivesString, RefusesString};
 ghost use Rattle.handlebars.specs.View.{setting_of};
 
 mod expand;
@@ -50,7 +50,7 @@ pub trait Renderable {
         ensures failed { has_failed rc.old ≡ true → IsErrAnd result (λ e. refusal_of e ≡ plain_refusal failed)
             × (rc.new ≡ rc.old) × (O.held out.new ≡ O.held out.old) }
         ensures root { root_of rc.new ≡ root_of rc.old }
-        ensures blocks { (state_of rc.new).blocks ≡ (state_of rc.old).blocks }
+        ensures blocks { without_partials (state_of rc.new).blocks ≡ without_partials (state_of rc.old).blocks }
         ensures recursive { (state_of rc.new).recursive ≡ (state_of rc.old).recursive }
         ensures escapes { (state_of rc.new).escapes ≡ (state_of rc.old).escapes }
         ensures ok { OnOk result (has_failed rc.new ≡ false) }
@@ -74,7 +74,7 @@ pub trait Renderable {
         ensures failed { has_failed rc.old ≡ true
             → IsErrAnd result (λ e. refusal_of e ≡ plain_refusal failed) × (rc.new ≡ rc.old) }
         ensures root { root_of rc.new ≡ root_of rc.old }
-        ensures blocks { (state_of rc.new).blocks ≡ (state_of rc.old).blocks }
+        ensures blocks { without_partials (state_of rc.new).blocks ≡ without_partials (state_of rc.old).blocks }
         ensures recursive { (state_of rc.new).recursive ≡ (state_of rc.old).recursive }
         ensures escapes { (state_of rc.new).escapes ≡ (state_of rc.old).escapes }
         ensures kept { OnOk result (has_failed rc.new ≡ false) }

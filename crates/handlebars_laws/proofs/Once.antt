@@ -15,7 +15,7 @@ use Rattle.handlebars_helpers.specs.Turns.{Turn, with_block}
 use Rattle.handlebars_meaning.specs.State.{Setting, State, nearest_variables}
 use Rattle.handlebars_meaning.specs.Steps.{Task, One, Whole, Steps, Done, Refuse, Write, Get, Set, Ask, Do, Capture, Prog, ◌>>=◌, ◌>>◌, answer, refuse_for}
 use Rattle.handlebars_meaning.specs.Pieces.{Origin, of_text, Piece}
-use Rattle.handlebars_meaning.specs.Sites.{TreeSite, first_tree, body_at, inverse_at, Site, element_in}
+use Rattle.handlebars_meaning.specs.Sites.{TreeSite, first_tree, body_at, inverse_at, included_at, Site, element_in}
 use Rattle.handlebars_meaning.specs.Visits.{Visit, arrival, visits, ComeOnce}
 use Rattle.handlebars_meaning.specs.Writing.{write_text, write_value}
 use Rattle.handlebars_meaning.specs.CarryOut.{in_block, render_branch, render_body, render_word, take_turns, carry_out}
@@ -30,6 +30,7 @@ abbrev mutual
   tree_address first_tree = []
   tree_address (body_at site i) = address site ++ (i ∷ [])
   tree_address (inverse_at site i) = address site ++ (i ∷ [])
+  tree_address (included_at site) = address site ++ (0 ∷ [])
 
   address : Site → List ℕ
   address (element_in at i) = tree_address at ++ (i ∷ [])

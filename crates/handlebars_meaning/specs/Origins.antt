@@ -14,7 +14,7 @@ use Rattle.handlebars_helpers.specs.Choice.{Kind, Choice, the_value, the_word}
 use Rattle.handlebars_meaning.specs.CarryOut.{helper_call}
 use Rattle.handlebars_meaning.specs.Pieces.{Origin, of_text, of_value, of_raw, of_word, Piece}
 use Rattle.handlebars_meaning.specs.Questions.{value_of, view_of, helper_of, called_as, hook_for, choice_of, IsAnswered}
-use Rattle.handlebars_meaning.specs.Sites.{TreeSite, first_tree, body_at, inverse_at, Site, element_in}
+use Rattle.handlebars_meaning.specs.Sites.{TreeSite, first_tree, body_at, inverse_at, included_at, Site, element_in}
 use Rattle.handlebars_meaning.specs.State.{Setting, State}
 use Rattle.handlebars_meaning.specs.Visits.{Visit}
 use Rattle.handlebars_meaning.specs.Writing.{shown_if_any}
@@ -69,6 +69,7 @@ abbrev mutual
   tree_at u first_tree = Some u
   tree_at u (body_at site i) = element_at u site >>= body_of
   tree_at u (inverse_at site i) = element_at u site >>= inverse_of
+  tree_at u (included_at site) = None
 
   pub element_at : Tree → Site → Option Element
   element_at u (element_in at i) = nth_in (tree_at u at) i
@@ -83,6 +84,7 @@ abbrev mutual
   is_raw_tree u first_tree = false
   is_raw_tree u (body_at site i) = is_raw_site u site
   is_raw_tree u (inverse_at site i) = is_raw_site u site
+  is_raw_tree u (included_at site) = is_raw_site u site
 
   pub is_raw_site : Tree → Site → Bool
   is_raw_site u (element_in at i) = with_or (nth_in (tree_at u at) i) is_html false || is_raw_tree u at

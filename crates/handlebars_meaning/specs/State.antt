@@ -25,9 +25,9 @@ pub record Setting : Type 0 where
   pub given : Data
   pub parts : Parts
 
--- what is kept for the blocks of inclusions: the pieces of each, the newest first
+-- what is kept for the blocks of inclusions, the newest first: the pieces of each, or none for an inclusion without a block
 abbrev pub Kept : Type 0
-Kept = List (List Piece)
+Kept = List (Option (List Piece))
 
 -- What a run changes: the name of the template that is being rendered, if it has one, the blocks of scope, nearest first,
 -- the line that is written, whether escaping is on, and what is kept. Whether lookup is recursive stays as it is when the

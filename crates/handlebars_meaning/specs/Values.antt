@@ -8,7 +8,7 @@ use Rattle.handlebars_base.specs.PathAndData.{PathAndData}
 use Rattle.handlebars_base.specs.Reasons.{helper_not_found, invalid_json_path}
 use Rattle.handlebars_base.specs.Scoped.{Found, value, missing, data_in}
 use Rattle.handlebars_base.specs.Values.{rendered}
-use Rattle.handlebars_template.specs.Tree.{Element, raw_string, html_expression, expression, helper_block, decorator_expression, decorator_block, partial_expression, partial_block, comment, call, Args, args, args_params, args_pairs, Param, name, path, literal, subexpression, Params, no_params, param, Pairs, no_pairs, pair, as_name, Binding, no_body}
+use Rattle.handlebars_template.specs.Tree.{Element, expression, call, Args, args, args_params, args_pairs, Param, name, path, literal, subexpression, Params, no_params, param, Pairs, no_pairs, pair, as_name, Binding, no_body}
 use Rattle.handlebars_scope.specs.Resolve.{resolved}
 use Rattle.handlebars_scope.specs.Scopes.{Frame}
 use Rattle.handlebars_helpers.specs.CallView.{CallView, HelperView}
@@ -69,17 +69,10 @@ abbrev mutual
 
   -- An expression in parentheses is a call, also without parameters. Nothing else there has a value.
   pub HasInnerValue : Setting → State → Element → Asks Found
-  HasInnerValue p s (raw_string t) = only (gives missing)
-  HasInnerValue p s (html_expression c) = only (gives missing)
   HasInnerValue p s (expression (call n (args ps hs) b t marks)) =
       is_viewed (HasName p s n) (HaveValues p s ps) (PairsHaveValues p s hs) >>= (λ v.
       only (helped_value p.parts.strict (helper_for p.parts s false v.name) (inner_call b v)))
-  HasInnerValue p s (helper_block c) = only (gives missing)
-  HasInnerValue p s (decorator_expression t) = only (gives missing)
-  HasInnerValue p s (decorator_block t) = only (gives missing)
-  HasInnerValue p s (partial_expression t) = only (gives missing)
-  HasInnerValue p s (partial_block t) = only (gives missing)
-  HasInnerValue p s (comment t) = only (gives missing)
+  HasInnerValue p s e = only (gives missing)
 
   -- the text that a call by this parameter calls
   pub HasName : Setting → State → Param → Asks Text

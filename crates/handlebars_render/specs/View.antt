@@ -20,6 +20,7 @@ use Rattle.handlebars_base.specs.declared.json.value.path_and_json.PathAndJson.{
 use Rattle.handlebars_base.specs.declared.error.render_error.RenderErrorReason.TheVariants.{IOError}
 use Rattle.handlebars_base.specs.Values.{word}
 use Rattle.handlebars_scope.specs.LineView.{line_of}
+use Rattle.handlebars_scope.specs.Scopes.{Frame, nothing_at}
 use Rattle.handlebars_scope.specs.ScopeView.{frames_of}
 use Rattle.handlebars_base.specs.Outputs.{Held, IsWhole, IsCutOff, write_reason}
 use Rattle.handlebars_scope.specs.LineState.{LineState, line_behind}
@@ -82,11 +83,18 @@ root_of rc = option_map string_bytes rc.root_template
 abbrev pub has_failed : RenderContext → Bool
 has_failed rc = rc.failed
 
--- what no rendering changes: the first template's name, the blocks of scope, whether lookup is recursive and escaping is
--- on, and, until the run is over, whether the context has failed
+-- the block without its partials, which a decorator in a template may put there
+abbrev pub without_partial : Frame → Frame
+without_partial f = record f { partial = nothing_at }
+
+abbrev pub without_partials : List Frame → List Frame
+without_partials fs = map without_partial fs
+
+-- what no rendering changes: the first template's name, the blocks of scope but for their partials, whether lookup is
+-- recursive and escaping is on, and, until the run is over, whether the context has failed
 pub record IsKept (before after : RenderContext) : Type 0 where
   pub root : root_of after ≡ root_of before
-  pub blocks : (state_of after).blocks ≡ (state_of before).blocks
+  pub blocks : without_partials (state_of after).blocks ≡ without_partials (state_of before).blocks
   pub recursive : (state_of after).recursive ≡ (state_of before).recursive
   pub escapes : (state_of after).escapes ≡ (state_of before).escapes
   pub failed : has_failed after ≡ has_failed before
@@ -94,7 +102,7 @@ pub record IsKept (before after : RenderContext) : Type 0 where
 -- what is kept but for the nearest block
 pub record HasOuter (before after : RenderContext) : Type 0 where
   pub root : root_of after ≡ root_of before
-  pub blocks : outer (state_of after).blocks ≡ outer (state_of before).blocks
+  pub blocks : outer (without_partials (state_of after).blocks) ≡ outer (without_partials (state_of before).blocks)
   pub recursive : (state_of after).recursive ≡ (state_of before).recursive
   pub escapes : (state_of after).escapes ≡ (state_of before).escapes
   pub failed : has_failed after ≡ has_failed before
