@@ -34,7 +34,7 @@ behind-append p x y h = ap (fold behind_char p) (chars-append x y h) ∙ fold-ap
 pub pieces_in-append : (options : Options) (ps qs : List Slice) → pieces_in options (ps ++ qs) ≡ pieces_in options ps ++ pieces_in options qs
 pieces_in-append options [] qs = refl
 pieces_in-append options (text_slice p e x k n ∷ ps) qs = ap (λ (z : List SourcePiece). text_pieces options p e x k n ++ z) (pieces_in-append options ps qs) ∙ sym (append_assoc (text_pieces options p e x k n) (pieces_in options ps) (pieces_in options qs))
-pieces_in-append options (tag_slice p x t e ∷ ps) qs = ap (λ (z : List SourcePiece). tag_piece p e t ∷ z) (pieces_in-append options ps qs)
+pieces_in-append options (tag_slice p x t e ∷ ps) qs = ap (λ (z : List SourcePiece). tag_piece options p e t ∷ z) (pieces_in-append options ps qs)
 
 -- ---- a text
 
@@ -136,8 +136,8 @@ Turn-reads {source} {options} {slice} {kept} {left} {at} {fresh} {e} h t tildes 
 
 -- the pieces behind the text and the tag
 pieces_in-pair : (options : Options) (ps : List Slice) (p : Place) (e : Edge) (x k : Text) (q : Place) (spelled : Text) (t : Tag) (n : Edge)
-    → pieces_in options (ps ++ pair_of p e x k q spelled t n) ≡ (pieces_in options ps ++ text_pieces options p e x k n) ++ tag_piece q n t ∷ []
-pieces_in-pair options ps p e x k q spelled t n = pieces_in-append options ps (pair_of p e x k q spelled t n) ∙ sym (append_assoc (pieces_in options ps) (text_pieces options p e x k n) (tag_piece q n t ∷ []))
+    → pieces_in options (ps ++ pair_of p e x k q spelled t n) ≡ (pieces_in options ps ++ text_pieces options p e x k n) ++ tag_piece options q n t ∷ []
+pieces_in-pair options ps p e x k q spelled t n = pieces_in-append options ps (pair_of p e x k q spelled t n) ∙ sym (append_assoc (pieces_in options ps) (text_pieces options p e x k n) (tag_piece options q n t ∷ []))
 
 -- the state behind the text, as the code has it
 pub record Mid {source : Text} {options : Options} {slice kept left : Text} {at : Place} {fresh : Bool} {e : Edge} {late : Option NestFault} {d : ℕ} {fs : List OpenBlock} {es : List Placed}
@@ -172,14 +172,14 @@ pub record Next (n : Edge) (q : Place) (mid : Bool) (spelled rest x k y : Text) 
 pub Scans-step : {source : Text} {options : Options} {slice kept left : Text} {at : Place} {fresh : Bool} {e : Edge} {late : Option NestFault} {d : ℕ} {fs : List OpenBlock} {es : List Placed}
     → (h : Scans source options slice kept left at fresh e late d fs es) (t : Tag) (tildes : Tildes) (spelled rest : Text) (q : Place) (mid : Bool) (n : Edge) → Turn h t tildes spelled rest q mid n
     → (late' : Option NestFault) (d' : ℕ) (fs' : List OpenBlock) (es' : List Placed) → Mid h n late' d' fs' es'
-    → (late'' : Option NestFault) (d'' : ℕ) (fs'' : List OpenBlock) (es'' : List Placed) → apply syntax_alone (tag_piece q n t) d' fs' es' ≡ goes d'' fs'' es'' → late'' ≡ late_after late' (tag_piece q n t) fs'
+    → (late'' : Option NestFault) (d'' : ℕ) (fs'' : List OpenBlock) (es'' : List Placed) → apply syntax_alone (tag_piece options q n t) d' fs' es' ≡ goes d'' fs'' es'' → late'' ≡ late_after late' (tag_piece options q n t) fs'
     → (x k y : Text) (next : Place) (fresh' : Bool) → Next n q mid spelled rest x k y next fresh' → IsUtf8 slice → IsUtf8 spelled
     → Scans source options x k y next fresh' n late'' d'' fs'' es''
 Scans-step {source} {options} {slice} {kept} {left} {at} {fresh} {e} h t tildes spelled rest q mid n turn late' d' fs' es' m late'' d'' fs'' es'' moved lates x k y next fresh' after u v =
     let b : Text = h.before in
     let new : List Slice = pair_of at e slice kept q spelled t n in
-    let state : State (late_after late' (tag_piece q n t) fs') ((pieces_in options h.slices ++ text_pieces options at e slice kept n) ++ tag_piece q n t ∷ []) d'' fs'' es'' =
-    State-moves (tag_piece q n t) (Mid-state h n late' d' fs' es' m) moved in
+    let state : State (late_after late' (tag_piece options q n t) fs') ((pieces_in options h.slices ++ text_pieces options at e slice kept n) ++ tag_piece options q n t ∷ []) d'' fs'' es'' =
+    State-moves (tag_piece options q n t) (Mid-state h n late' d' fs' es' m) moved in
     record {
       before = b ++ (slice ++ spelled);
       slices = h.slices ++ new;
@@ -190,17 +190,17 @@ Scans-step {source} {options} {slice} {kept} {left} {at} {fresh} {e} h t tildes 
       there = after.there ∙ ap (λ (p : Place). behind p spelled) (behind-place h q turn.there) ∙ sym (behind-append origin (b ++ slice) spelled (IsUtf8-append b slice h.utf8 u)) ∙ ap place (append_assoc b slice spelled);
       lines = after.lines ∙ ap (λ (z : Bool). fold is_fresh_behind z spelled) (fresh-place h mid turn.lines) ∙ sym (fold-append is_fresh_behind true (b ++ slice) spelled) ∙ ap is_fresh (append_assoc b slice spelled);
       state = subst (λ (z : List SourcePiece). State late'' z d'' fs'' es'') (sym (pieces_in-pair options h.slices at e slice kept q spelled t n))
-          (subst (λ (z : Option NestFault). State z ((pieces_in options h.slices ++ text_pieces options at e slice kept n) ++ tag_piece q n t ∷ []) d'' fs'' es'') (sym lates) state);
+          (subst (λ (z : Option NestFault). State z ((pieces_in options h.slices ++ text_pieces options at e slice kept n) ++ tag_piece options q n t ∷ []) d'' fs'' es'') (sym lates) state);
     }
 
 -- the tag may not stand there
 pub Compiles-misplaced : {source : Text} {options : Options} {slice kept left : Text} {at : Place} {fresh : Bool} {e : Edge} {late : Option NestFault} {d : ℕ} {fs : List OpenBlock} {es : List Placed}
     → (h : Scans source options slice kept left at fresh e late d fs es) (t : Tag) (tildes : Tildes) (spelled rest : Text) (q : Place) (mid : Bool) (n : Edge) → Turn h t tildes spelled rest q mid n
     → (late' : Option NestFault) (d' : ℕ) (fs' : List OpenBlock) (es' : List Placed) → Mid h n late' d' fs' es'
-    → (f : NestFault) → apply syntax_alone (tag_piece q n t) d' fs' es' ≡ stops f → Compiles source options (refused (refusal_for options f))
+    → (f : NestFault) → apply syntax_alone (tag_piece options q n t) d' fs' es' ≡ stops f → Compiles source options (refused (refusal_for options f))
 Compiles-misplaced {source} {options} {slice} {kept} {left} {at} {fresh} {e} h t tildes spelled rest q mid n turn late' d' fs' es' m f stopped =
     misplaced (Turn-reads h t tildes spelled rest q mid n turn)
-    (subst (λ (z : List SourcePiece). Refuses syntax_alone z f) (sym (pieces_in-pair options h.slices at e slice kept q spelled t n)) (State-stops (tag_piece q n t) [] (Mid-state h n late' d' fs' es' m) stopped))
+    (subst (λ (z : List SourcePiece). Refuses syntax_alone z f) (sym (pieces_in-pair options h.slices at e slice kept q spelled t n)) (State-stops (tag_piece options q n t) [] (Mid-state h n late' d' fs' es' m) stopped))
 
 -- ---- braces with which no tag begins
 
