@@ -19,9 +19,7 @@ pub data BlockKind : Type 0 where
 -- whether chained inverses and an inverse may stand in it; in a raw block only its end may stand
 abbrev pub admits_inverse : BlockKind → Bool
 admits_inverse helper_opening = true
-admits_inverse raw_opening = false
-admits_inverse decorator_opening = false
-admits_inverse partial_opening = false
+admits_inverse k = false
 
 -- whether a close without a name ends it
 abbrev pub admits_no_name : BlockKind → Bool
@@ -32,10 +30,8 @@ admits_no_name partial_opening = true
 
 -- whether a close is of its kind: of a raw block or of another
 abbrev pub has_close : BlockKind → Bool → Bool
-has_close helper_opening raw = not raw
 has_close raw_opening raw = raw
-has_close decorator_opening raw = not raw
-has_close partial_opening raw = not raw
+has_close k raw = not raw
 
 abbrev pub is_nameless : Text → Bool
 is_nameless m = length m == 0
@@ -241,9 +237,8 @@ pub data Opens (t : Test) : ℕ → List SourcePiece → List OpenBlock → List
 -- ---- refusals
 
 abbrev pub is_in_inverse : Stage → Bool
-is_in_inverse in_first = false
-is_in_inverse (in_branch o) = false
 is_in_inverse in_inverse = true
+is_in_inverse s = false
 
 -- whether an inverse, chained or not, may stand next in an open block
 abbrev pub takes_inverse : OpenBlock → Bool
