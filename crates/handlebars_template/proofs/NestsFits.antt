@@ -9,7 +9,7 @@ use Rattle.handlebars_template.specs.Place.{Place}
 use Rattle.handlebars_template.specs.Tree.{Element}
 use Rattle.handlebars_template.specs.Calls.{max_nesting}
 use Rattle.handlebars_template.specs.Nest.{BlockKind, Opening, SourcePiece, leaf, opens, inverts, chains, closes, place_in, refused_in, may_end, NestFault, unexpected, too_deep, mismatched, no_value, Placed, Test, syntax_alone, names_and_literals, may_close, has_values, OpenBlock, takes_inverse, may_stand_in, cost, RefusesAt, out_of_place, past_limit, without_value, other_name}
-use Rattle.handlebars_template.specs.Machine.{Moved, stops, behind_piece, syntax_fault_by, early_in, literal_fault, name_fault, name_fault_in, late_in, tried, fault_in, unless_fault, moved_by, apply}
+use Rattle.handlebars_template.specs.Machine.{BlockSoFar, open_in, Moved, stops, behind_piece, syntax_fault_by, early_in, literal_fault, name_fault, name_fault_in, late_in, tried, fault_in, unless_fault, moved_by, apply}
 
 -- ---- how deep
 
@@ -123,21 +123,21 @@ none-fault_in t d fs x h =
     ∙ ap (λ (b : Bool). fault_by b (is_too_deep d x) (place_in x) (tried t (late_in fs x))) h.stands
     ∙ ap (λ (b : Bool). fault_by true b (place_in x) (tried t (late_in fs x))) h.shallow ∙ h.fair
 
-pub apply-moved_by : (t : Test) (x : SourcePiece) (d : ℕ) (fs : List OpenBlock) (es : List Placed) → apply t x d fs es ≡ moved_by t x d fs es
+pub apply-moved_by : (t : Test) (x : SourcePiece) (d : ℕ) (fs : List BlockSoFar) (es : List Placed) → apply t x d fs es ≡ moved_by t x d fs es
 apply-moved_by t (leaf p e n r) d fs es = refl
 apply-moved_by t (opens p o n r) d fs es = refl
 apply-moved_by t (inverts p) d fs es = refl
 apply-moved_by t (chains p o n r) d fs es = refl
 apply-moved_by t (closes p raw m) d fs es = refl
 
-pub apply-fits : (t : Test) (x : SourcePiece) (d : ℕ) (fs : List OpenBlock) (es : List Placed) → Fits t d fs x → apply t x d fs es ≡ behind_piece x d fs es
-apply-fits t x d fs es h = apply-moved_by t x d fs es ∙ ap (λ (f : Option NestFault). unless_fault f (behind_piece x d fs es)) (none-fault_in t d fs x h)
+pub apply-fits : (t : Test) (x : SourcePiece) (d : ℕ) (fs : List BlockSoFar) (es : List Placed) → Fits t d (open_in fs) x → apply t x d fs es ≡ behind_piece x d fs es
+apply-fits t x d fs es h = apply-moved_by t x d fs es ∙ ap (λ (f : Option NestFault). unless_fault f (behind_piece x d fs es)) (none-fault_in t d (open_in fs) x h)
 
 -- by the syntax alone
-pub apply-early : (x : SourcePiece) (d : ℕ) (fs : List OpenBlock) (es : List Placed) (m : Moved) → early_in d fs x ≡ None → behind_piece x d fs es ≡ m → apply syntax_alone x d fs es ≡ m
+pub apply-early : (x : SourcePiece) (d : ℕ) (fs : List BlockSoFar) (es : List Placed) (m : Moved) → early_in d (open_in fs) x ≡ None → behind_piece x d fs es ≡ m → apply syntax_alone x d fs es ≡ m
 apply-early x d fs es m is moves = apply-moved_by syntax_alone x d fs es ∙ ap (λ (f : Option NestFault). unless_fault (option_or f None) (behind_piece x d fs es)) is ∙ moves
 
-pub apply-stops : (x : SourcePiece) (d : ℕ) (fs : List OpenBlock) (es : List Placed) (f : NestFault) → early_in d fs x ≡ Some f → apply syntax_alone x d fs es ≡ stops f
+pub apply-stops : (x : SourcePiece) (d : ℕ) (fs : List BlockSoFar) (es : List Placed) (f : NestFault) → early_in d (open_in fs) x ≡ Some f → apply syntax_alone x d fs es ≡ stops f
 apply-stops x d fs es f is = apply-moved_by syntax_alone x d fs es ∙ ap (λ (f : Option NestFault). unless_fault (option_or f None) (behind_piece x d fs es)) is
 
 pub early-shallow : (x : SourcePiece) (d : ℕ) (fs : List OpenBlock) → early_in d fs x ≡ None → is_too_deep d x ≡ false

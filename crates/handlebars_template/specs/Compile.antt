@@ -107,8 +107,7 @@ pub record IsUnreadable (source : Text) (options : Options) (at : Place) : Type 
   pub begins : Reads source options before edge slices
   pub depth : ℕ
   pub open_blocks : List OpenBlock
-  pub elements : List Placed
-  pub nests : Opens syntax_alone depth (pieces_in options slices) open_blocks elements
+  pub nests : Opens syntax_alone depth (pieces_in options slices) open_blocks
   pub text : Text
   pub kept : Text
   pub left : Text

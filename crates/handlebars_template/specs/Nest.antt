@@ -172,77 +172,36 @@ mutual
 
 -- ---- blocks that are open
 
--- an open block stands in its first body, in a chained inverse, or in its inverse
-pub data Stage : Type 0 where
-  in_first : Stage
-  in_branch : Opening → Stage
-  in_inverse : Stage
-
--- an open block: its place, what its tag says, how much was open around it, its first body and its whole chained
--- inverses, the stage, and the elements that stood before it
+-- an open block: its place, what its tag says, and whether it stands in its inverse
 pub record OpenBlock : Type 0 where
   pub place : Place
   pub opening : Opening
-  pub around : ℕ
-  pub first : List Placed
-  pub branches : List Branch
-  pub stage : Stage
-  pub outside : List Placed
+  pub inverted : Bool
 
--- BeginsBlock t f qs d es: the pieces qs begin the block f and leave it open, with d open then, behind the elements es.
-pub data BeginsBlock (t : Test) : OpenBlock → List SourcePiece → ℕ → List Placed → Type 0 where
-  in_its_body : {o : ℕ} {bs : List SourcePiece} {es out : List Placed} (p : Place) (x : Opening) (n : ℕ) (r : Option Text)
-      → o + suc n ≤ max_nesting → has_values t r ≡ true → Nests t (suc o) bs es
-      → BeginsBlock t
-      (record { place = p; opening = x; around = o; first = []; branches = []; stage = in_first; outside = out })
-      (opens p x n r ∷ bs) (suc o) es
-  in_a_branch : {o d : ℕ} {bs cs gs : List SourcePiece} {first es out : List Placed} {branches : List Branch}
-      (p q : Place) (x g : Opening) (n k : ℕ) (r u : Option Text)
+-- BeginsBlock t o f qs d: with o open around it, the pieces qs begin the block f and leave it open, with d open then.
+pub data BeginsBlock (t : Test) : ℕ → OpenBlock → List SourcePiece → ℕ → Type 0 where
+  in_a_body : {o d : ℕ} {bs cs : List SourcePiece} {first : List Placed} {branches : List Branch}
+      (p : Place) (x : Opening) (n : ℕ) (r : Option Text)
       → o + suc n ≤ max_nesting → has_values t r ≡ true → Nests t (suc o) bs first → Chains t x.kind (suc o) cs branches d
-      → admits_inverse x.kind ≡ true → d + suc k ≤ max_nesting → has_values t u ≡ true → Nests t (suc d) gs es
-      → BeginsBlock t
-      (record {
-        place = p;
-        opening = x;
-        around = o;
-        first = first;
-        branches = branches;
-        stage = in_branch g;
-        outside = out;
-      })
-      (opens p x n r ∷ (bs ++ (cs ++ (chains q g k u ∷ gs)))) (suc d) es
-  in_its_inverse : {o d : ℕ} {bs cs gs : List SourcePiece} {first es out : List Placed} {branches : List Branch}
+      → BeginsBlock t o (record { place = p; opening = x; inverted = false }) (opens p x n r ∷ (bs ++ cs)) d
+  in_its_inverse : {o d : ℕ} {bs cs gs : List SourcePiece} {first es : List Placed} {branches : List Branch}
       (p q : Place) (x : Opening) (n : ℕ) (r : Option Text)
       → o + suc n ≤ max_nesting → has_values t r ≡ true → Nests t (suc o) bs first → Chains t x.kind (suc o) cs branches d
       → admits_inverse x.kind ≡ true → Nests t d gs es
-      → BeginsBlock t
-      (record {
-        place = p;
-        opening = x;
-        around = o;
-        first = first;
-        branches = branches;
-        stage = in_inverse;
-        outside = out;
-      })
-      (opens p x n r ∷ (bs ++ (cs ++ (inverts q ∷ gs)))) d es
+      → BeginsBlock t o (record { place = p; opening = x; inverted = true })
+      (opens p x n r ∷ (bs ++ (cs ++ (inverts q ∷ gs)))) d
 
--- Opens t d ps fs es: the pieces ps leave the blocks fs open, the innermost first, with d open then, and the elements es
--- stand in the innermost.
-pub data Opens (t : Test) : ℕ → List SourcePiece → List OpenBlock → List Placed → Type 0 where
-  none_open : {ps : List SourcePiece} {es : List Placed} → Nests t 0 ps es → Opens t 0 ps [] es
-  one_more : {d : ℕ} {f : OpenBlock} {ps qs : List SourcePiece} {fs : List OpenBlock} {es : List Placed}
-      → Opens t f.around ps fs f.outside → BeginsBlock t f qs d es → Opens t d (ps ++ qs) (f ∷ fs) es
+-- Opens t d ps fs: the pieces ps leave the blocks fs open, the innermost first, with d open then.
+pub data Opens (t : Test) : ℕ → List SourcePiece → List OpenBlock → Type 0 where
+  none_open : {ps : List SourcePiece} {es : List Placed} → Nests t 0 ps es → Opens t 0 ps []
+  one_more : {o d : ℕ} {f : OpenBlock} {ps qs : List SourcePiece} {fs : List OpenBlock}
+      → Opens t o ps fs → BeginsBlock t o f qs d → Opens t d (ps ++ qs) (f ∷ fs)
 
 -- ---- refusals
 
-abbrev pub is_in_inverse : Stage → Bool
-is_in_inverse in_inverse = true
-is_in_inverse s = false
-
 -- whether an inverse, chained or not, may stand next in an open block
 abbrev pub takes_inverse : OpenBlock → Bool
-takes_inverse f = not (is_in_inverse f.stage) && admits_inverse f.opening.kind
+takes_inverse f = not f.inverted && admits_inverse f.opening.kind
 
 -- whether a piece may stand next where these blocks are open
 abbrev pub may_stand_in : List OpenBlock → SourcePiece → Bool
@@ -277,10 +236,10 @@ pub data RefusesAt (t : Test) (d : ℕ) : List OpenBlock → SourcePiece → Nes
 
 -- the first piece that can't stand where it stands
 pub data Refuses (t : Test) : List SourcePiece → NestFault → Type 0 where
-  refuses_at : {d : ℕ} {ps : List SourcePiece} {fs : List OpenBlock} {es : List Placed} {x : SourcePiece} {f : NestFault} (rest : List SourcePiece)
-      → Opens t d ps fs es → RefusesAt t d fs x f → Refuses t (ps ++ x ∷ rest) f
+  refuses_at : {d : ℕ} {ps : List SourcePiece} {fs : List OpenBlock} {x : SourcePiece} {f : NestFault} (rest : List SourcePiece)
+      → Opens t d ps fs → RefusesAt t d fs x f → Refuses t (ps ++ x ∷ rest) f
 
 -- at the end the innermost block is still open
 pub data LeavesOpen (t : Test) : List SourcePiece → NestFault → Type 0 where
-  left_open : {d : ℕ} {f : OpenBlock} {ps : List SourcePiece} {fs : List OpenBlock} {es : List Placed}
-      → Opens t d ps (f ∷ fs) es → LeavesOpen t ps (not_closed f.place)
+  left_open : {d : ℕ} {f : OpenBlock} {ps : List SourcePiece} {fs : List OpenBlock}
+      → Opens t d ps (f ∷ fs) → LeavesOpen t ps (not_closed f.place)

@@ -9,7 +9,7 @@ use Rattle.handlebars_tags.proofs.OneTag.{one_tag}
 use Rattle.handlebars_template.specs.Place.{behind}
 use Rattle.handlebars_template.specs.OptionsView.{options_view}
 use Rattle.handlebars_template.specs.TreeView.{place_of}
-use Rattle.handlebars_template.specs.Machine.{early_in}
+use Rattle.handlebars_template.specs.Machine.{open_in, early_in}
 use Rattle.handlebars_template.specs.Compile.{tag_piece}
 use Rattle.handlebars_template.specs.NestView.{placed_view, open_blocks, late_of, syntax_fault, end_view}
 use Rattle.handlebars_template.proofs.NestsFits.{apply-early, apply-stops}
@@ -97,7 +97,7 @@ tags-preserved c =
     let state = c.add_text.new.nesting in
     let last = c.take_tag.new.nesting in
     let rest_utf8 : IsUtf8 rest = search rules in
-    let early : early_in state.depth (open_blocks state) (tag_piece (options_view c.args.options.now) at next f.tag) ≡ None = sym (rw c.in_default-look.is at (c.look.ensures (options_view c.args.options.now) at next f.tag f.holds f.deep)) in
+    let early : early_in state.depth (open_in (open_blocks state)) (tag_piece (options_view c.args.options.now) at next f.tag) ≡ None = sym (rw c.in_default-look.is at (c.look.ensures (options_view c.args.options.now) at next f.tag f.holds f.deep)) in
     let done = c.in_ok-take_tag.ensures f.tag f.holds early in
     let same : c.split_at.result.0.now ≡ f.slice = c.split_at.ensures.front ∙ take-front left f.slice rest f.whole in
     record {
