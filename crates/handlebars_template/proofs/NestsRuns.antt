@@ -5,7 +5,7 @@ use Rattle.handlebars_base.specs.Bytes.{Text}
 use Rattle.handlebars_template.specs.Place.{Place}
 use Rattle.handlebars_template.specs.Tree.{Element, Body}
 use Rattle.handlebars_template.specs.Calls.{max_nesting}
-use Rattle.handlebars_template.specs.Nest.{may_end, Opening, SourcePiece, leaf, opens, inverts, chains, closes, NestFault, Placed, Branch, block_of, Test, may_close, has_values, Nests, nothing, a_leaf, a_block, Chains, no_more, a_branch, Inverts, no_inverse, an_inverse, OpenBlock, takes_inverse, BeginsBlock, in_a_body, in_its_inverse, Opens, none_open, one_more, Refuses, refuses_at}
+use Rattle.handlebars_template.specs.Nest.{may_end, Opening, SourcePiece, leaf, opens, inverts, chains, closes, NestFault, Placed, Branch, block_of, Tried, may_close, has_values, Nests, nothing, a_leaf, a_block, Chains, no_more, a_branch, Inverts, no_inverse, an_inverse, OpenBlock, takes_inverse, BeginsBlock, in_a_body, in_its_inverse, Opens, none_open, one_more, Refuses, refuses_at}
 use Rattle.handlebars_template.specs.Machine.{Stage, in_first, in_branch, in_inverse, BlockSoFar, without_elements, open_in, closed, next_stage, new_open_block, Moved, goes, stops, behind_piece, fault_in, unless_fault, apply}
 use Rattle.handlebars_template.proofs.NestsFits.{apply-moved_by, Fits, apply-fits, Fits-leaf, Fits-opens, Fits-inverts, Fits-chains, Fits-closes, RefusesAt-fault}
 use Rattle.handlebars_template.proofs.NestsSteps.{Opens-shallow}
@@ -14,7 +14,7 @@ abbrev go_on : Moved → (ℕ → List BlockSoFar → List Placed → Moved) →
 go_on (goes d fs es) k = k d fs es
 go_on (stops f) k = stops f
 
-abbrev pub run : Test → List SourcePiece → ℕ → List BlockSoFar → List Placed → Moved
+abbrev pub run : Tried → List SourcePiece → ℕ → List BlockSoFar → List Placed → Moved
 run t [] d fs es = goes d fs es
 run t (x ∷ xs) d fs es = go_on (apply t x d fs es) (run t xs)
 
@@ -27,7 +27,7 @@ branch g es = record { opening = g; elements = es }
 
 -- ---- one piece
 
-module _ (t : Test) (xs : List SourcePiece) where
+module _ (t : Tried) (xs : List SourcePiece) where
   along : (ys : List SourcePiece) (d : ℕ) (fs : List BlockSoFar) (es : List Placed) → xs ≡ ys → run t xs d fs es ≡ run t ys d fs es
   along ys d fs es is = ap (λ (x : List SourcePiece). run t x d fs es) is
 
@@ -60,16 +60,16 @@ module _ (t : Test) (xs : List SourcePiece) where
 -- ---- behind a chain
 
 -- the machine with rest to go, after the chained inverses more and then all of a chain
-abbrev after_more : Test → List SourcePiece → ℕ → Place → Opening → ℕ → List Placed → List BlockSoFar → List Placed → List Branch → Opening → List Placed → List Branch → Moved
+abbrev after_more : Tried → List SourcePiece → ℕ → Place → Opening → ℕ → List Placed → List BlockSoFar → List Placed → List Branch → Opening → List Placed → List Branch → Moved
 after_more t rest e p o d out fs first before g xs [] = run t rest e (open_block p o d first before (in_branch g) out ∷ fs) xs
 after_more t rest e p o d out fs first before g xs (b ∷ more) = after_more t rest e p o d out fs first (before ++ (branch g xs ∷ [])) b.opening b.elements more
 
-abbrev after_chain : Test → List SourcePiece → ℕ → Place → Opening → ℕ → List Placed → List BlockSoFar → List Placed → List Branch → Moved
+abbrev after_chain : Tried → List SourcePiece → ℕ → Place → Opening → ℕ → List Placed → List BlockSoFar → List Placed → List Branch → Moved
 after_chain t rest e p o d out fs first [] = run t rest e (open_block p o d [] [] in_first out ∷ fs) first
 after_chain t rest e p o d out fs first (b ∷ more) = after_more t rest e p o d out fs first [] b.opening b.elements more
 
 -- what holds at each stage holds after any chain
-module _ (t : Test) (rest : List SourcePiece) (e : ℕ) (p : Place) (o : Opening) (d : ℕ) (out : List Placed) (fs : List BlockSoFar) (first : List Placed) (goal : List Branch → Moved)
+module _ (t : Tried) (rest : List SourcePiece) (e : ℕ) (p : Place) (o : Opening) (d : ℕ) (out : List Placed) (fs : List BlockSoFar) (first : List Placed) (goal : List Branch → Moved)
     (each : (before : List Branch) (g : Opening) (xs : List Placed) → run t rest e (open_block p o d first before (in_branch g) out ∷ fs) xs ≡ goal (before ++ (branch g xs ∷ []))) where
   at_more : (before : List Branch) (g : Opening) (xs : List Placed) (more : List Branch) → after_more t rest e p o d out fs first before g xs more ≡ goal (before ++ (branch g xs ∷ more))
   at_more before g xs [] = each before g xs
@@ -79,11 +79,11 @@ module _ (t : Test) (rest : List SourcePiece) (e : ℕ) (p : Place) (o : Opening
   at_chain none [] = none
   at_chain none (b ∷ more) = at_more [] b.opening b.elements more
 
-abbrev whole : Test → List SourcePiece → Place → Opening → ℕ → List Placed → List BlockSoFar → List Placed → Body → List Branch → Moved
+abbrev whole : Tried → List SourcePiece → Place → Opening → ℕ → List Placed → List BlockSoFar → List Placed → Body → List Branch → Moved
 whole t rest p o d out fs first last bs = run t rest d fs (out ++ (record { place = p; element = block_of o first bs last } ∷ []))
 
 mutual
-  pub Nests-run : {t : Test} {d : ℕ} {ps : List SourcePiece} {es : List Placed} → Nests t d ps es → (rest : List SourcePiece) (fs : List BlockSoFar) (out : List Placed)
+  pub Nests-run : {t : Tried} {d : ℕ} {ps : List SourcePiece} {es : List Placed} → Nests t d ps es → (rest : List SourcePiece) (fs : List BlockSoFar) (out : List Placed)
       → run t (ps ++ rest) d fs out ≡ run t rest d fs (out ++ es)
   Nests-run {t} {d} nothing rest fs out = ap (run t rest d fs) (sym (append-nil out))
   Nests-run {t} {d} (a_leaf {ps = ps} {es = es} p e n r fits fair h) rest fs out =
@@ -99,7 +99,7 @@ mutual
       ∙ Nests-run h rest fs (out ++ (record { place = p; element = block_of o first brs last } ∷ []))
       ∙ ap (run t rest d fs) (append_assoc out (record { place = p; element = block_of o first brs last } ∷ []) es)
 
-  Chains-run : {t : Test} {c e : ℕ} {cs : List SourcePiece} {brs : List Branch} (o : Opening) → Chains t o.kind c cs brs e → (rest : List SourcePiece) (p : Place) (d : ℕ) (out : List Placed) (fs : List BlockSoFar) (first : List Placed)
+  Chains-run : {t : Tried} {c e : ℕ} {cs : List SourcePiece} {brs : List Branch} (o : Opening) → Chains t o.kind c cs brs e → (rest : List SourcePiece) (p : Place) (d : ℕ) (out : List Placed) (fs : List BlockSoFar) (first : List Placed)
       → run t (cs ++ rest) c (open_block p o d [] [] in_first out ∷ fs) first ≡ after_chain t rest e p o d out fs first brs
   Chains-run o no_more rest p d out fs first = refl
   Chains-run {t} {c} o (a_branch {bs = bs} {cs = cs} {es = xs} q g n r may fits fair nb ch) rest p d out fs first =
@@ -108,7 +108,7 @@ mutual
       ∙ Nests-run nb (cs ++ rest) (open_block p o d first [] (in_branch g) out ∷ fs) []
       ∙ Chains-run-more o ch rest p d out fs first [] g xs
 
-  Chains-run-more : {t : Test} {c e : ℕ} {cs : List SourcePiece} {more : List Branch} (o : Opening) → Chains t o.kind c cs more e → (rest : List SourcePiece) (p : Place) (d : ℕ) (out : List Placed) (fs : List BlockSoFar) (first : List Placed) (before : List Branch) (g : Opening) (es : List Placed)
+  Chains-run-more : {t : Tried} {c e : ℕ} {cs : List SourcePiece} {more : List Branch} (o : Opening) → Chains t o.kind c cs more e → (rest : List SourcePiece) (p : Place) (d : ℕ) (out : List Placed) (fs : List BlockSoFar) (first : List Placed) (before : List Branch) (g : Opening) (es : List Placed)
       → run t (cs ++ rest) c (open_block p o d first before (in_branch g) out ∷ fs) es ≡ after_more t rest e p o d out fs first before g es more
   Chains-run-more o no_more rest p d out fs first before g es = refl
   Chains-run-more {t} {c} o (a_branch {bs = bs} {cs = cs} {es = xs} q k n r may fits fair nb ch) rest p d out fs first before g es =
@@ -117,7 +117,7 @@ mutual
       ∙ Nests-run nb (cs ++ rest) (open_block p o d first (before ++ (branch g es ∷ [])) (in_branch k) out ∷ fs) []
       ∙ Chains-run-more o ch rest p d out fs first (before ++ (branch g es ∷ [])) k xs
 
-  Inverts-run-first : {t : Test} {e : ℕ} {ls : List SourcePiece} {last : Body} (o : Opening) → Inverts t o.kind e ls last → (raw : Bool) (m : Text) (q p : Place) → may_end o.kind raw m ≡ true → may_close t o.closing m ≡ true
+  Inverts-run-first : {t : Tried} {e : ℕ} {ls : List SourcePiece} {last : Body} (o : Opening) → Inverts t o.kind e ls last → (raw : Bool) (m : Text) (q p : Place) → may_end o.kind raw m ≡ true → may_close t o.closing m ≡ true
       → (d : ℕ) (out : List Placed) (fs : List BlockSoFar) (first : List Placed) (rest : List SourcePiece)
       → run t (ls ++ (closes q raw m ∷ rest)) e (open_block p o d [] [] in_first out ∷ fs) first ≡ whole t rest p o d out fs first last []
   Inverts-run-first {t} {e} o no_inverse raw m q p ends named d out fs first rest = run-closes t rest q raw m e (open_block p o d [] [] in_first out) fs first ends named
@@ -125,7 +125,7 @@ mutual
       run-inverts t (bs ++ (closes q raw m ∷ rest)) r e (open_block p o d [] [] in_first out) fs first may
       ∙ Nests-run nb (closes q raw m ∷ rest) (open_block p o d first [] in_inverse out ∷ fs) [] ∙ run-closes t rest q raw m e (open_block p o d first [] in_inverse out) fs es ends named
 
-  Inverts-run-branch : {t : Test} {e : ℕ} {ls : List SourcePiece} {last : Body} (o : Opening) → Inverts t o.kind e ls last → (raw : Bool) (m : Text) (q p : Place) → may_end o.kind raw m ≡ true → may_close t o.closing m ≡ true
+  Inverts-run-branch : {t : Tried} {e : ℕ} {ls : List SourcePiece} {last : Body} (o : Opening) → Inverts t o.kind e ls last → (raw : Bool) (m : Text) (q p : Place) → may_end o.kind raw m ≡ true → may_close t o.closing m ≡ true
       → (d : ℕ) (out : List Placed) (fs : List BlockSoFar) (first : List Placed) (before : List Branch) (g : Opening) (es : List Placed) (rest : List SourcePiece)
       → run t (ls ++ (closes q raw m ∷ rest)) e (open_block p o d first before (in_branch g) out ∷ fs) es ≡ whole t rest p o d out fs first last (before ++ (branch g es ∷ []))
   Inverts-run-branch {t} {e} o no_inverse raw m q p ends named d out fs first before g es rest = run-closes t rest q raw m e (open_block p o d first before (in_branch g) out) fs es ends named
@@ -137,11 +137,11 @@ mutual
 -- ---- a block that is open
 
 -- where a block stands behind its first body and its chained inverses
-record Stands (p : Place) (o : Opening) (fs : List BlockSoFar) (goal : Test → List SourcePiece → ℕ → Moved) : Type 0 where
+record Stands (p : Place) (o : Opening) (fs : List BlockSoFar) (goal : Tried → List SourcePiece → ℕ → Moved) : Type 0 where
   pub block : BlockSoFar
   pub elements : List Placed
   pub shows : without_elements block ≡ record { place = p; opening = o; inverted = false }
-  pub is : (t : Test) (rest : List SourcePiece) (e : ℕ) → goal t rest e ≡ run t rest e (block ∷ fs) elements
+  pub is : (t : Tried) (rest : List SourcePiece) (e : ℕ) → goal t rest e ≡ run t rest e (block ∷ fs) elements
 
 more-stands : (p : Place) (o : Opening) (d : ℕ) (out : List Placed) (fs : List BlockSoFar) (first : List Placed) (before : List Branch) (g : Opening) (xs : List Placed) (more : List Branch)
     → Stands p o fs (λ t rest e. after_more t rest e p o d out fs first before g xs more)
@@ -158,13 +158,13 @@ chain-stands p o d out fs first [] = record { block = open_block p o d [] [] in_
 chain-stands p o d out fs first (b ∷ more) = more-stands p o d out fs first [] b.opening b.elements more
 
 -- the block with its elements so far
-record BlockRuns (t : Test) (o : ℕ) (g : OpenBlock) (qs : List SourcePiece) (d : ℕ) (fs : List BlockSoFar) (out : List Placed) : Type 0 where
+record BlockRuns (t : Tried) (o : ℕ) (g : OpenBlock) (qs : List SourcePiece) (d : ℕ) (fs : List BlockSoFar) (out : List Placed) : Type 0 where
   pub block : BlockSoFar
   pub elements : List Placed
   pub shows : without_elements block ≡ g
   pub runs : (rest : List SourcePiece) → run t (qs ++ rest) o fs out ≡ run t rest d (block ∷ fs) elements
 
-BeginsBlock-runs : {t : Test} {o : ℕ} {g : OpenBlock} {qs : List SourcePiece} {d : ℕ} → BeginsBlock t o g qs d → (fs : List BlockSoFar) (out : List Placed) → BlockRuns t o g qs d fs out
+BeginsBlock-runs : {t : Tried} {o : ℕ} {g : OpenBlock} {qs : List SourcePiece} {d : ℕ} → BeginsBlock t o g qs d → (fs : List BlockSoFar) (out : List Placed) → BlockRuns t o g qs d fs out
 BeginsBlock-runs {t} {o} {d = d} (in_a_body {bs = bs} {cs = cs} {first = first} {branches = brs} p x n r fits fair nb ch) fs out =
     let s = chain-stands p x o out fs first brs in
     record {
@@ -189,13 +189,13 @@ BeginsBlock-runs {t} (in_its_inverse {o = o} {d = c} {bs = bs} {cs = cs} {gs = g
 }
 
 -- the machine goes along the pieces, and has these blocks open then
-pub record Goes (t : Test) (d : ℕ) (ps : List SourcePiece) (gs : List OpenBlock) : Type 0 where
+pub record Goes (t : Tried) (d : ℕ) (ps : List SourcePiece) (gs : List OpenBlock) : Type 0 where
   pub blocks : List BlockSoFar
   pub elements : List Placed
   pub shows : open_in blocks ≡ gs
   pub runs : (rest : List SourcePiece) → run t (ps ++ rest) 0 [] [] ≡ run t rest d blocks elements
 
-pub Opens-goes : {t : Test} {d : ℕ} {ps : List SourcePiece} {gs : List OpenBlock} → Opens t d ps gs → Goes t d ps gs
+pub Opens-goes : {t : Tried} {d : ℕ} {ps : List SourcePiece} {gs : List OpenBlock} → Opens t d ps gs → Goes t d ps gs
 Opens-goes (none_open {es = es} h) = record { blocks = []; elements = es; shows = refl; runs = λ rest. Nests-run h rest [] [] }
 Opens-goes {t} (one_more {f = g} {ps = ps} {qs = qs} {fs = gs} o i) =
     let h = Opens-goes o in
@@ -207,12 +207,12 @@ Opens-goes {t} (one_more {f = g} {ps = ps} {qs = qs} {fs = gs} o i) =
       runs = λ rest. along t ((ps ++ qs) ++ rest) (ps ++ (qs ++ rest)) 0 [] [] (append_assoc ps qs rest) ∙ h.runs (qs ++ rest) ∙ b.runs rest;
     }
 
-pub Goes-run : {t : Test} {d : ℕ} {ps : List SourcePiece} {gs : List OpenBlock} → (h : Goes t d ps gs) → run t ps 0 [] [] ≡ goes d h.blocks h.elements
+pub Goes-run : {t : Tried} {d : ℕ} {ps : List SourcePiece} {gs : List OpenBlock} → (h : Goes t d ps gs) → run t ps 0 [] [] ≡ goes d h.blocks h.elements
 Goes-run {t} {ps = ps} h = along t ps (ps ++ []) 0 [] [] (sym (append-nil ps)) ∙ h.runs []
 
 -- ---- refusals
 
-pub Refuses-run : {t : Test} {ps : List SourcePiece} {f : NestFault} → Refuses t ps f → run t ps 0 [] [] ≡ stops f
+pub Refuses-run : {t : Tried} {ps : List SourcePiece} {f : NestFault} → Refuses t ps f → run t ps 0 [] [] ≡ stops f
 Refuses-run {t} {f = f} (refuses_at {d = d} {fs = gs} {x = x} rest o bad) =
     let h = Opens-goes o in
     let fs = h.blocks in

@@ -98,7 +98,7 @@ Reads-along : (source : Text) (options : Options) (before x k spelled : Text) (s
 Reads-along source options before x k spelled slices t at p q there e n m a b c h = rw (a, b, c) h
 
 -- where the code stands behind the text, what the text before it ends with, and what the tag does to it
-pub record Turn {source : Text} {options : Options} {slice kept left : Text} {at : Place} {fresh : Bool} {e : Edge} {late : Option NestFault} {d : ℕ} {fs : List BlockSoFar} {es : List Placed}
+pub record TagStands {source : Text} {options : Options} {slice kept left : Text} {at : Place} {fresh : Bool} {e : Edge} {late : Option NestFault} {d : ℕ} {fs : List BlockSoFar} {es : List Placed}
     (h : Scans source options slice kept left at fresh e late d fs es) (t : Tag) (tildes : Tildes) (spelled rest : Text) (q : Place) (mid : Bool) (n : Edge) : Type 0 where
   pub here : TagHere left e t tildes spelled rest
   pub there : q ≡ behind at slice
@@ -113,10 +113,10 @@ fresh-place : {source : Text} {options : Options} {slice kept left : Text} {at :
     → (h : Scans source options slice kept left at fresh e late d fs es) (mid : Bool) → mid ≡ fold is_fresh_behind fresh slice → mid ≡ is_fresh (h.before ++ slice)
 fresh-place {slice = slice} h mid is = is ∙ ap (λ (b : Bool). fold is_fresh_behind b slice) h.lines ∙ sym (fold-append is_fresh_behind true h.before slice)
 
-Turn-reads : {source : Text} {options : Options} {slice kept left : Text} {at : Place} {fresh : Bool} {e : Edge} {late : Option NestFault} {d : ℕ} {fs : List BlockSoFar} {es : List Placed}
+TagStands-reads : {source : Text} {options : Options} {slice kept left : Text} {at : Place} {fresh : Bool} {e : Edge} {late : Option NestFault} {d : ℕ} {fs : List BlockSoFar} {es : List Placed}
     → (h : Scans source options slice kept left at fresh e late d fs es) (t : Tag) (tildes : Tildes) (spelled rest : Text) (q : Place) (mid : Bool) (n : Edge)
-    → Turn h t tildes spelled rest q mid n → Reads source options (h.before ++ (slice ++ spelled)) n (h.slices ++ pair_of at e slice kept q spelled t n)
-Turn-reads {source} {options} {slice} {kept} {left} {at} {fresh} {e} h t tildes spelled rest q mid n turn =
+    → TagStands h t tildes spelled rest q mid n → Reads source options (h.before ++ (slice ++ spelled)) n (h.slices ++ pair_of at e slice kept q spelled t n)
+TagStands-reads {source} {options} {slice} {kept} {left} {at} {fresh} {e} h t tildes spelled rest q mid n turn =
     let b : Text = h.before in
     let m : Edge = edge_of b slice t tildes rest in
     let one : Reads source options (b ++ (slice ++ spelled)) m (h.slices ++ pair_of (place b) e slice kept (place (b ++ slice)) spelled t m) = goes_on h.begins (record {
@@ -162,7 +162,7 @@ IsUtf8-three : (b s t : Text) → IsUtf8 b → IsUtf8 s → IsUtf8 t → IsUtf8 
 IsUtf8-three b s t x y z = IsUtf8-append b (s ++ t) x (IsUtf8-append s t y z)
 
 -- the text behind the tag, and where that begins
-pub record Next (n : Edge) (q : Place) (mid : Bool) (spelled rest x k y : Text) (next : Place) (fresh : Bool) : Type 0 where
+pub record TextBehind (n : Edge) (q : Place) (mid : Bool) (spelled rest x k y : Text) (next : Place) (fresh : Bool) : Type 0 where
   pub parts : rest ≡ x ++ y
   pub is_text : IsText (braces_behind n) y x k
   pub there : next ≡ behind q spelled
@@ -170,10 +170,10 @@ pub record Next (n : Edge) (q : Place) (mid : Bool) (spelled rest x k y : Text) 
 
 -- one turn: the text, the tag behind it, and the next text
 pub Scans-step : {source : Text} {options : Options} {slice kept left : Text} {at : Place} {fresh : Bool} {e : Edge} {late : Option NestFault} {d : ℕ} {fs : List BlockSoFar} {es : List Placed}
-    → (h : Scans source options slice kept left at fresh e late d fs es) (t : Tag) (tildes : Tildes) (spelled rest : Text) (q : Place) (mid : Bool) (n : Edge) → Turn h t tildes spelled rest q mid n
+    → (h : Scans source options slice kept left at fresh e late d fs es) (t : Tag) (tildes : Tildes) (spelled rest : Text) (q : Place) (mid : Bool) (n : Edge) → TagStands h t tildes spelled rest q mid n
     → (late' : Option NestFault) (d' : ℕ) (fs' : List BlockSoFar) (es' : List Placed) → Mid h n late' d' fs' es'
     → (late'' : Option NestFault) (d'' : ℕ) (fs'' : List BlockSoFar) (es'' : List Placed) → apply syntax_alone (tag_piece options q n t) d' fs' es' ≡ goes d'' fs'' es'' → late'' ≡ late_after late' (tag_piece options q n t) (open_in fs')
-    → (x k y : Text) (next : Place) (fresh' : Bool) → Next n q mid spelled rest x k y next fresh' → IsUtf8 slice → IsUtf8 spelled
+    → (x k y : Text) (next : Place) (fresh' : Bool) → TextBehind n q mid spelled rest x k y next fresh' → IsUtf8 slice → IsUtf8 spelled
     → Scans source options x k y next fresh' n late'' d'' fs'' es''
 Scans-step {source} {options} {slice} {kept} {left} {at} {fresh} {e} h t tildes spelled rest q mid n turn late' d' fs' es' m late'' d'' fs'' es'' moved lates x k y next fresh' after u v =
     let b : Text = h.before in
@@ -183,7 +183,7 @@ Scans-step {source} {options} {slice} {kept} {left} {at} {fresh} {e} h t tildes 
     record {
       before = b ++ (slice ++ spelled);
       slices = h.slices ++ new;
-      begins = Turn-reads h t tildes spelled rest q mid n turn;
+      begins = TagStands-reads h t tildes spelled rest q mid n turn;
       parts = h.parts ∙ ap (λ (z : Text). b ++ (slice ++ z)) (turn.here.whole ∙ ap (λ (z : Text). spelled ++ z) after.parts) ∙ regroup b slice spelled x y;
       is_text = after.is_text;
       utf8 = IsUtf8-three b slice spelled h.utf8 u v;
@@ -195,11 +195,11 @@ Scans-step {source} {options} {slice} {kept} {left} {at} {fresh} {e} h t tildes 
 
 -- the tag may not stand there
 pub Compiles-misplaced : {source : Text} {options : Options} {slice kept left : Text} {at : Place} {fresh : Bool} {e : Edge} {late : Option NestFault} {d : ℕ} {fs : List BlockSoFar} {es : List Placed}
-    → (h : Scans source options slice kept left at fresh e late d fs es) (t : Tag) (tildes : Tildes) (spelled rest : Text) (q : Place) (mid : Bool) (n : Edge) → Turn h t tildes spelled rest q mid n
+    → (h : Scans source options slice kept left at fresh e late d fs es) (t : Tag) (tildes : Tildes) (spelled rest : Text) (q : Place) (mid : Bool) (n : Edge) → TagStands h t tildes spelled rest q mid n
     → (late' : Option NestFault) (d' : ℕ) (fs' : List BlockSoFar) (es' : List Placed) → Mid h n late' d' fs' es'
     → (f : NestFault) → apply syntax_alone (tag_piece options q n t) d' fs' es' ≡ stops f → Compiles source options (refused (refusal_for options f))
 Compiles-misplaced {source} {options} {slice} {kept} {left} {at} {fresh} {e} h t tildes spelled rest q mid n turn late' d' fs' es' m f stopped =
-    misplaced (Turn-reads h t tildes spelled rest q mid n turn)
+    misplaced (TagStands-reads h t tildes spelled rest q mid n turn)
     (subst (λ (z : List SourcePiece). Refuses syntax_alone z f) (sym (pieces_in-pair options h.slices at e slice kept q spelled t n)) (State-stops (tag_piece options q n t) [] (Mid-state h n late' d' fs' es' m) stopped))
 
 -- ---- braces with which no tag begins

@@ -8,7 +8,7 @@ use Rattle.handlebars_tags.specs.Tag.{Tag, expression_tag, html_tag, block_tag, 
 use Rattle.handlebars_tags.specs.Trim.{Edge, braces_behind, trimmed, has_element}
 use Rattle.handlebars_tags.specs.Options.{Options}
 use Rattle.handlebars_template.specs.Place.{Place, place}
-use Rattle.handlebars_template.specs.Tree.{Tree, tree, elements_of, Element, raw_string, html_expression, expression, comment, no_arguments, name, no_binding, single, both}
+use Rattle.handlebars_template.specs.Tree.{Tree, tree, elements_of, raw_string, html_expression, expression, comment, no_arguments, name, no_binding, single, both}
 use Rattle.handlebars_template.specs.Tree as tree
 use Rattle.handlebars_template.specs.Calls.{call_of, arguments_in, line_literals, literals_in, first_refused, invalid}
 use Rattle.handlebars_template.specs.Nest.{BlockKind, helper_opening, raw_opening, decorator_opening, partial_opening, Opening, SourcePiece, leaf, opens, inverts, chains, closes, NestFault, unexpected, too_deep, not_closed, mismatched, no_value, Placed, syntax_alone, names_and_literals, Nests, OpenBlock, Opens, Refuses, LeavesOpen}

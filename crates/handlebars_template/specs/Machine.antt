@@ -6,7 +6,7 @@ use Rattle.handlebars_base.specs.Bytes.{Text}
 use Rattle.handlebars_template.specs.Place.{Place}
 use Rattle.handlebars_template.specs.Tree.{Element, no_body}
 use Rattle.handlebars_template.specs.Calls.{max_nesting}
-use Rattle.handlebars_template.specs.Nest.{BlockKind, Opening, SourcePiece, leaf, opens, inverts, chains, closes, refused_in, NestFault, unexpected, too_deep, mismatched, no_value, Placed, body_with, Branch, block_of, Test, syntax_alone, names_and_literals, may_close, OpenBlock, may_stand_in}
+use Rattle.handlebars_template.specs.Nest.{BlockKind, Opening, SourcePiece, leaf, opens, inverts, chains, closes, refused_in, NestFault, unexpected, too_deep, mismatched, no_value, Placed, body_with, Branch, block_of, Tried, syntax_alone, names_and_literals, may_close, OpenBlock, may_stand_in}
 
 -- an open block stands in its first body, in a chained inverse, or in its inverse
 pub data Stage : Type 0 where
@@ -118,11 +118,11 @@ late_after late x fs = option_or late (late_in fs x)
 -- ---- a piece
 
 -- what comes late counts where names and literals are tried
-abbrev pub tried : Test → Option NestFault → Option NestFault
+abbrev pub tried : Tried → Option NestFault → Option NestFault
 tried syntax_alone late = None
 tried names_and_literals late = late
 
-abbrev pub fault_in : Test → ℕ → List OpenBlock → SourcePiece → Option NestFault
+abbrev pub fault_in : Tried → ℕ → List OpenBlock → SourcePiece → Option NestFault
 fault_in t d fs x = option_or (early_in d fs x) (tried t (late_in fs x))
 
 abbrev pub unless_fault : Option NestFault → Moved → Moved
@@ -130,11 +130,11 @@ unless_fault None m = m
 unless_fault (Some f) m = stops f
 
 -- what a piece does behind the open blocks and the elements of the innermost
-abbrev pub moved_by : Test → SourcePiece → ℕ → List BlockSoFar → List Placed → Moved
+abbrev pub moved_by : Tried → SourcePiece → ℕ → List BlockSoFar → List Placed → Moved
 moved_by t x d fs es = unless_fault (fault_in t d (open_in fs) x) (behind_piece x d fs es)
 
 -- The same by cases, so that where it is run a tag is read once.
-abbrev pub apply : Test → SourcePiece → ℕ → List BlockSoFar → List Placed → Moved
+abbrev pub apply : Tried → SourcePiece → ℕ → List BlockSoFar → List Placed → Moved
 apply t (leaf p e n r) d fs es = moved_by t (leaf p e n r) d fs es
 apply t (opens p o n r) d fs es = moved_by t (opens p o n r) d fs es
 apply t (inverts p) d fs es = moved_by t (inverts p) d fs es

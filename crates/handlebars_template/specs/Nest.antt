@@ -122,18 +122,18 @@ block_of o first branches last = helper_block (block_call o first (inverse_of br
 -- ---- what is tried
 
 -- the syntax alone, or also closing names and literals
-pub data Test : Type 0 where
-  syntax_alone : Test
-  names_and_literals : Test
+pub data Tried : Type 0 where
+  syntax_alone : Tried
+  names_and_literals : Tried
 
 -- whether a close by the second text closes a block that the first would close: with no name it does, where that may
 -- end it
-abbrev pub may_close : Test → Text → Text → Bool
+abbrev pub may_close : Tried → Text → Text → Bool
 may_close syntax_alone n m = true
 may_close names_and_literals n m = is_nameless m || bytes_eq n m
 
 -- whether a tag has its values whose first refused literal is this, if it has one
-abbrev pub has_values : Test → Option Text → Bool
+abbrev pub has_values : Tried → Option Text → Bool
 has_values syntax_alone r = true
 has_values names_and_literals r = not (is_some r)
 
@@ -141,7 +141,7 @@ has_values names_and_literals r = not (is_some r)
 
 -- Nests t d ps es: with d blocks and chained inverses open around them, the pieces ps are the elements es.
 mutual
-  pub data Nests (t : Test) : ℕ → List SourcePiece → List Placed → Type 0 where
+  pub data Nests (t : Tried) : ℕ → List SourcePiece → List Placed → Type 0 where
     nothing : {d : ℕ} → Nests t d [] []
     a_leaf : {d : ℕ} {ps : List SourcePiece} {es : List Placed} (p : Place) (e : Element) (n : ℕ) (r : Option Text)
         → d + n ≤ max_nesting → has_values t r ≡ true → Nests t d ps es
@@ -156,7 +156,7 @@ mutual
         (record { place = p; element = block_of o first branches last } ∷ es)
 
   -- chained inverses in a block of this kind, and how much is open behind them
-  pub data Chains (t : Test) : BlockKind → ℕ → List SourcePiece → List Branch → ℕ → Type 0 where
+  pub data Chains (t : Tried) : BlockKind → ℕ → List SourcePiece → List Branch → ℕ → Type 0 where
     no_more : {k : BlockKind} {d : ℕ} → Chains t k d [] [] d
     a_branch : {k : BlockKind} {d e : ℕ} {bs cs : List SourcePiece} {es : List Placed} {branches : List Branch}
         (p : Place) (o : Opening) (n : ℕ) (r : Option Text)
@@ -165,7 +165,7 @@ mutual
         → Chains t k d (chains p o n r ∷ (bs ++ cs)) (record { opening = o; elements = es } ∷ branches) e
 
   -- an inverse in a block of this kind, or none
-  pub data Inverts (t : Test) : BlockKind → ℕ → List SourcePiece → Body → Type 0 where
+  pub data Inverts (t : Tried) : BlockKind → ℕ → List SourcePiece → Body → Type 0 where
     no_inverse : {k : BlockKind} {d : ℕ} → Inverts t k d [] no_body
     an_inverse : {k : BlockKind} {d : ℕ} {bs : List SourcePiece} {es : List Placed} (p : Place)
         → admits_inverse k ≡ true → Nests t d bs es → Inverts t k d (inverts p ∷ bs) (body_with es)
@@ -179,7 +179,7 @@ pub record OpenBlock : Type 0 where
   pub inverted : Bool
 
 -- BeginsBlock t o f qs d: with o open around it, the pieces qs begin the block f and leave it open, with d open then.
-pub data BeginsBlock (t : Test) : ℕ → OpenBlock → List SourcePiece → ℕ → Type 0 where
+pub data BeginsBlock (t : Tried) : ℕ → OpenBlock → List SourcePiece → ℕ → Type 0 where
   in_a_body : {o d : ℕ} {bs cs : List SourcePiece} {first : List Placed} {branches : List Branch}
       (p : Place) (x : Opening) (n : ℕ) (r : Option Text)
       → o + suc n ≤ max_nesting → has_values t r ≡ true → Nests t (suc o) bs first → Chains t x.kind (suc o) cs branches d
@@ -192,7 +192,7 @@ pub data BeginsBlock (t : Test) : ℕ → OpenBlock → List SourcePiece → ℕ
       (opens p x n r ∷ (bs ++ (cs ++ (inverts q ∷ gs)))) d
 
 -- Opens t d ps fs: the pieces ps leave the blocks fs open, the innermost first, with d open then.
-pub data Opens (t : Test) : ℕ → List SourcePiece → List OpenBlock → Type 0 where
+pub data Opens (t : Tried) : ℕ → List SourcePiece → List OpenBlock → Type 0 where
   none_open : {ps : List SourcePiece} {es : List Placed} → Nests t 0 ps es → Opens t 0 ps []
   one_more : {o d : ℕ} {f : OpenBlock} {ps qs : List SourcePiece} {fs : List OpenBlock}
       → Opens t o ps fs → BeginsBlock t o f qs d → Opens t d (ps ++ qs) (f ∷ fs)
@@ -224,7 +224,7 @@ cost (closes p raw m) = 0
 
 -- RefusesAt t d fs x f: with the blocks fs open, and d open in all, the piece x can't stand next. At one tag 'unexpected'
 -- comes before 'too deep', and that before its literals.
-pub data RefusesAt (t : Test) (d : ℕ) : List OpenBlock → SourcePiece → NestFault → Type 0 where
+pub data RefusesAt (t : Tried) (d : ℕ) : List OpenBlock → SourcePiece → NestFault → Type 0 where
   out_of_place : {fs : List OpenBlock} {x : SourcePiece} → may_stand_in fs x ≡ false → RefusesAt t d fs x (unexpected (place_in x))
   past_limit : {fs : List OpenBlock} {x : SourcePiece} → may_stand_in fs x ≡ true → max_nesting < d + cost x
       → RefusesAt t d fs x (too_deep (place_in x))
@@ -235,11 +235,11 @@ pub data RefusesAt (t : Test) (d : ℕ) : List OpenBlock → SourcePiece → Nes
       → RefusesAt t d (f ∷ fs) (closes p raw m) (mismatched f.opening.kind f.opening.closing m p)
 
 -- the first piece that can't stand where it stands
-pub data Refuses (t : Test) : List SourcePiece → NestFault → Type 0 where
+pub data Refuses (t : Tried) : List SourcePiece → NestFault → Type 0 where
   refuses_at : {d : ℕ} {ps : List SourcePiece} {fs : List OpenBlock} {x : SourcePiece} {f : NestFault} (rest : List SourcePiece)
       → Opens t d ps fs → RefusesAt t d fs x f → Refuses t (ps ++ x ∷ rest) f
 
 -- at the end the innermost block is still open
-pub data LeavesOpen (t : Test) : List SourcePiece → NestFault → Type 0 where
+pub data LeavesOpen (t : Tried) : List SourcePiece → NestFault → Type 0 where
   left_open : {d : ℕ} {f : OpenBlock} {ps : List SourcePiece} {fs : List OpenBlock}
       → Opens t d ps (f ∷ fs) → LeavesOpen t ps (not_closed f.place)
