@@ -134,14 +134,9 @@ three_close t = with_or (close_by (codes "}}}") t) Some (brace_tilde_braces t)
 
 -- whether a tilde stands before the closing braces, and what follows them. A comment holds its own.
 unfoldable pub closing_of : TagKind → Text → Option (Bool × Text)
-closing_of expression_kind t = close_by (codes "}}") t
 closing_of html_kind t = three_close t
-closing_of html_sign_kind t = close_by (codes "}}") t
-closing_of block_kind t = close_by (codes "}}") t
-closing_of close_kind t = close_by (codes "}}") t
-closing_of inverse_kind t = close_by (codes "}}") t
-closing_of else_kind t = close_by (codes "}}") t
 closing_of raw_kind t = close_by (codes "}}}}") t
 closing_of raw_close_kind t = close_by (codes "}}}}") t
 closing_of comment_kind t = Some (false, t)
 closing_of other_kind t = None
+closing_of kind t = close_by (codes "}}") t

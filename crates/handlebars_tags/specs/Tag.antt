@@ -42,12 +42,9 @@ abbrev pub tag_depth : Tag → ℕ
 tag_depth (expression_tag line) = line.depth
 tag_depth (html_tag line) = line.depth
 tag_depth (block_tag line) = line.depth
-tag_depth inverse_tag = 0
 tag_depth (chain_tag line) = line.depth
-tag_depth (close_tag n) = 0
 tag_depth (raw_tag line) = line.depth
-tag_depth (raw_close_tag n) = 0
-tag_depth (comment_tag t) = 0
+tag_depth t = 0
 
 -- ---- what stands between the marks
 
@@ -98,12 +95,5 @@ OneTag = (left slice slice' rest rest' : Text) (t t' : Tag) (tildes tildes' : Ti
 
 -- the end of a raw block
 abbrev pub is_raw_close : Tag → Bool
-is_raw_close (expression_tag line) = false
-is_raw_close (html_tag line) = false
-is_raw_close (block_tag line) = false
-is_raw_close inverse_tag = false
-is_raw_close (chain_tag line) = false
-is_raw_close (close_tag n) = false
-is_raw_close (raw_tag line) = false
 is_raw_close (raw_close_tag n) = true
-is_raw_close (comment_tag t) = false
+is_raw_close t = false

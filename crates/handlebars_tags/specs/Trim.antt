@@ -6,7 +6,7 @@ use Rattle.handlebars_base.specs.Optional.{◌>>=◌, with_or}
 use Rattle.handlebars_base.specs.Texts.{after}
 use Rattle.handlebars_tags.specs.Options.{Options}
 use Rattle.handlebars_tags.specs.Text.{Braces, two_braces, four_braces}
-use Rattle.handlebars_tags.specs.Tag.{Tag, expression_tag, html_tag, block_tag, inverse_tag, chain_tag, close_tag, raw_tag, raw_close_tag, comment_tag, Tildes}
+use Rattle.handlebars_tags.specs.Tag.{Tag, expression_tag, html_tag, raw_tag, Tildes}
 use Rattle.std.specs.Str.{trim_start, trim_end}
 
 -- ---- lines
@@ -76,24 +76,11 @@ no_edge = record { standalone = false; blanks = []; left = false; right = false;
 abbrev pub may_stand_alone : Tag → Bool
 may_stand_alone (expression_tag line) = false
 may_stand_alone (html_tag line) = false
-may_stand_alone (block_tag line) = true
-may_stand_alone inverse_tag = true
-may_stand_alone (chain_tag line) = true
-may_stand_alone (close_tag n) = true
-may_stand_alone (raw_tag line) = true
-may_stand_alone (raw_close_tag n) = true
-may_stand_alone (comment_tag t) = true
+may_stand_alone t = true
 
 abbrev pub opens_raw : Tag → Bool
-opens_raw (expression_tag line) = false
-opens_raw (html_tag line) = false
-opens_raw (block_tag line) = false
-opens_raw inverse_tag = false
-opens_raw (chain_tag line) = false
-opens_raw (close_tag n) = false
 opens_raw (raw_tag line) = true
-opens_raw (raw_close_tag n) = false
-opens_raw (comment_tag t) = false
+opens_raw t = false
 
 -- Behind a line that is fresh or not, and before the rest, a tag that may stand alone does so if nothing else is on its
 -- line.

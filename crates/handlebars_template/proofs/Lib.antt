@@ -14,6 +14,7 @@ pub mod ParametersParsed
 pub mod NestsBuilt
 pub mod NestsLooked
 pub mod NestsDone
+pub mod NestsOpen
 pub mod NestsFits
 pub mod NestsSteps
 pub mod NestsStates

@@ -6,8 +6,8 @@ use Rattle.std.proofs.lemmas.List.{reverse-append, map-append}
 use Rattle.handlebars_template.specs.Place.{Place}
 use Rattle.handlebars_template.specs.Tree.{Element, helper_block, Call, Body, no_body}
 use Rattle.handlebars_template.specs.TreeView.{place_of, element_view}
-use Rattle.handlebars_template.specs.Nest.{Opening, Placed, Branch, body_with, block_call, inverse_of, is_chain, in_branch, in_inverse}
-use Rattle.handlebars_template.specs.Machine.{closed_block}
+use Rattle.handlebars_template.specs.Nest.{Opening, Placed, Branch, body_with, block_call, inverse_of, is_chain}
+use Rattle.handlebars_template.specs.Machine.{in_branch, in_inverse, closed_block}
 use Rattle.handlebars_template.specs.NestView.{paired, branch_view, open_block_view, stack_view}
 use Rattle.handlebars_template.specs.declared.template.tree.TemplateMapping.{TemplateMapping}
 use Rattle.handlebars_template.specs.declared.template.tree.TemplateElement.{TemplateElement}

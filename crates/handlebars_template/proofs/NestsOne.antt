@@ -1,51 +1,57 @@
 -- At most one answer.
 use Rattle.std.proofs.Common.{◌≡◌, ℕ, List, [], ◌∷◌, refl, sym, ap, ◌∙◌}
-use Rattle.handlebars_template.specs.Nest.{BlockKind, SourcePiece, NestFault, not_closed, Placed, Branch, Test, syntax_alone, names_and_literals, Nests, nothing, a_leaf, a_block, Chains, no_more, a_branch, Inverts, no_inverse, an_inverse, OpenBlock, Opens, none_open, Refuses, LeavesOpen, left_open}
+use Rattle.std.proofs.lemmas.List.{append-nil}
+use Rattle.handlebars_template.specs.Nest.{BlockKind, SourcePiece, NestFault, not_closed, Placed, Branch, Tried, syntax_alone, names_and_literals, Nests, nothing, a_leaf, a_block, Chains, no_more, a_branch, Inverts, no_inverse, an_inverse, OpenBlock, Opens, none_open, Refuses, LeavesOpen, left_open}
 use Rattle.handlebars_template.specs.Tree.{Body}
-use Rattle.handlebars_template.specs.Machine.{goes, stops}
-use Rattle.handlebars_template.proofs.NestsRuns.{Opens-run, Refuses-run}
+use Rattle.handlebars_template.specs.Machine.{BlockSoFar, open_in, goes, stops}
+use Rattle.handlebars_template.proofs.NestsRuns.{run, Nests-run, Opens-goes, Goes-run, Refuses-run}
 
 -- two states of the same pieces
-pub record AreSame (d e : ℕ) (fs gs : List OpenBlock) (es hs : List Placed) : Type 0 where
-  pub depth : d ≡ e
+record AreSame (d e : ℕ) (fs gs : List BlockSoFar) (es hs : List Placed) : Type 0 where
   pub open_blocks : fs ≡ gs
   pub elements : es ≡ hs
 
-goes-same : (d e : ℕ) (fs gs : List OpenBlock) (es hs : List Placed) → goes d fs es ≡ goes e gs hs → AreSame d e fs gs es hs
-goes-same d e fs gs es hs is = record { depth = cc; open_blocks = cc; elements = cc }
+goes-same : (d e : ℕ) (fs gs : List BlockSoFar) (es hs : List Placed) → goes d fs es ≡ goes e gs hs → AreSame d e fs gs es hs
+goes-same d e fs gs es hs is = record { open_blocks = cc; elements = cc }
 
 stops-same : (f g : NestFault) → stops f ≡ stops g → f ≡ g
 stops-same f g is = cc
 
-goes-stops : (d : ℕ) (fs : List OpenBlock) (es : List Placed) (f : NestFault) → goes d fs es ≡ stops f → ⊥
+goes-stops : (d : ℕ) (fs : List BlockSoFar) (es : List Placed) (f : NestFault) → goes d fs es ≡ stops f → ⊥
 goes-stops d fs es f is = absurd cc
 
-pub Opens-one : {t : Test} {d e : ℕ} {ps : List SourcePiece} {fs gs : List OpenBlock} {es hs : List Placed} → Opens t d ps fs es → Opens t e ps gs hs → AreSame d e fs gs es hs
-Opens-one {d = d} {e = e} {fs = fs} {gs = gs} {es = es} {hs = hs} a b = goes-same d e fs gs es hs (sym (Opens-run a) ∙ Opens-run b)
+Nests-run-all : {t : Tried} {ps : List SourcePiece} {es : List Placed} → Nests t 0 ps es → run t ps 0 [] [] ≡ goes 0 [] es
+Nests-run-all {t} {ps} h = ap (λ (x : List SourcePiece). run t x 0 [] []) (sym (append-nil ps)) ∙ Nests-run h [] [] []
 
-pub Opens-Refuses : {t : Test} {d : ℕ} {ps : List SourcePiece} {fs : List OpenBlock} {es : List Placed} {f : NestFault} → Opens t d ps fs es → Refuses t ps f → ⊥
-Opens-Refuses {d = d} {fs = fs} {es = es} {f = f} a b = goes-stops d fs es f (sym (Opens-run a) ∙ Refuses-run b)
+pub Opens-one : {t : Tried} {d e : ℕ} {ps : List SourcePiece} {fs gs : List OpenBlock} → Opens t d ps fs → Opens t e ps gs → fs ≡ gs
+Opens-one {d = d} {e = e} a b =
+    let h = Opens-goes a in
+    let k = Opens-goes b in
+    sym h.shows ∙ ap open_in (goes-same d e h.blocks k.blocks h.elements k.elements (sym (Goes-run h) ∙ Goes-run k)).open_blocks ∙ k.shows
 
-pub Nests-one : {t : Test} {ps : List SourcePiece} {es hs : List Placed} → Nests t 0 ps es → Nests t 0 ps hs → es ≡ hs
-Nests-one a b = (Opens-one (none_open a) (none_open b)).elements
+pub Opens-Refuses : {t : Tried} {d : ℕ} {ps : List SourcePiece} {fs : List OpenBlock} {f : NestFault} → Opens t d ps fs → Refuses t ps f → ⊥
+Opens-Refuses {d = d} {f = f} a b = (let h = Opens-goes a in goes-stops d h.blocks h.elements f (sym (Goes-run h) ∙ Refuses-run b))
 
-pub Refuses-one : {t : Test} {ps : List SourcePiece} {f g : NestFault} → Refuses t ps f → Refuses t ps g → f ≡ g
+pub Nests-one : {t : Tried} {ps : List SourcePiece} {es hs : List Placed} → Nests t 0 ps es → Nests t 0 ps hs → es ≡ hs
+Nests-one {es = es} {hs = hs} a b = (goes-same 0 0 [] [] es hs (sym (Nests-run-all a) ∙ Nests-run-all b)).elements
+
+pub Refuses-one : {t : Tried} {ps : List SourcePiece} {f g : NestFault} → Refuses t ps f → Refuses t ps g → f ≡ g
 Refuses-one {f = f} {g = g} a b = stops-same f g (sym (Refuses-run a) ∙ Refuses-run b)
 
 not_closed-same : (f g : OpenBlock) (fs gs : List OpenBlock) → (f ∷ fs) ≡ (g ∷ gs) → not_closed f.place ≡ not_closed g.place
 not_closed-same f g fs gs is = let same : f ≡ g = cc in ap (λ (z : OpenBlock). not_closed z.place) same
 
-pub LeavesOpen-one : {t : Test} {ps : List SourcePiece} {f g : NestFault} → LeavesOpen t ps f → LeavesOpen t ps g → f ≡ g
-LeavesOpen-one (left_open {f = f} {fs = fs} a) (left_open {f = g} {fs = gs} b) = not_closed-same f g fs gs (Opens-one a b).open_blocks
+pub LeavesOpen-one : {t : Tried} {ps : List SourcePiece} {f g : NestFault} → LeavesOpen t ps f → LeavesOpen t ps g → f ≡ g
+LeavesOpen-one (left_open {f = f} {fs = fs} a) (left_open {f = g} {fs = gs} b) = not_closed-same f g fs gs (Opens-one a b)
 
-pub Nests-Refuses : {t : Test} {ps : List SourcePiece} {es : List Placed} {f : NestFault} → Nests t 0 ps es → Refuses t ps f → ⊥
+pub Nests-Refuses : {t : Tried} {ps : List SourcePiece} {es : List Placed} {f : NestFault} → Nests t 0 ps es → Refuses t ps f → ⊥
 Nests-Refuses a b = Opens-Refuses (none_open a) b
 
 nil-cons : (f : OpenBlock) (fs : List OpenBlock) → [] ≡ (f ∷ fs) → ⊥
 nil-cons f fs is = absurd cc
 
-pub Nests-LeavesOpen : {t : Test} {ps : List SourcePiece} {es : List Placed} {f : NestFault} → Nests t 0 ps es → LeavesOpen t ps f → ⊥
-Nests-LeavesOpen a (left_open {f = f} {fs = fs} b) = nil-cons f fs (Opens-one (none_open a) b).open_blocks
+pub Nests-LeavesOpen : {t : Tried} {ps : List SourcePiece} {es : List Placed} {f : NestFault} → Nests t 0 ps es → LeavesOpen t ps f → ⊥
+Nests-LeavesOpen a (left_open {f = f} {fs = fs} b) = nil-cons f fs (Opens-one (none_open a) b)
 
 -- ---- what nests by its names and literals too nests by its syntax
 

@@ -13,40 +13,41 @@ use Rattle.handlebars_tags.specs.Tag.{NoTag}
 use Rattle.handlebars_tags.specs.Trim.{Edge, no_edge, edge_of, braces_behind}
 use Rattle.handlebars_tags.specs.Options.{Options}
 use Rattle.handlebars_template.specs.Place.{place}
-use Rattle.handlebars_template.specs.Nest.{SourcePiece, NestFault, not_closed, Placed, Test, syntax_alone, names_and_literals, Nests, nothing, OpenBlock, Opens, none_open, Refuses, left_open as still_open}
-use Rattle.handlebars_template.specs.Machine.{Moved, goes, stops, apply}
+use Rattle.handlebars_template.specs.Nest.{SourcePiece, NestFault, not_closed, Placed, Tried, syntax_alone, names_and_literals, Nests, nothing, none_open, Refuses, left_open as still_open}
+use Rattle.handlebars_template.specs.Machine.{BlockSoFar, Moved, goes, stops, apply}
 use Rattle.handlebars_template.specs.Cut.{Slice, text_slice, tag_slice, may_follow, TextAndTag, Reads, starts, goes_on, IsCut}
 use Rattle.handlebars_template.specs.Compile.{pieces_in, tree_of, refusal_for, Compilation, compiled, refused, unreadable_tag, Compiles, whole, no_tag, misplaced, left_open, late}
-use Rattle.handlebars_template.proofs.NestsSteps.{Opens-step, Refuses-step}
+use Rattle.handlebars_template.proofs.NestsOpen.{OpensSoFar, no_block}
+use Rattle.handlebars_template.proofs.NestsSteps.{OpensSoFar-opens, OpensSoFar-step, Refuses-step}
 use Rattle.handlebars_template.proofs.NestsRuns.{run}
 use Rattle.handlebars_template.proofs.Running.{TagFound, tag_at, tag_at-is, text_at, FoundText, text_at-is, guarded, guarded_some}
 
 -- ---- nesting
 
-abbrev Ran : Test → List SourcePiece → Moved → Type 0
-Ran t ps (goes d fs es) = Opens t d ps fs es
+abbrev Ran : Tried → List SourcePiece → Moved → Type 0
+Ran t ps (goes d fs es) = OpensSoFar t d ps fs es
 Ran t ps (stops f) = Refuses t ps f
 
-run-goes : (t : Test) (x : SourcePiece) (xs : List SourcePiece) (d e : ℕ) (fs gs : List OpenBlock) (es hs : List Placed) → apply t x d fs es ≡ goes e gs hs → run t (x ∷ xs) d fs es ≡ run t xs e gs hs
+run-goes : (t : Tried) (x : SourcePiece) (xs : List SourcePiece) (d e : ℕ) (fs gs : List BlockSoFar) (es hs : List Placed) → apply t x d fs es ≡ goes e gs hs → run t (x ∷ xs) d fs es ≡ run t xs e gs hs
 run-goes t x xs d e fs gs es hs is = rw is refl
 
-run-stops : (t : Test) (x : SourcePiece) (xs : List SourcePiece) (d : ℕ) (fs : List OpenBlock) (es : List Placed) (f : NestFault) → apply t x d fs es ≡ stops f → run t (x ∷ xs) d fs es ≡ stops f
+run-stops : (t : Tried) (x : SourcePiece) (xs : List SourcePiece) (d : ℕ) (fs : List BlockSoFar) (es : List Placed) (f : NestFault) → apply t x d fs es ≡ stops f → run t (x ∷ xs) d fs es ≡ stops f
 run-stops t x xs d fs es f is = rw is refl
 
-run-ran : (t : Test) (xs ps : List SourcePiece) (d : ℕ) (fs : List OpenBlock) (es : List Placed) → Opens t d ps fs es → Ran t (ps ++ xs) (run t xs d fs es)
-run-ran t [] ps d fs es o = subst (λ (z : List SourcePiece). Opens t d z fs es) (sym (append-nil ps)) o
+run-ran : (t : Tried) (xs ps : List SourcePiece) (d : ℕ) (fs : List BlockSoFar) (es : List Placed) → OpensSoFar t d ps fs es → Ran t (ps ++ xs) (run t xs d fs es)
+run-ran t [] ps d fs es o = subst (λ (z : List SourcePiece). OpensSoFar t d z fs es) (sym (append-nil ps)) o
 run-ran t (x ∷ xs) ps d fs es o = on (apply t x d fs es) refl (run-ran t xs (ps ++ (x ∷ [])))
   where
     on : (m : Moved) → apply t x d fs es ≡ m
-        → ((e : ℕ) (gs : List OpenBlock) (hs : List Placed) → Opens t e (ps ++ (x ∷ [])) gs hs → Ran t ((ps ++ (x ∷ [])) ++ xs) (run t xs e gs hs))
+        → ((e : ℕ) (gs : List BlockSoFar) (hs : List Placed) → OpensSoFar t e (ps ++ (x ∷ [])) gs hs → Ran t ((ps ++ (x ∷ [])) ++ xs) (run t xs e gs hs))
         → Ran t (ps ++ (x ∷ xs)) (run t (x ∷ xs) d fs es)
     on (goes e gs hs) is again =
         subst (Ran t (ps ++ (x ∷ xs))) (sym (run-goes t x xs d e fs gs es hs is))
-        (subst (λ (z : List SourcePiece). Ran t z (run t xs e gs hs)) (append_assoc ps (x ∷ []) xs) (again e gs hs (Opens-step x o is)))
+        (subst (λ (z : List SourcePiece). Ran t z (run t xs e gs hs)) (append_assoc ps (x ∷ []) xs) (again e gs hs (OpensSoFar-step x o is)))
     on (stops f) is again = subst (Ran t (ps ++ (x ∷ xs))) (sym (run-stops t x xs d fs es f is)) (Refuses-step x xs o is)
 
-ran : (t : Test) (xs : List SourcePiece) → Ran t xs (run t xs 0 [] [])
-ran t xs = run-ran t xs [] 0 [] [] (none_open nothing)
+ran : (t : Tried) (xs : List SourcePiece) → Ran t xs (run t xs 0 [] [])
+ran t xs = run-ran t xs [] 0 [] [] (no_block nothing)
 
 -- ---- a reading
 
@@ -150,14 +151,14 @@ of_beginning options r (goes d fs es) = text_at (braces_behind r.edge) r.left >>
 abbrev pub answer : Options → ℕ → Spot → Option Compilation
 answer options n s = spot_at n s >>= λ r. of_beginning options r (run syntax_alone (pieces_in options r.slices) 0 [] [])
 
-nests_in : {t : Test} {d : ℕ} {ps : List SourcePiece} {es : List Placed} → Opens t d ps [] es → Nests t 0 ps es
-nests_in (none_open h) = h
+nests_in : {t : Tried} {d : ℕ} {ps : List SourcePiece} {es : List Placed} → OpensSoFar t d ps [] es → Nests t 0 ps es
+nests_in (no_block h) = h
 
 verdict-is : (options : Options) (source : Text) (ps : List Slice) (m k : Moved) (c : Compilation) → IsCut source options ps → Ran syntax_alone (pieces_in options ps) m → Ran names_and_literals (pieces_in options ps) k
     → verdict options m k ≡ Some c → Compiles source options c
 verdict-is options source ps (stops f) k c cut loose strict e = absurd (none-some c e)
 verdict-is options source ps (goes d (f ∷ fs) es) k c cut loose strict e =
-    subst (Compiles source options) (same_Some (refused (refusal_for options (not_closed f.place))) c e) (left_open cut (still_open loose))
+    subst (Compiles source options) (same_Some (refused (refusal_for options (not_closed f.place))) c e) (left_open cut (still_open (OpensSoFar-opens loose)))
 verdict-is options source ps (goes d [] es) (stops f) c cut loose strict e = subst (Compiles source options) (same_Some (refused (refusal_for options f)) c e) (late cut (nests_in loose) strict)
 verdict-is options source ps (goes d [] es) (goes e' [] xs) c cut loose strict e = subst (Compiles source options) (same_Some (compiled (tree_of options xs)) c e) (whole cut (nests_in strict))
 verdict-is options source ps (goes d [] es) (goes e' (f ∷ fs) xs) c cut loose strict e = absurd (none-some c e)
@@ -232,7 +233,6 @@ first_unreadable options text left words marks none = no_tag (record {
   begins = starts;
   depth = 0;
   open_blocks = [];
-  elements = [];
   nests = none_open nothing;
   text = text;
   kept = text;

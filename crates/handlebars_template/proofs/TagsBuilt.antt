@@ -6,6 +6,7 @@ use Rattle.handlebars_base.specs.Bytes.{Text}
 use Rattle.handlebars_lines.specs.Binding as means
 use Rattle.handlebars_lines.specs.Line.{value_name, Line, in_tag, IsLine}
 use Rattle.handlebars_tags.specs.Tag.{Tag, tag_depth, BlockLine}
+use Rattle.handlebars_tags.specs.Options.{Options}
 use Rattle.handlebars_tags.specs.Trim.{Edge}
 use Rattle.handlebars_tags.specs.TagView.{HoldsLine, HoldsBlock, IsBlockSlice}
 use Rattle.handlebars_tags.specs.declared.tag.inside.BlockSlice.{BlockSlice}
@@ -49,32 +50,32 @@ Does-value old new p is_escaped line e refused one two does =
     subst (λ (r : Option Text). Does old (leaf p (value_element is_escaped (call_of line.name line.terms)) line.depth r) new) two
     (subst (λ (x : Element). Does old (leaf p x line.depth refused) new) one (does line.depth))
 
-pub Does-opens : (old new : Nesting) (p : Place) (e : Edge) (line : BlockLine) (kind : BlockKind) (built : BuiltOpening) → HasOpening kind e line built
-    → ((n : ℕ) → Does old (opens p (opening_view built.opening) n (option_map (λ t. t.now) built.refused)) new) → Does old (block_piece kind p e line) new
-Does-opens old new p e line kind built o does =
-    subst (λ (r : Option Text). Does old (opens p (opening_of kind e line) line.depth r) new) o.refused
+pub Does-opens : (options : Options) (old new : Nesting) (p : Place) (e : Edge) (line : BlockLine) (kind : BlockKind) (built : BuiltOpening) → HasOpening options kind e line built
+    → ((n : ℕ) → Does old (opens p (opening_view built.opening) n (option_map (λ t. t.now) built.refused)) new) → Does old (block_piece options kind p e line) new
+Does-opens options old new p e line kind built o does =
+    subst (λ (r : Option Text). Does old (opens p (opening_of options kind e line) line.depth r) new) o.refused
     (subst (λ (x : Said). Does old (opens p x line.depth (option_map (λ t. t.now) built.refused)) new) o.opening (does line.depth))
 
-pub Does-chains : (old new : Nesting) (p : Place) (e : Edge) (line : BlockLine) (built : BuiltOpening) → HasOpening helper_opening e line built
-    → ((n : ℕ) → Does old (chains p (opening_view built.opening) n (option_map (λ t. t.now) built.refused)) new) → Does old (chain_piece p e line) new
-Does-chains old new p e line built o does =
-    subst (λ (r : Option Text). Does old (chains p (opening_of helper_opening e line) line.depth r) new) o.refused
+pub Does-chains : (options : Options) (old new : Nesting) (p : Place) (e : Edge) (line : BlockLine) (built : BuiltOpening) → HasOpening options helper_opening e line built
+    → ((n : ℕ) → Does old (chains p (opening_view built.opening) n (option_map (λ t. t.now) built.refused)) new) → Does old (chain_piece options p e line) new
+Does-chains options old new p e line built o does =
+    subst (λ (r : Option Text). Does old (chains p (opening_of options helper_opening e line) line.depth r) new) o.refused
     (subst (λ (x : Said). Does old (chains p x line.depth (option_map (λ t. t.now) built.refused)) new) o.opening (does line.depth))
 
-pub Does-line : (old new : Nesting) (p : Place) (e : Edge) (of : Line → Tag) (t : Text) (tag : Tag) → HoldsLine of t tag
-    → ((line : Line) (rest : Text) → IsLine value_name in_tag t line rest → Does old (tag_piece p e (of line)) new) → Does old (tag_piece p e tag) new
-Does-line old new p e of t tag h does = subst (λ (z : Tag). Does old (tag_piece p e z) new) (sym h.gives) (does h.line h.behind h.is_line)
+pub Does-line : (options : Options) (old new : Nesting) (p : Place) (e : Edge) (of : Line → Tag) (t : Text) (tag : Tag) → HoldsLine of t tag
+    → ((line : Line) (rest : Text) → IsLine value_name in_tag t line rest → Does old (tag_piece options p e (of line)) new) → Does old (tag_piece options p e tag) new
+Does-line options old new p e of t tag h does = subst (λ (z : Tag). Does old (tag_piece options p e z) new) (sym h.gives) (does h.line h.behind h.is_line)
 
-pub Does-block : (old new : Nesting) (p : Place) (e : Edge) (of : BlockLine → Tag) (slice : BlockSlice) (tag : Tag) → HoldsBlock of slice tag
-    → ((line : BlockLine) (rest : Text) → IsBlockSlice slice line rest → Does old (tag_piece p e (of line)) new) → Does old (tag_piece p e tag) new
-Does-block old new p e of slice tag h does = subst (λ (z : Tag). Does old (tag_piece p e z) new) (sym h.gives) (does h.line h.rest h.is_slice)
+pub Does-block : (options : Options) (old new : Nesting) (p : Place) (e : Edge) (of : BlockLine → Tag) (slice : BlockSlice) (tag : Tag) → HoldsBlock of slice tag
+    → ((line : BlockLine) (rest : Text) → IsBlockSlice slice line rest → Does old (tag_piece options p e (of line)) new) → Does old (tag_piece options p e tag) new
+Does-block options old new p e of slice tag h does = subst (λ (z : Tag). Does old (tag_piece options p e z) new) (sym h.gives) (does h.line h.rest h.is_slice)
 
 -- ---- what is said of a tag before it stands
 
-pub Looks-at : (old : Nesting) (p : Place) (e : Edge) (seen : Option SyntaxFault) (tag same : Tag) (x : ℕ → SourcePiece) (depth : ℕ) → tag ≡ same → tag_depth tag ≡ depth
-    → tag_piece p e same ≡ x (tag_depth same) → Looks p (early old (x depth)) seen → Looks p (early old (tag_piece p e tag)) seen
-Looks-at old p e seen tag same x depth is deep piece looks =
+pub Looks-at : (options : Options) (old : Nesting) (p : Place) (e : Edge) (seen : Option SyntaxFault) (tag same : Tag) (x : ℕ → SourcePiece) (depth : ℕ) → tag ≡ same → tag_depth tag ≡ depth
+    → tag_piece options p e same ≡ x (tag_depth same) → Looks p (early old (x depth)) seen → Looks p (early old (tag_piece options p e tag)) seen
+Looks-at options old p e seen tag same x depth is deep piece looks =
     let deeper : tag_depth same ≡ depth = ap tag_depth (sym is) ∙ deep in
-    subst (λ (z : Tag). Looks p (early old (tag_piece p e z)) seen) (sym is)
+    subst (λ (z : Tag). Looks p (early old (tag_piece options p e z)) seen) (sym is)
     (subst (λ (y : SourcePiece). Looks p (early old y) seen) (sym piece)
     (subst (λ (n : ℕ). Looks p (early old (x n)) seen) (sym deeper) looks))

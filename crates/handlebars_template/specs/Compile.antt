@@ -1,5 +1,5 @@
 -- What compiling a source answers: its tree, or the first refusal.
-use Rattle.std.specs.Prelude.{◌≡◌, ℕ, true, false, not, ◌&&◌, if◌then◌else◌, List, [], ◌∷◌, ◌++◌, map, None, Some, unwrap_or, codes}
+use Rattle.std.specs.Prelude.{◌≡◌, ℕ, Bool, true, false, not, ◌&&◌, if◌then◌else◌, List, [], ◌∷◌, ◌++◌, map, None, Some, unwrap_or, codes}
 use Rattle.handlebars_base.specs.Bytes.{Text}
 use Rattle.handlebars_base.specs.Reasons.{TemplateReason, TemplateRefusal, invalid_syntax, mismatching_closed_helper, mismatching_closed_decorator}
 use Rattle.handlebars_lines.specs.Binding.{BoundNames, unbound, bound, both_bound}
@@ -8,7 +8,7 @@ use Rattle.handlebars_tags.specs.Tag.{Tag, expression_tag, html_tag, block_tag, 
 use Rattle.handlebars_tags.specs.Trim.{Edge, braces_behind, trimmed, has_element}
 use Rattle.handlebars_tags.specs.Options.{Options}
 use Rattle.handlebars_template.specs.Place.{Place, place}
-use Rattle.handlebars_template.specs.Tree.{Tree, tree, elements_of, Element, raw_string, html_expression, expression, comment, no_arguments, name, no_binding, single, both}
+use Rattle.handlebars_template.specs.Tree.{Tree, tree, elements_of, raw_string, html_expression, expression, comment, no_arguments, name, no_binding, single, both}
 use Rattle.handlebars_template.specs.Tree as tree
 use Rattle.handlebars_template.specs.Calls.{call_of, arguments_in, line_literals, literals_in, first_refused, invalid}
 use Rattle.handlebars_template.specs.Nest.{BlockKind, helper_opening, raw_opening, decorator_opening, partial_opening, Opening, SourcePiece, leaf, opens, inverts, chains, closes, NestFault, unexpected, too_deep, not_closed, mismatched, no_value, Placed, syntax_alone, names_and_literals, Nests, OpenBlock, Opens, Refuses, LeavesOpen}
@@ -21,33 +21,37 @@ block_binding unbound = no_binding
 block_binding (bound x) = single (name x)
 block_binding (both_bound x y) = both (name x) (name y)
 
--- What the opening tag of a block says. Indentation goes before what the block writes where the tag stands alone on its
--- line, without a tilde in front.
-abbrev pub opening_of : BlockKind → Edge → BlockLine → Opening
-opening_of kind e line = record {
+-- Indentation goes before what a block writes where its tag stands alone on its line, without a tilde in front; no
+-- option changes that yet.
+abbrev pub is_indented : Options → Edge → Bool
+is_indented options e = e.standalone && not e.left
+
+-- what the opening tag of a block says
+abbrev pub opening_of : Options → BlockKind → Edge → BlockLine → Opening
+opening_of options kind e line = record {
   kind = kind;
   name = name line.name;
   closing = line.name;
   arguments = arguments_in no_arguments line.terms;
   binding = block_binding line.binding;
-  indent = e.standalone && not e.left;
+  indent = is_indented options e;
 }
 
-abbrev pub tag_piece : Place → Edge → Tag → SourcePiece
-tag_piece p e (expression_tag line) =
+abbrev pub tag_piece : Options → Place → Edge → Tag → SourcePiece
+tag_piece options p e (expression_tag line) =
     leaf p (expression (call_of line.name line.terms)) line.depth (first_refused (line_literals line))
-tag_piece p e (html_tag line) =
+tag_piece options p e (html_tag line) =
     leaf p (html_expression (call_of line.name line.terms)) line.depth (first_refused (line_literals line))
-tag_piece p e (block_tag line) =
-    opens p (opening_of helper_opening e line) line.depth (first_refused (literals_in line.terms))
-tag_piece p e inverse_tag = inverts p
-tag_piece p e (chain_tag line) =
-    chains p (opening_of helper_opening e line) line.depth (first_refused (literals_in line.terms))
-tag_piece p e (close_tag n) = closes p false n
-tag_piece p e (raw_tag line) =
-    opens p (opening_of raw_opening e line) line.depth (first_refused (literals_in line.terms))
-tag_piece p e (raw_close_tag n) = closes p true n
-tag_piece p e (comment_tag t) = leaf p (comment t) 0 None
+tag_piece options p e (block_tag line) =
+    opens p (opening_of options helper_opening e line) line.depth (first_refused (literals_in line.terms))
+tag_piece options p e inverse_tag = inverts p
+tag_piece options p e (chain_tag line) =
+    chains p (opening_of options helper_opening e line) line.depth (first_refused (literals_in line.terms))
+tag_piece options p e (close_tag n) = closes p false n
+tag_piece options p e (raw_tag line) =
+    opens p (opening_of options raw_opening e line) line.depth (first_refused (literals_in line.terms))
+tag_piece options p e (raw_close_tag n) = closes p true n
+tag_piece options p e (comment_tag t) = leaf p (comment t) 0 None
 
 -- a text between two tags, where it has an element
 abbrev pub text_pieces : Options → Place → Edge → Text → Text → Edge → List SourcePiece
@@ -57,7 +61,7 @@ text_pieces options p e slice kept n =
 abbrev pub pieces_in : Options → List Slice → List SourcePiece
 pieces_in options [] = []
 pieces_in options (text_slice p e slice kept n ∷ ps) = text_pieces options p e slice kept n ++ pieces_in options ps
-pieces_in options (tag_slice p slice t e ∷ ps) = tag_piece p e t ∷ pieces_in options ps
+pieces_in options (tag_slice p slice t e ∷ ps) = tag_piece options p e t ∷ pieces_in options ps
 
 abbrev pub tree_of : Options → List Placed → Tree
 tree_of options es = tree options.name (elements_of (map (λ e. e.element) es)) (map (λ e. e.place) es)
@@ -103,8 +107,7 @@ pub record IsUnreadable (source : Text) (options : Options) (at : Place) : Type 
   pub begins : Reads source options before edge slices
   pub depth : ℕ
   pub open_blocks : List OpenBlock
-  pub elements : List Placed
-  pub nests : Opens syntax_alone depth (pieces_in options slices) open_blocks elements
+  pub nests : Opens syntax_alone depth (pieces_in options slices) open_blocks
   pub text : Text
   pub kept : Text
   pub left : Text

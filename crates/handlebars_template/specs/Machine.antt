@@ -1,12 +1,39 @@
 -- How texts and tags nest, as Nest says it, by a machine that goes from piece to piece with the blocks that are open.
 -- Only this crate's own contracts cite it: what is public cites Nest.
-use Rattle.std.specs.Prelude.{ℕ, suc, ◌+◌, nat_lt, Bool, true, false, List, [], ◌∷◌, ◌++◌, Option, None, Some}
+use Rattle.std.specs.Prelude.{ℕ, suc, ◌+◌, nat_lt, Bool, true, false, List, [], ◌∷◌, ◌++◌, map, Option, None, Some}
 use Rattle.std.specs.Option.{option_or}
 use Rattle.handlebars_base.specs.Bytes.{Text}
 use Rattle.handlebars_template.specs.Place.{Place}
 use Rattle.handlebars_template.specs.Tree.{Element, no_body}
 use Rattle.handlebars_template.specs.Calls.{max_nesting}
-use Rattle.handlebars_template.specs.Nest.{BlockKind, Opening, SourcePiece, leaf, opens, inverts, chains, closes, refused_in, NestFault, unexpected, too_deep, mismatched, no_value, Placed, body_with, Branch, block_of, Test, syntax_alone, names_and_literals, may_close, Stage, in_first, in_branch, in_inverse, OpenBlock, may_stand_in}
+use Rattle.handlebars_template.specs.Nest.{BlockKind, Opening, SourcePiece, leaf, opens, inverts, chains, closes, refused_in, NestFault, unexpected, too_deep, mismatched, no_value, Placed, body_with, Branch, block_of, Tried, syntax_alone, names_and_literals, may_close, OpenBlock, may_stand_in}
+
+-- an open block stands in its first body, in a chained inverse, or in its inverse
+pub data Stage : Type 0 where
+  in_first : Stage
+  in_branch : Opening → Stage
+  in_inverse : Stage
+
+abbrev pub is_in_inverse : Stage → Bool
+is_in_inverse in_inverse = true
+is_in_inverse s = false
+
+-- an open block with its elements so far: its place, what its tag says, how much was open around it, its first body and
+-- its whole chained inverses, the stage, and the elements that stood before it
+pub record BlockSoFar : Type 0 where
+  pub place : Place
+  pub opening : Opening
+  pub around : ℕ
+  pub first : List Placed
+  pub branches : List Branch
+  pub stage : Stage
+  pub outside : List Placed
+
+abbrev pub without_elements : BlockSoFar → OpenBlock
+without_elements f = record { place = f.place; opening = f.opening; inverted = is_in_inverse f.stage }
+
+abbrev pub open_in : List BlockSoFar → List OpenBlock
+open_in fs = map without_elements fs
 
 -- the whole block, when its close comes
 abbrev pub closed_block : Stage → Opening → List Placed → List Branch → List Placed → Element
@@ -15,27 +42,27 @@ closed_block (in_branch g) o first branches es =
     block_of o first (branches ++ record { opening = g; elements = es } ∷ []) no_body
 closed_block in_inverse o first branches es = block_of o first branches (body_with es)
 
-abbrev pub closed : OpenBlock → List Placed → Placed
+abbrev pub closed : BlockSoFar → List Placed → Placed
 closed f es = record { place = f.place; element = closed_block f.stage f.opening f.first f.branches es }
 
 -- the open block in its next stage: what stands behind its own was a first body, or a chained inverse
-abbrev pub next_stage : Stage → OpenBlock → List Placed → Stage → OpenBlock
+abbrev pub next_stage : Stage → BlockSoFar → List Placed → Stage → BlockSoFar
 next_stage in_first f es next = record f { first = es; stage = next }
 next_stage (in_branch g) f es next =
     record f { branches = f.branches ++ record { opening = g; elements = es } ∷ []; stage = next }
 next_stage in_inverse f es next = record f { stage = next }
 
-abbrev pub new_open_block : Place → Opening → ℕ → List Placed → OpenBlock
+abbrev pub new_open_block : Place → Opening → ℕ → List Placed → BlockSoFar
 new_open_block p o d es =
     record { place = p; opening = o; around = d; first = []; branches = []; stage = in_first; outside = es }
 
 -- how much is open, the open blocks and the elements of the innermost then, or the fault
 pub data Moved : Type 0 where
-  goes : ℕ → List OpenBlock → List Placed → Moved
+  goes : ℕ → List BlockSoFar → List Placed → Moved
   stops : NestFault → Moved
 
 -- what stands behind a piece that may stand
-abbrev pub behind_piece : SourcePiece → ℕ → List OpenBlock → List Placed → Moved
+abbrev pub behind_piece : SourcePiece → ℕ → List BlockSoFar → List Placed → Moved
 behind_piece (leaf p e n r) d fs es = goes d fs (es ++ record { place = p; element = e } ∷ [])
 behind_piece (opens p o n r) d fs es = goes (suc d) (new_open_block p o d es ∷ fs) []
 behind_piece (inverts p) d [] es = goes d [] es
@@ -91,11 +118,11 @@ late_after late x fs = option_or late (late_in fs x)
 -- ---- a piece
 
 -- what comes late counts where names and literals are tried
-abbrev pub tried : Test → Option NestFault → Option NestFault
+abbrev pub tried : Tried → Option NestFault → Option NestFault
 tried syntax_alone late = None
 tried names_and_literals late = late
 
-abbrev pub fault_in : Test → ℕ → List OpenBlock → SourcePiece → Option NestFault
+abbrev pub fault_in : Tried → ℕ → List OpenBlock → SourcePiece → Option NestFault
 fault_in t d fs x = option_or (early_in d fs x) (tried t (late_in fs x))
 
 abbrev pub unless_fault : Option NestFault → Moved → Moved
@@ -103,11 +130,11 @@ unless_fault None m = m
 unless_fault (Some f) m = stops f
 
 -- what a piece does behind the open blocks and the elements of the innermost
-abbrev pub moved_by : Test → SourcePiece → ℕ → List OpenBlock → List Placed → Moved
-moved_by t x d fs es = unless_fault (fault_in t d fs x) (behind_piece x d fs es)
+abbrev pub moved_by : Tried → SourcePiece → ℕ → List BlockSoFar → List Placed → Moved
+moved_by t x d fs es = unless_fault (fault_in t d (open_in fs) x) (behind_piece x d fs es)
 
 -- The same by cases, so that where it is run a tag is read once.
-abbrev pub apply : Test → SourcePiece → ℕ → List OpenBlock → List Placed → Moved
+abbrev pub apply : Tried → SourcePiece → ℕ → List BlockSoFar → List Placed → Moved
 apply t (leaf p e n r) d fs es = moved_by t (leaf p e n r) d fs es
 apply t (opens p o n r) d fs es = moved_by t (opens p o n r) d fs es
 apply t (inverts p) d fs es = moved_by t (inverts p) d fs es
@@ -122,7 +149,7 @@ pub data End : Type 0 where
   unclosed : Place → End
   refused : NestFault → End
 
-abbrev pub at_end : List OpenBlock → Option NestFault → List Placed → End
+abbrev pub at_end : List BlockSoFar → Option NestFault → List Placed → End
 at_end (f ∷ fs) late es = unclosed f.place
 at_end [] (Some f) es = refused f
 at_end [] None es = complete es

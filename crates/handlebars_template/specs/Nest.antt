@@ -19,9 +19,7 @@ pub data BlockKind : Type 0 where
 -- whether chained inverses and an inverse may stand in it; in a raw block only its end may stand
 abbrev pub admits_inverse : BlockKind → Bool
 admits_inverse helper_opening = true
-admits_inverse raw_opening = false
-admits_inverse decorator_opening = false
-admits_inverse partial_opening = false
+admits_inverse k = false
 
 -- whether a close without a name ends it
 abbrev pub admits_no_name : BlockKind → Bool
@@ -32,10 +30,8 @@ admits_no_name partial_opening = true
 
 -- whether a close is of its kind: of a raw block or of another
 abbrev pub has_close : BlockKind → Bool → Bool
-has_close helper_opening raw = not raw
 has_close raw_opening raw = raw
-has_close decorator_opening raw = not raw
-has_close partial_opening raw = not raw
+has_close k raw = not raw
 
 abbrev pub is_nameless : Text → Bool
 is_nameless m = length m == 0
@@ -126,18 +122,18 @@ block_of o first branches last = helper_block (block_call o first (inverse_of br
 -- ---- what is tried
 
 -- the syntax alone, or also closing names and literals
-pub data Test : Type 0 where
-  syntax_alone : Test
-  names_and_literals : Test
+pub data Tried : Type 0 where
+  syntax_alone : Tried
+  names_and_literals : Tried
 
 -- whether a close by the second text closes a block that the first would close: with no name it does, where that may
 -- end it
-abbrev pub may_close : Test → Text → Text → Bool
+abbrev pub may_close : Tried → Text → Text → Bool
 may_close syntax_alone n m = true
 may_close names_and_literals n m = is_nameless m || bytes_eq n m
 
 -- whether a tag has its values whose first refused literal is this, if it has one
-abbrev pub has_values : Test → Option Text → Bool
+abbrev pub has_values : Tried → Option Text → Bool
 has_values syntax_alone r = true
 has_values names_and_literals r = not (is_some r)
 
@@ -145,7 +141,7 @@ has_values names_and_literals r = not (is_some r)
 
 -- Nests t d ps es: with d blocks and chained inverses open around them, the pieces ps are the elements es.
 mutual
-  pub data Nests (t : Test) : ℕ → List SourcePiece → List Placed → Type 0 where
+  pub data Nests (t : Tried) : ℕ → List SourcePiece → List Placed → Type 0 where
     nothing : {d : ℕ} → Nests t d [] []
     a_leaf : {d : ℕ} {ps : List SourcePiece} {es : List Placed} (p : Place) (e : Element) (n : ℕ) (r : Option Text)
         → d + n ≤ max_nesting → has_values t r ≡ true → Nests t d ps es
@@ -160,7 +156,7 @@ mutual
         (record { place = p; element = block_of o first branches last } ∷ es)
 
   -- chained inverses in a block of this kind, and how much is open behind them
-  pub data Chains (t : Test) : BlockKind → ℕ → List SourcePiece → List Branch → ℕ → Type 0 where
+  pub data Chains (t : Tried) : BlockKind → ℕ → List SourcePiece → List Branch → ℕ → Type 0 where
     no_more : {k : BlockKind} {d : ℕ} → Chains t k d [] [] d
     a_branch : {k : BlockKind} {d e : ℕ} {bs cs : List SourcePiece} {es : List Placed} {branches : List Branch}
         (p : Place) (o : Opening) (n : ℕ) (r : Option Text)
@@ -169,85 +165,43 @@ mutual
         → Chains t k d (chains p o n r ∷ (bs ++ cs)) (record { opening = o; elements = es } ∷ branches) e
 
   -- an inverse in a block of this kind, or none
-  pub data Inverts (t : Test) : BlockKind → ℕ → List SourcePiece → Body → Type 0 where
+  pub data Inverts (t : Tried) : BlockKind → ℕ → List SourcePiece → Body → Type 0 where
     no_inverse : {k : BlockKind} {d : ℕ} → Inverts t k d [] no_body
     an_inverse : {k : BlockKind} {d : ℕ} {bs : List SourcePiece} {es : List Placed} (p : Place)
         → admits_inverse k ≡ true → Nests t d bs es → Inverts t k d (inverts p ∷ bs) (body_with es)
 
 -- ---- blocks that are open
 
--- an open block stands in its first body, in a chained inverse, or in its inverse
-pub data Stage : Type 0 where
-  in_first : Stage
-  in_branch : Opening → Stage
-  in_inverse : Stage
-
--- an open block: its place, what its tag says, how much was open around it, its first body and its whole chained
--- inverses, the stage, and the elements that stood before it
+-- an open block: its place, what its tag says, and whether it stands in its inverse
 pub record OpenBlock : Type 0 where
   pub place : Place
   pub opening : Opening
-  pub around : ℕ
-  pub first : List Placed
-  pub branches : List Branch
-  pub stage : Stage
-  pub outside : List Placed
+  pub inverted : Bool
 
--- BeginsBlock t f qs d es: the pieces qs begin the block f and leave it open, with d open then, behind the elements es.
-pub data BeginsBlock (t : Test) : OpenBlock → List SourcePiece → ℕ → List Placed → Type 0 where
-  in_its_body : {o : ℕ} {bs : List SourcePiece} {es out : List Placed} (p : Place) (x : Opening) (n : ℕ) (r : Option Text)
-      → o + suc n ≤ max_nesting → has_values t r ≡ true → Nests t (suc o) bs es
-      → BeginsBlock t
-      (record { place = p; opening = x; around = o; first = []; branches = []; stage = in_first; outside = out })
-      (opens p x n r ∷ bs) (suc o) es
-  in_a_branch : {o d : ℕ} {bs cs gs : List SourcePiece} {first es out : List Placed} {branches : List Branch}
-      (p q : Place) (x g : Opening) (n k : ℕ) (r u : Option Text)
+-- BeginsBlock t o f qs d: with o open around it, the pieces qs begin the block f and leave it open, with d open then.
+pub data BeginsBlock (t : Tried) : ℕ → OpenBlock → List SourcePiece → ℕ → Type 0 where
+  in_a_body : {o d : ℕ} {bs cs : List SourcePiece} {first : List Placed} {branches : List Branch}
+      (p : Place) (x : Opening) (n : ℕ) (r : Option Text)
       → o + suc n ≤ max_nesting → has_values t r ≡ true → Nests t (suc o) bs first → Chains t x.kind (suc o) cs branches d
-      → admits_inverse x.kind ≡ true → d + suc k ≤ max_nesting → has_values t u ≡ true → Nests t (suc d) gs es
-      → BeginsBlock t
-      (record {
-        place = p;
-        opening = x;
-        around = o;
-        first = first;
-        branches = branches;
-        stage = in_branch g;
-        outside = out;
-      })
-      (opens p x n r ∷ (bs ++ (cs ++ (chains q g k u ∷ gs)))) (suc d) es
-  in_its_inverse : {o d : ℕ} {bs cs gs : List SourcePiece} {first es out : List Placed} {branches : List Branch}
+      → BeginsBlock t o (record { place = p; opening = x; inverted = false }) (opens p x n r ∷ (bs ++ cs)) d
+  in_its_inverse : {o d : ℕ} {bs cs gs : List SourcePiece} {first es : List Placed} {branches : List Branch}
       (p q : Place) (x : Opening) (n : ℕ) (r : Option Text)
       → o + suc n ≤ max_nesting → has_values t r ≡ true → Nests t (suc o) bs first → Chains t x.kind (suc o) cs branches d
       → admits_inverse x.kind ≡ true → Nests t d gs es
-      → BeginsBlock t
-      (record {
-        place = p;
-        opening = x;
-        around = o;
-        first = first;
-        branches = branches;
-        stage = in_inverse;
-        outside = out;
-      })
-      (opens p x n r ∷ (bs ++ (cs ++ (inverts q ∷ gs)))) d es
+      → BeginsBlock t o (record { place = p; opening = x; inverted = true })
+      (opens p x n r ∷ (bs ++ (cs ++ (inverts q ∷ gs)))) d
 
--- Opens t d ps fs es: the pieces ps leave the blocks fs open, the innermost first, with d open then, and the elements es
--- stand in the innermost.
-pub data Opens (t : Test) : ℕ → List SourcePiece → List OpenBlock → List Placed → Type 0 where
-  none_open : {ps : List SourcePiece} {es : List Placed} → Nests t 0 ps es → Opens t 0 ps [] es
-  one_more : {d : ℕ} {f : OpenBlock} {ps qs : List SourcePiece} {fs : List OpenBlock} {es : List Placed}
-      → Opens t f.around ps fs f.outside → BeginsBlock t f qs d es → Opens t d (ps ++ qs) (f ∷ fs) es
+-- Opens t d ps fs: the pieces ps leave the blocks fs open, the innermost first, with d open then.
+pub data Opens (t : Tried) : ℕ → List SourcePiece → List OpenBlock → Type 0 where
+  none_open : {ps : List SourcePiece} {es : List Placed} → Nests t 0 ps es → Opens t 0 ps []
+  one_more : {o d : ℕ} {f : OpenBlock} {ps qs : List SourcePiece} {fs : List OpenBlock}
+      → Opens t o ps fs → BeginsBlock t o f qs d → Opens t d (ps ++ qs) (f ∷ fs)
 
 -- ---- refusals
 
-abbrev pub is_in_inverse : Stage → Bool
-is_in_inverse in_first = false
-is_in_inverse (in_branch o) = false
-is_in_inverse in_inverse = true
-
 -- whether an inverse, chained or not, may stand next in an open block
 abbrev pub takes_inverse : OpenBlock → Bool
-takes_inverse f = not (is_in_inverse f.stage) && admits_inverse f.opening.kind
+takes_inverse f = not f.inverted && admits_inverse f.opening.kind
 
 -- whether a piece may stand next where these blocks are open
 abbrev pub may_stand_in : List OpenBlock → SourcePiece → Bool
@@ -270,7 +224,7 @@ cost (closes p raw m) = 0
 
 -- RefusesAt t d fs x f: with the blocks fs open, and d open in all, the piece x can't stand next. At one tag 'unexpected'
 -- comes before 'too deep', and that before its literals.
-pub data RefusesAt (t : Test) (d : ℕ) : List OpenBlock → SourcePiece → NestFault → Type 0 where
+pub data RefusesAt (t : Tried) (d : ℕ) : List OpenBlock → SourcePiece → NestFault → Type 0 where
   out_of_place : {fs : List OpenBlock} {x : SourcePiece} → may_stand_in fs x ≡ false → RefusesAt t d fs x (unexpected (place_in x))
   past_limit : {fs : List OpenBlock} {x : SourcePiece} → may_stand_in fs x ≡ true → max_nesting < d + cost x
       → RefusesAt t d fs x (too_deep (place_in x))
@@ -281,11 +235,11 @@ pub data RefusesAt (t : Test) (d : ℕ) : List OpenBlock → SourcePiece → Nes
       → RefusesAt t d (f ∷ fs) (closes p raw m) (mismatched f.opening.kind f.opening.closing m p)
 
 -- the first piece that can't stand where it stands
-pub data Refuses (t : Test) : List SourcePiece → NestFault → Type 0 where
-  refuses_at : {d : ℕ} {ps : List SourcePiece} {fs : List OpenBlock} {es : List Placed} {x : SourcePiece} {f : NestFault} (rest : List SourcePiece)
-      → Opens t d ps fs es → RefusesAt t d fs x f → Refuses t (ps ++ x ∷ rest) f
+pub data Refuses (t : Tried) : List SourcePiece → NestFault → Type 0 where
+  refuses_at : {d : ℕ} {ps : List SourcePiece} {fs : List OpenBlock} {x : SourcePiece} {f : NestFault} (rest : List SourcePiece)
+      → Opens t d ps fs → RefusesAt t d fs x f → Refuses t (ps ++ x ∷ rest) f
 
 -- at the end the innermost block is still open
-pub data LeavesOpen (t : Test) : List SourcePiece → NestFault → Type 0 where
-  left_open : {d : ℕ} {f : OpenBlock} {ps : List SourcePiece} {fs : List OpenBlock} {es : List Placed}
-      → Opens t d ps (f ∷ fs) es → LeavesOpen t ps (not_closed f.place)
+pub data LeavesOpen (t : Tried) : List SourcePiece → NestFault → Type 0 where
+  left_open : {d : ℕ} {f : OpenBlock} {ps : List SourcePiece} {fs : List OpenBlock}
+      → Opens t d ps (f ∷ fs) → LeavesOpen t ps (not_closed f.place)

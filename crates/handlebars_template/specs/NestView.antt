@@ -3,8 +3,8 @@ use Rattle.std.specs.Prelude.{◌≡◌, List, [], ◌∷◌, map, reverse, Opti
 use Rattle.handlebars_template.specs.Place.{Place}
 use Rattle.handlebars_template.specs.Tree.{name, Binding, no_binding, single, both}
 use Rattle.handlebars_template.specs.TreeView.{text, place_of, element_view, param_view, arguments_view}
-use Rattle.handlebars_template.specs.Nest.{BlockKind, helper_opening, raw_opening, decorator_opening, partial_opening, Opening, SourcePiece, NestFault, unexpected, too_deep, mismatched, no_value, Placed, Branch, Stage, in_first, in_branch, in_inverse, OpenBlock}
-use Rattle.handlebars_template.specs.Machine.{goes, behind_piece, early_in, late_after, End, complete, unclosed, refused}
+use Rattle.handlebars_template.specs.Nest.{BlockKind, helper_opening, raw_opening, decorator_opening, partial_opening, Opening, SourcePiece, NestFault, unexpected, too_deep, mismatched, no_value, Placed, Branch}
+use Rattle.handlebars_template.specs.Machine.{Stage, in_first, in_branch, in_inverse, BlockSoFar, open_in, goes, behind_piece, early_in, late_after, End, complete, unclosed, refused}
 use Rattle.handlebars_template.specs.declared.template.tree.TemplateMapping.{TemplateMapping}
 use Rattle.handlebars_template.specs.declared.template.tree.TemplateElement.{TemplateElement}
 use Rattle.handlebars_template.specs.declared.template.placed.PlacedElements.{PlacedElements}
@@ -63,7 +63,7 @@ stage_view stage.First = in_first
 stage_view (stage.Chained o) = in_branch (opening_view o)
 stage_view stage.Inverse = in_inverse
 
-abbrev pub open_block_view : BuiltBlock → OpenBlock
+abbrev pub open_block_view : BuiltBlock → BlockSoFar
 open_block_view b = record {
   place = place_of b.place;
   opening = opening_view b.opening;
@@ -75,7 +75,7 @@ open_block_view b = record {
 }
 
 -- the innermost first
-abbrev pub stack_view : List BuiltBlock → List OpenBlock
+abbrev pub stack_view : List BuiltBlock → List BlockSoFar
 stack_view bs = reverse (map open_block_view bs)
 
 abbrev pub late_fault : Late → NestFault
@@ -86,7 +86,7 @@ abbrev pub late_view : Option Late → Option NestFault
 late_view None = None
 late_view (Some l) = Some (late_fault l)
 
-abbrev pub open_blocks : Nesting → List OpenBlock
+abbrev pub open_blocks : Nesting → List BlockSoFar
 open_blocks state = stack_view state.stack.items
 
 abbrev pub late_of : Nesting → Option NestFault
@@ -94,7 +94,7 @@ late_of state = late_view state.late
 
 -- why the syntax refuses a piece, if it does
 abbrev pub early : Nesting → SourcePiece → Option NestFault
-early state x = early_in state.depth (open_blocks state) x
+early state x = early_in state.depth (open_in (open_blocks state)) x
 
 abbrev pub syntax_fault : Place → SyntaxFault → NestFault
 syntax_fault p syntax.Unexpected = unexpected p
@@ -108,7 +108,7 @@ Looks p fault seen = option_map (syntax_fault p) seen ≡ fault
 pub record IsBehind (old : Nesting) (x : SourcePiece) (new : Nesting) : Type 0 where
   pub goes_on : behind_piece x old.depth (open_blocks old) (placed_view old.elements)
       ≡ goes new.depth (open_blocks new) (placed_view new.elements)
-  pub late : late_of new ≡ late_after (late_of old) x (open_blocks old)
+  pub late : late_of new ≡ late_after (late_of old) x (open_in (open_blocks old))
 
 -- It does what the piece does, where that may stand.
 abbrev pub Does : Nesting → SourcePiece → Nesting → Type 0

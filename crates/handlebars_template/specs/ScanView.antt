@@ -29,20 +29,20 @@ value_piece is_escaped p line =
     leaf p (value_element is_escaped (call_of line.name line.terms)) line.depth (first_refused (line_literals line))
 
 -- the opening tag of a block of this kind
-abbrev pub block_piece : BlockKind → Place → Edge → BlockLine → SourcePiece
-block_piece kind p e line =
-    opens p (opening_of kind e line) line.depth (first_refused (literals_in line.terms))
+abbrev pub block_piece : Options → BlockKind → Place → Edge → BlockLine → SourcePiece
+block_piece options kind p e line =
+    opens p (opening_of options kind e line) line.depth (first_refused (literals_in line.terms))
 
-abbrev pub chain_piece : Place → Edge → BlockLine → SourcePiece
-chain_piece p e line = chains p (opening_of helper_opening e line) line.depth (first_refused (literals_in line.terms))
+abbrev pub chain_piece : Options → Place → Edge → BlockLine → SourcePiece
+chain_piece options p e line = chains p (opening_of options helper_opening e line) line.depth (first_refused (literals_in line.terms))
 
 -- the opening that this line of a block says, and its first refused literal
-pub record HasOpening (kind : BlockKind) (e : Edge) (line : BlockLine) (built : BuiltOpening) : Type 0 where
-  pub opening : opening_view built.opening ≡ opening_of kind e line
+pub record HasOpening (options : Options) (kind : BlockKind) (e : Edge) (line : BlockLine) (built : BuiltOpening) : Type 0 where
+  pub opening : opening_view built.opening ≡ opening_of options kind e line
   pub refused : option_map (λ t. t.now) built.refused ≡ first_refused (literals_in line.terms)
 
-abbrev pub IsOpening : BlockKind → Edge → BlockLine → Option BuiltOpening → Type 0
-IsOpening kind e line read = MatchOption read ⊥ (HasOpening kind e line)
+abbrev pub IsOpening : Options → BlockKind → Edge → BlockLine → Option BuiltOpening → Type 0
+IsOpening options kind e line read = MatchOption read ⊥ (HasOpening options kind e line)
 
 -- ---- texts
 

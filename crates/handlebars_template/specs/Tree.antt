@@ -189,15 +189,8 @@ is_value h = lacks_arguments (call_args h)
 
 -- the call of an expression; no other element has one here
 abbrev pub expression_call : Element → Option Call
-expression_call (raw_string t) = None
-expression_call (html_expression h) = None
 expression_call (expression h) = Some h
-expression_call (helper_block h) = None
-expression_call (decorator_expression d) = None
-expression_call (decorator_block d) = None
-expression_call (partial_expression d) = None
-expression_call (partial_block d) = None
-expression_call (comment t) = None
+expression_call e = None
 
 -- the text of an expression's name, as written
 abbrev pub element_name : Element → Option Text

@@ -3,8 +3,8 @@
 ghost use Rattle.std.specs.Prelude.{◌≡◌, ◌∷◌, [], IfOk, map};
 ghost use Rattle.handlebars_template.specs.Tree.{helper_block, body};
 ghost use Rattle.handlebars_template.specs.TreeView.{tree_view, call_view, body_view, block_param_view};
-ghost use Rattle.handlebars_template.specs.Nest.{admits_inverse, admits_no_name, has_close, may_end, block_call, inverse_of, in_branch, in_inverse};
-ghost use Rattle.handlebars_template.specs.Machine.{closed_block};
+ghost use Rattle.handlebars_template.specs.Nest.{admits_inverse, admits_no_name, has_close, may_end, block_call, inverse_of};
+ghost use Rattle.handlebars_template.specs.Machine.{in_branch, in_inverse, closed_block};
 ghost use Rattle.handlebars_template.specs.NestView.{placed_view, names_view, kind_view, opening_view, branch_view, stage_view};
 
 use crate::template::arguments::Arguments;

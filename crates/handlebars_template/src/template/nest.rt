@@ -7,8 +7,8 @@ ghost use Rattle.handlebars_template.specs.Place.{Place};
 ghost use Rattle.handlebars_template.specs.Tree.{Element};
 ghost use Rattle.handlebars_template.specs.Calls.{max_nesting};
 ghost use Rattle.handlebars_template.specs.TreeView.{element_view, place_of};
-ghost use Rattle.handlebars_template.specs.Nest.{Opening, leaf, opens, inverts, chains, closes, names_and_literals, may_close, is_in_inverse, takes_inverse};
-ghost use Rattle.handlebars_template.specs.Machine.{at_end, closed, new_open_block, next_stage, literal_fault, name_fault};
+ghost use Rattle.handlebars_template.specs.Nest.{Opening, leaf, opens, inverts, chains, closes, names_and_literals, may_close, takes_inverse};
+ghost use Rattle.handlebars_template.specs.Machine.{is_in_inverse, without_elements, at_end, closed, new_open_block, next_stage, literal_fault, name_fault};
 ghost use Rattle.handlebars_template.specs.NestView.{placed_view, kind_view, opening_view, stage_view, open_block_view, open_blocks, late_view, late_of, early, Looks, Does, end_view};
 
 use crate::template::chain::{BlockKind, BlockOpening, Branch, Stage, closed_block};
@@ -183,7 +183,7 @@ impl OpenBlock {
 
     // Whether an inverse, chained or not, may stand next.
     fn takes_inverse(&self) -> bool
-        ensures { result ≡ takes_inverse (open_block_view self.now) }
+        ensures { result ≡ takes_inverse (without_elements (open_block_view self.now)) }
     {
         !is_in_inverse(&self.stage) && self.opening.kind.admits_inverse()
     }

@@ -56,7 +56,7 @@ pub fn scan(alloc: Global, source: &str, options: &TemplateOptions) -> Result<Sc
         if let Some(fault) = look(&nesting, tag.content, tag.depth) {
             return Ok(Scanned::Misplaced(fault, at));
         }
-        take_tag(alloc, &mut nesting, at, tag.content, next)?;
+        take_tag(alloc, &mut nesting, options, at, tag.content, next)?;
         place = advance(at, spelled);
         fresh = fresh_behind(fresh_here, spelled);
         edge = next;

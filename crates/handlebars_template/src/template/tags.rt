@@ -1,13 +1,15 @@
 //! What is built of tags, and how they stand in the nesting.
 
-ghost use Rattle.std.specs.Prelude.{◌≡◌, ◌&&◌, not, None, IfOk, OnOk};
+ghost use Rattle.std.specs.Prelude.{◌≡◌, None, IfOk, OnOk};
 ghost use Rattle.handlebars_base.specs.Bytes.{Text};
 ghost use Rattle.handlebars_lines.specs.Line.{value_name, Line, in_tag, IsLine};
 ghost use Rattle.handlebars_lines.specs.BindingView.{bound_names_of};
 ghost use Rattle.handlebars_tags.specs.Tag.{Tag, tag_depth, is_raw_close, BlockLine};
+ghost use Rattle.handlebars_tags.specs.Options.{Options};
 ghost use Rattle.handlebars_tags.specs.Trim.{Edge as TextEdge, may_stand_alone, opens_raw, edge_with};
 ghost use Rattle.handlebars_tags.specs.TrimView.{edge_view};
 ghost use Rattle.handlebars_tags.specs.TagView.{Holds, IsBlockSlice};
+ghost use Rattle.handlebars_template.specs.OptionsView.{options_view};
 ghost use Rattle.handlebars_template.specs.Place.{Place};
 ghost use Rattle.handlebars_template.specs.TreeView.{call_view, element_view, place_of};
 ghost use Rattle.handlebars_template.specs.Tree.{comment, name, no_arguments};
@@ -15,10 +17,11 @@ ghost use Rattle.handlebars_template.specs.Nest.{leaf};
 ghost use Rattle.handlebars_template.specs.NestView.{names_view, kind_view, opening_view, early, Looks, Does};
 ghost use Rattle.handlebars_template.specs.Cut.{may_follow};
 ghost use Rattle.handlebars_template.specs.ScanView.{value_element, value_piece, block_piece, chain_piece, IsOpening};
-ghost use Rattle.handlebars_template.specs.Compile.{block_binding, tag_piece};
+ghost use Rattle.handlebars_template.specs.Compile.{block_binding, is_indented, tag_piece};
 
 use crate::template::arguments::Arguments;
 use crate::template::chain::{BlockKind, BlockNames, BlockOpening};
+use crate::template::compile::TemplateOptions;
 use crate::template::line::build_line;
 use crate::template::nest::{Nesting, SyntaxFault};
 use crate::template::tree::{HelperTemplate, Parameter, TemplateElement, TemplateMapping};
@@ -101,8 +104,8 @@ pub fn edge_behind<'s>(fresh: bool, blanks: &'s str, tag: TagSlice<'_>) -> Edge<
 
 /// Whether a tag may stand next, with this many parentheses and brackets open in it. Nothing is built of it yet.
 pub fn look(nesting: &Nesting, content: Content<'_>, depth: usize) -> Option<SyntaxFault>
-    ensures { (p : Place) (e : TextEdge) (tag : Tag) → Holds content.entry tag → tag_depth tag ≡ depth
-        → Looks p (early nesting.now (tag_piece p e tag)) result }
+    ensures { (options : Options) (p : Place) (e : TextEdge) (tag : Tag) → Holds content.entry tag → tag_depth tag ≡ depth
+        → Looks p (early nesting.now (tag_piece options p e tag)) result }
 {
     match content {
         Content::Expression(_) => nesting.look_at_leaf(depth),
@@ -132,8 +135,8 @@ fn block_names(alloc: Global, binding: BoundNames<'_>) -> Result<BlockNames, All
 }
 
 // Indentation goes before what a block writes where its tag stands alone, without a tilde in front.
-fn is_indented(edge: Edge<'_>) -> bool
-    ensures { result ≡ edge.entry.standalone && not edge.entry.left }
+fn is_indented(options: &TemplateOptions, edge: Edge<'_>) -> bool
+    ensures { result ≡ is_indented (options_view options.now) (edge_view edge.entry) }
 {
     edge.standalone && !edge.left
 }
@@ -148,6 +151,7 @@ struct BuiltOpening<'a> {
 // With no arguments yet.
 fn bare_opening(
     alloc: Global,
+    options: &TemplateOptions,
     block: BlockSlice<'_>,
     kind: BlockKind,
     edge: Edge<'_>,
@@ -159,7 +163,7 @@ fn bare_opening(
           closing = block.entry.name.now;
           arguments = no_arguments;
           binding = block_binding (bound_names_of block.entry.binding);
-          indent = (edge_view edge.entry).standalone && not (edge_view edge.entry).left;
+          indent = is_indented (options_view options.now) (edge_view edge.entry);
         }) }
 {
     let name = String::from_str(alloc, block.name)?;
@@ -171,24 +175,25 @@ fn bare_opening(
         closing,
         arguments: Arguments::new(alloc),
         names,
-        indent_before_write: is_indented(edge),
+        indent_before_write: is_indented(options, edge),
     })
 }
 
 // Where no line of a block stands there, the answer says nothing.
 fn opening<'a>(
     alloc: Global,
+    options: &TemplateOptions,
     block: BlockSlice<'a>,
     kind: BlockKind,
     edge: Edge<'_>,
 ) -> Result<Option<BuiltOpening<'a>>, AllocError>
     ensures { IfOk result (λ built. (line : BlockLine) (rest : Text) → IsBlockSlice block.entry line rest
-        → IsOpening (kind_view kind) (edge_view edge.entry) line built) }
+        → IsOpening (options_view options.now) (kind_view kind) (edge_view edge.entry) line built) }
 {
     let Some(line) = build_line(alloc, NameMode::Identifier, Enclosure::Block, block.line)? else {
         return Ok(None);
     };
-    let mut opening = bare_opening(alloc, block, kind, edge)?;
+    let mut opening = bare_opening(alloc, options, block, kind, edge)?;
     let refused = line.refused;
     opening.arguments = line.into_arguments();
     Ok(Some(BuiltOpening { opening, refused }))
@@ -225,15 +230,17 @@ fn add_value(
 fn begin(
     alloc: Global,
     nesting: &mut Nesting,
+    options: &TemplateOptions,
     at: TemplateMapping,
     block: BlockSlice<'_>,
     kind: BlockKind,
     edge: Edge<'_>,
 ) -> Result<(), AllocError>
     ensures { OnOk result ((line : BlockLine) (rest : Text) → IsBlockSlice block.entry line rest
-        → Does nesting.old (block_piece (kind_view kind) (place_of at) (edge_view edge.entry) line) nesting.new) }
+        → Does nesting.old (block_piece (options_view options.now) (kind_view kind) (place_of at) (edge_view edge.entry) line)
+        nesting.new) }
 {
-    match opening(alloc, block, kind, edge)? {
+    match opening(alloc, options, block, kind, edge)? {
         Some(built) => nesting.begin(alloc, at, built.opening, built.refused),
         None => Ok(()),
     }
@@ -242,14 +249,15 @@ fn begin(
 fn chain(
     alloc: Global,
     nesting: &mut Nesting,
+    options: &TemplateOptions,
     at: TemplateMapping,
     block: BlockSlice<'_>,
     edge: Edge<'_>,
 ) -> Result<(), AllocError>
     ensures { OnOk result ((line : BlockLine) (rest : Text) → IsBlockSlice block.entry line rest
-        → Does nesting.old (chain_piece (place_of at) (edge_view edge.entry) line) nesting.new) }
+        → Does nesting.old (chain_piece (options_view options.now) (place_of at) (edge_view edge.entry) line) nesting.new) }
 {
-    match opening(alloc, block, BlockKind::Helper, edge)? {
+    match opening(alloc, options, block, BlockKind::Helper, edge)? {
         Some(built) => nesting.chain(alloc, at, built.opening, built.refused),
         None => Ok(()),
     }
@@ -271,21 +279,22 @@ fn add_comment(
 pub fn take_tag(
     alloc: Global,
     nesting: &mut Nesting,
+    options: &TemplateOptions,
     at: TemplateMapping,
     content: Content<'_>,
     edge: Edge<'_>,
 ) -> Result<(), AllocError>
     ensures { OnOk result ((tag : Tag) → Holds content.entry tag
-        → Does nesting.old (tag_piece (place_of at) (edge_view edge.entry) tag) nesting.new) }
+        → Does nesting.old (tag_piece (options_view options.now) (place_of at) (edge_view edge.entry) tag) nesting.new) }
 {
     match content {
         Content::Expression(text) => add_value(alloc, nesting, at, text, true),
         Content::Html(text) => add_value(alloc, nesting, at, text, false),
-        Content::Block(block) => begin(alloc, nesting, at, block, BlockKind::Helper, edge),
+        Content::Block(block) => begin(alloc, nesting, options, at, block, BlockKind::Helper, edge),
         Content::Inverse => nesting.invert(alloc, at),
-        Content::Chain(block) => chain(alloc, nesting, at, block, edge),
+        Content::Chain(block) => chain(alloc, nesting, options, at, block, edge),
         Content::Close(name) => nesting.close(alloc, at, false, name),
-        Content::RawBlock(block) => begin(alloc, nesting, at, block, BlockKind::Raw, edge),
+        Content::RawBlock(block) => begin(alloc, nesting, options, at, block, BlockKind::Raw, edge),
         Content::RawClose(name) => nesting.close(alloc, at, true, name),
         Content::Comment(text) => add_comment(alloc, nesting, at, text),
     }

@@ -9,7 +9,7 @@ use Rattle.handlebars_tags.proofs.OneTag.{one_tag}
 use Rattle.handlebars_template.specs.Place.{behind}
 use Rattle.handlebars_template.specs.OptionsView.{options_view}
 use Rattle.handlebars_template.specs.TreeView.{place_of}
-use Rattle.handlebars_template.specs.Machine.{early_in}
+use Rattle.handlebars_template.specs.Machine.{open_in, early_in}
 use Rattle.handlebars_template.specs.Compile.{tag_piece}
 use Rattle.handlebars_template.specs.NestView.{placed_view, open_blocks, late_of, syntax_fault, end_view}
 use Rattle.handlebars_template.proofs.NestsFits.{apply-early, apply-stops}
@@ -66,8 +66,8 @@ returns-in-Some-look c =
     (late_of state) state.depth (open_blocks state) (placed_view state.elements)
     (record { depth = c.in_ok-add_text.ensures.depth; open_blocks = c.in_ok-add_text.ensures.open_blocks; kept_late = c.in_ok-add_text.ensures.late; elements = c.in_ok-add_text.ensures.elements })
     (syntax_fault at c.in-Some-look.fault)
-    (apply-stops (tag_piece at next f.tag) state.depth (open_blocks state) (placed_view state.elements) (syntax_fault at c.in-Some-look.fault)
-    (sym (rw c.in-Some-look.is at (c.look.ensures at next f.tag f.holds f.deep))))
+    (apply-stops (tag_piece (options_view c.args.options.now) at next f.tag) state.depth (open_blocks state) (placed_view state.elements) (syntax_fault at c.in-Some-look.fault)
+    (sym (rw c.in-Some-look.is at (c.look.ensures (options_view c.args.options.now) at next f.tag f.holds f.deep))))
 
 pub advance-place-requires-clause-line : goal.advance-place-requires-clause-line
 advance-place-requires-clause-line c =
@@ -97,7 +97,7 @@ tags-preserved c =
     let state = c.add_text.new.nesting in
     let last = c.take_tag.new.nesting in
     let rest_utf8 : IsUtf8 rest = search rules in
-    let early : early_in state.depth (open_blocks state) (tag_piece at next f.tag) ≡ None = sym (rw c.in_default-look.is at (c.look.ensures at next f.tag f.holds f.deep)) in
+    let early : early_in state.depth (open_in (open_blocks state)) (tag_piece (options_view c.args.options.now) at next f.tag) ≡ None = sym (rw c.in_default-look.is at (c.look.ensures (options_view c.args.options.now) at next f.tag f.holds f.deep)) in
     let done = c.in_ok-take_tag.ensures f.tag f.holds early in
     let same : c.split_at.result.0.now ≡ f.slice = c.split_at.ensures.front ∙ take-front left f.slice rest f.whole in
     record {
@@ -114,7 +114,7 @@ tags-preserved c =
           (late_of state) state.depth (open_blocks state) (placed_view state.elements)
           (record { depth = c.in_ok-add_text.ensures.depth; open_blocks = c.in_ok-add_text.ensures.open_blocks; kept_late = c.in_ok-add_text.ensures.late; elements = c.in_ok-add_text.ensures.elements })
           (late_of last) last.depth (open_blocks last) (placed_view last.elements)
-          (apply-early (tag_piece at next f.tag) state.depth (open_blocks state) (placed_view state.elements) _ early done.goes_on) done.late
+          (apply-early (tag_piece (options_view c.args.options.now) at next f.tag) state.depth (open_blocks state) (placed_view state.elements) _ early done.goes_on) done.late
           front.slice.now (string_bytes front.kept) front.rest.now (place_of c.advance-place.result) c.fresh_behind-fresh.result
           (record {
             parts = c.in_ok-front-2.ensures.whole;

@@ -8,38 +8,38 @@ use Rattle.handlebars_template.proofs.TagsBuilt.{Looks-at}
 use Rattle.handlebars_template.proofs.template.tags.look.Goals as goal
 
 pub returns-in-Expression : goal.returns-in-Expression
-returns-in-Expression c p e tag holds deep =
+returns-in-Expression c options p e tag holds deep =
     let h = rw c.in-Expression.is at holds in
-    Looks-at c.args.nesting.now p e c.look_at_leaf.result tag (expression_tag h.line) (λ n. leaf p (expression (call_of h.line.name h.line.terms)) n (first_refused (line_literals h.line))) c.args.depth h.gives deep refl (c.look_at_leaf.ensures p (expression (call_of h.line.name h.line.terms)) (first_refused (line_literals h.line)))
+    Looks-at options c.args.nesting.now p e c.look_at_leaf.result tag (expression_tag h.line) (λ n. leaf p (expression (call_of h.line.name h.line.terms)) n (first_refused (line_literals h.line))) c.args.depth h.gives deep refl (c.look_at_leaf.ensures p (expression (call_of h.line.name h.line.terms)) (first_refused (line_literals h.line)))
 
 pub returns-in-Html : goal.returns-in-Html
-returns-in-Html c p e tag holds deep =
+returns-in-Html c options p e tag holds deep =
     let h = rw c.in-Html.is at holds in
-    Looks-at c.args.nesting.now p e c.look_at_leaf-in-Html.result tag (html_tag h.line) (λ n. leaf p (html_expression (call_of h.line.name h.line.terms)) n (first_refused (line_literals h.line))) c.args.depth h.gives deep refl (c.look_at_leaf-in-Html.ensures p (html_expression (call_of h.line.name h.line.terms)) (first_refused (line_literals h.line)))
+    Looks-at options c.args.nesting.now p e c.look_at_leaf-in-Html.result tag (html_tag h.line) (λ n. leaf p (html_expression (call_of h.line.name h.line.terms)) n (first_refused (line_literals h.line))) c.args.depth h.gives deep refl (c.look_at_leaf-in-Html.ensures p (html_expression (call_of h.line.name h.line.terms)) (first_refused (line_literals h.line)))
 
 pub returns-in-Block : goal.returns-in-Block
-returns-in-Block c p e tag holds deep =
+returns-in-Block c options p e tag holds deep =
     let h = rw c.in-Block.is at holds in
-    Looks-at c.args.nesting.now p e c.look_at_opening.result tag (block_tag h.line) (λ n. opens p (opening_of helper_opening e h.line) n (first_refused (literals_in h.line.terms))) c.args.depth h.gives deep refl (c.look_at_opening.ensures p (opening_of helper_opening e h.line) (first_refused (literals_in h.line.terms)))
+    Looks-at options c.args.nesting.now p e c.look_at_opening.result tag (block_tag h.line) (λ n. opens p (opening_of options helper_opening e h.line) n (first_refused (literals_in h.line.terms))) c.args.depth h.gives deep refl (c.look_at_opening.ensures p (opening_of options helper_opening e h.line) (first_refused (literals_in h.line.terms)))
 
 pub returns-in-Inverse : goal.returns-in-Inverse
-returns-in-Inverse c p e tag holds deep = Looks-at c.args.nesting.now p e c.look_at_inverse.result tag inverse_tag (λ n. inverts p) c.args.depth (rw c.in-Inverse.is at holds) deep refl (c.look_at_inverse.ensures p)
+returns-in-Inverse c options p e tag holds deep = Looks-at options c.args.nesting.now p e c.look_at_inverse.result tag inverse_tag (λ n. inverts p) c.args.depth (rw c.in-Inverse.is at holds) deep refl (c.look_at_inverse.ensures p)
 
 pub returns-in-Chain : goal.returns-in-Chain
-returns-in-Chain c p e tag holds deep =
+returns-in-Chain c options p e tag holds deep =
     let h = rw c.in-Chain.is at holds in
-    Looks-at c.args.nesting.now p e c.look_at_chained.result tag (chain_tag h.line) (λ n. chains p (opening_of helper_opening e h.line) n (first_refused (literals_in h.line.terms))) c.args.depth h.gives deep refl (c.look_at_chained.ensures p (opening_of helper_opening e h.line) (first_refused (literals_in h.line.terms)))
+    Looks-at options c.args.nesting.now p e c.look_at_chained.result tag (chain_tag h.line) (λ n. chains p (opening_of options helper_opening e h.line) n (first_refused (literals_in h.line.terms))) c.args.depth h.gives deep refl (c.look_at_chained.ensures p (opening_of options helper_opening e h.line) (first_refused (literals_in h.line.terms)))
 
 pub returns-in-Close : goal.returns-in-Close
-returns-in-Close c p e tag holds deep = Looks-at c.args.nesting.now p e c.look_at_close.result tag (close_tag c.in-Close.name.now) (λ n. closes p false c.in-Close.name.now) c.args.depth (rw c.in-Close.is at holds) deep refl (c.look_at_close.ensures p)
+returns-in-Close c options p e tag holds deep = Looks-at options c.args.nesting.now p e c.look_at_close.result tag (close_tag c.in-Close.name.now) (λ n. closes p false c.in-Close.name.now) c.args.depth (rw c.in-Close.is at holds) deep refl (c.look_at_close.ensures p)
 
 pub returns-in-RawBlock : goal.returns-in-RawBlock
-returns-in-RawBlock c p e tag holds deep =
+returns-in-RawBlock c options p e tag holds deep =
     let h = rw c.in-RawBlock.is at holds in
-    Looks-at c.args.nesting.now p e c.look_at_opening-in-RawBlock.result tag (raw_tag h.line) (λ n. opens p (opening_of raw_opening e h.line) n (first_refused (literals_in h.line.terms))) c.args.depth h.gives deep refl (c.look_at_opening-in-RawBlock.ensures p (opening_of raw_opening e h.line) (first_refused (literals_in h.line.terms)))
+    Looks-at options c.args.nesting.now p e c.look_at_opening-in-RawBlock.result tag (raw_tag h.line) (λ n. opens p (opening_of options raw_opening e h.line) n (first_refused (literals_in h.line.terms))) c.args.depth h.gives deep refl (c.look_at_opening-in-RawBlock.ensures p (opening_of options raw_opening e h.line) (first_refused (literals_in h.line.terms)))
 
 pub returns-in-RawClose : goal.returns-in-RawClose
-returns-in-RawClose c p e tag holds deep = Looks-at c.args.nesting.now p e c.look_at_close-in-RawClose.result tag (raw_close_tag c.in-RawClose.name.now) (λ n. closes p true c.in-RawClose.name.now) c.args.depth (rw c.in-RawClose.is at holds) deep refl (c.look_at_close-in-RawClose.ensures p)
+returns-in-RawClose c options p e tag holds deep = Looks-at options c.args.nesting.now p e c.look_at_close-in-RawClose.result tag (raw_close_tag c.in-RawClose.name.now) (λ n. closes p true c.in-RawClose.name.now) c.args.depth (rw c.in-RawClose.is at holds) deep refl (c.look_at_close-in-RawClose.ensures p)
 
 pub returns-in-Comment : goal.returns-in-Comment
-returns-in-Comment c p e tag holds deep = Looks-at c.args.nesting.now p e c.look_at_leaf-in-Comment.result tag (comment_tag c.in-Comment.field-0.now) (λ n. leaf p (comment c.in-Comment.field-0.now) 0 None) c.args.depth (rw c.in-Comment.is at holds) deep refl (c.look_at_leaf-in-Comment.ensures p (comment c.in-Comment.field-0.now) None)
+returns-in-Comment c options p e tag holds deep = Looks-at options c.args.nesting.now p e c.look_at_leaf-in-Comment.result tag (comment_tag c.in-Comment.field-0.now) (λ n. leaf p (comment c.in-Comment.field-0.now) 0 None) c.args.depth (rw c.in-Comment.is at holds) deep refl (c.look_at_leaf-in-Comment.ensures p (comment c.in-Comment.field-0.now) None)

@@ -1,21 +1,22 @@
 use Rattle.std.proofs.lemmas.Result.{on_ok_weaker}
 use Rattle.handlebars_tags.specs.Tag.{expression_tag, html_tag, block_tag, chain_tag, raw_tag}
 use Rattle.handlebars_tags.specs.TrimView.{edge_view}
+use Rattle.handlebars_template.specs.OptionsView.{options_view}
 use Rattle.handlebars_template.specs.TreeView.{place_of}
 use Rattle.handlebars_template.proofs.TagsBuilt.{Does-line, Does-block}
 use Rattle.handlebars_template.proofs.template.tags.take_tag.Goals as goal
 
 pub returns-in-Expression : goal.returns-in-Expression
-returns-in-Expression c = on_ok_weaker c.add_value.result (λ does tag holds. Does-line c.args.nesting.now c.add_value.new.nesting (place_of c.args.at) (edge_view c.args.edge) expression_tag _ tag (rw c.in-Expression.is at holds) does) c.add_value.ensures
+returns-in-Expression c = on_ok_weaker c.add_value.result (λ does tag holds. Does-line (options_view c.args.options.now) c.args.nesting.now c.add_value.new.nesting (place_of c.args.at) (edge_view c.args.edge) expression_tag _ tag (rw c.in-Expression.is at holds) does) c.add_value.ensures
 
 pub returns-in-Html : goal.returns-in-Html
-returns-in-Html c = on_ok_weaker c.add_value-in-Html.result (λ does tag holds. Does-line c.args.nesting.now c.add_value-in-Html.new.nesting (place_of c.args.at) (edge_view c.args.edge) html_tag _ tag (rw c.in-Html.is at holds) does) c.add_value-in-Html.ensures
+returns-in-Html c = on_ok_weaker c.add_value-in-Html.result (λ does tag holds. Does-line (options_view c.args.options.now) c.args.nesting.now c.add_value-in-Html.new.nesting (place_of c.args.at) (edge_view c.args.edge) html_tag _ tag (rw c.in-Html.is at holds) does) c.add_value-in-Html.ensures
 
 pub returns-in-Block : goal.returns-in-Block
-returns-in-Block c = on_ok_weaker c.begin.result (λ does tag holds. Does-block c.args.nesting.now c.begin.new.nesting (place_of c.args.at) (edge_view c.args.edge) block_tag _ tag (rw c.in-Block.is at holds) does) c.begin.ensures
+returns-in-Block c = on_ok_weaker c.begin.result (λ does tag holds. Does-block (options_view c.args.options.now) c.args.nesting.now c.begin.new.nesting (place_of c.args.at) (edge_view c.args.edge) block_tag _ tag (rw c.in-Block.is at holds) does) c.begin.ensures
 
 pub returns-in-Chain : goal.returns-in-Chain
-returns-in-Chain c = on_ok_weaker c.chain.result (λ does tag holds. Does-block c.args.nesting.now c.chain.new.nesting (place_of c.args.at) (edge_view c.args.edge) chain_tag _ tag (rw c.in-Chain.is at holds) does) c.chain.ensures
+returns-in-Chain c = on_ok_weaker c.chain.result (λ does tag holds. Does-block (options_view c.args.options.now) c.args.nesting.now c.chain.new.nesting (place_of c.args.at) (edge_view c.args.edge) chain_tag _ tag (rw c.in-Chain.is at holds) does) c.chain.ensures
 
 pub returns-in-RawBlock : goal.returns-in-RawBlock
-returns-in-RawBlock c = on_ok_weaker c.begin-in-RawBlock.result (λ does tag holds. Does-block c.args.nesting.now c.begin-in-RawBlock.new.nesting (place_of c.args.at) (edge_view c.args.edge) raw_tag _ tag (rw c.in-RawBlock.is at holds) does) c.begin-in-RawBlock.ensures
+returns-in-RawBlock c = on_ok_weaker c.begin-in-RawBlock.result (λ does tag holds. Does-block (options_view c.args.options.now) c.args.nesting.now c.begin-in-RawBlock.new.nesting (place_of c.args.at) (edge_view c.args.edge) raw_tag _ tag (rw c.in-RawBlock.is at holds) does) c.begin-in-RawBlock.ensures

@@ -1,8 +1,8 @@
 use Rattle.std.proofs.Common.{◌≡◌, ◌∙◌, List, ◌∷◌, [], suc, ◌<◌, ap, sym, rules}
 use Rattle.std.specs.Option.{option_or}
 use Rattle.handlebars_template.specs.Calls.{max_nesting}
-use Rattle.handlebars_template.specs.Nest.{OpenBlock, Placed, in_branch}
-use Rattle.handlebars_template.specs.Machine.{goes, next_stage}
+use Rattle.handlebars_template.specs.Nest.{Placed}
+use Rattle.handlebars_template.specs.Machine.{in_branch, BlockSoFar, goes, next_stage}
 use Rattle.handlebars_template.specs.NestView.{placed_view, opening_view, stage_view, open_block_view, stack_view, open_blocks, late_of}
 use Rattle.handlebars_template.proofs.NestsBuilt.{stack_view_push}
 use Rattle.handlebars_template.proofs.NestsDone.{option_or-none, chains-goes}
@@ -23,6 +23,6 @@ returns c n may =
     let none : placed_view new.elements ≡ [] = c.keep.ensures.elements ∙ search rules in
     record {
       goes_on = chains-goes _ _ n _ old.depth new.depth (open_block_view c.in-Some.block) (open_block_view c.enter.new.self) (open_blocks old) behind (placed_view old.elements) front next (rw (c.keep.ensures.depth) more) may
-          ∙ ap (λ (z : List OpenBlock). goes new.depth z []) (sym stack) ∙ ap (goes new.depth (open_blocks new)) (sym none);
+          ∙ ap (λ (z : List BlockSoFar). goes new.depth z []) (sym stack) ∙ ap (goes new.depth (open_blocks new)) (sym none);
       late = c.keep.ensures.late ∙ ap (option_or (late_of old)) (c.in_ok-literal_fault.ensures ∙ sym (option_or-none _));
     }

@@ -2,8 +2,8 @@ use Rattle.std.proofs.Common.{◌≡◌, ◌∙◌, List, ◌∷◌, ◌++◌, [
 use Rattle.std.specs.Option.{option_or}
 use Rattle.handlebars_base.specs.Bytes.{Text}
 use Rattle.handlebars_template.specs.TreeView.{place_of}
-use Rattle.handlebars_template.specs.Nest.{OpenBlock, Placed, closes, names_and_literals, may_close}
-use Rattle.handlebars_template.specs.Machine.{goes, closed, late_in, name_fault}
+use Rattle.handlebars_template.specs.Nest.{Placed, closes, names_and_literals, may_close}
+use Rattle.handlebars_template.specs.Machine.{BlockSoFar, open_in, goes, closed, late_in, name_fault}
 use Rattle.handlebars_template.specs.NestView.{placed_view, open_block_view, stack_view, open_blocks, late_of, late_view}
 use Rattle.handlebars_template.proofs.NestsBuilt.{stack_view_push}
 use Rattle.handlebars_template.proofs.NestsDone.{closes-goes}
@@ -21,16 +21,16 @@ returns c =
     let last = placed_view c.end.new.outside in
     let m = c.args.name.now in
     let p = place_of c.args.place in
-    let name : late_view c.in_ok-name_fault.field-0 ≡ late_in (open_blocks old) (closes p c.args.is_raw m) =
+    let name : late_view c.in_ok-name_fault.field-0 ≡ late_in (open_in (open_blocks old)) (closes p c.args.is_raw m) =
     c.in_ok-name_fault.ensures ∙ ap (λ (n : Text). name_fault (may_close names_and_literals n m) f.opening.kind n m p) c.as_str.ensures.value
-    ∙ ap (λ (z : List OpenBlock). late_in z (closes p c.args.is_raw m)) (sym front) in
+    ∙ ap (λ (z : List BlockSoFar). late_in (open_in z) (closes p c.args.is_raw m)) (sym front) in
     on_ok_weaker c.end.result
     (λ made may.
     let whole : last ≡ f.outside ++ closed f (placed_view old.elements) ∷ [] = made ∙ ap (λ (o : List Placed). o ++ closed f (placed_view c.replace-elements.result) ∷ []) outside
     ∙ ap (λ (es : List Placed). f.outside ++ closed f es ∷ []) elements in
     record {
       goes_on = closes-goes p c.args.is_raw m old.depth f (open_blocks old) behind (placed_view old.elements) last front whole
-          ∙ ap (λ (z : List OpenBlock). goes f.around z last) (sym c.keep.ensures.open_blocks);
+          ∙ ap (λ (z : List BlockSoFar). goes f.around z last) (sym c.keep.ensures.open_blocks);
       late = c.keep.ensures.late ∙ ap (option_or (late_of old)) name;
     })
     c.end.ensures
