@@ -1,15 +1,19 @@
--- What a way in the code stands for.
-use Rattle.std.specs.Prelude.{ℕ, List, map, ◌++◌, String, string_bytes}
+-- What a way in the code stands for, and what is reached on it.
+use Rattle.std.specs.Prelude.{ℕ, List, Option, Some, None, map, ◌++◌, String, string_bytes}
 use Rattle.std.specs.declared.alloc.Global.{Global}
 use denote.Ref.{Bor}
 use Rattle.serde_json.specs.Data.{Data}
 use Rattle.serde_json.specs.declared.value.Value.{Value}
 use Rattle.serde_json.specs.View.{view}
+use Rattle.handlebars_base.specs.Answers.{Answer, gives, refuses_for}
 use Rattle.handlebars_base.specs.Bytes.{Text}
 use Rattle.handlebars_base.specs.PathView.{segments_of}
+use Rattle.handlebars_base.specs.Reasons.{invalid_json_index}
 use Rattle.handlebars_scope.specs.Resolve.{Way, within, along, under_front, names_of}
 use Rattle.handlebars_scope.specs.declared.context.way.Way.{Way as CodeWay}
 use Rattle.handlebars_scope.specs.declared.context.way.Way.TheVariants.{Within, Along, UnderFront}
+use Rattle.handlebars_scope.specs.declared.context.reached.Reached.{Reached}
+use Rattle.handlebars_scope.specs.declared.context.reached.Reached.TheVariants as reach
 
 -- the names that texts are
 abbrev pub names_in : List (String Global) → List Text
@@ -23,3 +27,9 @@ way_view (UnderFront base name) = under_front (names_in base.now) (string_bytes 
 -- what was found under a front, and how many names that keeps
 abbrev pub hit_of : ℕ × Bor Value → ℕ × Data
 hit_of hit = (hit.0, view hit.1.now)
+
+-- what names reach: a value, nothing, or a name that is no index, which is refused
+abbrev pub reached_of : Reached → Answer (Option Data)
+reached_of (reach.Value v) = gives (Some (view v.now))
+reached_of reach.Nothing = gives None
+reached_of (reach.NoIndex name) = refuses_for (invalid_json_index name.now)

@@ -5,17 +5,16 @@ ghost use Rattle.std.specs.Prelude.{IfOk, IfSome, OnOk};
 ghost use Rattle.serde_json.specs.View.{view};
 ghost use Rattle.handlebars_base.specs.Answers.{Answers, answer_map};
 ghost use Rattle.handlebars_base.specs.PathView.{reference_of, segments_of};
-ghost use Rattle.handlebars_base.specs.Reasons.{invalid_json_index};
-ghost use Rattle.handlebars_base.specs.RenderRefusals.{reason_of};
 ghost use Rattle.handlebars_base.specs.Scoped.{found_of, is_constant, present_in};
 ghost use Rattle.handlebars_scope.specs.Resolve.{along, found_by, found_front, found_within, navigated, resolved, variable_at};
 ghost use Rattle.handlebars_scope.specs.Resolve.{if_any, index_of, longest, member_at, names_of, or_else, value_at};
 ghost use Rattle.handlebars_scope.specs.ScopeView.{frames_of};
-ghost use Rattle.handlebars_scope.specs.WayView.{hit_of, names_in, way_view};
+ghost use Rattle.handlebars_scope.specs.WayView.{hit_of, names_in, reached_of, way_view};
 
 use crate::block::BlockContext;
+use crate::context::reached::{Reached, answered, if_found, wrong_index};
 use crate::context::way::{Way, way_of};
-use handlebars_base::error::{RenderError, RenderErrorReason};
+use handlebars_base::error::RenderError;
 use handlebars_base::json::path::{Path, PathSeg};
 use handlebars_base::json::value::{Json, ScopedJson};
 use std::alloc::{AllocError, Global};
@@ -34,7 +33,9 @@ pub fn resolve<'v>(
         (resolved recursive (frames_of blocks.now.items) (reference_of path.now) (view given.now))) }
 {
     match path {
-        Path::Relative((segments, _)) => follow(alloc, given, way_of(blocks, segments, recursive)),
+        Path::Relative((segments, _)) => {
+            answered(alloc, follow(given, way_of(blocks, segments, recursive)))
+        }
         Path::Local((level, name, _)) => Ok(variable_at(blocks, *level, name.as_str())),
     }
 }
@@ -97,7 +98,7 @@ fn found_within<'a>(
         (answer_map found_within (value_at (view held.now) (names_of (segments_of rest.now)))) }
     ensures plain { IfOk result (λ found. is_constant found ≡ false) }
 {
-    Ok(copied(along_segments(alloc, held, rest)?)?)
+    Ok(copied(answered(alloc, along_segments(held, rest))?)?)
 }
 
 fn found_along<'a>(
@@ -112,9 +113,10 @@ fn found_along<'a>(
         (view given.now)) }
     ensures plain { IfOk result (λ found. is_constant found ≡ false) }
 {
-    match along(alloc, given, base, bound, rest)? {
-        Some(value) => Ok(ScopedJson::Context(value, joined(alloc, base, bound, rest)?)),
-        None => Ok(ScopedJson::Missing),
+    match along(given, base, bound, rest) {
+        Reached::Value(value) => Ok(ScopedJson::Context(value, joined(alloc, base, bound, rest)?)),
+        Reached::Nothing => Ok(ScopedJson::Missing),
+        Reached::NoIndex(name) => Err(wrong_index(alloc, name)),
     }
 }
 
@@ -135,20 +137,16 @@ fn found_front<'a>(
 }
 
 // The value at the end of a way.
-fn follow<'v>(
-    alloc: Global,
-    given: &'v Json,
-    way: Way<'v, '_>,
-) -> Result<Option<&'v Json>, RenderError>
-    ensures { Answers (option_map (λ v. view v.now)) result
-        (answer_map present_in (found_by (way_view way.entry) (view given.now))) }
+fn follow<'v: 'n, 'n>(given: &'v Json, way: Way<'v, 'n>) -> Reached<'v, 'n>
+    ensures { reached_of result
+        ≡ answer_map present_in (found_by (way_view way.entry) (view given.now)) }
 {
     match way {
-        Way::Within(held, rest) => along_segments(alloc, held, rest),
-        Way::Along { base, bound, rest } => along(alloc, given, base, bound, rest),
+        Way::Within(held, rest) => along_segments(held, rest),
+        Way::Along { base, bound, rest } => along(given, base, bound, rest),
         Way::UnderFront(base, name) => match longest(given, base, name) {
-            Some((_, value)) => Ok(Some(value)),
-            None => Ok(None),
+            Some((_, value)) => Reached::Value(value),
+            None => Reached::Nothing,
         },
     }
 }
@@ -177,79 +175,66 @@ fn copied<'a>(found: Option<&Json>) -> Result<ScopedJson<'a>, AllocError>
 // ---- along names
 
 // Along a base path, what is bound below it, and the names of segments.
-fn along<'a>(
-    alloc: Global,
-    given: &'a Json,
-    base: &[String],
-    bound: &[String],
-    rest: &[PathSeg],
-) -> Result<Option<&'a Json>, RenderError>
-    ensures { Answers (option_map (λ v. view v.now)) result
-        (value_at (view given.now) (names_in base.now ++ (names_in bound.now ++ names_of (segments_of rest.now)))) }
+fn along<'v, 'n>(
+    given: &'v Json,
+    base: &'n [String],
+    bound: &'n [String],
+    rest: &'n [PathSeg],
+) -> Reached<'v, 'n>
+    ensures { reached_of result
+        ≡ value_at (view given.now) (names_in base.now ++ (names_in bound.now ++ names_of (segments_of rest.now))) }
 {
-    let Some(at_base) = along_names(alloc, given, base)? else {
-        return Ok(None);
+    let at_base = match along_names(given, base) {
+        Reached::Value(at_base) => at_base,
+        other => return other,
     };
-    match along_names(alloc, at_base, bound)? {
-        Some(at_bound) => along_segments(alloc, at_bound, rest),
-        None => Ok(None),
+    match along_names(at_base, bound) {
+        Reached::Value(at_bound) => along_segments(at_bound, rest),
+        other => other,
     }
 }
 
-fn along_names<'a>(
-    alloc: Global,
-    given: &'a Json,
-    names: &[String],
-) -> Result<Option<&'a Json>, RenderError>
-    ensures { Answers (option_map (λ v. view v.now)) result (value_at (view given.now) (names_in names.now)) }
+fn along_names<'v, 'n>(given: &'v Json, names: &'n [String]) -> Reached<'v, 'n>
+    ensures { reached_of result ≡ value_at (view given.now) (names_in names.now) }
 {
     let mut here = given;
     for name in names {
-        match member(alloc, here, name)? {
-            Some(next) => here = next,
-            None => return Ok(None),
+        match member(here, name) {
+            Reached::Value(next) => here = next,
+            other => return other,
         }
     }
-    Ok(Some(here))
+    Reached::Value(here)
 }
 
 // Along the names of segments; the others add nothing.
-fn along_segments<'a>(
-    alloc: Global,
-    given: &'a Json,
-    segments: &[PathSeg],
-) -> Result<Option<&'a Json>, RenderError>
-    ensures { Answers (option_map (λ v. view v.now)) result
-        (value_at (view given.now) (names_of (segments_of segments.now))) }
+fn along_segments<'v, 'n>(given: &'v Json, segments: &'n [PathSeg]) -> Reached<'v, 'n>
+    ensures { reached_of result ≡ value_at (view given.now) (names_of (segments_of segments.now)) }
 {
     let mut here = given;
     for segment in segments {
         match segment {
-            PathSeg::Named(name) => match member(alloc, here, name)? {
-                Some(next) => here = next,
-                None => return Ok(None),
+            PathSeg::Named(name) => match member(here, name) {
+                Reached::Value(next) => here = next,
+                other => return other,
             },
             PathSeg::Ruled(_) => {}
         }
     }
-    Ok(Some(here))
+    Reached::Value(here)
 }
 
 // One name further.
-fn member<'a>(
-    alloc: Global,
-    value: &'a Json,
-    name: &String,
-) -> Result<Option<&'a Json>, RenderError>
-    ensures { Answers (option_map (λ v. view v.now)) result (member_at (view value.now) (string_bytes name.now)) }
+fn member<'v, 'n>(value: &'v Json, name: &'n String) -> Reached<'v, 'n>
+    ensures { reached_of result ≡ member_at (view value.now) (string_bytes name.now) }
 {
     match value {
         Json::Array(_) => match index_of(name.as_str()) {
-            Some(index) => Ok(value.get(index)),
-            None => Err(wrong_index(alloc, name.as_str()).into()),
+            Some(index) => if_found(value.get(index)),
+            None => Reached::NoIndex(name.as_str()),
         },
-        Json::Object(_) => Ok(value.get(name.as_str())),
-        _ => Ok(None),
+        Json::Object(_) => if_found(value.get(name.as_str())),
+        _ => Reached::Nothing,
     }
 }
 
@@ -257,13 +242,6 @@ fn index_of(text: &str) -> Option<usize>
     ensures { result ≡ index_of text.now }
 {
     text.parse::<usize>().ok()
-}
-
-// Why a name that is no index is refused.
-fn wrong_index(alloc: Global, name: &str) -> Result<RenderErrorReason, AllocError>
-    ensures { IfOk result (λ r. reason_of r ≡ invalid_json_index name.now) }
-{
-    Ok(RenderErrorReason::InvalidJsonIndex(String::from_str(alloc, name)?))
 }
 
 // ---- under the longest front

@@ -1,0 +1,56 @@
+//! What the names of a path reach, before a refusal is made of it.
+
+ghost use Rattle.std.specs.Prelude.{◌≡◌, option_map};
+ghost use Rattle.serde_json.specs.View.{view};
+ghost use Rattle.handlebars_base.specs.Answers.{Answers, IsRefusal, gives};
+ghost use Rattle.handlebars_base.specs.Reasons.{invalid_json_index};
+ghost use Rattle.handlebars_base.specs.RenderRefusals.{plain_refusal};
+ghost use Rattle.handlebars_scope.specs.WayView.{reached_of};
+
+use handlebars_base::error::{RenderError, RenderErrorReason};
+use handlebars_base::json::value::Json;
+use std::alloc::{AllocError, Global};
+
+/// What names reach. It is handed on at each of them, so it is small: a `RenderError` is large, and is
+/// made once, at the end.
+#[derive(Clone, Copy)]
+pub enum Reached<'v, 'n> {
+    Value(&'v Json),
+    Nothing,
+    /// This name is no index, and an array was come to.
+    NoIndex(&'n str),
+}
+
+/// What was found, if anything.
+pub fn if_found<'v, 'n>(found: Option<&'v Json>) -> Reached<'v, 'n>
+    ensures { reached_of result ≡ gives (option_map (λ v. view v.now) found.entry) }
+{
+    match found {
+        Some(value) => Reached::Value(value),
+        None => Reached::Nothing,
+    }
+}
+
+/// The value, or the refusal of the name.
+pub fn answered<'v>(
+    alloc: Global,
+    reached: Reached<'v, '_>,
+) -> Result<Option<&'v Json>, RenderError>
+    ensures { Answers (option_map (λ v. view v.now)) result (reached_of reached.entry) }
+{
+    match reached {
+        Reached::Value(value) => Ok(Some(value)),
+        Reached::Nothing => Ok(None),
+        Reached::NoIndex(name) => Err(wrong_index(alloc, name)),
+    }
+}
+
+/// The refusal of a name that is no index.
+pub fn wrong_index(alloc: Global, name: &str) -> RenderError
+    ensures { IsRefusal (plain_refusal (invalid_json_index name.now)) result }
+{
+    match String::from_str(alloc, name) {
+        Ok(name) => RenderErrorReason::InvalidJsonIndex(name).into(),
+        Err(AllocError) => RenderErrorReason::OutOfMemory.into(),
+    }
+}
