@@ -11,8 +11,10 @@ ghost use Rattle.handlebars_base.specs.Values as values;
 ghost use Rattle.handlebars_scope.specs.LineView.{line_of};
 ghost use Rattle.handlebars_meaning.specs.Writing.{shown_if_any};
 ghost use Rattle.handlebars_meaning.specs.State.{Kept, State};
+ghost use Rattle.handlebars_render.specs.Boxed.{answer_of};
 ghost use Rattle.handlebars_render.specs.View.{state_of, moment, with_line, word_reason, Puts, PutsWord, IsKept, state_with};
 
+use crate::boxed::BoxedError;
 use crate::context::RenderContext;
 use handlebars_base::error::{RenderError, RenderErrorReason};
 use handlebars_base::json::value::{Json, write_value};
@@ -42,6 +44,23 @@ pub fn indent_aware_write<O: Output>(
     }
 }
 
+/// The same, with a refusal in a box.
+pub(super) fn write_text<O: Output>(
+    alloc: Global,
+    text: &str,
+    rc: &mut RenderContext,
+    out: &mut O,
+) -> Result<(), BoxedError>
+    ensures puts { (kept : Kept) → Puts text.now O.may_give (moment kept rc.old (O.held out.old)) (answer_of result) (moment kept rc.new (O.held out.new)) }
+    ensures kept { IsKept rc.old rc.new }
+{
+    if let Err(fault) = out.write(text) {
+        return Err(BoxedError::new(alloc, output_fault(fault)));
+    }
+    rc.pass_text(text);
+    Ok(())
+}
+
 /// Writes a value, rendered, and escaped where escaping is on, and answers the line behind it; nothing
 /// where there is none. The value may be one of a block, so the context is left to the caller.
 pub(super) fn write_found<O: Output>(
@@ -67,13 +86,14 @@ pub(super) fn write_found<O: Output>(
 
 /// Writes a value that a helper chose, as one that has no path; a missing one counts as null.
 pub(super) fn write_chosen<O: Output>(
+    alloc: Global,
     value: Option<&Json>,
     rc: &mut RenderContext,
     out: &mut O,
-) -> Result<(), RenderError>
+) -> Result<(), BoxedError>
     ensures puts { (kept : Kept) → Puts
         (shown_if_any (state_of rc.old).escapes (Some (unwrap_or (option_map (λ v. view v.now) value.entry) null)))
-        O.may_give (moment kept rc.old (O.held out.old)) result (moment kept rc.new (O.held out.new)) }
+        O.may_give (moment kept rc.old (O.held out.old)) (answer_of result) (moment kept rc.new (O.held out.new)) }
     ensures kept { IsKept rc.old rc.new }
 {
     match write_found(value, rc, out) {
@@ -81,22 +101,23 @@ pub(super) fn write_chosen<O: Output>(
             rc.set_line(line);
             Ok(())
         }
-        Err(e) => Err(e),
+        Err(e) => Err(BoxedError::new(alloc, e)),
     }
 }
 
 /// Writes a number that a helper chose.
 pub(super) fn write_count<O: Output>(
+    alloc: Global,
     count: usize,
     rc: &mut RenderContext,
     out: &mut O,
-) -> Result<(), RenderError>
+) -> Result<(), BoxedError>
     ensures puts { (kept : Kept) → Puts (shown_if_any (state_of rc.old).escapes (Some (number (unsigned count))))
-        O.may_give (moment kept rc.old (O.held out.old)) result (moment kept rc.new (O.held out.new)) }
+        O.may_give (moment kept rc.old (O.held out.old)) (answer_of result) (moment kept rc.new (O.held out.new)) }
     ensures kept { IsKept rc.old rc.new }
 {
     let value = Json::Number(Number::from(count));
-    write_chosen(Some(&value), rc, out)
+    write_chosen(alloc, Some(&value), rc, out)
 }
 
 /// Writes the word of a boolean helper, as it is, whatever the line.
@@ -104,13 +125,13 @@ pub(super) fn write_word<O: Output>(
     alloc: Global,
     word: bool,
     out: &mut O,
-) -> Result<(), RenderError>
+) -> Result<(), BoxedError>
     ensures { (s : State) → PutsWord word O.may_give (record { state = s; held = O.held out.old })
-        result (record { state = s; held = O.held out.new }) }
+        (answer_of result) (record { state = s; held = O.held out.new }) }
 {
     match out.write(word_text(word)) {
         Ok(()) => Ok(()),
-        Err(fault) => Err(word_fault(alloc, fault)),
+        Err(fault) => Err(BoxedError::new(alloc, word_fault(alloc, fault))),
     }
 }
 
