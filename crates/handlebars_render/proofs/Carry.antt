@@ -95,6 +95,12 @@ handed-fault e d cause f h tells = record {
   where_it_is = λ other. h.spot other ∙ tells.where_it_is (λ memory. other (h.memory memory));
 }
 
+pub refuses-handed : (p : Setting) {A : Type 0} (m : Prog A) {s : State} (e d : RenderError) → IsHandedOn e d
+    → (reason_in e ≢ out_of_memory → RefusesValue p m s (refusal_of e))
+    → reason_in d ≢ out_of_memory → RefusesValue p m s (refusal_of d)
+refuses-handed p m {s = s} e d h is other = subst (λ (r : Refusal). RefusesValue p m s r) (sym (handed-refusal e d h other))
+    (is (λ memory. other (h.memory memory)))
+
 join-pieces_of : (o : Origin) (t : Text) → join (pieces_of o t) ≡ t
 join-pieces_of o [] = refl
 join-pieces_of o (b ∷ t) = append-nil (b ∷ t)

@@ -18,7 +18,7 @@ use Rattle.handlebars_base.specs.Shown.{shown}
 use Rattle.handlebars_meaning.specs.Runs.{plain_fault}
 use Rattle.handlebars_meaning.specs.State.{State}
 use Rattle.handlebars_meaning.specs.Writing.{shown_if_any}
-use Rattle.handlebars_render.specs.View.{Moment, Answered, Puts, all_put, front_put, PutsWord, word_put, word_cut, word_reason, behind, with_line}
+use Rattle.handlebars_render.specs.View.{Moment, Answered, Puts, all_put, front_put, TellsFault, PutsWord, word_put, word_cut, word_reason, behind, with_line}
 use Rattle.handlebars_render.specs.Boxed.{IsHandedOn}
 use Rattle.handlebars_render.proofs.Carry.{at, handed-fault}
 
@@ -28,6 +28,16 @@ unfolding escaped
 shown_or_null true None = refl
 shown_or_null false None = refl
 shown_or_null escapes (Some d) = refl
+
+pub tells_fault : (cause : Error) (e : RenderError) → refusal_of e ≡ plain_refusal (write_reason (error_kind cause))
+    → (error_kind cause ≢ OutOfMemory → cause_of e ≡ IOError cause) → TellsFault cause (plain_fault false) e
+tells_fault cause e is kept = record {
+  why = λ other. (
+    ap (λ (r : Refusal). r.reason) is,
+    kept (λ memory. other (ap (λ (r : Refusal). r.reason) is ∙ ap write_reason memory)),
+  );
+  where_it_is = λ other. ap (λ (r : Refusal). r.spot) is;
+}
 
 module _ (may : Error → Type 0) where
   -- the same text, and the same state behind it
@@ -55,13 +65,7 @@ module _ (may : Error → Type 0) where
   pub puts_front : (t : Text) {s next : State} {h new : Held} (cause : Error) (e : RenderError) → may cause → IsCutOff t h new
       → refusal_of e ≡ plain_refusal (write_reason (error_kind cause)) → (error_kind cause ≢ OutOfMemory → cause_of e ≡ IOError cause)
       → Puts t may (at s h) (Err e) (at next new)
-  puts_front t cause e given cut is kept = front_put cause given cut (record {
-    why = λ other. (
-      ap (λ (r : Refusal). r.reason) is,
-      kept (λ memory. other (ap (λ (r : Refusal). r.reason) is ∙ ap write_reason memory)),
-    );
-    where_it_is = λ other. ap (λ (r : Refusal). r.spot) is;
-  })
+  puts_front t cause e given cut is kept = front_put cause given cut (tells_fault cause e is kept)
 
   pub puts-handed : {t : Text} {before after : Moment} (e d : RenderError) → IsHandedOn e d → Puts t may before (Err e) after
       → Puts t may before (Err d) after

@@ -17,7 +17,9 @@ pub enum BoxedError {
 }
 
 impl BoxedError {
-    /// The error in a box, or want of memory for it.
+    /// The error in a box, or want of memory for it. Its callers have no room for an error until there is one.
+    #[cold]
+    #[inline(never)]
     pub fn new(alloc: Global, error: RenderError) -> BoxedError
         ensures { IsHandedOn error (error_of result) }
     {

@@ -10,7 +10,7 @@ ghost use Rattle.handlebars_meaning.specs.Sites.{Site};
 ghost use Rattle.handlebars_meaning.specs.Means.{render_decorator, render_element, render_expression, render_partial, unescaped};
 ghost use Rattle.handlebars_meaning.specs.Steps.{run};
 ghost use Rattle.handlebars_meaning.specs.State.{Kept};
-ghost use Rattle.handlebars_render.specs.Boxed.{answer_of};
+ghost use Rattle.handlebars_render.specs.Boxed.{answer_of, error_of};
 ghost use Rattle.handlebars_render.specs.View.{setting_in, moment, CarriesOut, IsKept, RefusesValue, state_with};
 
 use crate::block::render_tag;
@@ -45,22 +45,10 @@ pub fn render_element<'a, O: Output, P: Registered>(
         TemplateElement::Comment(_) => Ok(()),
         TemplateElement::HtmlExpression(helper) => render_unescaped(helper, setting, rc, out),
         TemplateElement::HelperBlock(helper) => render_tag(helper, setting, true, rc, out),
-        TemplateElement::DecoratorExpression(tag) => Err(BoxedError::new(
-            setting.alloc,
-            refuse_decorator(tag, setting, rc),
-        )),
-        TemplateElement::DecoratorBlock(tag) => Err(BoxedError::new(
-            setting.alloc,
-            refuse_decorator(tag, setting, rc),
-        )),
-        TemplateElement::PartialExpression(tag) => Err(BoxedError::new(
-            setting.alloc,
-            refuse_partial(tag, setting, rc),
-        )),
-        TemplateElement::PartialBlock(tag) => Err(BoxedError::new(
-            setting.alloc,
-            refuse_partial(tag, setting, rc),
-        )),
+        TemplateElement::DecoratorExpression(tag) => Err(refuse_decorator(tag, setting, rc)),
+        TemplateElement::DecoratorBlock(tag) => Err(refuse_decorator(tag, setting, rc)),
+        TemplateElement::PartialExpression(tag) => Err(refuse_partial(tag, setting, rc)),
+        TemplateElement::PartialBlock(tag) => Err(refuse_partial(tag, setting, rc)),
     }
 }
 
@@ -85,35 +73,39 @@ fn render_unescaped<'a, O: Output, P: Registered>(
 }
 
 // A decorator and an inclusion are refused once their tag is evaluated, since nothing is registered for them.
+#[cold]
+#[inline(never)]
 fn refuse_decorator<'a, P: Registered>(
     tag: &'a DecoratorTemplate,
     setting: &Setting<'_, 'a, P>,
     rc: &RenderContext,
-) -> RenderError
-    ensures { (kept : Kept) → reason_in result ≢ out_of_memory
+) -> BoxedError
+    ensures { (kept : Kept) → reason_in (error_of result) ≢ out_of_memory
         → RefusesValue (setting_in P.parts setting.now)
         (render_decorator (decorator_view tag.now))
-        (state_with kept rc.now) (refusal_of result) }
+        (state_with kept rc.now) (refusal_of (error_of result)) }
 {
     match view_of_tag(setting, rc, tag) {
-        Ok(view) => no_decorator(setting.alloc, view.into_name()),
-        Err(e) => e,
+        Ok(view) => BoxedError::new(setting.alloc, no_decorator(setting.alloc, view.into_name())),
+        Err(e) => BoxedError::new(setting.alloc, e),
     }
 }
 
+#[cold]
+#[inline(never)]
 fn refuse_partial<'a, P: Registered>(
     tag: &'a DecoratorTemplate,
     setting: &Setting<'_, 'a, P>,
     rc: &RenderContext,
-) -> RenderError
-    ensures { (kept : Kept) → reason_in result ≢ out_of_memory
+) -> BoxedError
+    ensures { (kept : Kept) → reason_in (error_of result) ≢ out_of_memory
         → RefusesValue (setting_in P.parts setting.now)
         (render_partial (decorator_view tag.now))
-        (state_with kept rc.now) (refusal_of result) }
+        (state_with kept rc.now) (refusal_of (error_of result)) }
 {
     match view_of_tag(setting, rc, tag) {
-        Ok(view) => no_partial(setting.alloc, view.into_name()),
-        Err(e) => e,
+        Ok(view) => BoxedError::new(setting.alloc, no_partial(setting.alloc, view.into_name())),
+        Err(e) => BoxedError::new(setting.alloc, e),
     }
 }
 

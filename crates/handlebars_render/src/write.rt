@@ -1,6 +1,6 @@
 //! Writing texts and values into an output, by the line's state.
 
-ghost use Rattle.std.specs.Prelude.{◌≡◌, ◌≢◌, MatchResult, OnErr, Ok, Err, Some, option_map, unwrap_or};
+ghost use Rattle.std.specs.Prelude.{◌≡◌, ◌≢◌, MatchResult, OnErr, Ok, Err, Some, option_map, unwrap_or, false};
 ghost use Rattle.std.specs.IoError.{error_kind};
 ghost use Rattle.serde_json.specs.Data.{null, number, unsigned};
 ghost use Rattle.serde_json.specs.View.{view};
@@ -9,10 +9,11 @@ ghost use Rattle.handlebars_base.specs.Reasons.{out_of_memory};
 ghost use Rattle.handlebars_base.specs.RenderRefusals.{plain_refusal, reason_in, refusal_of};
 ghost use Rattle.handlebars_base.specs.Values as values;
 ghost use Rattle.handlebars_scope.specs.LineView.{line_of};
+ghost use Rattle.handlebars_meaning.specs.Runs.{plain_fault};
 ghost use Rattle.handlebars_meaning.specs.Writing.{shown_if_any};
 ghost use Rattle.handlebars_meaning.specs.State.{Kept, State};
-ghost use Rattle.handlebars_render.specs.Boxed.{answer_of};
-ghost use Rattle.handlebars_render.specs.View.{state_of, moment, with_line, word_reason, Puts, PutsWord, IsKept, state_with};
+ghost use Rattle.handlebars_render.specs.Boxed.{answer_of, error_of};
+ghost use Rattle.handlebars_render.specs.View.{state_of, moment, with_line, word_reason, Puts, PutsWord, TellsFault, IsKept, state_with};
 
 use crate::boxed::BoxedError;
 use crate::context::RenderContext;
@@ -55,10 +56,19 @@ pub(super) fn write_text<O: Output>(
     ensures kept { IsKept rc.old rc.new }
 {
     if let Err(fault) = out.write(text) {
-        return Err(BoxedError::new(alloc, output_fault(fault)));
+        return Err(write_fault(alloc, fault));
     }
     rc.pass_text(text);
     Ok(())
+}
+
+// The refusal for a write that failed.
+#[cold]
+#[inline(never)]
+fn write_fault(alloc: Global, fault: io::Error) -> BoxedError
+    ensures { TellsFault fault (plain_fault false) (error_of result) }
+{
+    BoxedError::new(alloc, output_fault(fault))
 }
 
 /// Writes a value, rendered, and escaped where escaping is on, and answers the line behind it; nothing

@@ -20,7 +20,7 @@ use Rattle.handlebars_render.specs.Boxed.{error_of}
 use Rattle.handlebars_render.specs.View.{called_view, keeping, state_of, state_with}
 use Rattle.handlebars_render.proofs.Calls.{branch_none, carry_out_value, chosen_ok, chosen_err, entered_as}
 use Rattle.handlebars_render.proofs.Leaves.{carries_on-leaves}
-use Rattle.handlebars_render.proofs.Carry.{carries-done, carries-handed, carries-no_value, carries-out_of_memory, carries-puts, carries-run, carries-unescaped, carries_on-bracket, carries_on-done, carries_on-handed, carries_on-task, carries_on-task_over, carries_on-word, restored, carries_on-in_block, carries_on-out_of_memory}
+use Rattle.handlebars_render.proofs.Carry.{carries-done, carries-no_value, carries-out_of_memory, carries-puts, carries-run, carries-unescaped, carries_on-bracket, carries_on-done, carries_on-handed, carries_on-task, carries_on-task_over, carries_on-word, restored, carries_on-in_block, carries_on-out_of_memory}
 use Rattle.handlebars_meaning.specs.State.{entered}
 use Rattle.handlebars_render.proofs.Elements.{left_starts, left_goes, left_over, left_ends, whole_with}
 use Rattle.handlebars_render.proofs.Kept.{kept-refl, kept-trans, outer-kept, outer-trans}
@@ -136,27 +136,23 @@ element::render_element-returns-in-HelperBlock-clause-renders g t c = λ site ke
 
 pub element::render_element-returns-in-DecoratorExpression-clause-renders : goal.element::render_element-returns-in-DecoratorExpression-clause-renders
 element::render_element-returns-in-DecoratorExpression-clause-renders g t c = λ site kept. rw (c.in-DecoratorExpression.is, element_view-DecoratorExpression)
-    (carries-handed _ _ c.refuse_decorator.result (error_of c.new.result) c.new.ensures
-    (carries-no_value _ _ _ _ c.refuse_decorator.result
-    (rw c.deref-in-DecoratorExpression.ensures at (c.refuse_decorator.ensures kept))))
+    (carries-no_value _ _ _ _ (error_of c.refuse_decorator.result)
+    (rw c.deref-in-DecoratorExpression.ensures at (c.refuse_decorator.ensures kept)))
 
 pub element::render_element-returns-in-DecoratorBlock-clause-renders : goal.element::render_element-returns-in-DecoratorBlock-clause-renders
 element::render_element-returns-in-DecoratorBlock-clause-renders g t c = λ site kept. rw (c.in-DecoratorBlock.is, element_view-DecoratorBlock)
-    (carries-handed _ _ c.refuse_decorator-in-DecoratorBlock.result (error_of c.new-in-DecoratorBlock.result) c.new-in-DecoratorBlock.ensures
-    (carries-no_value _ _ _ _ c.refuse_decorator-in-DecoratorBlock.result
-    (rw c.deref-in-DecoratorBlock.ensures at (c.refuse_decorator-in-DecoratorBlock.ensures kept))))
+    (carries-no_value _ _ _ _ (error_of c.refuse_decorator-in-DecoratorBlock.result)
+    (rw c.deref-in-DecoratorBlock.ensures at (c.refuse_decorator-in-DecoratorBlock.ensures kept)))
 
 pub element::render_element-returns-in-PartialExpression-clause-renders : goal.element::render_element-returns-in-PartialExpression-clause-renders
 element::render_element-returns-in-PartialExpression-clause-renders g t c = λ site kept. rw (c.in-PartialExpression.is, element_view-PartialExpression)
-    (carries-handed _ _ c.refuse_partial.result (error_of c.new-in-PartialExpression.result) c.new-in-PartialExpression.ensures
-    (carries-no_value _ _ _ _ c.refuse_partial.result
-    (rw c.deref-in-PartialExpression.ensures at (c.refuse_partial.ensures kept))))
+    (carries-no_value _ _ _ _ (error_of c.refuse_partial.result)
+    (rw c.deref-in-PartialExpression.ensures at (c.refuse_partial.ensures kept)))
 
 pub element::render_element-returns-in-PartialBlock-clause-renders : goal.element::render_element-returns-in-PartialBlock-clause-renders
 element::render_element-returns-in-PartialBlock-clause-renders g t c = λ site kept. rw (c.in-PartialBlock.is, element_view-PartialBlock)
-    (carries-handed _ _ c.refuse_partial-in-PartialBlock.result (error_of c.new-in-PartialBlock.result) c.new-in-PartialBlock.ensures
-    (carries-no_value _ _ _ _ c.refuse_partial-in-PartialBlock.result
-    (rw c.deref-in-PartialBlock.ensures at (c.refuse_partial-in-PartialBlock.ensures kept))))
+    (carries-no_value _ _ _ _ (error_of c.refuse_partial-in-PartialBlock.result)
+    (rw c.deref-in-PartialBlock.ensures at (c.refuse_partial-in-PartialBlock.ensures kept)))
 
 pub element::render_unescaped-returns-clause-renders : goal.element::render_unescaped-returns-clause-renders
 element::render_unescaped-returns-clause-renders g t c = λ site kept. carries-unescaped _ _ (ap (keeping kept) c.set_disable_escape.ensures.state)
