@@ -101,6 +101,9 @@ pub refuses-handed : (p : Setting) {A : Type 0} (m : Prog A) {s : State} (e d : 
 refuses-handed p m {s = s} e d h is other = subst (λ (r : Refusal). RefusesValue p m s r) (sym (handed-refusal e d h other))
     (is (λ memory. other (h.memory memory)))
 
+pub refusal-handed : (r : Refusal) (e d : RenderError) → IsHandedOn e d → IsRefusal r e → IsRefusal r d
+refusal-handed r e d h is other = handed-refusal e d h other ∙ is (λ memory. other (h.memory memory))
+
 join-pieces_of : (o : Origin) (t : Text) → join (pieces_of o t) ≡ t
 join-pieces_of o [] = refl
 join-pieces_of o (b ∷ t) = append-nil (b ∷ t)

@@ -67,11 +67,6 @@ module _ (may : Error → Type 0) where
       → Puts t may (at s h) (Err e) (at next new)
   puts_front t cause e given cut is kept = front_put cause given cut (tells_fault cause e is kept)
 
-  pub puts-handed : {t : Text} {before after : Moment} (e d : RenderError) → IsHandedOn e d → Puts t may before (Err e) after
-      → Puts t may before (Err d) after
-  puts-handed e d h (front_put cause given cut tells) =
-      front_put cause given cut (handed-fault e d cause (plain_fault false) h tells)
-
   -- ---- words
 
   pub puts_word-handed : {b : Bool} {before after : Moment} (e d : RenderError) → IsHandedOn e d

@@ -4,7 +4,6 @@ use Rattle.handlebars_base.specs.Reasons.{out_of_memory}
 use Rattle.handlebars_base.specs.RenderRefusals.{reason_in, spot_of, cause_of}
 use Rattle.handlebars_base.specs.declared.error.render_error.RenderError.{RenderError}
 use Rattle.handlebars_base.specs.declared.error.render_error.RenderErrorReason.TheVariants as reasons
-use Rattle.handlebars_render.specs.View.{Answered}
 use Rattle.handlebars_render.specs.declared.boxed.BoxedError.{BoxedError}
 use Rattle.handlebars_render.specs.declared.boxed.BoxedError.TheVariants.{OutOfMemory, Error}
 
@@ -14,8 +13,8 @@ error_of OutOfMemory = record { template_name = None; line_no = None; column_no 
 error_of (Error e) = e.value
 
 -- what a call answers, with its error out of the box
-abbrev pub answer_of : Result (Unit {0}) BoxedError → Answered
-answer_of (Ok u) = Ok u
+abbrev pub answer_of : {T : Type 0} → Result T BoxedError → Result T RenderError
+answer_of (Ok x) = Ok x
 answer_of (Err e) = Err (error_of e)
 
 -- The second error is the first, or says that memory ran out.

@@ -48,7 +48,7 @@ pub fn render_tag<'a, O: Output, P: Registered>(
             Ok(())
         }
         Ok(Next::Call(to_call)) => render_next(helper, setting, block, to_call, rc, out),
-        Err(e) => Err(BoxedError::new(setting.alloc, e)),
+        Err(e) => Err(e),
     }
 }
 

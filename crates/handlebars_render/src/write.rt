@@ -74,23 +74,24 @@ fn write_fault(alloc: Global, fault: io::Error) -> BoxedError
 /// Writes a value, rendered, and escaped where escaping is on, and answers the line behind it; nothing
 /// where there is none. The value may be one of a block, so the context is left to the caller.
 pub(super) fn write_found<O: Output>(
+    alloc: Global,
     value: Option<&Json>,
     rc: &RenderContext,
     out: &mut O,
-) -> Result<LineState, RenderError>
+) -> Result<LineState, BoxedError>
     ensures puts { (kept : Kept) → MatchResult result
         (λ line. Puts (shown_if_any (state_of rc.now).escapes (option_map (λ v. view v.now) value.entry)) O.may_give
         (moment kept rc.now (O.held out.old)) (Ok tt)
         (record { state = with_line (line_of line) (state_with kept rc.now); held = O.held out.new }))
         (λ e. Puts (shown_if_any (state_of rc.now).escapes (option_map (λ v. view v.now) value.entry)) O.may_give
-        (moment kept rc.now (O.held out.old)) (Err e) (moment kept rc.now (O.held out.new))) }
+        (moment kept rc.now (O.held out.old)) (Err (error_of e)) (moment kept rc.now (O.held out.new))) }
 {
     let Some(value) = value else {
         return Ok(rc.line());
     };
     match write_value(out, value, rc.escapes()) {
         Ok(()) => Ok(rc.line().behind_value(value)),
-        Err(cause) => Err(output_fault(cause)),
+        Err(cause) => Err(write_fault(alloc, cause)),
     }
 }
 
@@ -106,12 +107,12 @@ pub(super) fn write_chosen<O: Output>(
         O.may_give (moment kept rc.old (O.held out.old)) (answer_of result) (moment kept rc.new (O.held out.new)) }
     ensures kept { IsKept rc.old rc.new }
 {
-    match write_found(value, rc, out) {
+    match write_found(alloc, value, rc, out) {
         Ok(line) => {
             rc.set_line(line);
             Ok(())
         }
-        Err(e) => Err(BoxedError::new(alloc, e)),
+        Err(e) => Err(e),
     }
 }
 

@@ -40,8 +40,7 @@ block::render_tag-returns-in-Ok-Call-clause-renders g t c = λ site kept.
     carries_on-leaves _ _ _ _ left.0 left.1 (c.render_next.ensures.renders site kept)
 
 pub block::render_tag-returns-in-Err-clause-renders : goal.block::render_tag-returns-in-Err-clause-renders
-block::render_tag-returns-in-Err-clause-renders g t c = λ site kept.
-    carries_on-handed _ _ c.in-Err.e (error_of c.new.result) c.new.ensures (c.in-Err.ensures site kept)
+block::render_tag-returns-in-Err-clause-renders g t c = λ site kept. c.in-Err.ensures site kept
 
 pub block::render_next-returns-then-not-bracket-clause-renders : goal.block::render_next-returns-then-not-bracket-clause-renders
 block::render_next-returns-then-not-bracket-clause-renders g t c = λ site kept.

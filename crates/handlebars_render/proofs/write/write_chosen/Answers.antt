@@ -1,8 +1,7 @@
 use Rattle.std.proofs.Common.{ap, option_map, refl}
 use Rattle.serde_json.specs.View.{view}
-use Rattle.handlebars_render.specs.Boxed.{error_of}
 use Rattle.handlebars_render.specs.View.{keeping, state_of}
-use Rattle.handlebars_render.proofs.Puts.{puts-handed, puts_as, shown_or_null}
+use Rattle.handlebars_render.proofs.Puts.{puts_as, shown_or_null}
 use Rattle.handlebars_render.proofs.write.write_chosen.Goals as goal
 
 pub returns-in-Ok-clause-puts : goal.returns-in-Ok-clause-puts
@@ -10,6 +9,5 @@ returns-in-Ok-clause-puts g c = λ kept. puts_as _ (shown_or_null (state_of c.ar
     (ap (keeping kept) c.set_line.ensures.state) (c.in-Ok.ensures.puts kept)
 
 pub returns-in-Err-clause-puts : goal.returns-in-Err-clause-puts
-returns-in-Err-clause-puts g c = λ kept. puts-handed _ c.in-Err.e (error_of c.new.result) c.new.ensures
-    (puts_as _ (shown_or_null (state_of c.args.rc.now).escapes (option_map (λ v. view v.now) c.args.value))
-    refl (c.in-Err.ensures.puts kept))
+returns-in-Err-clause-puts g c = λ kept. puts_as _ (shown_or_null (state_of c.args.rc.now).escapes (option_map (λ v. view v.now) c.args.value))
+    refl (c.in-Err.ensures.puts kept)
