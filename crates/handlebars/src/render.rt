@@ -108,8 +108,10 @@ impl Renderable for Template {
             parts,
             given,
         };
-        let answer = render_tree(self, &setting, rc, out);
-        fail_after(rc, answer)
+        match render_tree(self, &setting, rc, out) {
+            Ok(()) => Ok(()),
+            Err(e) => fail_after(rc, Err(e.into_error())),
+        }
     }
 }
 
@@ -134,7 +136,9 @@ impl Renderable for TemplateElement {
             parts,
             given,
         };
-        let answer = render_element(self, &setting, rc, out);
-        fail_after(rc, answer)
+        match render_element(self, &setting, rc, out) {
+            Ok(()) => Ok(()),
+            Err(e) => fail_after(rc, Err(e.into_error())),
+        }
     }
 }

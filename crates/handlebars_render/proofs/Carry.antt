@@ -19,6 +19,8 @@ use Rattle.handlebars_meaning.specs.CarryOut.{change, in_block}
 use Rattle.handlebars_meaning.specs.Means.{unescaped, line_in, line_out, in_bracket, todo}
 use Rattle.handlebars_meaning.specs.Runs.{Fault, plain_fault, Outcome, Ended, Refused, Faulted, NoMemory, mark, cut_off, Runs, done, refused, wrote, got, set, did, did_over, stop, cut}
 use Rattle.handlebars_render.specs.View.{Moment, GivesValue, RefusesValue, TellsCause, TellsFault, Answered, Tells, ended, refusal, fault, no_memory, CarriesOut, CarriesOn, goes_on, is_over, Puts, all_put, front_put, PutsWord, word_put, word_cut}
+use Rattle.handlebars_render.specs.Boxed.{IsHandedOn, answer_of, error_of}
+use Rattle.handlebars_render.specs.declared.boxed.BoxedError.{BoxedError}
 use Rattle.handlebars_meaning.proofs.Runs.{join-append, Runs-short}
 
 -- want of memory, or another reason
@@ -78,6 +80,30 @@ marked-fault t e d cause f m tells = record {
   where_it_is = λ other. m.spot other ∙ ap (mark t) (tells.where_it_is (λ memory. other (m.memory memory)));
 }
 
+handed-reason : {e d : RenderError} → IsHandedOn e d → reason_in d ≢ out_of_memory → reason_in d ≡ reason_in e
+handed-reason h other = ap reason_of (h.cause other)
+
+handed-refusal : (e d : RenderError) → IsHandedOn e d → reason_in d ≢ out_of_memory → refusal_of d ≡ refusal_of e
+handed-refusal e d h other =
+    ap (λ (r : Reason). record { reason = r; spot = spot_of d }) (handed-reason h other)
+    ∙ ap (λ (z : Spot). record { reason = reason_in e; spot = z }) (h.spot other)
+
+pub handed-fault : (e d : RenderError) (cause : Error) (f : Fault) → IsHandedOn e d → TellsFault cause f e → TellsFault cause f d
+handed-fault e d cause f h tells = record {
+  why = λ other. cause-as cause f.at_word e d (handed-reason h other) (h.cause other)
+      (tells.why (λ memory. other (h.memory memory)));
+  where_it_is = λ other. h.spot other ∙ tells.where_it_is (λ memory. other (h.memory memory));
+}
+
+pub refuses-handed : (p : Setting) {A : Type 0} (m : Prog A) {s : State} (e d : RenderError) → IsHandedOn e d
+    → (reason_in e ≢ out_of_memory → RefusesValue p m s (refusal_of e))
+    → reason_in d ≢ out_of_memory → RefusesValue p m s (refusal_of d)
+refuses-handed p m {s = s} e d h is other = subst (λ (r : Refusal). RefusesValue p m s r) (sym (handed-refusal e d h other))
+    (is (λ memory. other (h.memory memory)))
+
+pub refusal-handed : (r : Refusal) (e d : RenderError) → IsHandedOn e d → IsRefusal r e → IsRefusal r d
+refusal-handed r e d h is other = handed-refusal e d h other ∙ is (λ memory. other (h.memory memory))
+
 join-pieces_of : (o : Origin) (t : Text) → join (pieces_of o t) ≡ t
 join-pieces_of o [] = refl
 join-pieces_of o (b ∷ t) = append-nil (b ∷ t)
@@ -126,10 +152,10 @@ module _ (p : Setting) (may : Error → Type 0) where
   carries-set c = record { pieces = c.pieces; outcome = c.outcome; runs = set c.runs; text = c.text; tells = c.tells }
 
   -- an error that says so, as `?` hands it on
-  pub carries-out_of_memory : {k : Steps} {s next : State} {h : Held} (r : Result (Unit {0}) RenderError)
-      → IsErrAnd r (λ e. refusal_of e ≡ plain_refusal out_of_memory) → CarriesOut p k may (at s h) r (at next h)
+  pub carries-out_of_memory : {k : Steps} {s next : State} {h : Held} (r : Result (Unit {0}) BoxedError)
+      → IsErrAnd r (λ e. reason_in (error_of e) ≡ out_of_memory) → CarriesOut p k may (at s h) (answer_of r) (at next h)
   carries-out_of_memory (Ok u) is = absurd is
-  carries-out_of_memory (Err e) is = carries-no_memory e (ap (λ (f : Refusal). f.reason) is)
+  carries-out_of_memory (Err e) is = carries-no_memory (error_of e) is
 
   -- ---- writing
 
@@ -239,10 +265,49 @@ module _ (p : Setting) (may : Error → Type 0) where
   carries_on-no_memory e memory = is_over (λ k. carries-no_memory e memory)
 
   -- an error that says so, as `?` hands it on
-  pub carries_on-out_of_memory : {m : Prog (Unit {0})} {s next : State} {h : Held} (r : Result (Unit {0}) RenderError)
-      → IsErrAnd r (λ e. refusal_of e ≡ plain_refusal out_of_memory) → CarriesOn p m may (at s h) r (at next h)
+  pub carries_on-out_of_memory : {m : Prog (Unit {0})} {s next : State} {h : Held} (r : Result (Unit {0}) BoxedError)
+      → IsErrAnd r (λ e. reason_in (error_of e) ≡ out_of_memory) → CarriesOn p m may (at s h) (answer_of r) (at next h)
   carries_on-out_of_memory (Ok u) is = absurd is
-  carries_on-out_of_memory (Err e) is = carries_on-no_memory e (ap (λ (f : Refusal). f.reason) is)
+  carries_on-out_of_memory (Err e) is = carries_on-no_memory (error_of e) is
+
+  -- ---- an error handed on, in a box or out of it
+
+  Tells-handed : (o : Outcome) {k : Steps} {s : State} {old : Held} {after : Moment} (e d : RenderError) → IsHandedOn e d
+      → (ps : List Piece) → Runs p k s ps o → after.held.text ≡ old.text ++ join ps
+      → Tells may old.faults after.held.faults o (Err e) after.state → CarriesOut p k may (at s old) (Err d) after
+  Tells-handed _ {k = k} {s = s} e d h ps r x (refusal same) = elim (memory_or (reason_in d)) [
+    | inl memory ↦ record {
+      pieces = ps;
+      outcome = NoMemory;
+      runs = Runs-short r refl;
+      text = x;
+      tells = no_memory same memory;
+    }
+    | inr other ↦ record {
+      pieces = ps;
+      outcome = Refused (refusal_of d);
+      runs = subst (λ (f : Refusal). Runs p k s ps (Refused f)) (sym (handed-refusal e d h other)) r;
+      text = x;
+      tells = refusal same;
+    }
+  ]
+  Tells-handed _ e d h ps r x (fault cause f given counted tells) = record {
+    pieces = ps;
+    outcome = Faulted f;
+    runs = r;
+    text = x;
+    tells = fault cause f given counted (handed-fault e d cause f h tells);
+  }
+  Tells-handed _ e d h ps r x (no_memory same memory) =
+      record { pieces = ps; outcome = NoMemory; runs = r; text = x; tells = no_memory same (h.memory memory) }
+
+  pub carries-handed : {k : Steps} {before after : Moment} (e d : RenderError) → IsHandedOn e d
+      → CarriesOut p k may before (Err e) after → CarriesOut p k may before (Err d) after
+  carries-handed e d h c = Tells-handed c.outcome e d h c.pieces c.runs c.text c.tells
+
+  pub carries_on-handed : {m : Prog (Unit {0})} {before after : Moment} (e d : RenderError) → IsHandedOn e d
+      → CarriesOn p m may before (Err e) after → CarriesOn p m may before (Err d) after
+  carries_on-handed e d h (is_over c) = is_over (λ k. carries-handed e d h (c k))
 
   -- ---- one program behind another
 

@@ -1,11 +1,12 @@
 -- Lists as definitions see them, at an index.
-use Rattle.std.proofs.Common.{◌≡◌, ℕ, ◌<◌, ◌≤◌, ◌∙◌, List, map, length, get_or, Option, None, Some, option_map, refl, sym, ap, arith}
+use Rattle.std.proofs.Common.{◌≡◌, ◌≢◌, ℕ, ◌<◌, ◌≤◌, ◌∙◌, List, map, length, get_or, Option, None, Some, option_map, refl, sym, ap, arith}
 use Rattle.std.specs.Prelude.{slice_get, IfSome, MatchOption}
 use Rattle.std.proofs.Math.ListN.{get_or-map}
 use Rattle.std.proofs.lemmas.List.{length-map}
 use Rattle.std.proofs.lemmas.Option.{slice_get-map, slice_get_past, slice_get_read}
 use denote.Ref.{Bor}
-use Rattle.handlebars_base.specs.RenderRefusals.{reason_of, spot_of, cause_of}
+use Rattle.handlebars_base.specs.Reasons.{out_of_memory}
+use Rattle.handlebars_base.specs.RenderRefusals.{reason_in, reason_of, spot_of, cause_of}
 use Rattle.handlebars_base.specs.declared.error.render_error.RenderError.{RenderError}
 use Rattle.handlebars_template.specs.Place.{Place}
 use Rattle.handlebars_template.specs.Tree.{Element}
@@ -34,9 +35,9 @@ pub place_there : (ms : List TemplateMapping) (i : ℕ) (o : Option (Bor Templat
 place_there ms i o is = sym (through (λ m. m.now) place_of o) ∙ ap (option_map place_of) is ∙ sym (slice_get-map place_of ms i)
 
 pub placed_marks : (site : Site) (place : Option Place) (x : Element) (e d : RenderError)
-    → spot_of d ≡ placed_at place (spot_of e) → cause_of d ≡ cause_of e → IsMarked (One site place x) e d
+    → (reason_in d ≢ out_of_memory → spot_of d ≡ placed_at place (spot_of e)) → cause_of d ≡ cause_of e → IsMarked (One site place x) e d
 placed_marks site place x e d is kept = record {
-  spot = λ _. is;
+  spot = is;
   cause = λ _. kept;
   memory = λ memory. ap reason_of kept ∙ memory;
 }

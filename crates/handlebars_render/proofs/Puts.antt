@@ -15,10 +15,12 @@ use Rattle.handlebars_base.specs.Outputs.{Held, IsWhole, IsCutOff, write_reason}
 use Rattle.handlebars_base.specs.Escape.{escaped}
 use Rattle.handlebars_scope.specs.LineState.{LineState, line_behind}
 use Rattle.handlebars_base.specs.Shown.{shown}
+use Rattle.handlebars_meaning.specs.Runs.{plain_fault}
 use Rattle.handlebars_meaning.specs.State.{State}
 use Rattle.handlebars_meaning.specs.Writing.{shown_if_any}
-use Rattle.handlebars_render.specs.View.{Moment, Answered, Puts, all_put, front_put, PutsWord, word_put, word_cut, word_reason, behind, with_line}
-use Rattle.handlebars_render.proofs.Carry.{at}
+use Rattle.handlebars_render.specs.View.{Moment, Answered, Puts, all_put, front_put, TellsFault, PutsWord, word_put, word_cut, word_reason, behind, with_line}
+use Rattle.handlebars_render.specs.Boxed.{IsHandedOn}
+use Rattle.handlebars_render.proofs.Carry.{at, handed-fault}
 
 -- a missing value is written as null is
 pub shown_or_null : (escapes : Bool) (o : Option Data) → shown_if_any escapes o ≡ shown escapes (unwrap_or o null)
@@ -26,6 +28,16 @@ unfolding escaped
 shown_or_null true None = refl
 shown_or_null false None = refl
 shown_or_null escapes (Some d) = refl
+
+pub tells_fault : (cause : Error) (e : RenderError) → refusal_of e ≡ plain_refusal (write_reason (error_kind cause))
+    → (error_kind cause ≢ OutOfMemory → cause_of e ≡ IOError cause) → TellsFault cause (plain_fault false) e
+tells_fault cause e is kept = record {
+  why = λ other. (
+    ap (λ (r : Refusal). r.reason) is,
+    kept (λ memory. other (ap (λ (r : Refusal). r.reason) is ∙ ap write_reason memory)),
+  );
+  where_it_is = λ other. ap (λ (r : Refusal). r.spot) is;
+}
 
 module _ (may : Error → Type 0) where
   -- the same text, and the same state behind it
@@ -53,15 +65,14 @@ module _ (may : Error → Type 0) where
   pub puts_front : (t : Text) {s next : State} {h new : Held} (cause : Error) (e : RenderError) → may cause → IsCutOff t h new
       → refusal_of e ≡ plain_refusal (write_reason (error_kind cause)) → (error_kind cause ≢ OutOfMemory → cause_of e ≡ IOError cause)
       → Puts t may (at s h) (Err e) (at next new)
-  puts_front t cause e given cut is kept = front_put cause given cut (record {
-    why = λ other. (
-      ap (λ (r : Refusal). r.reason) is,
-      kept (λ memory. other (ap (λ (r : Refusal). r.reason) is ∙ ap write_reason memory)),
-    );
-    where_it_is = λ other. ap (λ (r : Refusal). r.spot) is;
-  })
+  puts_front t cause e given cut is kept = front_put cause given cut (tells_fault cause e is kept)
 
   -- ---- words
+
+  pub puts_word-handed : {b : Bool} {before after : Moment} (e d : RenderError) → IsHandedOn e d
+      → PutsWord b may before (Err e) after → PutsWord b may before (Err d) after
+  puts_word-handed e d h (word_cut cause given cut tells) =
+      word_cut cause given cut (handed-fault e d cause (plain_fault true) h tells)
 
   pub puts_word : (b : Bool) (t : Text) {s : State} {h new : Held} {u : Unit {0}} → t ≡ word b → IsWhole t h new
       → PutsWord b may (at s h) (Ok u) (at s new)

@@ -1,10 +1,10 @@
 -- What turns and blocks of scope carry out.
-use Rattle.std.proofs.Common.{◌≡◌, ℕ, ◌+◌, List, [], ◌∷◌, Option, None, Some, option_map, Ok, Err, sym, ap, ◌∙◌, subst}
+use Rattle.std.proofs.Common.{◌≡◌, ℕ, ◌+◌, List, [], ◌∷◌, Option, None, Some, option_map, Result, Ok, Err, sym, ap, ◌∙◌, subst}
 use denote.Ref.{Bor}
 use Rattle.std.specs.declared.io.Error.{Error}
 use Rattle.std.specs.Result.{IsErrAnd}
 use Rattle.handlebars_base.specs.Reasons.{out_of_memory}
-use Rattle.handlebars_base.specs.RenderRefusals.{plain_refusal, refusal_of}
+use Rattle.handlebars_base.specs.RenderRefusals.{reason_in}
 use Rattle.serde_json.specs.Data.{Data}
 use Rattle.handlebars_base.specs.Bytes.{Text}
 use Rattle.handlebars_base.specs.declared.error.render_error.RenderError.{RenderError}
@@ -21,6 +21,8 @@ use Rattle.handlebars_helpers.specs.Turns.{Turn, turned, with_block}
 use Rattle.handlebars_meaning.specs.CarryOut.{in_block, render_body, render_with, take_turn, take_turns}
 use Rattle.handlebars_meaning.specs.State.{Setting, State, entered, left, nearest_variables, with_nearest}
 use Rattle.handlebars_meaning.specs.Steps.{Steps, ◌>>◌}
+use Rattle.handlebars_render.specs.Boxed.{answer_of, error_of}
+use Rattle.handlebars_render.specs.declared.boxed.BoxedError.{BoxedError}
 use Rattle.handlebars_render.specs.View.{Moment, Answered, CarriesOn, goes_on, is_over, CarriesOut}
 use Rattle.handlebars_render.proofs.Carry.{at, carries_on-get, carries_on-changed, carries_on-in_block, carries_on-out_of_memory}
 
@@ -70,10 +72,10 @@ module _ (p : Setting) (may : Error → Type 0) where
 
   -- a turn for which there is no memory
   pub turns-no_memory : (site : Site) (i : ℕ) (h : HelperView) (path : Option (List Text)) (all : List Turn) (t : Turn)
-      {rest more : List Turn} {first : Moment} {s next : State} {held : Held} (r : Answered)
+      {rest more : List Turn} {first : Moment} {s next : State} {held : Held} (r : Result (Unit {0}) BoxedError)
       → rest ≡ t ∷ more → TurnsLeft site i h path all rest first (at s held)
-      → IsErrAnd r (λ e. refusal_of e ≡ plain_refusal out_of_memory)
-      → CarriesOn p (take_turns site 0 h path all) may first r (at next held)
+      → IsErrAnd r (λ e. reason_in (error_of e) ≡ out_of_memory)
+      → CarriesOn p (take_turns site 0 h path all) may first (answer_of r) (at next held)
   turns-no_memory site i h path all t (Ok u) is left memory = absurd memory
   turns-no_memory site i h path all t (Err e) is left memory =
       turns-over site i h path all is left (carries_on-out_of_memory p may (Err e) memory)

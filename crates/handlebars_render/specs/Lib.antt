@@ -1,3 +1,4 @@
 pub mod View
+pub mod Boxed
 pub mod Lending
 pub mod Next

@@ -9,9 +9,11 @@ ghost use Rattle.handlebars_helpers.specs.View.{choice_of, kind_of};
 ghost use Rattle.handlebars_meaning.specs.CarryOut.{carry_out, helper_call, render_body, render_branch, render_word};
 ghost use Rattle.handlebars_meaning.specs.Means.{line_in, line_out, render_chosen, render_tag};
 ghost use Rattle.handlebars_meaning.specs.State.{Kept};
+ghost use Rattle.handlebars_render.specs.Boxed.{answer_of};
 ghost use Rattle.handlebars_render.specs.Next.{render_next};
 ghost use Rattle.handlebars_render.specs.View.{setting_in, state_of, moment, called_view, CarriesOn, IsKept};
 
+use crate::boxed::BoxedError;
 use crate::called::Called;
 use crate::context::RenderContext;
 use crate::each::{render_each, render_with};
@@ -20,7 +22,6 @@ use crate::registered::Registered;
 use crate::setting::Setting;
 use crate::tree::render_tree;
 use crate::write::{write_chosen, write_count, write_word};
-use handlebars_base::error::RenderError;
 use handlebars_base::output::Output;
 use handlebars_helpers::built_in::BuiltIn;
 use handlebars_helpers::choice::{Choice, choose};
@@ -35,10 +36,10 @@ pub fn render_tag<'a, O: Output, P: Registered>(
     block: bool,
     rc: &mut RenderContext,
     out: &mut O,
-) -> Result<(), RenderError>
+) -> Result<(), BoxedError>
     ensures renders { (site : Site) (kept : Kept) → CarriesOn (setting_in P.parts setting.now)
         (render_tag site block (call_view helper.now))
-        O.may_give (moment kept rc.old (O.held out.old)) result (moment kept rc.new (O.held out.new)) }
+        O.may_give (moment kept rc.old (O.held out.old)) (answer_of result) (moment kept rc.new (O.held out.new)) }
     ensures kept { IsKept rc.old rc.new }
 {
     match settle_tag(helper, setting, block, rc, out) {
@@ -60,10 +61,10 @@ fn render_next<'a, O: Output, P: Registered>(
     to_call: ToCall<'a>,
     rc: &mut RenderContext,
     out: &mut O,
-) -> Result<(), RenderError>
+) -> Result<(), BoxedError>
     ensures renders { (site : Site) (kept : Kept) → CarriesOn (setting_in P.parts setting.now)
         (render_next site block (call_view helper.now) to_call.entry)
-        O.may_give (moment kept rc.old (O.held out.old)) result (moment kept rc.new (O.held out.new)) }
+        O.may_give (moment kept rc.old (O.held out.old)) (answer_of result) (moment kept rc.new (O.held out.new)) }
     ensures kept { IsKept rc.old rc.new }
 {
     let kind = to_call.kind;
@@ -90,17 +91,17 @@ fn render_chosen<'a, O: Output, P: Registered>(
     call: Called<'a>,
     rc: &mut RenderContext,
     out: &mut O,
-) -> Result<(), RenderError>
+) -> Result<(), BoxedError>
     ensures renders { (site : Site) (kept : Kept) → CarriesOn (setting_in P.parts setting.now)
         (render_chosen site (kind_of kind)
         (helper_call block (call_view helper.now) (called_view call.entry)))
-        O.may_give (moment kept rc.old (O.held out.old)) result (moment kept rc.new (O.held out.new)) }
+        O.may_give (moment kept rc.old (O.held out.old)) (answer_of result) (moment kept rc.new (O.held out.new)) }
     ensures kept { IsKept rc.old rc.new }
 {
     let view = call.of_call(helper, block);
     match choose(setting.alloc, setting.parts.strict(), kind, &view) {
         Ok(choice) => carry_out(helper, setting, block, choice, rc, out),
-        Err(e) => Err(e),
+        Err(e) => Err(BoxedError::new(setting.alloc, e)),
     }
 }
 
@@ -113,10 +114,10 @@ fn carry_out<'a, O: Output, P: Registered>(
     choice: Choice,
     rc: &mut RenderContext,
     out: &mut O,
-) -> Result<(), RenderError>
+) -> Result<(), BoxedError>
     ensures renders { (site : Site) (kept : Kept) (v : CallView) → CarriesOn (setting_in P.parts setting.now)
         (carry_out site (helper_call block (call_view helper.now) v) (choice_of choice.entry))
-        O.may_give (moment kept rc.old (O.held out.old)) result (moment kept rc.new (O.held out.new)) }
+        O.may_give (moment kept rc.old (O.held out.old)) (answer_of result) (moment kept rc.new (O.held out.new)) }
     ensures kept { IsKept rc.old rc.new }
 {
     match choice {
@@ -139,8 +140,8 @@ fn carry_out<'a, O: Output, P: Registered>(
             rc,
             out,
         ),
-        Choice::Value(value) => write_chosen(value, rc, out),
-        Choice::Count(count) => write_count(count, rc, out),
+        Choice::Value(value) => write_chosen(setting.alloc, value, rc, out),
+        Choice::Count(count) => write_count(setting.alloc, count, rc, out),
         Choice::Word(word) => render_word(helper, setting, block, word, rc, out),
         Choice::Line(level, text) => {
             setting.parts.log(level, text.as_str());
@@ -159,10 +160,10 @@ fn render_word<'a, O: Output, P: Registered>(
     word: bool,
     rc: &mut RenderContext,
     out: &mut O,
-) -> Result<(), RenderError>
+) -> Result<(), BoxedError>
     ensures renders { (site : Site) (kept : Kept) (v : CallView) → CarriesOn (setting_in P.parts setting.now)
         (render_word site (helper_call block (call_view helper.now) v) block word)
-        O.may_give (moment kept rc.old (O.held out.old)) result (moment kept rc.new (O.held out.new)) }
+        O.may_give (moment kept rc.old (O.held out.old)) (answer_of result) (moment kept rc.new (O.held out.new)) }
     ensures kept { IsKept rc.old rc.new }
 {
     if !block {
@@ -182,10 +183,10 @@ pub fn render_body<'a, O: Output, P: Registered>(
     setting: &Setting<'_, 'a, P>,
     rc: &mut RenderContext,
     out: &mut O,
-) -> Result<(), RenderError>
+) -> Result<(), BoxedError>
     ensures renders { (site : Site) (kept : Kept) (i : ℕ) (block : Bool) (v : CallView) → CarriesOn (setting_in P.parts setting.now)
         (render_body site i (helper_call block (call_view helper.now) v))
-        O.may_give (moment kept rc.old (O.held out.old)) result (moment kept rc.new (O.held out.new)) }
+        O.may_give (moment kept rc.old (O.held out.old)) (answer_of result) (moment kept rc.new (O.held out.new)) }
     ensures kept { IsKept rc.old rc.new }
 {
     match &helper.template {
@@ -201,10 +202,10 @@ fn render_inverse<'a, O: Output, P: Registered>(
     setting: &Setting<'_, 'a, P>,
     rc: &mut RenderContext,
     out: &mut O,
-) -> Result<(), RenderError>
+) -> Result<(), BoxedError>
     ensures renders { (site : Site) (kept : Kept) (block : Bool) (v : CallView) → CarriesOn (setting_in P.parts setting.now)
         (render_branch (inverse_at site 0) (helper_call block (call_view helper.now) v).inverse)
-        O.may_give (moment kept rc.old (O.held out.old)) result (moment kept rc.new (O.held out.new)) }
+        O.may_give (moment kept rc.old (O.held out.old)) (answer_of result) (moment kept rc.new (O.held out.new)) }
     ensures kept { IsKept rc.old rc.new }
 {
     match &helper.inverse {

@@ -8,13 +8,14 @@ ghost use Rattle.handlebars_helpers.specs.CallView.{CallView};
 ghost use Rattle.handlebars_helpers.specs.View.{base_view, path_view, turns_left};
 ghost use Rattle.handlebars_meaning.specs.CarryOut.{helper_call, in_block, render_with, take_turns};
 ghost use Rattle.handlebars_meaning.specs.State.{Kept};
+ghost use Rattle.handlebars_render.specs.Boxed.{answer_of};
 ghost use Rattle.handlebars_render.specs.View.{setting_in, moment, CarriesOn, HasOuter, IsKept};
 
 use crate::block::render_body;
+use crate::boxed::BoxedError;
 use crate::context::RenderContext;
 use crate::registered::Registered;
 use crate::setting::Setting;
-use handlebars_base::error::RenderError;
 use handlebars_base::output::Output;
 use handlebars_helpers::each_turns::Turns;
 use handlebars_helpers::turn::{Base, with_block};
@@ -29,10 +30,10 @@ pub fn render_with<'a, O: Output, P: Registered>(
     base: Base,
     rc: &mut RenderContext,
     out: &mut O,
-) -> Result<(), RenderError>
+) -> Result<(), BoxedError>
     ensures renders { (site : Site) (kept : Kept) (block : Bool) (v : CallView) → CarriesOn (setting_in P.parts setting.now)
         (render_with site (helper_call block (call_view helper.now) v) (base_view base.entry))
-        O.may_give (moment kept rc.old (O.held out.old)) result (moment kept rc.new (O.held out.new)) }
+        O.may_give (moment kept rc.old (O.held out.old)) (answer_of result) (moment kept rc.new (O.held out.new)) }
     ensures kept { IsKept rc.old rc.new }
 {
     let variables = rc.nearest_variables()?;
@@ -52,11 +53,11 @@ pub fn render_each<'a, O: Output, P: Registered>(
     turns: Turns,
     rc: &mut RenderContext,
     out: &mut O,
-) -> Result<(), RenderError>
+) -> Result<(), BoxedError>
     ensures renders { (site : Site) (kept : Kept) (block : Bool) (v : CallView) → CarriesOn (setting_in P.parts setting.now)
         (in_block empty_frame (take_turns site 0 (helper_call block (call_view helper.now) v) (path_view path.entry)
         (turns_left turns.entry)))
-        O.may_give (moment kept rc.old (O.held out.old)) result (moment kept rc.new (O.held out.new)) }
+        O.may_give (moment kept rc.old (O.held out.old)) (answer_of result) (moment kept rc.new (O.held out.new)) }
     ensures kept { IsKept rc.old rc.new }
 {
     rc.push_block(BlockContext::new(setting.alloc))?;
@@ -74,10 +75,10 @@ fn take_turns<'a, O: Output, P: Registered>(
     turns: Turns,
     rc: &mut RenderContext,
     out: &mut O,
-) -> Result<(), RenderError>
+) -> Result<(), BoxedError>
     ensures renders { (site : Site) (kept : Kept) (block : Bool) (v : CallView) → CarriesOn (setting_in P.parts setting.now)
         (take_turns site 0 (helper_call block (call_view helper.now) v) (path_view path.entry) (turns_left turns.entry))
-        O.may_give (moment kept rc.old (O.held out.old)) result (moment kept rc.new (O.held out.new)) }
+        O.may_give (moment kept rc.old (O.held out.old)) (answer_of result) (moment kept rc.new (O.held out.new)) }
     ensures outer { HasOuter rc.old rc.new }
 {
     let mut left = turns;

@@ -10,14 +10,16 @@ ghost use Rattle.handlebars_meaning.specs.Sites.{Site};
 ghost use Rattle.handlebars_meaning.specs.Means.{render_decorator, render_element, render_expression, render_partial, unescaped};
 ghost use Rattle.handlebars_meaning.specs.Steps.{run};
 ghost use Rattle.handlebars_meaning.specs.State.{Kept};
+ghost use Rattle.handlebars_render.specs.Boxed.{answer_of, error_of};
 ghost use Rattle.handlebars_render.specs.View.{setting_in, moment, CarriesOut, IsKept, RefusesValue, state_with};
 
 use crate::block::render_tag;
+use crate::boxed::BoxedError;
 use crate::called::view_of_tag;
 use crate::context::RenderContext;
 use crate::registered::Registered;
 use crate::setting::Setting;
-use crate::write::indent_aware_write;
+use crate::write::write_text;
 use handlebars_base::error::{RenderError, RenderErrorReason};
 use handlebars_base::output::Output;
 use handlebars_template::template::{DecoratorTemplate, HelperTemplate, TemplateElement};
@@ -31,14 +33,14 @@ pub fn render_element<'a, O: Output, P: Registered>(
     setting: &Setting<'_, 'a, P>,
     rc: &mut RenderContext,
     out: &mut O,
-) -> Result<(), RenderError>
+) -> Result<(), BoxedError>
     ensures renders { (site : Site) (kept : Kept) → CarriesOut (setting_in P.parts setting.now)
         (run (render_element site (element_view element.now)))
-        O.may_give (moment kept rc.old (O.held out.old)) result (moment kept rc.new (O.held out.new)) }
+        O.may_give (moment kept rc.old (O.held out.old)) (answer_of result) (moment kept rc.new (O.held out.new)) }
     ensures kept { IsKept rc.old rc.new }
 {
     match element {
-        TemplateElement::RawString(text) => indent_aware_write(text.as_str(), rc, out),
+        TemplateElement::RawString(text) => write_text(setting.alloc, text.as_str(), rc, out),
         TemplateElement::Expression(helper) => render_tag(helper, setting, false, rc, out),
         TemplateElement::Comment(_) => Ok(()),
         TemplateElement::HtmlExpression(helper) => render_unescaped(helper, setting, rc, out),
@@ -57,10 +59,10 @@ fn render_unescaped<'a, O: Output, P: Registered>(
     setting: &Setting<'_, 'a, P>,
     rc: &mut RenderContext,
     out: &mut O,
-) -> Result<(), RenderError>
+) -> Result<(), BoxedError>
     ensures renders { (site : Site) (kept : Kept) → CarriesOut (setting_in P.parts setting.now)
         (run (unescaped (render_expression site (call_view helper.now))))
-        O.may_give (moment kept rc.old (O.held out.old)) result (moment kept rc.new (O.held out.new)) }
+        O.may_give (moment kept rc.old (O.held out.old)) (answer_of result) (moment kept rc.new (O.held out.new)) }
     ensures kept { IsKept rc.old rc.new }
 {
     let disabled = rc.is_disable_escape();
@@ -71,35 +73,39 @@ fn render_unescaped<'a, O: Output, P: Registered>(
 }
 
 // A decorator and an inclusion are refused once their tag is evaluated, since nothing is registered for them.
+#[cold]
+#[inline(never)]
 fn refuse_decorator<'a, P: Registered>(
     tag: &'a DecoratorTemplate,
     setting: &Setting<'_, 'a, P>,
     rc: &RenderContext,
-) -> RenderError
-    ensures { (kept : Kept) → reason_in result ≢ out_of_memory
+) -> BoxedError
+    ensures { (kept : Kept) → reason_in (error_of result) ≢ out_of_memory
         → RefusesValue (setting_in P.parts setting.now)
         (render_decorator (decorator_view tag.now))
-        (state_with kept rc.now) (refusal_of result) }
+        (state_with kept rc.now) (refusal_of (error_of result)) }
 {
     match view_of_tag(setting, rc, tag) {
-        Ok(view) => no_decorator(setting.alloc, view.into_name()),
-        Err(e) => e,
+        Ok(view) => BoxedError::new(setting.alloc, no_decorator(setting.alloc, view.into_name())),
+        Err(e) => BoxedError::new(setting.alloc, e),
     }
 }
 
+#[cold]
+#[inline(never)]
 fn refuse_partial<'a, P: Registered>(
     tag: &'a DecoratorTemplate,
     setting: &Setting<'_, 'a, P>,
     rc: &RenderContext,
-) -> RenderError
-    ensures { (kept : Kept) → reason_in result ≢ out_of_memory
+) -> BoxedError
+    ensures { (kept : Kept) → reason_in (error_of result) ≢ out_of_memory
         → RefusesValue (setting_in P.parts setting.now)
         (render_partial (decorator_view tag.now))
-        (state_with kept rc.now) (refusal_of result) }
+        (state_with kept rc.now) (refusal_of (error_of result)) }
 {
     match view_of_tag(setting, rc, tag) {
-        Ok(view) => no_partial(setting.alloc, view.into_name()),
-        Err(e) => e,
+        Ok(view) => BoxedError::new(setting.alloc, no_partial(setting.alloc, view.into_name())),
+        Err(e) => BoxedError::new(setting.alloc, e),
     }
 }
 

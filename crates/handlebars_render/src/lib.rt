@@ -3,6 +3,7 @@
 #![tactic(auto)]
 
 mod block;
+pub mod boxed;
 mod called;
 pub mod context;
 mod each;

@@ -3,7 +3,7 @@
 ghost use Rattle.std.specs.Prelude.{◌≡◌, MatchOption, MatchResult, None, Ok, Err, false, true};
 ghost use Rattle.std.specs.Cow.{cow_str_bytes};
 ghost use Rattle.handlebars_base.specs.Answers.{IsRefusal, gives};
-ghost use Rattle.handlebars_base.specs.Reasons.{missing_variable};
+ghost use Rattle.handlebars_base.specs.Reasons.{helper_not_found, missing_variable};
 ghost use Rattle.handlebars_base.specs.RenderRefusals.{plain_refusal};
 ghost use Rattle.handlebars_base.specs.Scoped.{missing};
 ghost use Rattle.handlebars_template.specs.Tree.{as_name, call_name, is_value};
@@ -14,9 +14,11 @@ ghost use Rattle.handlebars_meaning.specs.Sites.{Site};
 ghost use Rattle.handlebars_meaning.specs.Means.{render_call, render_expression, render_found, render_lone, render_lone_as, render_tag};
 ghost use Rattle.handlebars_meaning.specs.Values.{HasValue};
 ghost use Rattle.handlebars_meaning.specs.State.{Kept};
+ghost use Rattle.handlebars_render.specs.Boxed.{answer_of, error_of};
 ghost use Rattle.handlebars_render.specs.Next.{ComesTo, Settles};
 ghost use Rattle.handlebars_render.specs.View.{name_alone, setting_in, moment, with_line, CarriesOn, IsMade, state_with};
 
+use crate::boxed::BoxedError;
 use crate::called::{Called, helper_not_found};
 use crate::context::RenderContext;
 use crate::lone::{Lone, lone_name, lone_value};
@@ -24,7 +26,7 @@ use crate::registered::{Registered, helper_for, hook};
 use crate::setting::Setting;
 use crate::value::{called, written};
 use crate::write::write_found;
-use handlebars_base::error::{RenderError, RenderErrorReason};
+use handlebars_base::error::RenderErrorReason;
 use handlebars_base::json::value::ScopedJson;
 use handlebars_base::output::Output;
 use handlebars_helpers::built_in::BuiltIn;
@@ -82,10 +84,10 @@ pub fn settle_tag<'a, O: Output, P: Registered>(
     block: bool,
     rc: &RenderContext,
     out: &mut O,
-) -> Result<Next<'a>, RenderError>
+) -> Result<Next<'a>, BoxedError>
     ensures { (site : Site) (kept : Kept) → ComesTo (setting_in P.parts setting.now) site block (call_view helper.now)
         (render_tag site block (call_view helper.now))
-        O.may_give (moment kept rc.now (O.held out.old)) result (O.held out.new) }
+        O.may_give (moment kept rc.now (O.held out.old)) (answer_of result) (O.held out.new) }
 {
     if block {
         settle_call(helper, setting, true, rc)
@@ -99,10 +101,10 @@ fn settle_expression<'a, O: Output, P: Registered>(
     setting: &Setting<'_, 'a, P>,
     rc: &RenderContext,
     out: &mut O,
-) -> Result<Next<'a>, RenderError>
+) -> Result<Next<'a>, BoxedError>
     ensures { (site : Site) (kept : Kept) → ComesTo (setting_in P.parts setting.now) site false (call_view helper.now)
         (render_expression site (call_view helper.now))
-        O.may_give (moment kept rc.now (O.held out.old)) result (O.held out.new) }
+        O.may_give (moment kept rc.now (O.held out.old)) (answer_of result) (O.held out.new) }
 {
     if helper.is_value() {
         settle_lone(helper, setting, rc, out)
@@ -117,13 +119,13 @@ fn settle_call<'a, P: Registered>(
     setting: &Setting<'_, 'a, P>,
     block: bool,
     rc: &RenderContext,
-) -> Result<Next<'a>, RenderError>
+) -> Result<Next<'a>, BoxedError>
     ensures { (site : Site) (kept : Kept) → Settles (setting_in P.parts setting.now) site block (call_view helper.now)
-        (render_call site block (call_view helper.now)) (state_with kept rc.now) result }
+        (render_call site block (call_view helper.now)) (state_with kept rc.now) (answer_of result) }
 {
     let call = match called(setting, rc, helper) {
         Ok(call) => call,
-        Err(e) => return Err(e),
+        Err(e) => return Err(BoxedError::new(setting.alloc, e)),
     };
     match helper_for(setting.parts, block, call.name.as_str()) {
         Some(kind) => Ok(Next::Call(ToCall {
@@ -131,7 +133,7 @@ fn settle_call<'a, P: Registered>(
             call,
             bracket: true,
         })),
-        None => Err(helper_not_found(setting.alloc, call.name.as_str())),
+        None => Err(unknown_helper(setting.alloc, call.name.as_str())),
     }
 }
 
@@ -141,15 +143,15 @@ fn settle_lone<'a, O: Output, P: Registered>(
     setting: &Setting<'_, 'a, P>,
     rc: &RenderContext,
     out: &mut O,
-) -> Result<Next<'a>, RenderError>
+) -> Result<Next<'a>, BoxedError>
     ensures { is_value (call_view helper.now) ≡ true → (site : Site) (kept : Kept)
         → ComesTo (setting_in P.parts setting.now) site false (call_view helper.now)
         (render_lone site (call_view helper.now))
-        O.may_give (moment kept rc.now (O.held out.old)) result (O.held out.new) }
+        O.may_give (moment kept rc.now (O.held out.old)) (answer_of result) (O.held out.new) }
 {
     let lone = match lone_name(setting, rc, &helper.name) {
         Ok(lone) => lone,
-        Err(e) => return Err(e),
+        Err(e) => return Err(BoxedError::new(setting.alloc, e)),
     };
     match setting.parts.helper(lone.name.as_str()) {
         Some(kind) => Ok(Next::Call(ToCall {
@@ -168,11 +170,11 @@ fn settle_value<'a, O: Output, P: Registered>(
     lone: Lone<'a>,
     rc: &RenderContext,
     out: &mut O,
-) -> Result<Next<'a>, RenderError>
+) -> Result<Next<'a>, BoxedError>
     ensures { (kept : Kept) → IsMade (setting_in P.parts setting.now) (state_with kept rc.now) (call_name (call_view helper.now)) lone.entry.value
         → (site : Site) → ComesTo (setting_in P.parts setting.now) site false (call_view helper.now)
         (render_lone_as site (call_view helper.now) (name_alone (cow_str_bytes lone.entry.name)) None)
-        O.may_give (moment kept rc.now (O.held out.old)) result (O.held out.new) }
+        O.may_give (moment kept rc.now (O.held out.old)) (answer_of result) (O.held out.new) }
 {
     let Lone { name, value } = lone;
     match write_lone(helper, setting, value, rc, out) {
@@ -190,7 +192,7 @@ fn write_lone<'a, O: Output, P: Registered>(
     made: Option<ScopedJson<'a>>,
     rc: &RenderContext,
     out: &mut O,
-) -> Result<Option<LineState>, RenderError>
+) -> Result<Option<LineState>, BoxedError>
     ensures { (kept : Kept) → IsMade (setting_in P.parts setting.now) (state_with kept rc.now) (call_name (call_view helper.now)) made.entry
         → (site : Site) (v : CallView) → MatchResult result
         (λ line. MatchOption line
@@ -200,15 +202,15 @@ fn write_lone<'a, O: Output, P: Registered>(
         (render_lone_as site (call_view helper.now) v None) O.may_give (moment kept rc.now (O.held out.old)) (Ok tt)
         (record { state = with_line (line_of line) (state_with kept rc.now); held = O.held out.new })))
         (λ e. CarriesOn (setting_in P.parts setting.now)
-        (render_lone_as site (call_view helper.now) v None) O.may_give (moment kept rc.now (O.held out.old)) (Err e)
+        (render_lone_as site (call_view helper.now) v None) O.may_give (moment kept rc.now (O.held out.old)) (Err (error_of e))
         (moment kept rc.now (O.held out.new))) }
 {
     let value = match lone_value(setting, rc, &helper.name, made) {
         Ok(value) => value,
-        Err(e) => return Err(e),
+        Err(e) => return Err(BoxedError::new(setting.alloc, e)),
     };
     match value.as_json() {
-        Some(json) => match write_found(Some(json), rc, out) {
+        Some(json) => match write_found(setting.alloc, Some(json), rc, out) {
             Ok(line) => Ok(Some(line)),
             Err(e) => Err(e),
         },
@@ -222,10 +224,10 @@ fn settle_missing<'a, P: Registered>(
     setting: &Setting<'_, 'a, P>,
     name: CowStr<'a>,
     rc: &RenderContext,
-) -> Result<Next<'a>, RenderError>
+) -> Result<Next<'a>, BoxedError>
     ensures { (site : Site) (kept : Kept) → Settles (setting_in P.parts setting.now) site false (call_view helper.now)
         (render_found site (call_view helper.now) (name_alone (cow_str_bytes name.entry)) missing)
-        (state_with kept rc.now) result }
+        (state_with kept rc.now) (answer_of result) }
 {
     if setting.parts.strict() {
         return Err(missing_variable(setting.alloc, &helper.name));
@@ -240,12 +242,23 @@ fn settle_missing<'a, P: Registered>(
     }
 }
 
+// The refusal of a name that no helper has.
+#[cold]
+#[inline(never)]
+fn unknown_helper(alloc: Global, name: &str) -> BoxedError
+    ensures { IsRefusal (plain_refusal (helper_not_found name.now)) (error_of result) }
+{
+    BoxedError::new(alloc, helper_not_found(alloc, name))
+}
+
 // The refusal of a missing value, by its text as written, where it has one.
-fn missing_variable(alloc: Global, name: &Parameter) -> RenderError
-    ensures { IsRefusal (plain_refusal (missing_variable (as_name (param_view name.now)))) result }
+#[cold]
+#[inline(never)]
+fn missing_variable(alloc: Global, name: &Parameter) -> BoxedError
+    ensures { IsRefusal (plain_refusal (missing_variable (as_name (param_view name.now)))) (error_of result) }
 {
     match written(alloc, name) {
-        Ok(text) => RenderErrorReason::MissingVariable(text).into(),
-        Err(AllocError) => RenderErrorReason::OutOfMemory.into(),
+        Ok(text) => BoxedError::new(alloc, RenderErrorReason::MissingVariable(text).into()),
+        Err(AllocError) => BoxedError::OutOfMemory,
     }
 }

@@ -9,13 +9,14 @@ ghost use Rattle.handlebars_meaning.specs.Means.{render_whole};
 ghost use Rattle.handlebars_meaning.specs.Runs.{placed_at, named_as};
 ghost use Rattle.handlebars_meaning.specs.Steps.{Whole, perform, run};
 ghost use Rattle.handlebars_meaning.specs.State.{Kept};
+ghost use Rattle.handlebars_render.specs.Boxed.{answer_of, error_of};
 ghost use Rattle.handlebars_render.specs.View.{setting_in, moment, CarriesOn, CarriesOut, IsKept};
 
+use crate::boxed::BoxedError;
 use crate::context::RenderContext;
 use crate::element::render_element;
 use crate::registered::Registered;
 use crate::setting::Setting;
-use handlebars_base::error::RenderError;
 use handlebars_base::output::Output;
 use handlebars_template::template::{Template, TemplateMapping};
 use std::alloc::Global;
@@ -27,10 +28,10 @@ pub fn render_tree<'a, O: Output, P: Registered>(
     setting: &Setting<'_, 'a, P>,
     rc: &mut RenderContext,
     out: &mut O,
-) -> Result<(), RenderError>
+) -> Result<(), BoxedError>
     ensures renders { (at : TreeSite) (kept : Kept) → CarriesOn (setting_in P.parts setting.now)
         (perform (Whole at (tree_view template.now)))
-        O.may_give (moment kept rc.old (O.held out.old)) result (moment kept rc.new (O.held out.new)) }
+        O.may_give (moment kept rc.old (O.held out.old)) (answer_of result) (moment kept rc.new (O.held out.new)) }
     ensures kept { IsKept rc.old rc.new }
 {
     match render_whole(template, setting, rc, out) {
@@ -46,10 +47,10 @@ fn render_whole<'a, O: Output, P: Registered>(
     setting: &Setting<'_, 'a, P>,
     rc: &mut RenderContext,
     out: &mut O,
-) -> Result<(), RenderError>
+) -> Result<(), BoxedError>
     ensures renders { (at : TreeSite) (kept : Kept) → CarriesOut (setting_in P.parts setting.now)
         (run (render_whole at (tree_view template.now)))
-        O.may_give (moment kept rc.old (O.held out.old)) result (moment kept rc.new (O.held out.new)) }
+        O.may_give (moment kept rc.old (O.held out.old)) (answer_of result) (moment kept rc.new (O.held out.new)) }
     ensures kept { IsKept rc.old rc.new }
 {
     rc.enter(&template.name)?;
@@ -62,9 +63,10 @@ fn render_whole<'a, O: Output, P: Registered>(
 }
 
 // With the position of an element, where it has one and none is known yet.
-fn placed(error: RenderError, place: Option<&TemplateMapping>) -> RenderError
-    ensures spot { spot_of result ≡ placed_at (option_map (λ m. place_of m.now) place.entry) (spot_of error) }
-    ensures cause { cause_of result ≡ cause_of error }
+fn placed(error: BoxedError, place: Option<&TemplateMapping>) -> BoxedError
+    ensures spot { reason_in (error_of result) ≢ out_of_memory
+        → spot_of (error_of result) ≡ placed_at (option_map (λ m. place_of m.now) place.entry) (spot_of (error_of error)) }
+    ensures cause { cause_of (error_of result) ≡ cause_of (error_of error) }
 {
     match place {
         Some(place) => error.at(place.0, place.1),
@@ -73,11 +75,11 @@ fn placed(error: RenderError, place: Option<&TemplateMapping>) -> RenderError
 }
 
 // With the name of a template, where it has one and none is known yet.
-fn named(alloc: Global, error: RenderError, name: &Option<String>) -> RenderError
-    ensures spot { reason_in result ≢ out_of_memory
-        → spot_of result ≡ named_as (option_map string_bytes name.now) (spot_of error) }
-    ensures cause { reason_in result ≢ out_of_memory → cause_of result ≡ cause_of error }
-    ensures memory { reason_in error ≡ out_of_memory → reason_in result ≡ out_of_memory }
+fn named(alloc: Global, error: BoxedError, name: &Option<String>) -> BoxedError
+    ensures spot { reason_in (error_of result) ≢ out_of_memory
+        → spot_of (error_of result) ≡ named_as (option_map string_bytes name.now) (spot_of (error_of error)) }
+    ensures cause { reason_in (error_of result) ≢ out_of_memory → cause_of (error_of result) ≡ cause_of (error_of error) }
+    ensures memory { reason_in (error_of error) ≡ out_of_memory → reason_in (error_of result) ≡ out_of_memory }
 {
     match name {
         Some(name) => error.in_template(alloc, name),

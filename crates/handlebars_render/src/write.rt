@@ -1,6 +1,6 @@
 //! Writing texts and values into an output, by the line's state.
 
-ghost use Rattle.std.specs.Prelude.{◌≡◌, ◌≢◌, MatchResult, OnErr, Ok, Err, Some, option_map, unwrap_or};
+ghost use Rattle.std.specs.Prelude.{◌≡◌, ◌≢◌, MatchResult, OnErr, Ok, Err, Some, option_map, unwrap_or, false};
 ghost use Rattle.std.specs.IoError.{error_kind};
 ghost use Rattle.serde_json.specs.Data.{null, number, unsigned};
 ghost use Rattle.serde_json.specs.View.{view};
@@ -9,10 +9,13 @@ ghost use Rattle.handlebars_base.specs.Reasons.{out_of_memory};
 ghost use Rattle.handlebars_base.specs.RenderRefusals.{plain_refusal, reason_in, refusal_of};
 ghost use Rattle.handlebars_base.specs.Values as values;
 ghost use Rattle.handlebars_scope.specs.LineView.{line_of};
+ghost use Rattle.handlebars_meaning.specs.Runs.{plain_fault};
 ghost use Rattle.handlebars_meaning.specs.Writing.{shown_if_any};
 ghost use Rattle.handlebars_meaning.specs.State.{Kept, State};
-ghost use Rattle.handlebars_render.specs.View.{state_of, moment, with_line, word_reason, Puts, PutsWord, IsKept, state_with};
+ghost use Rattle.handlebars_render.specs.Boxed.{answer_of, error_of};
+ghost use Rattle.handlebars_render.specs.View.{state_of, moment, with_line, word_reason, Puts, PutsWord, TellsFault, IsKept, state_with};
 
+use crate::boxed::BoxedError;
 use crate::context::RenderContext;
 use handlebars_base::error::{RenderError, RenderErrorReason};
 use handlebars_base::json::value::{Json, write_value};
@@ -42,41 +45,69 @@ pub fn indent_aware_write<O: Output>(
     }
 }
 
+/// The same, with a refusal in a box.
+pub(super) fn write_text<O: Output>(
+    alloc: Global,
+    text: &str,
+    rc: &mut RenderContext,
+    out: &mut O,
+) -> Result<(), BoxedError>
+    ensures puts { (kept : Kept) → Puts text.now O.may_give (moment kept rc.old (O.held out.old)) (answer_of result) (moment kept rc.new (O.held out.new)) }
+    ensures kept { IsKept rc.old rc.new }
+{
+    if let Err(fault) = out.write(text) {
+        return Err(write_fault(alloc, fault));
+    }
+    rc.pass_text(text);
+    Ok(())
+}
+
+// The refusal for a write that failed.
+#[cold]
+#[inline(never)]
+fn write_fault(alloc: Global, fault: io::Error) -> BoxedError
+    ensures { TellsFault fault (plain_fault false) (error_of result) }
+{
+    BoxedError::new(alloc, output_fault(fault))
+}
+
 /// Writes a value, rendered, and escaped where escaping is on, and answers the line behind it; nothing
 /// where there is none. The value may be one of a block, so the context is left to the caller.
 pub(super) fn write_found<O: Output>(
+    alloc: Global,
     value: Option<&Json>,
     rc: &RenderContext,
     out: &mut O,
-) -> Result<LineState, RenderError>
+) -> Result<LineState, BoxedError>
     ensures puts { (kept : Kept) → MatchResult result
         (λ line. Puts (shown_if_any (state_of rc.now).escapes (option_map (λ v. view v.now) value.entry)) O.may_give
         (moment kept rc.now (O.held out.old)) (Ok tt)
         (record { state = with_line (line_of line) (state_with kept rc.now); held = O.held out.new }))
         (λ e. Puts (shown_if_any (state_of rc.now).escapes (option_map (λ v. view v.now) value.entry)) O.may_give
-        (moment kept rc.now (O.held out.old)) (Err e) (moment kept rc.now (O.held out.new))) }
+        (moment kept rc.now (O.held out.old)) (Err (error_of e)) (moment kept rc.now (O.held out.new))) }
 {
     let Some(value) = value else {
         return Ok(rc.line());
     };
     match write_value(out, value, rc.escapes()) {
         Ok(()) => Ok(rc.line().behind_value(value)),
-        Err(cause) => Err(output_fault(cause)),
+        Err(cause) => Err(write_fault(alloc, cause)),
     }
 }
 
 /// Writes a value that a helper chose, as one that has no path; a missing one counts as null.
 pub(super) fn write_chosen<O: Output>(
+    alloc: Global,
     value: Option<&Json>,
     rc: &mut RenderContext,
     out: &mut O,
-) -> Result<(), RenderError>
+) -> Result<(), BoxedError>
     ensures puts { (kept : Kept) → Puts
         (shown_if_any (state_of rc.old).escapes (Some (unwrap_or (option_map (λ v. view v.now) value.entry) null)))
-        O.may_give (moment kept rc.old (O.held out.old)) result (moment kept rc.new (O.held out.new)) }
+        O.may_give (moment kept rc.old (O.held out.old)) (answer_of result) (moment kept rc.new (O.held out.new)) }
     ensures kept { IsKept rc.old rc.new }
 {
-    match write_found(value, rc, out) {
+    match write_found(alloc, value, rc, out) {
         Ok(line) => {
             rc.set_line(line);
             Ok(())
@@ -87,16 +118,17 @@ pub(super) fn write_chosen<O: Output>(
 
 /// Writes a number that a helper chose.
 pub(super) fn write_count<O: Output>(
+    alloc: Global,
     count: usize,
     rc: &mut RenderContext,
     out: &mut O,
-) -> Result<(), RenderError>
+) -> Result<(), BoxedError>
     ensures puts { (kept : Kept) → Puts (shown_if_any (state_of rc.old).escapes (Some (number (unsigned count))))
-        O.may_give (moment kept rc.old (O.held out.old)) result (moment kept rc.new (O.held out.new)) }
+        O.may_give (moment kept rc.old (O.held out.old)) (answer_of result) (moment kept rc.new (O.held out.new)) }
     ensures kept { IsKept rc.old rc.new }
 {
     let value = Json::Number(Number::from(count));
-    write_chosen(Some(&value), rc, out)
+    write_chosen(alloc, Some(&value), rc, out)
 }
 
 /// Writes the word of a boolean helper, as it is, whatever the line.
@@ -104,13 +136,13 @@ pub(super) fn write_word<O: Output>(
     alloc: Global,
     word: bool,
     out: &mut O,
-) -> Result<(), RenderError>
+) -> Result<(), BoxedError>
     ensures { (s : State) → PutsWord word O.may_give (record { state = s; held = O.held out.old })
-        result (record { state = s; held = O.held out.new }) }
+        (answer_of result) (record { state = s; held = O.held out.new }) }
 {
     match out.write(word_text(word)) {
         Ok(()) => Ok(()),
-        Err(fault) => Err(word_fault(alloc, fault)),
+        Err(fault) => Err(BoxedError::new(alloc, word_fault(alloc, fault))),
     }
 }
 

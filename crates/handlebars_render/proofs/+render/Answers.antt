@@ -1,4 +1,4 @@
-use Rattle.std.proofs.Common.{◌∙◌, ◌+◌, sym, ap, map, Option, option_map, List, refl}
+use Rattle.std.proofs.Common.{◌∙◌, ◌+◌, sym, ap, map, Option, option_map, List}
 use Rattle.std.specs.Prelude.{slice_get, unwrap_or}
 use Rattle.serde_json.specs.Data.{null, number, unsigned}
 use Rattle.serde_json.specs.View.{view}
@@ -16,10 +16,11 @@ use Rattle.handlebars_scope.specs.Scopes.{Frame, empty_frame}
 use Rattle.handlebars_meaning.specs.CarryOut.{helper_call}
 use Rattle.handlebars_meaning.specs.Means.{render_chosen}
 use Rattle.handlebars_meaning.specs.Runs.{named_as, placed_at}
+use Rattle.handlebars_render.specs.Boxed.{error_of}
 use Rattle.handlebars_render.specs.View.{called_view, keeping, state_of, state_with}
 use Rattle.handlebars_render.proofs.Calls.{branch_none, carry_out_value, chosen_ok, chosen_err, entered_as}
 use Rattle.handlebars_render.proofs.Leaves.{carries_on-leaves}
-use Rattle.handlebars_render.proofs.Carry.{carries-done, carries-no_value, carries-out_of_memory, carries-puts, carries-run, carries-unescaped, carries_on-bracket, carries_on-done, carries_on-task, carries_on-task_over, carries_on-word, restored, carries_on-in_block, carries_on-out_of_memory}
+use Rattle.handlebars_render.proofs.Carry.{carries-done, carries-no_value, carries-out_of_memory, carries-puts, carries-run, carries-unescaped, carries_on-bracket, carries_on-done, carries_on-handed, carries_on-task, carries_on-task_over, carries_on-word, restored, carries_on-in_block, carries_on-out_of_memory}
 use Rattle.handlebars_meaning.specs.State.{entered}
 use Rattle.handlebars_render.proofs.Elements.{left_starts, left_goes, left_over, left_ends, whole_with}
 use Rattle.handlebars_render.proofs.Kept.{kept-refl, kept-trans, outer-kept, outer-trans}
@@ -65,9 +66,10 @@ block::render_chosen-returns-in-Ok-clause-renders g t c = λ site kept.
 
 pub block::render_chosen-returns-clause-renders : goal.block::render_chosen-returns-clause-renders
 block::render_chosen-returns-clause-renders g t c = λ site kept.
-    chosen_err _ _ _ site (kind_of c.args.kind) _
+    carries_on-handed _ _ c.in-Err.e (error_of c.new.result) c.new.ensures
+    (chosen_err _ _ _ site (kind_of c.args.kind) _
     (helper_call c.args.block (call_view c.args.helper.now) (called_view c.args.call)) c.in-Err.e
-    c.strict.ensures c.of_call-view.ensures c.in-Err.ensures
+    c.strict.ensures c.of_call-view.ensures c.in-Err.ensures)
 
 pub block::carry_out-returns-in-Body-clause-renders : goal.block::carry_out-returns-in-Body-clause-renders
 block::carry_out-returns-in-Body-clause-renders g t c = λ site kept v. rw c.in-Body.is (c.render_body.ensures.renders site kept 0 c.args.block v)
@@ -118,7 +120,7 @@ block::render_inverse-returns-in-None-clause-renders g t c = λ site kept block 
 
 pub element::render_element-returns-in-RawString-clause-renders : goal.element::render_element-returns-in-RawString-clause-renders
 element::render_element-returns-in-RawString-clause-renders g t c = λ site kept. rw (c.in-RawString.is, element_view-RawString)
-    (carries-puts _ _ (of_text site) _ (rw c.as_str.ensures.value at (c.indent_aware_write.ensures.puts kept)))
+    (carries-puts _ _ (of_text site) _ (rw c.as_str.ensures.value at (c.write_text.ensures.puts kept)))
 
 pub element::render_element-returns-in-Expression-clause-renders : goal.element::render_element-returns-in-Expression-clause-renders
 element::render_element-returns-in-Expression-clause-renders g t c = λ site kept. rw (c.in-Expression.is, element_view-Expression)
@@ -133,22 +135,22 @@ element::render_element-returns-in-HelperBlock-clause-renders g t c = λ site ke
 
 pub element::render_element-returns-in-DecoratorExpression-clause-renders : goal.element::render_element-returns-in-DecoratorExpression-clause-renders
 element::render_element-returns-in-DecoratorExpression-clause-renders g t c = λ site kept. rw (c.in-DecoratorExpression.is, element_view-DecoratorExpression)
-    (carries-no_value _ _ _ _ c.refuse_decorator.result
+    (carries-no_value _ _ _ _ (error_of c.refuse_decorator.result)
     (rw c.deref-in-DecoratorExpression.ensures at (c.refuse_decorator.ensures kept)))
 
 pub element::render_element-returns-in-DecoratorBlock-clause-renders : goal.element::render_element-returns-in-DecoratorBlock-clause-renders
 element::render_element-returns-in-DecoratorBlock-clause-renders g t c = λ site kept. rw (c.in-DecoratorBlock.is, element_view-DecoratorBlock)
-    (carries-no_value _ _ _ _ c.refuse_decorator-in-DecoratorBlock.result
+    (carries-no_value _ _ _ _ (error_of c.refuse_decorator-in-DecoratorBlock.result)
     (rw c.deref-in-DecoratorBlock.ensures at (c.refuse_decorator-in-DecoratorBlock.ensures kept)))
 
 pub element::render_element-returns-in-PartialExpression-clause-renders : goal.element::render_element-returns-in-PartialExpression-clause-renders
 element::render_element-returns-in-PartialExpression-clause-renders g t c = λ site kept. rw (c.in-PartialExpression.is, element_view-PartialExpression)
-    (carries-no_value _ _ _ _ c.refuse_partial.result
+    (carries-no_value _ _ _ _ (error_of c.refuse_partial.result)
     (rw c.deref-in-PartialExpression.ensures at (c.refuse_partial.ensures kept)))
 
 pub element::render_element-returns-in-PartialBlock-clause-renders : goal.element::render_element-returns-in-PartialBlock-clause-renders
 element::render_element-returns-in-PartialBlock-clause-renders g t c = λ site kept. rw (c.in-PartialBlock.is, element_view-PartialBlock)
-    (carries-no_value _ _ _ _ c.refuse_partial-in-PartialBlock.result
+    (carries-no_value _ _ _ _ (error_of c.refuse_partial-in-PartialBlock.result)
     (rw c.deref-in-PartialBlock.ensures at (c.refuse_partial-in-PartialBlock.ensures kept)))
 
 pub element::render_unescaped-returns-clause-renders : goal.element::render_unescaped-returns-clause-renders
@@ -163,10 +165,10 @@ pub tree::render_tree-returns-in-Ok-clause-renders : goal.tree::render_tree-retu
 tree::render_tree-returns-in-Ok-clause-renders g t c = λ at kept. carries_on-task _ _ (c.in-Ok.ensures.renders at kept)
 
 pub tree::render_tree-returns-in-Err-clause-renders : goal.tree::render_tree-returns-in-Err-clause-renders
-tree::render_tree-returns-in-Err-clause-renders g t c = λ at kept. carries_on-task_over _ _ c.in-Err.e c.named.result
+tree::render_tree-returns-in-Err-clause-renders g t c = λ at kept. carries_on-task_over _ _ (error_of c.in-Err.e) (error_of c.named.result)
     (record {
       spot = λ other. c.named.ensures.spot other
-          ∙ ap (λ (z : Tree). named_as (tree_name z) (spot_of c.in-Err.e)) (sym (tree_view-out c.args.template.now));
+          ∙ ap (λ (z : Tree). named_as (tree_name z) (spot_of (error_of c.in-Err.e))) (sym (tree_view-out c.args.template.now));
       cause = c.named.ensures.cause;
       memory = c.named.ensures.memory;
     })
@@ -196,11 +198,12 @@ tree::render_whole-returns-in-Err-clause-renders g t c = λ at kept.
     let place = place_there c.args.template.now.mapping.items c.elements.index c.get.result found in
     rw (tree_view-out c.args.template.now) (whole_with _ _ at _ _ _ (ap (keeping kept) c.in_ok-enter.ensures.ok) (rw (sym c.deref-element-items.ensures.value)
     (left_over _ _ at (map element_view c.deref-element-items.result.now) (map place_of c.args.template.now.mapping.items)
-    c.elements.index (element_view c.element-item.result) (element_view c.element-item.result) _ _ _ c.in-Err.e c.placed.result
+    c.elements.index (element_view c.element-item.result) (element_view c.element-item.result) _ _ _ (error_of c.in-Err.e) (error_of c.placed.result)
     (below-seen element_view c.deref-element-items.result.now c.elements.index c.elements-test.true)
     (get_or-seen element_view c.deref-element-items.result.now c.elements.index c.element-item.result c.element-item.is)
     (c.elements.invariant.left at kept)
-    (placed_marks _ _ _ _ _ (c.placed.ensures.spot ∙ ap (λ (z : Option Place). placed_at z (spot_of c.in-Err.e)) place) c.placed.ensures.cause)
+    (placed_marks _ _ _ _ _ (λ other. c.placed.ensures.spot other ∙ ap (λ (z : Option Place). placed_at z (spot_of (error_of c.in-Err.e))) place)
+    c.placed.ensures.cause)
     (c.in-Err.ensures.renders (element_in at c.elements.index) kept))))
 
 pub tree::render_whole-returns-in-Err-clause-kept : goal.tree::render_whole-returns-in-Err-clause-kept

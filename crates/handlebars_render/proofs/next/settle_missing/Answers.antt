@@ -3,13 +3,14 @@ use Rattle.std.specs.Cow.{cow_str_bytes}
 use Rattle.handlebars_template.specs.TreeView.{call_view}
 use Rattle.handlebars_template.proofs.Levels.{call_name-view}
 use Rattle.handlebars_helpers.specs.View.{kind_of}
+use Rattle.handlebars_render.specs.Boxed.{error_of}
 use Rattle.handlebars_render.specs.View.{called_view, name_alone}
 use Rattle.handlebars_render.proofs.Leaves.{leaves-hook, gives-nothing, refuses-missing}
 use Rattle.handlebars_render.proofs.next.settle_missing.Goals as goal
 
 pub returns-then-strict : goal.returns-then-strict
 returns-then-strict g c = λ site kept.
-    refuses-missing _ site (call_view c.args.helper.now) (name_alone (cow_str_bytes c.args.name)) _ c.missing_variable.result
+    refuses-missing _ site (call_view c.args.helper.now) (name_alone (cow_str_bytes c.args.name)) _ (error_of c.missing_variable.result)
     c.if-strict.ensures (call_name-view c.args.helper.now) c.missing_variable.ensures
 
 pub returns-in-Some : goal.returns-in-Some

@@ -1,8 +1,9 @@
-use Rattle.std.proofs.Common.{◌∙◌, sym, refl, subst}
+use Rattle.std.proofs.Common.{◌∙◌, sym, refl}
 use Rattle.serde_json.specs.View.{view}
-use Rattle.handlebars_template.specs.Tree.{Param}
 use Rattle.handlebars_template.specs.TreeView.{call_view}
 use Rattle.handlebars_template.proofs.Levels.{call_name-view}
+use Rattle.handlebars_render.specs.Boxed.{error_of}
+use Rattle.handlebars_render.proofs.Carry.{carries_on-handed}
 use Rattle.handlebars_render.proofs.Calls.{value_err, value_lacks, value_there}
 use Rattle.handlebars_render.proofs.next.write_lone.Goals as goal
 
@@ -27,5 +28,6 @@ returns g c = λ kept made site v.
 
 pub returns-in-Err : goal.returns-in-Err
 returns-in-Err g c = λ kept made site v.
-    value_err _ _ site (call_view c.args.helper.now) v _ c.in-Err.e (call_name-view c.args.helper.now)
-    (c.in-Err.ensures kept (rw (call_name-view c.args.helper.now) at made))
+    carries_on-handed _ _ c.in-Err.e (error_of c.new.result) c.new.ensures
+    (value_err _ _ site (call_view c.args.helper.now) v _ c.in-Err.e (call_name-view c.args.helper.now)
+    (c.in-Err.ensures kept (rw (call_name-view c.args.helper.now) at made)))

@@ -3,8 +3,8 @@ use Rattle.serde_json.specs.View.{view}
 use Rattle.handlebars_scope.specs.LineView.{line_of}
 use Rattle.handlebars_scope.specs.LineState.{LineState, line_behind}
 use Rattle.handlebars_meaning.specs.Writing.{shown_if_any}
-use Rattle.handlebars_render.specs.View.{state_of}
-use Rattle.handlebars_render.proofs.Puts.{puts_none, puts_line, puts_front}
+use Rattle.handlebars_render.specs.View.{front_put, state_of}
+use Rattle.handlebars_render.proofs.Puts.{puts_none, puts_line}
 use Rattle.handlebars_render.proofs.write.write_found.Goals as goal
 
 pub returns-in_default : goal.returns-in_default
@@ -22,6 +22,5 @@ returns-in-Ok g c =
 pub returns-in-Err : goal.returns-in-Err
 returns-in-Err g c = record {
   puts = λ kept. rw c.in-Some.is
-      (puts_front _ (shown_if_any (state_of c.args.rc.now).escapes (Some (view c.in-Some.value.now))) c.in-Err.cause c.output_fault.result
-      c.in-Err.ensures.given (rw c.escapes.ensures at c.in-Err.ensures.written) c.output_fault.ensures.refusal c.output_fault.ensures.cause);
+      (front_put c.in-Err.cause c.in-Err.ensures.given (rw c.escapes.ensures at c.in-Err.ensures.written) c.write_fault.ensures);
 }
