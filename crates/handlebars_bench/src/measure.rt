@@ -10,7 +10,7 @@ use std::rt::Clock;
 use std::time::Duration;
 
 /// The bytes of a work, and the least times that it took.
-#[derive(Clone, Copy, Debug)]
+#[derive(Clone, Copy)]
 pub struct Measure {
     pub source: usize,
     pub data: usize,

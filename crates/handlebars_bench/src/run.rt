@@ -25,7 +25,7 @@ pub fn run<C: Clock, O: Write, E: Write>(
     ensures usage { IfOk words (λ given. given.items ≡ [] → result ≡ 2) }
 {
     match words {
-        Ok(words) => match run_words(alloc, clock, words.as_slice(), out) {
+        Ok(words) => match run_tasks(alloc, clock, words.as_slice(), out) {
             Ok(()) => 0,
             Err(failure) => report(&failure, err),
         },
@@ -42,7 +42,7 @@ fn report<E: Write>(failure: &Failure, err: &mut E) -> u8
     failure.status()
 }
 
-fn run_words<C: Clock, O: Write>(
+fn run_tasks<C: Clock, O: Write>(
     alloc: Global,
     clock: &C,
     words: &[String],
@@ -77,7 +77,7 @@ fn run_work<C: Clock, O: Write>(
     out: &mut O,
 ) -> Result<(), Failure> {
     let measure = measure_work(alloc, clock, work, size, times.unwrap_or(1))?;
-    match tell(work.shape().name, size, &measure, times.is_some(), out) {
+    match tell(work.texts().name, size, &measure, times.is_some(), out) {
         Ok(()) => Ok(()),
         Err(_) => Err(Failure::CannotWrite),
     }

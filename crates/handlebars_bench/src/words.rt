@@ -7,7 +7,7 @@ use std::io::ErrorKind;
 use std::rt::Env;
 
 /// What a word asks for.
-#[derive(Clone, Copy, Debug)]
+#[derive(Clone, Copy)]
 pub enum Task {
     /// That the works behind it are done so often, and their least times told.
     Times(u32),
@@ -19,11 +19,11 @@ pub enum Task {
 pub fn command_line<R: Env + AllocGlobal>(rt: &R) -> Result<Vec<String>, Failure> {
     match env::args(rt) {
         Ok(args) => Ok(args.skip(1).collect(rt.alloc())?),
-        Err(cause) => Err(unreadable(cause.kind())),
+        Err(cause) => Err(failure_of_words(cause.kind())),
     }
 }
 
-fn unreadable(cause: ErrorKind) -> Failure {
+fn failure_of_words(cause: ErrorKind) -> Failure {
     match cause {
         ErrorKind::InvalidData => Failure::Usage,
         _ => Failure::OutOfMemory,
@@ -37,7 +37,7 @@ pub fn asked(word: &str) -> Option<Task> {
         Some((name, number)) => asked_of(name, number.parse::<u32>().ok()?),
         None => {
             let work = Work::of_name(word)?;
-            Some(Task::Run(work, work.shape().full_size))
+            Some(Task::Run(work, work.texts().full_size))
         }
     }
 }

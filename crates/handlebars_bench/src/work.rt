@@ -4,7 +4,7 @@ use std::alloc::{AllocError, Global};
 use std::fmt::Write;
 
 /// A work, which has a template and data.
-#[derive(Clone, Copy, Debug)]
+#[derive(Clone, Copy)]
 pub enum Work {
     Table,
     Page,
@@ -16,7 +16,7 @@ pub enum Work {
 
 /// The texts that a work is made of.
 #[derive(Clone, Copy)]
-pub struct Shape {
+pub struct WorkTexts {
     pub name: &'static str,
     pub full_size: u32,
     // The template, or, where the template grows with the size, each line of it.
@@ -34,7 +34,7 @@ enum Grows {
     Items,
 }
 
-impl Shape {
+impl WorkTexts {
     fn line_count(self, size: u32) -> u32 {
         match self.grows {
             Grows::Lines => size,
@@ -65,7 +65,7 @@ impl Work {
     }
 
     /// What it is made of.
-    pub fn shape(self) -> Shape {
+    pub fn texts(self) -> WorkTexts {
         match self {
             Work::Table => TABLE,
             Work::Page => PAGE,
@@ -78,25 +78,25 @@ impl Work {
 
     /// The template of a size.
     pub fn source(self, alloc: Global, size: u32) -> Result<String, AllocError> {
-        let shape = self.shape();
+        let texts = self.texts();
         let mut text = String::new(alloc);
-        for _ in 0..shape.line_count(size) {
-            text.push_str(shape.line)?;
+        for _ in 0..texts.line_count(size) {
+            text.push_str(texts.line)?;
         }
         Ok(text)
     }
 
     /// The data of a size, as JSON.
     pub fn data(self, alloc: Global, size: u32) -> Result<String, AllocError> {
-        let shape = self.shape();
-        let mut text = String::from_str(alloc, shape.front)?;
-        for number in 0..shape.item_count(size) {
+        let texts = self.texts();
+        let mut text = String::from_str(alloc, texts.front)?;
+        for number in 0..texts.item_count(size) {
             if number > 0 {
                 text.push(',')?;
             }
             self.push_item(&mut text, number)?;
         }
-        text.push_str(shape.end)?;
+        text.push_str(texts.end)?;
         Ok(text)
     }
 
@@ -143,7 +143,7 @@ fn push_marked(text: &mut String) -> Result<(), AllocError> {
     text.push('"')
 }
 
-const TABLE: Shape = Shape {
+const TABLE: WorkTexts = WorkTexts {
     name: "table",
     full_size: 6000,
     line: "<table>{{#each rows}}<tr>{{#each this}}<td>{{this}}</td>{{/each}}</tr>{{/each}}</table>",
@@ -152,7 +152,7 @@ const TABLE: Shape = Shape {
     grows: Grows::Items,
 };
 
-const PAGE: Shape = Shape {
+const PAGE: WorkTexts = WorkTexts {
     name: "page",
     full_size: 8000,
     line: "{{#each items}}<li id={{id}}>{{name}} by {{owner.name}}{{#if tags}}: \
@@ -162,7 +162,7 @@ const PAGE: Shape = Shape {
     grows: Grows::Items,
 };
 
-const DEEP: Shape = Shape {
+const DEEP: WorkTexts = WorkTexts {
     name: "deep",
     full_size: 20_000,
     line: "{{#with n.n.n.n.n.n.n.n.n.n.n.n}}{{#each items}}{{v}} {{../x}};{{/each}}{{/with}}",
@@ -171,7 +171,7 @@ const DEEP: Shape = Shape {
     grows: Grows::Items,
 };
 
-const ESCAPE: Shape = Shape {
+const ESCAPE: WorkTexts = WorkTexts {
     name: "escape",
     full_size: 3000,
     line: "{{#each t}}<p>{{this}}</p>{{/each}}",
@@ -180,7 +180,7 @@ const ESCAPE: Shape = Shape {
     grows: Grows::Items,
 };
 
-const COMPILE: Shape = Shape {
+const COMPILE: WorkTexts = WorkTexts {
     name: "compile",
     full_size: 6000,
     line: "<p class=\"c1\">{{#if a.b1}}{{name}} {{lookup list 1}}{{else}}{{{html}}}{{/if}}</p>\n",
@@ -189,7 +189,7 @@ const COMPILE: Shape = Shape {
     grows: Grows::Lines,
 };
 
-const PLAIN: Shape = Shape {
+const PLAIN: WorkTexts = WorkTexts {
     name: "plain",
     full_size: 20_000,
     line: "Dear {{name}}, order {{number}} has left our house today and will be brought to {{place}} soon.\n",

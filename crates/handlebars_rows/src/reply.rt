@@ -6,7 +6,7 @@ use std::fmt;
 use std::fmt::{Debug, Display};
 
 /// What a call answers, printed.
-#[derive(PartialEq, Drop)]
+#[derive(Drop)]
 pub enum Reply {
     Gives(String),
     /// The whole text of the error.

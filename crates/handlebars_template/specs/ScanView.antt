@@ -54,14 +54,14 @@ text_placed options p e slice kept n =
 -- ---- a source
 
 -- The source comes to this, where this stands at its end.
-abbrev pub ComesTo : Text → Options → End → Type 0
-ComesTo source options (complete es) = Compiles source options (compiled (tree_of options es))
-ComesTo source options (unclosed p) = Compiles source options (refused (refusal_for options (not_closed p)))
-ComesTo source options (refused_end f) = Compiles source options (refused (refusal_for options f))
+abbrev pub EndsWith : Text → Options → End → Type 0
+EndsWith source options (complete es) = Compiles source options (compiled (tree_of options es))
+EndsWith source options (unclosed p) = Compiles source options (refused (refusal_for options (not_closed p)))
+EndsWith source options (refused_end f) = Compiles source options (refused (refusal_for options f))
 
 -- The source comes to this.
 abbrev pub ScansTo : Text → Options → Scanned → Type 0
-ScansTo source options (scanned.Through nested) = ComesTo source options (end_view nested)
+ScansTo source options (scanned.Through nested) = EndsWith source options (end_view nested)
 ScansTo source options (scanned.Unreadable p) =
     Compiles source options (refused (unreadable_tag options (place_of p)))
 ScansTo source options (scanned.Misplaced f p) =

@@ -18,7 +18,7 @@ pub enum Word {
 pub fn command_line<R: Env + AllocGlobal>(rt: &R) -> Result<Vec<Word>, AllocError> {
     match env::args(rt) {
         Ok(args) => texts(rt.alloc(), args),
-        Err(cause) => unreadable(rt.alloc(), cause.kind()),
+        Err(cause) => words_not_read(rt.alloc(), cause.kind()),
     }
 }
 
@@ -30,7 +30,7 @@ fn texts(alloc: Global, args: env::Args) -> Result<Vec<Word>, AllocError> {
     Ok(words)
 }
 
-fn unreadable(alloc: Global, kind: ErrorKind) -> Result<Vec<Word>, AllocError> {
+fn words_not_read(alloc: Global, kind: ErrorKind) -> Result<Vec<Word>, AllocError> {
     match kind {
         ErrorKind::InvalidData => Ok(vec![in alloc; Word::Unreadable]?),
         _ => Err(AllocError),
