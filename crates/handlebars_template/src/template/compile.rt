@@ -7,7 +7,7 @@ ghost use Rattle.handlebars_template.specs.Compile.{Compiles, compiled, refused,
 ghost use Rattle.handlebars_tags.specs.Options.{Options, no_options, named_options};
 ghost use Rattle.handlebars_template.specs.OptionsView.{options_view};
 ghost use Rattle.handlebars_template.specs.NestView.{kind_view, late_fault, syntax_fault, end_view};
-ghost use Rattle.handlebars_template.specs.ScanView.{ComesTo};
+ghost use Rattle.handlebars_template.specs.ScanView.{EndsWith};
 ghost use Rattle.handlebars_template.specs.Place.{Place};
 ghost use Rattle.handlebars_template.specs.TreeView.{tree_view, place_of};
 
@@ -105,10 +105,10 @@ fn nested_tree(
     options: TemplateOptions,
     nested: Nested,
 ) -> Result<Template, TemplateError>
-    ensures ok { IfOk result (λ template. ComesTo source.now (options_view options) (end_view nested)
+    ensures ok { IfOk result (λ template. EndsWith source.now (options_view options) (end_view nested)
         → Compiles source.now (options_view options) (compiled (tree_view template))) }
     ensures err { IfErr result (λ e. (template_refusal_of e).reason ≢ template_out_of_memory
-        → ComesTo source.now (options_view options) (end_view nested)
+        → EndsWith source.now (options_view options) (end_view nested)
         → Compiles source.now (options_view options) (refused (template_refusal_of e))) }
     ensures shown { IfErr result (λ e. IsSome (template_refusal_of e).position → IsSome (shown_lines e)) }
 {
