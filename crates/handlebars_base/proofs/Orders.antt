@@ -11,7 +11,7 @@ use Rattle.std.specs.declared.cmp.Ordering.TheVariants.{Less, Equal, Greater}
 use Rattle.serde_json.specs.Data.{Data, null, boolean, number, string, array, object}
 use Rattle.serde_json.specs.Find.{as_integer}
 use Rattle.handlebars_base.specs.Compare.{compared, integers_compared, spelled_number}
-use Rattle.handlebars_base.specs.ComparisonLaws.{reversed, OrderIsAntisymmetric, IsTotalOrder, IsNumber, IsText}
+use Rattle.handlebars_base.specs.ComparisonLaws.{reversed, OrderIsAntisymmetric, IsTotalOrder, IsNumber, IsTextValue}
 
 -- ---- turned round
 
@@ -110,8 +110,8 @@ numbers_by d e p q = ap₂ compared p.2 q.2 ∙ ap₂ integers_compared p.3 q.3
 pub numbers_are_ordered : IsTotalOrder IsNumber
 numbers_are_ordered = total_order int_cmp int_cmp_total IsNumber (λ d p. p.1) numbers_by
 
-texts_by : (d e : Data) (p : IsText d) (q : IsText e) → compared d e ≡ Some (slice_cmp nat_cmp p.0 q.0)
+texts_by : (d e : Data) (p : IsTextValue d) (q : IsTextValue e) → compared d e ≡ Some (slice_cmp nat_cmp p.0 q.0)
 texts_by d e p q = ap₂ compared p.1 q.1
 
-pub texts_are_ordered : IsTotalOrder IsText
-texts_are_ordered = total_order (slice_cmp nat_cmp) nat_list_cmp_total IsText (λ d p. p.0) texts_by
+pub texts_are_ordered : IsTotalOrder IsTextValue
+texts_are_ordered = total_order (slice_cmp nat_cmp) nat_list_cmp_total IsTextValue (λ d p. p.0) texts_by

@@ -66,8 +66,8 @@ pub record IsTotalOrder (kind : Data → Type 0) : Type 0 where
 abbrev pub IsNumber : Data → Type 0
 IsNumber d = (n : Num) × (z : ℤ) × (d ≡ number n) × (as_integer n ≡ Some z)
 
-abbrev pub IsText : Data → Type 0
-IsText d = (s : Text) × (d ≡ string s)
+abbrev pub IsTextValue : Data → Type 0
+IsTextValue d = (s : Text) × (d ≡ string s)
 
 -- Two numbers are ordered as equal just where they are equal.
 abbrev pub OrderAgreesOnNumbers : Type 0

@@ -1,6 +1,6 @@
 //! Laws that callers may cite. Each is a function that does nothing: its contract is the law.
 
-ghost use Rattle.handlebars_base.specs.ComparisonLaws.{EqualIsSame, EqualIsReflexive, EqualIsSymmetric, EqualIsTransitive, OrderIsAntisymmetric, IsTotalOrder, IsNumber, IsText, OrderAgreesOnNumbers};
+ghost use Rattle.handlebars_base.specs.ComparisonLaws.{EqualIsSame, EqualIsReflexive, EqualIsSymmetric, EqualIsTransitive, OrderIsAntisymmetric, IsTotalOrder, IsNumber, IsTextValue, OrderAgreesOnNumbers};
 ghost use Rattle.handlebars_base.specs.EscapeLaws.{Joins, IsInjective, IsUnmarked, BeginsEntities};
 ghost use Rattle.handlebars_base.specs.Laws.{OneMeaning, PathsInFront};
 
@@ -28,7 +28,7 @@ pub fn equality_laws()
 pub fn order_laws()
     ensures antisymmetric { OrderIsAntisymmetric }
     ensures numbers { IsTotalOrder IsNumber }
-    ensures texts { IsTotalOrder IsText }
+    ensures texts { IsTotalOrder IsTextValue }
     ensures agrees { OrderAgreesOnNumbers }
 {}
 
