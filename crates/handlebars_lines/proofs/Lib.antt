@@ -3,6 +3,7 @@ pub mod Stepping
 pub mod Plain
 pub mod Quotes
 pub mod Numbers
+pub mod CommonJson
 pub mod Tokens
 pub mod LiteralsRead
 pub mod LiteralsFound

@@ -9,7 +9,7 @@ use Rattle.std.proofs.lemmas.Bool.{lt-ltb, le-ltb, cases_lt}
 use Rattle.std.proofs.lemmas.Str.Parse.{numerals_by_value, parse_digits, IsNumeralModel}
 use Rattle.handlebars_lines.specs.Literal.{is_digits, number_of}
 
-digits : IsNumeralModel (λ ds. list_all is_ascii_digit ds ≡ true) (digits_value 10)
+pub digits : IsNumeralModel (λ ds. list_all is_ascii_digit ds ≡ true) (digits_value 10)
 digits = numerals_by_value _ (search rules)
 
 below : {E : Type 0} (r : Result ℕ E) (v n : ℕ) → OkIff r ((0 < n) × (v < 2 ^ 64)) v → 0 < n → result_ok r ≡ cond (nat_lt v (2 ^ 64)) (Some v) None

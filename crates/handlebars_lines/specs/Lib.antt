@@ -4,6 +4,7 @@ pub mod LiteralReading
 pub mod LiteralView
 pub mod Worth
 pub mod WorthReading
+pub mod CommonJson
 pub mod Laws
 pub mod Parameter
 pub mod CloseName

@@ -100,7 +100,7 @@ fn is_number(text: &str) -> bool
 }
 
 /// The number that digits spell, if it is below 2^64.
-fn number_of(text: &str) -> Option<u64>
+pub(crate) fn number_of(text: &str) -> Option<u64>
     ensures { result ≡ number_of text.now }
 {
     if is_digits(text.as_bytes()) {

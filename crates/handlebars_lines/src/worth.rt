@@ -1,16 +1,18 @@
 //! What literals are worth, by JSON.
 
-ghost use Rattle.std.specs.Prelude.{◌≡◌, ◌==◌, ◌<◌, ◌++◌, IfOk, OnOk, string_bytes};
+ghost use Rattle.std.specs.Prelude.{◌≡◌, ◌==◌, ◌<◌, ◌++◌, Some, IfOk, OnOk, IfSome, string_bytes};
 ghost use Rattle.std.specs.Option.{option_map};
+ghost use Rattle.serde_json.specs.Data.{number, unsigned};
 ghost use Rattle.serde_json.specs.Read.{read as read_text};
 ghost use Rattle.serde_json.specs.View.{view};
 ghost use Rattle.handlebars_base.specs.Bytes.{single_quote};
 ghost use Rattle.handlebars_base.specs.Texts.{starts};
+ghost use Rattle.handlebars_lines.specs.CommonJson.{has_leading_zero};
 ghost use Rattle.handlebars_lines.specs.LiteralView.{literal_slice_of};
 ghost use Rattle.handlebars_lines.specs.Worth.{plain_singles, escaped_doubles, double_quoted};
 ghost use Rattle.handlebars_lines.specs.WorthReading.{before, unquoted, slice_worth, worth_of};
 
-use crate::literal::{LiteralSlice, literal_at};
+use crate::literal::{LiteralSlice, literal_at, number_of};
 use handlebars_base::json::path::marks::after;
 use handlebars_base::json::value::Json;
 use std::alloc::{AllocError, Global};
@@ -39,7 +41,36 @@ fn slice_value(alloc: Global, slice: LiteralSlice<'_>) -> Result<Option<Json>, A
     }
 }
 
+/// Whether a zero stands in front of other digits, which JSON refuses.
+fn has_leading_zero(text: &str) -> bool
+    ensures { result ≡ has_leading_zero text.now }
+{
+    match text.as_bytes() {
+        [first, _, ..] => *first == b'0',
+        _ => false,
+    }
+}
+
+fn whole_number(text: &str) -> Option<u64>
+    ensures { IfSome result (λ n. read_text text.now ≡ Some (number (unsigned n))) }
+{
+    if has_leading_zero(text) {
+        return None;
+    }
+    number_of(text)
+}
+
 fn read_json(alloc: Global, text: &str) -> Result<Option<Json>, AllocError>
+    ensures { IfOk result (λ read. option_map view read ≡ read_text text.now) }
+{
+    match whole_number(text) {
+        Some(n) => Ok(Some(Json::Number(n.into()))),
+        None => parse_json(alloc, text),
+    }
+}
+
+/// Reads any JSON. The reader sets up large buffers for each text.
+fn parse_json(alloc: Global, text: &str) -> Result<Option<Json>, AllocError>
     ensures { IfOk result (λ read. option_map view read ≡ read_text text.now) }
 {
     match Json::from_str(alloc, text) {

@@ -1,0 +1,62 @@
+-- What JSON reads in the commonest texts.
+use Rattle.std.proofs.Common.{◌≡◌, ℕ, ◌<◌, ◌^◌, true, false, ◌&&◌, List, [], ◌∷◌, length, get_or, Option, Some, None, IfSome, option_map, option_and_then, decimal, refl, sym, ap, ◌∙◌, arith, append-nil}
+use Rattle.std.specs.Prelude.{nat_lt}
+use Rattle.std.specs.Str.Parse.{digits_value}
+use Rattle.std.proofs.lemmas.Bool.{and_parts, eqb-false, ltb-true}
+use Rattle.std.proofs.lemmas.Fmt.{decimal-digits_value}
+use Rattle.std.proofs.lemmas.Option.{cond_some}
+use Rattle.json.specs.Json as json
+use Rattle.json.specs.Lex.{tokens}
+use Rattle.json.specs.Print.{print, print_from, ArePrintable}
+use Rattle.json.specs.Token.{Token, number as number_token}
+use Rattle.json.proofs.Printed.Decimals.{IsNumber-decimal}
+use Rattle.json.proofs.Printed.Tokens.{tokens-print}
+use Rattle.serde_json.specs.Data.{Data, number, unsigned}
+use Rattle.serde_json.specs.Read.{of_json, max_depth, read as read_text}
+use Rattle.serde_json.proofs.Numbers.{number_of-decimal}
+use Rattle.handlebars_lines.specs.Literal.{is_digits, number_of}
+use Rattle.handlebars_lines.specs.CommonJson.{has_leading_zero}
+use Rattle.handlebars_lines.proofs.Numbers.{digits}
+
+-- the value that is read from tokens
+abbrev from_tokens : List Token → Option Data
+from_tokens ts = option_and_then of_json (option_and_then (λ p. json.if_last p.0 p.1) (json.value max_depth ts))
+
+print-number : (s : List ℕ) → print (number_token s ∷ []) ≡ s
+unfolding print_from
+print-number s = append-nil s
+
+are_printable-decimal : (n : ℕ) → n < 2 ^ 64 → ArePrintable (number_token (decimal n) ∷ [])
+unfolding ArePrintable
+are_printable-decimal n h = (IsNumber-decimal n h, tt)
+
+tokens-decimal : (n : ℕ) → n < 2 ^ 64 → tokens (decimal n) ≡ number_token (decimal n) ∷ []
+tokens-decimal n h = ap tokens (sym (print-number (decimal n))) ∙ tokens-print (number_token (decimal n) ∷ []) (are_printable-decimal n h)
+
+read-decimal : (n : ℕ) → n < 2 ^ 64 → read_text (decimal n) ≡ Some (number (unsigned n))
+unfolding json.value
+read-decimal n h = ap from_tokens (tokens-decimal n h) ∙ ap (option_map number) (number_of-decimal n h)
+
+below : (t : List ℕ) (n : ℕ) → number_of t ≡ Some n → (is_digits t ≡ true) × (digits_value 10 t < 2 ^ 64) × (digits_value 10 t ≡ n)
+unfolding number_of
+below t n e =
+    let found = cond_some (is_digits t && nat_lt (digits_value 10 t) (2 ^ 64)) (digits_value 10 t) n e in
+    let both = and_parts (is_digits t) (nat_lt (digits_value 10 t) (2 ^ 64)) found.0 in
+    (both.0, ltb-true (digits_value 10 t) (2 ^ 64) both.1, found.1)
+
+alone : (t : List ℕ) → has_leading_zero t ≡ false → get_or t 0 0 ≡ 48 → 0 < length t → length t ≡ 1
+alone [] h is some = omega arith
+alone (b ∷ []) h is some = refl
+alone (b ∷ c ∷ t) h is some = absurd (eqb-false b 48 h is)
+
+pub read-digits : (t : List ℕ) (n : ℕ) → has_leading_zero t ≡ false → number_of t ≡ Some n → read_text t ≡ Some (number (unsigned n))
+read-digits [] n single e = absurd (let found = below [] n e in cc)
+read-digits (b ∷ t) n single e =
+    let found = below (b ∷ t) n e in
+    let spelled : decimal (digits_value 10 (b ∷ t)) ≡ b ∷ t =
+    decimal-digits_value digits (b ∷ t) found.0 (omega arith) (λ is. alone (b ∷ t) single is (omega arith)) found.1 in
+    ap read_text (sym spelled) ∙ read-decimal (digits_value 10 (b ∷ t)) found.1 ∙ ap (λ v. Some (number (unsigned v))) found.2
+
+pub if_digits : (t : List ℕ) (o : Option ℕ) → has_leading_zero t ≡ false → o ≡ number_of t → IfSome o (λ n. read_text t ≡ Some (number (unsigned n)))
+if_digits t None single e = tt
+if_digits t (Some n) single e = read-digits t n single (sym e)
