@@ -1,18 +1,21 @@
 -- What JSON reads in the commonest texts.
-use Rattle.std.proofs.Common.{◌≡◌, ℕ, ◌<◌, ◌^◌, true, false, ◌&&◌, List, [], ◌∷◌, length, get_or, Option, Some, None, IfSome, option_map, option_and_then, decimal, refl, sym, ap, ◌∙◌, arith, append-nil}
+use Rattle.std.proofs.Common.{codes, rules, ◌≡◌, ℕ, ◌<◌, ◌^◌, Bool, true, false, ◌&&◌, List, [], ◌∷◌, length, get_or, Option, Some, None, IfSome, option_map, option_and_then, decimal, refl, sym, ap, ◌∙◌, arith, append-nil}
 use Rattle.std.specs.Prelude.{nat_lt}
 use Rattle.std.specs.Str.Parse.{digits_value}
 use Rattle.std.proofs.lemmas.Bool.{and_parts, eqb-false, ltb-true}
 use Rattle.std.proofs.lemmas.Fmt.{decimal-digits_value}
 use Rattle.std.proofs.lemmas.Option.{cond_some}
 use Rattle.json.specs.Json as json
-use Rattle.json.specs.Lex.{tokens}
+use Rattle.json.specs.Lex.{lex, punctuate, tokens}
 use Rattle.json.specs.Print.{print, print_from, ArePrintable}
 use Rattle.json.specs.Token.{Token, number as number_token}
+use Rattle.json.specs.Word.{word}
 use Rattle.json.proofs.Printed.Decimals.{IsNumber-decimal}
 use Rattle.json.proofs.Printed.Tokens.{tokens-print}
-use Rattle.serde_json.specs.Data.{Data, number, unsigned}
+use Rattle.serde_json.specs.Data.{Data, null, boolean, number, unsigned}
 use Rattle.serde_json.specs.Read.{of_json, max_depth, read as read_text}
+use Rattle.serde_json.specs.View.{view}
+use Rattle.serde_json.specs.declared.value.Value.{Null, Bool as BoolOf, the_lemmas}
 use Rattle.serde_json.proofs.Numbers.{number_of-decimal}
 use Rattle.handlebars_lines.specs.Literal.{is_digits, number_of}
 use Rattle.handlebars_lines.specs.CommonJson.{has_leading_zero}
@@ -60,3 +63,32 @@ read-digits (b ∷ t) n single e =
 pub if_digits : (t : List ℕ) (o : Option ℕ) → has_leading_zero t ≡ false → o ≡ number_of t → IfSome o (λ n. read_text t ≡ Some (number (unsigned n)))
 if_digits t None single e = tt
 if_digits t (Some n) single e = read-digits t n single (sym e)
+
+-- ---- words
+
+view-Null : view Null ≡ null
+view-Null = search (rules, the_lemmas)
+
+view-Bool : (b : Bool) → view (BoolOf b) ≡ boolean b
+view-Bool b = search (rules, the_lemmas)
+
+read-true : read_text (codes "true") ≡ Some (boolean true)
+unfolding lex punctuate word json.value
+read-true = refl
+
+read-false : read_text (codes "false") ≡ Some (boolean false)
+unfolding lex punctuate word json.value
+read-false = refl
+
+read-null : read_text (codes "null") ≡ Some null
+unfolding lex punctuate word json.value
+read-null = refl
+
+pub if_true : (t : List ℕ) → t ≡ codes "true" → read_text t ≡ Some (view (BoolOf true))
+if_true t is = ap read_text is ∙ read-true ∙ ap Some (sym (view-Bool true))
+
+pub if_false : (t : List ℕ) → t ≡ codes "false" → read_text t ≡ Some (view (BoolOf false))
+if_false t is = ap read_text is ∙ read-false ∙ ap Some (sym (view-Bool false))
+
+pub if_null : (t : List ℕ) → t ≡ codes "null" → read_text t ≡ Some (view Null)
+if_null t is = ap read_text is ∙ read-null ∙ ap Some (sym view-Null)

@@ -60,11 +60,25 @@ fn whole_number(text: &str) -> Option<u64>
     number_of(text)
 }
 
+fn word_value(text: &str) -> Option<Json>
+    ensures { IfSome result (λ value. read_text text.now ≡ Some (view value)) }
+{
+    match text {
+        "true" => Some(Json::Bool(true)),
+        "false" => Some(Json::Bool(false)),
+        "null" => Some(Json::Null),
+        _ => None,
+    }
+}
+
 fn read_json(alloc: Global, text: &str) -> Result<Option<Json>, AllocError>
     ensures { IfOk result (λ read. option_map view read ≡ read_text text.now) }
 {
-    match whole_number(text) {
-        Some(n) => Ok(Some(Json::Number(n.into()))),
+    if let Some(n) = whole_number(text) {
+        return Ok(Some(Json::Number(n.into())));
+    }
+    match word_value(text) {
+        Some(value) => Ok(Some(value)),
         None => parse_json(alloc, text),
     }
 }
