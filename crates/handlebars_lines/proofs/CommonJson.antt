@@ -1,25 +1,29 @@
 -- What JSON reads in the commonest texts.
-use Rattle.std.proofs.Common.{codes, rules, ◌≡◌, ℕ, ◌<◌, ◌^◌, Bool, true, false, ◌&&◌, List, [], ◌∷◌, length, get_or, Option, Some, None, IfSome, option_map, option_and_then, decimal, refl, sym, ap, ◌∙◌, arith, append-nil}
-use Rattle.std.specs.Prelude.{nat_lt}
+use Rattle.std.proofs.Common.{codes, rules, ◌≡◌, ℕ, ◌<◌, ◌≤◌, not, ◌++◌, ap₂, ◌^◌, Bool, true, false, ◌&&◌, List, [], ◌∷◌, length, get_or, Option, Some, None, IfSome, option_map, option_and_then, decimal, refl, sym, ap, ◌∙◌, arith, append-nil}
+use Rattle.std.specs.Prelude.{◌==◌, nat_lt, nat_le}
+use Rattle.std.specs.List.{list_all}
 use Rattle.std.specs.Str.Parse.{digits_value}
-use Rattle.std.proofs.lemmas.Bool.{and_parts, eqb-false, ltb-true}
+use Rattle.std.proofs.lemmas.Bool.{and_parts, eqb-false, leb-true, ltb-true, not-true}
 use Rattle.std.proofs.lemmas.Fmt.{decimal-digits_value}
 use Rattle.std.proofs.lemmas.Option.{cond_some}
 use Rattle.json.specs.Json as json
 use Rattle.json.specs.Lex.{lex, punctuate, tokens}
-use Rattle.json.specs.Print.{print, print_from, ArePrintable}
-use Rattle.json.specs.Token.{Token, number as number_token}
+use Rattle.json.specs.Print.{escape, quoted, print, print_from, ArePrintable}
+use Rattle.json.specs.Token.{Token, number as number_token, string as string_token}
 use Rattle.json.specs.Word.{word}
 use Rattle.json.proofs.Printed.Decimals.{IsNumber-decimal}
+use Rattle.json.proofs.Printed.Strings.{escape_byte_plain}
 use Rattle.json.proofs.Printed.Tokens.{tokens-print}
-use Rattle.serde_json.specs.Data.{Data, null, boolean, number, unsigned}
+use Rattle.serde_json.specs.Data.{Data, null, boolean, number, string, unsigned}
 use Rattle.serde_json.specs.Read.{of_json, max_depth, read as read_text}
 use Rattle.serde_json.specs.View.{view}
 use Rattle.serde_json.specs.declared.value.Value.{Null, Bool as BoolOf, the_lemmas}
 use Rattle.serde_json.proofs.Numbers.{number_of-decimal}
 use Rattle.handlebars_lines.specs.Literal.{is_digits, number_of}
-use Rattle.handlebars_lines.specs.CommonJson.{has_leading_zero}
+use Rattle.handlebars_lines.specs.CommonJson.{has_leading_zero, is_plain_byte}
+use Rattle.handlebars_lines.specs.Worth.{escaped_doubles, double_quoted}
 use Rattle.handlebars_lines.proofs.Numbers.{digits}
+use Rattle.handlebars_lines.proofs.Quotes.{Lacks, plain_singles-none, escaped_doubles-none}
 
 -- the value that is read from tokens
 abbrev from_tokens : List Token → Option Data
@@ -92,3 +96,44 @@ if_false t is = ap read_text is ∙ read-false ∙ ap Some (sym (view-Bool false
 
 pub if_null : (t : List ℕ) → t ≡ codes "null" → read_text t ≡ Some (view Null)
 if_null t is = ap read_text is ∙ read-null ∙ ap Some (sym view-Null)
+
+-- ---- plain texts
+
+record Plain (b : ℕ) : Type 0 where
+  quote : (b == 34) ≡ false
+  backslash : (b == 92) ≡ false
+  above : 32 ≤ b
+
+plain : (b : ℕ) → is_plain_byte b ≡ true → Plain b
+plain b h =
+    let first = and_parts (not (b == 34)) (not (b == 92) && nat_le 32 b) h in
+    let second = and_parts (not (b == 92)) (nat_le 32 b) first.1 in
+    record { quote = not-true (b == 34) first.0; backslash = not-true (b == 92) second.0; above = leb-true 32 b second.1 }
+
+escape-plain : (t : List ℕ) → list_all is_plain_byte t ≡ true → escape t ≡ t
+escape-plain [] h = refl
+escape-plain (b ∷ t) h =
+    let both = and_parts (is_plain_byte b) (list_all is_plain_byte t) h in
+    let is = plain b both.0 in
+    ap₂ (λ (x y : List ℕ). x ++ y) (escape_byte_plain b (eqb-false b 34 is.quote) (eqb-false b 92 is.backslash) is.above) (escape-plain t both.1)
+
+read-string : (s : List ℕ) → read_text (quoted s) ≡ Some (string s)
+unfolding print_from ArePrintable json.value
+read-string s = ap from_tokens (ap tokens (sym (append-nil (quoted s))) ∙ tokens-print (string_token s ∷ []) (tt, tt))
+
+pub read-plain : (t : List ℕ) → list_all is_plain_byte t ≡ true → read_text (34 ∷ (t ++ 34 ∷ [])) ≡ Some (string t)
+read-plain t h = ap (λ (z : List ℕ). read_text (34 ∷ (z ++ 34 ∷ []))) (sym (escape-plain t h)) ∙ read-string t
+
+lacks : (mark : ℕ) (t : List ℕ) → ((b : ℕ) → Plain b → (b == mark) ≡ false) → list_all is_plain_byte t ≡ true → Lacks mark t
+lacks mark [] other h = tt
+lacks mark (b ∷ t) other h =
+    let both = and_parts (is_plain_byte b) (list_all is_plain_byte t) h in
+    (ap not (other b (plain b both.0)), lacks mark t other both.1)
+
+double_quoted-plain : (t : List ℕ) → list_all is_plain_byte t ≡ true → double_quoted t ≡ 34 ∷ (t ++ 34 ∷ [])
+double_quoted-plain t h =
+    ap (λ (z : List ℕ). 34 ∷ (escaped_doubles z ++ 34 ∷ [])) (plain_singles-none t (lacks 92 t (λ b is. is.backslash) h))
+    ∙ ap (λ (z : List ℕ). 34 ∷ (z ++ 34 ∷ [])) (escaped_doubles-none t (lacks 34 t (λ b is. is.quote) h))
+
+pub read-turned : (t : List ℕ) → list_all is_plain_byte t ≡ true → read_text (double_quoted t) ≡ Some (string t)
+read-turned t h = ap read_text (double_quoted-plain t h) ∙ read-plain t h

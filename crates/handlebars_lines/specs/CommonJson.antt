@@ -1,10 +1,14 @@
 -- Tests of the commonest texts, whose JSON is plain to see.
-use Rattle.std.specs.Prelude.{Bool, false, ◌==◌, [], ◌∷◌}
-use Rattle.json.specs.Ascii.{zero}
-use Rattle.handlebars_base.specs.Bytes.{Text}
+use Rattle.std.specs.Prelude.{ℕ, Bool, false, not, ◌==◌, ◌&&◌, nat_le, [], ◌∷◌}
+use Rattle.json.specs.Ascii.{zero, space}
+use Rattle.handlebars_base.specs.Bytes.{Text, double_quote, backslash}
 
 -- a `0` in front of other digits, which JSON refuses
 abbrev pub has_leading_zero : Text → Bool
 has_leading_zero [] = false
 has_leading_zero (b ∷ []) = false
 has_leading_zero (b ∷ c ∷ t) = b == zero
+
+-- a byte that stands for itself between quotes: no quote, no backslash and no control
+abbrev pub is_plain_byte : ℕ → Bool
+is_plain_byte b = not (b == double_quote) && (not (b == backslash) && nat_le space b)

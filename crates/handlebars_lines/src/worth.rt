@@ -1,13 +1,14 @@
 //! What literals are worth, by JSON.
 
-ghost use Rattle.std.specs.Prelude.{◌≡◌, ◌==◌, ◌<◌, ◌++◌, Some, IfOk, OnOk, IfSome, string_bytes};
+ghost use Rattle.std.specs.Prelude.{◌≡◌, ◌==◌, ◌<◌, ◌++◌, ◌∷◌, [], true, Some, IfOk, OnOk, IfSome, string_bytes};
+ghost use Rattle.std.specs.List.{list_all};
 ghost use Rattle.std.specs.Option.{option_map};
-ghost use Rattle.serde_json.specs.Data.{number, unsigned};
+ghost use Rattle.serde_json.specs.Data.{number, string, unsigned};
 ghost use Rattle.serde_json.specs.Read.{read as read_text};
 ghost use Rattle.serde_json.specs.View.{view};
-ghost use Rattle.handlebars_base.specs.Bytes.{single_quote};
+ghost use Rattle.handlebars_base.specs.Bytes.{double_quote, single_quote};
 ghost use Rattle.handlebars_base.specs.Texts.{starts};
-ghost use Rattle.handlebars_lines.specs.CommonJson.{has_leading_zero};
+ghost use Rattle.handlebars_lines.specs.CommonJson.{has_leading_zero, is_plain_byte};
 ghost use Rattle.handlebars_lines.specs.LiteralView.{literal_slice_of};
 ghost use Rattle.handlebars_lines.specs.Worth.{plain_singles, escaped_doubles, double_quoted};
 ghost use Rattle.handlebars_lines.specs.WorthReading.{before, unquoted, slice_worth, worth_of};
@@ -71,11 +72,42 @@ fn word_value(text: &str) -> Option<Json>
     }
 }
 
+fn is_plain_byte(byte: u8) -> bool
+    ensures { result ≡ is_plain_byte byte }
+{
+    byte != b'"' && byte != b'\\' && byte >= b' '
+}
+
+/// Whether JSON would write the text between quotes as it is.
+fn is_plain(text: &str) -> bool
+    ensures { result ≡ list_all is_plain_byte text.now }
+{
+    text.as_bytes().iter().all(|byte| is_plain_byte(*byte))
+}
+
+/// What stands between double quotes, where it is plain.
+fn plain_inside(text: &str) -> Option<&str>
+    ensures quoted { IfSome result (λ inner. text.now ≡ double_quote ∷ (inner.now ++ double_quote ∷ [])) }
+    ensures plain { IfSome result (λ inner. list_all is_plain_byte inner.now ≡ true) }
+{
+    let inner = text.strip_prefix('"')?.strip_suffix('"')?;
+    if is_plain(inner) { Some(inner) } else { None }
+}
+
+fn text_value(alloc: Global, text: &str) -> Result<Json, AllocError>
+    ensures { IfOk result (λ value. view value ≡ string text.now) }
+{
+    Ok(Json::String(String::from_str(alloc, text)?))
+}
+
 fn read_json(alloc: Global, text: &str) -> Result<Option<Json>, AllocError>
     ensures { IfOk result (λ read. option_map view read ≡ read_text text.now) }
 {
     if let Some(n) = whole_number(text) {
         return Ok(Some(Json::Number(n.into())));
+    }
+    if let Some(inner) = plain_inside(text) {
+        return Ok(Some(text_value(alloc, inner)?));
     }
     match word_value(text) {
         Some(value) => Ok(Some(value)),
@@ -102,8 +134,11 @@ fn parse_json(alloc: Global, text: &str) -> Result<Option<Json>, AllocError>
 fn read_quoted(alloc: Global, inner: &str) -> Result<Option<Json>, AllocError>
     ensures { IfOk result (λ read. option_map view read ≡ read_text (double_quoted inner.now)) }
 {
+    if is_plain(inner) {
+        return Ok(Some(text_value(alloc, inner)?));
+    }
     let text = double_quoted(alloc, inner)?;
-    read_json(alloc, text.as_str())
+    parse_json(alloc, text.as_str())
 }
 
 /// What stands in front of a mark, where the mark ends the text.
