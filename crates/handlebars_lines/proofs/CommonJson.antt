@@ -1,9 +1,10 @@
 -- What JSON reads in the commonest texts.
-use Rattle.std.proofs.Common.{codes, rules, ◌≡◌, ℕ, ◌<◌, ◌≤◌, not, ◌++◌, ap₂, ◌^◌, Bool, true, false, ◌&&◌, List, [], ◌∷◌, length, get_or, Option, Some, None, IfSome, option_map, option_and_then, decimal, refl, sym, ap, ◌∙◌, arith, append-nil}
+use Rattle.std.proofs.Common.{codes, rules, cond, ◌≡◌, ℕ, ◌<◌, ◌≤◌, not, ◌++◌, ap₂, ◌^◌, Bool, true, false, ◌&&◌, List, [], ◌∷◌, length, get_or, Option, Some, None, IfSome, option_map, option_and_then, decimal, refl, sym, ap, ◌∙◌, arith, append-nil}
 use Rattle.std.specs.Prelude.{◌==◌, nat_lt, nat_le}
-use Rattle.std.specs.List.{list_all}
+use Rattle.std.specs.Char.{is_ascii_digit}
+use Rattle.std.specs.List.{list_all, position_or_len}
 use Rattle.std.specs.Str.Parse.{digits_value}
-use Rattle.std.proofs.lemmas.Bool.{and_parts, eqb-false, leb-true, ltb-true, not-true}
+use Rattle.std.proofs.lemmas.Bool.{and_parts, eqb-false, leb-true, le-ltb, ltb-true, not-true}
 use Rattle.std.proofs.lemmas.Fmt.{decimal-digits_value}
 use Rattle.std.proofs.lemmas.Option.{cond_some}
 use Rattle.json.specs.Json as json
@@ -19,9 +20,13 @@ use Rattle.serde_json.specs.Read.{of_json, max_depth, read as read_text}
 use Rattle.serde_json.specs.View.{view}
 use Rattle.serde_json.specs.declared.value.Value.{Null, Bool as BoolOf, the_lemmas}
 use Rattle.serde_json.proofs.Numbers.{number_of-decimal}
-use Rattle.handlebars_lines.specs.Literal.{is_digits, number_of}
+use Rattle.handlebars_base.proofs.Bytes.{other_byte}
+use Rattle.handlebars_base.proofs.Fronts.{after_other}
+use Rattle.handlebars_lines.specs.Literal.{is_inner, is_digits, has, is_number, number_of, is_kept, quoted as quoted_literal, number as number_literal, word as word_literal}
 use Rattle.handlebars_lines.specs.CommonJson.{has_leading_zero, is_plain_byte}
 use Rattle.handlebars_lines.specs.Worth.{escaped_doubles, double_quoted}
+use Rattle.handlebars_lines.specs.WorthReading.{worth_of}
+use Rattle.handlebars_lines.proofs.JsonOf.{worth_of_literal}
 use Rattle.handlebars_lines.proofs.Numbers.{digits}
 use Rattle.handlebars_lines.proofs.Quotes.{Lacks, plain_singles-none, escaped_doubles-none}
 
@@ -56,7 +61,7 @@ alone [] h is some = omega arith
 alone (b ∷ []) h is some = refl
 alone (b ∷ c ∷ t) h is some = absurd (eqb-false b 48 h is)
 
-pub read-digits : (t : List ℕ) (n : ℕ) → has_leading_zero t ≡ false → number_of t ≡ Some n → read_text t ≡ Some (number (unsigned n))
+read-digits : (t : List ℕ) (n : ℕ) → has_leading_zero t ≡ false → number_of t ≡ Some n → read_text t ≡ Some (number (unsigned n))
 read-digits [] n single e = absurd (let found = below [] n e in cc)
 read-digits (b ∷ t) n single e =
     let found = below (b ∷ t) n e in
@@ -64,9 +69,39 @@ read-digits (b ∷ t) n single e =
     decimal-digits_value digits (b ∷ t) found.0 (omega arith) (λ is. alone (b ∷ t) single is (omega arith)) found.1 in
     ap read_text (sym spelled) ∙ read-decimal (digits_value 10 (b ∷ t)) found.1 ∙ ap (λ v. Some (number (unsigned v))) found.2
 
-pub if_digits : (t : List ℕ) (o : Option ℕ) → has_leading_zero t ≡ false → o ≡ number_of t → IfSome o (λ n. read_text t ≡ Some (number (unsigned n)))
+-- ---- digits as literals
+
+no_mark : (mark : ℕ) (t : List ℕ) → is_ascii_digit mark ≡ false → list_all is_ascii_digit t ≡ true → position_or_len (λ b. b == mark) t ≡ length t
+no_mark mark [] other h = refl
+no_mark mark (b ∷ t) other h =
+    let both = and_parts (is_ascii_digit b) (list_all is_ascii_digit t) h in
+    rw (other_byte is_ascii_digit mark other b both.0, no_mark mark t other both.1) (omega arith)
+
+has-not : (mark : ℕ) (t : List ℕ) → is_ascii_digit mark ≡ false → list_all is_ascii_digit t ≡ true → has mark t ≡ false
+has-not mark t other h = le-ltb _ (length t) (omega (arith, no_mark mark t other h))
+
+no_minus : (b : ℕ) (t : List ℕ) → is_digits (b ∷ t) ≡ true → (b == 45) ≡ false
+no_minus b t h = other_byte is_ascii_digit 45 refl b (and_parts (is_ascii_digit b) (list_all is_ascii_digit t) h).0
+
+is_number-digits : (t : List ℕ) → is_digits t ≡ true → is_number t ≡ true
+is_number-digits [] h = absurd cc
+is_number-digits (b ∷ t) h = rw (has-not 69 (b ∷ t) refl h, has-not 46 (b ∷ t) refl h, no_minus b t h) h
+
+is_kept-digits : (t : List ℕ) (n : ℕ) → is_digits t ≡ true → number_of t ≡ Some n → is_kept t ≡ true
+unfolding is_kept
+is_kept-digits [] n h e = absurd cc
+is_kept-digits (b ∷ t) n h e = rw (after_other 45 b t (no_minus b t h), e) refl
+
+worth-digits : (t : List ℕ) (n : ℕ) → has_leading_zero t ≡ false → number_of t ≡ Some n → worth_of t ≡ Some (number (unsigned n))
+worth-digits t n single e =
+    let found = below t n e in
+    worth_of_literal (number_literal t) (is_number-digits t found.0)
+    ∙ ap (λ b. cond b (read_text t) None) (is_kept-digits t n found.0 e)
+    ∙ read-digits t n single e
+
+pub if_digits : (t : List ℕ) (o : Option ℕ) → has_leading_zero t ≡ false → o ≡ number_of t → IfSome o (λ n. worth_of t ≡ Some (number (unsigned n)))
 if_digits t None single e = tt
-if_digits t (Some n) single e = read-digits t n single (sym e)
+if_digits t (Some n) single e = worth-digits t n single (sym e)
 
 -- ---- words
 
@@ -88,14 +123,14 @@ read-null : read_text (codes "null") ≡ Some null
 unfolding lex punctuate word json.value
 read-null = refl
 
-pub if_true : (t : List ℕ) → t ≡ codes "true" → read_text t ≡ Some (view (BoolOf true))
-if_true t is = ap read_text is ∙ read-true ∙ ap Some (sym (view-Bool true))
+pub if_true : (t : List ℕ) → t ≡ codes "true" → worth_of t ≡ Some (view (BoolOf true))
+if_true t is = ap worth_of is ∙ worth_of_literal (word_literal (codes "true")) refl ∙ read-true ∙ ap Some (sym (view-Bool true))
 
-pub if_false : (t : List ℕ) → t ≡ codes "false" → read_text t ≡ Some (view (BoolOf false))
-if_false t is = ap read_text is ∙ read-false ∙ ap Some (sym (view-Bool false))
+pub if_false : (t : List ℕ) → t ≡ codes "false" → worth_of t ≡ Some (view (BoolOf false))
+if_false t is = ap worth_of is ∙ worth_of_literal (word_literal (codes "false")) refl ∙ read-false ∙ ap Some (sym (view-Bool false))
 
-pub if_null : (t : List ℕ) → t ≡ codes "null" → read_text t ≡ Some (view Null)
-if_null t is = ap read_text is ∙ read-null ∙ ap Some (sym view-Null)
+pub if_null : (t : List ℕ) → t ≡ codes "null" → worth_of t ≡ Some (view Null)
+if_null t is = ap worth_of is ∙ worth_of_literal (word_literal (codes "null")) refl ∙ read-null ∙ ap Some (sym view-Null)
 
 -- ---- plain texts
 
@@ -121,7 +156,7 @@ read-string : (s : List ℕ) → read_text (quoted s) ≡ Some (string s)
 unfolding print_from ArePrintable json.value
 read-string s = ap from_tokens (ap tokens (sym (append-nil (quoted s))) ∙ tokens-print (string_token s ∷ []) (tt, tt))
 
-pub read-plain : (t : List ℕ) → list_all is_plain_byte t ≡ true → read_text (34 ∷ (t ++ 34 ∷ [])) ≡ Some (string t)
+read-plain : (t : List ℕ) → list_all is_plain_byte t ≡ true → read_text (34 ∷ (t ++ 34 ∷ [])) ≡ Some (string t)
 read-plain t h = ap (λ (z : List ℕ). read_text (34 ∷ (z ++ 34 ∷ []))) (sym (escape-plain t h)) ∙ read-string t
 
 lacks : (mark : ℕ) (t : List ℕ) → ((b : ℕ) → Plain b → (b == mark) ≡ false) → list_all is_plain_byte t ≡ true → Lacks mark t
@@ -137,3 +172,13 @@ double_quoted-plain t h =
 
 pub read-turned : (t : List ℕ) → list_all is_plain_byte t ≡ true → read_text (double_quoted t) ≡ Some (string t)
 read-turned t h = ap read_text (double_quoted-plain t h) ∙ read-plain t h
+
+is_inner-plain : (t : List ℕ) → list_all is_plain_byte t ≡ true → is_inner 34 false t ≡ true
+is_inner-plain [] h = refl
+is_inner-plain (b ∷ t) h =
+    let both = and_parts (is_plain_byte b) (list_all is_plain_byte t) h in
+    let is = plain b both.0 in
+    rw (is.quote, is.backslash) (is_inner-plain t both.1)
+
+pub worth-plain : (t inner : List ℕ) → t ≡ 34 ∷ (inner ++ 34 ∷ []) → list_all is_plain_byte inner ≡ true → worth_of t ≡ Some (string inner)
+worth-plain t inner is h = ap worth_of is ∙ worth_of_literal (quoted_literal inner) (is_inner-plain inner h) ∙ read-plain inner h

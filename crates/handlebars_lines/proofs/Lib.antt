@@ -3,11 +3,11 @@ pub mod Stepping
 pub mod Plain
 pub mod Quotes
 pub mod Numbers
-pub mod CommonJson
 pub mod Tokens
 pub mod LiteralsRead
 pub mod LiteralsFound
 pub mod JsonOf
+pub mod CommonJson
 pub mod LiteralLoop
 pub mod Endings
 pub mod LineMarks

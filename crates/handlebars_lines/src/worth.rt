@@ -20,8 +20,30 @@ use std::alloc::{AllocError, Global};
 
 /// The value of the literal that a text is, or none where it is no literal, one of its numbers is not kept, or JSON
 /// refuses it.
-#[tactic(auto, unfolding(crate::specs::WorthReading::worth_of))]
 pub fn literal_value(alloc: Global, raw: &str) -> Result<Option<Json>, AllocError>
+    ensures { IfOk result (λ read. option_map view read ≡ worth_of raw.now) }
+{
+    match common_value(alloc, raw)? {
+        Some(value) => Ok(Some(value)),
+        None => scanned_value(alloc, raw),
+    }
+}
+
+/// The value of a whole number, a plain text in double quotes or a word, which needs no scan and no reader of JSON.
+fn common_value(alloc: Global, raw: &str) -> Result<Option<Json>, AllocError>
+    ensures { IfOk result (λ read. IfSome read (λ value. worth_of raw.now ≡ Some (view value))) }
+{
+    if let Some(n) = whole_number(raw) {
+        return Ok(Some(Json::Number(n.into())));
+    }
+    if let Some(inner) = plain_inside(raw) {
+        return Ok(Some(text_value(alloc, inner)?));
+    }
+    Ok(word_value(raw))
+}
+
+#[tactic(auto, unfolding(crate::specs::WorthReading::worth_of))]
+fn scanned_value(alloc: Global, raw: &str) -> Result<Option<Json>, AllocError>
     ensures { IfOk result (λ read. option_map view read ≡ worth_of raw.now) }
 {
     match literal_at(alloc, raw)? {
@@ -53,7 +75,7 @@ fn has_leading_zero(text: &str) -> bool
 }
 
 fn whole_number(text: &str) -> Option<u64>
-    ensures { IfSome result (λ n. read_text text.now ≡ Some (number (unsigned n))) }
+    ensures { IfSome result (λ n. worth_of text.now ≡ Some (number (unsigned n))) }
 {
     if has_leading_zero(text) {
         return None;
@@ -62,7 +84,7 @@ fn whole_number(text: &str) -> Option<u64>
 }
 
 fn word_value(text: &str) -> Option<Json>
-    ensures { IfSome result (λ value. read_text text.now ≡ Some (view value)) }
+    ensures { IfSome result (λ value. worth_of text.now ≡ Some (view value)) }
 {
     match text {
         "true" => Some(Json::Bool(true)),
@@ -100,23 +122,8 @@ fn text_value(alloc: Global, text: &str) -> Result<Json, AllocError>
     Ok(Json::String(String::from_str(alloc, text)?))
 }
 
+/// The reader sets up large buffers for each text.
 fn read_json(alloc: Global, text: &str) -> Result<Option<Json>, AllocError>
-    ensures { IfOk result (λ read. option_map view read ≡ read_text text.now) }
-{
-    if let Some(n) = whole_number(text) {
-        return Ok(Some(Json::Number(n.into())));
-    }
-    if let Some(inner) = plain_inside(text) {
-        return Ok(Some(text_value(alloc, inner)?));
-    }
-    match word_value(text) {
-        Some(value) => Ok(Some(value)),
-        None => parse_json(alloc, text),
-    }
-}
-
-/// Reads any JSON. The reader sets up large buffers for each text.
-fn parse_json(alloc: Global, text: &str) -> Result<Option<Json>, AllocError>
     ensures { IfOk result (λ read. option_map view read ≡ read_text text.now) }
 {
     match Json::from_str(alloc, text) {
@@ -138,7 +145,7 @@ fn read_quoted(alloc: Global, inner: &str) -> Result<Option<Json>, AllocError>
         return Ok(Some(text_value(alloc, inner)?));
     }
     let text = double_quoted(alloc, inner)?;
-    parse_json(alloc, text.as_str())
+    read_json(alloc, text.as_str())
 }
 
 /// What stands in front of a mark, where the mark ends the text.
