@@ -14,3 +14,4 @@ pub mod Line
 pub mod LineReading
 pub mod LineView
 pub mod LineLaws
+pub mod Alone
