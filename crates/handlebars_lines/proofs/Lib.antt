@@ -21,4 +21,5 @@ pub mod LinesRead
 pub mod LinesFound
 pub mod LineEvents
 pub mod Lines
+pub mod Alone
 pub mod Parameters

@@ -15,3 +15,4 @@ pub mod Line
 pub mod LineReading
 pub mod LineView
 pub mod LineLaws
+pub mod Alone

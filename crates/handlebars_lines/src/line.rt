@@ -1,6 +1,6 @@
 //! Lines of tags, without recursion: one step after the other, and a count of the open parentheses.
 
-ghost use Rattle.std.specs.Prelude.{IfOk, MatchOption};
+ghost use Rattle.std.specs.Prelude.{IfOk, IfSome, MatchOption};
 ghost use Rattle.handlebars_lines.specs.Line.{NoLine};
 ghost use Rattle.handlebars_lines.specs.LineLaws.{HasLine};
 ghost use Rattle.handlebars_lines.specs.LineView.{mode_of, enclosure_of};
@@ -8,10 +8,12 @@ ghost use Rattle.handlebars_lines.specs.LineView.{mode_of, enclosure_of};
 use crate::literal::larger;
 use std::alloc::{AllocError, Global};
 
+mod alone;
 mod close_name;
 mod marks;
 mod step;
 
+pub use alone::path_alone;
 pub use close_name::close_name_at;
 pub use step::{Enclosure, Event, LineStand, NameMode, Stand, Step, take_step};
 
@@ -24,6 +26,40 @@ pub struct LineSlice<'a> {
 
 /// The line of this mode in front of a text, up to what ends it.
 pub fn split_line<'a>(
+    alloc: Global,
+    mode: NameMode,
+    around: Enclosure,
+    text: &'a str,
+) -> Result<Option<LineSlice<'a>>, AllocError>
+    ensures { IfOk result (λ read. MatchOption read (NoLine (mode_of mode) (enclosure_of around) text.now)
+        (λ slice. HasLine (mode_of mode) (enclosure_of around) text.now slice.depth slice.rest.now)) }
+{
+    match split_alone(mode, around, text) {
+        Some(slice) => Ok(Some(slice)),
+        None => split_terms(alloc, mode, around, text),
+    }
+}
+
+/// The line, where a path is alone in it and no step is needed. Where it answers none, that says nothing.
+fn split_alone(mode: NameMode, around: Enclosure, text: &str) -> Option<LineSlice<'_>>
+    ensures { IfSome result
+        (λ slice. HasLine (mode_of mode) (enclosure_of around) text.now slice.depth slice.rest.now) }
+{
+    match mode {
+        NameMode::Value => match path_alone(around, text) {
+            Some(slice) => Some(LineSlice {
+                depth: 0,
+                rest: slice.rest,
+            }),
+            None => None,
+        },
+        NameMode::Identifier => None,
+        NameMode::Close => None,
+    }
+}
+
+/// The line, step by step.
+fn split_terms<'a>(
     alloc: Global,
     mode: NameMode,
     around: Enclosure,

@@ -1,13 +1,14 @@
 -- Reading a text part by part.
 use Rattle.std.proofs.Common.{◌≡◌, ◌≢◌, ℕ, zero, suc, ◌+◌, ◌-◌, ◌<◌, ◌≤◌, true, false, [], ◌∷◌, ◌++◌, length, get_or, take, drop, refl, sym, ap, subst, ◌∙◌, append_assoc, arith, add-zero, add-one, drop-cons, ◌⊎◌, inl, inr, length-append}
-use Rattle.std.specs.Prelude.{replicate}
-use Rattle.std.proofs.lemmas.Bool.{eqb-true, ne_eqb, cases_Bool, false≢true}
+use Rattle.std.specs.Prelude.{◌==◌, not, replicate}
+use Rattle.std.specs.List.{prefix_len}
+use Rattle.std.proofs.lemmas.Bool.{eqb-true, eqb-false, ne_eqb, cases_Bool, false≢true}
 use Rattle.std.proofs.lemmas.List.{get_or-drop, take-append-drop, append-nil, take_at, drop_at, length-drop, nil_from_length}
 use Rattle.std.specs.Str.{IsCharBoundary, IsUtf8}
 use Rattle.std.proofs.lemmas.Str.{IsCharBoundary-at_seam}
 use Rattle.handlebars_tags.specs.Text.{Braces, two_braces, four_braces, IsText, at_end, at_tag, a_byte, two_escaped, four_escaped, is_backslash, backslashes, two_in_front, braces, before_braces}
 use Rattle.handlebars_base.specs.Bytes.{Text, backslash, left_brace}
-use Rattle.handlebars_tags.specs.TextReading.{clear_len, escaped_len, GoesOn, Ends}
+use Rattle.handlebars_tags.specs.TextReading.{before_brace, ends_with_backslash, clear_len, escaped_len, GoesOn, Ends}
 use Rattle.handlebars_tags.proofs.Runs.{take-backslashes, backslashes-other, before_braces-run, backslashes-braces, braces-none, two_in_front-shape, braces-shape, escape_at}
 
 -- ---- clear bytes, with which no tag and no escape begins
@@ -77,8 +78,8 @@ pub record ClearUpTo (w : Braces) (t : Text) (clear at : ℕ) : Type 0 where
   pub backslashes : drop clear t ≡ replicate run backslash ++ drop at t
   pub so_far : clear_len w t ≡ clear + clear_len w (drop clear t)
 
-pub ClearUpTo-none : (w : Braces) (t : Text) → ClearUpTo w t 0 0
-ClearUpTo-none w t = record { run = 0; here = omega arith; within = omega arith; backslashes = refl; so_far = omega arith }
+pub ClearUpTo-from : (w : Braces) (t : Text) (from : ℕ) → from ≤ length t → clear_len w t ≡ from + clear_len w (drop from t) → ClearUpTo w t from from
+ClearUpTo-from w t from le so_far = record { run = 0; here = omega arith; within = le; backslashes = refl; so_far = so_far }
 
 pub clear_len-stops : (w : Braces) (t : Text) (clear at : ℕ) → ClearUpTo w t clear at → braces w (drop at t) ≡ true → clear_len w t ≡ clear
 clear_len-stops w t clear at h marks = omega (arith, h.so_far, ap (clear_len w) h.backslashes, clear_len-marks w h.run (drop at t) marks)
@@ -119,6 +120,83 @@ ClearUpTo-other w t clear at h lt other none =
     let past = clear_len-run_other w h.run b z (ne_eqb b backslash other) (ap (braces w) (sym cut) ∙ none) in
     let all : clear_len w (drop clear t) ≡ clear_len w (replicate h.run backslash ++ (b ∷ z)) = ap (clear_len w) (h.backslashes ∙ ap (λ (y : Text). replicate h.run backslash ++ y) cut) in
     record { run = 0; here = omega arith; within = omega arith; backslashes = refl; so_far = omega (arith, h.so_far, all, past, h.here) }
+
+-- ---- before the next brace
+
+last_backslash : (b : ℕ) (t : Text) → (get_or (b ∷ t) (length (b ∷ t) - 1) 0 == backslash) ≡ ends_with_backslash (b ∷ t)
+last_backslash b [] = refl
+last_backslash b (c ∷ t) =
+    let at : length (b ∷ c ∷ t) - 1 ≡ suc (length (c ∷ t) - 1) = omega arith in
+    rw at (last_backslash c t)
+
+pub ends_with_backslash-last : (t : Text) → 0 < length t → (get_or t (length t - 1) 0 == backslash) ≡ ends_with_backslash t
+ends_with_backslash-last [] some = absurd (omega arith)
+ends_with_backslash-last (b ∷ t) some = last_backslash b t
+
+before_brace-mark : (b : ℕ) (t : Text) → (b == left_brace) ≡ true → before_brace (b ∷ t) ≡ []
+before_brace-mark b t mark = rw mark refl
+
+before_brace-other : (b : ℕ) (t : Text) → (b == left_brace) ≡ false → before_brace (b ∷ t) ≡ b ∷ before_brace t
+before_brace-other b t other =
+    let more : 1 + prefix_len (λ (x : ℕ). not (x == left_brace)) t ≡ suc (prefix_len (λ (x : ℕ). not (x == left_brace)) t) = omega arith in
+    rw (other, more) refl
+
+ends_with_backslash-more : (b : ℕ) (t : Text) → ends_with_backslash (b ∷ t) ≡ false → ends_with_backslash t ≡ false
+ends_with_backslash-more b [] h = refl
+ends_with_backslash-more b (c ∷ t) h = h
+
+braces-other : (w : Braces) (b : ℕ) (t : Text) → (b == left_brace) ≡ false → braces w (b ∷ t) ≡ false
+braces-other w b t other = elim (cases_Bool (braces w (b ∷ t))) [
+  | inl marks ↦
+      let two = braces-shape w (b ∷ t) marks in
+      let is : b ≡ left_brace = ap (λ (z : Text). get_or z 0 0) two.1 in
+      absurd (eqb-false b left_brace other is)
+  | inr none ↦ none
+]
+
+before_braces-slash : (w : Braces) (b : ℕ) (t : Text) → is_backslash b ≡ true → before_braces w (b ∷ t) ≡ before_braces w t
+before_braces-slash w b t slash =
+    let more : backslashes (b ∷ t) ≡ suc (backslashes t) = rw slash (omega arith) in
+    rw more refl
+
+-- no braces begin, not even behind backslashes, where another byte comes first
+no_braces : (w : Braces) (t : Text) → ends_with_backslash (before_brace t) ≡ false → before_brace t ≢ [] → before_braces w t ≡ false
+no_braces w [] h some = absurd (some refl)
+no_braces w (b ∷ t) h some = elim (cases_Bool (b == left_brace)) [
+  | inl mark ↦ absurd (some (before_brace-mark b t mark))
+  | inr other ↦
+      let cut : ends_with_backslash (b ∷ before_brace t) ≡ false = ap ends_with_backslash (sym (before_brace-other b t other)) ∙ h in
+      elim (cases_Bool (is_backslash b)) [
+        | inl slash ↦ before_braces-slash w b t slash ∙ no_braces w t (ends_with_backslash-more b (before_brace t) cut)
+            (λ e. false≢true (sym cut ∙ ap (λ (z : Text). ends_with_backslash (b ∷ z)) e ∙ slash))
+        | inr clear ↦ let here = braces-other w b t other in rw clear here
+      ]
+]
+
+cons-not_nil : (b : ℕ) (t : Text) → b ∷ t ≢ []
+cons-not_nil b t e = absurd cc
+
+pub clear_len-before_brace : (w : Braces) (t : Text) → ends_with_backslash (before_brace t) ≡ false
+    → clear_len w t ≡ length (before_brace t) + clear_len w (drop (length (before_brace t)) t)
+clear_len-before_brace w [] h = omega arith
+clear_len-before_brace w (b ∷ t) h = elim (cases_Bool (b == left_brace)) [
+  | inl mark ↦ rw (before_brace-mark b t mark) (omega arith)
+  | inr other ↦
+      let is = before_brace-other b t other in
+      let cut : ends_with_backslash (b ∷ before_brace t) ≡ false = ap ends_with_backslash (sym is) ∙ h in
+      let none = no_braces w (b ∷ t) h (λ e. cons-not_nil b (before_brace t) (sym is ∙ e)) in
+      let more = clear_len-before_brace w t (ends_with_backslash-more b (before_brace t) cut) in
+      let one : clear_len w (b ∷ t) ≡ suc (clear_len w t) = rw none refl in
+      let all : clear_len w (b ∷ t) ≡ length (b ∷ before_brace t) + clear_len w (drop (length (before_brace t)) t) = omega (arith, one, more) in
+      rw is all
+]
+
+pub before_brace-within : (t : Text) → length (before_brace t) ≤ length t
+before_brace-within [] = omega arith
+before_brace-within (b ∷ t) = elim (cases_Bool (b == left_brace)) [
+  | inl mark ↦ rw (before_brace-mark b t mark) (omega arith)
+  | inr other ↦ let more = before_brace-within t in rw (before_brace-other b t other) (omega arith)
+]
 
 GoesOn-four : (w : Braces) (r : Text) → GoesOn w (backslash ∷ left_brace ∷ left_brace ∷ left_brace ∷ left_brace ∷ r) (left_brace ∷ left_brace ∷ left_brace ∷ left_brace ∷ []) r
 GoesOn-four w r = record { taken = backslash ∷ left_brace ∷ left_brace ∷ left_brace ∷ left_brace ∷ []; whole = refl; on = λ follows slice more e h. four_escaped h }

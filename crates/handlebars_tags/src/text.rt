@@ -2,7 +2,7 @@
 
 ghost use Rattle.std.specs.Prelude.{◌≡◌, ◌≢◌, ◌+◌, ◌-◌, ◌<◌, ◌≤◌, ◌++◌, IfOk, length, take, drop, slice_index, string_bytes, true, false};
 ghost use Rattle.handlebars_tags.specs.Text.{IsText, backslashes, two_in_front, braces, before_braces};
-ghost use Rattle.handlebars_tags.specs.TextReading.{GoesOn, Ends, clear_len, escaped_len};
+ghost use Rattle.handlebars_tags.specs.TextReading.{GoesOn, Ends, before_brace, ends_with_backslash, clear_len, escaped_len};
 ghost use Rattle.handlebars_tags.specs.TextView.{braces_of};
 
 use std::alloc::{AllocError, Global};
@@ -56,7 +56,7 @@ fn next_chunk<'a>(until: Braces, source: &'a str) -> Chunk<'a>
     ensures shorter { result.is_last ≡ false → length result.rest.now < length source.now }
     ensures last { result.is_last ≡ true → Ends (braces_of until) source.now result.kept.now result.rest.now }
 {
-    let (clear, marks) = source.split_at(clear_len(until, source.as_bytes()));
+    let (clear, marks) = source.split_at(clear_len(until, source));
     let run = backslashes(marks.as_bytes());
     if run == 0 {
         Chunk {
@@ -129,12 +129,46 @@ fn tail(text: &[u8], at: usize) -> &[u8]
     text.split_at(at).1
 }
 
-// The bytes before the next braces, and before the backslashes directly before these.
-fn clear_len(until: Braces, text: &[u8]) -> usize
+// The bytes before the next braces, and before the backslashes directly before these. All bytes before the next single
+// brace are passed at once, unless they end with a backslash.
+fn clear_len(until: Braces, text: &str) -> usize
     ensures { result ≡ clear_len (braces_of until) text.now }
 {
-    let mut clear = 0;
-    let mut at = 0;
+    let front = before_brace(text).as_bytes();
+    if ends_with_backslash(front) {
+        clear_from(until, text.as_bytes(), 0)
+    } else {
+        clear_from(until, text.as_bytes(), front.len())
+    }
+}
+
+// What stands before the next opening brace, or the whole.
+fn before_brace(text: &str) -> &str
+    ensures { result.now ≡ before_brace text.now }
+{
+    match text.split_once('{') {
+        Some((front, _)) => front,
+        None => text,
+    }
+}
+
+fn ends_with_backslash(text: &[u8]) -> bool
+    ensures { result ≡ ends_with_backslash text.now }
+{
+    match text {
+        [.., last] => *last == b'\\',
+        [] => false,
+    }
+}
+
+// The same, where that many in front are clear.
+fn clear_from(until: Braces, text: &[u8], from: usize) -> usize
+    requires within { from ≤ length text.now }
+    requires clear { clear_len (braces_of until) text.now ≡ from + clear_len (braces_of until) (drop from text.now) }
+    ensures { result ≡ clear_len (braces_of until) text.now }
+{
+    let mut clear = from;
+    let mut at = from;
     'bytes: while at < text.len() {
         if has_braces(until, tail(text, at)) {
             return clear;

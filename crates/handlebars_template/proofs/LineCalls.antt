@@ -1,19 +1,26 @@
 -- The loop that builds a line's call: what it keeps, and what it comes to.
-use Rattle.std.proofs.Common.{◌≡◌, ◌∙◌, ℕ, Bool, true, false, [], Option, Some, None, refl, sym, ap, subst}
+use Rattle.std.proofs.Common.{◌≡◌, ◌∙◌, ℕ, Bool, true, false, List, [], ◌∷◌, Option, Some, None, length, refl, sym, ap, subst, arith}
+use Rattle.std.specs.List.{list_all, AllByRecursion}
+use Rattle.std.proofs.lemmas.Bool.{and_parts}
+use Rattle.std.proofs.lemmas.List.{append-nil}
 use Rattle.std.proofs.lemmas.Option.{same_Some, none-some}
-use Rattle.std.specs.Prelude.{option_map, Result, Ok, Err, IfOk, IfSome}
+use Rattle.std.specs.Prelude.{◌==◌, option_map, Result, Ok, Err, IfOk, IfSome}
 use Rattle.handlebars_base.specs.PathView.{reference_of}
 use Rattle.handlebars_base.specs.declared.json.path.Path.{Path}
-use Rattle.handlebars_base.specs.Bytes.{Text}
-use Rattle.handlebars_base.specs.Path.{Reference}
+use Rattle.handlebars_base.specs.Bytes.{Text, is_symbol}
+use Rattle.handlebars_base.specs.Path.{Segment, Reference, relative, IsIdentifier, plain, in_parts, meaning, name_segments}
+use Rattle.handlebars_base.proofs.PathShapes.{path_known}
+use Rattle.handlebars_base.proofs.OptionBinds.{nonempty}
 use Rattle.handlebars_base.specs.PathReading.{path_of}
 use Rattle.handlebars_base.specs.Optional.{◌>>=◌}
 use Rattle.handlebars_lines.specs.Runs.{goes, ends, stuck}
-use Rattle.handlebars_lines.specs.Line.{NameMode, Enclosure, Line, IsLine}
-use Rattle.handlebars_lines.specs.Parameter.{path_term}
+use Rattle.handlebars_lines.specs.Line.{NameMode, value_name, Enclosure, Line, IsLine}
+use Rattle.handlebars_lines.specs.Parameter.{path_term, no_terms}
+use Rattle.handlebars_lines.specs.Alone.{IsAlone}
+use Rattle.handlebars_lines.proofs.Alone.{name_path, alone_line}
 use Rattle.handlebars_lines.specs.LineReading.{Event, path_event, at_name, LineStand, line_stand, line_step, OpenLines, first_lines, added_in, build, build_all}
 use Rattle.handlebars_lines.proofs.Endings.{Through, through-starts, through-goes, runs-goes, runs-ends, runs-stuck}
-use Rattle.handlebars_lines.proofs.Lines.{line_found}
+use Rattle.handlebars_lines.proofs.Lines.{line_found, one_line}
 use Rattle.handlebars_template.specs.LineBuildingView.{OpenCalls, AreCallsOf, IsTaken, whole_line, IsPathAlone}
 
 -- ---- what the steps so far have built
@@ -89,24 +96,34 @@ builds-ends mode around t s rest calls is b line left l =
 
 -- ---- a path alone
 
--- where a path is taken first and the steps then end, the line is that path
-pub path-alone : (mode : NameMode) (around : Enclosure) (t raw : Text) (key : Option Text) (n : ℕ) (s : LineStand) (rest : Text) (means : Reference)
-    → goes (path_event key raw n) s rest ≡ line_step around (line_stand (at_name mode) 0) t → ends ≡ line_step around s rest → Some means ≡ path_of raw
-    → (line : Line) (left : Text) → IsLine mode around t line left → IsPathAlone line means
-path-alone mode around t raw key n s rest means first last found line left l =
-    let alone : OpenLines = added_in key (path_term means) first_lines in
-    let taken : build first_lines (path_event key raw n) ≡ Some alone = ap (option_map (λ m. added_in key (path_term m) first_lines)) (sym found) in
-    let leads = leads-goes mode around t (line_stand (at_name mode) 0) t first_lines (path_event key raw n) s rest alone first taken (through-starts (line_step around) (line_stand (at_name mode) 0) t (build_all first_lines)) in
-    let same : alone ≡ whole_lines line = leads-ends mode around t s rest alone last leads line left l in
+-- the path that is alone in front, where it is read
+lone-path : (around : Enclosure) (t raw rest : Text) (means : Reference) → IsAlone around t raw rest → Some means ≡ path_of raw
+    → (line : Line) (left : Text) → IsLine value_name around t line left → IsPathAlone line means
+lone-path around t raw rest means h found line left l =
+    let alone : Line = record { name = path_term h.means; terms = no_terms; depth = 0 } in
+    let same : line ≡ alone = (one_line value_name around t line alone left rest l (alone_line around t raw rest h)).0 in
+    let path : means ≡ h.means = same_Some means h.means (found ∙ path_known raw h.means h.is_path) in
     record {
-      name = sym (same_Some (path_term means) line.name (ap (λ (z : OpenLines). z.top.name) same));
-      terms = ap (λ (z : OpenLines). z.top.terms) (sym same);
+      name = ap (λ (z : Line). z.name) same ∙ ap path_term (sym path);
+      terms = ap (λ (z : Line). z.terms) same;
     }
 
-pub path-read : {E : Type 0} (mode : NameMode) (around : Enclosure) (t raw : Text) (key : Option Text) (n : ℕ) (s : LineStand) (rest : Text)
-    → goes (path_event key raw n) s rest ≡ line_step around (line_stand (at_name mode) 0) t → ends ≡ line_step around s rest
+pub lone-read : {E : Type 0} (around : Enclosure) (t raw rest : Text) → IsAlone around t raw rest
     → (r : Result (Option Path) E) → IfOk r (λ read. option_map reference_of read ≡ path_of raw)
-    → IfOk r (λ read. IfSome read (λ p. (line : Line) (left : Text) → IsLine mode around t line left → IsPathAlone line (reference_of p)))
-path-read mode around t raw key n s rest first last (Ok None) found = tt
-path-read mode around t raw key n s rest first last (Ok (Some p)) found = path-alone mode around t raw key n s rest (reference_of p) first last found
-path-read mode around t raw key n s rest first last (Err e) found = tt
+    → IfOk r (λ read. IfSome read (λ p. (line : Line) (left : Text) → IsLine value_name around t line left → IsPathAlone line (reference_of p)))
+lone-read around t raw rest h (Ok None) found = tt
+lone-read around t raw rest h (Ok (Some p)) found = lone-path around t raw rest (reference_of p) h found
+lone-read around t raw rest h (Err e) found = tt
+
+-- a name alone
+pub path_of-name : (raw : Text) → IsIdentifier raw → Some (relative (name_segments raw) raw) ≡ path_of raw
+path_of-name raw id =
+    ap (λ (z : List Segment). Some (relative z raw)) (sym (append-nil (name_segments raw)))
+    ∙ sym (path_known raw (meaning raw (in_parts false (plain raw) [])) (name_path raw id))
+
+pub identifier : (raw : Text) → false ≡ (length raw == 0) → list_all is_symbol raw ≡ true → IsIdentifier raw
+identifier raw some all = ((λ e. absurd (omega (arith, nonempty raw some, ap length e))), symbols raw all)
+  where
+    symbols : (t : Text) → list_all is_symbol t ≡ true → AllByRecursion (λ b. is_symbol b ≡ true) t
+    symbols [] h = tt
+    symbols (b ∷ t) h = let both = and_parts (is_symbol b) (list_all is_symbol t) h in (both.0, symbols t both.1)

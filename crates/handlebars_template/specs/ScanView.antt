@@ -1,5 +1,5 @@
 -- What the program builds of tags, and scans a source to. Only the code's own contracts cite this.
-use Rattle.std.specs.Prelude.{◌≡◌, Bool, true, false, if◌then◌else◌, List, [], ◌∷◌, Option, option_map, MatchOption}
+use Rattle.std.specs.Prelude.{◌≡◌, Bool, true, false, ◌||◌, not, if◌then◌else◌, List, [], ◌∷◌, Option, option_map, MatchOption}
 use Rattle.handlebars_base.specs.Bytes.{Text}
 use Rattle.handlebars_lines.specs.Line.{Line}
 use Rattle.handlebars_tags.specs.Tag.{BlockLine}
@@ -66,3 +66,7 @@ ScansTo source options (scanned.Unreadable p) =
     Compiles source options (refused (unreadable_tag options (place_of p)))
 ScansTo source options (scanned.Misplaced f p) =
     Compiles source options (refused (refusal_for options (syntax_fault (place_of p) f)))
+
+-- these edges take nothing from the text between them
+abbrev pub keeps_all : Edge → Edge → Bool
+keeps_all before behind = not (before.right || (before.standalone || (behind.left || behind.standalone)))

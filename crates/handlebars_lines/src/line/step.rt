@@ -7,11 +7,11 @@ ghost use Rattle.handlebars_lines.specs.Parameter.{is_reserved};
 ghost use Rattle.handlebars_lines.specs.LineReading.{at_name, line_stand, behind_name, open_step, plain_step, value_step, name_step, is_excluded, path_step, parameter_step, item_step, may_follow, next_step, outer_step, inner_step, behind_step, line_step};
 ghost use Rattle.handlebars_lines.specs.LineView.{mode_of, enclosure_of, key_of, stand_of, line_stand_of, step_of, height_of};
 
+use super::alone::path_slice;
 use super::close_name::close_name_at;
 use super::marks::{is_end, key_and_equals_at};
 use crate::literal::literal_at;
 use handlebars_base::json::path::marks::{after, all_symbols, behind_white, starts_white, symbols};
-use handlebars_base::json::path::split_path;
 use std::alloc::{AllocError, Global};
 
 /// Where a line stands: it ends before `~` or `}` in a tag, there or before `as |` in the tag of a block, and before
@@ -154,7 +154,7 @@ fn close_step(level: usize, text: &str) -> Step<'_>
 fn value_step(level: usize, text: &str) -> Step<'_>
     ensures { step_of result ≡ value_step level text.now }
 {
-    match split_path(text) {
+    match path_slice(text) {
         Some(slice) => {
             let stand = behind_name(slice.raw);
             let event = Event::Path(None, slice.raw, level);
@@ -201,7 +201,7 @@ fn is_excluded(key: Option<&str>, raw: &str) -> bool
 fn path_step<'a>(key: Option<&'a str>, level: usize, text: &'a str) -> Step<'a>
     ensures { step_of result ≡ path_step (key_of key.entry) level text.now }
 {
-    let Some(slice) = split_path(text) else {
+    let Some(slice) = path_slice(text) else {
         return Step::Stuck;
     };
     if is_excluded(key, slice.raw) {

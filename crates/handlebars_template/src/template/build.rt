@@ -1,10 +1,10 @@
 //! The call that a line is, from its steps: the calls that are not yet closed stand in a list, so that no function
 //! calls itself.
 
-ghost use Rattle.std.specs.Prelude.{◌≡◌, [], IfOk, OnOk, option_map, string_bytes};
-ghost use Rattle.handlebars_base.specs.Path.{raw_of};
+ghost use Rattle.std.specs.Prelude.{◌≡◌, true, [], IfOk, OnOk, option_map, string_bytes};
+ghost use Rattle.handlebars_base.specs.Path.{IsIdentifier, name_segments, raw_of, relative};
 ghost use Rattle.handlebars_base.specs.PathReading.{path_of};
-ghost use Rattle.handlebars_base.specs.PathView.{reference_of};
+ghost use Rattle.handlebars_base.specs.PathView.{segments_of, reference_of};
 ghost use Rattle.handlebars_lines.specs.Line.{Line};
 ghost use Rattle.handlebars_lines.specs.Parameter.{Term, literal_term, path_term, name_term};
 ghost use Rattle.handlebars_lines.specs.LineReading.{OpenLine, OpenLines, begun_line, add_term, opened_in, added_in, closed_in, build, first_lines};
@@ -17,7 +17,8 @@ ghost use Rattle.handlebars_template.specs.LineBuildingView.{open_view, calls_vi
 use crate::template::arguments::Arguments;
 use crate::template::line::BuiltLine;
 use crate::template::tree::{Parameter, Subexpression};
-use handlebars_base::json::path::{Path, read_path};
+use handlebars_base::json::path::marks::all_symbols;
+use handlebars_base::json::path::{Path, PathSeg, read_path};
 use handlebars_base::json::value::Json;
 use handlebars_lines::line::Event;
 use handlebars_lines::worth::literal_value;
@@ -185,10 +186,37 @@ impl<'a> OpenCall<'a> {
     }
 }
 
+// Whether a text is symbols alone, and so a path of one name.
+fn is_name(raw: &str) -> bool
+    ensures { result ≡ true → IsIdentifier raw.now }
+{
+    !raw.is_empty() && all_symbols(raw)
+}
+
+fn name_segments(alloc: Global, name: &str) -> Result<Vec<PathSeg>, AllocError>
+    ensures { IfOk result (λ segs. segments_of segs.items ≡ name_segments name.now) }
+{
+    let mut segs = Vec::new(alloc);
+    if name != "this" {
+        segs.push(PathSeg::Named(String::from_str(alloc, name)?))?;
+    }
+    Ok(segs)
+}
+
+fn name_path(alloc: Global, name: &str) -> Result<Path, AllocError>
+    ensures { IfOk result (λ path. reference_of path ≡ relative (name_segments name.now) name.now) }
+{
+    let raw = String::from_str(alloc, name)?;
+    Ok(Path::Relative((name_segments(alloc, name)?, raw)))
+}
+
 /// The path that the whole text is. It says what `read_path` does by the function that the steps of lines cite.
 pub fn path_of(alloc: Global, raw: &str) -> Result<Option<Path>, AllocError>
     ensures { IfOk result (λ read. option_map reference_of read ≡ path_of raw.now) }
 {
+    if is_name(raw) {
+        return Ok(Some(name_path(alloc, raw)?));
+    }
     match read_path(alloc, raw)? {
         Some(path) => Ok(Some(path)),
         None => Ok(None),

@@ -13,7 +13,7 @@ use crate::template::arguments::Arguments;
 use crate::template::build::{first_calls, path_of};
 use crate::template::tree::{HelperTemplate, Parameter, Subexpression};
 use handlebars_base::json::path::Path;
-use handlebars_lines::line::{Enclosure, Event, LineStand, NameMode, Step, take_step};
+use handlebars_lines::line::{Enclosure, LineStand, NameMode, Step, path_alone, take_step};
 use std::alloc::{AllocError, Global};
 
 /// The most blocks, chained inverses, parentheses and brackets of literals that may be open at once.
@@ -87,7 +87,7 @@ impl BuiltLine<'_> {
 
 // The path that is alone in the line in front, as in most lines: no call is opened for it. Where it answers none, or no
 // line stands in front, that says nothing.
-fn path_alone(
+fn lone_path(
     alloc: Global,
     mode: NameMode,
     around: Enclosure,
@@ -96,17 +96,13 @@ fn path_alone(
     ensures { IfOk result (λ read. IfSome read (λ path. (line : Line) (left : Text)
         → IsLine (mode_of mode) (enclosure_of around) text.now line left → IsPathAlone line (reference_of path))) }
 {
-    let Step::Goes(event, next, rest) = take_step(alloc, around, LineStand::first(mode), text)?
-    else {
-        return Ok(None);
-    };
-    let Event::Path(_, raw, _) = event else {
-        return Ok(None);
-    };
-    match take_step(alloc, around, next, rest)? {
-        Step::Ends => path_of(alloc, raw),
-        Step::Goes(_, _, _) => Ok(None),
-        Step::Stuck => Ok(None),
+    match mode {
+        NameMode::Value => match path_alone(around, text) {
+            Some(slice) => path_of(alloc, slice.raw),
+            None => Ok(None),
+        },
+        NameMode::Identifier => Ok(None),
+        NameMode::Close => Ok(None),
     }
 }
 
@@ -120,7 +116,7 @@ pub fn build_line<'a>(
     ensures { IfOk result (λ read. (line : Line) (left : Text)
         → IsLine (mode_of mode) (enclosure_of around) text.now line left → IsBuilt line read) }
 {
-    match path_alone(alloc, mode, around, text)? {
+    match lone_path(alloc, mode, around, text)? {
         Some(path) => Ok(Some(path_line(alloc, path))),
         None => build_terms(alloc, mode, around, text),
     }

@@ -6,7 +6,7 @@ ghost use Rattle.handlebars_template.specs.OptionsView.{options_view};
 ghost use Rattle.handlebars_template.specs.TreeView.{place_of};
 ghost use Rattle.handlebars_template.specs.NestView.{placed_view, open_blocks, late_of};
 ghost use Rattle.handlebars_tags.specs.Trim.{trimmed};
-ghost use Rattle.handlebars_template.specs.ScanView.{text_placed, ScansTo};
+ghost use Rattle.handlebars_template.specs.ScanView.{keeps_all, text_placed, ScansTo};
 
 use crate::template::compile::TemplateOptions;
 use crate::template::nest::{Nested, Nesting, SyntaxFault};
@@ -80,6 +80,13 @@ fn trimmed_text<'a>(
     trimmed(before, kept, behind)
 }
 
+// Whether these edges take nothing from the text between them.
+fn keeps_all(before: Edge<'_>, behind: Edge<'_>) -> bool
+    ensures { result ≡ keeps_all (edge_view before.entry) (edge_view behind.entry) }
+{
+    !(before.right || before.standalone || behind.left || behind.standalone)
+}
+
 // What is kept of a text between two edges, which is copied again only where something of it goes.
 fn kept_text(
     alloc: Global,
@@ -91,6 +98,9 @@ fn kept_text(
     ensures { IfOk result (λ text. string_bytes text
         ≡ trimmed (options_view options.now) (edge_view before.entry) (string_bytes kept) (edge_view behind.entry)) }
 {
+    if keeps_all(before, behind) {
+        return Ok(kept);
+    }
     let part = trimmed_text(options, before, kept.as_str(), behind);
     if part == kept.as_str() {
         Ok(kept)

@@ -1,23 +1,11 @@
-use Rattle.std.proofs.Common.{◌∙◌, sym, ap, arith}
-use Rattle.handlebars_tags.specs.Text.{braces}
-use Rattle.handlebars_tags.proofs.Texts.{ClearUpTo-none, clear_len-stops, clear_len-ends, ClearUpTo-backslash, ClearUpTo-other}
+use Rattle.std.proofs.Common.{◌∙◌, sym, ap}
+use Rattle.handlebars_tags.specs.TextReading.{ends_with_backslash}
 use Rattle.handlebars_tags.specs.TextView.{braces_of}
+use Rattle.handlebars_tags.proofs.Texts.{clear_len-before_brace}
 use Rattle.handlebars_tags.proofs.text.clear_len.Goals as goal
-use Rattle.handlebars_tags.proofs.text.clear_len.Goals.{then-text-at-ne92, else-text-at-ne92}
 
-pub bytes-init : goal.bytes-init
-bytes-init c = ClearUpTo-none (braces_of c.args.until) c.args.text.now
-
-pub returns-then-has_braces : goal.returns-then-has_braces
-returns-then-has_braces c =
-    sym (clear_len-stops (braces_of c.args.until) c.args.text.now c.bytes.clear c.bytes.at c.bytes.invariant (ap (braces (braces_of c.args.until)) (sym c.tail.ensures) ∙ sym c.has_braces.ensures ∙ c.if-has_braces.true))
-
-pub bytes-preserved : goal.bytes-preserved
-bytes-preserved c =
-    elim c.if-text-at-ne92.branch [
-      | then-text-at-ne92 w ↦ rw w.clear-is (ClearUpTo-other (braces_of c.args.until) c.args.text.now c.bytes.clear c.bytes.at c.bytes.invariant c.bytes-test.true w.if-text-at-ne92.true (ap (braces (braces_of c.args.until)) (sym c.tail.ensures) ∙ sym c.has_braces.ensures ∙ c.if-has_braces.false))
-      | else-text-at-ne92 w ↦ rw w.clear-is (ClearUpTo-backslash (braces_of c.args.until) c.args.text.now c.bytes.clear c.bytes.at c.bytes.invariant c.bytes-test.true w.if-text-at-ne92.false)
-    ]
-
-pub returns : goal.returns
-returns c = sym (clear_len-ends (braces_of c.args.until) c.args.text.now c.bytes.clear c.bytes.at c.bytes.invariant (omega (arith, c.bytes.invariant.within)))
+pub clear_from-requires-else-ends_with_backslash-clause-clear : goal.clear_from-requires-else-ends_with_backslash-clause-clear
+clear_from-requires-else-ends_with_backslash-clause-clear c =
+    rw (c.as_bytes-else-ends_with_backslash.ensures.value, c.as_bytes-front.ensures.value, c.before_brace.ensures)
+    (clear_len-before_brace (braces_of c.args.until) c.args.text.now
+    (ap ends_with_backslash (sym (c.as_bytes-front.ensures.value ∙ c.before_brace.ensures)) ∙ sym c.ends_with_backslash.ensures ∙ c.if-ends_with_backslash.false))

@@ -4,7 +4,7 @@ use Rattle.handlebars_lines.specs.LineReading.{line_step, height}
 use Rattle.handlebars_lines.specs.LineView.{mode_of, enclosure_of, line_stand_of, event_of}
 use Rattle.handlebars_lines.proofs.LineBounds.{line_bounds}
 use Rattle.handlebars_lines.proofs.Lines.{measure-goes, measure-ends, measure-stuck}
-use Rattle.handlebars_lines.proofs.line.split_line.Goals as goal
+use Rattle.handlebars_lines.proofs.line.split_terms.Goals as goal
 
 pub reading-smaller : goal.reading-smaller
 reading-smaller c =

@@ -3,7 +3,7 @@ use denote.Shadow.{shadow}
 use Rattle.std.proofs.Common.{length}
 use Rattle.handlebars_lines.specs.LineView.{mode_of, enclosure_of, line_stand_of}
 use Rattle.handlebars_lines.proofs.Lines.{Measures}
-use Rattle.handlebars_lines.proofs.line.split_line.Given as goal
+use Rattle.handlebars_lines.proofs.line.split_terms.Given as goal
 
 abbrev pub invariant-reading : goal.invariant-reading
 invariant-reading l = record {

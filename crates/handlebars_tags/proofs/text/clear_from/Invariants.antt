@@ -1,7 +1,7 @@
 use Rattle.std.proofs.Common.{length, ◌-◌}
 use Rattle.handlebars_tags.proofs.Texts.{ClearUpTo}
 use Rattle.handlebars_tags.specs.TextView.{braces_of}
-use Rattle.handlebars_tags.proofs.text.clear_len.Given as goal
+use Rattle.handlebars_tags.proofs.text.clear_from.Given as goal
 
 abbrev pub invariant-bytes : goal.invariant-bytes
 invariant-bytes l = ClearUpTo (braces_of l.until) l.text l.clear l.at

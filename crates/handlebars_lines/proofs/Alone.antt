@@ -1,0 +1,63 @@
+-- A path alone is a line.
+use Rattle.std.proofs.Common.{◌≡◌, ℕ, ◌<◌, Bool, true, false, List, [], ◌∷◌, length, Some, refl, sym, ap, subst, arith}
+use Rattle.std.specs.Prelude.{◌||◌, ◌==◌, not}
+use Rattle.std.specs.List.{prefix_len, list_all}
+use Rattle.std.proofs.lemmas.List.{take-append-drop, append-nil}
+use Rattle.handlebars_base.specs.Bytes.{dot, slash, at_sign, left_bracket, is_symbol}
+use Rattle.handlebars_base.specs.Path.{IsIdentifier, IsPath, plain, in_parts, meaning}
+use Rattle.handlebars_base.specs.PathReading.{slice_at, stops}
+use Rattle.handlebars_base.specs.Texts.{starts, symbols_of, behind_symbols}
+use Rattle.handlebars_base.proofs.Runs.{prefix_pass, behind_symbols-stops}
+use Rattle.handlebars_lines.specs.Alone.{is_path_mark, IsAlone}
+use Rattle.handlebars_lines.specs.Parameter.{path_term, no_terms, path_shape, no_items}
+use Rattle.handlebars_lines.specs.Line.{value_name, term_name, Enclosure, is_end, IsLine}
+use Rattle.handlebars_lines.specs.LineLaws.{HasLine}
+use Rattle.handlebars_lines.proofs.LineMarks.{slice_at-some, slice_at-stops}
+
+no_marks : (s d l a b : Bool) → s ≡ false → (d || (l || (a || b))) ≡ false → not ((s || (d || (l || a))) || b) ≡ true
+no_marks false false false false false e f = refl
+no_marks false false false false true e f = absurd cc
+no_marks false false false true b e f = absurd cc
+no_marks false false true a b e f = absurd cc
+no_marks false true l a b e f = absurd cc
+no_marks true d l a b e f = absurd cc
+
+stops-mark : (t : List ℕ) → starts is_symbol t ≡ false → starts is_path_mark t ≡ false → stops t ≡ true
+stops-mark [] e f = refl
+stops-mark (x ∷ t) e f = no_marks (is_symbol x) (x == dot) (x == slash) (x == at_sign) (x == left_bracket) e f
+
+pub name_path : (s : List ℕ) → IsIdentifier s → IsPath s (meaning s (in_parts false (plain s) []))
+name_path s id = record { shape = in_parts false (plain s) []; fits = (id, tt); spells = sym (append-nil s); gives = refl }
+
+-- a name behind which no path goes on
+pub name_slice : (t : List ℕ) → 0 < length (symbols_of t) → starts is_path_mark (behind_symbols t) ≡ false → slice_at t ≡ Some (symbols_of t, behind_symbols t)
+name_slice t some stop =
+    let s = symbols_of t in
+    let r = behind_symbols t in
+    let is = name_path s ((λ e. absurd (omega (arith, some, ap length e))), prefix_pass is_symbol t) in
+    subst (λ (z : List ℕ). slice_at z ≡ Some (s, r)) (take-append-drop (prefix_len is_symbol t) t)
+    (slice_at-stops s r (meaning s (in_parts false (plain s) [])) is (stops-mark r (behind_symbols-stops t) stop))
+
+pub is_alone : (around : Enclosure) (t raw rest : List ℕ) → slice_at t ≡ Some (raw, rest) → is_end around rest ≡ true → IsAlone around t raw rest
+is_alone around t raw rest e closes =
+    let takes = slice_at-some t (raw, rest) e in
+    record { means = takes.means; whole = takes.whole; is_path = takes.is; closes = closes }
+
+either-true : (b : Bool) → (b || true) ≡ true
+either-true true = refl
+either-true false = refl
+
+pub alone_line : (around : Enclosure) (t raw rest : List ℕ) (h : IsAlone around t raw rest)
+    → IsLine value_name around t (record { name = path_term h.means; terms = no_terms; depth = 0 }) rest
+alone_line around t raw rest h = record {
+  name = term_name (path_shape raw h.means);
+  items = no_items;
+  whole = h.whole;
+  is_name = (either-true (list_all is_symbol raw), h.is_path);
+  are_items = tt;
+  closes = h.closes;
+  gives = refl;
+}
+
+pub alone_has_line : (around : Enclosure) (t raw rest : List ℕ) → IsAlone around t raw rest → HasLine value_name around t 0 rest
+alone_has_line around t raw rest h = record { line = record { name = path_term h.means; terms = no_terms; depth = 0 }; is = alone_line around t raw rest h; deep = refl }
