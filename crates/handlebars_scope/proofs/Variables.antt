@@ -81,6 +81,14 @@ cond-behind own name k x held r s differ is =
 -- ---- variables
 
 module _ (v : LocalVars) (name : Text) (x : Value) where
+  variables_of-first : name ≡ codes "first"
+      → variables_of (record v { first = Some x }) ≡ put_at name (view x) (variables_of v)
+  variables_of-first is =
+      let at : (k : Text) → variables_of (record v { first = Some x }) k
+      ≡ put_at name (view x) (variables_of v) k = λ k.
+      cond-put (codes "first") name k (view x) _ _ is in
+      λ i k. at k i
+
   pub variables_of-last : name ≡ codes "last" → name ≢ codes "first"
       → variables_of (record v { last = Some x }) ≡ put_at name (view x) (variables_of v)
   variables_of-last is not-first =
@@ -100,6 +108,17 @@ module _ (v : LocalVars) (name : Text) (x : Value) where
       (cond-put (codes "index") name k (view x) _ _ is)) in
       λ i k. at k i
 
+  pub variables_of-key : name ≡ codes "key" → name ≢ codes "first" → name ≢ codes "last" → name ≢ codes "index"
+      → variables_of (record v { key = Some x }) ≡ put_at name (view x) (variables_of v)
+  variables_of-key is not-first not-last not-index =
+      let at : (k : Text) → variables_of (record v { key = Some x }) k
+      ≡ put_at name (view x) (variables_of v) k = λ k.
+      cond-behind (codes "first") name k (view x) _ _ _ not-first
+      (cond-behind (codes "last") name k (view x) _ _ _ not-last
+      (cond-behind (codes "index") name k (view x) _ _ _ not-index
+      (cond-put (codes "key") name k (view x) _ _ is))) in
+      λ i k. at k i
+
   -- a variable that is none of the four
   pub variables_of-extra : (extra : BTreeMap (String Global) Value)
       → values_of extra ≡ put_at name (view x) (values_of v.extra)
@@ -113,6 +132,23 @@ module _ (v : LocalVars) (name : Text) (x : Value) where
       (cond-behind (codes "index") name k (view x) _ _ _ not-index
       (cond-behind (codes "key") name k (view x) _ _ _ not-key (λ i. put i k)))) in
       λ i k. at k i
+
+-- texts that a test tells apart
+pub differ-bytes_eq : (x y : Text) → bytes_eq x y ≡ false → x ≢ y
+differ-bytes_eq x y is = λ same. false≢true (sym is ∙ (bytes_eq-Decides x y).1 same)
+
+-- the three variables that each turn sets
+pub variables_of-turn : (v : LocalVars) (first last index : Value)
+    → variables_of (record v { first = Some first; last = Some last; index = Some index })
+    ≡ put_at (codes "index") (view index) (put_at (codes "last") (view last)
+    (put_at (codes "first") (view first) (variables_of v)))
+variables_of-turn v first last index =
+    let begun : LocalVars = record v { first = Some first } in
+    let ended : LocalVars = record v { first = Some first; last = Some last } in
+    variables_of-index ended (codes "index") index refl (differ-bytes_eq _ _ refl) (differ-bytes_eq _ _ refl)
+    ∙ ap (put_at (codes "index") (view index)) (variables_of-last begun (codes "last") last refl (differ-bytes_eq _ _ refl))
+    ∙ ap (λ w. put_at (codes "index") (view index) (put_at (codes "last") (view last) w))
+    (variables_of-first v (codes "first") first refl)
 
 -- the same variables, where those that are none of the four are the same
 pub variables_of-same : (v : LocalVars) (extra : BTreeMap (String Global) Value) → values_of extra ≡ values_of v.extra

@@ -1,7 +1,8 @@
 //! Blocks of scope: what `each`, `with` and an inclusion put around what they render.
 
-ghost use Rattle.std.specs.Prelude.{◌≡◌, OnErr, OnOk, Some, map, option_map, string_bytes};
+ghost use Rattle.std.specs.Prelude.{◌≡◌, ◌==◌, IsTrue, OnErr, OnOk, Some, codes, map, option_map, string_bytes};
 ghost use Rattle.std.specs.Borrow.{sem};
+ghost use Rattle.serde_json.specs.Data.{boolean, number, unsigned};
 ghost use Rattle.serde_json.specs.View.{view};
 ghost use Rattle.handlebars_template.specs.TreeView.{tree_view};
 ghost use Rattle.handlebars_scope.specs.Lending.{LendsPath, LendsVariables};
@@ -88,6 +89,13 @@ impl BlockParams {
         self.data.get(name)
     }
 
+    // Whether there are no names.
+    fn is_empty(&self) -> bool
+        ensures { IsTrue result → bounds_of self.now ≡ nothing_at }
+    {
+        self.data.is_empty()
+    }
+
     fn add(&mut self, name: &str, holder: BlockParamHolder) -> Result<(), AllocError>
         ensures ok { OnOk result (bounds_of self.new ≡ put_at name.now (bound_of holder) (bounds_of self.old)) }
         ensures err { OnErr result (bounds_of self.new ≡ bounds_of self.old) }
@@ -145,6 +153,25 @@ impl BlockContext {
         ensures err { OnErr result (frame_of self.new ≡ frame_of self.old) }
     {
         self.local_variables.put(name, value)
+    }
+
+    /// Sets the variables of a turn of `each` but its key: `first`, `last` and `index`.
+    pub fn set_turn(&mut self, index: usize, last: bool)
+        ensures { frame_of self.new ≡ record (frame_of self.old) {
+          variable = put_at (codes "index") (number (unsigned index))
+              (put_at (codes "last") (boolean last)
+              (put_at (codes "first") (boolean (index == 0)) (frame_of self.old).variable));
+        } }
+    {
+        self.local_variables.put_turn(index, last);
+    }
+
+    /// Sets the variable `key`.
+    pub fn set_key(&mut self, key: Json)
+        ensures { frame_of self.new
+            ≡ record (frame_of self.old) { variable = put_at (codes "key") (view key) (frame_of self.old).variable } }
+    {
+        self.local_variables.put_key(key);
     }
 
     /// The variables.
@@ -234,6 +261,15 @@ impl BlockContext {
         ensures { option_map (λ b. bound_of b.now) result ≡ (frame_of self.now).bound name.now }
     {
         self.block_params.get(name)
+    }
+
+    /// Binds no name from now on.
+    pub fn unbind_names(&mut self)
+        ensures { frame_of self.new ≡ record (frame_of self.old) { bound = nothing_at } }
+    {
+        if !self.block_params.is_empty() {
+            self.block_params = BlockParams::new(self.alloc);
+        }
     }
 
     /// Binds these names, and no other.

@@ -1,11 +1,13 @@
 //! The variables of a block of scope.
 
-ghost use Rattle.std.specs.Prelude.{◌≡◌, IfOk, OnErr, OnOk, Some, option_map};
+ghost use Rattle.std.specs.Prelude.{◌≡◌, ◌==◌, IfOk, OnErr, OnOk, Some, codes, option_map};
+ghost use Rattle.serde_json.specs.Data.{boolean, number, unsigned};
 ghost use Rattle.serde_json.specs.View.{view};
 ghost use Rattle.handlebars_scope.specs.Scopes.{nothing_at, put_at};
 ghost use Rattle.handlebars_scope.specs.ScopeView.{values_of, variables_of};
 
 use handlebars_base::json::value::Json;
+use serde_json::Number;
 use std::alloc::{AllocError, Global};
 use std::collections::BTreeMap;
 
@@ -75,6 +77,23 @@ impl LocalVars {
             _ => put_extra(self.alloc, &mut self.extra, key, value)?,
         }
         Ok(())
+    }
+
+    /// Sets what each turn of `each` sets: `first`, `last` and `index`. Looks no name up.
+    pub fn put_turn(&mut self, index: usize, last: bool)
+        ensures { variables_of self.new ≡ put_at (codes "index") (number (unsigned index))
+            (put_at (codes "last") (boolean last) (put_at (codes "first") (boolean (index == 0)) (variables_of self.old))) }
+    {
+        set(&mut self.first, Json::Bool(index == 0));
+        set(&mut self.last, Json::Bool(last));
+        set(&mut self.index, Json::Number(Number::from(index)));
+    }
+
+    /// Sets `key`, as turns over the members of an object do. Looks no name up.
+    pub fn put_key(&mut self, key: Json)
+        ensures { variables_of self.new ≡ put_at (codes "key") (view key) (variables_of self.old) }
+    {
+        set(&mut self.key, key);
     }
 
     /// The same variables once more.
