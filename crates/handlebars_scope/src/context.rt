@@ -8,7 +8,7 @@ ghost use Rattle.handlebars_base.specs.Reasons.{nowhere, out_of_memory, serde_er
 ghost use Rattle.handlebars_base.specs.RenderRefusals.{reason_in, spot_of};
 
 mod range;
-mod reached;
+pub mod reached;
 pub mod walk;
 mod way;
 

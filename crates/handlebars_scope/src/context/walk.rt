@@ -32,11 +32,22 @@ pub fn resolve<'v>(
         (answer_map present_in
         (resolved recursive (frames_of blocks.now.items) (reference_of path.now) (view given.now))) }
 {
+    answered(alloc, reach(given, path, blocks, recursive))
+}
+
+/// The same, before a refusal is made of it.
+pub fn reach<'v: 'n, 'n>(
+    given: &'v Json,
+    path: &'n Path,
+    blocks: &'v VecDeque<BlockContext>,
+    recursive: bool,
+) -> Reached<'v, 'n>
+    ensures { reached_of result ≡ answer_map present_in
+        (resolved recursive (frames_of blocks.now.items) (reference_of path.now) (view given.now)) }
+{
     match path {
-        Path::Relative((segments, _)) => {
-            answered(alloc, follow(given, way_of(blocks, segments, recursive)))
-        }
-        Path::Local((level, name, _)) => Ok(variable_at(blocks, *level, name.as_str())),
+        Path::Relative((segments, _)) => follow(given, way_of(blocks, segments, recursive)),
+        Path::Local((level, name, _)) => if_found(variable_at(blocks, *level, name.as_str())),
     }
 }
 
