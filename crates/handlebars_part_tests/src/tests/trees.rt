@@ -2,7 +2,8 @@
 
 use crate::tests::helpers::{Held, is_shown, text_of};
 use handlebars_template::template::{
-    ExpressionSpec, HelperTemplate, Parameter, Subexpression, Template, TemplateElement,
+    DecoratorTemplate, ExpressionSpec, HelperTemplate, Parameter, Subexpression, Template,
+    TemplateElement,
 };
 use std::alloc::Global;
 use std::collections::BTreeMap;
@@ -103,6 +104,46 @@ fn calls_have_marks(rt: &impl Abort, alloc: Global) {
     has_marks(rt, alloc, call, "(true, false, false)");
 }
 
+fn is_copied(rt: &impl Abort, alloc: Global, template: Template) {
+    let template = Held { value: template };
+    let copy = Held {
+        value: template.value.clone(alloc).expect(rt, "memory"),
+    };
+    assert!(rt; copy.value == template.value);
+}
+
+fn compiled_trees_are_copied(rt: &impl Abort, alloc: Global) {
+    let source =
+        r#"{{a}}{{{b.[c]}}}x{{! y }}{{#each (f @root.a k="v" l=1) as |p q|}}{{@../key}}{{else}}{{1}}{{/each}}"#;
+    is_copied(
+        rt,
+        alloc,
+        Template::compile(alloc, source).expect(rt, "a template"),
+    );
+}
+
+fn boxed_decorator(rt: &impl Abort, alloc: Global) -> Box<DecoratorTemplate> {
+    let tag = DecoratorTemplate {
+        name: parsed(rt, alloc, "d"),
+        params: Vec::new(alloc),
+        hash: BTreeMap::new(alloc),
+        template: Some(Template::new(alloc)),
+        indent: Some(text_of(rt, alloc, "  ")),
+        indent_before_write: true,
+    };
+    Box::new(alloc, tag).expect(rt, "memory")
+}
+
+// No source has these yet.
+fn decorators_are_copied(rt: &impl Abort, alloc: Global) {
+    let mut template = Template::new(alloc);
+    let expression = TemplateElement::DecoratorExpression(boxed_decorator(rt, alloc));
+    template.elements.push(expression).expect(rt, "memory");
+    let block = TemplateElement::DecoratorBlock(boxed_decorator(rt, alloc));
+    template.elements.push(block).expect(rt, "memory");
+    is_copied(rt, alloc, template);
+}
+
 #[test]
 fn trees_are_made(rt: HostRuntime) {
     let alloc = rt.alloc();
@@ -110,6 +151,8 @@ fn trees_are_made(rt: HostRuntime) {
     no_call(&rt, alloc);
     specs_are_made(&rt, alloc);
     calls_have_marks(&rt, alloc);
+    compiled_trees_are_copied(&rt, alloc);
+    decorators_are_copied(&rt, alloc);
     let wanted = "Template { name: None, elements: [], mapping: [] }";
     is_shown(&rt, alloc, Template::new(alloc), wanted);
 }
