@@ -123,15 +123,18 @@ fn compiled_trees_are_copied(rt: &impl Abort, alloc: Global) {
 }
 
 fn boxed_decorator(rt: &impl Abort, alloc: Global) -> Box<DecoratorTemplate> {
-    let tag = DecoratorTemplate {
-        name: parsed(rt, alloc, "d"),
-        params: Vec::new(alloc),
-        hash: BTreeMap::new(alloc),
-        template: Some(Template::new(alloc)),
-        indent: Some(text_of(rt, alloc, "  ")),
-        indent_before_write: true,
-    };
+    let mut tag = DecoratorTemplate::new(spec(rt, alloc), true);
+    tag.template = Some(Template::new(alloc));
+    tag.indent = Some(text_of(rt, alloc, "  "));
     Box::new(alloc, tag).expect(rt, "memory")
+}
+
+fn decorators_are_made(rt: &impl Abort, alloc: Global) {
+    let tag = Held {
+        value: DecoratorTemplate::new(spec(rt, alloc), true),
+    };
+    is_read_as(rt, alloc, &tag.value.name, "a");
+    assert!(rt; tag.value.indent_before_write && tag.value.template.is_none());
 }
 
 // No source has these yet.
@@ -152,6 +155,7 @@ fn trees_are_made(rt: HostRuntime) {
     specs_are_made(&rt, alloc);
     calls_have_marks(&rt, alloc);
     compiled_trees_are_copied(&rt, alloc);
+    decorators_are_made(&rt, alloc);
     decorators_are_copied(&rt, alloc);
     let wanted = "Template { name: None, elements: [], mapping: [] }";
     is_shown(&rt, alloc, Template::new(alloc), wanted);
