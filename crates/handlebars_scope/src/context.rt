@@ -79,7 +79,7 @@ impl Context {
     }
 
     /// The same data once more.
-    pub fn clone(&self) -> Result<Context, AllocError>
+    pub fn clone(&self, _alloc: Global) -> Result<Context, AllocError>
         ensures { IfOk result (λ copy. data_of copy ≡ data_of self.now) }
     {
         Ok(Context {

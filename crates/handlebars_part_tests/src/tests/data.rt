@@ -26,7 +26,7 @@ fn data_are_kept(rt: &impl Abort, alloc: Global) {
 // Other data of a copy change nothing of what was copied.
 fn data_are_copied(rt: &impl Abort, alloc: Global) {
     let data = Context::wraps(alloc, &"a").expect(rt, "data");
-    let mut copy = data.clone().expect(rt, "memory");
+    let mut copy = data.clone(alloc).expect(rt, "memory");
     is_shown(rt, alloc, copy.data(), r#"String("a")"#);
     copy.set_data(Json::Bool(true)).expect(rt, "data");
     is_shown(rt, alloc, copy.data(), "Bool(true)");
