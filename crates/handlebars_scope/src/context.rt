@@ -19,7 +19,7 @@ use handlebars_base::error::{RenderError, RenderErrorReason};
 use handlebars_base::json::path::PathSeg;
 use handlebars_base::json::value::{Json, ScopedJson};
 use serde::Serialize;
-use std::alloc::Global;
+use std::alloc::{AllocError, Global};
 use std::collections::VecDeque;
 
 /// Data whose numbers are all integers, none below -2^63 and none of 2^64 or more.
@@ -76,6 +76,15 @@ impl Context {
         ensures in_range { has_float (view result.now) ≡ false }
     {
         &self.value
+    }
+
+    /// The same data once more.
+    pub fn clone(&self, _alloc: Global) -> Result<Context, AllocError>
+        ensures { IfOk result (λ copy. data_of copy ≡ data_of self.now) }
+    {
+        Ok(Context {
+            value: self.value.clone()?,
+        })
     }
 
     /// What the segments of a path lead to in these blocks and this data. A value that a block holds

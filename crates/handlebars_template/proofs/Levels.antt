@@ -1,10 +1,14 @@
 -- The views, one level at a time.
-use Rattle.std.proofs.Common.{◌≡◌, ◌&&◌, suc, ◌==◌, List, [], ◌∷◌, length, refl, sym, ap, ◌∙◌, rules, arith, Box, Global, String}
+use Rattle.std.proofs.Common.{◌≡◌, ◌&&◌, suc, ◌==◌, List, [], ◌∷◌, Option, None, Some, length, refl, sym, ap, ◌∙◌, rules, arith, Box, Global, String}
 use Rattle.std.proofs.lemmas.Bool.{ne_eqb}
-use Rattle.handlebars_template.specs.Tree.{call_name, call_params, call_pairs, call_binding, call_body, call_inverse, call_marks, decorator_name, decorator_params, decorator_pairs, lacks_params, lacks_pairs, is_value, expression, helper_block, decorator_expression, decorator_block, partial_expression, partial_block, comment, raw_string, name, path, literal, subexpression}
-use Rattle.handlebars_template.specs.TreeView.{text, element_view, call_view, decorator_view, param_view, params_view, pairs_view, body_view, block_param_view, subexpression_view}
-use Rattle.handlebars_template.specs.declared.template.tree.BlockParam.{the_lemmas}
-use Rattle.handlebars_template.specs.declared.template.tree.BlockParam.TheViews.{roll-Subexpression}
+use Rattle.handlebars_template.specs.Tree.{Tree, Element, Call, call, Decorator, Param, Binding, both, args, bodies, call_name, call_params, call_pairs, call_binding, call_body, call_inverse, call_marks, decorator_name, decorator_params, decorator_pairs, lacks_params, lacks_pairs, is_value, expression, helper_block, decorator_expression, decorator_block, partial_expression, partial_block, comment, raw_string, name, path, literal, subexpression}
+use Rattle.handlebars_template.specs.TreeView.{binding_of, body_of, binding_layer, param_layer, element_layer, decorator_layer, call_layer, subexpression_layer, tree_layer, binding_view, tree_view, text, element_view, call_view, decorator_view, param_view, params_view, pairs_view, body_view, block_param_view, subexpression_view}
+use Rattle.handlebars_template.specs.declared.template.tree.BlockParam.{BlockParam, the_lemmas}
+use Rattle.handlebars_template.specs.declared.template.tree.BlockParam.TheShapes.{former-HelperTemplate-block_param, former-DecoratorTemplate-template}
+use Rattle.handlebars_template.specs.declared.template.tree.BlockParam.TheOpen.{HelperTemplate-F}
+use Rattle.handlebars_template.specs.declared.template.tree.BlockParam.TheFolds.{fold-roll-HelperTemplate, fold_out-HelperTemplate}
+use Rattle.handlebars_template.specs.declared.template.tree.Template.{Template}
+use Rattle.handlebars_template.specs.declared.template.tree.BlockParam.TheViews.{roll-HelperTemplate, roll-Subexpression, Pair}
 use Rattle.handlebars_template.specs.declared.template.tree.TemplateElement.{TemplateElement}
 use Rattle.handlebars_template.specs.declared.template.tree.Subexpression.{Subexpression}
 use Rattle.handlebars_template.specs.declared.template.tree.Parameter.TheVariants as parameter
@@ -111,3 +115,34 @@ is_value-view h =
     let ps : lacks_params (call_params (call_view h)) ≡ (length (out-HelperTemplate h).params.items == 0) = ap lacks_params (call_params-view h) ∙ lacks_params-view (out-HelperTemplate h).params.items in
     let hs : lacks_pairs (call_pairs (call_view h)) ≡ (length (out-HelperTemplate h).hash.entries == 0) = ap lacks_pairs (call_pairs-view h) ∙ lacks_pairs-view (out-HelperTemplate h).hash.entries in
     rw (ps, hs) refl
+
+-- ---- a call whole
+
+block_param-view : (o : Option BlockParam) → binding_of (former-HelperTemplate-block_param.map BlockParam Binding binding_view o) ≡ block_param_view o
+block_param-view None = refl
+block_param-view (Some b) = refl
+
+body-view : (o : Option Template) → body_of (former-DecoratorTemplate-template.map Template Tree tree_view o) ≡ body_view o
+body-view None = refl
+body-view (Some t) = refl
+
+pub call_view-roll : (x : HelperTemplate-F BlockParam Parameter TemplateElement DecoratorTemplate HelperTemplate Subexpression Template)
+    → call_view (roll-HelperTemplate x) ≡ call (param_view x.name) (args (params_view x.params.items) (pairs_view x.hash.entries))
+    (block_param_view x.block_param) (bodies (body_view x.template) (body_view x.inverse))
+    (record { block = x.block; chain = x.chain; indent_before_write = x.indent_before_write })
+call_view-roll x =
+    fold-roll-HelperTemplate Binding Param Element Decorator Call Element Tree binding_layer param_layer element_layer decorator_layer call_layer subexpression_layer tree_layer x
+    ∙ rw (block_param-view x.block_param, body-view x.template, body-view x.inverse) refl
+
+pub call_view-out : (h : HelperTemplate)
+    → call_view h ≡ call (param_view (out-HelperTemplate h).name) (args (params_view (out-HelperTemplate h).params.items) (pairs_view (out-HelperTemplate h).hash.entries))
+    (block_param_view (out-HelperTemplate h).block_param) (bodies (body_view (out-HelperTemplate h).template) (body_view (out-HelperTemplate h).inverse))
+    (record { block = (out-HelperTemplate h).block; chain = (out-HelperTemplate h).chain; indent_before_write = (out-HelperTemplate h).indent_before_write })
+call_view-out h =
+    fold_out-HelperTemplate Binding Param Element Decorator Call Element Tree binding_layer param_layer element_layer decorator_layer call_layer subexpression_layer tree_layer h
+    ∙ rw (block_param-view (out-HelperTemplate h).block_param, body-view (out-HelperTemplate h).template, body-view (out-HelperTemplate h).inverse) refl
+
+-- ---- the names that a block binds
+
+pub binding_view-Pair : (a b : Parameter) → binding_view (Pair (a, b)) ≡ both (param_view a) (param_view b)
+binding_view-Pair a b = search (rules, the_lemmas)

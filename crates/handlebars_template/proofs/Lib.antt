@@ -10,6 +10,7 @@ pub mod Outcomes
 pub mod LinesBuilt
 pub mod OpenLines
 pub mod LineCalls
+pub mod Pairs
 pub mod ParametersParsed
 pub mod NestsBuilt
 pub mod NestsLooked

@@ -5,7 +5,7 @@ use Rattle.serde_json.specs.View as json
 use Rattle.handlebars_base.specs.Bytes.{Text}
 use Rattle.handlebars_base.specs.PathView.{reference_of}
 use Rattle.handlebars_template.specs.Place.{Place}
-use Rattle.handlebars_template.specs.Tree.{CallMarks, Tree, tree, Elements, elements_of, Element, raw_string, html_expression, expression, helper_block, decorator_expression, decorator_block, partial_expression, partial_block, comment, Call, call, Decorator, decorator, Args, args, bodies, Param, name, path, literal, subexpression, Params, params_of, Pairs, no_pairs, pair, Binding, no_binding, single, both, Body, no_body, body}
+use Rattle.handlebars_template.specs.Tree.{CallMarks, DecoratorMarks, Tree, tree, Elements, elements_of, Element, raw_string, html_expression, expression, helper_block, decorator_expression, decorator_block, partial_expression, partial_block, comment, Call, call, Decorator, decorator, Args, args, bodies, Param, name, path, literal, subexpression, Params, params_of, Pairs, no_pairs, pair, Binding, no_binding, single, both, Body, no_body, body}
 use Rattle.handlebars_template.specs.declared.template.arguments.Arguments.{Arguments}
 use Rattle.handlebars_template.specs.declared.template.tree.TemplateMapping.{TemplateMapping}
 use Rattle.handlebars_template.specs.declared.template.tree.Template.{Template, fold-Template}
@@ -133,3 +133,8 @@ abbrev pub spec_call : ExpressionSpec → CallMarks → Call
 spec_call spec marks =
     call (param_view spec.name) (args (params_view spec.params.items) (pairs_view spec.hash.entries))
     (block_param_view spec.block_param) (bodies no_body no_body) marks
+
+-- the decorator or the inclusion that a tag's inside is, without a body
+abbrev pub spec_decorator : ExpressionSpec → DecoratorMarks → Decorator
+spec_decorator spec marks =
+    decorator (param_view spec.name) (args (params_view spec.params.items) (pairs_view spec.hash.entries)) no_body marks

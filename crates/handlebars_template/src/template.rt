@@ -4,6 +4,7 @@ mod arguments;
 mod build;
 mod chain;
 mod compile;
+mod copy;
 mod line;
 mod nest;
 mod parameter;

@@ -23,6 +23,16 @@ fn data_are_kept(rt: &impl Abort, alloc: Global) {
     says(rt, alloc, error, OUTSIDE);
 }
 
+// Other data of a copy change nothing of what was copied.
+fn data_are_copied(rt: &impl Abort, alloc: Global) {
+    let data = Context::wraps(alloc, &"a").expect(rt, "data");
+    let mut copy = data.clone(alloc).expect(rt, "memory");
+    is_shown(rt, alloc, copy.data(), r#"String("a")"#);
+    copy.set_data(Json::Bool(true)).expect(rt, "data");
+    is_shown(rt, alloc, copy.data(), "Bool(true)");
+    is_shown(rt, alloc, data.data(), r#"String("a")"#);
+}
+
 // Arrays in one another around null.
 fn nested(rt: &impl Abort, alloc: Global, depth: u32) -> Held<Json> {
     let mut value = Json::Null;
@@ -68,6 +78,7 @@ fn values_are_converted(rt: &impl Abort, alloc: Global) {
 fn contexts_take_values(rt: HostRuntime) {
     let alloc = rt.alloc();
     data_are_kept(&rt, alloc);
+    data_are_copied(&rt, alloc);
     deepest(&rt, alloc);
     too_deep(&rt, alloc);
     values_are_converted(&rt, alloc);

@@ -2,7 +2,8 @@
 
 use crate::tests::helpers::{Held, is_shown, text_of};
 use handlebars_template::template::{
-    ExpressionSpec, HelperTemplate, Parameter, Subexpression, Template, TemplateElement,
+    DecoratorTemplate, ExpressionSpec, HelperTemplate, Parameter, Subexpression, Template,
+    TemplateElement,
 };
 use std::alloc::Global;
 use std::collections::BTreeMap;
@@ -103,6 +104,49 @@ fn calls_have_marks(rt: &impl Abort, alloc: Global) {
     has_marks(rt, alloc, call, "(true, false, false)");
 }
 
+fn is_copied(rt: &impl Abort, alloc: Global, template: Template) {
+    let template = Held { value: template };
+    let copy = Held {
+        value: template.value.clone(alloc).expect(rt, "memory"),
+    };
+    assert!(rt; copy.value == template.value);
+}
+
+fn compiled_trees_are_copied(rt: &impl Abort, alloc: Global) {
+    let source =
+        r#"{{a}}{{{b.[c]}}}x{{! y }}{{#each (f @root.a k="v" l=1) as |p q|}}{{@../key}}{{else}}{{1}}{{/each}}"#;
+    is_copied(
+        rt,
+        alloc,
+        Template::compile(alloc, source).expect(rt, "a template"),
+    );
+}
+
+fn boxed_decorator(rt: &impl Abort, alloc: Global) -> Box<DecoratorTemplate> {
+    let mut tag = DecoratorTemplate::new(spec(rt, alloc), true);
+    tag.template = Some(Template::new(alloc));
+    tag.indent = Some(text_of(rt, alloc, "  "));
+    Box::new(alloc, tag).expect(rt, "memory")
+}
+
+fn decorators_are_made(rt: &impl Abort, alloc: Global) {
+    let tag = Held {
+        value: DecoratorTemplate::new(spec(rt, alloc), true),
+    };
+    is_read_as(rt, alloc, &tag.value.name, "a");
+    assert!(rt; tag.value.indent_before_write && tag.value.template.is_none());
+}
+
+// No source has these yet.
+fn decorators_are_copied(rt: &impl Abort, alloc: Global) {
+    let mut template = Template::new(alloc);
+    let expression = TemplateElement::DecoratorExpression(boxed_decorator(rt, alloc));
+    template.elements.push(expression).expect(rt, "memory");
+    let block = TemplateElement::DecoratorBlock(boxed_decorator(rt, alloc));
+    template.elements.push(block).expect(rt, "memory");
+    is_copied(rt, alloc, template);
+}
+
 #[test]
 fn trees_are_made(rt: HostRuntime) {
     let alloc = rt.alloc();
@@ -110,6 +154,9 @@ fn trees_are_made(rt: HostRuntime) {
     no_call(&rt, alloc);
     specs_are_made(&rt, alloc);
     calls_have_marks(&rt, alloc);
+    compiled_trees_are_copied(&rt, alloc);
+    decorators_are_made(&rt, alloc);
+    decorators_are_copied(&rt, alloc);
     let wanted = "Template { name: None, elements: [], mapping: [] }";
     is_shown(&rt, alloc, Template::new(alloc), wanted);
 }

@@ -1,9 +1,9 @@
 //! The tree of a template.
 
-ghost use Rattle.std.specs.Prelude.{◌≡◌, true, false, IfOk, option_map};
+ghost use Rattle.std.specs.Prelude.{◌≡◌, true, false, None, IfOk, option_map};
 ghost use Rattle.handlebars_template.specs.Tree.{args, empty_tree, as_name, is_value, expression, expression_call, is_helper, element_name, call_params, call_pairs, call_marks};
 ghost use Rattle.handlebars_template.specs.Calls.{plain_call};
-ghost use Rattle.handlebars_template.specs.TreeView.{tree_view, param_view, params_view, pairs_view, call_view, element_view, subexpression_view, spec_call};
+ghost use Rattle.handlebars_template.specs.TreeView.{tree_view, param_view, params_view, pairs_view, call_view, decorator_view, element_view, subexpression_view, spec_call, spec_decorator};
 
 use handlebars_base::json::path::Path;
 use handlebars_base::json::value::Json;
@@ -122,6 +122,23 @@ pub struct DecoratorTemplate {
     pub template: Option<Template>,
     pub indent: Option<String>,
     pub indent_before_write: bool,
+}
+
+impl DecoratorTemplate {
+    /// What a tag says, without a body and an indentation.
+    pub fn new(spec: ExpressionSpec, indent_before_write: bool) -> DecoratorTemplate
+        ensures { decorator_view result
+            ≡ spec_decorator spec (record { indent = None; indent_before_write = indent_before_write }) }
+    {
+        DecoratorTemplate {
+            name: spec.name,
+            params: spec.params,
+            hash: spec.hash,
+            template: None,
+            indent: None,
+            indent_before_write,
+        }
+    }
 }
 
 /// The names that a block binds: to its value, or to its value and its index or key.
