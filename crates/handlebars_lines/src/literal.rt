@@ -132,7 +132,13 @@ fn is_kept(text: &str) -> bool
 fn is_word(text: &str) -> bool
     ensures { result ≡ is_word text.now }
 {
-    text == "null" || text == "true" || text == "false"
+    // Most texts are names, which their first byte tells from a word.
+    match text.as_bytes() {
+        [b'n', ..] => text == "null",
+        [b't', ..] => text == "true",
+        [b'f', ..] => text == "false",
+        _ => false,
+    }
 }
 
 #[tactic(auto, unfolding(crate::specs::LiteralReading::plain_at))]
