@@ -1,10 +1,9 @@
 -- What JSON reads in the commonest texts.
 use Rattle.std.proofs.Common.{codes, rules, cond, ◌≡◌, ℕ, ◌<◌, ◌≤◌, not, ◌++◌, ap₂, ◌^◌, Bool, true, false, ◌&&◌, List, [], ◌∷◌, length, get_or, Option, Some, None, IfSome, option_map, option_and_then, decimal, refl, sym, ap, ◌∙◌, arith, append-nil}
 use Rattle.std.specs.Prelude.{◌==◌, nat_lt, nat_le}
-use Rattle.std.specs.Char.{is_ascii_digit}
-use Rattle.std.specs.List.{list_all, position_or_len}
+use Rattle.std.specs.List.{list_all}
 use Rattle.std.specs.Str.Parse.{digits_value}
-use Rattle.std.proofs.lemmas.Bool.{and_parts, eqb-false, leb-true, le-ltb, ltb-true, not-true}
+use Rattle.std.proofs.lemmas.Bool.{and_parts, eqb-false, leb-true, ltb-true, not-true}
 use Rattle.std.proofs.lemmas.Fmt.{decimal-digits_value}
 use Rattle.std.proofs.lemmas.Option.{cond_some}
 use Rattle.json.specs.Json as json
@@ -20,14 +19,14 @@ use Rattle.serde_json.specs.Read.{of_json, max_depth, read as read_text}
 use Rattle.serde_json.specs.View.{view}
 use Rattle.serde_json.specs.declared.value.Value.{Null, Bool as BoolOf, the_lemmas}
 use Rattle.serde_json.proofs.Numbers.{number_of-decimal}
-use Rattle.handlebars_base.proofs.Bytes.{other_byte}
 use Rattle.handlebars_base.proofs.Fronts.{after_other}
-use Rattle.handlebars_lines.specs.Literal.{is_inner, is_digits, has, is_number, number_of, is_kept, quoted as quoted_literal, number as number_literal, word as word_literal}
+use Rattle.handlebars_lines.specs.Literal.{is_inner, is_digits, number_of, is_kept, quoted as quoted_literal, number as number_literal, word as word_literal}
 use Rattle.handlebars_lines.specs.CommonJson.{has_leading_zero, is_plain_byte}
 use Rattle.handlebars_lines.specs.Worth.{escaped_doubles, double_quoted}
 use Rattle.handlebars_lines.specs.WorthReading.{worth_of}
 use Rattle.handlebars_lines.proofs.JsonOf.{worth_of_literal}
 use Rattle.handlebars_lines.proofs.Numbers.{digits}
+use Rattle.handlebars_lines.proofs.Plain.{no_minus, is_number-digits}
 use Rattle.handlebars_lines.proofs.Quotes.{Lacks, plain_singles-none, escaped_doubles-none}
 
 -- the value that is read from tokens
@@ -70,22 +69,6 @@ read-digits (b ∷ t) n single e =
     ap read_text (sym spelled) ∙ read-decimal (digits_value 10 (b ∷ t)) found.1 ∙ ap (λ v. Some (number (unsigned v))) found.2
 
 -- ---- digits as literals
-
-no_mark : (mark : ℕ) (t : List ℕ) → is_ascii_digit mark ≡ false → list_all is_ascii_digit t ≡ true → position_or_len (λ b. b == mark) t ≡ length t
-no_mark mark [] other h = refl
-no_mark mark (b ∷ t) other h =
-    let both = and_parts (is_ascii_digit b) (list_all is_ascii_digit t) h in
-    rw (other_byte is_ascii_digit mark other b both.0, no_mark mark t other both.1) (omega arith)
-
-has-not : (mark : ℕ) (t : List ℕ) → is_ascii_digit mark ≡ false → list_all is_ascii_digit t ≡ true → has mark t ≡ false
-has-not mark t other h = le-ltb _ (length t) (omega (arith, no_mark mark t other h))
-
-no_minus : (b : ℕ) (t : List ℕ) → is_digits (b ∷ t) ≡ true → (b == 45) ≡ false
-no_minus b t h = other_byte is_ascii_digit 45 refl b (and_parts (is_ascii_digit b) (list_all is_ascii_digit t) h).0
-
-is_number-digits : (t : List ℕ) → is_digits t ≡ true → is_number t ≡ true
-is_number-digits [] h = absurd cc
-is_number-digits (b ∷ t) h = rw (has-not 69 (b ∷ t) refl h, has-not 46 (b ∷ t) refl h, no_minus b t h) h
 
 is_kept-digits : (t : List ℕ) (n : ℕ) → is_digits t ≡ true → number_of t ≡ Some n → is_kept t ≡ true
 unfolding is_kept

@@ -103,7 +103,7 @@ fn begins_number(text: &str) -> bool
 fn is_number(text: &str) -> bool
     ensures { result ≡ is_number text.now }
 {
-    begins_number(text) && is_number_throughout(text)
+    begins_number(text) && (is_digits(text.as_bytes()) || is_number_throughout(text))
 }
 
 fn is_number_throughout(text: &str) -> bool
@@ -199,7 +199,7 @@ fn keeps_at(text: &str) -> bool
     ensures { result ≡ keeps_at text.now }
 {
     let front = run(text).0;
-    !is_number(front) || is_kept(front)
+    is_kept(front) || !is_number(front)
 }
 
 fn behind_colon(text: &str) -> Option<&str>
