@@ -20,8 +20,8 @@ use Rattle.serde_json.specs.View.{view}
 use Rattle.serde_json.specs.declared.value.Value.{Null, Bool as BoolOf, the_lemmas}
 use Rattle.serde_json.proofs.Numbers.{number_of-decimal}
 use Rattle.handlebars_base.proofs.Fronts.{after_other}
-use Rattle.handlebars_lines.specs.Literal.{is_inner, is_digits, number_of, is_kept, quoted as quoted_literal, number as number_literal, word as word_literal}
-use Rattle.handlebars_lines.specs.CommonJson.{has_leading_zero, is_plain_byte}
+use Rattle.handlebars_lines.specs.Literal.{is_inner, is_digits, number_of, is_kept, quoted as quoted_literal, single_quoted, number as number_literal, word as word_literal}
+use Rattle.handlebars_lines.specs.CommonJson.{has_leading_zero, is_plain_byte, is_not_single}
 use Rattle.handlebars_lines.specs.Worth.{escaped_doubles, double_quoted}
 use Rattle.handlebars_lines.specs.WorthReading.{worth_of}
 use Rattle.handlebars_lines.proofs.JsonOf.{worth_of_literal}
@@ -153,7 +153,7 @@ double_quoted-plain t h =
     ap (λ (z : List ℕ). 34 ∷ (escaped_doubles z ++ 34 ∷ [])) (plain_singles-none t (lacks 92 t (λ b is. is.backslash) h))
     ∙ ap (λ (z : List ℕ). 34 ∷ (z ++ 34 ∷ [])) (escaped_doubles-none t (lacks 34 t (λ b is. is.quote) h))
 
-pub read-turned : (t : List ℕ) → list_all is_plain_byte t ≡ true → read_text (double_quoted t) ≡ Some (string t)
+read-turned : (t : List ℕ) → list_all is_plain_byte t ≡ true → read_text (double_quoted t) ≡ Some (string t)
 read-turned t h = ap read_text (double_quoted-plain t h) ∙ read-plain t h
 
 is_inner-plain : (t : List ℕ) → list_all is_plain_byte t ≡ true → is_inner 34 false t ≡ true
@@ -163,5 +163,16 @@ is_inner-plain (b ∷ t) h =
     let is = plain b both.0 in
     rw (is.quote, is.backslash) (is_inner-plain t both.1)
 
-pub worth-plain : (t inner : List ℕ) → t ≡ 34 ∷ (inner ++ 34 ∷ []) → list_all is_plain_byte inner ≡ true → worth_of t ≡ Some (string inner)
-worth-plain t inner is h = ap worth_of is ∙ worth_of_literal (quoted_literal inner) (is_inner-plain inner h) ∙ read-plain inner h
+pub worth-double : (t inner : List ℕ) → t ≡ 34 ∷ (inner ++ 34 ∷ []) → list_all is_plain_byte inner ≡ true → worth_of t ≡ Some (string inner)
+worth-double t inner is h = ap worth_of is ∙ worth_of_literal (quoted_literal inner) (is_inner-plain inner h) ∙ read-plain inner h
+
+is_inner-single : (t : List ℕ) → list_all is_plain_byte t ≡ true → list_all is_not_single t ≡ true → is_inner 39 false t ≡ true
+is_inner-single [] h single = refl
+is_inner-single (b ∷ t) h single =
+    let both = and_parts (is_plain_byte b) (list_all is_plain_byte t) h in
+    let others = and_parts (is_not_single b) (list_all is_not_single t) single in
+    let is = plain b both.0 in
+    rw (not-true (b == 39) others.0, is.backslash) (is_inner-single t both.1 others.1)
+
+pub worth-single : (t inner : List ℕ) → t ≡ 39 ∷ (inner ++ 39 ∷ []) → list_all is_plain_byte inner ≡ true → list_all is_not_single inner ≡ true → worth_of t ≡ Some (string inner)
+worth-single t inner is h single = ap worth_of is ∙ worth_of_literal (single_quoted inner) (is_inner-single inner h single) ∙ read-turned inner h
