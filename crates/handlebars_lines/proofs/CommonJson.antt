@@ -1,10 +1,9 @@
 -- What JSON reads in the commonest texts.
 use Rattle.std.proofs.Common.{codes, rules, cond, ◌≡◌, ℕ, ◌<◌, ◌≤◌, not, ◌++◌, ap₂, ◌^◌, Bool, true, false, ◌&&◌, List, [], ◌∷◌, length, get_or, Option, Some, None, IfSome, option_map, option_and_then, decimal, refl, sym, ap, ◌∙◌, arith, append-nil}
 use Rattle.std.specs.Prelude.{◌==◌, nat_lt, nat_le}
-use Rattle.std.specs.Char.{is_ascii_digit}
-use Rattle.std.specs.List.{list_all, position_or_len}
+use Rattle.std.specs.List.{list_all}
 use Rattle.std.specs.Str.Parse.{digits_value}
-use Rattle.std.proofs.lemmas.Bool.{and_parts, eqb-false, leb-true, le-ltb, ltb-true, not-true}
+use Rattle.std.proofs.lemmas.Bool.{and_parts, eqb-false, leb-true, ltb-true, not-true}
 use Rattle.std.proofs.lemmas.Fmt.{decimal-digits_value}
 use Rattle.std.proofs.lemmas.Option.{cond_some}
 use Rattle.json.specs.Json as json
@@ -20,14 +19,14 @@ use Rattle.serde_json.specs.Read.{of_json, max_depth, read as read_text}
 use Rattle.serde_json.specs.View.{view}
 use Rattle.serde_json.specs.declared.value.Value.{Null, Bool as BoolOf, the_lemmas}
 use Rattle.serde_json.proofs.Numbers.{number_of-decimal}
-use Rattle.handlebars_base.proofs.Bytes.{other_byte}
 use Rattle.handlebars_base.proofs.Fronts.{after_other}
-use Rattle.handlebars_lines.specs.Literal.{is_inner, is_digits, has, is_number, number_of, is_kept, quoted as quoted_literal, number as number_literal, word as word_literal}
-use Rattle.handlebars_lines.specs.CommonJson.{has_leading_zero, is_plain_byte}
+use Rattle.handlebars_lines.specs.Literal.{is_inner, is_digits, number_of, is_kept, quoted as quoted_literal, single_quoted, number as number_literal, word as word_literal}
+use Rattle.handlebars_lines.specs.CommonJson.{has_leading_zero, is_plain_byte, is_not_single}
 use Rattle.handlebars_lines.specs.Worth.{escaped_doubles, double_quoted}
 use Rattle.handlebars_lines.specs.WorthReading.{worth_of}
 use Rattle.handlebars_lines.proofs.JsonOf.{worth_of_literal}
 use Rattle.handlebars_lines.proofs.Numbers.{digits}
+use Rattle.handlebars_lines.proofs.Plain.{no_minus, is_number-digits}
 use Rattle.handlebars_lines.proofs.Quotes.{Lacks, plain_singles-none, escaped_doubles-none}
 
 -- the value that is read from tokens
@@ -70,22 +69,6 @@ read-digits (b ∷ t) n single e =
     ap read_text (sym spelled) ∙ read-decimal (digits_value 10 (b ∷ t)) found.1 ∙ ap (λ v. Some (number (unsigned v))) found.2
 
 -- ---- digits as literals
-
-no_mark : (mark : ℕ) (t : List ℕ) → is_ascii_digit mark ≡ false → list_all is_ascii_digit t ≡ true → position_or_len (λ b. b == mark) t ≡ length t
-no_mark mark [] other h = refl
-no_mark mark (b ∷ t) other h =
-    let both = and_parts (is_ascii_digit b) (list_all is_ascii_digit t) h in
-    rw (other_byte is_ascii_digit mark other b both.0, no_mark mark t other both.1) (omega arith)
-
-has-not : (mark : ℕ) (t : List ℕ) → is_ascii_digit mark ≡ false → list_all is_ascii_digit t ≡ true → has mark t ≡ false
-has-not mark t other h = le-ltb _ (length t) (omega (arith, no_mark mark t other h))
-
-no_minus : (b : ℕ) (t : List ℕ) → is_digits (b ∷ t) ≡ true → (b == 45) ≡ false
-no_minus b t h = other_byte is_ascii_digit 45 refl b (and_parts (is_ascii_digit b) (list_all is_ascii_digit t) h).0
-
-is_number-digits : (t : List ℕ) → is_digits t ≡ true → is_number t ≡ true
-is_number-digits [] h = absurd cc
-is_number-digits (b ∷ t) h = rw (has-not 69 (b ∷ t) refl h, has-not 46 (b ∷ t) refl h, no_minus b t h) h
 
 is_kept-digits : (t : List ℕ) (n : ℕ) → is_digits t ≡ true → number_of t ≡ Some n → is_kept t ≡ true
 unfolding is_kept
@@ -170,7 +153,7 @@ double_quoted-plain t h =
     ap (λ (z : List ℕ). 34 ∷ (escaped_doubles z ++ 34 ∷ [])) (plain_singles-none t (lacks 92 t (λ b is. is.backslash) h))
     ∙ ap (λ (z : List ℕ). 34 ∷ (z ++ 34 ∷ [])) (escaped_doubles-none t (lacks 34 t (λ b is. is.quote) h))
 
-pub read-turned : (t : List ℕ) → list_all is_plain_byte t ≡ true → read_text (double_quoted t) ≡ Some (string t)
+read-turned : (t : List ℕ) → list_all is_plain_byte t ≡ true → read_text (double_quoted t) ≡ Some (string t)
 read-turned t h = ap read_text (double_quoted-plain t h) ∙ read-plain t h
 
 is_inner-plain : (t : List ℕ) → list_all is_plain_byte t ≡ true → is_inner 34 false t ≡ true
@@ -180,5 +163,16 @@ is_inner-plain (b ∷ t) h =
     let is = plain b both.0 in
     rw (is.quote, is.backslash) (is_inner-plain t both.1)
 
-pub worth-plain : (t inner : List ℕ) → t ≡ 34 ∷ (inner ++ 34 ∷ []) → list_all is_plain_byte inner ≡ true → worth_of t ≡ Some (string inner)
-worth-plain t inner is h = ap worth_of is ∙ worth_of_literal (quoted_literal inner) (is_inner-plain inner h) ∙ read-plain inner h
+pub worth-double : (t inner : List ℕ) → t ≡ 34 ∷ (inner ++ 34 ∷ []) → list_all is_plain_byte inner ≡ true → worth_of t ≡ Some (string inner)
+worth-double t inner is h = ap worth_of is ∙ worth_of_literal (quoted_literal inner) (is_inner-plain inner h) ∙ read-plain inner h
+
+is_inner-single : (t : List ℕ) → list_all is_plain_byte t ≡ true → list_all is_not_single t ≡ true → is_inner 39 false t ≡ true
+is_inner-single [] h single = refl
+is_inner-single (b ∷ t) h single =
+    let both = and_parts (is_plain_byte b) (list_all is_plain_byte t) h in
+    let others = and_parts (is_not_single b) (list_all is_not_single t) single in
+    let is = plain b both.0 in
+    rw (not-true (b == 39) others.0, is.backslash) (is_inner-single t both.1 others.1)
+
+pub worth-single : (t inner : List ℕ) → t ≡ 39 ∷ (inner ++ 39 ∷ []) → list_all is_plain_byte inner ≡ true → list_all is_not_single inner ≡ true → worth_of t ≡ Some (string inner)
+worth-single t inner is h single = ap worth_of is ∙ worth_of_literal (single_quoted inner) (is_inner-single inner h single) ∙ read-turned inner h

@@ -1,13 +1,16 @@
 -- Each byte of a number or a word goes on with it.
-use Rattle.std.proofs.Common.{◌≡◌, ℕ, ◌<◌, Bool, true, false, cond, ◌&&◌, ◌||◌, List, [], ◌∷◌, ◌++◌, length, get_or, refl, sym, ap, subst, ◌∙◌, arith, inl, inr, length-append}
+use Rattle.std.proofs.Common.{◌≡◌, ℕ, zero, suc, ◌<◌, Bool, true, false, cond, ◌&&◌, ◌||◌, List, [], ◌∷◌, ◌++◌, length, get_or, take, refl, sym, ap, subst, ◌∙◌, arith, inl, inr, length-append}
 use Rattle.std.specs.Prelude.{◌==◌, codes}
 use Rattle.std.specs.Char.{is_ascii_digit, is_ascii_alphanumeric}
 use Rattle.std.specs.List.{AllByRecursion, list_all, position_or_len}
 use Rattle.std.specs.Str.{bytes_eq}
-use Rattle.std.proofs.lemmas.Bool.{eqb-true, ltb-true, or_cases, and_parts, or_left, or_right}
+use Rattle.std.proofs.lemmas.Bool.{eqb-true, le-ltb, ltb-true, or_cases, or_parts, and_parts, or_left, or_right}
 use Rattle.std.proofs.lemmas.Slice.Eq.{bytes_eq-Decides}
 use Rattle.std.proofs.lemmas.List.Sums.{split_at_first, passes_at_first}
 use Rattle.handlebars_base.specs.Bytes.{is_symbol}
+use Rattle.handlebars_base.specs.Texts.{starts}
+use Rattle.handlebars_base.proofs.Bytes.{other_byte}
+use Rattle.handlebars_lines.specs.LiteralReading.{begins_number}
 use Rattle.handlebars_lines.specs.Literal.{is_digits, is_integer, has, up_to, behind_first, is_decimal, is_number, is_word, goes_on}
 
 -- each byte goes on, and there is one
@@ -78,6 +81,54 @@ number_goes_on t h = on (has 69 t) refl h
         let both = and_parts (is_decimal (up_to 69 t)) (is_integer (behind_first 69 t)) h in
         around_goes_on 69 t refl is (decimal_goes_on (up_to 69 t) both.0) (integer_goes_on (behind_first 69 t) both.1)
     on false is h = decimal_goes_on t h
+
+-- ---- what begins as no number is none
+
+integer-other : (b : ℕ) (t : List ℕ) → begins_number b ≡ false → is_integer (b ∷ t) ≡ false
+integer-other b t h = let both = or_parts (is_ascii_digit b) (b == 45) h in rw (both.1, both.0) refl
+
+either-false : (c a b d : Bool) → a ≡ false → d ≡ false → cond c (a && b) d ≡ false
+either-false true a b d e f = rw e refl
+either-false false a b d e f = f
+
+integer-front : (b : ℕ) (t : List ℕ) (n : ℕ) → begins_number b ≡ false → is_integer (take n (b ∷ t)) ≡ false
+integer-front b t zero h = refl
+integer-front b t (suc n) h = integer-other b (take n t) h
+
+decimal-other : (b : ℕ) (t : List ℕ) → begins_number b ≡ false → is_decimal (b ∷ t) ≡ false
+decimal-other b t h =
+    either-false (has 46 (b ∷ t)) (is_integer (up_to 46 (b ∷ t))) (is_digits (behind_first 46 (b ∷ t))) (is_integer (b ∷ t))
+    (integer-front b t (position_or_len (λ x. x == 46) (b ∷ t)) h) (integer-other b t h)
+
+decimal-front : (b : ℕ) (t : List ℕ) (n : ℕ) → begins_number b ≡ false → is_decimal (take n (b ∷ t)) ≡ false
+decimal-front b t zero h = refl
+decimal-front b t (suc n) h = decimal-other b (take n t) h
+
+pub number-other : (t : List ℕ) → starts begins_number t ≡ false → is_number t ≡ false
+number-other [] h = refl
+number-other (b ∷ t) h =
+    either-false (has 69 (b ∷ t)) (is_decimal (up_to 69 (b ∷ t))) (is_integer (behind_first 69 (b ∷ t))) (is_decimal (b ∷ t))
+    (decimal-front b t (position_or_len (λ x. x == 69) (b ∷ t)) h) (decimal-other b t h)
+
+-- ---- digits are a number
+
+no_mark : (mark : ℕ) (t : List ℕ) → is_ascii_digit mark ≡ false → list_all is_ascii_digit t ≡ true → position_or_len (λ b. b == mark) t ≡ length t
+no_mark mark [] other h = refl
+no_mark mark (b ∷ t) other h =
+    let both = and_parts (is_ascii_digit b) (list_all is_ascii_digit t) h in
+    rw (other_byte is_ascii_digit mark other b both.0, no_mark mark t other both.1) (omega arith)
+
+has-not : (mark : ℕ) (t : List ℕ) → is_ascii_digit mark ≡ false → list_all is_ascii_digit t ≡ true → has mark t ≡ false
+has-not mark t other h = le-ltb _ (length t) (omega (arith, no_mark mark t other h))
+
+pub no_minus : (b : ℕ) (t : List ℕ) → is_digits (b ∷ t) ≡ true → (b == 45) ≡ false
+no_minus b t h = other_byte is_ascii_digit 45 refl b (and_parts (is_ascii_digit b) (list_all is_ascii_digit t) h).0
+
+pub is_number-digits : (t : List ℕ) → is_digits t ≡ true → is_number t ≡ true
+is_number-digits [] h = absurd cc
+is_number-digits (b ∷ t) h = rw (has-not 69 (b ∷ t) refl h, has-not 46 (b ∷ t) refl h, no_minus b t h) h
+
+-- ---- words and plain texts
 
 same_bytes : (a b : List ℕ) → bytes_eq a b ≡ true → a ≡ b
 same_bytes a b h = (bytes_eq-Decides a b).0 h

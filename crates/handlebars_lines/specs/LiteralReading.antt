@@ -1,7 +1,8 @@
 -- Reading a literal from left to right, with the kinds of its open brackets, as functions on lists.
 use Rattle.std.specs.Prelude.{ℕ, suc, ◌+◌, ◌-◌, Bool, true, false, not, ◌&&◌, ◌||◌, ◌==◌, if◌then◌else◌, max, List, [], ◌∷◌, length, take, drop, Option, Some, None, is_some}
+use Rattle.std.specs.Char.{is_ascii_digit}
 use Rattle.std.specs.List.{prefix_len}
-use Rattle.handlebars_base.specs.Bytes.{Text, double_quote, single_quote, colon, backslash, left_bracket, left_brace, behind_white}
+use Rattle.handlebars_base.specs.Bytes.{Text, double_quote, single_quote, hyphen, colon, backslash, left_bracket, left_brace, behind_white}
 use Rattle.handlebars_base.specs.Optional.{◌>>=◌, with_or}
 use Rattle.handlebars_base.specs.Texts.{starts, after}
 use Rattle.handlebars_lines.specs.Runs.{ReadingStep, goes, ends, stuck, run}
@@ -14,6 +15,10 @@ abbrev pub behind_quote : ℕ → Bool → Text → Option Text
 behind_quote quote escaped [] = None
 behind_quote quote true (b ∷ t) = behind_quote quote false t
 behind_quote quote false (b ∷ t) = if b == quote then Some t else behind_quote quote (b == backslash) t
+
+-- a byte that a number may begin with
+abbrev pub begins_number : ℕ → Bool
+begins_number b = is_ascii_digit b || (b == hyphen)
 
 -- the longest front in which each byte goes on
 abbrev pub run_of : Text → Text

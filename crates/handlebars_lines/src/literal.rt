@@ -4,9 +4,9 @@ ghost use Rattle.std.specs.Prelude.{◌≡◌, ◌<◌, ◌≤◌, ◌++◌, ◌
 ghost use Rattle.std.specs.List.{list_all};
 ghost use Rattle.std.specs.Char.{is_ascii_digit};
 ghost use Rattle.std.specs.Option.{option_map};
-ghost use Rattle.handlebars_base.specs.Texts.{IsEnd};
+ghost use Rattle.handlebars_base.specs.Texts.{IsEnd, starts};
 ghost use Rattle.handlebars_lines.specs.Literal.{is_digits, is_integer, is_decimal, is_number, number_of, is_kept_below, is_kept, is_word, closer};
-ghost use Rattle.handlebars_lines.specs.LiteralReading.{plain_at, undoubled_at, unbracketed_at, keeps_at, behind_colon, behind_key, behind_lead, bracket_token, value_token, comma_token, entry_token, token_at, innermost, slice_to, literal_at};
+ghost use Rattle.handlebars_lines.specs.LiteralReading.{begins_number, plain_at, undoubled_at, unbracketed_at, keeps_at, behind_colon, behind_key, behind_lead, bracket_token, value_token, comma_token, entry_token, token_at, innermost, slice_to, literal_at};
 ghost use Rattle.handlebars_lines.specs.LiteralView.{bracket_of, stack_of, token_of, literal_slice_of};
 ghost use Rattle.handlebars_lines.specs.Laws.{HasLiteral, NoLiteral};
 
@@ -90,7 +90,23 @@ fn is_decimal(text: &str) -> bool
     }
 }
 
+/// A number may begin so. Most texts are names, of which this alone is asked.
+fn begins_number(text: &str) -> bool
+    ensures { result ≡ starts begins_number text.now }
+{
+    match text.as_bytes() {
+        [first, ..] => first.is_ascii_digit() || *first == b'-',
+        [] => false,
+    }
+}
+
 fn is_number(text: &str) -> bool
+    ensures { result ≡ is_number text.now }
+{
+    begins_number(text) && (is_digits(text.as_bytes()) || is_number_throughout(text))
+}
+
+fn is_number_throughout(text: &str) -> bool
     ensures { result ≡ is_number text.now }
 {
     match text.split_once('E') {
@@ -132,7 +148,13 @@ fn is_kept(text: &str) -> bool
 fn is_word(text: &str) -> bool
     ensures { result ≡ is_word text.now }
 {
-    text == "null" || text == "true" || text == "false"
+    // Most texts are names, which their first byte tells from a word.
+    match text.as_bytes() {
+        [b'n', ..] => text == "null",
+        [b't', ..] => text == "true",
+        [b'f', ..] => text == "false",
+        _ => false,
+    }
 }
 
 #[tactic(auto, unfolding(crate::specs::LiteralReading::plain_at))]
@@ -177,7 +199,7 @@ fn keeps_at(text: &str) -> bool
     ensures { result ≡ keeps_at text.now }
 {
     let front = run(text).0;
-    !is_number(front) || is_kept(front)
+    is_kept(front) || !is_number(front)
 }
 
 fn behind_colon(text: &str) -> Option<&str>

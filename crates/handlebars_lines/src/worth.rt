@@ -8,7 +8,7 @@ ghost use Rattle.serde_json.specs.Read.{read as read_text};
 ghost use Rattle.serde_json.specs.View.{view};
 ghost use Rattle.handlebars_base.specs.Bytes.{double_quote, single_quote};
 ghost use Rattle.handlebars_base.specs.Texts.{starts};
-ghost use Rattle.handlebars_lines.specs.CommonJson.{has_leading_zero, is_plain_byte};
+ghost use Rattle.handlebars_lines.specs.CommonJson.{has_leading_zero, is_plain_byte, is_not_single};
 ghost use Rattle.handlebars_lines.specs.LiteralView.{literal_slice_of};
 ghost use Rattle.handlebars_lines.specs.Worth.{plain_singles, escaped_doubles, double_quoted};
 ghost use Rattle.handlebars_lines.specs.WorthReading.{before, unquoted, slice_worth, worth_of};
@@ -29,14 +29,14 @@ pub fn literal_value(alloc: Global, raw: &str) -> Result<Option<Json>, AllocErro
     }
 }
 
-/// The value of a whole number, a plain text in double quotes or a word, which needs no scan and no reader of JSON.
+/// The value of a whole number, a plain text in quotes or a word, which needs no scan and no reader of JSON.
 fn common_value(alloc: Global, raw: &str) -> Result<Option<Json>, AllocError>
     ensures { IfOk result (λ read. IfSome read (λ value. worth_of raw.now ≡ Some (view value))) }
 {
     if let Some(n) = whole_number(raw) {
         return Ok(Some(Json::Number(n.into())));
     }
-    if let Some(inner) = plain_inside(raw) {
+    if let Some(inner) = plain_text(raw) {
         return Ok(Some(text_value(alloc, inner)?));
     }
     Ok(word_value(raw))
@@ -100,20 +100,58 @@ fn is_plain_byte(byte: u8) -> bool
     byte != b'"' && byte != b'\\' && byte >= b' '
 }
 
-/// Whether JSON would write the text between quotes as it is.
+/// Whether JSON writes the text between double quotes as it is.
 fn is_plain(text: &str) -> bool
     ensures { result ≡ list_all is_plain_byte text.now }
 {
     text.as_bytes().iter().all(|byte| is_plain_byte(*byte))
 }
 
-/// What stands between double quotes, where it is plain.
-fn plain_inside(text: &str) -> Option<&str>
-    ensures quoted { IfSome result (λ inner. text.now ≡ double_quote ∷ (inner.now ++ double_quote ∷ [])) }
-    ensures plain { IfSome result (λ inner. list_all is_plain_byte inner.now ≡ true) }
+fn lacks_single(text: &str) -> bool
+    ensures { result ≡ list_all is_not_single text.now }
 {
-    let inner = text.strip_prefix('"')?.strip_suffix('"')?;
+    text.as_bytes().iter().all(|byte| *byte != b'\'')
+}
+
+fn inside_doubles(text: &str) -> Option<&str>
+    ensures { IfSome result (λ inner. text.now ≡ double_quote ∷ (inner.now ++ double_quote ∷ [])) }
+{
+    text.strip_prefix('"')?.strip_suffix('"')
+}
+
+fn inside_singles(text: &str) -> Option<&str>
+    ensures { IfSome result (λ inner. text.now ≡ single_quote ∷ (inner.now ++ single_quote ∷ [])) }
+{
+    text.strip_prefix('\'')?.strip_suffix('\'')
+}
+
+fn plain_in_doubles(text: &str) -> Option<&str>
+    ensures { IfSome result (λ inner. worth_of text.now ≡ Some (string inner.now)) }
+{
+    let inner = inside_doubles(text)?;
     if is_plain(inner) { Some(inner) } else { None }
+}
+
+fn plain_in_singles(text: &str) -> Option<&str>
+    ensures { IfSome result (λ inner. worth_of text.now ≡ Some (string inner.now)) }
+{
+    let inner = inside_singles(text)?;
+    if is_plain(inner) && lacks_single(inner) {
+        Some(inner)
+    } else {
+        None
+    }
+}
+
+/// What stands between quotes, where it is plain.
+fn plain_text(text: &str) -> Option<&str>
+    ensures { IfSome result (λ inner. worth_of text.now ≡ Some (string inner.now)) }
+{
+    if starts_single(text) {
+        plain_in_singles(text)
+    } else {
+        plain_in_doubles(text)
+    }
 }
 
 fn text_value(alloc: Global, text: &str) -> Result<Json, AllocError>
@@ -141,9 +179,6 @@ fn read_json(alloc: Global, text: &str) -> Result<Option<Json>, AllocError>
 fn read_quoted(alloc: Global, inner: &str) -> Result<Option<Json>, AllocError>
     ensures { IfOk result (λ read. option_map view read ≡ read_text (double_quoted inner.now)) }
 {
-    if is_plain(inner) {
-        return Ok(Some(text_value(alloc, inner)?));
-    }
     let text = double_quoted(alloc, inner)?;
     read_json(alloc, text.as_str())
 }

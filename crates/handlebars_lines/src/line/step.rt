@@ -185,7 +185,11 @@ fn name_step(mode: NameMode, level: usize, text: &str) -> Step<'_>
 fn is_reserved(raw: &str) -> bool
     ensures { result ≡ is_reserved raw.now }
 {
-    raw == "as" || raw == "else"
+    match raw.as_bytes() {
+        [b'a', ..] => raw == "as",
+        [b'e', ..] => raw == "else",
+        _ => false,
+    }
 }
 
 /// Behind a key a reserved word is a path.
