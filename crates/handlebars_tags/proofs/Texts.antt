@@ -1,5 +1,5 @@
 -- Reading a text part by part.
-use Rattle.std.proofs.Common.{◌≡◌, ◌≢◌, ℕ, zero, suc, ◌+◌, ◌-◌, ◌<◌, ◌≤◌, true, false, [], ◌∷◌, ◌++◌, length, get_or, take, drop, refl, sym, ap, subst, ◌∙◌, append_assoc, arith, add-zero, add-one, drop-cons, ◌⊎◌, inl, inr, length-append}
+use Rattle.std.proofs.Common.{◌≡◌, ◌≢◌, ℕ, zero, suc, ◌+◌, ◌-◌, ◌<◌, ◌≤◌, Bool, true, false, [], ◌∷◌, ◌++◌, length, get_or, take, drop, refl, sym, ap, subst, ◌∙◌, append_assoc, arith, add-zero, add-one, drop-cons, ◌⊎◌, inl, inr, length-append}
 use Rattle.std.specs.Prelude.{◌==◌, not, replicate}
 use Rattle.std.specs.List.{prefix_len}
 use Rattle.std.proofs.lemmas.Bool.{eqb-true, eqb-false, ne_eqb, cases_Bool, false≢true}
@@ -123,6 +123,9 @@ ClearUpTo-other w t clear at h lt other none =
 
 -- ---- before the next brace
 
+abbrev pub is_other : ℕ → Bool
+is_other b = not (b == left_brace)
+
 last_backslash : (b : ℕ) (t : Text) → (get_or (b ∷ t) (length (b ∷ t) - 1) 0 == backslash) ≡ ends_with_backslash (b ∷ t)
 last_backslash b [] = refl
 last_backslash b (c ∷ t) =
@@ -138,7 +141,7 @@ before_brace-mark b t mark = rw mark refl
 
 before_brace-other : (b : ℕ) (t : Text) → (b == left_brace) ≡ false → before_brace (b ∷ t) ≡ b ∷ before_brace t
 before_brace-other b t other =
-    let more : 1 + prefix_len (λ (x : ℕ). not (x == left_brace)) t ≡ suc (prefix_len (λ (x : ℕ). not (x == left_brace)) t) = omega arith in
+    let more : 1 + prefix_len is_other t ≡ suc (prefix_len is_other t) = omega arith in
     rw (other, more) refl
 
 ends_with_backslash-more : (b : ℕ) (t : Text) → ends_with_backslash (b ∷ t) ≡ false → ends_with_backslash t ≡ false

@@ -1,6 +1,8 @@
 //! Texts: what a source holds up to the next tag, and what is kept of it.
 
-ghost use Rattle.std.specs.Prelude.{◌≡◌, ◌≢◌, ◌+◌, ◌-◌, ◌<◌, ◌≤◌, ◌++◌, IfOk, length, take, drop, slice_index, string_bytes, true, false};
+ghost use Rattle.std.specs.Prelude.{◌≡◌, ◌≢◌, ◌+◌, ◌-◌, ◌<◌, ◌≤◌, ◌++◌, ◌==◌, IfOk, length, take, drop, slice_index, string_bytes, true, false};
+ghost use Rattle.std.specs.List.{position_or_len};
+ghost use Rattle.handlebars_base.specs.Bytes.{left_brace};
 ghost use Rattle.handlebars_tags.specs.Text.{IsText, backslashes, two_in_front, braces, before_braces};
 ghost use Rattle.handlebars_tags.specs.TextReading.{GoesOn, Ends, before_brace, ends_with_backslash, clear_len, escaped_len};
 ghost use Rattle.handlebars_tags.specs.TextView.{braces_of};
@@ -56,7 +58,7 @@ fn next_chunk<'a>(until: Braces, source: &'a str) -> Chunk<'a>
     ensures shorter { result.is_last ≡ false → length result.rest.now < length source.now }
     ensures last { result.is_last ≡ true → Ends (braces_of until) source.now result.kept.now result.rest.now }
 {
-    let (clear, marks) = source.split_at(clear_len(until, source));
+    let (clear, marks) = source.split_at(clear_len(until, source.as_bytes()));
     let run = backslashes(marks.as_bytes());
     if run == 0 {
         Chunk {
@@ -131,25 +133,34 @@ fn tail(text: &[u8], at: usize) -> &[u8]
 
 // The bytes before the next braces, and before the backslashes directly before these. All bytes before the next single
 // brace are passed at once, unless they end with a backslash.
-fn clear_len(until: Braces, text: &str) -> usize
+fn clear_len(until: Braces, text: &[u8]) -> usize
     ensures { result ≡ clear_len (braces_of until) text.now }
 {
-    let front = before_brace(text).as_bytes();
+    let front = before_brace(text);
     if ends_with_backslash(front) {
-        clear_from(until, text.as_bytes(), 0)
+        clear_from(until, text, 0)
     } else {
-        clear_from(until, text.as_bytes(), front.len())
+        clear_from(until, text, front.len())
     }
 }
 
 // What stands before the next opening brace, or the whole.
-fn before_brace(text: &str) -> &str
+fn before_brace(text: &[u8]) -> &[u8]
     ensures { result.now ≡ before_brace text.now }
 {
-    match text.split_once('{') {
-        Some((front, _)) => front,
-        None => text,
+    text.split_at(brace_len(text)).0
+}
+
+// How many bytes stand there. A loop over the bytes alone costs less than a search of std in texts as short as most.
+fn brace_len(text: &[u8]) -> usize
+    ensures len { result ≡ position_or_len (λ b. b == left_brace) text.now }
+    ensures within { result ≤ length text.now }
+{
+    let mut n = 0;
+    'others: while n < text.len() && text[n] != b'{' {
+        n += 1;
     }
+    n
 }
 
 fn ends_with_backslash(text: &[u8]) -> bool

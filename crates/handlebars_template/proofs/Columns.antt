@@ -1,14 +1,15 @@
 -- Lines and columns, byte by byte: of a character's bytes only the first is a column.
 use Rattle.std.proofs.Math.Dec.{ltb}
-use Rattle.std.proofs.Common.{◌≡◌, ℕ, ◌+◌, ◌/◌, ◌<◌, ◌≤◌, [], ◌∷◌, true, false, refl, sym, ap, ◌∙◌, arith, inl, inr}
-use Rattle.std.specs.Prelude.{◌==◌, cond, nat_lt, fold}
+use Rattle.std.proofs.Common.{◌≡◌, ℕ, Bool, length, ◌+◌, ◌/◌, ◌<◌, ◌≤◌, [], ◌∷◌, true, false, refl, sym, ap, ◌∙◌, arith, inl, inr}
+use Rattle.std.specs.Prelude.{◌==◌, not, cond, nat_lt, fold}
 use Rattle.std.specs.Str.{IsUtf8, chars}
 use Rattle.std.proofs.Math.Utf8.{next, encode, encodes}
-use Rattle.std.proofs.lemmas.Bool.{cases_Bool, lt-ltb, le-ltb, ltb-true, ltb-false}
+use Rattle.std.proofs.lemmas.Bool.{cases_Bool, and_parts, eqb-false, false≢true, lt-ltb, le-ltb, ltb-true, ltb-false}
 use Rattle.std.proofs.lemmas.List.Sums.{fold-append}
 use Rattle.std.proofs.lemmas.Str.{encode_ascii, encodes-chars}
 use Rattle.handlebars_base.specs.Bytes.{Text}
 use Rattle.handlebars_template.specs.Place.{Place, behind_char, behind}
+use Rattle.handlebars_template.specs.PlaceReading.{is_column, still_columns}
 
 -- behind one column
 abbrev pub one_more : Place → Place
@@ -98,3 +99,33 @@ behind_encodes (c ∷ cs) p = fold-append behind_byte p (encode c) (encodes cs) 
 -- A text's place, by its bytes.
 pub behind-bytes : (p : Place) (t : Text) → IsUtf8 t → fold behind_byte p t ≡ behind p t
 behind-bytes p t u = ap (fold behind_byte p) (sym (encodes-chars t u)) ∙ behind_encodes (chars t) p
+
+-- ---- columns alone
+
+broken : (t : Text) → fold still_columns false t ≡ false
+broken [] = refl
+broken (b ∷ t) = broken t
+
+behind_column : (p : Place) (b : ℕ) → is_column b ≡ true → behind_byte p b ≡ one_more p
+behind_column p b h =
+    let both = and_parts (nat_lt b 128) (not (b == 10)) h in
+    let small : b < 128 = ltb-true b 128 both.0 in
+    let other : (b == 10) ≡ false = flipped (b == 10) both.1 in
+    ascii_byte p b (eqb-false b 10 other) small
+  where
+    flipped : (c : Bool) → not c ≡ true → c ≡ false
+    flipped true e = absurd cc
+    flipped false e = refl
+
+behind_columns : (t : Text) (p : Place) → fold still_columns true t ≡ true → fold behind_byte p t ≡ record { line = p.line; column = p.column + length t }
+behind_columns [] p h = same_place p (record { line = p.line; column = p.column + 0 }) refl (omega arith)
+behind_columns (b ∷ t) p h = elim (cases_Bool (is_column b)) [
+  | inl column ↦
+      let rest : fold still_columns true t ≡ true = ap (λ (c : Bool). fold still_columns c t) (sym column) ∙ h in
+      ap (λ (q : Place). fold behind_byte q t) (behind_column p b column) ∙ behind_columns t (one_more p) rest
+      ∙ same_place (record { line = p.line; column = p.column + 1 + length t }) (record { line = p.line; column = p.column + length (b ∷ t) }) refl (omega arith)
+  | inr other ↦ absurd (false≢true (sym (ap (λ (c : Bool). fold still_columns c t) other ∙ broken t) ∙ h))
+]
+
+pub behind-columns : (p : Place) (t : Text) → IsUtf8 t → fold still_columns true t ≡ true → record { line = p.line; column = p.column + length t } ≡ behind p t
+behind-columns p t u h = sym (behind_columns t p h) ∙ behind-bytes p t u

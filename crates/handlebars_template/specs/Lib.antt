@@ -1,4 +1,5 @@
 pub mod Place
+pub mod PlaceReading
 pub mod Tree
 pub mod Calls
 pub mod Nest

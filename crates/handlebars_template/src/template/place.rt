@@ -1,13 +1,44 @@
 //! Lines and columns.
 
-ghost use Rattle.std.specs.Prelude.{◌≡◌, ◌+◌, ◌<◌, ◌^◌, length};
+ghost use Rattle.std.specs.Prelude.{◌≡◌, ◌+◌, ◌<◌, ◌^◌, true, fold, length};
 ghost use Rattle.handlebars_template.specs.Place.{behind};
+ghost use Rattle.handlebars_template.specs.PlaceReading.{is_column, still_columns};
 ghost use Rattle.handlebars_template.specs.TreeView.{place_of};
 
 use crate::template::tree::TemplateMapping;
 
 /// The place behind a text that begins at a place.
 pub fn advance(place: TemplateMapping, text: &str) -> TemplateMapping
+    requires line { place.0 + length text.now < 2 ^ 64 }
+    requires column { place.1 + length text.now < 2 ^ 64 }
+    ensures { place_of result ≡ behind (place_of place) text.now }
+{
+    if are_columns(text.as_bytes()) {
+        TemplateMapping(place.0, place.1 + text.len())
+    } else {
+        advance_by_bytes(place, text)
+    }
+}
+
+// Whether a byte is a column and ends no line.
+fn is_column(byte: u8) -> bool
+    ensures { result ≡ is_column byte }
+{
+    byte < 128 && byte != b'\n'
+}
+
+// Whether each byte is such a one. It doesn't stop early, so that many bytes can be tested at once.
+fn are_columns(bytes: &[u8]) -> bool
+    ensures { result ≡ fold still_columns true bytes.now }
+{
+    let mut all = true;
+    'bytes: for byte in bytes {
+        all &= is_column(*byte);
+    }
+    all
+}
+
+fn advance_by_bytes(place: TemplateMapping, text: &str) -> TemplateMapping
     requires line { place.0 + length text.now < 2 ^ 64 }
     requires column { place.1 + length text.now < 2 ^ 64 }
     ensures { place_of result ≡ behind (place_of place) text.now }

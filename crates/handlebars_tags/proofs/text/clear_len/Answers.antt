@@ -6,6 +6,6 @@ use Rattle.handlebars_tags.proofs.text.clear_len.Goals as goal
 
 pub clear_from-requires-else-ends_with_backslash-clause-clear : goal.clear_from-requires-else-ends_with_backslash-clause-clear
 clear_from-requires-else-ends_with_backslash-clause-clear c =
-    rw (c.as_bytes-else-ends_with_backslash.ensures.value, c.as_bytes-front.ensures.value, c.before_brace.ensures)
+    rw c.before_brace-front.ensures
     (clear_len-before_brace (braces_of c.args.until) c.args.text.now
-    (ap ends_with_backslash (sym (c.as_bytes-front.ensures.value ∙ c.before_brace.ensures)) ∙ sym c.ends_with_backslash.ensures ∙ c.if-ends_with_backslash.false))
+    (ap ends_with_backslash (sym c.before_brace-front.ensures) ∙ sym c.ends_with_backslash.ensures ∙ c.if-ends_with_backslash.false))

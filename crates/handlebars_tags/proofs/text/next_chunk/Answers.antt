@@ -6,19 +6,19 @@ use Rattle.handlebars_tags.specs.TextView.{braces_of}
 use Rattle.handlebars_tags.proofs.text.next_chunk.Goals as goal
 
 pub split_at-requires : goal.split_at-requires
-split_at-requires c = rw c.clear_len.ensures (IsCharBoundary-clear_len (braces_of c.args.until) c.args.source.now)
+split_at-requires c = rw (c.clear_len.ensures, c.as_bytes.ensures.value) (IsCharBoundary-clear_len (braces_of c.args.until) c.args.source.now)
 
 pub returns-then-run-eq0-clause-last : goal.returns-then-run-eq0-clause-last
 returns-then-run-eq0-clause-last c = λ _.
     let w = braces_of c.args.until in
     let t = c.args.source.now in
-    let len : c.clear_len.result ≡ clear_len w t = c.clear_len.ensures in
-    let behind : c.as_bytes.result.now ≡ drop (clear_len w t) t = c.as_bytes.ensures.value ∙ c.split_at.ensures.back ∙ rw len in
+    let len : c.clear_len.result ≡ clear_len w t = c.clear_len.ensures ∙ ap (clear_len w) c.as_bytes.ensures.value in
+    let behind : c.as_bytes-2.result.now ≡ drop (clear_len w t) t = c.as_bytes-2.ensures.value ∙ c.split_at.ensures.back ∙ rw len in
     rw (c.split_at.ensures.front, c.split_at.ensures.back, len) (Ends-clear w t (ap backslashes (sym behind) ∙ sym c.backslashes-run.ensures ∙ c.if-run-eq0.true))
 
 pub returns-else-is_empty-clause-on : goal.returns-else-is_empty-clause-on
 returns-else-is_empty-clause-on c = λ _.
     let w = braces_of c.args.until in
     let t = c.args.source.now in
-    let len : c.clear_len.result ≡ clear_len w t = c.clear_len.ensures in
+    let len : c.clear_len.result ≡ clear_len w t = c.clear_len.ensures ∙ ap (clear_len w) c.as_bytes.ensures.value in
     rw (c.split_at.ensures.front, c.split_at.ensures.back, len) (GoesOn-clear w t)

@@ -2,7 +2,7 @@ use Rattle.std.proofs.Common.{◌≡◌, ◌≤◌, ◌+◌, ◌-◌, take}
 use Rattle.std.specs.Prelude.{fold}
 use Rattle.handlebars_template.specs.TreeView.{place_of}
 use Rattle.handlebars_template.proofs.Columns.{behind_byte}
-use Rattle.handlebars_template.proofs.template.place.advance.Given as goal
+use Rattle.handlebars_template.proofs.template.place.advance_by_bytes.Given as goal
 
 abbrev pub invariant-loop-at : goal.invariant-loop-at
 invariant-loop-at l = record {
