@@ -1,13 +1,14 @@
 -- The turns of a value that has members, and the block of a turn.
-use Rattle.std.proofs.Common.{◌≡◌, ◌==◌, true, false, length, List, [], ◌∷◌, Option, String, Global, refl, ap, sym, ◌∙◌, true≢false}
-use Rattle.serde_json.specs.Data.{Data}
+use Rattle.std.proofs.Common.{◌≡◌, ◌==◌, true, false, length, List, [], ◌∷◌, Option, Some, None, is_some, option_map, Bor, codes, String, Global, refl, ap, sym, ◌∙◌, true≢false}
+use Rattle.serde_json.specs.Data.{Data, boolean, number, unsigned, string}
 use Rattle.serde_json.specs.View.{items_view, members_view}
 use Rattle.serde_json.specs.declared.value.Value.{Value}
 use Rattle.handlebars_base.specs.Bytes.{Text}
+use Rattle.handlebars_base.specs.Optional.{with_or}
 use Rattle.handlebars_template.specs.Tree.{Binding}
-use Rattle.handlebars_scope.specs.Scopes.{Bound, Frame, Base, at_path, at_value, based, bound_base}
+use Rattle.handlebars_scope.specs.Scopes.{Bound, Frame, Base, at_path, at_value, based, bound_base, put_at}
 use Rattle.handlebars_helpers.specs.Choice.{body_in_turns, turns_or_inverse}
-use Rattle.handlebars_helpers.specs.Turns.{Turn, item_turns, item_count, member_turns, member_count, turn_base, turn_key, turn_variables, bound_in_turn, turned}
+use Rattle.handlebars_helpers.specs.Turns.{Turn, item_turns, item_count, member_turns, member_count, turn_base, turn_key, turn_variables, with_key, bound_in_turn, turned}
 
 pub turns_or_inverse-items : (path : Option (List Text)) (vs : List Value) → (length vs == 0) ≡ false
     → body_in_turns path (item_turns (item_count (items_view vs)) 0 (items_view vs))
@@ -27,20 +28,41 @@ pub variable-based : (base : Base) (f : Frame) → (based base f).variable ≡ f
 variable-based (at_path path) f = refl
 variable-based (at_value d) f = refl
 
+pub some-now : (key : Option (Bor Text)) → true ≡ is_some key → true ≡ is_some (option_map (λ k. k.now) key)
+some-now None is = absurd (true≢false is)
+some-now (Some k) is = refl
+
+put-key : (key : Option Text) (index : Data) (variables : Text → Option Data) → true ≡ is_some key
+    → put_at (codes "key") (with_or key string index) variables ≡ with_key key variables
+put-key None index variables is = absurd (true≢false is)
+put-key (Some k) index variables is = refl
+
+-- the variables of a turn, set in two steps: those of every turn, and its key
+pub turn_variables-keyed : (t : Turn) (f g h : Frame) → true ≡ is_some t.key
+    → g ≡ record f {
+      variable = put_at (codes "index") (number (unsigned t.index)) (put_at (codes "last") (boolean t.last)
+          (put_at (codes "first") (boolean (t.index == 0)) f.variable));
+    }
+    → h ≡ record g { variable = put_at (codes "key") (turn_key t) g.variable }
+    → h ≡ record f { variable = turn_variables t f.variable }
+turn_variables-keyed t f g h keyed all_turns with_own =
+    let every : Text → Option Data = put_at (codes "index") (number (unsigned t.index)) (put_at (codes "last") (boolean t.last)
+    (put_at (codes "first") (boolean (t.index == 0)) f.variable)) in
+    let behind : Frame → Frame = λ x. record x { variable = put_at (codes "key") (turn_key t) x.variable } in
+    with_own ∙ ap behind all_turns
+    ∙ ap (λ (v : Text → Option Data). record f { variable = v }) (put-key t.key (number (unsigned t.index)) every keyed)
+
 -- a frame set up part by part: its base, its names, its variables
 pub turned-is : (path : Option (List Text)) (binding : Binding) (t : Turn) (f g h k : Frame)
-    → (bound : Text → Option Bound)
     → g ≡ based (turn_base path t) f
-    → bound ≡ bound_in_turn binding (bound_base (turn_base path t)) (turn_key t)
-    → h ≡ record g { bound = bound }
+    → h ≡ record g { bound = bound_in_turn binding (bound_base (turn_base path t)) (turn_key t) }
     → k ≡ record h { variable = turn_variables t h.variable }
     → k ≡ turned path binding t f
-turned-is path binding t f g h k bound at_base is_bound with_bound with_variables =
+turned-is path binding t f g h k at_base with_bound with_variables =
     let base = turn_base path t in
     let names : Text → Option Bound = bound_in_turn binding (bound_base base) (turn_key t) in
     let own : Frame → Frame = λ x. record x { variable = turn_variables t x.variable } in
-    let over : Frame → (Text → Option Bound) → Frame = λ x b. own (record x { bound = b }) in
     let last : (Text → Option Data) → Frame =
     λ v. record (based base f) { bound = names; variable = turn_variables t v } in
-    with_variables ∙ ap own with_bound ∙ ap (over g) is_bound ∙ ap (λ x. over x names) at_base
+    with_variables ∙ ap own with_bound ∙ ap (λ x. own (record x { bound = names })) at_base
     ∙ ap last (variable-based base f)

@@ -47,7 +47,7 @@ pub fn set_up_turn(
         (binding_of (option_map (λ b. binding_view b.now) binding.entry)) (turn_view turn.entry) (frame_of block.old)) }
 {
     set_turn_base(alloc, block, path, turn)?;
-    block.set_block_params(turn_names(alloc, binding, path, turn)?);
+    bind_turn(alloc, block, binding, path, turn)?;
     set_turn_variables(alloc, block, turn)
 }
 
@@ -92,7 +92,7 @@ fn set_turn_base(
         ≡ based (turn_base (path_view path.entry) (turn_view turn.entry)) (frame_of block.old)) }
 {
     match path {
-        Some(path) => set_longer_path(block.base_path_mut(), path, turn_name(alloc, turn)?)?,
+        Some(path) => set_turn_path(alloc, block.base_path_mut(), path, turn)?,
         None => block.set_base_value(turn.member.clone()?),
     }
     Ok(())
@@ -111,27 +111,59 @@ fn set_path(to: &mut Vec<String>, path: &Vec<String>) -> Result<(), AllocError>
     Ok(())
 }
 
-// Makes this path, and a name behind it, of another one.
-fn set_longer_path(to: &mut Vec<String>, path: &Vec<String>, name: String) -> Result<(), AllocError>
+// Makes this path, and the turn's name behind it, of another one. In every turn but the first both stand
+// there, with the name of the turn before, whose memory is taken again.
+fn set_turn_path(
+    alloc: Global,
+    to: &mut Vec<String>,
+    path: &Vec<String>,
+    turn: Turn,
+) -> Result<(), AllocError>
     ensures { OnOk result (map string_bytes to.new.items
-        ≡ map string_bytes path.now.items ++ (string_bytes name ∷ [])) }
+        ≡ map string_bytes path.now.items ++ (turn_name (turn_view turn.entry) ∷ [])) }
 {
+    let mut name = match to.pop() {
+        Some(name) => name,
+        None => String::new(alloc),
+    };
+    write_turn_name(&mut name, turn)?;
     set_path(to, path)?;
     to.push(name)?;
     Ok(())
 }
 
-// The name that leads to the member.
-fn turn_name(alloc: Global, turn: Turn) -> Result<String, AllocError>
-    ensures { IfOk result (λ name. string_bytes name ≡ turn_name (turn_view turn.entry)) }
+// Makes the name that leads to the member of another text.
+fn write_turn_name(name: &mut String, turn: Turn) -> Result<(), AllocError>
+    ensures { OnOk result (string_bytes name.new ≡ turn_name (turn_view turn.entry)) }
 {
+    name.clear();
     match turn.key {
-        Some(key) => String::from_str(alloc, key),
-        None => String::from_str(alloc, Buffer::new().format(turn.index)),
+        Some(key) => name.push_str(key),
+        None => name.push_str(Buffer::new().format(turn.index)),
     }
 }
 
 // ---- names
+
+// Binds the names of a turn, and no other.
+fn bind_turn(
+    alloc: Global,
+    block: &mut BlockContext,
+    binding: Option<&BlockParam>,
+    path: Option<&Vec<String>>,
+    turn: Turn,
+) -> Result<(), AllocError>
+    ensures { OnOk result (frame_of block.new ≡ record (frame_of block.old) {
+      bound = bound_in_turn (binding_of (option_map (λ b. binding_view b.now) binding.entry))
+          (bound_base (turn_base (path_view path.entry) (turn_view turn.entry))) (turn_key (turn_view turn.entry));
+    }) }
+{
+    match binding {
+        Some(_) => block.set_block_params(turn_names(alloc, binding, path, turn)?),
+        None => block.unbind_names(),
+    }
+    Ok(())
+}
 
 // The names that are bound in a turn.
 fn turn_names(
@@ -229,9 +261,7 @@ fn set_turn_variables(alloc: Global, block: &mut BlockContext, turn: Turn) -> Re
       variable = turn_variables (turn_view turn.entry) (frame_of block.old).variable;
     }) }
 {
-    block.set_local_var("first", Json::Bool(turn.index == 0))?;
-    block.set_local_var("last", Json::Bool(turn.last))?;
-    block.set_local_var("index", Json::Number(Number::from(turn.index)))?;
+    block.set_turn(turn.index, turn.last);
     if turn.key.is_some() {
         set_key(alloc, block, turn)?;
     }
@@ -244,5 +274,6 @@ fn set_key(alloc: Global, block: &mut BlockContext, turn: Turn) -> Result<(), Al
       variable = put_at (codes "key") (turn_key (turn_view turn.entry)) (frame_of block.old).variable;
     }) }
 {
-    block.set_local_var("key", key_value(alloc, turn)?)
+    block.set_key(key_value(alloc, turn)?);
+    Ok(())
 }

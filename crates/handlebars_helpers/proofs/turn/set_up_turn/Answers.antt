@@ -1,4 +1,4 @@
-use Rattle.handlebars_scope.specs.ScopeView.{bounds_of, frame_of}
+use Rattle.handlebars_scope.specs.ScopeView.{frame_of}
 use Rattle.handlebars_template.specs.TreeView.{binding_of, binding_view}
 use Rattle.handlebars_helpers.specs.View.{path_view, turn_view}
 use Rattle.std.proofs.Common.{option_map}
@@ -10,7 +10,7 @@ pub returns : goal.returns
 returns c = on_ok_weaker c.set_turn_variables.result
     (turned-is (path_view c.args.path) (binding_of (option_map (λ b. binding_view b.now) c.args.binding))
     (turn_view c.args.turn)
-    (frame_of c.args.block.now) (frame_of c.set_turn_base.new.block) (frame_of c.set_block_params.new.self)
-    (frame_of c.set_turn_variables.new.block) (bounds_of c.in_ok-turn_names.field-0)
-    c.in_ok-set_turn_base.ensures c.in_ok-turn_names.ensures c.set_block_params.ensures)
+    (frame_of c.args.block.now) (frame_of c.set_turn_base.new.block) (frame_of c.bind_turn.new.block)
+    (frame_of c.set_turn_variables.new.block)
+    c.in_ok-set_turn_base.ensures c.in_ok-bind_turn.ensures)
     c.set_turn_variables.ensures
