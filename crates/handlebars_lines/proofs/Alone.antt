@@ -29,12 +29,15 @@ stops-mark (x ∷ t) e f = no_marks (is_symbol x) (x == dot) (x == slash) (x == 
 pub name_path : (s : List ℕ) → IsIdentifier s → IsPath s (meaning s (in_parts false (plain s) []))
 name_path s id = record { shape = in_parts false (plain s) []; fits = (id, tt); spells = sym (append-nil s); gives = refl }
 
+pub symbols_name : (t : List ℕ) → 0 < length (symbols_of t) → IsIdentifier (symbols_of t)
+symbols_name t some = ((λ e. absurd (omega (arith, some, ap length e))), prefix_pass is_symbol t)
+
 -- a name behind which no path goes on
 pub name_slice : (t : List ℕ) → 0 < length (symbols_of t) → starts is_path_mark (behind_symbols t) ≡ false → slice_at t ≡ Some (symbols_of t, behind_symbols t)
 name_slice t some stop =
     let s = symbols_of t in
     let r = behind_symbols t in
-    let is = name_path s ((λ e. absurd (omega (arith, some, ap length e))), prefix_pass is_symbol t) in
+    let is = name_path s (symbols_name t some) in
     subst (λ (z : List ℕ). slice_at z ≡ Some (s, r)) (take-append-drop (prefix_len is_symbol t) t)
     (slice_at-stops s r (meaning s (in_parts false (plain s) [])) is (stops-mark r (behind_symbols-stops t) stop))
 

@@ -13,7 +13,7 @@ mod close_name;
 mod marks;
 mod step;
 
-pub use alone::path_alone;
+pub use alone::{LonePath, path_alone};
 pub use close_name::close_name_at;
 pub use step::{Enclosure, Event, LineStand, NameMode, Stand, Step, take_step};
 

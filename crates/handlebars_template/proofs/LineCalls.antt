@@ -1,5 +1,5 @@
 -- The loop that builds a line's call: what it keeps, and what it comes to.
-use Rattle.std.proofs.Common.{◌≡◌, ◌∙◌, ℕ, Bool, true, false, List, [], ◌∷◌, Option, Some, None, length, refl, sym, ap, subst, arith}
+use Rattle.std.proofs.Common.{◌≡◌, ◌∙◌, Bool, true, false, List, [], ◌∷◌, Option, Some, None, length, refl, sym, ap, subst, arith}
 use Rattle.std.specs.List.{list_all, AllByRecursion}
 use Rattle.std.proofs.lemmas.Bool.{and_parts}
 use Rattle.std.proofs.lemmas.List.{append-nil}
@@ -18,8 +18,8 @@ use Rattle.handlebars_lines.specs.Line.{NameMode, value_name, Enclosure, Line, I
 use Rattle.handlebars_lines.specs.Parameter.{path_term, no_terms}
 use Rattle.handlebars_lines.specs.Alone.{IsAlone}
 use Rattle.handlebars_lines.proofs.Alone.{name_path, alone_line}
-use Rattle.handlebars_lines.specs.LineReading.{Event, path_event, at_name, LineStand, line_stand, line_step, OpenLines, first_lines, added_in, build, build_all}
-use Rattle.handlebars_lines.proofs.Endings.{Through, through-starts, through-goes, runs-goes, runs-ends, runs-stuck}
+use Rattle.handlebars_lines.specs.LineReading.{Event, at_name, LineStand, line_stand, line_step, OpenLines, first_lines, build, build_all}
+use Rattle.handlebars_lines.proofs.Endings.{Through, through-goes, runs-goes, runs-ends, runs-stuck}
 use Rattle.handlebars_lines.proofs.Lines.{line_found, one_line}
 use Rattle.handlebars_template.specs.LineBuildingView.{OpenCalls, AreCallsOf, IsTaken, whole_line, IsPathAlone}
 

@@ -1,7 +1,9 @@
 //! Lines with a path alone, as most are: they need no steps.
 
-ghost use Rattle.std.specs.Prelude.{◌≡◌, IfSome};
+ghost use Rattle.std.specs.Prelude.{◌≡◌, true, IfSome, Some};
 ghost use Rattle.std.specs.Option.{option_map};
+ghost use Rattle.handlebars_base.specs.Bytes.{Text};
+ghost use Rattle.handlebars_base.specs.Path.{IsIdentifier};
 ghost use Rattle.handlebars_base.specs.PathReading.{slice_at};
 ghost use Rattle.handlebars_base.specs.PathView.{slice_of};
 ghost use Rattle.handlebars_base.specs.Texts.{starts};
@@ -29,27 +31,66 @@ fn starts_path_mark(text: &str) -> bool
     }
 }
 
-/// What `split_path` finds, which isn't asked where a name alone is the path.
-pub fn path_slice(text: &str) -> Option<PathSlice<'_>>
-    ensures { option_map slice_of result ≡ slice_at text.now }
+/// A path that is alone in a line, whether it is surely a name alone, and what follows it.
+#[derive(Clone, Copy)]
+pub struct LonePath<'a> {
+    pub raw: &'a str,
+    pub is_name: bool,
+    pub rest: &'a str,
+}
+
+/// A name that is the path in front. Where it answers none, that says nothing.
+fn name_front(text: &str) -> Option<PathSlice<'_>>
+    ensures slice { IfSome result (λ slice. slice_at text.now ≡ Some (slice_of slice)) }
+    ensures name { IfSome result (λ slice. IsIdentifier slice.raw.now) }
 {
     let (raw, rest) = symbols(text);
     if raw.is_empty() {
-        return split_path(text);
+        return None;
     }
     if starts_path_mark(rest) {
-        return split_path(text);
+        return None;
     }
     Some(PathSlice { raw, rest })
 }
 
-/// The path that is alone in the line of a value in front. Where it answers none, that says nothing.
-pub fn path_alone(around: Enclosure, text: &str) -> Option<PathSlice<'_>>
-    ensures { IfSome result (λ slice. IsAlone (enclosure_of around) text.now slice.raw.now slice.rest.now) }
+/// What `split_path` finds, which isn't asked where a name alone is the path.
+pub fn path_slice(text: &str) -> Option<PathSlice<'_>>
+    ensures { option_map slice_of result ≡ slice_at text.now }
 {
-    let slice = path_slice(text)?;
+    match name_front(text) {
+        Some(slice) => Some(slice),
+        None => split_path(text),
+    }
+}
+
+/// The path that is alone in the line of a value in front. Where it answers none, that says nothing.
+pub fn path_alone(around: Enclosure, text: &str) -> Option<LonePath<'_>>
+    ensures alone { IfSome result (λ path. IsAlone (enclosure_of around) text.now path.raw.now path.rest.now) }
+    ensures name { IfSome result (λ path. path.is_name ≡ true → IsIdentifier path.raw.now) }
+{
+    match name_front(text) {
+        Some(slice) => lone(around, slice, true),
+        None => match split_path(text) {
+            Some(slice) => lone(around, slice, false),
+            None => None,
+        },
+    }
+}
+
+/// A path, where the line ends behind it.
+fn lone<'a>(around: Enclosure, slice: PathSlice<'a>, is_name: bool) -> Option<LonePath<'a>>
+    ensures alone { IfSome result (λ path. (text : Text) → slice_at text ≡ Some (slice_of slice.entry)
+        → IsAlone (enclosure_of around) text path.raw.now path.rest.now) }
+    ensures name { IfSome result (λ path. IsIdentifier slice.entry.raw.now → IsIdentifier path.raw.now) }
+    ensures kept { IfSome result (λ path. path.is_name ≡ is_name) }
+{
     if is_end(around, slice.rest) {
-        Some(slice)
+        Some(LonePath {
+            raw: slice.raw,
+            is_name,
+            rest: slice.rest,
+        })
     } else {
         None
     }

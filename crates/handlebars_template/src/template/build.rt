@@ -214,7 +214,15 @@ fn name_path(alloc: Global, name: &str) -> Result<Path, AllocError>
 pub fn path_of(alloc: Global, raw: &str) -> Result<Option<Path>, AllocError>
     ensures { IfOk result (λ read. option_map reference_of read ≡ path_of raw.now) }
 {
-    if is_name(raw) {
+    known_path(alloc, raw, is_name(raw))
+}
+
+/// The same, where it is known whether it is surely symbols alone.
+pub fn known_path(alloc: Global, raw: &str, is_name: bool) -> Result<Option<Path>, AllocError>
+    requires { is_name ≡ true → IsIdentifier raw.now }
+    ensures { IfOk result (λ read. option_map reference_of read ≡ path_of raw.now) }
+{
+    if is_name {
         return Ok(Some(name_path(alloc, raw)?));
     }
     match read_path(alloc, raw)? {

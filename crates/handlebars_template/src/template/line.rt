@@ -10,7 +10,7 @@ ghost use Rattle.handlebars_template.specs.Tree.{expression};
 ghost use Rattle.handlebars_template.specs.TreeView.{call_view, arguments_view, subexpression_view};
 
 use crate::template::arguments::Arguments;
-use crate::template::build::{first_calls, path_of};
+use crate::template::build::{first_calls, known_path};
 use crate::template::tree::{HelperTemplate, Parameter, Subexpression};
 use handlebars_base::json::path::Path;
 use handlebars_lines::line::{Enclosure, LineStand, NameMode, Step, path_alone, take_step};
@@ -98,7 +98,7 @@ fn lone_path(
 {
     match mode {
         NameMode::Value => match path_alone(around, text) {
-            Some(slice) => path_of(alloc, slice.raw),
+            Some(path) => known_path(alloc, path.raw, path.is_name),
             None => Ok(None),
         },
         NameMode::Identifier => Ok(None),

@@ -112,16 +112,6 @@ fn one_more(depth: usize) -> usize
     }
 }
 
-// What a literal that is refused brings late.
-fn literal_fault(alloc: Global, refused: Option<&str>) -> Result<Option<Late>, AllocError>
-    ensures { IfOk result (λ late. late_view late ≡ literal_fault (option_map (λ t. t.now) refused.entry)) }
-{
-    match refused {
-        Some(raw) => Ok(Some(Late::NoValue(String::from_str(alloc, raw)?))),
-        None => Ok(None),
-    }
-}
-
 // Whether a close by this name closes a block that this text closes.
 fn may_close(opened: &str, name: &str) -> bool
     ensures { result ≡ may_close names_and_literals opened.now name.now }
@@ -332,6 +322,24 @@ impl Nesting {
         }
     }
 
+    // What a literal that is refused brings late, if there is one.
+    fn keep_literal(&mut self, alloc: Global, refused: Option<&str>) -> Result<(), AllocError>
+        ensures late { OnOk result (late_of self.new
+            ≡ option_or (late_of self.old) (literal_fault (option_map (λ t. t.now) refused.entry))) }
+        ensures depth { OnOk result (self.new.depth ≡ self.old.depth) }
+        ensures open_blocks { OnOk result (open_blocks self.new ≡ open_blocks self.old) }
+        ensures elements { OnOk result (placed_view self.new.elements ≡ placed_view self.old.elements) }
+    {
+        match refused {
+            Some(raw) => {
+                let raw = String::from_str(alloc, raw)?;
+                self.keep(Some(Late::NoValue(raw)));
+                Ok(())
+            }
+            None => Ok(()),
+        }
+    }
+
     /// An element with its place stands next.
     pub fn add(
         &mut self,
@@ -345,8 +353,7 @@ impl Nesting {
             self.new) }
     {
         self.elements.push(alloc, place, element)?;
-        self.keep(literal_fault(alloc, refused)?);
-        Ok(())
+        self.keep_literal(alloc, refused)
     }
 
     /// A block opens next.
@@ -366,7 +373,7 @@ impl Nesting {
         self.stack
             .push(OpenBlock::new(alloc, place, opening, around, outside))?;
         self.depth = one_more(around);
-        self.keep(literal_fault(alloc, refused)?);
+        self.keep_literal(alloc, refused)?;
         Ok(())
     }
 
@@ -402,7 +409,7 @@ impl Nesting {
         block.enter(elements, Stage::Chained(opening))?;
         self.stack.push(block)?;
         self.depth = one_more(self.depth);
-        self.keep(literal_fault(alloc, refused)?);
+        self.keep_literal(alloc, refused)?;
         Ok(())
     }
 

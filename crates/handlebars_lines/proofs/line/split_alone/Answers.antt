@@ -5,4 +5,4 @@ use Rattle.handlebars_lines.proofs.line.split_alone.Goals as goal
 pub returns-in-Some : goal.returns-in-Some
 returns-in-Some c =
     rw c.in-Value.is
-    (alone_has_line (enclosure_of c.args.around) c.args.text.now c.in-Some.slice.raw.now c.in-Some.slice.rest.now (rw c.in-Some.is at c.path_alone.ensures))
+    (alone_has_line (enclosure_of c.args.around) c.args.text.now c.in-Some.slice.raw.now c.in-Some.slice.rest.now (rw c.in-Some.is at c.path_alone.ensures.alone))

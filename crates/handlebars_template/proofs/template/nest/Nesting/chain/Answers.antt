@@ -11,7 +11,7 @@ use Rattle.handlebars_template.proofs.template.nest.Nesting.chain.Goals as goal
 pub returns : goal.returns
 returns c n may =
     let old = c.args.self.now in
-    let new = c.keep.new.self in
+    let new = c.keep_literal.new.self in
     let behind = stack_view c.pop.new.self.items in
     let front : open_blocks old ≡ open_block_view c.in-Some.block ∷ behind = search (rules, stack_view_push) in
     let elements : placed_view c.replace-elements.result ≡ placed_view old.elements = search rules in
@@ -19,10 +19,10 @@ returns c n may =
     c.in_ok-enter.ensures
     ∙ ap (λ (z : List Placed). next_stage (stage_view c.in-Some.block.stage) (open_block_view c.in-Some.block) z (in_branch (opening_view c.args.opening))) elements in
     let more : old.depth < max_nesting → c.one_more-self.result ≡ suc old.depth = c.one_more-self.ensures in
-    let stack : open_blocks new ≡ open_block_view c.enter.new.self ∷ behind = c.keep.ensures.open_blocks ∙ search (rules, stack_view_push) in
-    let none : placed_view new.elements ≡ [] = c.keep.ensures.elements ∙ search rules in
+    let stack : open_blocks new ≡ open_block_view c.enter.new.self ∷ behind = c.in_ok-keep_literal.ensures.open_blocks ∙ search (rules, stack_view_push) in
+    let none : placed_view new.elements ≡ [] = c.in_ok-keep_literal.ensures.elements ∙ search rules in
     record {
-      goes_on = chains-goes _ _ n _ old.depth new.depth (open_block_view c.in-Some.block) (open_block_view c.enter.new.self) (open_blocks old) behind (placed_view old.elements) front next (rw (c.keep.ensures.depth) more) may
+      goes_on = chains-goes _ _ n _ old.depth new.depth (open_block_view c.in-Some.block) (open_block_view c.enter.new.self) (open_blocks old) behind (placed_view old.elements) front next (rw (c.in_ok-keep_literal.ensures.depth) more) may
           ∙ ap (λ (z : List BlockSoFar). goes new.depth z []) (sym stack) ∙ ap (goes new.depth (open_blocks new)) (sym none);
-      late = c.keep.ensures.late ∙ ap (option_or (late_of old)) (c.in_ok-literal_fault.ensures ∙ sym (option_or-none _));
+      late = c.in_ok-keep_literal.ensures.late ∙ ap (option_or (late_of old)) (sym (option_or-none _));
     }

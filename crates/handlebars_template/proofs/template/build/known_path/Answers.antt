@@ -3,11 +3,11 @@ use Rattle.handlebars_base.specs.PathView.{reference_of}
 use Rattle.handlebars_base.proofs.PathShapes.{path_known}
 use Rattle.handlebars_template.proofs.LinesBuilt.{path_of-none}
 use Rattle.handlebars_template.proofs.LineCalls.{path_of-name}
-use Rattle.handlebars_template.proofs.template.build.path_of.Goals as goal
+use Rattle.handlebars_template.proofs.template.build.known_path.Goals as goal
 
 pub returns-then-is_name : goal.returns-then-is_name
 returns-then-is_name c =
-    ap Some c.in_ok-name_path.ensures ∙ path_of-name c.args.raw.now (c.is_name.ensures c.if-is_name.true)
+    ap Some c.in_ok-name_path.ensures ∙ path_of-name c.args.raw.now (c.requires c.if-is_name.true)
 
 pub returns-in-Some : goal.returns-in-Some
 returns-in-Some c =
