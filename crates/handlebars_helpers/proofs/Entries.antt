@@ -5,10 +5,12 @@ use Rattle.std.proofs.lemmas.List.{length-map, take_all}
 use Rattle.std.proofs.lemmas.Map.Made.{IsDistinct-from_count, update_all_none}
 use Rattle.std.proofs.lemmas.Map.Text.{btree_map_updates_text}
 use Rattle.std.specs.BTreeMap.{BTreeMap, UpdatesBy, get_by_text}
+use Rattle.std.specs.Cmp.Lexicographic.{slice_cmp}
+use Rattle.std.specs.Ordering.{nat_cmp}
 use Rattle.std.specs.Map.{keys_of, update, update_all}
 use Rattle.std.specs.String.{string_cmp}
 use Rattle.handlebars_base.specs.Bytes.{Text}
-use Rattle.handlebars_base.proofs.OptionBinds.{option_map-cond}
+use Rattle.handlebars_base.proofs.OptionBinds.{option_map-cond, option_map-cond_none}
 use Rattle.handlebars_helpers.specs.Choice.{Kind, built_ins, built_in}
 use Rattle.handlebars_helpers.specs.View.{kind_at, kind_of_entry}
 use Rattle.handlebars_helpers.specs.declared.built_in.HelperEntry.{HelperEntry}
@@ -20,6 +22,13 @@ kind_at-insert m n key entry name updates is_name other =
     ap (option_map kind_of_entry) (btree_map_updates_text (string_bytes key) m n (Some entry) updates other)
     ∙ option_map-cond kind_of_entry (bytes_eq (string_bytes key) other) entry (get_by_text m other)
     ∙ ap (λ z. cond (bytes_eq z other) (Some (kind_of_entry entry)) (kind_at other m)) is_name
+
+pub kind_at-removed : (m n : BTreeMap (String Global) HelperEntry) (name : Text)
+    → UpdatesBy string_cmp (λ k. slice_cmp nat_cmp name (string_bytes k)) m n None
+    → (other : Text) → kind_at other n ≡ cond (bytes_eq name other) None (kind_at other m)
+kind_at-removed m n name updates other =
+    ap (option_map kind_of_entry) (btree_map_updates_text name m n None updates other)
+    ∙ option_map-cond_none kind_of_entry (bytes_eq name other) (get_by_text m other)
 
 -- once every row is inserted: no two names are the same
 pub update_all-built_ins : {A : Type 0} (row : A → Text × Kind) (xs : List A) (i : ℕ) (f : Text → Option Kind)

@@ -4,3 +4,4 @@ mod Names
 mod Turns
 mod Sizes
 mod Values
+mod Marked

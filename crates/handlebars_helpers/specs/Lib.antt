@@ -6,3 +6,5 @@ pub mod Boolean
 pub mod LogLine
 pub mod Choice
 pub mod View
+pub mod Marks
+pub mod HelpersView

@@ -6,6 +6,7 @@ mod boolean;
 pub mod built_in;
 pub mod choice;
 pub mod each_turns;
+pub mod helpers;
 pub mod log_line;
 mod params;
 pub mod turn;
