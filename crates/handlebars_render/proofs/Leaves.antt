@@ -6,7 +6,7 @@ use Rattle.handlebars_base.specs.Answers.{Answer, IsRefusal, gives, refuses, ref
 use Rattle.handlebars_base.specs.Bytes.{Text}
 use Rattle.handlebars_base.specs.Reasons.{Refusal, helper_not_found, missing_variable, out_of_memory}
 use Rattle.handlebars_base.specs.RenderRefusals.{plain_refusal, reason_in, refusal_of}
-use Rattle.handlebars_base.specs.Scoped.{Found, missing}
+use Rattle.handlebars_base.specs.Scoped.{missing}
 use Rattle.handlebars_base.specs.declared.error.render_error.RenderError.{RenderError}
 use Rattle.handlebars_template.specs.Tree.{Param, as_name, Call, call_name, call_args, is_value}
 use Rattle.handlebars_scope.specs.LineView.{line_of}
@@ -17,11 +17,11 @@ use Rattle.handlebars_helpers.specs.Choice.{Kind}
 use Rattle.handlebars_meaning.specs.Asks.{is_refused}
 use Rattle.handlebars_meaning.specs.CarryOut.{helper_call}
 use Rattle.handlebars_meaning.specs.Means.{render_chosen, render_helped, render_call, render_hook, render_found, render_lone_as, render_lone, render_expression}
-use Rattle.handlebars_meaning.specs.Questions.{value_of, view_of, helper_of, called_as, hook_for, helper_or_refusal, hook_or_refusal}
-use Rattle.handlebars_meaning.specs.Runs.{Runs, Refused, refused, Outcome}
+use Rattle.handlebars_meaning.specs.Questions.{value_of, view_of, helper_of, called_as, hook_for, helper_or_refusal}
+use Rattle.handlebars_meaning.specs.Runs.{Runs, Refused}
 use Rattle.handlebars_meaning.specs.Sites.{Site}
 use Rattle.handlebars_meaning.specs.State.{Setting, State, hook, helper_for}
-use Rattle.handlebars_meaning.specs.Steps.{Steps, Refuse, Prog, ask, ◌>>=◌}
+use Rattle.handlebars_meaning.specs.Steps.{Steps, Prog, ask, ◌>>=◌}
 use Rattle.handlebars_meaning.specs.Values.{HasName, HasValue, HasView}
 use Rattle.handlebars_render.specs.Boxed.{answer_of, error_of}
 use Rattle.handlebars_render.specs.declared.boxed.BoxedError.{BoxedError}

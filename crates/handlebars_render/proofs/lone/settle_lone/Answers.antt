@@ -1,7 +1,7 @@
 use Rattle.std.proofs.Common.{ap, false, ◌∙◌, refl, sym}
 use Rattle.handlebars_base.specs.Scoped.{found_of}
 use Rattle.handlebars_template.specs.Tree.{call_name, name}
-use Rattle.handlebars_template.specs.TreeView.{call_view, param_view, subexpression_view}
+use Rattle.handlebars_template.specs.TreeView.{call_view, param_view}
 use Rattle.handlebars_template.proofs.Levels.{call_name-view, param_view-Literal, param_view-Name, param_view-Path, param_view-Subexpression}
 use Rattle.handlebars_render.specs.Boxed.{answer_of, error_of}
 use Rattle.handlebars_render.proofs.Carry.{carries_on-handed}

@@ -4,11 +4,9 @@ use Rattle.serde_json.specs.View.{view}
 use Rattle.handlebars_base.specs.PathView.{reference_of}
 use Rattle.handlebars_base.specs.Reasons.{invalid_json_index}
 use Rattle.handlebars_base.specs.RenderRefusals.{plain_refusal}
-use Rattle.handlebars_base.specs.Scoped.{missing}
 use Rattle.handlebars_template.specs.Tree.{call_name}
 use Rattle.handlebars_template.specs.TreeView.{call_view}
 use Rattle.handlebars_helpers.specs.View.{kind_of}
-use Rattle.handlebars_meaning.specs.Means.{render_found, render_lone, render_lone_as}
 use Rattle.handlebars_render.specs.Boxed.{answer_of, error_of}
 use Rattle.handlebars_render.specs.View.{called_view, name_alone, setting_in, state_with}
 use Rattle.handlebars_render.proofs.Calls.{value_err, value_lacks}

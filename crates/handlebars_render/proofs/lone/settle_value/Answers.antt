@@ -1,6 +1,5 @@
 use Rattle.std.proofs.Common.{ap, false, ◌∙◌, refl, sym}
 use Rattle.handlebars_base.specs.Scoped.{found_of}
-use Rattle.handlebars_template.specs.Tree.{call_name}
 use Rattle.handlebars_template.specs.TreeView.{call_view}
 use Rattle.handlebars_helpers.specs.View.{kind_of}
 use Rattle.handlebars_meaning.specs.Values.{called_by}
