@@ -1,5 +1,5 @@
 -- Programs that have a value, and what steps ask.
-use Rattle.std.proofs.Common.{◌≡◌, []}
+use Rattle.std.proofs.Common.{[]}
 use Rattle.handlebars_base.specs.Answers.{gives, refuses}
 use Rattle.handlebars_base.specs.Reasons.{Refusal}
 use Rattle.handlebars_meaning.specs.State.{Setting, State}

@@ -1,5 +1,5 @@
 -- What calls of helpers carry out, and lone expressions.
-use Rattle.std.proofs.Common.{◌≡◌, ◌≢◌, Bool, true, false, [], Option, None, Some, Ok, Err, refl, sym, ap, ◌∙◌, subst}
+use Rattle.std.proofs.Common.{◌≡◌, ◌≢◌, Bool, [], Option, None, Some, Ok, Err, refl, sym, ap, ◌∙◌, subst}
 use Rattle.std.specs.declared.io.Error.{Error}
 use Rattle.serde_json.specs.Data.{Data}
 use Rattle.handlebars_base.specs.Answers.{gives, refuses, IsRefusal}
@@ -17,10 +17,9 @@ use Rattle.handlebars_meaning.specs.State.{Setting, State}
 use Rattle.handlebars_meaning.specs.Steps.{Prog, ask, refuse_for, ◌>>=◌}
 use Rattle.handlebars_meaning.specs.Writing.{shown_if_any, value_origin, write_text, write_value}
 use Rattle.handlebars_meaning.specs.CarryOut.{render_branch, carry_out}
-use Rattle.handlebars_meaning.specs.Asks.{goes_on, is_refused}
 use Rattle.handlebars_meaning.specs.Questions.{value_of, view_of, choice_of}
 use Rattle.handlebars_meaning.specs.Values.{HasValue, HasView}
-use Rattle.handlebars_meaning.specs.Means.{line_in, render_chosen, render_decorator, render_partial, render_found, render_lone_as}
+use Rattle.handlebars_meaning.specs.Means.{line_in, render_chosen, render_found, render_lone_as}
 use Rattle.handlebars_meaning.specs.Runs.{Runs, Refused, refused}
 use Rattle.handlebars_render.specs.View.{Moment, Answered, CarriesOn, GivesValue, Puts, RefusesValue}
 use Rattle.handlebars_render.proofs.Carry.{at, carries_on-get, carries_on-puts, carries_on-value, carries_on-no_value, carries_on-done}

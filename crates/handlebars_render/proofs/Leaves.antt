@@ -1,12 +1,12 @@
 -- What is left of a program once names and values are known.
 use Rattle.std.proofs.Common.{◌≡◌, ◌≢◌, Bool, true, false, [], Option, None, Some, Result, Ok, Err, sym, ap, ◌∙◌, subst}
-use Rattle.std.specs.Prelude.{if◌then◌else◌}
+use Rattle.std.specs.Prelude.{IsErrAnd, if◌then◌else◌}
 use Rattle.std.specs.declared.io.Error.{Error}
 use Rattle.handlebars_base.specs.Answers.{Answer, IsRefusal, gives, refuses, refuses_for}
 use Rattle.handlebars_base.specs.Bytes.{Text}
 use Rattle.handlebars_base.specs.Reasons.{Refusal, helper_not_found, missing_variable, out_of_memory}
 use Rattle.handlebars_base.specs.RenderRefusals.{plain_refusal, reason_in, refusal_of}
-use Rattle.handlebars_base.specs.Scoped.{Found, missing}
+use Rattle.handlebars_base.specs.Scoped.{missing}
 use Rattle.handlebars_base.specs.declared.error.render_error.RenderError.{RenderError}
 use Rattle.handlebars_template.specs.Tree.{Param, as_name, Call, call_name, call_args, is_value}
 use Rattle.handlebars_scope.specs.LineView.{line_of}
@@ -17,16 +17,19 @@ use Rattle.handlebars_helpers.specs.Choice.{Kind}
 use Rattle.handlebars_meaning.specs.Asks.{is_refused}
 use Rattle.handlebars_meaning.specs.CarryOut.{helper_call}
 use Rattle.handlebars_meaning.specs.Means.{render_chosen, render_helped, render_call, render_hook, render_found, render_lone_as, render_lone, render_expression}
-use Rattle.handlebars_meaning.specs.Questions.{value_of, view_of, helper_of, called_as, hook_for, helper_or_refusal, hook_or_refusal}
-use Rattle.handlebars_meaning.specs.Runs.{Runs, Refused, refused, Outcome}
+use Rattle.handlebars_meaning.specs.Questions.{value_of, view_of, helper_of, called_as, hook_for, helper_or_refusal}
+use Rattle.handlebars_meaning.specs.Runs.{Runs, Refused}
 use Rattle.handlebars_meaning.specs.Sites.{Site}
 use Rattle.handlebars_meaning.specs.State.{Setting, State, hook, helper_for}
-use Rattle.handlebars_meaning.specs.Steps.{Steps, Refuse, Prog, ask, ◌>>=◌}
+use Rattle.handlebars_meaning.specs.Steps.{Steps, Prog, ask, ◌>>=◌}
 use Rattle.handlebars_meaning.specs.Values.{HasName, HasValue, HasView}
-use Rattle.handlebars_render.specs.Next.{ComesTo, Leaves, Settles}
+use Rattle.handlebars_render.specs.Boxed.{answer_of, error_of}
+use Rattle.handlebars_render.specs.declared.boxed.BoxedError.{BoxedError}
+use Rattle.handlebars_render.specs.Next.{ComesTo, IsCall, Leaves, Settles, Takes, render_next}
 use Rattle.handlebars_render.specs.View.{Moment, Answered, CarriesOn, CarriesOut, GivesValue, RefusesValue, goes_on, is_over, name_alone, with_line}
 use Rattle.handlebars_render.specs.declared.next.Next.{Next}
-use Rattle.handlebars_render.specs.declared.next.Next.TheVariants.{Done, Call as Calls}
+use Rattle.handlebars_render.specs.declared.next.ToCall.{ToCall}
+use Rattle.handlebars_render.specs.declared.next.Next.TheVariants.{Done, Branch, Call as Calls}
 use Rattle.handlebars_render.proofs.Asked.{gives-ask, refuses-ask, refuses-bind}
 use Rattle.handlebars_render.proofs.Carry.{at, carries-no_value}
 use Rattle.handlebars_render.proofs.LoneValues.{view-alone}
@@ -49,6 +52,15 @@ module _ (p : Setting) where
 
   leaves-trans : (m n q : Prog (Unit {0})) {s : State} → Leaves p m s n → Leaves p n s q → Leaves p m s q
   leaves-trans m n q x y k ps o r = x k ps o (y k ps o r)
+
+  takes-leaves : (site : Site) (block : Bool) (c : Call) (m n : Prog (Unit {0})) {s : State} {b : Bool}
+      → Leaves p m s n → Takes p site block c n s b → Takes p site block c m s b
+  takes-leaves site block c m n leaves a = record {
+    kind = a.kind;
+    view = a.view;
+    leaves = λ k ps o r. leaves k ps o (a.leaves k ps o r);
+    chooses = a.chooses;
+  }
 
   pub refuses-leaves : (m n : Prog (Unit {0})) {s : State} {r : Refusal} → Leaves p m s n → RefusesValue p n s r
       → RefusesValue p m s r
@@ -212,6 +224,7 @@ module _ (p : Setting) (may : Error → Type 0) where
     pub comes_to-leaves : (m n : Prog (Unit {0})) (s : State) (h new : Held) (r : Result Next RenderError)
         → Leaves p m s n → ComesTo p site block c n may (at s h) r new → ComesTo p site block c m may (at s h) r new
     comes_to-leaves m n s h new (Ok (Done line)) leaves a = leaves-carries_on m n leaves a
+    comes_to-leaves m n s h new (Ok (Branch b)) leaves a = (takes-leaves p site block c m n leaves a.0, a.1)
     comes_to-leaves m n s h new (Ok (Calls x)) leaves a = ((λ k ps o r. leaves k ps o (a.0 k ps o r)), a.1)
     comes_to-leaves m n s h new (Err e) leaves a = leaves-carries_on m n leaves a
 
@@ -222,6 +235,31 @@ module _ (p : Setting) (may : Error → Type 0) where
         subst (λ (z : Held). CarriesOn p m may (at s h) (Ok tt) (at (with_line (line_of line) s) z)) (sym same)
         (subst (λ (z : LineState). CarriesOn p m may (at s h) (Ok tt) (at (with_line z s) h)) (sym a.1)
         (carries_on-gives m a.0))
+    comes_to-settles m s h new (Ok (Branch b)) same a = (a, same)
     comes_to-settles m s h new (Ok (Calls x)) same a = (a, same)
     comes_to-settles m s h new (Err e) same a =
         subst (λ (z : Held). CarriesOn p m may (at s h) (Err e) (at s z)) (sym same) (carries_on-refuses m e a)
+
+    -- want of memory
+    pub comes_to-no_memory : (m : Prog (Unit {0})) (s : State) (h : Held) (r : Result Next BoxedError)
+        → IsErrAnd r (λ e. reason_in (error_of e) ≡ out_of_memory) → ComesTo p site block c m may (at s h) (answer_of r) h
+    comes_to-no_memory m s h (Ok x) is = absurd is
+    comes_to-no_memory m s h (Err e) is = carries_on-refuses m (error_of e) (λ other. absurd (other is))
+
+module _ (p : Setting) (site : Site) (block : Bool) (c : Call) where
+  -- a call that is in its box
+  pub settles-call : (m : Prog (Unit {0})) (x : ToCall) (r : Result Next RenderError) {s : State} → IsCall x r
+      → Leaves p m s (render_next site block c x) → Settles p site block c m s r
+  settles-call m x (Ok (Done line)) is leaves = absurd is
+  settles-call m x (Ok (Branch b)) is leaves = absurd is
+  settles-call m x (Ok (Calls y)) {s = s} is leaves =
+      subst (λ (z : ToCall). Leaves p m s (render_next site block c z)) (sym is) leaves
+  settles-call m x (Err e) is leaves = λ other. absurd (other is)
+
+  -- what leaves another program settles as that one does
+  pub settles-leaves : (m n : Prog (Unit {0})) (r : Result Next RenderError) {s : State} → Leaves p m s n
+      → Settles p site block c n s r → Settles p site block c m s r
+  settles-leaves m n (Ok (Done line)) leaves a = ((λ k ps o r. leaves k ps o (a.0 k ps o r)), a.1)
+  settles-leaves m n (Ok (Branch b)) leaves a = takes-leaves p site block c m n leaves a
+  settles-leaves m n (Ok (Calls x)) leaves a = λ k ps o r. leaves k ps o (a k ps o r)
+  settles-leaves m n (Err e) leaves a = λ other. refuses-leaves p m n leaves (a other)

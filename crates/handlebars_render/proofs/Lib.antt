@@ -1,6 +1,7 @@
 pub mod Carry
 pub mod Puts
 mod Asked
+mod Branches
 mod Elements
 mod Calls
 mod Leaves

@@ -1,16 +1,21 @@
 -- The name of a lone expression, and its value.
-use Rattle.std.proofs.Common.{◌≡◌, Option, Some, Result, Ok, Err, true, refl, sym, ap, ◌∙◌}
+use Rattle.std.proofs.Common.{◌≡◌, Option, None, Some, true, refl, sym, ap, ◌∙◌, subst}
+use Rattle.std.specs.Prelude.{unwrap_or}
 use Rattle.serde_json.specs.Data.{Data}
 use Rattle.handlebars_base.specs.Answers.{Answer, gives, refuses, answer_map}
 use Rattle.handlebars_base.specs.Bytes.{Text}
 use Rattle.handlebars_base.specs.Reasons.{Refusal}
-use Rattle.handlebars_base.specs.Scoped.{Found, present_in}
-use Rattle.handlebars_base.specs.declared.error.render_error.RenderError.{RenderError}
-use Rattle.handlebars_template.specs.Tree.{Call, call, call_name, call_args, is_value, args, no_params, param, no_pairs, pair}
-use Rattle.handlebars_meaning.specs.Asks.{Asks, goes_on, is_refused}
-use Rattle.handlebars_meaning.specs.State.{Setting, State}
-use Rattle.handlebars_meaning.specs.Values.{HasName, HasView}
-use Rattle.handlebars_render.specs.View.{name_alone, Yields, YieldsPresent}
+use Rattle.handlebars_base.specs.Scoped.{Found, missing, present_in, value}
+use Rattle.handlebars_base.specs.Path.{Reference, raw_of}
+use Rattle.handlebars_template.specs.Tree.{Call, Element, Param, as_name, call, name, literal, path, subexpression, call_name, call_args, is_value, args, no_params, param, no_pairs, pair}
+use Rattle.handlebars_scope.specs.Resolve.{resolved}
+use Rattle.handlebars_meaning.specs.Asks.{goes_on, is_refused}
+use Rattle.handlebars_meaning.specs.State.{Setting, State, data_at}
+use Rattle.handlebars_meaning.specs.Values.{HasInnerValue, HasName, HasValue, HasView, called_by}
+use Rattle.handlebars_render.specs.View.{name_alone}
+
+None≢Some : {A : Type 0} {x : A} → None ≡ Some x → ⊥
+None≢Some e = cc
 
 refuses_or : {A : Type 0} → Refusal → Answer A → Refusal
 refuses_or d (gives x) = d
@@ -44,12 +49,6 @@ refuses-seen : (a : Answer Found) (r : Refusal) → answer_map present_in a ≡ 
 refuses-seen (gives found) r e = absurd (gives≢refuses e)
 refuses-seen (refuses q) r e = ap (no_value Found) (refuses-injective e)
 
--- a value with where it came from, of which only what is there is told
-pub yields-present : {T : Type 0} (seen : T → Found) (m : Asks Found) (r : Result T RenderError) → Yields m seen r
-    → YieldsPresent m (λ x. present_in (seen x)) r
-yields-present seen m (Ok x) y = (seen x, y, refl)
-yields-present seen m (Err e) y = y
-
 -- an answer of which only what is there is known
 pub gives-resolved : (a : Answer Found) (o present : Option Data) → answer_map present_in a ≡ gives o → present ≡ o
     → (found : Found) × (gives found ≡ a) × (present_in found ≡ present)
@@ -65,3 +64,62 @@ module _ (p : Setting) (s : State) where
   view-alone (call n (args no_params no_pairs) b bs m) t is named = goes_on named (goes_on refl (goes_on refl refl))
   view-alone (call n (args (param q qs) hs) b bs m) t is named = cc
   view-alone (call n (args no_params (pair k q hs)) b bs m) t is named = cc
+
+  -- ---- names, by what they are
+
+  -- a name or a path, by its text
+  pub named-written : (q : Param) (t : Text) → as_name q ≡ Some t → HasName p s q (gives t)
+  named-written (name n) t is = sym (ap (λ (o : Option Text). gives (unwrap_or o n)) is)
+  named-written (path r) t is = sym (ap (λ (o : Option Text). gives (unwrap_or o (raw_of r))) is)
+  named-written (literal d) t is = absurd (None≢Some is)
+  named-written (subexpression e) t is = absurd (None≢Some is)
+
+  pub named-name : (q : Param) (t : Text) → q ≡ name t → HasName p s q (gives t)
+  named-name q t is = subst (λ (z : Param). HasName p s z (gives t)) (sym is) refl
+
+  pub named-path : (q : Param) (r : Reference) (t : Text) → q ≡ path r → t ≡ raw_of r → HasName p s q (gives t)
+  named-path q r t is same = subst (λ (z : Param). HasName p s z (gives t)) (sym is) (ap (λ (z : Text). gives z) same)
+
+  pub lacks-name : (q : Param) (t : Text) → q ≡ name t → HasValue p s q (gives missing)
+  lacks-name q t is = subst (λ (z : Param). HasValue p s z (gives missing)) (sym is) refl
+
+  pub named-literal : (q : Param) (d : Data) → q ≡ literal d → HasName p s q (gives (called_by (value d)))
+  named-literal q d is = subst (λ (z : Param). HasName p s z (gives (called_by (value d)))) (sym is) refl
+
+  pub valued-literal : (q : Param) (d : Data) → q ≡ literal d → HasValue p s q (gives (value d))
+  valued-literal q d is = subst (λ (z : Param). HasValue p s z (gives (value d))) (sym is) refl
+
+  pub named-inner : (q : Param) (e : Element) (v : Found) → q ≡ subexpression e → HasInnerValue p s e (gives v)
+      → HasName p s q (gives (called_by v))
+  named-inner q e v is g =
+      subst (λ (z : Param). HasName p s z (gives (called_by v))) (sym is) (goes_on g refl)
+
+  pub valued-inner : (q : Param) (e : Element) (v : Found) → q ≡ subexpression e → HasInnerValue p s e (gives v)
+      → HasValue p s q (gives v)
+  valued-inner q e v is g = subst (λ (z : Param). HasValue p s z (gives v)) (sym is) g
+
+  pub unnamed-inner : (q : Param) (e : Element) (r : Refusal) → q ≡ subexpression e → HasInnerValue p s e (refuses r)
+      → HasName p s q (refuses r)
+  unnamed-inner q e r is g = subst (λ (z : Param). HasName p s z (refuses r)) (sym is) (is_refused g)
+
+  -- ---- what a path reaches
+
+  pub reached-value : (q : Param) (r : Reference) (o : Option Data) → q ≡ path r
+      → gives o ≡ answer_map present_in (resolved s.recursive s.blocks r (data_at p s))
+      → (found : Found) × HasValue p s q (gives found) × (present_in found ≡ o)
+  reached-value q r o is e =
+      let x = gives-resolved (resolved s.recursive s.blocks r (data_at p s)) o o (sym e) refl in
+      (x.0, subst (λ (z : Param). HasValue p s z (gives x.0)) (sym is) x.1, x.2)
+
+  pub reached-none : (q : Param) (r : Reference) (why : Refusal) → q ≡ path r
+      → refuses why ≡ answer_map present_in (resolved s.recursive s.blocks r (data_at p s))
+      → HasValue p s q (refuses why)
+  reached-none q r why is e =
+      subst (λ (z : Param). HasValue p s z (refuses why)) (sym is)
+      (refuses-resolved (resolved s.recursive s.blocks r (data_at p s)) why (sym e))
+
+  pub reached-none-as : (q : Param) (r : Reference) (why given : Refusal) → q ≡ path r
+      → refuses why ≡ answer_map present_in (resolved s.recursive s.blocks r (data_at p s)) → given ≡ why
+      → HasValue p s q (refuses given)
+  reached-none-as q r why given is e same =
+      subst (λ (z : Refusal). HasValue p s q (refuses z)) (sym same) (reached-none q r why is e)

@@ -1,5 +1,5 @@
 -- How the values of calls compose.
-use Rattle.std.proofs.Common.{◌≡◌, ◌≢◌, ◌++◌, ℕ, ◌+◌, ◌<◌, ◌≤◌, List, [], ◌∷◌, length, drop, get_or, Bool, false, Option, Some, None, Result, Ok, Err, String, Global, rules, refl, sym, ap, ◌∙◌, subst, append_assoc, append-nil}
+use Rattle.std.proofs.Common.{◌≡◌, ◌++◌, ℕ, ◌+◌, ◌<◌, ◌≤◌, List, [], ◌∷◌, length, drop, get_or, Bool, false, Option, Some, None, Result, Ok, Err, String, Global, rules, refl, sym, ap, ◌∙◌, subst, append_assoc, append-nil}
 use Rattle.std.specs.Prelude.{IfErr, IfOk, IsErrAnd, MatchResult}
 use Rattle.std.proofs.lemmas.List.{drop_more, drop_all}
 use Rattle.std.specs.String.{string_bytes}
@@ -7,7 +7,7 @@ use Rattle.serde_json.specs.Data.{string}
 use Rattle.serde_json.specs.View.{view}
 use Rattle.serde_json.specs.declared.value.Value as value
 use Rattle.serde_json.specs.declared.value.Value.{the_lemmas}
-use Rattle.handlebars_base.specs.Answers.{Answer, gives, refuses, refuses_for, Answers, IsRefusal, answer_map}
+use Rattle.handlebars_base.specs.Answers.{Answer, gives, refuses, Answers, answer_map}
 use Rattle.handlebars_base.specs.Bytes.{Text}
 use Rattle.handlebars_base.specs.PathAndData.{PathAndData}
 use Rattle.handlebars_base.specs.Reasons.{Refusal, out_of_memory, helper_not_found}

@@ -4,10 +4,12 @@ ghost use Rattle.std.specs.Prelude.{◌≡◌, ℕ, Bool};
 ghost use Rattle.handlebars_template.specs.TreeView.{call_view};
 ghost use Rattle.handlebars_scope.specs.LineState.{LineState};
 ghost use Rattle.handlebars_meaning.specs.Sites.{Site, inverse_at};
+ghost use Rattle.handlebars_base.specs.Answers.{gives};
 ghost use Rattle.handlebars_helpers.specs.CallView.{CallView};
+ghost use Rattle.handlebars_helpers.specs.Choice.{Kind, body_if, chosen};
 ghost use Rattle.handlebars_helpers.specs.View.{choice_of, kind_of};
 ghost use Rattle.handlebars_meaning.specs.CarryOut.{carry_out, helper_call, render_body, render_branch, render_word};
-ghost use Rattle.handlebars_meaning.specs.Means.{line_in, line_out, render_chosen, render_tag};
+ghost use Rattle.handlebars_meaning.specs.Means.{line_in, line_out, render_chosen, render_helped, render_tag};
 ghost use Rattle.handlebars_meaning.specs.State.{Kept};
 ghost use Rattle.handlebars_render.specs.Boxed.{answer_of};
 ghost use Rattle.handlebars_render.specs.Next.{render_next};
@@ -47,9 +49,35 @@ pub fn render_tag<'a, O: Output, P: Registered>(
             rc.set_line(line);
             Ok(())
         }
-        Ok(Next::Call(to_call)) => render_next(helper, setting, block, to_call, rc, out),
+        Ok(Next::Branch(truth)) => render_branch(helper, setting, truth, rc, out),
+        Ok(Next::Call(to_call)) => {
+            render_next(helper, setting, block, Box::into_inner(to_call), rc, out)
+        }
         Err(e) => Err(e),
     }
+}
+
+// Renders the body of a call, or its inverse, in the bracket of the call.
+#[cycle(render)]
+fn render_branch<'a, O: Output, P: Registered>(
+    helper: &'a HelperTemplate,
+    setting: &Setting<'_, 'a, P>,
+    truth: bool,
+    rc: &mut RenderContext,
+    out: &mut O,
+) -> Result<(), BoxedError>
+    ensures renders { (site : Site) (kept : Kept) (block : Bool) (k : Kind) (v : CallView)
+        → chosen (P.parts setting.now.parts.now).strict k (helper_call block (call_view helper.now) v) ≡ gives (body_if truth)
+        → CarriesOn (setting_in P.parts setting.now) (render_helped site block (call_view helper.now) k v)
+        O.may_give (moment kept rc.old (O.held out.old)) (answer_of result) (moment kept rc.new (O.held out.new)) }
+    ensures kept { IsKept rc.old rc.new }
+{
+    let before = rc.get_indent_before_write();
+    let produced = rc.get_content_produced();
+    enter_call(rc, helper.indent_before_write);
+    let answer = render_word(helper, setting, true, truth, rc, out);
+    leave_call(rc, before, produced);
+    answer
 }
 
 // Calls a helper. In the bracket the line takes note of what is written.

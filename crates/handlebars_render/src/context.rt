@@ -13,6 +13,7 @@ ghost use Rattle.handlebars_scope.specs.Contexts.{data_of};
 ghost use Rattle.handlebars_scope.specs.LineView.{line_of};
 ghost use Rattle.handlebars_scope.specs.Resolve.{resolved};
 ghost use Rattle.handlebars_scope.specs.ScopeView.{frame_of, frames_of, variables_of};
+ghost use Rattle.handlebars_scope.specs.WayView.{reached_of};
 ghost use Rattle.handlebars_helpers.specs.Turns.{turned};
 ghost use Rattle.handlebars_helpers.specs.View.{path_view, turn_view};
 ghost use Rattle.handlebars_meaning.specs.Values.{Evaluates};
@@ -25,6 +26,7 @@ use handlebars_base::json::path::Path;
 use handlebars_base::json::value::{Json, ScopedJson};
 use handlebars_helpers::turn::{Turn, set_up_turn};
 use handlebars_scope::block::BlockContext;
+use handlebars_scope::context::reached::Reached;
 use handlebars_scope::context::{Context, walk};
 use handlebars_scope::line::LineState;
 use handlebars_scope::local_vars::LocalVars;
@@ -179,16 +181,11 @@ impl RenderContext {
     }
 
     // What a path leads to in these blocks and this data; nothing is copied.
-    pub(super) fn resolve<'v>(
-        &'v self,
-        given: &'v Json,
-        path: &Path,
-    ) -> Result<Option<&'v Json>, RenderError>
-        ensures { Answers (option_map (λ v. view v.now)) result
-            (answer_map present_in (resolved (state_of self.now).recursive (state_of self.now).blocks
-            (reference_of path.now) (view given.now))) }
+    pub(super) fn reach<'v: 'n, 'n>(&'v self, given: &'v Json, path: &'n Path) -> Reached<'v, 'n>
+        ensures { reached_of result ≡ answer_map present_in (resolved (state_of self.now).recursive
+            (state_of self.now).blocks (reference_of path.now) (view given.now)) }
     {
-        walk::resolve(self.alloc, given, path, &self.blocks, self.recursive_lookup)
+        walk::reach(given, path, &self.blocks, self.recursive_lookup)
     }
 
     // The same, with the full path of a value of the data. A value that a block holds is copied.

@@ -4,6 +4,7 @@
 
 mod block;
 pub mod boxed;
+mod branch;
 mod called;
 pub mod context;
 mod each;

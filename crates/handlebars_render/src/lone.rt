@@ -1,122 +1,202 @@
-//! The name of a lone expression, which is its value where no helper has it.
+//! What an expression with no parameters and no pairs comes to: it calls the helper of its name, or is a value.
 
-ghost use Rattle.std.specs.Prelude.{◌≡◌, IfOk, option_map};
+ghost use Rattle.std.specs.Prelude.{◌≡◌, None, Some, true, false};
 ghost use Rattle.std.specs.Cow.{cow_str_bytes};
 ghost use Rattle.serde_json.specs.View.{view};
-ghost use Rattle.handlebars_base.specs.Scoped.{found_of, present_in};
-ghost use Rattle.handlebars_template.specs.Tree.{subexpression};
-ghost use Rattle.handlebars_template.specs.TreeView.{param_view, subexpression_view};
-ghost use Rattle.handlebars_meaning.specs.Values.{HasName, HasValue};
+ghost use Rattle.handlebars_base.specs.Answers.{IsRefusal, gives};
+ghost use Rattle.handlebars_base.specs.PathView.{reference_of};
+ghost use Rattle.handlebars_base.specs.Reasons.{missing_variable};
+ghost use Rattle.handlebars_base.specs.RenderRefusals.{plain_refusal};
+ghost use Rattle.handlebars_base.specs.Scoped.{Found, found_of, missing, present_in};
+ghost use Rattle.handlebars_template.specs.Tree.{Call, as_name, call_name, is_value};
+ghost use Rattle.handlebars_template.specs.Tree as tree;
+ghost use Rattle.handlebars_template.specs.TreeView.{call_view, param_view};
+ghost use Rattle.handlebars_helpers.specs.CallView.{CallView};
+ghost use Rattle.handlebars_meaning.specs.Sites.{Site};
+ghost use Rattle.handlebars_meaning.specs.Means.{render_found, render_lone, render_lone_as};
+ghost use Rattle.handlebars_meaning.specs.Values.{HasName, HasValue, called_by};
 ghost use Rattle.handlebars_meaning.specs.State.{Kept};
-ghost use Rattle.handlebars_render.specs.View.{setting_in, IsMade, Yields, YieldsPresent, state_with};
+ghost use Rattle.handlebars_render.specs.Boxed.{answer_of, error_of};
+ghost use Rattle.handlebars_render.specs.Next.{ComesTo, Settles};
+ghost use Rattle.handlebars_render.specs.View.{name_alone, setting_in, moment, state_with};
 
+use crate::boxed::BoxedError;
+use crate::branch::not_an_index;
+use crate::called::Called;
 use crate::context::RenderContext;
-use crate::registered::Registered;
+use crate::next::{Next, to_call};
+use crate::registered::{Registered, hook};
 use crate::setting::Setting;
-use crate::value::inner_value;
-use handlebars_base::error::RenderError;
+use crate::value::{inner_value, written};
+use crate::write::write_found;
+use handlebars_base::error::RenderErrorReason;
+use handlebars_base::json::path::Path;
 use handlebars_base::json::value::{Json, JsonRender, ScopedJson};
-use handlebars_template::template::{Parameter, Subexpression};
+use handlebars_base::output::Output;
+use handlebars_scope::context::reached::Reached;
+use handlebars_template::template::{HelperTemplate, Parameter};
+use std::alloc::{AllocError, Global};
 use std::borrow::CowStr;
 
-/// The name of a lone expression, and its value, where that was made for the name.
-#[derive(Drop)]
-pub struct Lone<'a> {
-    pub name: CowStr<'a>,
-    pub value: Option<ScopedJson<'a>>,
-}
-
-/// A name or a path stands for itself, and nothing is made for it yet.
-pub fn lone_name<'a, P: Registered>(
+/// An expression with no parameters and no pairs. Nothing is made for a name or a path.
+pub fn settle_lone<'a, O: Output, P: Registered>(
+    helper: &'a HelperTemplate,
     setting: &Setting<'_, 'a, P>,
     rc: &RenderContext,
-    name: &'a Parameter,
-) -> Result<Lone<'a>, RenderError>
-    ensures name { (kept : Kept) → Yields (HasName (setting_in P.parts setting.now) (state_with kept rc.now) (param_view name.now))
-        (λ x. cow_str_bytes x.name) result }
-    ensures made { (kept : Kept) → IfOk result (λ x. IsMade (setting_in P.parts setting.now) (state_with kept rc.now) (param_view name.now) x.value) }
+    out: &mut O,
+) -> Result<Next<'a>, BoxedError>
+    ensures { is_value (call_view helper.now) ≡ true → (site : Site) (kept : Kept)
+        → ComesTo (setting_in P.parts setting.now) site false (call_view helper.now)
+        (render_lone site (call_view helper.now))
+        O.may_give (moment kept rc.now (O.held out.old)) (answer_of result) (O.held out.new) }
 {
-    match name {
-        Parameter::Name(text) => Ok(Lone {
-            name: CowStr::Borrowed(text.as_str()),
-            value: None,
-        }),
-        Parameter::Path(path) => Ok(Lone {
-            name: CowStr::Borrowed(path.raw()),
-            value: None,
-        }),
-        Parameter::Literal(value) => Ok(Lone {
-            name: CowStr::Owned(value.render(setting.alloc)?),
-            value: Some(ScopedJson::Constant(value)),
-        }),
-        Parameter::Subexpression(inner) => made_name(setting, rc, inner),
+    match &helper.name {
+        Parameter::Name(name) => settle_name(helper, setting, name.as_str(), rc),
+        Parameter::Path(path) => settle_path(helper, setting, path, rc, out),
+        Parameter::Literal(value) => {
+            settle_value(helper, setting, ScopedJson::Constant(value), rc, out)
+        }
+        Parameter::Subexpression(inner) => match inner_value(setting, rc, inner) {
+            Ok(value) => settle_value(helper, setting, value, rc, out),
+            Err(e) => Err(BoxedError::new(setting.alloc, e)),
+        },
     }
 }
 
-// The name of a lone call in parentheses is the text of its value, which is made once.
-fn made_name<'a, P: Registered>(
+// A name that is no path has no value.
+fn settle_name<'a, P: Registered>(
+    helper: &'a HelperTemplate,
     setting: &Setting<'_, 'a, P>,
+    text: &'a str,
     rc: &RenderContext,
-    inner: &'a Subexpression,
-) -> Result<Lone<'a>, RenderError>
-    ensures name { (kept : Kept) → Yields (HasName (setting_in P.parts setting.now) (state_with kept rc.now) (subexpression (subexpression_view inner.now)))
-        (λ x. cow_str_bytes x.name) result }
-    ensures made { (kept : Kept) → IfOk result (λ x. IsMade (setting_in P.parts setting.now) (state_with kept rc.now)
-        (subexpression (subexpression_view inner.now)) x.value) }
+) -> Result<Next<'a>, BoxedError>
+    ensures { is_value (call_view helper.now) ≡ true → call_name (call_view helper.now) ≡ tree.name text.now
+        → (site : Site) (kept : Kept) → Settles (setting_in P.parts setting.now) site false (call_view helper.now)
+        (render_lone site (call_view helper.now)) (state_with kept rc.now) (answer_of result) }
 {
-    match inner_value(setting, rc, inner) {
-        Ok(value) => Ok(Lone {
-            name: CowStr::Owned(value.render(setting.alloc)?),
-            value: Some(value),
-        }),
+    match setting.parts.helper(text) {
+        Some(kind) => to_call(
+            setting.alloc,
+            kind,
+            Called::alone(setting.alloc, CowStr::Borrowed(text)),
+            true,
+        ),
+        None => settle_missing(helper, setting, CowStr::Borrowed(text), rc),
+    }
+}
+
+// The value of a path is only looked at, also where a block has it, and its own path isn't told.
+fn settle_path<'a, O: Output, P: Registered>(
+    helper: &'a HelperTemplate,
+    setting: &Setting<'_, 'a, P>,
+    path: &'a Path,
+    rc: &RenderContext,
+    out: &mut O,
+) -> Result<Next<'a>, BoxedError>
+    ensures { is_value (call_view helper.now) ≡ true → call_name (call_view helper.now) ≡ tree.path (reference_of path.now)
+        → (site : Site) (kept : Kept) → ComesTo (setting_in P.parts setting.now) site false (call_view helper.now)
+        (render_lone site (call_view helper.now))
+        O.may_give (moment kept rc.now (O.held out.old)) (answer_of result) (O.held out.new) }
+{
+    match setting.parts.helper(path.raw()) {
+        Some(kind) => to_call(
+            setting.alloc,
+            kind,
+            Called::alone(setting.alloc, CowStr::Borrowed(path.raw())),
+            true,
+        ),
+        None => match rc.reach(setting.given, path) {
+            Reached::Value(value) => settle_found(setting, value, rc, out),
+            Reached::Nothing => settle_missing(helper, setting, CowStr::Borrowed(path.raw()), rc),
+            Reached::NoIndex(name) => Err(not_an_index(setting.alloc, name)),
+        },
+    }
+}
+
+// A literal, or a call in parentheses, which was made once: its text is the name.
+fn settle_value<'a, O: Output, P: Registered>(
+    helper: &'a HelperTemplate,
+    setting: &Setting<'_, 'a, P>,
+    value: ScopedJson<'a>,
+    rc: &RenderContext,
+    out: &mut O,
+) -> Result<Next<'a>, BoxedError>
+    ensures { is_value (call_view helper.now) ≡ true → (site : Site) (kept : Kept)
+        → HasName (setting_in P.parts setting.now) (state_with kept rc.now) (call_name (call_view helper.now))
+        (gives (called_by (found_of value.entry)))
+        → HasValue (setting_in P.parts setting.now) (state_with kept rc.now) (call_name (call_view helper.now))
+        (gives (found_of value.entry))
+        → ComesTo (setting_in P.parts setting.now) site false (call_view helper.now)
+        (render_lone site (call_view helper.now))
+        O.may_give (moment kept rc.now (O.held out.old)) (answer_of result) (O.held out.new) }
+{
+    let name = value.render(setting.alloc)?;
+    match setting.parts.helper(name.as_str()) {
+        Some(kind) => to_call(
+            setting.alloc,
+            kind,
+            Called::alone(setting.alloc, CowStr::Owned(name)),
+            true,
+        ),
+        None => match value.as_json() {
+            Some(value) => settle_found(setting, value, rc, out),
+            None => settle_missing(helper, setting, CowStr::Owned(name), rc),
+        },
+    }
+}
+
+// Writes the value of an expression that no helper has the name of.
+fn settle_found<'a, O: Output, P: Registered>(
+    setting: &Setting<'_, 'a, P>,
+    value: &Json,
+    rc: &RenderContext,
+    out: &mut O,
+) -> Result<Next<'a>, BoxedError>
+    ensures { (c : Call) (v : CallView) (found : Found) (site : Site) (kept : Kept)
+        → HasValue (setting_in P.parts setting.now) (state_with kept rc.now) (call_name c) (gives found)
+        → present_in found ≡ Some (view value.now)
+        → ComesTo (setting_in P.parts setting.now) site false c (render_lone_as site c v None)
+        O.may_give (moment kept rc.now (O.held out.old)) (answer_of result) (O.held out.new) }
+{
+    match write_found(setting.alloc, Some(value), rc, out) {
+        Ok(line) => Ok(Next::Done(line)),
         Err(e) => Err(e),
     }
 }
 
-/// The value of a lone expression, to be written: one of the data or of a block is borrowed, without
-/// its path.
-pub fn lone_value<'v, P: Registered>(
-    setting: &Setting<'_, 'v, P>,
-    rc: &'v RenderContext,
-    name: &'v Parameter,
-    made: Option<ScopedJson<'v>>,
-) -> Result<ScopedJson<'v>, RenderError>
-    ensures { (kept : Kept) → IsMade (setting_in P.parts setting.now) (state_with kept rc.now) (param_view name.now) made.entry
-        → YieldsPresent (HasValue (setting_in P.parts setting.now) (state_with kept rc.now) (param_view name.now))
-        (λ v. present_in (found_of v)) result }
+// A missing value is refused in strict mode; else the hook is to be called, where there is one.
+fn settle_missing<'a, P: Registered>(
+    helper: &'a HelperTemplate,
+    setting: &Setting<'_, 'a, P>,
+    name: CowStr<'a>,
+    rc: &RenderContext,
+) -> Result<Next<'a>, BoxedError>
+    ensures { (site : Site) (kept : Kept) → Settles (setting_in P.parts setting.now) site false (call_view helper.now)
+        (render_found site (call_view helper.now) (name_alone (cow_str_bytes name.entry)) missing)
+        (state_with kept rc.now) (answer_of result) }
 {
-    match made {
-        Some(value) => Ok(value),
-        None => bare_value(setting, rc, name),
+    if setting.parts.strict() {
+        return Err(missing_variable(setting.alloc, &helper.name));
+    }
+    match setting.parts.helper(hook(false)) {
+        Some(kind) => to_call(
+            setting.alloc,
+            kind,
+            Called::alone(setting.alloc, name),
+            false,
+        ),
+        None => Ok(Next::Done(rc.line())),
     }
 }
 
-// The value of a parameter, without its path.
-fn bare_value<'v, P: Registered>(
-    setting: &Setting<'_, 'v, P>,
-    rc: &'v RenderContext,
-    parameter: &'v Parameter,
-) -> Result<ScopedJson<'v>, RenderError>
-    ensures { (kept : Kept) → YieldsPresent (HasValue (setting_in P.parts setting.now) (state_with kept rc.now) (param_view parameter.now))
-        (λ v. present_in (found_of v)) result }
+// The refusal of a missing value, by its text as written, where it has one.
+#[cold]
+#[inline(never)]
+fn missing_variable(alloc: Global, name: &Parameter) -> BoxedError
+    ensures { IsRefusal (plain_refusal (missing_variable (as_name (param_view name.now)))) (error_of result) }
 {
-    match parameter {
-        Parameter::Name(_) => Ok(ScopedJson::Missing),
-        Parameter::Path(path) => match rc.resolve(setting.given, path) {
-            Ok(value) => Ok(borrowed(value)),
-            Err(e) => Err(e),
-        },
-        Parameter::Literal(value) => Ok(ScopedJson::Constant(value)),
-        Parameter::Subexpression(inner) => inner_value(setting, rc, inner),
-    }
-}
-
-// A value, or none, as it is written: where it came from is not told.
-fn borrowed<'a>(value: Option<&'a Json>) -> ScopedJson<'a>
-    ensures { present_in (found_of result) ≡ option_map (λ v. view v.now) value.entry }
-{
-    match value {
-        Some(value) => ScopedJson::Constant(value),
-        None => ScopedJson::Missing,
+    match written(alloc, name) {
+        Ok(text) => BoxedError::new(alloc, RenderErrorReason::MissingVariable(text).into()),
+        Err(AllocError) => BoxedError::OutOfMemory,
     }
 }

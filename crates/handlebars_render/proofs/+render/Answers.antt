@@ -1,4 +1,4 @@
-use Rattle.std.proofs.Common.{◌∙◌, ◌+◌, sym, ap, map, Option, option_map, List}
+use Rattle.std.proofs.Common.{◌∙◌, ◌+◌, refl, sym, ap, map, Option, option_map, List}
 use Rattle.std.specs.Prelude.{slice_get, unwrap_or}
 use Rattle.serde_json.specs.Data.{null, number, unsigned}
 use Rattle.serde_json.specs.View.{view}
@@ -11,6 +11,7 @@ use Rattle.handlebars_template.proofs.Levels.{call_body-view, call_inverse-view,
 use Rattle.handlebars_template.proofs.Trees.{tree_view-out}
 use Rattle.handlebars_meaning.specs.Pieces.{of_text}
 use Rattle.handlebars_meaning.specs.Sites.{body_at, inverse_at, element_in}
+use Rattle.handlebars_helpers.specs.Choice.{body_if}
 use Rattle.handlebars_helpers.specs.View.{kind_of, base_view, path_view, turn_view}
 use Rattle.handlebars_scope.specs.Scopes.{Frame, empty_frame}
 use Rattle.handlebars_meaning.specs.CarryOut.{helper_call}
@@ -18,6 +19,7 @@ use Rattle.handlebars_meaning.specs.Means.{render_chosen}
 use Rattle.handlebars_meaning.specs.Runs.{named_as, placed_at}
 use Rattle.handlebars_render.specs.Boxed.{error_of}
 use Rattle.handlebars_render.specs.View.{called_view, keeping, state_of, state_with}
+use Rattle.handlebars_render.proofs.Branches.{carries-branch}
 use Rattle.handlebars_render.proofs.Calls.{branch_none, carry_out_value, chosen_ok, chosen_err, entered_as}
 use Rattle.handlebars_render.proofs.Leaves.{carries_on-leaves}
 use Rattle.handlebars_render.proofs.Carry.{carries-done, carries-no_value, carries-out_of_memory, carries-puts, carries-run, carries-unescaped, carries_on-bracket, carries_on-done, carries_on-handed, carries_on-task, carries_on-task_over, carries_on-word, restored, carries_on-in_block, carries_on-out_of_memory}
@@ -37,7 +39,26 @@ block::render_tag-returns-in-Ok-Done-clause-renders g t c = λ site kept.
 pub block::render_tag-returns-in-Ok-Call-clause-renders : goal.block::render_tag-returns-in-Ok-Call-clause-renders
 block::render_tag-returns-in-Ok-Call-clause-renders g t c = λ site kept.
     let left = rw c.in-Ok-Call.field-0-is at (c.in-Ok-Call.ensures site kept) in
-    carries_on-leaves _ _ _ _ left.0 left.1 (c.render_next.ensures.renders site kept)
+    carries_on-leaves _ _ _ _ left.0 left.1 (rw c.into_inner.ensures at (c.render_next.ensures.renders site kept))
+
+pub block::render_tag-returns-in-Ok-Branch-clause-renders : goal.block::render_tag-returns-in-Ok-Branch-clause-renders
+block::render_tag-returns-in-Ok-Branch-clause-renders g t c = λ site kept.
+    let left = rw c.in-Ok-Branch.field-0-is at (c.in-Ok-Branch.ensures site kept) in
+    carries_on-leaves _ _ _ _ left.0.leaves left.1
+    (c.render_branch.ensures.renders site kept c.args.block left.0.kind left.0.view left.0.chooses)
+
+pub block::render_branch-returns-clause-renders : goal.block::render_branch-returns-clause-renders
+block::render_branch-returns-clause-renders g t c = λ site kept block k v chooses.
+    let marked = ap (λ (m : CallMarks). m.indent_before_write) (call_marks-view c.args.helper.now) in
+    carries_on-bracket _ _ (call_marks (call_view c.args.helper.now)).indent_before_write
+    (render_chosen site k (helper_call block (call_view c.args.helper.now) v))
+    (entered_as (state_with kept c.args.rc.now) (state_with kept c.enter_call.new.rc) _ _ marked (ap (keeping kept) c.enter_call.ensures.state))
+    (ap (keeping kept) (c.leave_call.ensures.state (state_of c.args.rc.now).line (sym c.get_indent_before_write-before.ensures)
+    (sym c.get_content_produced-produced.ensures)))
+    (chosen_ok _ _ _ site k (helper_call block (call_view c.args.helper.now) v)
+    (helper_call block (call_view c.args.helper.now) v) (body_if c.args.truth) refl refl chooses
+    (carries-branch _ _ site block (call_view c.args.helper.now) v c.args.truth
+    (c.render_word-answer.ensures.renders site kept v)))
 
 pub block::render_tag-returns-in-Err-clause-renders : goal.block::render_tag-returns-in-Err-clause-renders
 block::render_tag-returns-in-Err-clause-renders g t c = λ site kept. c.in-Err.ensures site kept

@@ -1,4 +1,4 @@
-use Rattle.std.proofs.Common.{false, option_map, sym, ap, ◌∙◌, subst}
+use Rattle.std.proofs.Common.{false, option_map, sym, ap, ◌∙◌}
 use Rattle.handlebars_base.specs.Reasons.{helper_not_found}
 use Rattle.handlebars_base.specs.RenderRefusals.{plain_refusal}
 use Rattle.handlebars_base.specs.Scoped.{found_of}

@@ -1,7 +1,6 @@
 use Rattle.std.proofs.Common.{refl}
 use Rattle.handlebars_template.proofs.Levels.{decorator_name-view, decorator_params-view, decorator_pairs-view}
 use Rattle.handlebars_meaning.specs.Asks.{goes_on, is_refused}
-use Rattle.handlebars_render.specs.View.{called_view}
 use Rattle.handlebars_render.proofs.Values.{handed_on}
 use Rattle.handlebars_render.proofs.called.view_of_tag.Goals as goal
 

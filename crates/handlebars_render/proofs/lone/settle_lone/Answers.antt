@@ -1,31 +1,41 @@
-use Rattle.std.proofs.Common.{ap, ◌∙◌, false, refl}
-use Rattle.std.specs.Cow.{cow_str_bytes}
-use Rattle.handlebars_template.specs.TreeView.{call_view}
-use Rattle.handlebars_template.proofs.Levels.{call_name-view}
-use Rattle.handlebars_helpers.specs.View.{kind_of}
-use Rattle.handlebars_render.specs.View.{called_view}
+use Rattle.std.proofs.Common.{ap, false, ◌∙◌, refl, sym}
+use Rattle.handlebars_base.specs.Scoped.{found_of}
+use Rattle.handlebars_template.specs.Tree.{call_name, name}
+use Rattle.handlebars_template.specs.TreeView.{call_view, param_view}
+use Rattle.handlebars_template.proofs.Levels.{call_name-view, param_view-Literal, param_view-Name, param_view-Path, param_view-Subexpression}
 use Rattle.handlebars_render.specs.Boxed.{answer_of, error_of}
 use Rattle.handlebars_render.proofs.Carry.{carries_on-handed}
-use Rattle.handlebars_render.proofs.Leaves.{carries_on-refuses, comes_to-leaves, leaves-named, leaves-value, refuses-lone}
-use Rattle.handlebars_render.proofs.next.settle_lone.Goals as goal
+use Rattle.handlebars_render.proofs.Leaves.{carries_on-refuses, comes_to-settles, refuses-lone}
+use Rattle.handlebars_render.proofs.LoneValues.{named-inner, named-literal, unnamed-inner, valued-inner, valued-literal}
+use Rattle.handlebars_render.proofs.lone.settle_lone.Goals as goal
+
+pub returns-in-Name : goal.returns-in-Name
+returns-in-Name g c = λ lone site kept.
+    comes_to-settles _ _ site false (call_view c.args.helper.now) _ _ _ _ (answer_of c.settle_name.result) refl
+    (c.settle_name.ensures lone (call_name-view c.args.helper.now ∙ ap param_view c.in-Name.is ∙ param_view-Name _
+    ∙ ap (λ t. name t) (sym c.as_str.ensures.value)) site kept)
+
+pub returns-in-Path : goal.returns-in-Path
+returns-in-Path g c = λ lone site kept.
+    c.settle_path.ensures lone (call_name-view c.args.helper.now ∙ ap param_view c.in-Path.is ∙ param_view-Path _) site kept
+
+pub returns-in-Literal : goal.returns-in-Literal
+returns-in-Literal g c = λ lone site kept.
+    let same = call_name-view c.args.helper.now ∙ ap param_view c.in-Literal.is ∙ param_view-Literal _ in
+    c.settle_value.ensures lone site kept
+    (named-literal _ _ (call_name (call_view c.args.helper.now)) _ same)
+    (valued-literal _ _ (call_name (call_view c.args.helper.now)) _ same)
+
+pub returns-in-Ok : goal.returns-in-Ok
+returns-in-Ok g c = λ lone site kept.
+    let same = call_name-view c.args.helper.now ∙ ap param_view c.in-Subexpression.is ∙ param_view-Subexpression _ in
+    c.settle_value-in-Ok.ensures lone site kept
+    (named-inner _ _ (call_name (call_view c.args.helper.now)) _ (found_of c.in-Ok.value) same (c.in-Ok.ensures.value kept))
+    (valued-inner _ _ (call_name (call_view c.args.helper.now)) _ (found_of c.in-Ok.value) same (c.in-Ok.ensures.value kept))
 
 pub returns-in-Err : goal.returns-in-Err
-returns-in-Err g c = λ lone site kept. carries_on-handed _ _ c.in-Err.e (error_of c.new.result) c.new.ensures
-    (carries_on-refuses _ _ _ c.in-Err.e (λ other. refuses-lone _ site (call_view c.args.helper.now) (rw (call_name-view c.args.helper.now) (c.in-Err.ensures.name kept other))))
-
-pub returns-in-Some : goal.returns-in-Some
-returns-in-Some g c = λ lone site kept. (
-  leaves-named _ site (call_view c.args.helper.now) (cow_str_bytes c.in-Ok.lone.name) (kind_of c.in-Some.kind) (called_view c.alone.result)
-      lone (rw (call_name-view c.args.helper.now) (c.in-Ok.ensures.name kept))
-      (c.in-Some.ensures ∙ ap (g.P.Registered.parts c.args.setting.now.parts.now).helper c.as_str.ensures.value)
-      c.alone.ensures,
-  refl,
-)
-
-pub returns : goal.returns
-returns g c = λ lone site kept.
-    comes_to-leaves _ _ site false (call_view c.args.helper.now) _ _ _ _ _ (answer_of c.settle_value.result)
-    (leaves-value _ site (call_view c.args.helper.now) (cow_str_bytes c.in-Ok.lone.name) lone
-    (rw (call_name-view c.args.helper.now) (c.in-Ok.ensures.name kept))
-    (c.in-None.ensures ∙ ap (g.P.Registered.parts c.args.setting.now.parts.now).helper c.as_str.ensures.value))
-    (c.settle_value.ensures kept (rw (call_name-view c.args.helper.now) (c.in-Ok.ensures.made kept)) site)
+returns-in-Err g c = λ lone site kept.
+    let same = call_name-view c.args.helper.now ∙ ap param_view c.in-Subexpression.is ∙ param_view-Subexpression _ in
+    carries_on-handed _ _ c.in-Err.e (error_of c.new.result) c.new.ensures
+    (carries_on-refuses _ _ _ c.in-Err.e (λ other. refuses-lone _ site (call_view c.args.helper.now)
+    (unnamed-inner _ _ (call_name (call_view c.args.helper.now)) _ _ same (c.in-Err.ensures.value kept other))))

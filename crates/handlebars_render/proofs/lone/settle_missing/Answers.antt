@@ -1,12 +1,12 @@
-use Rattle.std.proofs.Common.{ap, ◌∙◌}
+use Rattle.std.proofs.Common.{ap, false, ◌∙◌}
 use Rattle.std.specs.Cow.{cow_str_bytes}
 use Rattle.handlebars_template.specs.TreeView.{call_view}
 use Rattle.handlebars_template.proofs.Levels.{call_name-view}
 use Rattle.handlebars_helpers.specs.View.{kind_of}
-use Rattle.handlebars_render.specs.Boxed.{error_of}
+use Rattle.handlebars_render.specs.Boxed.{answer_of, error_of}
 use Rattle.handlebars_render.specs.View.{called_view, name_alone}
-use Rattle.handlebars_render.proofs.Leaves.{leaves-hook, gives-nothing, refuses-missing}
-use Rattle.handlebars_render.proofs.next.settle_missing.Goals as goal
+use Rattle.handlebars_render.proofs.Leaves.{leaves-hook, gives-nothing, refuses-missing, settles-call}
+use Rattle.handlebars_render.proofs.lone.settle_missing.Goals as goal
 
 pub returns-then-strict : goal.returns-then-strict
 returns-then-strict g c = λ site kept.
@@ -15,9 +15,10 @@ returns-then-strict g c = λ site kept.
 
 pub returns-in-Some : goal.returns-in-Some
 returns-in-Some g c = λ site kept.
-    leaves-hook _ site (call_view c.args.helper.now) (cow_str_bytes c.args.name) (kind_of c.in-Some.kind) (called_view c.alone.result)
+    settles-call _ site false (call_view c.args.helper.now) _ _ (answer_of c.to_call.result) c.to_call.ensures
+    (leaves-hook _ site (call_view c.args.helper.now) (cow_str_bytes c.args.name) (kind_of c.in-Some.kind) (called_view c.alone.result)
     c.if-strict.ensures (c.in-Some.ensures ∙ ap (g.P.Registered.parts c.args.setting.now.parts.now).helper c.hook.ensures)
-    c.alone.ensures
+    c.alone.ensures)
 
 pub returns : goal.returns
 returns g c = λ site kept. (

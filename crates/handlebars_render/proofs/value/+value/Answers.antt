@@ -1,4 +1,4 @@
-use Rattle.std.proofs.Common.{map, refl, sym, ap, ◌∙◌}
+use Rattle.std.proofs.Common.{refl, sym, ap, ◌∙◌}
 use Rattle.handlebars_base.specs.Answers.{gives}
 use Rattle.handlebars_base.specs.Bytes.{Text}
 use Rattle.handlebars_base.specs.PathAndData.{PathAndData, path_and_data}
@@ -6,7 +6,7 @@ use Rattle.handlebars_base.specs.Scoped.{found_of}
 use Rattle.handlebars_template.specs.TreeView.{call_view, pairs_view}
 use Rattle.handlebars_template.proofs.Levels.{call_name-view, call_params-view, call_pairs-view, element_view-Expression, param_view-Path, param_view-Subexpression}
 use Rattle.handlebars_meaning.specs.Asks.{goes_on, is_refused}
-use Rattle.handlebars_render.specs.View.{called_view, pairs_seen, state_with}
+use Rattle.handlebars_render.specs.View.{state_with}
 use Rattle.handlebars_render.proofs.Ordered.{follows-next, inserted-last, map-push, pairs_seen-push}
 use Rattle.handlebars_render.proofs.Values.{pairs-end, pairs-go, pairs-over, params-end, params-go, params-here, params-over, params-past, subexpression_view-out, inner_value-parts, yields-answer, handed_on, yields-inner_value, yields-then, written-as}
 use Rattle.handlebars_render.proofs.value.+value.Goals as goal

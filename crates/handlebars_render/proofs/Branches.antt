@@ -1,0 +1,96 @@
+-- The short way of `if` and `unless`.
+use Rattle.std.proofs.Common.{◌≡◌, ◌≢◌, Bool, true, false, [], ◌∷◌, None, Some, Ok, Err, refl, sym, ap, ◌∙◌, subst}
+use Rattle.std.specs.Prelude.{if◌then◌else◌, not}
+use Rattle.serde_json.specs.Data.{Data, null}
+use Rattle.handlebars_base.specs.Answers.{answer_map, gives, refuses}
+use Rattle.handlebars_base.specs.Bytes.{Text}
+use Rattle.handlebars_base.specs.Path.{Reference}
+use Rattle.handlebars_base.specs.Reasons.{Refusal, out_of_memory}
+use Rattle.handlebars_base.specs.RenderRefusals.{reason_in, refusal_of}
+use Rattle.handlebars_base.specs.Scoped.{Found, data_in, missing, present_in, value, walked}
+use Rattle.handlebars_base.specs.Values.{truth}
+use Rattle.handlebars_base.specs.declared.error.render_error.RenderError.{RenderError}
+use Rattle.handlebars_template.specs.Tree.{Args, Call, call_args, call_name, path}
+use Rattle.handlebars_scope.specs.Resolve.{resolved}
+use Rattle.handlebars_helpers.specs.CallView.{CallView}
+use Rattle.handlebars_helpers.specs.Choice.{body_if, chosen}
+use Rattle.handlebars_meaning.specs.Asks.{goes_on, is_refused}
+use Rattle.handlebars_meaning.specs.CarryOut.{carry_out, helper_call, render_word}
+use Rattle.handlebars_meaning.specs.Means.{render_call}
+use Rattle.handlebars_meaning.specs.Sites.{Site}
+use Rattle.handlebars_meaning.specs.State.{Setting, State, data_at, helper_for}
+use Rattle.handlebars_meaning.specs.Values.{HasName, HasValue, HasView, as_written}
+use Rattle.handlebars_render.specs.Next.{Judges, Takes, path_alone, wanting}
+use Rattle.handlebars_render.specs.View.{Answered, CarriesOn, Moment, RefusesValue}
+use Rattle.handlebars_render.proofs.Leaves.{leaves-called, refuses-view}
+use Rattle.handlebars_render.proofs.LoneValues.{reached-none, reached-value}
+use Rattle.std.specs.declared.io.Error.{Error}
+
+data-seen : (found : Found) (d : Data) → present_in found ≡ Some d → data_in found ≡ d
+data-seen (walked e p) d is = cc
+data-seen (value e) d is = cc
+data-seen missing d is = cc
+
+data-unseen : (found : Found) → present_in found ≡ None → data_in found ≡ null
+data-unseen (walked e p) is = cc
+data-unseen (value e) is = cc
+data-unseen missing is = refl
+
+-- what the body is rendered for, where the condition is this
+pub chooses-wanted : (strict block wanted b : Bool) (c : Call) (t : Text) (r : Reference) (found : Found)
+    → b ≡ truth false (data_in found)
+    → chosen strict (wanting wanted) (helper_call block c (record { name = t; params = as_written (path r) found ∷ []; pairs = [] }))
+    ≡ gives (body_if (if wanted then b else not b))
+chooses-wanted strict block true b c t r found is = ap (λ (z : Bool). gives (body_if z)) (sym is)
+chooses-wanted strict block false b c t r found is = ap (λ (z : Bool). gives (body_if (not z))) (sym is)
+
+module _ (p : Setting) where
+  module _ (s : State) (r : Reference) where
+    pub judges-value : (d : Data) (b : Bool)
+        → gives (Some d) ≡ answer_map present_in (resolved s.recursive s.blocks r (data_at p s))
+        → b ≡ truth false d → Judges p s r (Ok b)
+    judges-value d b e is =
+        let x = reached-value p s (path r) r (Some d) refl e in
+        (x.0, x.1, is ∙ ap (truth false) (sym (data-seen x.0 d x.2)))
+
+    pub judges-nothing : gives None ≡ answer_map present_in (resolved s.recursive s.blocks r (data_at p s))
+        → Judges p s r (Ok false)
+    judges-nothing e =
+        let x = reached-value p s (path r) r None refl e in
+        (x.0, x.1, ap (truth false) (sym (data-unseen x.0 x.2)))
+
+    pub judges-refused : (why : Refusal) (e : RenderError)
+        → refuses why ≡ answer_map present_in (resolved s.recursive s.blocks r (data_at p s))
+        → (reason_in e ≢ out_of_memory → refusal_of e ≡ why) → Judges p s r (Err e)
+    judges-refused why e reached same = λ other.
+        subst (λ (z : Refusal). HasValue p s (path r) (refuses z)) (sym (same other)) (reached-none p s (path r) r why refl reached)
+
+  module _ (site : Site) (block : Bool) (c : Call) (t : Text) (r : Reference) {s : State}
+      (named : HasName p s (call_name c) (gives t)) (alone : call_args c ≡ path_alone r) where
+    pub takes-path : (wanted b truth : Bool) → Some (wanting wanted) ≡ helper_for p.parts s block t
+        → Judges p s r (Ok b) → truth ≡ (if wanted then b else not b)
+        → Takes p site block c (render_call site block c) s truth
+    takes-path wanted b truth is judged same = record {
+      kind = wanting wanted;
+      view = record { name = t; params = as_written (path r) judged.0 ∷ []; pairs = [] };
+      leaves = leaves-called p site block c (record { name = t; params = as_written (path r) judged.0 ∷ []; pairs = [] }) (wanting wanted)
+          (subst (λ (z : Args). HasView p s (call_name c) z
+          (gives (record { name = t; params = as_written (path r) judged.0 ∷ []; pairs = [] }))) (sym alone)
+          (goes_on named (goes_on (goes_on (goes_on judged.1 refl) (goes_on refl refl)) (goes_on refl refl)))) is;
+      chooses = chooses-wanted p.parts.strict block wanted b c t r judged.0 judged.2
+          ∙ ap (λ (z : Bool). gives (body_if z)) (sym same);
+    }
+
+    pub refuses-path : (e : RenderError) → Judges p s r (Err e) → reason_in e ≢ out_of_memory
+        → RefusesValue p (render_call site block c) s (refusal_of e)
+    refuses-path e judged other = refuses-view p site block c
+        (subst (λ (z : Args). HasView p s (call_name c) z (refuses (refusal_of e))) (sym alone)
+        (goes_on named (is_refused (is_refused (is_refused (judged other))))))
+
+  -- a body or an inverse is what a block renders for a word
+  pub carries-branch : (may : Error → Type 0) (site : Site) (block : Bool) (c : Call) (v : CallView) (b : Bool)
+      {before after : Moment} {x : Answered}
+      → CarriesOn p (render_word site (helper_call true c v) true b) may before x after
+      → CarriesOn p (carry_out site (helper_call block c v) (body_if b)) may before x after
+  carries-branch may site block c v true a = a
+  carries-branch may site block c v false a = a

@@ -1,0 +1,43 @@
+use Rattle.std.proofs.Common.{ap, false, ◌∙◌, refl, sym}
+use Rattle.handlebars_base.specs.Scoped.{found_of}
+use Rattle.handlebars_template.specs.TreeView.{call_view}
+use Rattle.handlebars_helpers.specs.View.{kind_of}
+use Rattle.handlebars_meaning.specs.Values.{called_by}
+use Rattle.handlebars_render.specs.Boxed.{answer_of}
+use Rattle.handlebars_render.specs.View.{called_view, name_alone}
+use Rattle.handlebars_render.proofs.Calls.{value_lacks}
+use Rattle.handlebars_render.proofs.Leaves.{comes_to-leaves, comes_to-no_memory, comes_to-settles, leaves-missing, leaves-named, leaves-value, settles-call}
+use Rattle.handlebars_render.proofs.lone.settle_value.Goals as goal
+
+pub returns-in_err-name : goal.returns-in_err-name
+returns-in_err-name g c = λ lone site kept named has.
+    comes_to-no_memory _ _ site false (call_view c.args.helper.now) _ _ _ c.from_residual.result c.from_residual.ensures.1
+
+pub returns-in-Some : goal.returns-in-Some
+returns-in-Some g c = λ lone site kept named has.
+    comes_to-settles _ _ site false (call_view c.args.helper.now) _ _ _ _ (answer_of c.to_call.result) refl
+    (settles-call _ site false (call_view c.args.helper.now) _ _ (answer_of c.to_call.result) c.to_call.ensures
+    (leaves-named _ site (call_view c.args.helper.now) (called_by (found_of c.args.value)) (kind_of c.in-Some.kind) (called_view c.alone.result)
+    lone named
+    (c.in-Some.ensures ∙ ap (g.P.Registered.parts c.args.setting.now.parts.now).helper (c.as_str.ensures.value ∙ c.in_ok-name.ensures))
+    (c.alone.ensures ∙ ap (λ t. name_alone t) c.in_ok-name.ensures)))
+
+pub returns-in-Some-as_json : goal.returns-in-Some-as_json
+returns-in-Some-as_json g c = λ lone site kept named has.
+    comes_to-leaves _ _ site false (call_view c.args.helper.now) _ _ _ _ _ (answer_of c.settle_found.result)
+    (leaves-value _ site (call_view c.args.helper.now) (called_by (found_of c.args.value)) lone named
+    (c.in-None.ensures ∙ ap (g.P.Registered.parts c.args.setting.now.parts.now).helper (c.as_str.ensures.value ∙ c.in_ok-name.ensures)))
+    (c.settle_found.ensures (call_view c.args.helper.now) (name_alone (called_by (found_of c.args.value))) (found_of c.args.value)
+    site kept has (sym c.in-Some-as_json.ensures))
+
+pub returns : goal.returns
+returns g c = λ lone site kept named has.
+    let same = c.in_ok-name.ensures in
+    comes_to-leaves _ _ site false (call_view c.args.helper.now) _ _ _ _ _ (answer_of c.settle_missing.result)
+    (leaves-value _ site (call_view c.args.helper.now) _ lone (rw same named)
+    (c.in-None.ensures ∙ ap (g.P.Registered.parts c.args.setting.now.parts.now).helper c.as_str.ensures.value))
+    (comes_to-leaves _ _ site false (call_view c.args.helper.now) _ _ _ _ _ (answer_of c.settle_missing.result)
+    (leaves-missing _ site (call_view c.args.helper.now) _
+    (value_lacks _ _ _ _ (found_of c.args.value) refl has c.in-None-as_json.ensures))
+    (comes_to-settles _ _ site false (call_view c.args.helper.now) _ _ _ _ (answer_of c.settle_missing.result) refl
+    (c.settle_missing.ensures site kept)))

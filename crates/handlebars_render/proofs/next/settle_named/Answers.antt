@@ -1,0 +1,29 @@
+use Rattle.std.proofs.Common.{◌∙◌, sym}
+use Rattle.handlebars_base.specs.PathView.{reference_of}
+use Rattle.handlebars_template.specs.Tree.{call_name}
+use Rattle.handlebars_template.specs.TreeView.{call_view}
+use Rattle.handlebars_render.specs.Boxed.{error_of}
+use Rattle.handlebars_render.specs.View.{state_with}
+use Rattle.handlebars_render.proofs.Branches.{refuses-path, takes-path}
+use Rattle.handlebars_render.proofs.LoneValues.{named-written}
+use Rattle.handlebars_render.proofs.next.settle_named.Goals as goal
+
+pub returns-in-Ok : goal.returns-in-Ok
+returns-in-Ok g c = λ named site kept.
+    takes-path _ site c.args.block (call_view c.args.helper.now) c.args.name.now (reference_of c.in-Some.path.now)
+    (named-written _ _ (call_name (call_view c.args.helper.now)) c.args.name.now named)
+    c.in-Some.ensures.path c.in-Some.wanted c.in-Ok.truth c.takes.result
+    (sym c.in-Some.ensures.kind ∙ c.helper_for-kind.ensures (state_with kept c.args.rc.now))
+    (c.in-Ok.ensures kept) c.takes.ensures
+
+pub returns-in-Err : goal.returns-in-Err
+returns-in-Err g c = λ named site kept.
+    refuses-path _ site c.args.block (call_view c.args.helper.now) c.args.name.now (reference_of c.in-Some.path.now)
+    (named-written _ _ (call_name (call_view c.args.helper.now)) c.args.name.now named)
+    c.in-Some.ensures.path (error_of c.in-Err.e) (c.in-Err.ensures kept)
+
+pub returns-in-None : goal.returns-in-None
+returns-in-None g c = λ named site kept.
+    c.settle_viewed.ensures site kept
+    (named-written _ _ (call_name (call_view c.args.helper.now)) c.args.name.now named)
+    (c.helper_for-kind.ensures (state_with kept c.args.rc.now))

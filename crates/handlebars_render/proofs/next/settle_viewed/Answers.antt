@@ -1,0 +1,46 @@
+use Rattle.std.proofs.Common.{ap, ◌∙◌, map, option_map, refl, sym}
+use Rattle.std.specs.Cow.{cow_str_bytes}
+use Rattle.handlebars_template.specs.TreeView.{call_view}
+use Rattle.handlebars_template.proofs.Levels.{call_params-view, call_pairs-view}
+use Rattle.handlebars_helpers.specs.View.{kind_of}
+use Rattle.handlebars_meaning.specs.Asks.{goes_on, is_refused}
+use Rattle.handlebars_meaning.specs.Means.{render_call}
+use Rattle.handlebars_render.specs.Boxed.{answer_of, error_of}
+use Rattle.handlebars_base.specs.PathAndData.{path_and_data}
+use Rattle.handlebars_render.specs.View.{pairs_seen}
+use Rattle.handlebars_render.proofs.Carry.{refuses-handed}
+use Rattle.handlebars_render.proofs.Leaves.{leaves-called, refuses-view, refuses-unknown, settles-call}
+use Rattle.handlebars_render.proofs.next.settle_viewed.Goals as goal
+
+pub returns-in-Err : goal.returns-in-Err
+returns-in-Err g c = λ site kept named is.
+    refuses-handed _ (render_call site c.args.block (call_view c.args.helper.now)) c.in-Err.e (error_of c.new.result) c.new.ensures
+    (λ other. refuses-view _ site c.args.block (call_view c.args.helper.now)
+    (rw (call_params-view c.args.helper.now) (goes_on named (is_refused (c.in-Err.ensures kept other)))))
+
+pub returns-in-Err-pairs_values : goal.returns-in-Err-pairs_values
+returns-in-Err-pairs_values g c = λ site kept named is.
+    refuses-handed _ (render_call site c.args.block (call_view c.args.helper.now)) c.in-Err-pairs_values.e (error_of c.new-in-Err-pairs_values.result) c.new-in-Err-pairs_values.ensures
+    (λ other. refuses-view _ site c.args.block (call_view c.args.helper.now)
+    (rw (call_params-view c.args.helper.now, call_pairs-view c.args.helper.now)
+    (goes_on named (goes_on (c.in-Ok.ensures kept) (is_refused (c.in-Err-pairs_values.ensures kept other))))))
+
+pub returns-in-Some : goal.returns-in-Some
+returns-in-Some g c = λ site kept named is.
+    settles-call _ site c.args.block (call_view c.args.helper.now) _ _ (answer_of c.to_call.result) c.to_call.ensures
+    (leaves-called _ site c.args.block (call_view c.args.helper.now)
+    (record { name = cow_str_bytes c.args.name; params = map path_and_data c.in-Ok.params.items; pairs = pairs_seen c.in-Ok-pairs_values.hash.entries })
+    (kind_of c.in-Some.kind)
+    (rw (call_params-view c.args.helper.now, call_pairs-view c.args.helper.now)
+    (goes_on named (goes_on (c.in-Ok.ensures kept) (goes_on (c.in-Ok-pairs_values.ensures kept) refl))))
+    (sym (ap (option_map kind_of) c.in-Some.is) ∙ is))
+
+pub returns : goal.returns
+returns g c = λ site kept named is.
+    refuses-unknown _ site c.args.block (call_view c.args.helper.now)
+    (record { name = cow_str_bytes c.args.name; params = map path_and_data c.in-Ok.params.items; pairs = pairs_seen c.in-Ok-pairs_values.hash.entries })
+    (error_of c.unknown_helper.result)
+    (rw (call_params-view c.args.helper.now, call_pairs-view c.args.helper.now)
+    (goes_on named (goes_on (c.in-Ok.ensures kept) (goes_on (c.in-Ok-pairs_values.ensures kept) refl))))
+    (sym (ap (option_map kind_of) c.in-None.is) ∙ is)
+    (rw c.as_str.ensures.value at c.unknown_helper.ensures)

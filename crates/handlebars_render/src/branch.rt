@@ -1,0 +1,88 @@
+//! The short way of `if` and `unless`, whose condition is most often a path: nothing is made for it.
+
+ghost use Rattle.std.specs.Prelude.{◌≡◌, IfSome, Some, option_map};
+ghost use Rattle.handlebars_base.specs.Answers.{IsRefusal};
+ghost use Rattle.handlebars_base.specs.PathView.{reference_of};
+ghost use Rattle.handlebars_base.specs.Reasons.{invalid_json_index};
+ghost use Rattle.handlebars_base.specs.RenderRefusals.{plain_refusal};
+ghost use Rattle.handlebars_template.specs.Tree.{call_args};
+ghost use Rattle.handlebars_template.specs.TreeView.{call_view};
+ghost use Rattle.handlebars_helpers.specs.View.{kind_of};
+ghost use Rattle.handlebars_meaning.specs.State.{Kept};
+ghost use Rattle.handlebars_render.specs.Boxed.{answer_of, error_of};
+ghost use Rattle.handlebars_render.specs.Next.{Judges, path_alone, wanting};
+ghost use Rattle.handlebars_render.specs.View.{setting_in, state_with};
+
+use crate::boxed::BoxedError;
+use crate::context::RenderContext;
+use crate::registered::Registered;
+use crate::setting::Setting;
+use handlebars_base::json::path::Path;
+use handlebars_base::json::value::JsonTruthy;
+use handlebars_helpers::built_in::BuiltIn;
+use handlebars_scope::context::reached::{Reached, wrong_index};
+use handlebars_template::template::{HelperTemplate, Parameter};
+use std::alloc::Global;
+
+/// The condition of a call of `if` or `unless` that is a path, without any other parameter or pair, and whether it
+/// holds for the body.
+pub fn branching(helper: &HelperTemplate, kind: Option<BuiltIn>) -> Option<(bool, &Path)>
+    ensures kind { IfSome result (λ x. option_map kind_of kind ≡ Some (wanting x.0)) }
+    ensures path { IfSome result (λ x. call_args (call_view helper.now) ≡ path_alone (reference_of x.1.now)) }
+{
+    match wanted(kind) {
+        Some(wanted) => match lone_path(helper) {
+            Some(path) => Some((wanted, path)),
+            None => None,
+        },
+        None => None,
+    }
+}
+
+// What the condition is for the body: true of `if`, and false of `unless`.
+fn wanted(kind: Option<BuiltIn>) -> Option<bool>
+    ensures { IfSome result (λ wanted. option_map kind_of kind ≡ Some (wanting wanted)) }
+{
+    match kind {
+        Some(BuiltIn::If) => Some(true),
+        Some(BuiltIn::Unless) => Some(false),
+        _ => None,
+    }
+}
+
+// The one parameter of a call, where it is a path, and there are no pairs.
+fn lone_path(helper: &HelperTemplate) -> Option<&Path>
+    ensures { IfSome result (λ path. call_args (call_view helper.now) ≡ path_alone (reference_of path.now)) }
+{
+    if helper.params.len() != 1 || !helper.hash.is_empty() {
+        return None;
+    }
+    match helper.params.get(0) {
+        Some(Parameter::Path(path)) => Some(path),
+        _ => None,
+    }
+}
+
+/// Whether what a path leads to counts as true; nothing counts as null.
+pub fn condition<P: Registered>(
+    setting: &Setting<P>,
+    path: &Path,
+    rc: &RenderContext,
+) -> Result<bool, BoxedError>
+    ensures { (kept : Kept) → Judges (setting_in P.parts setting.now) (state_with kept rc.now) (reference_of path.now) (answer_of result) }
+{
+    match rc.reach(setting.given, path) {
+        Reached::Value(value) => Ok(value.is_truthy(false)),
+        Reached::Nothing => Ok(false),
+        Reached::NoIndex(name) => Err(not_an_index(setting.alloc, name)),
+    }
+}
+
+/// The refusal of a name in a path that is no index.
+#[cold]
+#[inline(never)]
+pub fn not_an_index(alloc: Global, name: &str) -> BoxedError
+    ensures { IsRefusal (plain_refusal (invalid_json_index name.now)) (error_of result) }
+{
+    BoxedError::new(alloc, wrong_index(alloc, name))
+}
