@@ -35,5 +35,5 @@ copied_pairs-pairs-preserved t c =
       done ++ e ∷ [],
       all ∙ sym (append_assoc done (e ∷ []) rest),
       ap pairs_view c.in_ok-insert.ensures.entries ∙ pairs_view_insert l.copies.entries c.in_ok-key.key c.in_ok-copied_parameter.field-0
-      ∙ rw (named, c.in_ok-copied_parameter.ensures, l.invariant.2) last,
+          ∙ rw (named, c.in_ok-copied_parameter.ensures, l.invariant.2) last,
     )
