@@ -20,7 +20,8 @@ ghost use Rattle.handlebars.specs.View.{parts_of, setting_of, options_of};
 use crate::render::Renderable;
 use crate::sources::TemplateReader;
 use handlebars_base::error::{RenderError, RenderErrorReason, TemplateError};
-use handlebars_helpers::built_in::{BuiltIn, HelperEntry, built_ins};
+use handlebars_helpers::built_in::{BuiltIn, HelperEntry};
+use handlebars_helpers::helpers::Helpers;
 use handlebars_render::context::RenderContext;
 use handlebars_scope::context::Context;
 use handlebars_template::template::Template;
@@ -33,7 +34,7 @@ use std::collections::BTreeMap;
 pub struct Registry {
     alloc: Global,
     templates: BTreeMap<String, Template>,
-    helpers: BTreeMap<String, HelperEntry>,
+    helpers: Helpers,
     strict_mode: bool,
     recursive_lookup: bool,
 }
@@ -50,7 +51,7 @@ impl Registry {
         Ok(Registry {
             alloc,
             templates: BTreeMap::new(alloc),
-            helpers: built_ins(alloc)?,
+            helpers: Helpers::new(alloc)?,
             strict_mode: false,
             recursive_lookup: false,
         })
@@ -97,8 +98,7 @@ impl Registry {
         ensures kept { HasSameTemplates self.old self.new }
     {
         let name = String::from_str(self.alloc, name)?;
-        self.helpers.insert(name, def)?;
-        Ok(())
+        self.helpers.insert(name, def)
     }
 
     /// Takes the helper under a name away, where one stands there.
@@ -113,10 +113,7 @@ impl Registry {
     pub(crate) fn helper(&self, name: &str) -> Option<BuiltIn>
         ensures { option_map kind_of result ≡ (parts_of self.now).helper name.now }
     {
-        match self.helpers.get(name) {
-            Some(HelperEntry::Built(kind)) => Some(*kind),
-            None => None,
-        }
+        self.helpers.get(name)
     }
 
     /// Compiles a source and registers its tree under the name, in place of one that stood there.
