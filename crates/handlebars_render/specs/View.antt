@@ -1,12 +1,11 @@
 -- What the code's values stand for, and what a call of it says of a run.
-use Rattle.std.specs.Prelude.{◌≡◌, ◌≢◌, ℕ, Option, None, Some, ◌+◌, ◌^◌, ◌<◌, List, [], ◌++◌, option_map, Result, Ok, Err, MatchResult, string_bytes, map, Bool, true, false}
+use Rattle.std.specs.Prelude.{◌≡◌, ◌≢◌, ℕ, Option, ◌+◌, ◌^◌, ◌<◌, List, [], ◌++◌, option_map, Result, Ok, Err, MatchResult, string_bytes, map, Bool, true, false}
 use Rattle.std.specs.Cow.{cow_str_bytes}
 use denote.Ref.{Bor}
 use Rattle.std.specs.declared.io.Error.{Error}
 use Rattle.std.specs.declared.io.ErrorKind.{ErrorKind}
 use Rattle.std.specs.declared.io.ErrorKind.TheVariants.{OutOfMemory}
 use Rattle.std.specs.IoError.{error_kind}
-use Rattle.serde_json.specs.Data.{Data}
 use Rattle.serde_json.specs.View.{view}
 use Rattle.handlebars_base.specs.Answers.{gives, refuses}
 use Rattle.handlebars_base.specs.Bytes.{Text}
@@ -14,8 +13,6 @@ use Rattle.handlebars_base.specs.Reasons.{Reason, Refusal, other, out_of_memory}
 use Rattle.handlebars_base.specs.RenderRefusals.{reason_in, spot_of, refusal_of, cause_of}
 use Rattle.handlebars_base.specs.declared.error.render_error.RenderError.{RenderError}
 use Rattle.handlebars_base.specs.PathAndData.{PathAndData, path_and_data}
-use Rattle.handlebars_base.specs.Scoped.{Found, found_of, present_in}
-use Rattle.handlebars_base.specs.declared.json.value.ScopedJson.{ScopedJson}
 use Rattle.handlebars_base.specs.declared.json.value.path_and_json.PathAndJson.{PathAndJson}
 use Rattle.handlebars_base.specs.declared.error.render_error.RenderErrorReason.TheVariants.{IOError}
 use Rattle.handlebars_base.specs.Values.{word}
@@ -25,13 +22,11 @@ use Rattle.handlebars_scope.specs.ScopeView.{frames_of}
 use Rattle.handlebars_base.specs.Outputs.{Held, IsWhole, IsCutOff, write_reason}
 use Rattle.handlebars_scope.specs.LineState.{LineState, line_behind}
 use Rattle.handlebars_meaning.specs.Pieces.{Piece, join}
-use Rattle.handlebars_template.specs.Tree.{Param}
 use Rattle.handlebars_helpers.specs.CallView.{CallView}
 use Rattle.handlebars_meaning.specs.State.{Kept, Parts, Setting, State, outer}
 use Rattle.handlebars_meaning.specs.Steps.{Steps, Prog}
 use Rattle.handlebars_meaning.specs.Asks.{Asks}
 use Rattle.handlebars_meaning.specs.Runs.{Fault, plain_fault, Outcome, Ended, Refused, Faulted, NoMemory, Runs}
-use Rattle.handlebars_meaning.specs.Values.{HasValue}
 use Rattle.handlebars_render.specs.declared.context.RenderContext.{RenderContext}
 use Rattle.handlebars_render.specs.declared.called.Called.{Called}
 use Rattle.handlebars_render.specs.declared.setting.Setting as declared
@@ -172,17 +167,6 @@ pub data CarriesOn (p : Setting) (m : Prog (Unit {0})) (may : Error → Type 0) 
 abbrev pub Yields : {T A : Type 0} → Asks A → (T → A) → Result T RenderError → Type 0
 Yields m seen r =
     MatchResult r (λ x. m (gives (seen x))) (λ e. reason_in e ≢ out_of_memory → m (refuses (refusal_of e)))
-
--- The same of a call that tells nothing of where its value came from.
-abbrev pub YieldsPresent : {T : Type 0} → Asks Found → (T → Option Data) → Result T RenderError → Type 0
-YieldsPresent m present r =
-    MatchResult r (λ x. (found : Found) × m (gives found) × (present_in found ≡ present x))
-    (λ e. reason_in e ≢ out_of_memory → m (refuses (refusal_of e)))
-
--- what was made for a parameter already, if anything was, is its value
-abbrev pub IsMade : Setting → State → Param → Option ScopedJson → Type 0
-IsMade p s q None = Unit {0}
-IsMade p s q (Some v) = HasValue p s q (gives (found_of v))
 
 -- ---- programs that have a value
 
