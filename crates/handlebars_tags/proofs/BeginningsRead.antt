@@ -6,7 +6,7 @@ use Rattle.handlebars_base.specs.Bytes.{Text, slash, left_brace, behind_white}
 use Rattle.handlebars_base.specs.Texts.{starts, after}
 use Rattle.handlebars_base.specs.Optional.{with_or}
 use Rattle.handlebars_lines.specs.Line.{tilde}
-use Rattle.handlebars_tags.specs.Kind.{beginning, tilde_at, expression_kind, html_kind, html_sign_kind, block_kind, close_kind, inverse_kind, raw_kind, raw_close_kind, comment_kind, other_kind, first_of, beginning_of}
+use Rattle.handlebars_tags.specs.Kind.{beginning, tilde_at, expression_kind, html_kind, html_sign_kind, block_kind, close_kind, inverse_kind, raw_kind, raw_close_kind, decorator_kind, decorator_block_kind, comment_kind, other_kind, first_of, beginning_of}
 use Rattle.handlebars_tags.specs.KindReading.{two_rows, sign_rows, word_rows, signed_by}
 
 -- ---- bytes
@@ -91,7 +91,7 @@ pub sign-caret : (l : Bool) (t : Text) → signed_by sign_rows l (codes "^" ++ t
 unfolding after
 sign-caret l t = refl
 
-pub sign-asterisk : (l : Bool) (t : Text) → signed_by sign_rows l (codes "*" ++ t) ≡ Some (beginning other_kind l (behind_white t))
+pub sign-asterisk : (l : Bool) (t : Text) → signed_by sign_rows l (codes "*" ++ t) ≡ Some (beginning decorator_kind l (behind_white t))
 unfolding after
 sign-asterisk l t = refl
 
@@ -115,7 +115,7 @@ sign-none l (b ∷ t) e = sign-byte l b t (beyond b 38 refl e) (beyond b 35 refl
 
 -- ---- a sign behind `#`
 
-pub block-asterisk : (l : Bool) (t : Text) → signed_by sign_rows l (codes "#*" ++ t) ≡ Some (beginning other_kind l (behind_white t))
+pub block-asterisk : (l : Bool) (t : Text) → signed_by sign_rows l (codes "#*" ++ t) ≡ Some (beginning decorator_block_kind l (behind_white t))
 unfolding after
 block-asterisk l t = refl
 

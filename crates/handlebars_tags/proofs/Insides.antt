@@ -5,11 +5,11 @@ use Rattle.handlebars_base.specs.Bytes.{Text, behind_white, is_white}
 use Rattle.handlebars_base.specs.Texts.{starts, symbols_of, behind_symbols}
 use Rattle.handlebars_lines.specs.Line.{value_name, Line, in_tag, IsLine}
 use Rattle.handlebars_lines.proofs.Lines.{one_line}
-use Rattle.handlebars_tags.specs.Kind.{TagKind, expression_kind, html_kind, html_sign_kind, block_kind, close_kind, inverse_kind, else_kind, raw_kind, raw_close_kind, comment_kind, other_kind, closing_of}
+use Rattle.handlebars_tags.specs.Kind.{TagKind, expression_kind, html_kind, html_sign_kind, block_kind, close_kind, inverse_kind, else_kind, raw_kind, raw_close_kind, decorator_kind, decorator_block_kind, comment_kind, other_kind, closing_of}
 use Rattle.handlebars_tags.specs.Comment.{IsComment, NoComment}
 use Rattle.handlebars_lines.specs.CloseName.{close_name_at}
-use Rattle.handlebars_tags.specs.Tag.{Tag, expression_tag, html_tag, block_tag, inverse_tag, chain_tag, close_tag, raw_tag, raw_close_tag, comment_tag, BlockLine, IsBlockLine, Says, a_value, a_raw_value, a_signed_value, a_block, a_close, an_inverse, an_else, a_chain, a_raw_block, a_raw_close, a_comment}
-use Rattle.handlebars_tags.specs.TagReading.{NoBlockLine, NoClosedLine, IsClosed, NoneClosed}
+use Rattle.handlebars_tags.specs.Tag.{Tag, expression_tag, html_tag, block_tag, inverse_tag, chain_tag, close_tag, raw_tag, raw_close_tag, decorator_tag, decorator_block_tag, comment_tag, BlockLine, IsBlockLine, IsDecoratorLine, Says, a_value, a_raw_value, a_signed_value, a_block, a_close, an_inverse, an_else, a_chain, a_raw_block, a_raw_close, a_decorator, a_decorator_block, a_comment}
+use Rattle.handlebars_tags.specs.TagReading.{NoBlockLine, NoDecoratorLine, NoClosedLine, IsClosed, NoneClosed}
 use Rattle.handlebars_tags.proofs.BlockLines.{one_block_line}
 
 -- ---- what is said, kind by kind
@@ -36,6 +36,10 @@ pub record RawCloseSaid (t : Text) (tag : Tag) (rest : Text) : Type 0 where
   pub some : symbols_of t ≢ []
   pub said : TextSaid tag (raw_close_tag (symbols_of t)) rest (behind_symbols t)
 
+pub record DecoratorSaid (of : BlockLine → Tag) (t : Text) (tag : Tag) (rest : Text) : Type 0 where
+  pub said : BlockSaid of t tag rest
+  pub is : IsDecoratorLine t said.line rest
+
 pub record CommentSaid (t : Text) (tag : Tag) (rest : Text) : Type 0 where
   pub kept : Text
   pub is : IsComment t kept rest
@@ -51,6 +55,8 @@ Said inverse_kind t tag rest = TextSaid tag inverse_tag rest t
 Said else_kind t tag rest = TextSaid tag inverse_tag rest t ⊎ ChainSaid t tag rest
 Said raw_kind t tag rest = BlockSaid raw_tag t tag rest
 Said raw_close_kind t tag rest = RawCloseSaid t tag rest
+Said decorator_kind t tag rest = DecoratorSaid decorator_tag t tag rest
+Said decorator_block_kind t tag rest = DecoratorSaid decorator_block_tag t tag rest
 Said comment_kind t tag rest = CommentSaid t tag rest
 Said other_kind t tag rest = ⊥
 
@@ -65,6 +71,8 @@ said _ _ _ _ (an_else t) = inl (record { gives = refl; rests = refl })
 said _ _ _ _ (a_chain {line = line} white is) = inr (record { white = white; said = record { line = line; is = is; gives = refl } })
 said _ _ _ _ (a_raw_block {line = line} is) = record { line = line; is = is; gives = refl }
 said _ _ _ _ (a_raw_close t some) = record { some = some; said = record { gives = refl; rests = refl } }
+said _ _ _ _ (a_decorator {line = line} is) = record { said = record { line = line; is = is.is_line; gives = refl }; is = is }
+said _ _ _ _ (a_decorator_block {line = line} is) = record { said = record { line = line; is = is.is_line; gives = refl }; is = is }
 said _ _ _ _ (a_comment {kept = kept} is) = record { kept = kept; is = is; gives = refl }
 
 -- ---- the lines of blocks inside tags
@@ -83,6 +91,12 @@ only_block t tag right rest h = record { behind = h.behind; said = said block_ki
 
 pub only_raw : (t : Text) → OnlyBlock raw_kind raw_tag t t
 only_raw t tag right rest h = record { behind = h.behind; said = said raw_kind t tag h.behind h.says; closes = h.closes }
+
+pub only_decorator : (t : Text) → OnlyBlock decorator_kind decorator_tag t t
+only_decorator t tag right rest h = let s = said decorator_kind t tag h.behind h.says in record { behind = h.behind; said = s.said; closes = h.closes }
+
+pub only_decorator_block : (t : Text) → OnlyBlock decorator_block_kind decorator_block_tag t t
+only_decorator_block t tag right rest h = let s = said decorator_block_kind t tag h.behind h.says in record { behind = h.behind; said = s.said; closes = h.closes }
 
 -- where nothing closes the `else`
 open_else : (t : Text) (tag : Tag) (right : Bool) (rest : Text) → closing_of else_kind t ≡ None → (h : IsClosed else_kind t tag right rest) → ChainSaid t tag h.behind
@@ -107,6 +121,12 @@ none_closing-block k of t inside left line only is none tag right rest h =
     let b = only tag right rest h in
     let one = one_block_line t line b.said.line left b.behind is b.said.is in
     none-some (right, rest) (sym none ∙ ap (closing_of k) one.1 ∙ b.closes)
+
+pub none-decorator : (t : Text) → NoDecoratorLine t → NoneClosed decorator_kind t
+none-decorator t none tag right rest h = let s = said decorator_kind t tag h.behind h.says in none s.said.line h.behind s.is
+
+pub none-decorator_block : (t : Text) → NoDecoratorLine t → NoneClosed decorator_block_kind t
+none-decorator_block t none tag right rest h = let s = said decorator_block_kind t tag h.behind h.says in none s.said.line h.behind s.is
 
 -- ---- values
 

@@ -15,6 +15,7 @@ use Rattle.handlebars_tags.specs.declared.tag.inside.Content.{Content}
 use Rattle.handlebars_tags.specs.declared.tag.inside.Content.TheVariants.{Expression, Html, Inverse, Close, RawClose, Comment}
 use Rattle.handlebars_base.specs.Texts.{symbols_of, behind_symbols}
 use Rattle.handlebars_lines.specs.LineView.{texts_of}
+use Rattle.handlebars_lines.specs.BindingView.{bound_names_of}
 use Rattle.handlebars_tags.specs.declared.tag.inside.BlockRead.{BlockRead}
 use Rattle.handlebars_tags.proofs.Insides.{OnlyBlock, none-closed_line, none-expression, none-html, none-html_sign, none_closing-block, none-close, none-raw_close, none-inverse}
 
@@ -61,7 +62,7 @@ html_sign_read t (Some i) h = value_inside html_sign_kind html_tag t.now (Html t
 pub record Blocks (k : TagKind) (of : BlockLine → Tag) (t inside : Text) (content : Content) (read : BlockRead) : Type 0 where
   pub only : OnlyBlock k of t inside
   pub deep : (line : BlockLine) → tag_depth (of line) ≡ line.depth
-  pub says : (line : BlockLine) (rest : Text) → IsBlockLine t line rest → Says k inside (of line) rest
+  pub says : (line : BlockLine) (rest : Text) → IsBlockLine t line rest → line.binding ≡ bound_names_of read.slice.binding → Says k inside (of line) rest
   pub holds : (tag : Tag) → HoldsBlock of read.slice tag → Holds content tag
 
 pub block_read : (k : TagKind) (of : BlockLine → Tag) (t inside : Text) (content : Content) (read : BlockRead) (r : Option Inside) → Blocks k of t inside content read → HasBlock t read
@@ -74,7 +75,7 @@ block_read k of t inside content read (Some i) b has h =
     let is : IsBlockLine t has.line read.rest.now = subst (λ (z : Text). IsBlockLine z has.line read.rest.now) has.whole has.is_slice.is_line in (
       record {
         tag = of has.line;
-        is = record { behind = read.rest.now; says = b.says has.line read.rest.now is; closes = h.closes };
+        is = record { behind = read.rest.now; says = b.says has.line read.rest.now is has.is_slice.is_binding; closes = h.closes };
         deep = b.deep has.line ∙ has.deep ∙ sym h.deep;
         holds = subst (λ (z : Content). Holds z (of has.line)) (sym h.is_content) (b.holds (of has.line) (record { line = has.line; rest = read.rest.now; is_slice = has.is_slice; gives = refl }));
       },

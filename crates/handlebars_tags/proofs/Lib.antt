@@ -10,6 +10,7 @@ pub mod BlockLines
 pub mod Insides
 pub mod InsidesRead
 pub mod BlocksRead
+pub mod DecoratorLines
 pub mod Beginnings
 pub mod InsideAt
 pub mod TagEnds

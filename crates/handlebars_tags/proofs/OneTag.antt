@@ -10,7 +10,7 @@ use Rattle.handlebars_base.proofs.Bytes.{other_byte}
 use Rattle.handlebars_lines.specs.Line.{value_name, Line, in_tag, tilde}
 use Rattle.handlebars_lines.proofs.LineFronts.{begins}
 use Rattle.handlebars_lines.proofs.Lines.{one_line}
-use Rattle.handlebars_tags.specs.Kind.{TagKind, expression_kind, html_kind, html_sign_kind, block_kind, close_kind, inverse_kind, else_kind, raw_kind, raw_close_kind, comment_kind, other_kind, beginning_of, closing_of}
+use Rattle.handlebars_tags.specs.Kind.{TagKind, expression_kind, html_kind, html_sign_kind, block_kind, close_kind, inverse_kind, else_kind, raw_kind, raw_close_kind, decorator_kind, decorator_block_kind, comment_kind, other_kind, beginning_of, closing_of}
 use Rattle.handlebars_tags.specs.Tag.{Tag, comment_tag, BlockLine, IsBlockLine, Tildes, OneTag}
 use Rattle.handlebars_tags.specs.TagReading.{IsClosed}
 use Rattle.handlebars_tags.proofs.LineNames.{line_starts}
@@ -65,6 +65,8 @@ one_said else_kind t tag tag' rest rest' p q e f (inr h) (inl k) = closed_line t
 one_said else_kind t tag tag' rest rest' p q e f (inr h) (inr k) = one_block _ (behind_white t) tag tag' rest rest' h.said k.said
 one_said raw_kind t tag tag' rest rest' p q e f h k = one_block _ t tag tag' rest rest' h k
 one_said raw_close_kind t tag tag' rest rest' p q e f h k = one_text tag tag' _ rest rest' _ h.said k.said
+one_said decorator_kind t tag tag' rest rest' p q e f h k = one_block _ t tag tag' rest rest' h.said k.said
+one_said decorator_block_kind t tag tag' rest rest' p q e f h k = one_block _ t tag tag' rest rest' h.said k.said
 one_said comment_kind t tag tag' rest rest' p q e f h k =
     let one = one_comment t h.kept k.kept rest rest' h.is k.is in
     record { tags = h.gives ∙ ap comment_tag one.0 ∙ sym k.gives; rests = one.1 }

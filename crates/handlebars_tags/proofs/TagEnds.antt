@@ -11,7 +11,7 @@ use Rattle.handlebars_lines.specs.Parameter.{spelled_items}
 use Rattle.handlebars_lines.specs.Line.{NameMode, spelled_name, Line, Enclosure, IsLine, tilde}
 use Rattle.handlebars_lines.proofs.CloseNames.{close_name-whole}
 use Rattle.handlebars_lines.specs.Binding.{BoundNames, bar, IsBinding, is_unbound, is_bound, spelled_names}
-use Rattle.handlebars_tags.specs.Kind.{TagKind, expression_kind, html_kind, html_sign_kind, block_kind, close_kind, inverse_kind, else_kind, raw_kind, raw_close_kind, comment_kind, other_kind, past, tilde_at, close_by, brace_tilde_braces, three_close, closing_of}
+use Rattle.handlebars_tags.specs.Kind.{TagKind, expression_kind, html_kind, html_sign_kind, block_kind, close_kind, inverse_kind, else_kind, raw_kind, raw_close_kind, decorator_kind, decorator_block_kind, comment_kind, other_kind, past, tilde_at, close_by, brace_tilde_braces, three_close, closing_of}
 use Rattle.handlebars_tags.specs.Comment.{IsComment, long, compact}
 use Rattle.handlebars_lines.specs.CloseName.{close_name_at}
 use Rattle.handlebars_tags.specs.Tag.{Tag, BlockLine, IsBlockLine, Says}
@@ -55,6 +55,8 @@ end-closing inverse_kind t p e = end-close_by (codes "}}") t p e
 end-closing else_kind t p e = end-close_by (codes "}}") t p e
 end-closing raw_kind t p e = end-close_by (codes "}}}}") t p e
 end-closing raw_close_kind t p e = end-close_by (codes "}}}}") t p e
+end-closing decorator_kind t p e = end-close_by (codes "}}") t p e
+end-closing decorator_block_kind t p e = end-close_by (codes "}}") t p e
 end-closing comment_kind t p e = subst (λ (q : Bool × Text). IsEnd t q.1) (same_Some (false, t) p e) (end-all t)
 end-closing other_kind t p e = absurd (none-some p e)
 
@@ -95,6 +97,8 @@ end-says else_kind t tag rest h = elim (said else_kind t tag rest h) [
 ]
 end-says raw_kind t tag rest h = let s = said raw_kind t tag rest h in end-block t rest s.line s.is
 end-says raw_close_kind t tag rest h = let s = said raw_close_kind t tag rest h in subst (IsEnd t) (sym s.said.rests) (end-drop (prefix_len is_symbol t) t)
+end-says decorator_kind t tag rest h = let s = said decorator_kind t tag rest h in end-block t rest s.said.line s.said.is
+end-says decorator_block_kind t tag rest h = let s = said decorator_block_kind t tag rest h in end-block t rest s.said.line s.said.is
 end-says comment_kind t tag rest h = let s = said comment_kind t tag rest h in end-comment t s.kept rest s.is
 end-says other_kind t tag rest h = absurd (said other_kind t tag rest h)
 

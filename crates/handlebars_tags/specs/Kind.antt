@@ -12,7 +12,7 @@ past (b ∷ mark) t = after b t >>= past mark
 
 -- a value, escaped, raw by its braces, or raw by a sign; the beginning of a block, its end, its inverse, or `else`,
 -- which is its inverse too or, with the line of a block, a chained one; the beginning of a raw block, or its end; a
--- comment; or a tag of a kind that the language doesn't have yet
+-- decorator, or the beginning of its block; a comment; or a tag of a kind that the language doesn't have yet
 pub data TagKind : Type 0 where
   expression_kind : TagKind
   html_kind : TagKind
@@ -23,6 +23,8 @@ pub data TagKind : Type 0 where
   else_kind : TagKind
   raw_kind : TagKind
   raw_close_kind : TagKind
+  decorator_kind : TagKind
+  decorator_block_kind : TagKind
   comment_kind : TagKind
   other_kind : TagKind
 
@@ -64,8 +66,7 @@ pub record Row : Type 0 where
 abbrev pub row : Text → Tilde → Sign → TagKind → Row
 row braces tilde sign kind = record { braces = braces; tilde = tilde; sign = sign; kind = kind }
 
--- The ordered table: a tag is of the kind of the first row that stands in front. `*` and `>` are the signs of decorators
--- and of inclusions.
+-- The ordered table: a tag is of the kind of the first row that stands in front. `>` is the sign of inclusions.
 abbrev pub rows : List Row
 rows =
     row (codes "{{{{") maybe_tilde (mark (codes "/")) raw_close_kind ∷
@@ -74,12 +75,12 @@ rows =
     row (codes "{{!") no_tilde no_sign comment_kind ∷
     row (codes "{{") a_tilde (mark (codes "{")) html_kind ∷
     row (codes "{{") maybe_tilde (mark (codes "&")) html_sign_kind ∷
-    row (codes "{{") maybe_tilde (mark (codes "#*")) other_kind ∷
+    row (codes "{{") maybe_tilde (mark (codes "#*")) decorator_block_kind ∷
     row (codes "{{") maybe_tilde (mark (codes "#>")) other_kind ∷
     row (codes "{{") maybe_tilde (mark (codes "#")) block_kind ∷
     row (codes "{{") maybe_tilde (mark (codes "/")) close_kind ∷
     row (codes "{{") maybe_tilde (mark (codes "^")) inverse_kind ∷
-    row (codes "{{") maybe_tilde (mark (codes "*")) other_kind ∷
+    row (codes "{{") maybe_tilde (mark (codes "*")) decorator_kind ∷
     row (codes "{{") maybe_tilde (mark (codes ">")) other_kind ∷
     row (codes "{{") maybe_tilde (word (codes "else")) else_kind ∷
     row (codes "{{") maybe_tilde no_sign expression_kind ∷ []

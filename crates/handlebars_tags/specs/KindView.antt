@@ -2,7 +2,7 @@
 use Rattle.std.specs.Prelude.{Bool}
 use denote.Ref.{Bor}
 use Rattle.handlebars_base.specs.Bytes.{Text}
-use Rattle.handlebars_tags.specs.Kind.{TagKind, expression_kind, html_kind, html_sign_kind, block_kind, close_kind, inverse_kind, else_kind, raw_kind, raw_close_kind, comment_kind, other_kind, TagBeginning, beginning}
+use Rattle.handlebars_tags.specs.Kind.{TagKind, expression_kind, html_kind, html_sign_kind, block_kind, close_kind, inverse_kind, else_kind, raw_kind, raw_close_kind, decorator_kind, decorator_block_kind, comment_kind, other_kind, TagBeginning, beginning}
 use Rattle.handlebars_tags.specs.declared.tag.beginning.TagKind.{TagKind as ReadKind}
 use Rattle.handlebars_tags.specs.declared.tag.beginning.TagKind.TheVariants as kind
 use Rattle.handlebars_tags.specs.declared.tag.beginning.TagBeginning.{TagBeginning as ReadBeginning}
@@ -17,6 +17,8 @@ kind_of kind.Inverse = inverse_kind
 kind_of kind.Else = else_kind
 kind_of kind.Raw = raw_kind
 kind_of kind.RawClose = raw_close_kind
+kind_of kind.Decorator = decorator_kind
+kind_of kind.DecoratorBlock = decorator_block_kind
 kind_of kind.Comment = comment_kind
 kind_of kind.Other = other_kind
 

@@ -5,14 +5,14 @@ use Rattle.handlebars_base.specs.Texts.{starts, symbols_of, behind_symbols}
 use Rattle.handlebars_lines.specs.Parameter.{Terms, name_term}
 use Rattle.handlebars_lines.specs.CloseName.{close_name_at}
 use Rattle.handlebars_lines.specs.Line.{identifier_name, value_name, Line, in_tag, in_block, IsLine}
-use Rattle.handlebars_lines.specs.Binding.{BoundNames, IsBinding}
-use Rattle.handlebars_tags.specs.Kind.{TagKind, expression_kind, html_kind, html_sign_kind, block_kind, close_kind, inverse_kind, else_kind, raw_kind, raw_close_kind, comment_kind, TagBeginning, beginning_of, closing_of}
+use Rattle.handlebars_lines.specs.Binding.{BoundNames, unbound, IsBinding}
+use Rattle.handlebars_tags.specs.Kind.{TagKind, expression_kind, html_kind, html_sign_kind, block_kind, close_kind, inverse_kind, else_kind, raw_kind, raw_close_kind, decorator_kind, decorator_block_kind, comment_kind, TagBeginning, beginning_of, closing_of}
 use Rattle.handlebars_tags.specs.Comment.{IsComment}
 
 -- ---- what tags say
 
--- the line of a block: its name, what stands behind it, the names that it binds, and the most parentheses and brackets
--- open at once in it
+-- the line of a block or of a decorator: its name, what stands behind it, the names that it binds, and the most
+-- parentheses and brackets open at once in it
 pub record BlockLine : Type 0 where
   pub name : Text
   pub terms : Terms
@@ -20,7 +20,7 @@ pub record BlockLine : Type 0 where
   pub depth : ℕ
 
 -- a value or a call, escaped or raw; a block, its inverse, a chained inverse and its end, with the name that closes it,
--- empty or not; a raw block and its end; a comment by its text
+-- empty or not; a raw block and its end; a decorator, alone or with a block; a comment by its text
 pub data Tag : Type 0 where
   expression_tag : Line → Tag
   html_tag : Line → Tag
@@ -30,6 +30,8 @@ pub data Tag : Type 0 where
   close_tag : Text → Tag
   raw_tag : BlockLine → Tag
   raw_close_tag : Text → Tag
+  decorator_tag : BlockLine → Tag
+  decorator_block_tag : BlockLine → Tag
   comment_tag : Text → Tag
 
 -- whether a tilde stands behind its opening braces, and before its closing ones
@@ -44,6 +46,8 @@ tag_depth (html_tag line) = line.depth
 tag_depth (block_tag line) = line.depth
 tag_depth (chain_tag line) = line.depth
 tag_depth (raw_tag line) = line.depth
+tag_depth (decorator_tag line) = line.depth
+tag_depth (decorator_block_tag line) = line.depth
 tag_depth t = 0
 
 -- ---- what stands between the marks
@@ -54,6 +58,11 @@ pub record IsBlockLine (text : Text) (means : BlockLine) (rest : Text) : Type 0 
   pub is_line : IsLine identifier_name in_block text
       (record { name = name_term means.name; terms = means.terms; depth = means.depth }) behind
   pub binds : IsBinding behind means.binding rest
+
+-- the line of a decorator: that of a block, with no block parameters
+pub record IsDecoratorLine (text : Text) (means : BlockLine) (rest : Text) : Type 0 where
+  pub is_line : IsBlockLine text means rest
+  pub binds_none : means.binding ≡ unbound
 
 -- Says kind inside tag rest: what is inside a tag of this kind says so much, and the rest follows it.
 pub data Says : TagKind → Text → Tag → Text → Type 0 where
@@ -69,6 +78,9 @@ pub data Says : TagKind → Text → Tag → Text → Type 0 where
       → Says else_kind t (chain_tag line) rest
   a_raw_block : {t rest : Text} {line : BlockLine} → IsBlockLine t line rest → Says raw_kind t (raw_tag line) rest
   a_raw_close : (t : Text) → symbols_of t ≢ [] → Says raw_close_kind t (raw_close_tag (symbols_of t)) (behind_symbols t)
+  a_decorator : {t rest : Text} {line : BlockLine} → IsDecoratorLine t line rest → Says decorator_kind t (decorator_tag line) rest
+  a_decorator_block : {t rest : Text} {line : BlockLine} → IsDecoratorLine t line rest
+      → Says decorator_block_kind t (decorator_block_tag line) rest
   a_comment : {t rest kept : Text} → IsComment t kept rest → Says comment_kind t (comment_tag kept) rest
 
 -- ---- tags

@@ -3,11 +3,15 @@ use Rattle.std.specs.Prelude.{◌≡◌, Bool, Some}
 use Rattle.handlebars_base.specs.Bytes.{Text}
 use Rattle.handlebars_lines.specs.Line.{value_name, Line, in_tag, IsLine}
 use Rattle.handlebars_tags.specs.Kind.{TagKind, closing_of}
-use Rattle.handlebars_tags.specs.Tag.{Tag, BlockLine, IsBlockLine, Says}
+use Rattle.handlebars_tags.specs.Tag.{Tag, BlockLine, IsBlockLine, IsDecoratorLine, Says}
 
 -- no line of a block stands in front
 abbrev pub NoBlockLine : Text → Type 0
 NoBlockLine t = (line : BlockLine) (rest : Text) → IsBlockLine t line rest → ⊥
+
+-- no line of a decorator stands in front
+abbrev pub NoDecoratorLine : Text → Type 0
+NoDecoratorLine t = (line : BlockLine) (rest : Text) → IsDecoratorLine t line rest → ⊥
 
 -- What is inside a tag of this kind says so much, and is closed with a tilde or without, and the rest follows.
 pub record IsClosed (kind : TagKind) (inside : Text) (tag : Tag) (right : Bool) (rest : Text) : Type 0 where

@@ -2,9 +2,10 @@
 use Rattle.std.specs.Prelude.{◌≡◌, ℕ, true, ◌++◌, Some}
 use Rattle.handlebars_base.specs.Bytes.{Text}
 use Rattle.handlebars_lines.specs.Line.{value_name, Line, in_tag, IsLine}
+use Rattle.handlebars_lines.specs.Binding.{unbound}
 use Rattle.handlebars_lines.specs.BindingView.{bound_names_of}
 use Rattle.handlebars_tags.specs.Kind.{TagKind, closing_of}
-use Rattle.handlebars_tags.specs.Tag.{BlockLine, IsBlockLine, Tag, expression_tag, html_tag, block_tag, inverse_tag, chain_tag, close_tag, raw_tag, raw_close_tag, comment_tag, tag_depth, IsTag}
+use Rattle.handlebars_tags.specs.Tag.{BlockLine, IsBlockLine, Tag, expression_tag, html_tag, block_tag, inverse_tag, chain_tag, close_tag, raw_tag, raw_close_tag, decorator_tag, decorator_block_tag, comment_tag, tag_depth, IsTag}
 use Rattle.handlebars_tags.specs.TagReading.{IsClosed}
 use Rattle.handlebars_tags.specs.declared.tag.inside.BlockSlice.{BlockSlice}
 use Rattle.handlebars_tags.specs.declared.tag.inside.Content.{Content}
@@ -20,7 +21,7 @@ pub record HoldsLine (of : Line → Tag) (text : Text) (tag : Tag) : Type 0 wher
   pub is_line : IsLine value_name in_tag text line behind
   pub gives : tag ≡ of line
 
--- A text, which begins with a line of a block, a name and what it binds are those of the block.
+-- A text, which begins with a line of a block or of a decorator, a name and what it binds are those of the line.
 pub record IsBlockSlice (slice : BlockSlice) (line : BlockLine) (rest : Text) : Type 0 where
   pub is_line : IsBlockLine slice.line.now line rest
   pub is_name : line.name ≡ slice.name.now
@@ -42,6 +43,8 @@ Holds (content.Chain slice) tag = HoldsBlock chain_tag slice tag
 Holds (content.Close name) tag = tag ≡ close_tag name.now
 Holds (content.RawBlock slice) tag = HoldsBlock raw_tag slice tag
 Holds (content.RawClose name) tag = tag ≡ raw_close_tag name.now
+Holds (content.Decorator slice) tag = HoldsBlock decorator_tag slice tag
+Holds (content.DecoratorBlock slice) tag = HoldsBlock decorator_block_tag slice tag
 Holds (content.Comment text) tag = tag ≡ comment_tag text.now
 
 -- The line of a block was read so.
@@ -64,6 +67,11 @@ pub record HasClosedLine (kind : TagKind) (text : Text) (content : Content) (rea
   pub behind : Text
   pub is_line : IsLine value_name in_tag text line behind
   pub closing : HasClosing kind behind content line.depth read
+
+-- The line of a decorator was read so.
+pub record HasDecorator (text : Text) (read : BlockRead) : Type 0 where
+  pub has : HasBlock text read
+  pub binds_none : bound_names_of read.slice.binding ≡ unbound
 
 -- What stands inside a tag of this kind, and closes it, was read so.
 pub record HasInside (kind : TagKind) (inside : Text) (read : Inside) : Type 0 where

@@ -4,10 +4,10 @@ use Rattle.std.specs.Prelude.{◌==◌, not}
 use Rattle.std.proofs.lemmas.Bool.{ne_eqb}
 use Rattle.std.proofs.lemmas.List.{reverse-append, map-append}
 use Rattle.handlebars_template.specs.Place.{Place}
-use Rattle.handlebars_template.specs.Tree.{Element, helper_block, Call, Body, no_body}
+use Rattle.handlebars_template.specs.Tree.{Element, Call, Body, no_body}
 use Rattle.handlebars_template.specs.TreeView.{place_of, element_view}
 use Rattle.handlebars_template.specs.Nest.{Opening, Placed, Branch, body_with, block_call, inverse_of, is_chain}
-use Rattle.handlebars_template.specs.Machine.{in_branch, in_inverse, closed_block}
+use Rattle.handlebars_template.specs.Machine.{in_branch, in_inverse, closed_call}
 use Rattle.handlebars_template.specs.NestView.{paired, branch_view, open_block_view, stack_view}
 use Rattle.handlebars_template.specs.declared.template.tree.TemplateMapping.{TemplateMapping}
 use Rattle.handlebars_template.specs.declared.template.tree.TemplateElement.{TemplateElement}
@@ -29,22 +29,22 @@ is_chain-append : (bs : List Branch) (b : Branch) → is_chain (bs ++ b ∷ []) 
 is_chain-append [] b = refl
 is_chain-append (a ∷ bs) b = refl
 
-pub closed_block-chained : (h : Call) (o g : Opening) (first es : List Placed) (bs cs : List Branch) (inverse : Body)
+pub closed_call-chained : (h : Call) (o g : Opening) (first es : List Placed) (bs cs : List Branch) (inverse : Body)
     → h ≡ block_call o first inverse true → inverse ≡ inverse_of cs no_body → cs ≡ bs ++ record { opening = g; elements = es } ∷ []
-    → helper_block h ≡ closed_block (in_branch g) o first bs es
-closed_block-chained h o g first es bs cs inverse is chained more =
+    → h ≡ closed_call (in_branch g) o first bs es
+closed_call-chained h o g first es bs cs inverse is chained more =
     let last : Branch = record { opening = g; elements = es } in
-    ap helper_block is
-    ∙ ap (λ (i : Body). helper_block (block_call o first i true)) (chained ∙ ap (λ (x : List Branch). inverse_of x no_body) more)
-    ∙ ap (λ (b : Bool). helper_block (block_call o first (inverse_of (bs ++ last ∷ []) no_body) b)) (sym (is_chain-append bs last))
+    is
+    ∙ ap (λ (i : Body). block_call o first i true) (chained ∙ ap (λ (x : List Branch). inverse_of x no_body) more)
+    ∙ ap (λ (b : Bool). block_call o first (inverse_of (bs ++ last ∷ []) no_body) b) (sym (is_chain-append bs last))
 
-pub closed_block-inverse : (h : Call) (o : Opening) (first es : List Placed) (bs : List Branch) (inverse last : Body) (chain : Bool)
+pub closed_call-inverse : (h : Call) (o : Opening) (first es : List Placed) (bs : List Branch) (inverse last : Body) (chain : Bool)
     → h ≡ block_call o first inverse chain → inverse ≡ inverse_of bs last → last ≡ body_with es → chain ≡ is_chain bs
-    → helper_block h ≡ closed_block in_inverse o first bs es
-closed_block-inverse h o first es bs inverse last chain is chained whole same =
-    ap helper_block is
-    ∙ ap (λ (i : Body). helper_block (block_call o first i chain)) (chained ∙ ap (inverse_of bs) whole)
-    ∙ ap (λ (b : Bool). helper_block (block_call o first (inverse_of bs (body_with es)) b)) same
+    → h ≡ closed_call in_inverse o first bs es
+closed_call-inverse h o first es bs inverse last chain is chained whole same =
+    is
+    ∙ ap (λ (i : Body). block_call o first i chain) (chained ∙ ap (inverse_of bs) whole)
+    ∙ ap (λ (b : Bool). block_call o first (inverse_of bs (body_with es)) b) same
 
 pub is_chain-view : (bs : List BuiltBranch) → not (length bs == 0) ≡ is_chain (map branch_view bs)
 is_chain-view [] = refl

@@ -10,15 +10,15 @@ use Rattle.handlebars_lines.specs.Parameter.{Term, literal_term, path_term, name
 use Rattle.handlebars_lines.specs.CloseName.{close_name_at}
 use Rattle.handlebars_lines.specs.Line.{NameMode, identifier_name, value_name, Enclosure, in_tag, in_block, Line, IsLine, NoLine}
 use Rattle.handlebars_lines.specs.LineReading.{line_stand, at_name, line_step, line_from}
-use Rattle.handlebars_lines.specs.Binding.{BoundNames}
+use Rattle.handlebars_lines.specs.Binding.{BoundNames, unbound, bound, both_bound}
 use Rattle.handlebars_lines.specs.BindingReading.{binding_at}
 use Rattle.handlebars_lines.proofs.Stepping.{run-runs, run-some}
 use Rattle.handlebars_lines.proofs.Lines.{line_made, line_found}
 use Rattle.handlebars_lines.proofs.LineBounds.{line_shortens}
 use Rattle.handlebars_lines.proofs.Bindings.{binding_at-takes}
 use Rattle.handlebars_tags.specs.Text.{Braces, IsText, at_end, at_tag, a_byte, braces, before_braces}
-use Rattle.handlebars_tags.specs.Kind.{TagKind, expression_kind, html_kind, html_sign_kind, block_kind, close_kind, inverse_kind, else_kind, raw_kind, raw_close_kind, comment_kind, other_kind, TagBeginning, beginning, beginning_of, closing_of}
-use Rattle.handlebars_tags.specs.Tag.{BlockLine, Tag, expression_tag, html_tag, block_tag, inverse_tag, chain_tag, close_tag, raw_tag, raw_close_tag, Tildes, IsBlockLine, Says, a_value, a_raw_value, a_signed_value, a_block, a_close, an_inverse, an_else, a_chain, a_raw_block, a_raw_close, IsTag, NoTag}
+use Rattle.handlebars_tags.specs.Kind.{TagKind, expression_kind, html_kind, html_sign_kind, block_kind, close_kind, inverse_kind, else_kind, raw_kind, raw_close_kind, decorator_kind, decorator_block_kind, comment_kind, other_kind, TagBeginning, beginning, beginning_of, closing_of}
+use Rattle.handlebars_tags.specs.Tag.{BlockLine, Tag, expression_tag, html_tag, block_tag, inverse_tag, chain_tag, close_tag, raw_tag, raw_close_tag, decorator_tag, decorator_block_tag, Tildes, IsBlockLine, IsDecoratorLine, Says, a_value, a_raw_value, a_signed_value, a_block, a_close, an_inverse, an_else, a_chain, a_raw_block, a_raw_close, a_decorator, a_decorator_block, IsTag, NoTag}
 
 -- a value where a test holds
 abbrev pub guarded : {A : Type 0} → Bool → A → Option A
@@ -73,6 +73,25 @@ block_line_at-is t q e =
       binds = binding_at-takes l.0.1 b.0 b.1;
     })
 
+abbrev binds_none : BoundNames → Bool
+binds_none unbound = true
+binds_none (bound x) = false
+binds_none (both_bound x y) = false
+
+binds_none-is : (b : BoundNames) → binds_none b ≡ true → b ≡ unbound
+binds_none-is unbound e = refl
+binds_none-is (bound x) e = absurd cc
+binds_none-is (both_bound x y) e = absurd cc
+
+abbrev decorator_line_at : Text → Option (BlockLine × Text)
+decorator_line_at t = block_line_at t >>= λ l. guarded (binds_none l.0.binding) l
+
+decorator_line_at-is : (t : Text) (q : BlockLine × Text) → decorator_line_at t ≡ Some q → IsDecoratorLine t q.0 q.1
+decorator_line_at-is t q e =
+    let l = bind_some (block_line_at t) _ q e in
+    let g = guarded_some (binds_none l.0.0.binding) l.0 q l.2 in
+    subst (λ (z : BlockLine × Text). IsDecoratorLine t z.0 z.1) g.1 (record { is_line = block_line_at-is t l.0 l.1; binds_none = binds_none-is l.0.0.binding g.0 })
+
 -- ---- tags
 
 abbrev tagged : (Line → Tag) → Option (Line × Text) → Option (Tag × Text)
@@ -99,6 +118,8 @@ says_at inverse_kind t = Some (inverse_tag, t)
 says_at else_kind t = else_at (closing_of else_kind t) t
 says_at raw_kind t = block_tagged raw_tag (block_line_at t)
 says_at raw_close_kind t = raw_close_at (symbols_of t) (behind_symbols t)
+says_at decorator_kind t = block_tagged decorator_tag (decorator_line_at t)
+says_at decorator_block_kind t = block_tagged decorator_block_tag (decorator_line_at t)
 says_at comment_kind t = None
 says_at other_kind t = None
 
@@ -116,6 +137,12 @@ block_tagged-is : (k : TagKind) (f : BlockLine → Tag) (t inside : Text) (q : T
 block_tagged-is k f t inside q e says =
     let l = bind_some (block_line_at t) _ q e in
     subst (SaysSo k inside) (same_Some (f l.0.0, l.0.1) q l.2) (says l.0.0 l.0.1 (block_line_at-is t l.0 l.1))
+
+decorator_tagged-is : (k : TagKind) (f : BlockLine → Tag) (t : Text) (q : Tag × Text) → block_tagged f (decorator_line_at t) ≡ Some q
+    → ((line : BlockLine) (rest : Text) → IsDecoratorLine t line rest → Says k t (f line) rest) → Says k t q.0 q.1
+decorator_tagged-is k f t q e says =
+    let l = bind_some (decorator_line_at t) _ q e in
+    subst (SaysSo k t) (same_Some (f l.0.0, l.0.1) q l.2) (says l.0.0 l.0.1 (decorator_line_at-is t l.0 l.1))
 
 else_at-is : (o : Option (Bool × Text)) (t : Text) (q : Tag × Text) → else_at o t ≡ Some q → Says else_kind t q.0 q.1
 else_at-is (Some c) t q e = subst (SaysSo else_kind t) (same_Some (inverse_tag, t) q e) (an_else t)
@@ -143,6 +170,8 @@ says_at-is inverse_kind t q e = subst (SaysSo inverse_kind t) (same_Some (invers
 says_at-is else_kind t q e = else_at-is (closing_of else_kind t) t q e
 says_at-is raw_kind t q e = block_tagged-is raw_kind raw_tag t t q e (λ line rest is. a_raw_block is)
 says_at-is raw_close_kind t q e = raw_close_at-is (symbols_of t) t q refl e
+says_at-is decorator_kind t q e = decorator_tagged-is decorator_kind decorator_tag t q e (λ line rest is. a_decorator is)
+says_at-is decorator_block_kind t q e = decorator_tagged-is decorator_block_kind decorator_block_tag t q e (λ line rest is. a_decorator_block is)
 says_at-is comment_kind t q e = absurd (none-some q e)
 says_at-is other_kind t q e = absurd (none-some q e)
 

@@ -13,11 +13,11 @@ use Rattle.handlebars_tags.specs.declared.tag.inside.BlockSlice.{BlockSlice}
 use Rattle.handlebars_template.specs.Place.{Place}
 use Rattle.handlebars_template.specs.Tree.{Element, Args, no_arguments, name, both}
 use Rattle.handlebars_template.specs.TreeView.{text, binding_view}
-use Rattle.handlebars_template.specs.Calls.{call_of, first_refused, line_literals}
+use Rattle.handlebars_template.specs.Calls.{call_of, first_refused, literals_in, line_literals}
 use Rattle.handlebars_template.specs.Nest.{BlockKind, helper_opening, Opening as Said, SourcePiece, leaf, opens, chains}
 use Rattle.handlebars_template.specs.NestView.{opening_view, early, Looks, Does}
 use Rattle.handlebars_template.specs.Compile.{block_binding, opening_of, tag_piece}
-use Rattle.handlebars_template.specs.ScanView.{value_element, value_piece, block_piece, chain_piece, HasOpening}
+use Rattle.handlebars_template.specs.ScanView.{value_element, value_piece, block_piece, chain_piece, decorator_element, decorator_piece, HasOpening}
 use Rattle.handlebars_template.specs.declared.template.nest.Nesting.{Nesting}
 use Rattle.handlebars_template.specs.declared.template.nest.SyntaxFault.{SyntaxFault}
 use Rattle.handlebars_template.specs.declared.template.tags.BuiltOpening.{BuiltOpening}
@@ -61,6 +61,13 @@ pub Does-chains : (options : Options) (old new : Nesting) (p : Place) (e : Edge)
 Does-chains options old new p e line built o does =
     subst (λ (r : Option Text). Does old (chains p (opening_of options helper_opening e line) line.depth r) new) o.refused
     (subst (λ (x : Said). Does old (chains p x line.depth (option_map (λ t. t.now) built.refused)) new) o.opening (does line.depth))
+
+pub Does-decorator : (options : Options) (old new : Nesting) (p : Place) (e : Edge) (line : BlockLine) (x : Element) (refused : Option Text)
+    → x ≡ decorator_element options e line → refused ≡ first_refused (literals_in line.terms)
+    → ((n : ℕ) → Does old (leaf p x n refused) new) → Does old (decorator_piece options p e line) new
+Does-decorator options old new p e line x refused one two does =
+    subst (λ (r : Option Text). Does old (leaf p (decorator_element options e line) line.depth r) new) two
+    (subst (λ (y : Element). Does old (leaf p y line.depth refused) new) one (does line.depth))
 
 pub Does-line : (options : Options) (old new : Nesting) (p : Place) (e : Edge) (of : Line → Tag) (t : Text) (tag : Tag) → HoldsLine of t tag
     → ((line : Line) (rest : Text) → IsLine value_name in_tag t line rest → Does old (tag_piece options p e (of line)) new) → Does old (tag_piece options p e tag) new

@@ -4,14 +4,14 @@ use Rattle.handlebars_base.specs.Bytes.{Text}
 use Rattle.handlebars_base.specs.Reasons.{TemplateReason, TemplateRefusal, invalid_syntax, mismatching_closed_helper, mismatching_closed_decorator}
 use Rattle.handlebars_lines.specs.Binding.{BoundNames, unbound, bound, both_bound}
 use Rattle.handlebars_tags.specs.Text.{IsText, braces}
-use Rattle.handlebars_tags.specs.Tag.{Tag, expression_tag, html_tag, block_tag, inverse_tag, chain_tag, close_tag, raw_tag, raw_close_tag, comment_tag, BlockLine, Tildes, IsTag}
+use Rattle.handlebars_tags.specs.Tag.{Tag, expression_tag, html_tag, block_tag, inverse_tag, chain_tag, close_tag, raw_tag, raw_close_tag, decorator_tag, decorator_block_tag, comment_tag, BlockLine, Tildes, IsTag}
 use Rattle.handlebars_tags.specs.Trim.{Edge, braces_behind, trimmed, has_element}
 use Rattle.handlebars_tags.specs.Options.{Options}
 use Rattle.handlebars_template.specs.Place.{Place, place}
-use Rattle.handlebars_template.specs.Tree.{Tree, tree, elements_of, raw_string, html_expression, expression, comment, no_arguments, name, no_binding, single, both}
+use Rattle.handlebars_template.specs.Tree.{Tree, tree, elements_of, raw_string, html_expression, expression, decorator_expression, comment, no_body, no_arguments, name, no_binding, single, both}
 use Rattle.handlebars_template.specs.Tree as tree
 use Rattle.handlebars_template.specs.Calls.{call_of, arguments_in, line_literals, literals_in, first_refused, invalid}
-use Rattle.handlebars_template.specs.Nest.{BlockKind, helper_opening, raw_opening, decorator_opening, partial_opening, Opening, SourcePiece, leaf, opens, inverts, chains, closes, NestFault, unexpected, too_deep, not_closed, mismatched, no_value, Placed, syntax_alone, names_and_literals, Nests, OpenBlock, Opens, Refuses, LeavesOpen}
+use Rattle.handlebars_template.specs.Nest.{BlockKind, helper_opening, raw_opening, decorator_opening, partial_opening, Opening, SourcePiece, leaf, opens, inverts, chains, closes, NestFault, unexpected, too_deep, not_closed, mismatched, no_value, Placed, decorator_with, syntax_alone, names_and_literals, Nests, OpenBlock, Opens, Refuses, LeavesOpen}
 use Rattle.handlebars_template.specs.Cut.{Slice, text_slice, tag_slice, may_follow, Reads, IsCut}
 
 -- ---- what the slices stand for
@@ -26,7 +26,7 @@ block_binding (both_bound x y) = both (name x) (name y)
 abbrev pub is_indented : Options → Edge → Bool
 is_indented options e = e.standalone && not e.left
 
--- what the opening tag of a block says
+-- what the opening tag of a block says, and that of a decorator
 abbrev pub opening_of : Options → BlockKind → Edge → BlockLine → Opening
 opening_of options kind e line = record {
   kind = kind;
@@ -51,6 +51,11 @@ tag_piece options p e (close_tag n) = closes p false n
 tag_piece options p e (raw_tag line) =
     opens p (opening_of options raw_opening e line) line.depth (first_refused (literals_in line.terms))
 tag_piece options p e (raw_close_tag n) = closes p true n
+tag_piece options p e (decorator_tag line) =
+    leaf p (decorator_expression (decorator_with (opening_of options decorator_opening e line) no_body)) line.depth
+    (first_refused (literals_in line.terms))
+tag_piece options p e (decorator_block_tag line) =
+    opens p (opening_of options decorator_opening e line) line.depth (first_refused (literals_in line.terms))
 tag_piece options p e (comment_tag t) = leaf p (comment t) 0 None
 
 -- a text between two tags, where it has an element

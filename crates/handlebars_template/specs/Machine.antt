@@ -4,9 +4,9 @@ use Rattle.std.specs.Prelude.{ℕ, suc, ◌+◌, nat_lt, Bool, true, false, List
 use Rattle.std.specs.Option.{option_or}
 use Rattle.handlebars_base.specs.Bytes.{Text}
 use Rattle.handlebars_template.specs.Place.{Place}
-use Rattle.handlebars_template.specs.Tree.{Element, no_body}
+use Rattle.handlebars_template.specs.Tree.{Element, Call, no_body}
 use Rattle.handlebars_template.specs.Calls.{max_nesting}
-use Rattle.handlebars_template.specs.Nest.{BlockKind, Opening, SourcePiece, leaf, opens, inverts, chains, closes, refused_in, NestFault, unexpected, too_deep, mismatched, no_value, Placed, body_with, Branch, block_of, Tried, syntax_alone, names_and_literals, may_close, OpenBlock, may_stand_in}
+use Rattle.handlebars_template.specs.Nest.{BlockKind, Opening, SourcePiece, leaf, opens, inverts, chains, closes, refused_in, NestFault, unexpected, too_deep, mismatched, no_value, Placed, body_with, Branch, block_of, helper_call, Tried, syntax_alone, names_and_literals, may_close, OpenBlock, may_stand_in}
 
 -- an open block stands in its first body, in a chained inverse, or in its inverse
 pub data Stage : Type 0 where
@@ -41,6 +41,19 @@ closed_block in_first o first branches es = block_of o es [] no_body
 closed_block (in_branch g) o first branches es =
     block_of o first (branches ++ record { opening = g; elements = es } ∷ []) no_body
 closed_block in_inverse o first branches es = block_of o first branches (body_with es)
+
+-- the call that it is, of a helper
+abbrev pub closed_call : Stage → Opening → List Placed → List Branch → List Placed → Call
+closed_call in_first o first branches es = helper_call o es [] no_body
+closed_call (in_branch g) o first branches es =
+    helper_call o first (branches ++ record { opening = g; elements = es } ∷ []) no_body
+closed_call in_inverse o first branches es = helper_call o first branches (body_with es)
+
+-- its first body
+abbrev pub first_body : Stage → List Placed → List Placed → List Placed
+first_body in_first first es = es
+first_body (in_branch g) first es = first
+first_body in_inverse first es = first
 
 abbrev pub closed : BlockSoFar → List Placed → Placed
 closed f es = record { place = f.place; element = closed_block f.stage f.opening f.first f.branches es }

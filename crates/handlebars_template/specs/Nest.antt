@@ -3,13 +3,13 @@ use Rattle.std.specs.Prelude.{◌≡◌, ℕ, suc, ◌+◌, ◌<◌, ◌≤◌, 
 use Rattle.std.specs.Str.{bytes_eq}
 use Rattle.handlebars_base.specs.Bytes.{Text}
 use Rattle.handlebars_template.specs.Place.{Place}
-use Rattle.handlebars_template.specs.Tree.{tree, no_elements, element, elements_of, Element, helper_block, Call, call, Args, Param, Binding, Body, no_body, body, bodies}
+use Rattle.handlebars_template.specs.Tree.{tree, no_elements, element, elements_of, Element, helper_block, decorator_block, partial_block, Call, call, Decorator, decorator, Args, Param, Binding, Body, no_body, body, bodies}
 use Rattle.handlebars_template.specs.Calls.{max_nesting}
 
 -- ---- what stands along a source
 
--- What a tag opens: the block of a helper, a raw block, or the block of a decorator or of an inclusion. No tag of these
--- two is readable yet.
+-- What a tag opens: the block of a helper, a raw block, or the block of a decorator or of an inclusion. No tag of an
+-- inclusion is readable yet.
 pub data BlockKind : Type 0 where
   helper_opening : BlockKind
   raw_opening : BlockKind
@@ -115,9 +115,24 @@ abbrev pub is_chain : List Branch → Bool
 is_chain [] = false
 is_chain (b ∷ bs) = true
 
--- Only the blocks of helpers and raw blocks are read yet, and both make this element.
+-- the call that the block of a helper or a raw block is: a chain's later branches stand in its inverse
+abbrev pub helper_call : Opening → List Placed → List Branch → Body → Call
+helper_call o first branches last = block_call o first (inverse_of branches last) (is_chain branches)
+
+-- A decorator or an inclusion, from what its tag says, and its body. The indentation of a line is that of an inclusion
+-- without a block alone.
+abbrev pub decorator_with : Opening → Body → Decorator
+decorator_with o b = decorator o.name o.arguments b (record { indent = None; indent_before_write = o.indent })
+
+-- The block of a decorator or of an inclusion has one body.
+abbrev pub block_by : BlockKind → Opening → List Placed → List Branch → Body → Element
+block_by helper_opening o first branches last = helper_block (helper_call o first branches last)
+block_by raw_opening o first branches last = helper_block (helper_call o first branches last)
+block_by decorator_opening o first branches last = decorator_block (decorator_with o (body_with first))
+block_by partial_opening o first branches last = partial_block (decorator_with o (body_with first))
+
 abbrev pub block_of : Opening → List Placed → List Branch → Body → Element
-block_of o first branches last = helper_block (block_call o first (inverse_of branches last) (is_chain branches))
+block_of o first branches last = block_by o.kind o first branches last
 
 -- ---- what is tried
 

@@ -6,10 +6,10 @@ use Rattle.handlebars_tags.specs.Tag.{BlockLine}
 use Rattle.handlebars_tags.specs.Trim.{Edge, trimmed, has_element}
 use Rattle.handlebars_tags.specs.Options.{Options}
 use Rattle.handlebars_template.specs.Place.{Place}
-use Rattle.handlebars_template.specs.Tree.{Element, raw_string, html_expression, expression, Call}
+use Rattle.handlebars_template.specs.Tree.{Element, raw_string, html_expression, expression, decorator_expression, Call, no_body}
 use Rattle.handlebars_template.specs.TreeView.{place_of}
 use Rattle.handlebars_template.specs.Calls.{call_of, first_refused, literals_in, line_literals}
-use Rattle.handlebars_template.specs.Nest.{BlockKind, helper_opening, SourcePiece, leaf, opens, chains, not_closed, Placed}
+use Rattle.handlebars_template.specs.Nest.{BlockKind, helper_opening, decorator_opening, SourcePiece, leaf, opens, chains, not_closed, Placed, decorator_with}
 use Rattle.handlebars_template.specs.Machine.{End, complete, unclosed, refused as refused_end}
 use Rattle.handlebars_template.specs.NestView.{opening_view, syntax_fault, end_view}
 use Rattle.handlebars_template.specs.Compile.{opening_of, tree_of, unreadable_tag, refusal_for, Compiles, compiled, refused}
@@ -35,6 +35,14 @@ block_piece options kind p e line =
 
 abbrev pub chain_piece : Options → Place → Edge → BlockLine → SourcePiece
 chain_piece options p e line = chains p (opening_of options helper_opening e line) line.depth (first_refused (literals_in line.terms))
+
+abbrev pub decorator_element : Options → Edge → BlockLine → Element
+decorator_element options e line =
+    decorator_expression (decorator_with (opening_of options decorator_opening e line) no_body)
+
+abbrev pub decorator_piece : Options → Place → Edge → BlockLine → SourcePiece
+decorator_piece options p e line =
+    leaf p (decorator_element options e line) line.depth (first_refused (literals_in line.terms))
 
 -- the opening that this line of a block says, and its first refused literal
 pub record HasOpening (options : Options) (kind : BlockKind) (e : Edge) (line : BlockLine) (built : BuiltOpening) : Type 0 where

@@ -24,6 +24,8 @@ pub enum TagKind {
     Else,
     Raw,
     RawClose,
+    Decorator,
+    DecoratorBlock,
     Comment,
     Other,
 }
@@ -117,7 +119,7 @@ fn signed_at(tilde: bool, text: &str) -> TagBeginning<'_>
         b'#' => block_at(tilde, behind),
         b'/' => marked(TagKind::Close, tilde, behind),
         b'^' => marked(TagKind::Inverse, tilde, behind),
-        b'*' => marked(TagKind::Other, tilde, behind),
+        b'*' => marked(TagKind::Decorator, tilde, behind),
         b'>' => marked(TagKind::Other, tilde, behind),
         b'e' => worded_at(tilde, text),
         _ => unsigned(tilde, text),
@@ -132,7 +134,7 @@ fn block_at(tilde: bool, text: &str) -> TagBeginning<'_>
         return marked(TagKind::Block, tilde, text);
     };
     match sign {
-        b'*' => marked(TagKind::Other, tilde, inside),
+        b'*' => marked(TagKind::DecoratorBlock, tilde, inside),
         b'>' => marked(TagKind::Other, tilde, inside),
         _ => marked(TagKind::Block, tilde, text),
     }

@@ -25,6 +25,8 @@ pub fn closing_of(kind: TagKind, text: &str) -> Option<(bool, &str)>
         TagKind::Else => close_by("}}", text),
         TagKind::Raw => close_by("}}}}", text),
         TagKind::RawClose => close_by("}}}}", text),
+        TagKind::Decorator => close_by("}}", text),
+        TagKind::DecoratorBlock => close_by("}}", text),
         TagKind::Comment => Some((false, text)),
         TagKind::Other => None,
     }

@@ -2,10 +2,10 @@
 
 ghost use Rattle.std.specs.Prelude.{◌≡◌, true, IfOk, IfSome, MatchOption, Some, None, codes, drop};
 ghost use Rattle.handlebars_tags.specs.Comment.{HasNoLong};
-ghost use Rattle.handlebars_tags.specs.Kind.{past, closing_of, comment_kind, else_kind, block_kind, raw_kind, raw_close_kind, close_kind};
+ghost use Rattle.handlebars_tags.specs.Kind.{past, closing_of, comment_kind, else_kind, block_kind, raw_kind, raw_close_kind, close_kind, decorator_kind, decorator_block_kind};
 ghost use Rattle.handlebars_tags.specs.KindView.{kind_of};
-ghost use Rattle.handlebars_tags.specs.TagReading.{NoBlockLine, NoneClosed, NoClosedLine};
-ghost use Rattle.handlebars_tags.specs.TagView.{HasBlock, HasClosing, HasClosedLine, HasInside};
+ghost use Rattle.handlebars_tags.specs.TagReading.{NoBlockLine, NoDecoratorLine, NoneClosed, NoClosedLine};
+ghost use Rattle.handlebars_tags.specs.TagView.{HasBlock, HasDecorator, HasClosing, HasClosedLine, HasInside};
 
 use super::beginning::{TagBeginning, TagKind};
 use super::closing::closing_of;
@@ -30,11 +30,13 @@ pub enum Content<'a> {
     Close(&'a str),
     RawBlock(BlockSlice<'a>),
     RawClose(&'a str),
+    Decorator(BlockSlice<'a>),
+    DecoratorBlock(BlockSlice<'a>),
     /// A comment's text.
     Comment(&'a str),
 }
 
-/// The line of a block: the text that begins with it, its name, and what it binds.
+/// The line of a block or of a decorator: the text that begins with it, its name, and what it binds.
 #[derive(Clone, Copy)]
 pub struct BlockSlice<'a> {
     pub line: &'a str,
@@ -78,6 +80,8 @@ pub fn inside_at<'a>(
         TagKind::Else => inverse(alloc, text),
         TagKind::Raw => raw_block(alloc, text),
         TagKind::RawClose => Ok(raw_close(text)),
+        TagKind::Decorator => decorator(alloc, text),
+        TagKind::DecoratorBlock => decorator_block(alloc, text),
         TagKind::Comment => Ok(comment(left, long_ahead)),
         TagKind::Other => Ok(None),
     }
@@ -193,6 +197,36 @@ fn raw_close(text: &str) -> Option<Inside<'_>>
     }
 }
 
+fn decorator(alloc: Global, text: &str) -> Result<Option<Inside<'_>>, AllocError>
+    ensures { IfOk result (λ read. MatchOption read (NoneClosed decorator_kind text.now)
+        (λ inside. HasInside decorator_kind text.now inside × (inside.long_ahead ≡ true))) }
+{
+    match decorator_line(alloc, text)? {
+        Some(line) => Ok(closed(
+            TagKind::Decorator,
+            Content::Decorator(line.slice),
+            line.depth,
+            line.rest,
+        )),
+        None => Ok(None),
+    }
+}
+
+fn decorator_block(alloc: Global, text: &str) -> Result<Option<Inside<'_>>, AllocError>
+    ensures { IfOk result (λ read. MatchOption read (NoneClosed decorator_block_kind text.now)
+        (λ inside. HasInside decorator_block_kind text.now inside × (inside.long_ahead ≡ true))) }
+{
+    match decorator_line(alloc, text)? {
+        Some(line) => Ok(closed(
+            TagKind::DecoratorBlock,
+            Content::DecoratorBlock(line.slice),
+            line.depth,
+            line.rest,
+        )),
+        None => Ok(None),
+    }
+}
+
 /// A comment, by the source from its braces on.
 fn comment(left: &str, long_ahead: bool) -> Option<Inside<'_>>
     requires begins { past (codes "{{!") left.now ≡ Some (drop 3 left.now) }
@@ -240,5 +274,19 @@ fn block_line(alloc: Global, text: &str) -> Result<Option<BlockRead<'_>>, AllocE
             rest: binding.rest,
         })),
         None => Ok(None),
+    }
+}
+
+/// The line of a decorator: that of a block, with no block parameters.
+fn decorator_line(alloc: Global, text: &str) -> Result<Option<BlockRead<'_>>, AllocError>
+    ensures { IfOk result (λ read. MatchOption read (NoDecoratorLine text.now) (λ read. HasDecorator text.now read)) }
+{
+    let Some(line) = block_line(alloc, text)? else {
+        return Ok(None);
+    };
+    match line.slice.binding {
+        BoundNames::Unbound => Ok(Some(line)),
+        BoundNames::Bound(_) => Ok(None),
+        BoundNames::BothBound(_, _) => Ok(None),
     }
 }

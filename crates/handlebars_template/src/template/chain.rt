@@ -2,14 +2,16 @@
 
 ghost use Rattle.std.specs.Prelude.{◌≡◌, ◌∷◌, [], IfOk, map};
 ghost use Rattle.handlebars_template.specs.Tree.{helper_block, body};
-ghost use Rattle.handlebars_template.specs.TreeView.{tree_view, call_view, body_view, block_param_view};
-ghost use Rattle.handlebars_template.specs.Nest.{admits_inverse, admits_no_name, has_close, may_end, block_call, inverse_of};
-ghost use Rattle.handlebars_template.specs.Machine.{in_branch, in_inverse, closed_block};
+ghost use Rattle.handlebars_template.specs.TreeView.{tree_view, call_view, decorator_view, element_view, body_view, block_param_view};
+ghost use Rattle.handlebars_template.specs.Nest.{admits_inverse, admits_no_name, has_close, may_end, block_call, inverse_of, decorator_with};
+ghost use Rattle.handlebars_template.specs.Machine.{in_branch, in_inverse, closed_block, closed_call, first_body};
 ghost use Rattle.handlebars_template.specs.NestView.{placed_view, names_view, kind_view, opening_view, branch_view, stage_view};
 
 use crate::template::arguments::Arguments;
 use crate::template::placed::PlacedElements;
-use crate::template::tree::{BlockParam, HelperTemplate, Parameter, Template, TemplateElement};
+use crate::template::tree::{
+    BlockParam, DecoratorTemplate, HelperTemplate, Parameter, Template, TemplateElement,
+};
 use std::alloc::{AllocError, Global};
 
 /// The names that a block binds, as texts: they are parameters only in its tree.
@@ -20,8 +22,8 @@ pub enum BlockNames {
     BothBound(String, String),
 }
 
-/// What a tag opens: the block of a helper, a raw block, or the block of a decorator or of an inclusion. No tag of these
-/// two is read yet.
+/// What a tag opens: the block of a helper, a raw block, or the block of a decorator or of an inclusion. No tag of an
+/// inclusion is read yet.
 #[derive(Clone, Copy)]
 pub enum BlockKind {
     Helper,
@@ -165,6 +167,28 @@ impl BlockOpening {
             indent_before_write,
         }
     }
+
+    /// A decorator or an inclusion, with this body.
+    pub fn decorator(self, body: Option<Template>) -> DecoratorTemplate
+        ensures { decorator_view result ≡ decorator_with (opening_view self) (body_view body) }
+    {
+        let BlockOpening {
+            kind: _,
+            name,
+            closing: _,
+            arguments: Arguments { params, hash },
+            names: _,
+            indent_before_write,
+        } = self;
+        DecoratorTemplate {
+            name,
+            params,
+            hash,
+            template: body,
+            indent: None,
+            indent_before_write,
+        }
+    }
 }
 
 impl Branch {
@@ -207,8 +231,8 @@ fn chained_block(
     first: PlacedElements,
     branches: Vec<Branch>,
 ) -> Result<HelperTemplate, AllocError>
-    ensures { IfOk result (λ h. helper_block (call_view h)
-        ≡ closed_block (in_branch (opening_view last.opening)) (opening_view opening) (placed_view first)
+    ensures { IfOk result (λ h. call_view h
+        ≡ closed_call (in_branch (opening_view last.opening)) (opening_view opening) (placed_view first)
         (map branch_view branches.items) (placed_view last.elements)) }
 {
     let mut branches = branches;
@@ -225,8 +249,8 @@ fn inverse_block(
     branches: Vec<Branch>,
     elements: PlacedElements,
 ) -> Result<HelperTemplate, AllocError>
-    ensures { IfOk result (λ h. helper_block (call_view h)
-        ≡ closed_block in_inverse (opening_view opening) (placed_view first) (map branch_view branches.items)
+    ensures { IfOk result (λ h. call_view h
+        ≡ closed_call in_inverse (opening_view opening) (placed_view first) (map branch_view branches.items)
         (placed_view elements)) }
 {
     let chain = !branches.is_empty();
@@ -234,8 +258,8 @@ fn inverse_block(
     Ok(opening.block(first, inverse, chain))
 }
 
-/// The whole block, from what was kept of it and the elements that stand behind that. In time linear in its branches.
-pub fn closed_block(
+// The whole block of a helper.
+fn closed_call(
     alloc: Global,
     stage: Stage,
     opening: BlockOpening,
@@ -243,8 +267,8 @@ pub fn closed_block(
     branches: Vec<Branch>,
     elements: PlacedElements,
 ) -> Result<HelperTemplate, AllocError>
-    ensures { IfOk result (λ h. helper_block (call_view h)
-        ≡ closed_block (stage_view stage) (opening_view opening) (placed_view first) (map branch_view branches.items)
+    ensures { IfOk result (λ h. call_view h
+        ≡ closed_call (stage_view stage) (opening_view opening) (placed_view first) (map branch_view branches.items)
         (placed_view elements)) }
 {
     match stage {
@@ -257,5 +281,58 @@ pub fn closed_block(
             chained_block(alloc, last, opening, first, branches)
         }
         Stage::Inverse => inverse_block(alloc, opening, first, branches, elements),
+    }
+}
+
+fn helper_block(
+    alloc: Global,
+    stage: Stage,
+    opening: BlockOpening,
+    first: PlacedElements,
+    branches: Vec<Branch>,
+    elements: PlacedElements,
+) -> Result<TemplateElement, AllocError>
+    ensures { IfOk result (λ e. element_view e
+        ≡ helper_block (closed_call (stage_view stage) (opening_view opening) (placed_view first) (map branch_view branches.items)
+        (placed_view elements))) }
+{
+    let call = closed_call(alloc, stage, opening, first, branches, elements)?;
+    Ok(TemplateElement::HelperBlock(Box::new(alloc, call)?))
+}
+
+fn first_body(stage: Stage, first: PlacedElements, elements: PlacedElements) -> PlacedElements
+    ensures { placed_view result ≡ first_body (stage_view stage) (placed_view first) (placed_view elements) }
+{
+    match stage {
+        Stage::First => elements,
+        Stage::Chained(_) => first,
+        Stage::Inverse => first,
+    }
+}
+
+/// The whole block, from what was kept of it and the elements that stand behind that. In time linear in its branches.
+pub fn closed_block(
+    alloc: Global,
+    stage: Stage,
+    opening: BlockOpening,
+    first: PlacedElements,
+    branches: Vec<Branch>,
+    elements: PlacedElements,
+) -> Result<TemplateElement, AllocError>
+    ensures { IfOk result (λ e. element_view e
+        ≡ closed_block (stage_view stage) (opening_view opening) (placed_view first) (map branch_view branches.items)
+        (placed_view elements)) }
+{
+    match opening.kind {
+        BlockKind::Helper => helper_block(alloc, stage, opening, first, branches, elements),
+        BlockKind::Raw => helper_block(alloc, stage, opening, first, branches, elements),
+        BlockKind::Decorator => {
+            let tag = opening.decorator(Some(first_body(stage, first, elements).template()));
+            Ok(TemplateElement::DecoratorBlock(Box::new(alloc, tag)?))
+        }
+        BlockKind::Partial => {
+            let tag = opening.decorator(Some(first_body(stage, first, elements).template()));
+            Ok(TemplateElement::PartialBlock(Box::new(alloc, tag)?))
+        }
     }
 }

@@ -210,8 +210,7 @@ impl OpenBlock {
             stage,
             outside: _,
         } = self;
-        let call = closed_block(alloc, stage, opening, first, branches, elements)?;
-        Ok(TemplateElement::HelperBlock(Box::new(alloc, call)?))
+        closed_block(alloc, stage, opening, first, branches, elements)
     }
 
     // It stands next in what is outside, at its place.

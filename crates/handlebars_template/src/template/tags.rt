@@ -16,7 +16,7 @@ ghost use Rattle.handlebars_template.specs.Tree.{comment, name, no_arguments};
 ghost use Rattle.handlebars_template.specs.Nest.{leaf};
 ghost use Rattle.handlebars_template.specs.NestView.{names_view, kind_view, opening_view, early, Looks, Does};
 ghost use Rattle.handlebars_template.specs.Cut.{may_follow};
-ghost use Rattle.handlebars_template.specs.ScanView.{value_element, value_piece, block_piece, chain_piece, IsOpening};
+ghost use Rattle.handlebars_template.specs.ScanView.{value_element, value_piece, block_piece, chain_piece, decorator_piece, IsOpening};
 ghost use Rattle.handlebars_template.specs.Compile.{block_binding, is_indented, tag_piece};
 
 use crate::template::arguments::Arguments;
@@ -44,6 +44,8 @@ fn may_stand_alone(content: Content<'_>) -> bool
         Content::Close(_) => true,
         Content::RawBlock(_) => true,
         Content::RawClose(_) => true,
+        Content::Decorator(_) => true,
+        Content::DecoratorBlock(_) => true,
         Content::Comment(_) => true,
     }
 }
@@ -60,6 +62,8 @@ fn opens_raw(content: Content<'_>) -> bool
         Content::Chain(_) => false,
         Content::Close(_) => false,
         Content::RawClose(_) => false,
+        Content::Decorator(_) => false,
+        Content::DecoratorBlock(_) => false,
         Content::Comment(_) => false,
     }
 }
@@ -76,6 +80,8 @@ fn closes_raw(content: Content<'_>) -> bool
         Content::Chain(_) => false,
         Content::Close(_) => false,
         Content::RawBlock(_) => false,
+        Content::Decorator(_) => false,
+        Content::DecoratorBlock(_) => false,
         Content::Comment(_) => false,
     }
 }
@@ -116,6 +122,8 @@ pub fn look(nesting: &Nesting, content: Content<'_>, depth: usize) -> Option<Syn
         Content::Close(name) => nesting.look_at_close(false, name),
         Content::RawBlock(_) => nesting.look_at_opening(depth),
         Content::RawClose(name) => nesting.look_at_close(true, name),
+        Content::Decorator(_) => nesting.look_at_leaf(depth),
+        Content::DecoratorBlock(_) => nesting.look_at_opening(depth),
         Content::Comment(_) => nesting.look_at_leaf(0),
     }
 }
@@ -141,7 +149,7 @@ fn is_indented(options: &TemplateOptions, edge: Edge<'_>) -> bool
     edge.standalone && !edge.left
 }
 
-/// What the tag of a block says, and the first of its literals that is refused.
+/// What the tag of a block or of a decorator says, and the first of its literals that is refused.
 #[derive(Drop)]
 struct BuiltOpening<'a> {
     opening: BlockOpening,
@@ -263,6 +271,30 @@ fn chain(
     }
 }
 
+fn add_decorator(
+    alloc: Global,
+    nesting: &mut Nesting,
+    options: &TemplateOptions,
+    at: TemplateMapping,
+    block: BlockSlice<'_>,
+    edge: Edge<'_>,
+) -> Result<(), AllocError>
+    ensures { OnOk result ((line : BlockLine) (rest : Text) → IsBlockSlice block.entry line rest
+        → Does nesting.old (decorator_piece (options_view options.now) (place_of at) (edge_view edge.entry) line) nesting.new) }
+{
+    let Some(built) = opening(alloc, options, block, BlockKind::Decorator, edge)? else {
+        return Ok(());
+    };
+    let refused = built.refused;
+    let tag = Box::new(alloc, built.opening.decorator(None))?;
+    nesting.add(
+        alloc,
+        at,
+        TemplateElement::DecoratorExpression(tag),
+        refused,
+    )
+}
+
 fn add_comment(
     alloc: Global,
     nesting: &mut Nesting,
@@ -296,6 +328,18 @@ pub fn take_tag(
         Content::Close(name) => nesting.close(alloc, at, false, name),
         Content::RawBlock(block) => begin(alloc, nesting, options, at, block, BlockKind::Raw, edge),
         Content::RawClose(name) => nesting.close(alloc, at, true, name),
+        Content::Decorator(block) => add_decorator(alloc, nesting, options, at, block, edge),
+        Content::DecoratorBlock(block) => {
+            begin(
+                alloc,
+                nesting,
+                options,
+                at,
+                block,
+                BlockKind::Decorator,
+                edge,
+            )
+        }
         Content::Comment(text) => add_comment(alloc, nesting, at, text),
     }
 }

@@ -1,5 +1,5 @@
 use Rattle.std.proofs.Common.{Some, sym, ap, ◌∙◌}
-use Rattle.handlebars_tags.specs.Kind.{block_kind, close_kind, else_kind, raw_kind, raw_close_kind}
+use Rattle.handlebars_tags.specs.Kind.{block_kind, close_kind, else_kind, raw_kind, raw_close_kind, decorator_kind, decorator_block_kind}
 use Rattle.handlebars_tags.specs.KindView.{kind_of}
 use Rattle.handlebars_tags.proofs.InsidesRead.{inverse_read}
 use Rattle.handlebars_tags.proofs.InsideAt.{plain_reads, plain_reads-Ok, expression_reads, html_reads, html_sign_reads, behind_braces}
@@ -36,6 +36,12 @@ returns-in-Raw-clause-reads c = rw (c.in-Raw.is) (plain_reads-Ok raw_kind c.args
 
 pub returns-in-RawClose-clause-reads : goal.returns-in-RawClose-clause-reads
 returns-in-RawClose-clause-reads c = rw (c.in-RawClose.is) (plain_reads raw_close_kind c.args.begins.inside.now c.raw_close.result c.raw_close.ensures)
+
+pub returns-in-Decorator-clause-reads : goal.returns-in-Decorator-clause-reads
+returns-in-Decorator-clause-reads c = rw (c.in-Decorator.is) (plain_reads-Ok decorator_kind c.args.begins.inside.now c.decorator.result c.decorator.ensures)
+
+pub returns-in-DecoratorBlock-clause-reads : goal.returns-in-DecoratorBlock-clause-reads
+returns-in-DecoratorBlock-clause-reads c = rw (c.in-DecoratorBlock.is) (plain_reads-Ok decorator_block_kind c.args.begins.inside.now c.decorator_block.result c.decorator_block.ensures)
 
 pub returns-in-Comment-clause-reads : goal.returns-in-Comment-clause-reads
 returns-in-Comment-clause-reads c =

@@ -1,9 +1,10 @@
 use Rattle.std.proofs.Common.{refl, true, false, None}
-use Rattle.handlebars_tags.specs.Tag.{expression_tag, html_tag, block_tag, inverse_tag, chain_tag, close_tag, raw_tag, raw_close_tag, comment_tag}
+use Rattle.handlebars_tags.specs.Tag.{expression_tag, html_tag, block_tag, inverse_tag, chain_tag, close_tag, raw_tag, raw_close_tag, decorator_tag, decorator_block_tag, comment_tag}
 use Rattle.handlebars_template.specs.Tree.{expression, html_expression, comment}
 use Rattle.handlebars_template.specs.Calls.{call_of, first_refused, line_literals, literals_in}
-use Rattle.handlebars_template.specs.Nest.{helper_opening, raw_opening, leaf, opens, inverts, chains, closes}
+use Rattle.handlebars_template.specs.Nest.{helper_opening, raw_opening, decorator_opening, leaf, opens, inverts, chains, closes}
 use Rattle.handlebars_template.specs.Compile.{opening_of}
+use Rattle.handlebars_template.specs.ScanView.{decorator_element}
 use Rattle.handlebars_template.proofs.TagsBuilt.{Looks-at}
 use Rattle.handlebars_template.proofs.template.tags.look.Goals as goal
 
@@ -40,6 +41,16 @@ returns-in-RawBlock c options p e tag holds deep =
 
 pub returns-in-RawClose : goal.returns-in-RawClose
 returns-in-RawClose c options p e tag holds deep = Looks-at options c.args.nesting.now p e c.look_at_close-in-RawClose.result tag (raw_close_tag c.in-RawClose.name.now) (λ n. closes p true c.in-RawClose.name.now) c.args.depth (rw c.in-RawClose.is at holds) deep refl (c.look_at_close-in-RawClose.ensures p)
+
+pub returns-in-Decorator : goal.returns-in-Decorator
+returns-in-Decorator c options p e tag holds deep =
+    let h = rw c.in-Decorator.is at holds in
+    Looks-at options c.args.nesting.now p e c.look_at_leaf-in-Decorator.result tag (decorator_tag h.line) (λ n. leaf p (decorator_element options e h.line) n (first_refused (literals_in h.line.terms))) c.args.depth h.gives deep refl (c.look_at_leaf-in-Decorator.ensures p (decorator_element options e h.line) (first_refused (literals_in h.line.terms)))
+
+pub returns-in-DecoratorBlock : goal.returns-in-DecoratorBlock
+returns-in-DecoratorBlock c options p e tag holds deep =
+    let h = rw c.in-DecoratorBlock.is at holds in
+    Looks-at options c.args.nesting.now p e c.look_at_opening-in-DecoratorBlock.result tag (decorator_block_tag h.line) (λ n. opens p (opening_of options decorator_opening e h.line) n (first_refused (literals_in h.line.terms))) c.args.depth h.gives deep refl (c.look_at_opening-in-DecoratorBlock.ensures p (opening_of options decorator_opening e h.line) (first_refused (literals_in h.line.terms)))
 
 pub returns-in-Comment : goal.returns-in-Comment
 returns-in-Comment c options p e tag holds deep = Looks-at options c.args.nesting.now p e c.look_at_leaf-in-Comment.result tag (comment_tag c.in-Comment.field-0.now) (λ n. leaf p (comment c.in-Comment.field-0.now) 0 None) c.args.depth (rw c.in-Comment.is at holds) deep refl (c.look_at_leaf-in-Comment.ensures p (comment c.in-Comment.field-0.now) None)

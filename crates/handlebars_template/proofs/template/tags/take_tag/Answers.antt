@@ -1,5 +1,5 @@
 use Rattle.std.proofs.lemmas.Result.{on_ok_weaker}
-use Rattle.handlebars_tags.specs.Tag.{expression_tag, html_tag, block_tag, chain_tag, raw_tag}
+use Rattle.handlebars_tags.specs.Tag.{expression_tag, html_tag, block_tag, chain_tag, raw_tag, decorator_tag, decorator_block_tag}
 use Rattle.handlebars_tags.specs.TrimView.{edge_view}
 use Rattle.handlebars_template.specs.OptionsView.{options_view}
 use Rattle.handlebars_template.specs.TreeView.{place_of}
@@ -20,3 +20,9 @@ returns-in-Chain c = on_ok_weaker c.chain.result (λ does tag holds. Does-block 
 
 pub returns-in-RawBlock : goal.returns-in-RawBlock
 returns-in-RawBlock c = on_ok_weaker c.begin-in-RawBlock.result (λ does tag holds. Does-block (options_view c.args.options.now) c.args.nesting.now c.begin-in-RawBlock.new.nesting (place_of c.args.at) (edge_view c.args.edge) raw_tag _ tag (rw c.in-RawBlock.is at holds) does) c.begin-in-RawBlock.ensures
+
+pub returns-in-Decorator : goal.returns-in-Decorator
+returns-in-Decorator c = on_ok_weaker c.add_decorator.result (λ does tag holds. Does-block (options_view c.args.options.now) c.args.nesting.now c.add_decorator.new.nesting (place_of c.args.at) (edge_view c.args.edge) decorator_tag _ tag (rw c.in-Decorator.is at holds) does) c.add_decorator.ensures
+
+pub returns-in-DecoratorBlock : goal.returns-in-DecoratorBlock
+returns-in-DecoratorBlock c = on_ok_weaker c.begin-in-DecoratorBlock.result (λ does tag holds. Does-block (options_view c.args.options.now) c.args.nesting.now c.begin-in-DecoratorBlock.new.nesting (place_of c.args.at) (edge_view c.args.edge) decorator_block_tag _ tag (rw c.in-DecoratorBlock.is at holds) does) c.begin-in-DecoratorBlock.ensures
