@@ -5,3 +5,4 @@ mod Turns
 mod Sizes
 mod Values
 mod Marked
+mod Decorations

@@ -1,9 +1,12 @@
 -- Paths that hold the same texts.
-use Rattle.std.proofs.Common.{◌≡◌, ℕ, Bool, true, false, ◌&&◌, length, List, [], ◌∷◌, map, take, String, Global, string_bytes, refl, ap, sym, ◌∙◌}
+use Rattle.std.proofs.Common.{◌≡◌, ℕ, ◌+◌, ◌-◌, ◌++◌, arith, slice_set, Bool, true, false, ◌&&◌, length, List, [], ◌∷◌, map, take, String, Global, string_bytes, refl, ap, sym, ◌∙◌}
 use Rattle.std.specs.Cmp.Lexicographic.{same_text}
 use Rattle.std.specs.List.{AllZip, starts_with}
 use Rattle.std.specs.String.{string_eq}
+use Rattle.std.proofs.lemmas.List.{length-append, length-map, map-set}
+use Rattle.std.proofs.Math.Seq.{set-append_seam}
 use lib.Pointwise.{pointwise}
+use Rattle.handlebars_base.specs.Bytes.{Text}
 
 pub map-string_bytes-AllZip : (xs ys : List (String Global)) → AllZip (λ x y. string_bytes y ≡ string_bytes x) xs ys
     → map string_bytes ys ≡ map string_bytes xs
@@ -33,3 +36,18 @@ pub map-string_bytes-take : (xs ys zs : List (String Global)) (n : ℕ)
 map-string_bytes-take xs ys zs n starts long is =
     ap (map string_bytes) is ∙ ap (λ m. map string_bytes (take m xs)) long
     ∙ map-string_bytes-pointwise ys (take (length ys) xs) starts
+
+-- ---- the last name of a path
+
+-- another name in the place of the last one
+pub last-replaced : (path : List Text) (x y : Text) (xs : List (String Global)) (w : String Global) (n : ℕ)
+    → n ≡ length xs → map string_bytes xs ≡ path ++ (x ∷ []) → string_bytes w ≡ y
+    → map string_bytes (slice_set xs (n - 1) w) ≡ path ++ (y ∷ [])
+last-replaced path x y xs w n long is name =
+    let count : length xs ≡ length path + 1 =
+    sym (length-map xs string_bytes) ∙ ap length is ∙ length-append path (x ∷ []) in
+    let at : n - 1 ≡ length path = omega (arith, long, count) in
+    map-set string_bytes xs (n - 1) w
+    ∙ ap (λ ns. slice_set ns (n - 1) (string_bytes w)) is
+    ∙ ap (λ i. slice_set (path ++ (x ∷ [])) i (string_bytes w)) at
+    ∙ set-append_seam path x [] (string_bytes w) ∙ ap (λ z. path ++ (z ∷ [])) name

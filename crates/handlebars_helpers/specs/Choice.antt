@@ -20,6 +20,7 @@ use Rattle.handlebars_helpers.specs.CallView.{CallView, HelperView, pair_at}
 use Rattle.handlebars_helpers.specs.Params.{by_param, two_values}
 use Rattle.handlebars_helpers.specs.Boolean.{differ, greater, greater_or_equal, less, less_or_equal, negation, all_true, some_true, len}
 use Rattle.handlebars_helpers.specs.LogLine.{log_line}
+use Rattle.handlebars_helpers.specs.Own.{Step}
 use Rattle.handlebars_helpers.specs.Turns.{Turn, turns_of}
 
 pub data Kind : Type 0 where
@@ -56,7 +57,8 @@ built_in name = lookup (bytes_eq name) built_ins
 
 -- What is rendered in the place of a call: its body or its inverse, where it has that one; its body in a block at a
 -- base; its body once for each turn, all turns in one block, with the path of what is walked, if it has one; a value; the
--- word of a boolean helper, or of a block the body or the inverse by it; or nothing, beside a line for the logger or not.
+-- word of a boolean helper, or of a block the body or the inverse by it; the steps of a helper of one's own; or nothing,
+-- beside a line for the logger or not.
 pub data Choice : Type 0 where
   the_body : Choice
   the_inverse : Choice
@@ -65,6 +67,7 @@ pub data Choice : Type 0 where
   the_value : Data → Choice
   the_word : Bool → Choice
   the_line : Level → Text → Choice
+  the_steps : List Step → Choice
   nothing : Choice
 
 -- the value that is chosen, if one is; a word is a boolean
@@ -76,6 +79,7 @@ value_in (body_in_turns path ts) = None
 value_in (the_value d) = Some d
 value_in (the_word b) = Some (boolean b)
 value_in (the_line level text) = None
+value_in (the_steps steps) = None
 value_in nothing = None
 
 -- ---- `if` and `unless`

@@ -4,7 +4,13 @@ pub mod TurnsLeft
 pub mod Params
 pub mod Boolean
 pub mod LogLine
+pub mod Own
 pub mod Choice
+pub mod Callee
 pub mod View
+pub mod Escaping
 pub mod Marks
 pub mod HelpersView
+pub mod OwnView
+pub mod Decoration
+pub mod DecoratorsView

@@ -1,5 +1,5 @@
 -- How `each` and `with` set up their blocks.
-use Rattle.std.specs.Prelude.{ℕ, ◌+◌, ◌==◌, List, [], ◌∷◌, ◌++◌, Bool, Option, None, Some, codes, decimal}
+use Rattle.std.specs.Prelude.{ℕ, ◌≡◌, ◌+◌, ◌==◌, List, [], ◌∷◌, ◌++◌, Bool, Option, None, Some, codes, decimal}
 use Rattle.serde_json.specs.Data.{Data, null, boolean, number, unsigned, string, array, object, Items, no_items, item, Members, no_members, member}
 use Rattle.handlebars_base.specs.Bytes.{Text}
 use Rattle.handlebars_base.specs.Optional.{with_or}
@@ -59,6 +59,15 @@ turn_key t = with_or t.key string (number (unsigned t.index))
 abbrev pub turn_base : Option (List Text) → Turn → Base
 turn_base (Some path) t = at_path (path ++ (turn_name t ∷ []))
 turn_base None t = at_value t.member
+
+-- the path of a member of what has the path above: there is one name more
+abbrev pub IsBelow : List Text → List Text → Type 0
+IsBelow above path = (name : Text) × (path ≡ above ++ (name ∷ []))
+
+-- the block stands at a member of what has this path; where it has none, any block does
+abbrev pub StandsBelow : Option (List Text) → Frame → Type 0
+StandsBelow None f = Unit {0}
+StandsBelow (Some path) f = IsBelow path f.base_path
 
 -- the variables of a turn, set beside those that are there: `first`, `last`, `index`, and for objects `key`
 abbrev pub with_key : Option Text → (Text → Option Data) → Text → Option Data

@@ -1,13 +1,16 @@
-//! The helpers that templates call by name: what a call shows to a helper, and what the built-in
-//! ones choose, and how their blocks of scope are set up.
+//! The helpers and decorators that templates call by name: what a call shows to them, what the built-in
+//! ones choose and do, and how their blocks of scope are set up.
 #![tactic(auto)]
 
 mod boolean;
 pub mod built_in;
 pub mod choice;
+pub mod decorators;
 pub mod each_turns;
+pub mod escape;
 pub mod helpers;
 pub mod log_line;
+pub mod own;
 mod params;
 pub mod turn;
 pub mod view;

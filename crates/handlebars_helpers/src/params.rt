@@ -1,6 +1,6 @@
 //! The parameters that helpers can't do without.
 
-ghost use Rattle.std.specs.Prelude.{◌≡◌, MatchResult, None, Some};
+ghost use Rattle.std.specs.Prelude.{◌≡◌, MatchResult, None, Some, option_map};
 ghost use Rattle.serde_json.specs.View.{view};
 ghost use Rattle.handlebars_base.specs.Answers.{Answers, gives, refuses};
 ghost use Rattle.handlebars_base.specs.PathAndData.{path_and_data};
@@ -25,7 +25,21 @@ pub(crate) fn parameter<'h>(
         (λ e. (param_at index (helper_view helper.now).call ≡ None)
         × (refusal_of e ≡ plain_refusal (param_not_found_for_index name.now index))) }
 {
-    match helper.param(index) {
+    there(helper.param(index), name, index)
+}
+
+/// The parameter of a helper or a decorator at an index; `ParamNotFoundForIndex` where there is none.
+pub(crate) fn there<'h>(
+    param: Option<&'h PathAndJson<'h>>,
+    name: &'static str,
+    index: usize,
+) -> Result<&'h PathAndJson<'h>, RenderError>
+    ensures { MatchResult result
+        (λ p. option_map (λ x. path_and_data x.now) param.entry ≡ Some (path_and_data p.now))
+        (λ e. (option_map (λ x. path_and_data x.now) param.entry ≡ None)
+        × (refusal_of e ≡ plain_refusal (param_not_found_for_index name.now index))) }
+{
+    match param {
         Some(param) => Ok(param),
         None => Err(RenderErrorReason::ParamNotFoundForIndex(name, index).into()),
     }

@@ -1,12 +1,13 @@
 //! The blocks of scope of `each` and `with`.
 
-ghost use Rattle.std.specs.Prelude.{◌≡◌, ◌++◌, ◌∷◌, [], IfOk, OnOk, codes, map, option_map, string_bytes};
+ghost use Rattle.std.specs.Prelude.{◌≡◌, ◌++◌, ◌∷◌, [], IfOk, List, OnOk, codes, map, option_map, string_bytes};
 ghost use Rattle.serde_json.specs.View.{view};
 ghost use Rattle.handlebars_template.specs.TreeView.{binding_of, binding_view};
+ghost use Rattle.handlebars_base.specs.Bytes.{Text};
 ghost use Rattle.handlebars_scope.specs.ScopeView.{bounds_of, frame_of, variables_of};
 ghost use Rattle.handlebars_scope.specs.Scopes.{based, bound_base, bound_value, put_at};
 ghost use Rattle.handlebars_helpers.specs.CallView.{single_name};
-ghost use Rattle.handlebars_helpers.specs.Turns.{bind_one, bound_in_turn, turn_base, turn_key, turn_name, turn_variables, turned, with_block};
+ghost use Rattle.handlebars_helpers.specs.Turns.{IsBelow, StandsBelow, bind_one, bound_in_turn, turn_base, turn_key, turn_name, turn_variables, turned, with_block};
 ghost use Rattle.handlebars_helpers.specs.View.{base_view, path_view, turn_view};
 
 use crate::view::{both_names, single_name};
@@ -47,6 +48,24 @@ pub fn set_up_turn(
         (binding_of (option_map (λ b. binding_view b.now) binding.entry)) (turn_view turn.entry) (frame_of block.old)) }
 {
     set_turn_base(alloc, block, path, turn)?;
+    bind_turn(alloc, block, binding, path, turn)?;
+    set_turn_variables(alloc, block, turn)
+}
+
+/// Sets the block of `each` up for another turn of the same. It stands at a member of what has this path
+/// already, so only the last name of its path changes.
+pub fn set_up_next_turn(
+    alloc: Global,
+    block: &mut BlockContext,
+    binding: Option<&BlockParam>,
+    path: Option<&Vec<String>>,
+    turn: Turn,
+) -> Result<(), AllocError>
+    ensures { StandsBelow (path_view path.entry) (frame_of block.old)
+        → OnOk result (frame_of block.new ≡ turned (path_view path.entry)
+        (binding_of (option_map (λ b. binding_view b.now) binding.entry)) (turn_view turn.entry) (frame_of block.old)) }
+{
+    set_next_base(block, path, turn)?;
     bind_turn(alloc, block, binding, path, turn)?;
     set_turn_variables(alloc, block, turn)
 }
@@ -98,8 +117,7 @@ fn set_turn_base(
     Ok(())
 }
 
-// Makes this path of another one. In every turn but the first it stands there already, with a name
-// behind it.
+// Makes this path of another one.
 fn set_path(to: &mut Vec<String>, path: &Vec<String>) -> Result<(), AllocError>
     ensures { OnOk result (map string_bytes to.new.items ≡ map string_bytes path.now.items) }
 {
@@ -111,8 +129,7 @@ fn set_path(to: &mut Vec<String>, path: &Vec<String>) -> Result<(), AllocError>
     Ok(())
 }
 
-// Makes this path, and the turn's name behind it, of another one. In every turn but the first both stand
-// there, with the name of the turn before, whose memory is taken again.
+// Makes this path, and the turn's name behind it, of another one.
 fn set_turn_path(
     alloc: Global,
     to: &mut Vec<String>,
@@ -130,6 +147,33 @@ fn set_turn_path(
     set_path(to, path)?;
     to.push(name)?;
     Ok(())
+}
+
+// The block stands at the turn's member from now on, where it stood at another member.
+fn set_next_base(
+    block: &mut BlockContext,
+    path: Option<&Vec<String>>,
+    turn: Turn,
+) -> Result<(), AllocError>
+    ensures { StandsBelow (path_view path.entry) (frame_of block.old) → OnOk result (frame_of block.new
+        ≡ based (turn_base (path_view path.entry) (turn_view turn.entry)) (frame_of block.old)) }
+{
+    match path {
+        Some(_) => replace_name(block.base_path_mut(), turn)?,
+        None => block.set_base_value(turn.member.clone()?),
+    }
+    Ok(())
+}
+
+// Makes the turn's name of the last name of a path, whose memory is taken again.
+fn replace_name(to: &mut Vec<String>, turn: Turn) -> Result<(), AllocError>
+    ensures { (path : List Text) → IsBelow path (map string_bytes to.old.items)
+        → OnOk result (map string_bytes to.new.items ≡ path ++ (turn_name (turn_view turn.entry) ∷ [])) }
+{
+    match to.last_mut() {
+        Some(name) => write_turn_name(name, turn),
+        None => Ok(()),
+    }
 }
 
 // Makes the name that leads to the member of another text.

@@ -1,0 +1,43 @@
+-- What the answers of helpers of one's own stand for.
+use Rattle.std.specs.Prelude.{◌≢◌, List, map, Option, option_map, Result, MatchResult, string_bytes, Vec}
+use Rattle.std.specs.declared.alloc.Global.{Global}
+use Rattle.serde_json.specs.View.{view}
+use Rattle.handlebars_base.specs.Answers.{Answer, gives, refuses}
+use Rattle.handlebars_base.specs.Bytes.{Text}
+use Rattle.handlebars_base.specs.Reasons.{out_of_memory}
+use Rattle.handlebars_base.specs.RenderRefusals.{reason_in, refusal_of}
+use Rattle.handlebars_base.specs.declared.error.render_error.RenderError.{RenderError}
+use Rattle.handlebars_scope.specs.ScopeView.{frame_of}
+use Rattle.handlebars_helpers.specs.Callee as plain
+use Rattle.handlebars_helpers.specs.Own.{Step, writes, renders_body, renders_inverse, renders_body_in, Offer, not_offered, offers_missing, offers}
+use Rattle.handlebars_helpers.specs.View.{kind_of}
+use Rattle.handlebars_helpers.specs.declared.own.Callee.{Callee}
+use Rattle.handlebars_helpers.specs.declared.own.Callee.TheVariants.{Built, Own}
+use Rattle.handlebars_helpers.specs.declared.own.HelperStep.{HelperStep}
+use Rattle.handlebars_helpers.specs.declared.own.HelperStep.TheVariants.{Write, Body, Inverse, BodyIn}
+use Rattle.handlebars_helpers.specs.declared.own.HelperValue.{HelperValue}
+use Rattle.handlebars_helpers.specs.declared.own.HelperValue.TheVariants.{NotOffered, Missing, Value}
+
+-- what stands under this name
+abbrev pub callee_of : Text → Callee → plain.Callee
+callee_of name (Built b) = plain.built (kind_of b)
+callee_of name Own = plain.own name
+
+abbrev pub step_of : HelperStep → Step
+step_of (Write t) = writes (string_bytes t)
+step_of Body = renders_body
+step_of Inverse = renders_inverse
+step_of (BodyIn b) = renders_body_in (frame_of b)
+
+abbrev pub steps_of : Option (Vec HelperStep Global) → Option (List Step)
+steps_of steps = option_map (λ v. map step_of v.items) steps
+
+abbrev pub offer_of : HelperValue → Offer
+offer_of NotOffered = not_offered
+offer_of Missing = offers_missing
+offer_of (Value v) = offers (view v)
+
+-- What a call that is asked something says: its value is an answer, or it is refused as one says, or for want of memory.
+abbrev pub IsOneOf : {T A : Type 0} → (Answer A → Type 0) → (T → A) → Result T RenderError → Type 0
+IsOneOf has seen r =
+    MatchResult r (λ x. has (gives (seen x))) (λ e. reason_in e ≢ out_of_memory → has (refuses (refusal_of e)))
