@@ -4,22 +4,24 @@ use Rattle.std.specs.List.{AllByRecursion}
 use Rattle.std.proofs.lemmas.List.{append_cancel_left}
 use Rattle.handlebars_base.specs.Answers.{Answer, gives, refuses}
 use Rattle.handlebars_base.specs.Bytes.{Text}
-use Rattle.handlebars_base.specs.Reasons.{Reason, decorator_not_found, partial_not_found}
-use Rattle.handlebars_base.specs.Scoped.{Found, walked, value, missing}
+use Rattle.handlebars_base.specs.Reasons.{Reason, partial_not_found}
+use Rattle.handlebars_base.specs.Scoped.{Found, walked, value, missing, present_in}
 use Rattle.handlebars_template.specs.Place.{Place}
 use Rattle.handlebars_template.specs.Tree.{Tree, tree, Elements, no_elements, element, Element, raw_string, html_expression, expression, helper_block, decorator_expression, decorator_block, partial_expression, partial_block, comment, Call, is_value, Decorator, Body, no_body, body}
 use Rattle.handlebars_scope.specs.Scopes.{Frame, empty_frame}
 use Rattle.handlebars_helpers.specs.CallView.{CallView, HelperView}
-use Rattle.handlebars_helpers.specs.Choice.{Kind, Choice, the_body, the_inverse, body_in_block, body_in_turns, the_value, the_word, the_line, nothing}
+use Rattle.handlebars_helpers.specs.Callee.{Callee}
+use Rattle.handlebars_helpers.specs.Choice.{Choice, the_body, the_inverse, body_in_block, body_in_turns, the_value, the_word, the_line, the_steps, nothing}
+use Rattle.handlebars_helpers.specs.Own.{Step, writes, renders_body, renders_inverse, renders_body_in}
 use Rattle.handlebars_helpers.specs.Turns.{Turn, with_block}
-use Rattle.handlebars_meaning.specs.State.{Setting, State, nearest_variables}
+use Rattle.handlebars_meaning.specs.State.{Setting, State, nearest_variables, left}
 use Rattle.handlebars_meaning.specs.Steps.{Task, One, Whole, Steps, Done, Refuse, Write, Get, Set, Ask, Do, Capture, Prog, ◌>>=◌, ◌>>◌, answer, refuse_for}
-use Rattle.handlebars_meaning.specs.Pieces.{Origin, of_text, Piece}
+use Rattle.handlebars_meaning.specs.Pieces.{Origin, of_text, of_value, of_raw, Piece}
 use Rattle.handlebars_meaning.specs.Sites.{TreeSite, first_tree, body_at, inverse_at, included_at, Site, element_in}
 use Rattle.handlebars_meaning.specs.Visits.{Visit, arrival, visits, ComeOnce}
-use Rattle.handlebars_meaning.specs.Writing.{write_text, write_value}
-use Rattle.handlebars_meaning.specs.CarryOut.{in_block, render_branch, render_body, render_word, take_turns, carry_out}
-use Rattle.handlebars_meaning.specs.Means.{unescaped, in_bracket, render_chosen, render_helped, render_call, render_hook, render_found, render_lone_as, render_lone, render_expression, render_element, render_elements, render_whole, todo}
+use Rattle.handlebars_meaning.specs.Writing.{rendered_if_any, write_text, write_rendered, write_value}
+use Rattle.handlebars_meaning.specs.CarryOut.{in_block, render_branch, render_body, render_word, take_turns, take_step, take_steps, carry_out}
+use Rattle.handlebars_meaning.specs.Means.{unescaped, in_bracket, render_chosen, render_helped, render_call, render_hook, render_found, render_lone_as, render_lone, render_expression, render_decorator, render_element, render_elements, render_whole, todo}
 use Rattle.handlebars_meaning.specs.Runs.{Outcome, Runs, done, refused, wrote, got, set, asked, did, did_over, captured, captured_over, stop, cut, Means}
 
 -- ---- addresses
@@ -187,9 +189,19 @@ module _ (pre : List ℕ) where
   unfolding IsOrdered ◌>>=◌ ◌>>◌
   text_ordered n o t next h = λ s. plain n next h
 
-  value_ordered : (n : ℕ) (site : Site) (v : Found) → IsOrdered pre n (write_value site v)
+  answer_ordered : {A : Type 0} (n : ℕ) (a : Answer A) (f : A → Steps) → ((x : A) → Ordered pre n (f x))
+      → Ordered pre n (answer a f)
+  answer_ordered n (gives x) f h = h x
+  answer_ordered n (refuses r) f h = tt
+
+  rendered_ordered : (n : ℕ) (site : Site) (v : Found) (b : Bool) → IsOrdered pre n (write_rendered site v b)
   unfolding IsOrdered ◌>>=◌ ◌>>◌
-  value_ordered n site v next h = λ s z. plain n next h
+  rendered_ordered n site v true next h = λ a. answer_ordered n a _ (λ t. text_ordered n (of_value site v) t next h)
+  rendered_ordered n site v false next h = text_ordered n (of_raw site v) (rendered_if_any (present_in v)) next h
+
+  value_ordered : (n : ℕ) (site : Site) (v : Found) → IsOrdered pre n (write_value site v)
+  unfolding IsOrdered ◌>>=◌
+  value_ordered n site v next h = λ s. rendered_ordered n site v s.escapes next h
 
   block_ordered : (n : ℕ) (f : Frame) (m : Prog (Unit {0})) → IsOrdered pre n m → IsOrdered pre n (in_block f m)
   unfolding IsOrdered ◌>>=◌ ◌>>◌
@@ -202,11 +214,6 @@ module _ (pre : List ℕ) where
   unescaped_ordered : (n : ℕ) (m : Prog (Unit {0})) → IsOrdered pre n m → IsOrdered pre n (unescaped m)
   unfolding IsOrdered ◌>>=◌ ◌>>◌
   unescaped_ordered n m is next h = λ s. is _ (λ j le z. h j le)
-
-  answer_ordered : {A : Type 0} (n : ℕ) (a : Answer A) (f : A → Steps) → ((x : A) → Ordered pre n (f x))
-      → Ordered pre n (answer a f)
-  answer_ordered n (gives x) f h = h x
-  answer_ordered n (refuses r) f h = tt
 
 module _ (site : Site) where
   branch_ordered : (n : ℕ) (at : TreeSite) (b : Body) → tree_address at ≡ address site ++ (n ∷ [])
@@ -228,6 +235,21 @@ module _ (site : Site) where
       (λ z. take_turns site (n + 1) v path ts next)
       (turns_ordered (n + 1) v path ts next (λ j le. h j (omega (arith, le))))
 
+  step_ordered : (n : ℕ) (v : HelperView) (step : Step) (next : Unit {0} → Steps)
+      → Ordered (address site) (n + 1) (next tt) → Ordered (address site) n (take_step site v n step next)
+  unfolding ◌>>=◌ ◌>>◌
+  step_ordered n v (writes t) next h = earlier (address site) n (n + 1) (next tt) (omega arith) h
+  step_ordered n v renders_body next h = branch_ordered n (body_at site n) v.body refl next h
+  step_ordered n v renders_inverse next h = branch_ordered n (inverse_at site n) v.inverse refl next h
+  step_ordered n v (renders_body_in f) next h = λ s. branch_ordered n (body_at site n) v.body refl
+      (λ z. Get (λ i. Set (left i) (next tt))) (λ z. h)
+
+  steps_ordered : (n : ℕ) (v : HelperView) (steps : List Step) → IsOrdered (address site) n (take_steps site v n steps)
+  unfolding IsOrdered ◌>>◌
+  steps_ordered n v [] next h = h n (omega arith)
+  steps_ordered n v (step ∷ steps) next h = step_ordered n v step (λ z. take_steps site v (n + 1) steps next)
+      (steps_ordered (n + 1) v steps next (λ j le. h j (omega (arith, le))))
+
   word_ordered : (v : HelperView) (block b : Bool) → IsOrdered (address site) 0 (render_word site v block b)
   unfolding IsOrdered
   word_ordered v false b next h = h 0 (omega arith)
@@ -246,13 +268,14 @@ module _ (site : Site) where
   carry_ordered v (the_value d) next h = value_ordered (address site) 0 site (value d) next h
   carry_ordered v (the_word b) next h = word_ordered v v.block b next h
   carry_ordered v (the_line level text) next h = h 0 (omega arith)
+  carry_ordered v (the_steps steps) next h = steps_ordered 0 v steps next h
   carry_ordered v nothing next h = h 0 (omega arith)
 
-  chosen_ordered : (k : Kind) (v : HelperView) → IsOrdered (address site) 0 (render_chosen site k v)
+  chosen_ordered : (k : Callee) (v : HelperView) → IsOrdered (address site) 0 (render_chosen site k v)
   unfolding IsOrdered ◌>>=◌
   chosen_ordered k v next h = λ a. answer_ordered (address site) 0 a _ (λ choice. carry_ordered v choice next h)
 
-  helped_ordered : (block : Bool) (c : Call) (k : Kind) (v : CallView)
+  helped_ordered : (block : Bool) (c : Call) (k : Callee) (v : CallView)
       → IsOrdered (address site) 0 (render_helped site block c k v)
   helped_ordered block c k v = bracket_ordered (address site) 0 _ _ (chosen_ordered k _)
 
@@ -261,7 +284,7 @@ module _ (site : Site) where
   call_ordered block c next h = λ a. answer_ordered (address site) 0 a _ (λ v b.
       answer_ordered (address site) 0 b _ (λ k. helped_ordered block c k v next h))
 
-  hook_ordered : (c : Call) (v : CallView) (o : Option Kind) → IsOrdered (address site) 0 (render_hook site c v o)
+  hook_ordered : (c : Call) (v : CallView) (o : Option Callee) → IsOrdered (address site) 0 (render_hook site c v o)
   unfolding IsOrdered
   hook_ordered c v None next h = h 0 (omega arith)
   hook_ordered c v (Some k) next h = chosen_ordered k _ next h
@@ -272,7 +295,7 @@ module _ (site : Site) where
   found_ordered c v (value d) next h = value_ordered (address site) 0 site (value d) next h
   found_ordered c v missing next h = λ a. answer_ordered (address site) 0 a _ (λ o. hook_ordered c v o next h)
 
-  lone_as_ordered : (c : Call) (v : CallView) (o : Option Kind) → IsOrdered (address site) 0 (render_lone_as site c v o)
+  lone_as_ordered : (c : Call) (v : CallView) (o : Option Callee) → IsOrdered (address site) 0 (render_lone_as site c v o)
   unfolding IsOrdered ◌>>=◌
   lone_as_ordered c v None next h = λ a. answer_ordered (address site) 0 a _ (λ found. found_ordered c v found next h)
   lone_as_ordered c v (Some k) next h = helped_ordered false c k v next h
@@ -290,6 +313,12 @@ module _ (site : Site) where
       → Ordered (address site) 0 (answer a (λ v. refuse_for (why v.name) next))
   tag_ordered t why a next = answer_ordered (address site) 0 a _ (λ v. tt)
 
+  decorator_ordered : (t : Decorator) → IsOrdered (address site) 0 (render_decorator t)
+  unfolding IsOrdered ◌>>=◌
+  decorator_ordered t next h = λ a. answer_ordered (address site) 0 a _ (λ v b.
+      answer_ordered (address site) 0 b _ (λ k c.
+      answer_ordered (address site) 0 c _ (λ d s. plain (address site) 0 next h)))
+
   element_ordered : (e : Element) → IsOrdered (address site) 0 (render_element site e)
   unfolding IsOrdered ◌>>=◌
   element_ordered (raw_string t) next h = text_ordered (address site) 0 (of_text site) t next h
@@ -297,8 +326,8 @@ module _ (site : Site) where
       unescaped_ordered (address site) 0 (render_expression site c) (expression_as (is_value c) c refl) next h
   element_ordered (expression c) next h = expression_as (is_value c) c refl next h
   element_ordered (helper_block c) next h = call_ordered true c next h
-  element_ordered (decorator_expression t) next h = λ a. tag_ordered t (λ n. decorator_not_found n) a next
-  element_ordered (decorator_block t) next h = λ a. tag_ordered t (λ n. decorator_not_found n) a next
+  element_ordered (decorator_expression t) next h = decorator_ordered t next h
+  element_ordered (decorator_block t) next h = decorator_ordered t next h
   element_ordered (partial_expression t) next h = λ a. tag_ordered t (λ n. partial_not_found n) a next
   element_ordered (partial_block t) next h = λ a. tag_ordered t (λ n. partial_not_found n) a next
   element_ordered (comment t) next h = h 0 (omega arith)

@@ -1,15 +1,18 @@
 -- A question has at most one answer.
-use Rattle.std.proofs.Common.{◌≡◌, List, sym, ap, ◌∙◌, subst}
+use Rattle.std.proofs.Common.{◌≡◌, List, Option, None, Some, sym, ap, ◌∙◌, subst}
 use Rattle.handlebars_base.specs.Answers.{Answer, gives, refuses}
 use Rattle.handlebars_base.specs.Bytes.{Text}
 use Rattle.handlebars_base.specs.PathAndData.{PathAndData}
 use Rattle.handlebars_base.specs.Reasons.{Refusal}
 use Rattle.handlebars_base.specs.Scoped.{Found}
+use Rattle.handlebars_helpers.specs.CallView.{HelperView}
+use Rattle.handlebars_helpers.specs.Callee.{Callee, built, own}
+use Rattle.handlebars_helpers.specs.Own.{Step, Offer, not_offered, offers_missing, offers}
 use Rattle.handlebars_template.specs.Tree.{Element, raw_string, html_expression, expression, helper_block, decorator_expression, decorator_block, partial_expression, partial_block, comment, call, Args, args, args_params, args_pairs, Param, name, path, literal, subexpression, Params, no_params, param, Pairs, no_pairs, pair}
 use Rattle.handlebars_meaning.specs.Asks.{Asks, only, ◌>>=◌, goes_on, is_refused}
-use Rattle.handlebars_meaning.specs.State.{Setting, State}
-use Rattle.handlebars_meaning.specs.Questions.{Question, value_of, view_of, helper_of, called_as, hook_for, choice_of, IsAnswered}
-use Rattle.handlebars_meaning.specs.Values.{is_written, is_viewed, HasValue, HasInnerValue, HasView, HasName, HaveValues, PairsHaveValues}
+use Rattle.handlebars_meaning.specs.State.{IsLawful, Setting, State}
+use Rattle.handlebars_meaning.specs.Questions.{Question, value_of, view_of, helper_of, called_as, hook_for, choice_of, escape_of, decorator_of, decoration_of, steps_or_offer, HasChoice, IsAnswered}
+use Rattle.handlebars_meaning.specs.Values.{asked_in, HasSteps, HasOffer, offer_or_text, HasHelpedValue, is_written, is_viewed, HasValue, HasInnerValue, HasView, HasName, HaveValues, PairsHaveValues}
 
 -- it has at most one answer
 abbrev pub IsOne : {A : Type 0} → Asks A → Type 0
@@ -58,7 +61,40 @@ viewed_one : (m : Asks Text) (n : Asks (List PathAndData)) (o : Asks (List (Text
 viewed_one m n o x y z a b i j =
     then_one m _ x (λ called. then_one n _ y (λ vs. then_one o _ z (λ ws. only_one _))) a b i j
 
-module _ (p : Setting) (s : State) where
+module _ (p : Setting) (lawful : IsLawful p.parts) (s : State) where
+  -- ---- helpers of one's own
+
+  HasSteps-one : (called : Text) (h : HelperView) → IsOne (HasSteps p s called h)
+  HasSteps-one called h a b i j = (lawful called).steps (asked_in p s h) a b i j
+
+  HasOffer-one : (called : Text) (h : HelperView) → IsOne (HasOffer p s called h)
+  HasOffer-one called h a b i j = (lawful called).offer (asked_in p s h) a b i j
+
+  offer_or_text-one : (called : Text) (h : HelperView) (offer : Offer) → IsOne (offer_or_text p s called h offer)
+  offer_or_text-one called h not_offered a b i j =
+      then_one (HasSteps p s called h) _ (HasSteps-one called h) (λ steps. only_one _) a b i j
+  offer_or_text-one called h offers_missing a b i j = only_one _ a b i j
+  offer_or_text-one called h (offers d) a b i j = only_one _ a b i j
+
+  HasHelpedValue-one : (callee : Option Callee) (h : HelperView) → IsOne (HasHelpedValue p s callee h)
+  HasHelpedValue-one None h a b i j = only_one _ a b i j
+  HasHelpedValue-one (Some (built kind)) h a b i j = only_one _ a b i j
+  HasHelpedValue-one (Some (own called)) h a b i j =
+      then_one (HasOffer p s called h) _ (HasOffer-one called h) (offer_or_text-one called h) a b i j
+
+  steps_or_offer-one : (called : Text) (h : HelperView) (steps : Option (List Step))
+      → IsOne (steps_or_offer p s called h steps)
+  steps_or_offer-one called h None a b i j =
+      then_one (HasOffer p s called h) _ (HasOffer-one called h) (λ offer. only_one _) a b i j
+  steps_or_offer-one called h (Some steps) a b i j = only_one _ a b i j
+
+  HasChoice-one : (callee : Callee) (h : HelperView) → IsOne (HasChoice p s callee h)
+  HasChoice-one (built kind) h a b i j = only_one _ a b i j
+  HasChoice-one (own called) h a b i j =
+      then_one (HasSteps p s called h) _ (HasSteps-one called h) (steps_or_offer-one called h) a b i j
+
+  -- ---- parameters and calls
+
   mutual
     HasValue-one : (q : Param) → IsOne (HasValue p s q)
     HasValue-one (name n) a b i j = only_one _ a b i j
@@ -72,7 +108,7 @@ module _ (p : Setting) (s : State) where
     HasInnerValue-one (expression (call n (args ps hs) names t marks)) a b i j =
         then_one (is_viewed (HasName p s n) (HaveValues p s ps) (PairsHaveValues p s hs)) _
         (viewed_one (HasName p s n) (HaveValues p s ps) (PairsHaveValues p s hs) (HasName-one n) (HaveValues-one ps)
-        (PairsHaveValues-one hs)) (λ v. only_one _) a b i j
+        (PairsHaveValues-one hs)) (λ v. HasHelpedValue-one _ _) a b i j
     HasInnerValue-one (helper_block c) a b i j = only_one _ a b i j
     HasInnerValue-one (decorator_expression t) a b i j = only_one _ a b i j
     HasInnerValue-one (decorator_block t) a b i j = only_one _ a b i j
@@ -104,10 +140,13 @@ module _ (p : Setting) (s : State) where
       viewed_one (HasName p s n) (HaveValues p s (args_params xs)) (PairsHaveValues p s (args_pairs xs)) (HasName-one n)
       (HaveValues-one (args_params xs)) (PairsHaveValues-one (args_pairs xs)) a b i j
 
-pub IsAnswered-one : (p : Setting) (s : State) (q : Question) → IsOne (IsAnswered p s q)
-IsAnswered-one p s (value_of q) a b i j = HasValue-one p s q a b i j
-IsAnswered-one p s (view_of n xs) a b i j = HasView-one p s n xs a b i j
-IsAnswered-one p s (helper_of n) a b i j = only_one _ a b i j
-IsAnswered-one p s (called_as block n) a b i j = only_one _ a b i j
-IsAnswered-one p s (hook_for q) a b i j = only_one _ a b i j
-IsAnswered-one p s (choice_of kind h) a b i j = only_one _ a b i j
+pub IsAnswered-one : (p : Setting) (lawful : IsLawful p.parts) (s : State) (q : Question) → IsOne (IsAnswered p s q)
+IsAnswered-one p lawful s (value_of q) a b i j = HasValue-one p lawful s q a b i j
+IsAnswered-one p lawful s (view_of n xs) a b i j = HasView-one p lawful s n xs a b i j
+IsAnswered-one p lawful s (helper_of n) a b i j = only_one _ a b i j
+IsAnswered-one p lawful s (called_as block n) a b i j = only_one _ a b i j
+IsAnswered-one p lawful s (hook_for q) a b i j = only_one _ a b i j
+IsAnswered-one p lawful s (choice_of callee h) a b i j = HasChoice-one p lawful s callee h a b i j
+IsAnswered-one p lawful s (escape_of t) a b i j = only_one _ a b i j
+IsAnswered-one p lawful s (decorator_of n) a b i j = only_one _ a b i j
+IsAnswered-one p lawful s (decoration_of kind v) a b i j = only_one _ a b i j

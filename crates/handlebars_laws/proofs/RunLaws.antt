@@ -4,7 +4,7 @@ use Rattle.handlebars_base.specs.Answers.{Answer}
 use Rattle.handlebars_base.specs.Outputs.{IsBeginning}
 use Rattle.handlebars_meaning.specs.Pieces.{Piece, join}
 use Rattle.handlebars_meaning.specs.Questions.{Question, Reply}
-use Rattle.handlebars_meaning.specs.State.{Setting, State}
+use Rattle.handlebars_meaning.specs.State.{IsLawful, Setting, State}
 use Rattle.handlebars_meaning.specs.Steps.{Task, Steps}
 use Rattle.handlebars_meaning.specs.Runs.{Outcome, Ended, Refused, Faulted, NoMemory, IsOver, IsStop, Stops, Front, none, cut_off, more, marked, Runs, done, refused, wrote, got, set, asked, did, did_over, captured, captured_over, stop, cut}
 use Rattle.handlebars_meaning.proofs.Runs.{join-append}
@@ -58,42 +58,42 @@ marked-IsStop t (Faulted f) h = h
 marked-IsStop t NoMemory h = h
 
 pub Runs-one : {p : Setting} {k : Steps} {s : State} {ps qs : List Piece} {o q : Outcome}
-    → Runs p k s ps o → Runs p k s qs q → IsWhole o → IsWhole q → (ps ≡ qs) × (o ≡ q)
-Runs-one done done h g = (refl, refl)
-Runs-one done stop h g = absurd (g tt)
-Runs-one refused refused h g = (refl, refl)
-Runs-one refused stop h g = absurd (g tt)
-Runs-one stop q h g = absurd (h tt)
-Runs-one (wrote {xs = xs} r) (wrote q) h g = let e = Runs-one r q h g in (ap (λ zs. xs ++ zs) e.0, e.1)
-Runs-one (wrote r) (cut {at_word = w} {o = o} i b) h g = absurd (g (stops w o i))
-Runs-one (wrote r) stop h g = absurd (g tt)
-Runs-one (cut {at_word = w} {o = o} i b) q h g = absurd (h (stops w o i))
-Runs-one (got r) (got q) h g = Runs-one r q h g
-Runs-one (got r) stop h g = absurd (g tt)
-Runs-one {p = p} {s = s} (asked {q = w} {f = f} a i r) (asked b j q) h g =
-    Runs-one r (Runs-answer w f (IsAnswered-one p s w a b i j) q) h g
-Runs-one (asked a i r) stop h g = absurd (g tt)
-Runs-one (set r) (set q) h g = Runs-one r q h g
-Runs-one (set r) stop h g = absurd (g tt)
-Runs-one (did {ps = xs} {qs = ys} a b) (did {ps = zs} c d) h g =
-    let e = Runs-one a c (λ x. x) (λ x. x) in
-    let f = Runs-one b (Runs-state (Ended-injective e.1) d) h g in
+    → IsLawful p.parts → Runs p k s ps o → Runs p k s qs q → IsWhole o → IsWhole q → (ps ≡ qs) × (o ≡ q)
+Runs-one lawful done done h g = (refl, refl)
+Runs-one lawful done stop h g = absurd (g tt)
+Runs-one lawful refused refused h g = (refl, refl)
+Runs-one lawful refused stop h g = absurd (g tt)
+Runs-one lawful stop q h g = absurd (h tt)
+Runs-one lawful (wrote {xs = xs} r) (wrote q) h g = let e = Runs-one lawful r q h g in (ap (λ zs. xs ++ zs) e.0, e.1)
+Runs-one lawful (wrote r) (cut {at_word = w} {o = o} i b) h g = absurd (g (stops w o i))
+Runs-one lawful (wrote r) stop h g = absurd (g tt)
+Runs-one lawful (cut {at_word = w} {o = o} i b) q h g = absurd (h (stops w o i))
+Runs-one lawful (got r) (got q) h g = Runs-one lawful r q h g
+Runs-one lawful (got r) stop h g = absurd (g tt)
+Runs-one {p = p} {s = s} lawful (asked {q = w} {f = f} a i r) (asked b j q) h g =
+    Runs-one lawful r (Runs-answer w f (IsAnswered-one p lawful s w a b i j) q) h g
+Runs-one lawful (asked a i r) stop h g = absurd (g tt)
+Runs-one lawful (set r) (set q) h g = Runs-one lawful r q h g
+Runs-one lawful (set r) stop h g = absurd (g tt)
+Runs-one lawful (did {ps = xs} {qs = ys} a b) (did {ps = zs} c d) h g =
+    let e = Runs-one lawful a c (λ x. x) (λ x. x) in
+    let f = Runs-one lawful b (Runs-state (Ended-injective e.1) d) h g in
     (ap (λ ws. ws ++ ys) e.0 ∙ ap (λ ws. zs ++ ws) f.0, f.1)
-Runs-one (did a b) (did_over {t = t} {o = o} c over) h g =
-    absurd (subst IsOver (sym (Runs-one a c (λ x. x) (λ i. g (IsStop-marked t o i))).1) over)
-Runs-one (did a b) stop h g = absurd (g tt)
-Runs-one (did_over {t = t} {o = o} a over) (did c d) h g =
-    absurd (subst IsOver (Runs-one a c (λ i. h (IsStop-marked t o i)) (λ x. x)).1 over)
-Runs-one (did_over {t = t} {o = o} a over) (did_over {o = o'} c over') h g =
-    let e = Runs-one a c (λ i. h (IsStop-marked t o i)) (λ i. g (IsStop-marked t o' i)) in (e.0, ap (marked t) e.1)
-Runs-one (did_over a over) stop h g = absurd (g tt)
-Runs-one (captured {f = f} a b) (captured c d) h g =
-    let e = Runs-one a c (λ x. x) (λ x. x) in Runs-one b (Runs-captured f e.0 (Ended-injective e.1) d) h g
-Runs-one (captured a b) (captured_over c over) h g = absurd (subst IsOver (sym (Runs-one a c (λ x. x) g).1) over)
-Runs-one (captured a b) stop h g = absurd (g tt)
-Runs-one (captured_over a over) (captured c d) h g = absurd (subst IsOver (Runs-one a c h (λ x. x)).1 over)
-Runs-one (captured_over a over) (captured_over c over') h g = (refl, (Runs-one a c h g).1)
-Runs-one (captured_over a over) stop h g = absurd (g tt)
+Runs-one lawful (did a b) (did_over {t = t} {o = o} c over) h g =
+    absurd (subst IsOver (sym (Runs-one lawful a c (λ x. x) (λ i. g (IsStop-marked t o i))).1) over)
+Runs-one lawful (did a b) stop h g = absurd (g tt)
+Runs-one lawful (did_over {t = t} {o = o} a over) (did c d) h g =
+    absurd (subst IsOver (Runs-one lawful a c (λ i. h (IsStop-marked t o i)) (λ x. x)).1 over)
+Runs-one lawful (did_over {t = t} {o = o} a over) (did_over {o = o'} c over') h g =
+    let e = Runs-one lawful a c (λ i. h (IsStop-marked t o i)) (λ i. g (IsStop-marked t o' i)) in (e.0, ap (marked t) e.1)
+Runs-one lawful (did_over a over) stop h g = absurd (g tt)
+Runs-one lawful (captured {f = f} a b) (captured c d) h g =
+    let e = Runs-one lawful a c (λ x. x) (λ x. x) in Runs-one lawful b (Runs-captured f e.0 (Ended-injective e.1) d) h g
+Runs-one lawful (captured a b) (captured_over c over) h g = absurd (subst IsOver (sym (Runs-one lawful a c (λ x. x) g).1) over)
+Runs-one lawful (captured a b) stop h g = absurd (g tt)
+Runs-one lawful (captured_over a over) (captured c d) h g = absurd (subst IsOver (Runs-one lawful a c h (λ x. x)).1 over)
+Runs-one lawful (captured_over a over) (captured_over c over') h g = (refl, (Runs-one lawful a c h g).1)
+Runs-one lawful (captured_over a over) stop h g = absurd (g tt)
 
 IsBeginning-join : (xs ys zs : List Piece) → IsBeginning (join ys) (join zs)
     → IsBeginning (join (xs ++ ys)) (join (xs ++ zs))
@@ -110,37 +110,37 @@ IsBeginning-front (more {p = p} {qs = qs} {ps = ps} f) = let b = IsBeginning-fro
 
 -- a run that stopped wrote a beginning of the whole one
 pub Runs-beginning : {p : Setting} {k : Steps} {s : State} {ps qs : List Piece} {o q : Outcome}
-    → Runs p k s ps o → Runs p k s qs q → IsStop o → IsWhole q → IsBeginning (join ps) (join qs)
-Runs-beginning done q h g = absurd h
-Runs-beginning refused q h g = absurd h
-Runs-beginning {qs = qs} stop q h g = (join qs, refl)
-Runs-beginning (wrote {xs = xs} {ps = ps} r) (wrote {ps = qs} q) h g = IsBeginning-join xs ps qs (Runs-beginning r q h g)
-Runs-beginning (wrote r) (cut {at_word = w} {o = o} i b) h g = absurd (g (stops w o i))
-Runs-beginning (wrote r) stop h g = absurd (g tt)
-Runs-beginning (cut {x = x} {xs = xs} {ys = ys} i b) (wrote {ps = qs} q) h g = IsBeginning-more ys (x ∷ xs) qs (IsBeginning-front b)
-Runs-beginning (cut i b) (cut {at_word = w} {o = o} j c) h g = absurd (g (stops w o j))
-Runs-beginning (cut i b) stop h g = absurd (g tt)
-Runs-beginning (got r) (got q) h g = Runs-beginning r q h g
-Runs-beginning (got r) stop h g = absurd (g tt)
-Runs-beginning {p = p} {s = s} (asked {q = w} {f = f} a i r) (asked b j q) h g =
-    Runs-beginning r (Runs-answer w f (IsAnswered-one p s w a b i j) q) h g
-Runs-beginning (asked a i r) stop h g = absurd (g tt)
-Runs-beginning (set r) (set q) h g = Runs-beginning r q h g
-Runs-beginning (set r) stop h g = absurd (g tt)
-Runs-beginning (did {ps = xs} {qs = ys} a b) (did {ps = zs} {qs = ws} c d) h g =
-    let e = Runs-one a c (λ x. x) (λ x. x) in
+    → IsLawful p.parts → Runs p k s ps o → Runs p k s qs q → IsStop o → IsWhole q → IsBeginning (join ps) (join qs)
+Runs-beginning lawful done q h g = absurd h
+Runs-beginning lawful refused q h g = absurd h
+Runs-beginning {qs = qs} lawful stop q h g = (join qs, refl)
+Runs-beginning lawful (wrote {xs = xs} {ps = ps} r) (wrote {ps = qs} q) h g = IsBeginning-join xs ps qs (Runs-beginning lawful r q h g)
+Runs-beginning lawful (wrote r) (cut {at_word = w} {o = o} i b) h g = absurd (g (stops w o i))
+Runs-beginning lawful (wrote r) stop h g = absurd (g tt)
+Runs-beginning lawful (cut {x = x} {xs = xs} {ys = ys} i b) (wrote {ps = qs} q) h g = IsBeginning-more ys (x ∷ xs) qs (IsBeginning-front b)
+Runs-beginning lawful (cut i b) (cut {at_word = w} {o = o} j c) h g = absurd (g (stops w o j))
+Runs-beginning lawful (cut i b) stop h g = absurd (g tt)
+Runs-beginning lawful (got r) (got q) h g = Runs-beginning lawful r q h g
+Runs-beginning lawful (got r) stop h g = absurd (g tt)
+Runs-beginning {p = p} {s = s} lawful (asked {q = w} {f = f} a i r) (asked b j q) h g =
+    Runs-beginning lawful r (Runs-answer w f (IsAnswered-one p lawful s w a b i j) q) h g
+Runs-beginning lawful (asked a i r) stop h g = absurd (g tt)
+Runs-beginning lawful (set r) (set q) h g = Runs-beginning lawful r q h g
+Runs-beginning lawful (set r) stop h g = absurd (g tt)
+Runs-beginning lawful (did {ps = xs} {qs = ys} a b) (did {ps = zs} {qs = ws} c d) h g =
+    let e = Runs-one lawful a c (λ x. x) (λ x. x) in
     subst (λ (us : List Piece). IsBeginning (join (xs ++ ys)) (join (us ++ ws))) e.0
-    (IsBeginning-join xs ys ws (Runs-beginning b (Runs-state (Ended-injective e.1) d) h g))
-Runs-beginning (did a b) (did_over {t = t} {o = o} c over) h g =
-    absurd (subst IsOver (sym (Runs-one a c (λ x. x) (λ i. g (IsStop-marked t o i))).1) over)
-Runs-beginning (did a b) stop h g = absurd (g tt)
-Runs-beginning (did_over {t = t} {ps = xs} {o = o} a over) (did {ps = zs} {qs = ws} c d) h g =
-    IsBeginning-more xs zs ws (Runs-beginning a c (marked-IsStop t o h) (λ x. x))
-Runs-beginning (did_over {t = t} {o = o} a over) (did_over {o = o'} c over') h g =
-    Runs-beginning a c (marked-IsStop t o h) (λ i. g (IsStop-marked t o' i))
-Runs-beginning (did_over a over) stop h g = absurd (g tt)
-Runs-beginning (captured {f = f} a b) (captured c d) h g =
-    let e = Runs-one a c (λ x. x) (λ x. x) in Runs-beginning b (Runs-captured f e.0 (Ended-injective e.1) d) h g
-Runs-beginning (captured a b) (captured_over c over) h g = absurd (subst IsOver (sym (Runs-one a c (λ x. x) g).1) over)
-Runs-beginning (captured a b) stop h g = absurd (g tt)
-Runs-beginning {qs = qs} (captured_over a over) q h g = (join qs, refl)
+    (IsBeginning-join xs ys ws (Runs-beginning lawful b (Runs-state (Ended-injective e.1) d) h g))
+Runs-beginning lawful (did a b) (did_over {t = t} {o = o} c over) h g =
+    absurd (subst IsOver (sym (Runs-one lawful a c (λ x. x) (λ i. g (IsStop-marked t o i))).1) over)
+Runs-beginning lawful (did a b) stop h g = absurd (g tt)
+Runs-beginning lawful (did_over {t = t} {ps = xs} {o = o} a over) (did {ps = zs} {qs = ws} c d) h g =
+    IsBeginning-more xs zs ws (Runs-beginning lawful a c (marked-IsStop t o h) (λ x. x))
+Runs-beginning lawful (did_over {t = t} {o = o} a over) (did_over {o = o'} c over') h g =
+    Runs-beginning lawful a c (marked-IsStop t o h) (λ i. g (IsStop-marked t o' i))
+Runs-beginning lawful (did_over a over) stop h g = absurd (g tt)
+Runs-beginning lawful (captured {f = f} a b) (captured c d) h g =
+    let e = Runs-one lawful a c (λ x. x) (λ x. x) in Runs-beginning lawful b (Runs-captured f e.0 (Ended-injective e.1) d) h g
+Runs-beginning lawful (captured a b) (captured_over c over) h g = absurd (subst IsOver (sym (Runs-one lawful a c (λ x. x) g).1) over)
+Runs-beginning lawful (captured a b) stop h g = absurd (g tt)
+Runs-beginning {qs = qs} lawful (captured_over a over) q h g = (join qs, refl)

@@ -1,11 +1,15 @@
 -- All that a run writes has an origin.
-use Rattle.std.proofs.Common.{◌≡◌, ℕ, suc, ◌+◌, List, [], ◌∷◌, ◌++◌, Bool, true, false, not, ◌||◌, refl, sym, ap, ◌∙◌, subst, append_assoc, append-nil, Option, Some, None, option_and_then, arith}
+use Rattle.std.proofs.Common.{◌≡◌, ℕ, suc, ◌+◌, List, [], ◌∷◌, ◌++◌, length, Bool, true, false, not, ◌||◌, refl, sym, ap, ◌∙◌, subst, append_assoc, append-nil, Option, Some, None, option_and_then, arith}
 use Rattle.std.specs.List.{Contains}
+use Rattle.std.specs.List.{slice_get}
+use Rattle.std.proofs.lemmas.List.{length-append}
+use Rattle.std.proofs.lemmas.Option.{slice_get_read}
+use Rattle.std.proofs.Math.Seq.{get_or-append_seam}
 use Rattle.std.proofs.lemmas.List.Elements.{Contains-append_left, Contains-append_right}
 use Rattle.handlebars_base.specs.Answers.{Answer, gives, refuses}
 use Rattle.handlebars_base.specs.Bytes.{Text}
 use Rattle.handlebars_base.specs.Optional.{with_or}
-use Rattle.handlebars_base.specs.Reasons.{Reason, decorator_not_found, partial_not_found}
+use Rattle.handlebars_base.specs.Reasons.{Reason, partial_not_found}
 use Rattle.handlebars_base.specs.Scoped.{Found, walked, value, missing, present_in}
 use Rattle.handlebars_base.specs.Values.{word}
 use Rattle.handlebars_template.specs.Place.{Place}
@@ -13,19 +17,22 @@ use Rattle.handlebars_template.specs.Tree.{Tree, tree, Elements, no_elements, el
 use Rattle.handlebars_base.specs.Outputs.{IsBeginning}
 use Rattle.handlebars_scope.specs.Scopes.{Frame, empty_frame, Base}
 use Rattle.handlebars_helpers.specs.CallView.{CallView}
-use Rattle.handlebars_helpers.specs.Choice.{Kind, Choice, the_body, the_inverse, body_in_block, body_in_turns, the_value, the_word, the_line, nothing}
+use Rattle.handlebars_helpers.specs.Callee.{Callee}
+use Rattle.handlebars_helpers.specs.Choice.{Choice, the_body, the_inverse, body_in_block, body_in_turns, the_value, the_word, the_line, the_steps, nothing}
+use Rattle.handlebars_helpers.specs.Decoration.{DecoratorKind, Decoration, sets_partial}
+use Rattle.handlebars_helpers.specs.Own.{Step, writes, renders_body, renders_inverse, renders_body_in}
 use Rattle.handlebars_helpers.specs.Turns.{Turn, turned, with_block}
-use Rattle.handlebars_meaning.specs.State.{Setting, State, entered, left, with_nearest, nearest_variables}
+use Rattle.handlebars_meaning.specs.State.{Setting, State, entered, left, with_nearest, nearest_variables, with_decoration}
 use Rattle.handlebars_meaning.specs.Steps.{Task, One, Whole, Steps, Done, Refuse, Write, Get, Set, Ask, Do, Capture, Prog, ◌>>=◌, ◌>>◌, answer, ask, refuse_for}
-use Rattle.handlebars_meaning.specs.Pieces.{Origin, of_text, of_value, of_raw, of_word, Piece}
-use Rattle.handlebars_meaning.specs.Questions.{value_of, view_of, helper_of, called_as, hook_for, choice_of, Reply, IsAnswered}
+use Rattle.handlebars_meaning.specs.Pieces.{Origin, of_text, of_value, of_raw, of_word, of_step, Piece}
+use Rattle.handlebars_meaning.specs.Questions.{value_of, view_of, helper_of, called_as, hook_for, choice_of, escape_of, decorator_of, decoration_of, Reply, IsAnswered}
 use Rattle.handlebars_meaning.specs.Sites.{TreeSite, body_at, inverse_at, Site, element_in}
 use Rattle.handlebars_meaning.specs.Visits.{Visit, arrival, visits}
-use Rattle.handlebars_meaning.specs.Writing.{shown_if_any, value_origin, write_text, write_value}
-use Rattle.handlebars_meaning.specs.CarryOut.{in_block, helper_call, render_branch, render_body, take_turn, take_turns, render_with, render_word, carry_out}
-use Rattle.handlebars_meaning.specs.Means.{line_in, line_out, render_chosen, render_helped, render_call, render_hook, render_found, render_lone_as, render_lone, render_expression, render_decorator, render_partial, render_element, render_elements, render_whole, render_alone, todo}
+use Rattle.handlebars_meaning.specs.Writing.{rendered_if_any, write_text, write_rendered, write_value, write_step}
+use Rattle.handlebars_meaning.specs.CarryOut.{change, in_block, helper_call, render_branch, render_body, take_turn, take_turns, render_with, render_word, take_step, take_steps, carry_out}
+use Rattle.handlebars_meaning.specs.Means.{line_in, line_out, render_chosen, render_helped, render_call, render_hook, render_found, render_lone_as, render_lone, render_expression, shown_tag, render_decorator, render_partial, render_element, render_elements, render_whole, render_alone, todo}
 use Rattle.handlebars_meaning.specs.Runs.{Outcome, Ended, Refused, Faulted, NoMemory, IsOver, Stops, marked, Front, none, cut_off, more, Runs, done, refused, wrote, got, set, asked, did, did_over, captured, captured_over, stop, cut, Means}
-use Rattle.handlebars_meaning.specs.Origins.{IsWithin, nth, nth_in, tree_in, body_of, inverse_of, tree_at, element_at, shown_call, is_html, is_raw_tree, is_raw_site, is_lone, IsValue, Calls, by_name, by_name_or_hook, by_hook, Chooses, WritesValue, of_itself, of_helper, IsReached, IsCalled, ComesFrom, HaveOrigins}
+use Rattle.handlebars_meaning.specs.Origins.{IsWithin, nth, nth_in, tree_in, body_of, inverse_of, tree_at, element_at, shown_call, is_html, is_raw_tree, is_raw_site, is_lone, IsValue, Calls, by_name, by_name_or_hook, by_hook, Chooses, WritesValue, of_itself, of_helper, IsReached, IsCalled, Shows, ComesFrom, HaveOrigins}
 use Rattle.handlebars_meaning.specs.Laws.{alone}
 
 raw-not : (raw b : Bool) → b ≡ not raw → raw ≡ not b
@@ -52,6 +59,32 @@ all_begins t = ([], sym (append-nil t))
 beginning_beginning : (a b t : Text) → IsBeginning a b → IsBeginning b t → IsBeginning a t
 beginning_beginning a b t c d = (c.0 ++ d.0, d.1 ∙ ap (λ (z : Text). z ++ d.0) c.1 ∙ append_assoc a c.0 d.0)
 
+-- ---- the steps of an answer, from a number on
+
+abbrev pub StepsFrom : List Step → ℕ → List Step → Type 0
+StepsFrom all i steps = (before : List Step) × (i ≡ length before) × (all ≡ before ++ steps)
+
+slice_get-seam : (before : List Step) (step : Step) (steps : List Step)
+    → slice_get (before ++ step ∷ steps) (length before) ≡ Some step
+slice_get-seam before step steps =
+    let n = length (before ++ step ∷ steps) in
+    let is : n ≡ length before + suc (length steps) = length-append before (step ∷ steps) in
+    slice_get_read (before ++ step ∷ steps) n (length before) step refl (omega (arith, is))
+    (sym (get_or-append_seam before step steps step))
+
+step_there : (all : List Step) (i : ℕ) (step : Step) (steps : List Step) → StepsFrom all i (step ∷ steps)
+    → slice_get all i ≡ Some step
+step_there all i step steps h =
+    ap (λ (xs : List Step). slice_get xs i) h.2 ∙ ap (slice_get (h.0 ++ step ∷ steps)) h.1 ∙ slice_get-seam h.0 step steps
+
+steps_behind : (all : List Step) (i : ℕ) (step : Step) (steps : List Step) → StepsFrom all i (step ∷ steps)
+    → StepsFrom all (i + 1) steps
+steps_behind all i step steps h =
+    let n : ℕ = length h.0 in
+    let same : i ≡ n = h.1 in
+    let is : length (h.0 ++ step ∷ []) ≡ n + 1 = length-append h.0 (step ∷ []) in
+    (h.0 ++ step ∷ [], omega (arith, same, is), h.2 ∙ sym (append_assoc h.0 (step ∷ []) steps))
+
 module _ (p : Setting) (u : Tree) (vs : List Visit) where
   from_front : (o : Origin) (a b : Text) → IsBeginning a b → ComesFrom p u vs o b → ComesFrom p u vs o a
   from_front (of_text site) a b c h = record {
@@ -69,7 +102,9 @@ module _ (p : Setting) (u : Tree) (vs : List Visit) where
     called = h.called;
     is_raw = h.is_raw;
     writes = h.writes;
-    is = beginning_within a b (shown_if_any true (present_in v)) c h.is;
+    all = h.all;
+    shows = h.shows;
+    is = beginning_within a b h.all c h.is;
   }
   from_front (of_raw site v) a b c h = record {
     block = h.block;
@@ -79,7 +114,9 @@ module _ (p : Setting) (u : Tree) (vs : List Visit) where
     called = h.called;
     is_raw = h.is_raw;
     writes = h.writes;
-    is = beginning_within a b (shown_if_any false (present_in v)) c h.is;
+    all = h.all;
+    shows = h.shows;
+    is = beginning_within a b h.all c h.is;
   }
   from_front (of_word site w) a b c h = record {
     helper = h.helper;
@@ -88,6 +125,18 @@ module _ (p : Setting) (u : Tree) (vs : List Visit) where
     called = h.called;
     says = h.says;
     is = beginning_beginning a b (word w) c h.is;
+  }
+  from_front (of_step site i) a b c h = record {
+    block = h.block;
+    helper = h.helper;
+    state = h.state;
+    view = h.view;
+    called = h.called;
+    steps = h.steps;
+    answers = h.answers;
+    all = h.all;
+    step = h.step;
+    is = beginning_beginning a b h.all c h.is;
   }
 
   origins_front : {xs ys : List Piece} → Front xs ys → HaveOrigins p u vs ys → HaveOrigins p u vs xs
@@ -261,43 +310,65 @@ module _ (p : Setting) (u : Tree) (vs : List Visit) where
       is_called : IsCalled p u vs site block c before v
       is_called = record { stands = stands; reached = reached; viewed = viewed }
 
-      value_comes : (b : Bool) (found : Found) → b ≡ not (is_raw_site u site)
-          → WritesValue p block c before v found
-          → ComesFrom p u vs (value_origin b site found) (shown_if_any b (present_in found))
-      value_comes true found raw writes = record {
+      value_comes : (found : Found) (t : Text) (raw : true ≡ not (is_raw_site u site))
+          → WritesValue p block c before v found → Shows p before true found t
+          → ComesFrom p u vs (of_value site found) t
+      value_comes found t raw has shows = record {
         block = block;
         helper = c;
         state = before;
         view = v;
         called = is_called;
         is_raw = raw-not (is_raw_site u site) true raw;
-        writes = writes;
-        is = all_within (shown_if_any true (present_in found));
+        writes = has;
+        all = t;
+        shows = shows;
+        is = all_within t;
       }
-      value_comes false found raw writes = record {
+
+      raw_value_comes : (found : Found) (raw : false ≡ not (is_raw_site u site))
+          → WritesValue p block c before v found
+          → ComesFrom p u vs (of_raw site found) (rendered_if_any (present_in found))
+      raw_value_comes found raw has = record {
         block = block;
         helper = c;
         state = before;
         view = v;
         called = is_called;
         is_raw = raw-not (is_raw_site u site) false raw;
-        writes = writes;
-        is = all_within (shown_if_any false (present_in found));
+        writes = has;
+        all = rendered_if_any (present_in found);
+        shows = refl;
+        is = all_within (rendered_if_any (present_in found));
       }
+
+      escaped_as : (s : State) (found : Found) (on : Bool) (next : Unit {0} → Steps) (a : Answer Text)
+          → true ≡ not (is_raw_site u site) → WritesValue p block c before v found
+          → ((n : State) → n.escapes ≡ s.escapes → Good on n (next tt))
+          → IsAnswered p before (escape_of (rendered_if_any (present_in found))) a
+          → Good on s (answer a (λ t. write_text (of_value site found) t next))
+      escaped_as s found on next (gives t) raw has g is =
+          write_text_good s (of_value site found) t (value_comes found t raw has is) on next g
+      escaped_as s found on next (refuses r) raw has g is = tt
+
+      write_rendered_good : (s : State) (found : Found) (b : Bool) → b ≡ not (is_raw_site u site)
+          → WritesValue p block c before v found → IsGoodFrom s (write_rendered site found b)
+      unfolding ◌>>=◌
+      write_rendered_good s found true raw has = λ on next g a is. escaped_as s found on next a raw has g is
+      write_rendered_good s found false raw has =
+          write_text_good s (of_raw site found) (rendered_if_any (present_in found)) (raw_value_comes found raw has)
 
       write_value_good : (s : State) (found : Found) → s.escapes ≡ not (is_raw_site u site)
           → WritesValue p block c before v found → IsGoodFrom s (write_value site found)
       unfolding ◌>>=◌
-      write_value_good s found raw writes =
-          write_text_good s (value_origin s.escapes site found) (shown_if_any s.escapes (present_in found))
-          (value_comes s.escapes found raw writes)
+      write_value_good s found raw has = write_rendered_good s found s.escapes raw has
 
       -- ---- what its helper chose
 
-      module _ (k : Kind) (calls : Calls p block c before v k) where
+      module _ (k : Callee) (calls : Calls p block c before v k) where
         chooses_so : (choice : Choice) → IsAnswered p before (choice_of k (helper_call block c v)) (gives choice)
             → Chooses p block c before v choice
-        chooses_so choice chose = record { kind = k; calls = calls; chooses = chose }
+        chooses_so choice chose = record { callee = k; calls = calls; chooses = chose }
 
         word_comes : (b : Bool) → block ≡ false
             → IsAnswered p before (choice_of k (helper_call block c v)) (gives (the_word b))
@@ -319,6 +390,47 @@ module _ (p : Setting) (u : Tree) (vs : List Visit) where
         word_good s true true is raw chose = body_good v 0 s raw
         word_good s true false is raw chose = branch_good (inverse_at site 0) (call_inverse c) s has_inverse raw
 
+        -- the steps of a helper of one's own
+
+        module _ (all : List Step)
+            (chose : IsAnswered p before (choice_of k (helper_call block c v)) (gives (the_steps all))) where
+          step_comes : (i : ℕ) (t : Text) → slice_get all i ≡ Some (writes t) → ComesFrom p u vs (of_step site i) t
+          step_comes i t is = record {
+            block = block;
+            helper = c;
+            state = before;
+            view = v;
+            called = is_called;
+            steps = all;
+            answers = chooses_so (the_steps all) chose;
+            all = t;
+            step = is;
+            is = all_begins t;
+          }
+
+          write_step_good : (s : State) (i : ℕ) (t : Text) → slice_get all i ≡ Some (writes t)
+              → IsGoodFrom s (write_step site i t)
+          write_step_good s i [] is on next g = (tt, g s refl)
+          write_step_good s i (b ∷ t) is on next g = ((step_comes i (b ∷ t) is, tt), g s refl)
+
+          step_good : (s : State) (i : ℕ) (step : Step) → s.escapes ≡ not (is_raw_site u site)
+              → slice_get all i ≡ Some step → IsGoodFrom s (take_step site (helper_call block c v) i step)
+          step_good s i (writes t) raw is = write_step_good s i t is
+          step_good s i renders_body raw is = body_good v i s raw
+          step_good s i renders_inverse raw is = branch_good (inverse_at site i) (call_inverse c) s has_inverse raw
+          step_good s i (renders_body_in f) raw is =
+              in_block_good s f (render_body site i (helper_call block c v)) (body_good v i (entered f s) raw)
+
+          steps_good : (s : State) (i : ℕ) (steps : List Step) → s.escapes ≡ not (is_raw_site u site)
+              → StepsFrom all i steps → IsGoodFrom s (take_steps site (helper_call block c v) i steps)
+          unfolding ◌>>◌
+          steps_good s i [] raw from on next g = g s refl
+          steps_good s i (step ∷ steps) raw from on next g =
+              step_good s i step raw (step_there all i step steps from) on
+              (λ z. take_steps site (helper_call block c v) (i + 1) steps next)
+              (λ n is. steps_good n (i + 1) steps (is ∙ raw) (steps_behind all i step steps from) on next
+              (λ z same. g z (same ∙ is)))
+
         carry_good : (s : State) (choice : Choice) → s.escapes ≡ not (is_raw_site u site)
             → IsAnswered p before (choice_of k (helper_call block c v)) (gives choice)
             → IsGoodFrom s (carry_out site (helper_call block c v) choice)
@@ -332,6 +444,7 @@ module _ (p : Setting) (u : Tree) (vs : List Visit) where
             write_value_good s (value d) raw (of_helper (chooses_so (the_value d) chose))
         carry_good s (the_word b) raw chose = word_good s block b refl raw chose
         carry_good s (the_line level text) raw chose = λ on next g. g s refl
+        carry_good s (the_steps steps) raw chose = steps_good steps chose s 0 steps raw ([], refl, refl)
         carry_good s nothing raw chose = λ on next g. g s refl
 
         chosen_as : (s : State) (on : Bool) (next : Unit {0} → Steps) (a : Answer Choice)
@@ -368,7 +481,7 @@ module _ (p : Setting) (u : Tree) (vs : List Visit) where
       viewed_as f on next (refuses r) good g viewed = tt
 
       module _ (not_lone : is_lone block c ≡ false) where
-        called_good : (v : CallView) (on : Bool) (next : Unit {0} → Steps) (a : Answer Kind)
+        called_good : (v : CallView) (on : Bool) (next : Unit {0} → Steps) (a : Answer Callee)
             → IsAnswered p s (view_of (call_name c) (call_args c)) (gives v)
             → ((n : State) → n.escapes ≡ s.escapes → Good on n (next tt))
             → IsAnswered p s (called_as block v.name) a
@@ -390,13 +503,13 @@ module _ (p : Setting) (u : Tree) (vs : List Visit) where
     module _ (s : State) (raw : s.escapes ≡ not (is_raw_site u site)) (reached : IsReached vs site s)
         (lone : is_value c ≡ true) where
       module _ (v : CallView) (viewed : IsAnswered p s (view_of (call_name c) (call_args c)) (gives v)) where
-        hook_good : (h : Option Kind) → IsAnswered p s (hook_for (call_name c)) (gives h)
+        hook_good : (h : Option Callee) → IsAnswered p s (hook_for (call_name c)) (gives h)
             → IsValue p false c s v missing → IsGoodFrom s (render_hook site c v h)
         hook_good None is has = λ on next g. g s refl
         hook_good (Some k) is has =
             chosen_good site false c has_body has_inverse stands s reached v viewed k (by_hook has is) s raw
 
-        hooked_as : (on : Bool) (next : Unit {0} → Steps) (a : Answer (Option Kind))
+        hooked_as : (on : Bool) (next : Unit {0} → Steps) (a : Answer (Option Callee))
             → IsValue p false c s v missing → ((n : State) → n.escapes ≡ s.escapes → Good on n (next tt))
             → IsAnswered p s (hook_for (call_name c)) a
             → Good on s (answer a (λ h. render_hook site c v h next))
@@ -421,14 +534,14 @@ module _ (p : Setting) (u : Tree) (vs : List Visit) where
             found_good found (record { lone = lone; no_helper = without; has = has }) on next g
         value_as on next (refuses r) without g has = tt
 
-        lone_as_good : (h : Option Kind) → IsAnswered p s (helper_of v.name) (gives h)
+        lone_as_good : (h : Option Callee) → IsAnswered p s (helper_of v.name) (gives h)
             → IsGoodFrom s (render_lone_as site c v h)
         unfolding ◌>>=◌
         lone_as_good None without = λ on next g a has. value_as on next a without g has
         lone_as_good (Some k) helps =
             helped_good site false c has_body has_inverse stands s reached v viewed k (by_name lone helps) s raw
 
-        helper_as : (on : Bool) (next : Unit {0} → Steps) (a : Answer (Option Kind))
+        helper_as : (on : Bool) (next : Unit {0} → Steps) (a : Answer (Option Callee))
             → ((n : State) → n.escapes ≡ s.escapes → Good on n (next tt))
             → IsAnswered p s (helper_of v.name) a
             → Good on s (answer a (λ h. render_lone_as site c v h next))
@@ -451,16 +564,38 @@ module _ (p : Setting) (u : Tree) (vs : List Visit) where
         → IsGoodFrom s (render_expression site c)
     expression_good s raw reached = expression_as (is_value c) s refl raw reached
 
+  -- ---- decorators: none changes whether escaping is on
+
+  module _ (s : State) (on : Bool) (next : Unit {0} → Steps) (g : (n : State) → n.escapes ≡ s.escapes → Good on n (next tt))
+    where
+      decorated_as : (a : Answer Decoration) → Good on s (answer a (λ d. change (with_decoration d) next))
+      unfolding ◌>>=◌
+      decorated_as (gives (sets_partial name t)) = g (with_decoration (sets_partial name t) s) refl
+      decorated_as (refuses r) = tt
+
+      decorator_as : (t : Decorator) (v : CallView) (a : Answer DecoratorKind)
+          → Good on s (answer a (λ k. (ask (decoration_of k (shown_tag t v)) >>= (λ d. change (with_decoration d))) next))
+      unfolding ◌>>=◌
+      decorator_as t v (gives k) = λ a is. decorated_as a
+      decorator_as t v (refuses r) = tt
+
+      shown_as : (t : Decorator) (a : Answer CallView)
+          → Good on s (answer a (λ v. (ask (decorator_of v.name) >>= (λ k. ask (decoration_of k (shown_tag t v))
+          >>= (λ d. change (with_decoration d)))) next))
+      unfolding ◌>>=◌
+      shown_as t (gives v) = λ a is. decorator_as t v a
+      shown_as t (refuses r) = tt
+
+  decorator_good : (t : Decorator) (s : State) → IsGoodFrom s (render_decorator t)
+  unfolding ◌>>=◌
+  decorator_good t s on next g = λ a viewed. shown_as s on next g t a
+
   -- ---- tags that are refused
 
   tag_as : (why : Text → Reason) (s : State) (on : Bool) (next : Unit {0} → Steps) (a : Answer CallView)
       → Good on s (answer a (λ v. refuse_for (why v.name) next))
   tag_as why s on next (gives v) = tt
   tag_as why s on next (refuses r) = tt
-
-  decorator_good : (t : Decorator) (s : State) → IsGoodFrom s (render_decorator t)
-  unfolding ◌>>=◌
-  decorator_good t s on next g = λ a viewed. tag_as (λ n. decorator_not_found n) s on next a
 
   partial_good : (t : Decorator) (s : State) → IsGoodFrom s (render_partial t)
   unfolding ◌>>=◌

@@ -5,12 +5,13 @@ use Rattle.handlebars_base.specs.Scoped.{value}
 use Rattle.handlebars_template.specs.Tree.{Call, call_binding, call_body, call_inverse, Body, no_body, body}
 use Rattle.handlebars_scope.specs.Scopes.{Frame, empty_frame, Base}
 use Rattle.handlebars_helpers.specs.CallView.{CallView, HelperView}
-use Rattle.handlebars_helpers.specs.Choice.{Choice, the_body, the_inverse, body_in_block, body_in_turns, the_value, the_word, the_line, nothing}
+use Rattle.handlebars_helpers.specs.Choice.{Choice, the_body, the_inverse, body_in_block, body_in_turns, the_value, the_word, the_line, the_steps, nothing}
+use Rattle.handlebars_helpers.specs.Own.{Step, writes, renders_body, renders_inverse, renders_body_in}
 use Rattle.handlebars_helpers.specs.Turns.{Turn, turned, with_block}
 use Rattle.handlebars_meaning.specs.Sites.{TreeSite, body_at, inverse_at, Site}
 use Rattle.handlebars_meaning.specs.State.{State, entered, left, with_nearest, nearest_variables}
 use Rattle.handlebars_meaning.specs.Steps.{Prog, Whole, return, ◌>>=◌, ◌>>◌, state, become, perform}
-use Rattle.handlebars_meaning.specs.Writing.{write_value, write_word}
+use Rattle.handlebars_meaning.specs.Writing.{write_value, write_step, write_word}
 
 -- ---- blocks of scope
 
@@ -68,6 +69,18 @@ render_word site h false b = write_word site b
 render_word site h true true = render_body site 0 h
 render_word site h true false = render_branch (inverse_at site 0) h.inverse
 
+-- A step of a helper of one's own is taken, the one of this number.
+abbrev pub take_step : Site → HelperView → ℕ → Step → Prog (Unit {0})
+take_step site h i (writes t) = write_step site i t
+take_step site h i renders_body = render_body site i h
+take_step site h i renders_inverse = render_branch (inverse_at site i) h.inverse
+take_step site h i (renders_body_in f) = in_block f (render_body site i h)
+
+-- the steps in order, from a number on
+abbrev pub take_steps : Site → HelperView → ℕ → List Step → Prog (Unit {0})
+take_steps site h i [] = return tt
+take_steps site h i (step ∷ steps) = take_step site h i step >> take_steps site h (i + 1) steps
+
 -- What a helper chose is carried out. A line is handed to the logger by the code, and writes nothing.
 abbrev pub carry_out : Site → HelperView → Choice → Prog (Unit {0})
 carry_out site h the_body = render_body site 0 h
@@ -77,4 +90,5 @@ carry_out site h (body_in_turns path ts) = in_block empty_frame (take_turns site
 carry_out site h (the_value d) = write_value site (value d)
 carry_out site h (the_word b) = render_word site h h.block b
 carry_out site h (the_line level text) = return tt
+carry_out site h (the_steps steps) = take_steps site h 0 steps
 carry_out site h nothing = return tt

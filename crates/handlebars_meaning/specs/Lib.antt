@@ -8,6 +8,7 @@ pub mod Steps
 pub mod Writing
 pub mod CarryOut
 pub mod Means
+pub mod Evaluation
 pub mod Runs
 pub mod Visits
 pub mod Origins

@@ -1,16 +1,18 @@
 -- What a template means: what each of its elements does, step by step.
 use Rattle.std.specs.Prelude.{ℕ, ◌+◌, Bool, true, false, ◌&&◌, ◌||◌, if◌then◌else◌, List, Option, None, Some, slice_get}
-use Rattle.handlebars_base.specs.Reasons.{decorator_not_found, partial_not_found}
+use Rattle.handlebars_base.specs.Reasons.{partial_not_found}
 use Rattle.handlebars_base.specs.Scoped.{Found, walked, value, missing}
 use Rattle.handlebars_template.specs.Place.{Place}
-use Rattle.handlebars_template.specs.Tree.{Tree, tree, Elements, no_elements, element, Element, raw_string, html_expression, expression, helper_block, decorator_expression, decorator_block, partial_expression, partial_block, comment, Call, call_name, call_args, call_marks, is_value, Decorator, decorator_name, decorator_args}
+use Rattle.handlebars_template.specs.Tree.{Tree, tree, Elements, no_elements, element, Element, raw_string, html_expression, expression, helper_block, decorator_expression, decorator_block, partial_expression, partial_block, comment, Call, call_name, call_args, call_marks, is_value, Decorator, decorator_name, decorator_args, decorator_body}
 use Rattle.handlebars_scope.specs.LineState.{LineState}
 use Rattle.handlebars_helpers.specs.CallView.{CallView, HelperView}
-use Rattle.handlebars_helpers.specs.Choice.{Kind}
-use Rattle.handlebars_meaning.specs.CarryOut.{helper_call, carry_out}
+use Rattle.handlebars_helpers.specs.Decoration.{DecoratorView}
+use Rattle.handlebars_helpers.specs.Callee.{Callee}
+use Rattle.handlebars_meaning.specs.CarryOut.{helper_call, carry_out, change}
 use Rattle.handlebars_meaning.specs.Pieces.{of_text}
-use Rattle.handlebars_meaning.specs.Questions.{value_of, view_of, helper_of, called_as, hook_for, choice_of}
+use Rattle.handlebars_meaning.specs.Questions.{value_of, view_of, helper_of, called_as, hook_for, choice_of, decorator_of, decoration_of}
 use Rattle.handlebars_meaning.specs.Sites.{TreeSite, first_tree, Site, element_in}
+use Rattle.handlebars_meaning.specs.State.{with_decoration}
 use Rattle.handlebars_meaning.specs.Steps.{Task, One, Whole, Steps, Done, Do, Prog, return, ◌>>=◌, ◌>>◌, run, refuse_for, ask, state, become, perform}
 use Rattle.handlebars_meaning.specs.Writing.{write_text, write_value}
 
@@ -48,11 +50,11 @@ in_bracket marked steps = do
 -- ---- calls
 
 -- What a helper chooses for a call of this view is carried out.
-abbrev pub render_chosen : Site → Kind → HelperView → Prog (Unit {0})
+abbrev pub render_chosen : Site → Callee → HelperView → Prog (Unit {0})
 render_chosen site k h = ask (choice_of k h) >>= carry_out site h
 
 -- A helper is called in the bracket, for a block or an expression.
-abbrev pub render_helped : Site → Bool → Call → Kind → CallView → Prog (Unit {0})
+abbrev pub render_helped : Site → Bool → Call → Callee → CallView → Prog (Unit {0})
 render_helped site block c k v =
     in_bracket (call_marks c).indent_before_write (render_chosen site k (helper_call block c v))
 
@@ -66,7 +68,7 @@ render_call site block c = do
 -- ---- lone expressions
 
 -- The hook is called for a missing value, and with no bracket. Without a hook nothing is written.
-abbrev pub render_hook : Site → Call → CallView → Option Kind → Prog (Unit {0})
+abbrev pub render_hook : Site → Call → CallView → Option Callee → Prog (Unit {0})
 render_hook site c v None = return tt
 render_hook site c v (Some k) = render_chosen site k (helper_call false c v)
 
@@ -77,7 +79,7 @@ render_found site c v (value d) = write_value site (value d)
 render_found site c v missing = ask (hook_for (call_name c)) >>= render_hook site c v
 
 -- A lone expression calls the helper of its name, where there is one, and is a value else.
-abbrev pub render_lone_as : Site → Call → CallView → Option Kind → Prog (Unit {0})
+abbrev pub render_lone_as : Site → Call → CallView → Option Callee → Prog (Unit {0})
 render_lone_as site c v None = ask (value_of (call_name c)) >>= render_found site c v
 render_lone_as site c v (Some k) = render_helped site false c k v
 
@@ -86,6 +88,20 @@ render_lone site c = do
   v ← ask (view_of (call_name c) (call_args c))
   k ← ask (helper_of v.name)
   render_lone_as site c v k
+
+-- ---- decorators
+
+-- the view of a tag with its body, as its decorator sees it
+abbrev pub shown_tag : Decorator → CallView → DecoratorView
+shown_tag t v = record { call = v; body = decorator_body t }
+
+-- The decorator of the tag's name is asked what it does, and that is done.
+abbrev pub render_decorator : Decorator → Prog (Unit {0})
+render_decorator t = do
+  v ← ask (view_of (decorator_name t) (decorator_args t))
+  k ← ask (decorator_of v.name)
+  d ← ask (decoration_of k (shown_tag t v))
+  change (with_decoration d)
 
 -- ---- elements
 
@@ -97,18 +113,13 @@ abbrev pub render_tag : Site → Bool → Call → Prog (Unit {0})
 render_tag site true c = render_call site true c
 render_tag site false c = render_expression site c
 
-abbrev pub render_decorator : Decorator → Prog (Unit {0})
-render_decorator t = do
-  v ← ask (view_of (decorator_name t) (decorator_args t))
-  refuse_for (decorator_not_found v.name)
-
 abbrev pub render_partial : Decorator → Prog (Unit {0})
 render_partial t = do
   v ← ask (view_of (decorator_name t) (decorator_args t))
   refuse_for (partial_not_found v.name)
 
--- A text and an expression write, a block does what its helper chooses, and a comment nothing. No decorator and no
--- template to be included is registered.
+-- A text and an expression write, a block does what its helper chooses, a decorator changes the state, and a comment does
+-- nothing. No template to be included is registered.
 abbrev pub render_element : Site → Element → Prog (Unit {0})
 render_element site (raw_string t) = write_text (of_text site) t
 render_element site (html_expression c) = unescaped (render_expression site c)

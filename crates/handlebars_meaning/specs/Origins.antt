@@ -1,5 +1,5 @@
 -- Where each piece of a run comes from.
-use Rattle.std.specs.Prelude.{◌≡◌, ℕ, zero, suc, Bool, true, false, not, ◌&&◌, ◌||◌, List, ◌++◌, Option, None, Some, option_map}
+use Rattle.std.specs.Prelude.{◌≡◌, ℕ, slice_get, zero, suc, Bool, true, false, not, ◌&&◌, ◌||◌, List, ◌++◌, Option, None, Some, option_map}
 use Rattle.std.specs.List.{AllByRecursion, Contains}
 use Rattle.serde_json.specs.Data.{Data}
 use Rattle.handlebars_base.specs.Answers.{gives}
@@ -10,14 +10,16 @@ use Rattle.handlebars_base.specs.Values.{word}
 use Rattle.handlebars_template.specs.Tree.{Tree, tree_elements, Elements, no_elements, element, Element, raw_string, html_expression, expression, helper_block, decorator_expression, decorator_block, partial_expression, partial_block, Call, call_name, call_args, call_body, call_inverse, is_value, Decorator, decorator_body, Body, no_body, body}
 use Rattle.handlebars_base.specs.Outputs.{IsBeginning}
 use Rattle.handlebars_helpers.specs.CallView.{CallView}
-use Rattle.handlebars_helpers.specs.Choice.{Kind, Choice, the_value, the_word}
+use Rattle.handlebars_helpers.specs.Callee.{Callee}
+use Rattle.handlebars_helpers.specs.Choice.{Choice, the_value, the_word, the_steps}
+use Rattle.handlebars_helpers.specs.Own.{Step, writes}
 use Rattle.handlebars_meaning.specs.CarryOut.{helper_call}
-use Rattle.handlebars_meaning.specs.Pieces.{Origin, of_text, of_value, of_raw, of_word, Piece}
-use Rattle.handlebars_meaning.specs.Questions.{value_of, view_of, helper_of, called_as, hook_for, choice_of, IsAnswered}
+use Rattle.handlebars_meaning.specs.Pieces.{Origin, of_text, of_value, of_raw, of_word, of_step, Piece}
+use Rattle.handlebars_meaning.specs.Questions.{value_of, view_of, helper_of, called_as, hook_for, choice_of, escape_of, IsAnswered}
 use Rattle.handlebars_meaning.specs.Sites.{TreeSite, first_tree, body_at, inverse_at, included_at, Site, element_in}
 use Rattle.handlebars_meaning.specs.State.{Setting, State}
 use Rattle.handlebars_meaning.specs.Visits.{Visit}
-use Rattle.handlebars_meaning.specs.Writing.{shown_if_any}
+use Rattle.handlebars_meaning.specs.Writing.{rendered_if_any}
 
 -- ---- what stands at a site
 
@@ -123,18 +125,18 @@ pub record IsValue (p : Setting) (block : Bool) (c : Call) (s : State) (v : Call
 
 -- A call by a name calls the helper of the name, or else the hook; a lone expression calls the hook only for a missing
 -- value.
-pub data Calls (p : Setting) (block : Bool) (c : Call) (s : State) (v : CallView) (kind : Kind) : Type 0 where
-  by_name : is_lone block c ≡ true → IsAnswered p s (helper_of v.name) (gives (Some kind)) → Calls p block c s v kind
-  by_name_or_hook : is_lone block c ≡ false → IsAnswered p s (called_as block v.name) (gives kind)
-      → Calls p block c s v kind
-  by_hook : IsValue p block c s v missing → IsAnswered p s (hook_for (call_name c)) (gives (Some kind))
-      → Calls p block c s v kind
+pub data Calls (p : Setting) (block : Bool) (c : Call) (s : State) (v : CallView) (callee : Callee) : Type 0 where
+  by_name : is_lone block c ≡ true → IsAnswered p s (helper_of v.name) (gives (Some callee)) → Calls p block c s v callee
+  by_name_or_hook : is_lone block c ≡ false → IsAnswered p s (called_as block v.name) (gives callee)
+      → Calls p block c s v callee
+  by_hook : IsValue p block c s v missing → IsAnswered p s (hook_for (call_name c)) (gives (Some callee))
+      → Calls p block c s v callee
 
 -- A call of this view, of a block or an expression, calls a helper or the hook in a state, and that chooses this.
 pub record Chooses (p : Setting) (block : Bool) (c : Call) (s : State) (v : CallView) (choice : Choice) : Type 0 where
-  pub kind : Kind
-  pub calls : Calls p block c s v kind
-  pub chooses : IsAnswered p s (choice_of kind (helper_call block c v)) (gives choice)
+  pub callee : Callee
+  pub calls : Calls p block c s v callee
+  pub chooses : IsAnswered p s (choice_of callee (helper_call block c v)) (gives choice)
 
 -- A call of this view writes this value in a state: its own, as a lone expression, or the one that its helper chooses.
 pub data WritesValue (p : Setting) (block : Bool) (c : Call) (s : State) (v : CallView) : Found → Type 0 where
@@ -148,6 +150,11 @@ pub record IsCalled (p : Setting) (u : Tree) (vs : List Visit) (site : Site) (bl
   pub reached : IsReached vs site s
   pub viewed : IsAnswered p s (view_of (call_name c) (call_args c)) (gives v)
 
+-- The text that is written of a value in a state, escaped or not: what the escape of its text is answered, or the text.
+abbrev pub Shows : Setting → State → Bool → Found → Text → Type 0
+Shows p s true found t = IsAnswered p s (escape_of (rendered_if_any (present_in found))) (gives t)
+Shows p s false found t = t ≡ rendered_if_any (present_in found)
+
 -- a part of the value that the call at the site writes in a state in which the run comes there, rendered, and escaped or
 -- not
 pub record IsOfShown (p : Setting) (u : Tree) (vs : List Visit) (escapes : Bool) (site : Site) (found : Found) (t : Text)
@@ -159,7 +166,9 @@ pub record IsOfShown (p : Setting) (u : Tree) (vs : List Visit) (escapes : Bool)
   pub called : IsCalled p u vs site block helper state view
   pub is_raw : is_raw_site u site ≡ not escapes
   pub writes : WritesValue p block helper state view found
-  pub is : IsWithin t (shown_if_any escapes (present_in found))
+  pub all : Text
+  pub shows : Shows p state escapes found all
+  pub is : IsWithin t all
 
 -- the word that the boolean helper of the expression at the site says in a state in which the run comes there, or a
 -- beginning of it, where the run stopped within
@@ -171,12 +180,27 @@ pub record IsOfWord (p : Setting) (u : Tree) (vs : List Visit) (site : Site) (b 
   pub says : Chooses p false helper state view (the_word b)
   pub is : IsBeginning t (word b)
 
+-- the text of a step that the helper of the call at the site answers in a state in which the run comes there, or a
+-- beginning of it, where the run stopped within
+pub record IsOfStep (p : Setting) (u : Tree) (vs : List Visit) (site : Site) (i : ℕ) (t : Text) : Type 0 where
+  pub block : Bool
+  pub helper : Call
+  pub state : State
+  pub view : CallView
+  pub called : IsCalled p u vs site block helper state view
+  pub steps : List Step
+  pub answers : Chooses p block helper state view (the_steps steps)
+  pub all : Text
+  pub step : slice_get steps i ≡ Some (writes all)
+  pub is : IsBeginning t all
+
 -- Of a run over the tree u that comes to these sites.
 abbrev pub ComesFrom : Setting → Tree → List Visit → Origin → Text → Type 0
 ComesFrom p u vs (of_text site) t = IsOfText u vs site t
 ComesFrom p u vs (of_value site found) t = IsOfShown p u vs true site found t
 ComesFrom p u vs (of_raw site found) t = IsOfShown p u vs false site found t
 ComesFrom p u vs (of_word site b) t = IsOfWord p u vs site b t
+ComesFrom p u vs (of_step site i) t = IsOfStep p u vs site i t
 
 abbrev pub HasOrigin : Setting → Tree → List Visit → Piece → Type 0
 HasOrigin p u vs piece = ComesFrom p u vs piece.origin piece.text

@@ -1,45 +1,78 @@
 -- What the steps of a run ask, and what it is answered. Here alone a run reads its setting: the data, the helpers and the
--- mode.
-use Rattle.std.specs.Prelude.{Bool, false, if◌then◌else◌, Option, None, Some}
+-- decorators, how values are escaped and the mode.
+use Rattle.std.specs.Prelude.{Bool, false, if◌then◌else◌, List, Option, None, Some}
 use Rattle.handlebars_base.specs.Answers.{Answer, gives, refuses_for}
 use Rattle.handlebars_base.specs.Bytes.{Text}
-use Rattle.handlebars_base.specs.Reasons.{helper_not_found, missing_variable}
+use Rattle.handlebars_base.specs.Reasons.{decorator_not_found, helper_not_found, missing_variable}
 use Rattle.handlebars_base.specs.Scoped.{Found}
 use Rattle.handlebars_template.specs.Tree.{Param, Args, as_name}
 use Rattle.handlebars_helpers.specs.CallView.{CallView, HelperView}
-use Rattle.handlebars_helpers.specs.Choice.{Kind, Choice, chosen}
-use Rattle.handlebars_meaning.specs.Asks.{Asks, only}
+use Rattle.handlebars_helpers.specs.Callee.{Callee, built, own}
+use Rattle.handlebars_helpers.specs.Choice.{Choice, chosen, null_or_refusal, the_value, the_steps, nothing}
+use Rattle.handlebars_helpers.specs.Decoration.{DecoratorKind, DecoratorView, Decoration, decorated}
+use Rattle.handlebars_helpers.specs.Escaping.{escaped_by}
+use Rattle.handlebars_helpers.specs.Own.{Step, Offer, not_offered, offers_missing, offers}
+use Rattle.handlebars_meaning.specs.Asks.{Asks, only, ◌>>=◌}
 use Rattle.handlebars_meaning.specs.State.{Parts, Setting, State, hook, helper_for}
-use Rattle.handlebars_meaning.specs.Values.{HasValue, HasView}
+use Rattle.handlebars_meaning.specs.Values.{asked_in, HasSteps, HasOffer, HasValue, HasView}
 
 -- the value of a parameter; the view of a call or of another tag, by its name and its arguments; the helper of a name, if
 -- it has one; the helper or the hook that a call by a name calls, of a block or not; the hook that is called for a
--- parameter without a value, if there is one; what a helper chooses for a call
+-- parameter without a value, if there is one; what a helper chooses for a call; the text of a value, escaped; the
+-- decorator of a name, and what it does for a tag
 pub data Question : Type 0 where
   value_of : Param → Question
   view_of : Param → Args → Question
   helper_of : Text → Question
   called_as : Bool → Text → Question
   hook_for : Param → Question
-  choice_of : Kind → HelperView → Question
+  choice_of : Callee → HelperView → Question
+  escape_of : Text → Question
+  decorator_of : Text → Question
+  decoration_of : DecoratorKind → DecoratorView → Question
 
 abbrev pub Reply : Question → Type 0
 Reply (value_of q) = Found
 Reply (view_of n xs) = CallView
-Reply (helper_of name) = Option Kind
-Reply (called_as block name) = Kind
-Reply (hook_for q) = Option Kind
-Reply (choice_of kind h) = Choice
+Reply (helper_of name) = Option Callee
+Reply (called_as block name) = Callee
+Reply (hook_for q) = Option Callee
+Reply (choice_of callee h) = Choice
+Reply (escape_of t) = Text
+Reply (decorator_of name) = DecoratorKind
+Reply (decoration_of kind v) = Decoration
 
 -- A call by a name that calls nothing is refused.
-abbrev pub helper_or_refusal : Text → Option Kind → Answer Kind
+abbrev pub helper_or_refusal : Text → Option Callee → Answer Callee
 helper_or_refusal name None = refuses_for (helper_not_found name)
 helper_or_refusal name (Some k) = gives k
 
+-- A tag whose name no decorator has is refused.
+abbrev pub decorator_or_refusal : Text → Option DecoratorKind → Answer DecoratorKind
+decorator_or_refusal name None = refuses_for (decorator_not_found name)
+decorator_or_refusal name (Some k) = gives k
+
 -- Strict mode refuses a missing value, by its text as written. Otherwise the hook is called, where there is one.
-abbrev pub hook_or_refusal : Parts → Param → Answer (Option Kind)
+abbrev pub hook_or_refusal : Parts → Param → Answer (Option Callee)
 hook_or_refusal parts q =
     if parts.strict then refuses_for (missing_variable (as_name q)) else gives (parts.helper (hook false))
+
+-- What a helper of one's own offers is a value; a missing one is null, and in strict mode a refusal; what isn't offered is
+-- nothing.
+abbrev pub offered : Bool → Offer → Answer Choice
+offered strict not_offered = gives nothing
+offered strict offers_missing = null_or_refusal strict
+offered strict (offers d) = gives (the_value d)
+
+-- It is called first. Where it has no steps, it is asked for a value.
+abbrev pub steps_or_offer : Setting → State → Text → HelperView → Option (List Step) → Asks Choice
+steps_or_offer p s called h None = HasOffer p s called h >>= (λ offer. only (offered p.parts.strict offer))
+steps_or_offer p s called h (Some steps) = only (gives (the_steps steps))
+
+-- what the helper that is called chooses
+abbrev pub HasChoice : Setting → State → Callee → HelperView → Asks Choice
+HasChoice p s (built kind) h = only (chosen p.parts.strict kind h)
+HasChoice p s (own called) h = HasSteps p s called h >>= steps_or_offer p s called h
 
 -- the answers that a question has in a state
 abbrev pub IsAnswered : Setting → State → (q : Question) → Asks (Reply q)
@@ -48,4 +81,7 @@ IsAnswered p s (view_of n xs) = HasView p s n xs
 IsAnswered p s (helper_of name) = only (gives (p.parts.helper name))
 IsAnswered p s (called_as block name) = only (helper_or_refusal name (helper_for p.parts s block name))
 IsAnswered p s (hook_for q) = only (hook_or_refusal p.parts q)
-IsAnswered p s (choice_of kind h) = only (chosen p.parts.strict kind h)
+IsAnswered p s (choice_of callee h) = HasChoice p s callee h
+IsAnswered p s (escape_of t) = only (gives (escaped_by p.parts.escape t))
+IsAnswered p s (decorator_of name) = only (decorator_or_refusal name (p.parts.decorator name))
+IsAnswered p s (decoration_of kind v) = only (decorated kind v)

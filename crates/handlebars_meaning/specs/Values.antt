@@ -1,5 +1,5 @@
 -- What parameters and calls come to in a state: values, or refusals. None of it writes or changes the state.
-use Rattle.std.specs.Prelude.{◌≡◌, Bool, true, false, List, [], ◌∷◌, Option, Some, None, unwrap_or}
+use Rattle.std.specs.Prelude.{◌≡◌, Bool, true, false, List, [], ◌∷◌, ◌++◌, Option, Some, None, unwrap_or}
 use Rattle.serde_json.specs.Data.{Data, string}
 use Rattle.handlebars_base.specs.Answers.{Answer, gives, refuses_for, answer_map}
 use Rattle.handlebars_base.specs.Bytes.{Text}
@@ -12,7 +12,9 @@ use Rattle.handlebars_template.specs.Tree.{Element, expression, call, Args, args
 use Rattle.handlebars_scope.specs.Resolve.{resolved}
 use Rattle.handlebars_scope.specs.Scopes.{Frame}
 use Rattle.handlebars_helpers.specs.CallView.{CallView, HelperView}
-use Rattle.handlebars_helpers.specs.Choice.{Kind, Choice, value_in, chosen}
+use Rattle.handlebars_helpers.specs.Callee.{Callee, built, own}
+use Rattle.handlebars_helpers.specs.Choice.{Choice, value_in, chosen}
+use Rattle.handlebars_helpers.specs.Own.{Asked, Step, writes, renders_body, renders_inverse, renders_body_in, Offer, not_offered, offers_missing, offers}
 use Rattle.handlebars_meaning.specs.Asks.{Asks, only, ◌>>=◌}
 use Rattle.handlebars_meaning.specs.State.{Setting, State, helper_for, data_at}
 
@@ -38,10 +40,45 @@ inner_call b v = record { call = v; binding = b; body = no_body; inverse = no_bo
 abbrev pub choice_value : Choice → Found
 choice_value choice = value (unwrap_or (value_in choice) (string []))
 
--- the value of a call of this view, which calls this helper, in strict mode or not
-abbrev pub helped_value : Bool → Option Kind → HelperView → Answer Found
-helped_value strict None h = refuses_for (helper_not_found h.call.name)
-helped_value strict (Some k) h = answer_map choice_value (chosen strict k h)
+-- ---- helpers of one's own
+
+-- what one is asked about in a state: the data is as it was given
+abbrev pub asked_in : Setting → State → HelperView → Asked
+asked_in p s h = record { view = h; given = p.given; changed = None; strict = p.parts.strict }
+
+-- what it answers when it is called, and when it is asked for a value
+abbrev pub HasSteps : Setting → State → Text → HelperView → Asks (Option (List Step))
+HasSteps p s called h = (p.parts.own called).has_steps (asked_in p s h)
+
+abbrev pub HasOffer : Setting → State → Text → HelperView → Asks Offer
+HasOffer p s called h = (p.parts.own called).has_offer (asked_in p s h)
+
+-- In parentheses steps write their texts alone, since no body is there.
+abbrev pub step_text : Step → Text
+step_text (writes t) = t
+step_text renders_body = []
+step_text renders_inverse = []
+step_text (renders_body_in f) = []
+
+abbrev pub text_of : List Step → Text
+text_of [] = []
+text_of (step ∷ steps) = step_text step ++ text_of steps
+
+abbrev pub text_if_any : Option (List Step) → Found
+text_if_any None = value (string [])
+text_if_any (Some steps) = value (string (text_of steps))
+
+-- In parentheses it is asked for a value first. Where it offers none, the text that it writes is the value.
+abbrev pub offer_or_text : Setting → State → Text → HelperView → Offer → Asks Found
+offer_or_text p s called h not_offered = HasSteps p s called h >>= (λ steps. only (gives (text_if_any steps)))
+offer_or_text p s called h offers_missing = only (gives missing)
+offer_or_text p s called h (offers d) = only (gives (value d))
+
+-- the value of a call of this view, which calls this
+abbrev pub HasHelpedValue : Setting → State → Option Callee → HelperView → Asks Found
+HasHelpedValue p s None h = only (refuses_for (helper_not_found h.call.name))
+HasHelpedValue p s (Some (built kind)) h = only (answer_map choice_value (chosen p.parts.strict kind h))
+HasHelpedValue p s (Some (own called)) h = HasOffer p s called h >>= offer_or_text p s called h
 
 -- ---- parameters and calls
 
@@ -71,7 +108,7 @@ abbrev mutual
   pub HasInnerValue : Setting → State → Element → Asks Found
   HasInnerValue p s (expression (call n (args ps hs) b t marks)) =
       is_viewed (HasName p s n) (HaveValues p s ps) (PairsHaveValues p s hs) >>= (λ v.
-      only (helped_value p.parts.strict (helper_for p.parts s false v.name) (inner_call b v)))
+      HasHelpedValue p s (helper_for p.parts s false v.name) (inner_call b v))
   HasInnerValue p s e = only (gives missing)
 
   -- the text that a call by this parameter calls

@@ -1,13 +1,13 @@
 -- Writing a text or a value.
-use Rattle.std.specs.Prelude.{Bool, true, false, [], ◌∷◌, Option, None, Some}
+use Rattle.std.specs.Prelude.{ℕ, Bool, true, false, [], ◌∷◌, Option, None, Some}
 use Rattle.serde_json.specs.Data.{Data}
 use Rattle.handlebars_base.specs.Bytes.{Text}
 use Rattle.handlebars_base.specs.Scoped.{Found, present_in}
-use Rattle.handlebars_base.specs.Values.{word}
-use Rattle.handlebars_base.specs.Shown.{shown}
-use Rattle.handlebars_meaning.specs.Pieces.{Origin, of_value, of_raw, of_word, put}
+use Rattle.handlebars_base.specs.Values.{rendered, word}
+use Rattle.handlebars_meaning.specs.Pieces.{Origin, of_value, of_raw, of_word, of_step, pieces_of, put}
+use Rattle.handlebars_meaning.specs.Questions.{escape_of}
 use Rattle.handlebars_meaning.specs.Sites.{Site}
-use Rattle.handlebars_meaning.specs.Steps.{Prog, ◌>>=◌, ◌>>◌, write, state, become}
+use Rattle.handlebars_meaning.specs.Steps.{Prog, ◌>>=◌, ◌>>◌, ask, write, state, become}
 
 -- A text is written, and the line is then the one behind it.
 abbrev pub write_text : Origin → Text → Prog (Unit {0})
@@ -16,20 +16,24 @@ write_text o t = do
   write false (put o t s.line).0
   become (record s { line = (put o t s.line).1 })
 
--- A value is rendered, and escaped where escaping is on. Where there is none, nothing is written.
-abbrev pub shown_if_any : Bool → Option Data → Text
-shown_if_any escapes None = []
-shown_if_any escapes (Some d) = shown escapes d
+-- the text of a value, and none where there is none
+abbrev pub rendered_if_any : Option Data → Text
+rendered_if_any None = []
+rendered_if_any (Some d) = rendered d
 
--- where a value that is written comes from
-abbrev pub value_origin : Bool → Site → Found → Origin
-value_origin true site v = of_value site v
-value_origin false site v = of_raw site v
+-- A value is rendered, and escaped as the registry has it where escaping is on.
+abbrev pub write_rendered : Site → Found → Bool → Prog (Unit {0})
+write_rendered site v true = ask (escape_of (rendered_if_any (present_in v))) >>= write_text (of_value site v)
+write_rendered site v false = write_text (of_raw site v) (rendered_if_any (present_in v))
 
 abbrev pub write_value : Site → Found → Prog (Unit {0})
 write_value site v = do
   s ← state
-  write_text (value_origin s.escapes site v) (shown_if_any s.escapes (present_in v))
+  write_rendered site v s.escapes
+
+-- The text of a step is written as it is, past the line's state and the escaping.
+abbrev pub write_step : Site → ℕ → Text → Prog (Unit {0})
+write_step site i t = write false (pieces_of (of_step site i) t)
 
 -- A boolean helper's word is written as it is, whatever the line and the escaping, and the line takes no note of it.
 abbrev pub write_word : Site → Bool → Prog (Unit {0})
