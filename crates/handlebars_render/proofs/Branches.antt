@@ -13,6 +13,7 @@ use Rattle.handlebars_base.specs.declared.error.render_error.RenderError.{Render
 use Rattle.handlebars_template.specs.Tree.{Args, Call, call_args, call_name, path}
 use Rattle.handlebars_scope.specs.Resolve.{resolved}
 use Rattle.handlebars_helpers.specs.CallView.{CallView}
+use Rattle.handlebars_helpers.specs.Callee.{built}
 use Rattle.handlebars_helpers.specs.Choice.{body_if, chosen}
 use Rattle.handlebars_meaning.specs.Asks.{goes_on, is_refused}
 use Rattle.handlebars_meaning.specs.CarryOut.{carry_out, helper_call, render_word}
@@ -67,13 +68,14 @@ module _ (p : Setting) where
 
   module _ (site : Site) (block : Bool) (c : Call) (t : Text) (r : Reference) {s : State}
       (named : HasName p s (call_name c) (gives t)) (alone : call_args c ≡ path_alone r) where
-    pub takes-path : (wanted b truth : Bool) → Some (wanting wanted) ≡ helper_for p.parts s block t
+    pub takes-path : (wanted b truth : Bool) → Some (built (wanting wanted)) ≡ helper_for p.parts s block t
         → Judges p s r (Ok b) → truth ≡ (if wanted then b else not b)
         → Takes p site block c (render_call site block c) s truth
     takes-path wanted b truth is judged same = record {
       kind = wanting wanted;
       view = record { name = t; params = as_written (path r) judged.0 ∷ []; pairs = [] };
-      leaves = leaves-called p site block c (record { name = t; params = as_written (path r) judged.0 ∷ []; pairs = [] }) (wanting wanted)
+      leaves = leaves-called p site block c (record { name = t; params = as_written (path r) judged.0 ∷ []; pairs = [] })
+          (built (wanting wanted))
           (subst (λ (z : Args). HasView p s (call_name c) z
           (gives (record { name = t; params = as_written (path r) judged.0 ∷ []; pairs = [] }))) (sym alone)
           (goes_on named (goes_on (goes_on (goes_on judged.1 refl) (goes_on refl refl)) (goes_on refl refl)))) is;

@@ -9,16 +9,16 @@ use Rattle.handlebars_base.specs.RenderRefusals.{reason_in, reason_of, spot_of, 
 use Rattle.handlebars_base.specs.Values.{word}
 use Rattle.handlebars_base.specs.declared.error.render_error.RenderError.{RenderError}
 use Rattle.handlebars_base.specs.Outputs.{Held}
-use Rattle.handlebars_meaning.specs.Pieces.{Origin, of_word, Piece, join, pieces_of}
+use Rattle.handlebars_meaning.specs.Pieces.{Origin, of_step, of_word, Piece, join, pieces_of}
 use Rattle.handlebars_scope.specs.Scopes.{Frame}
 use Rattle.handlebars_meaning.specs.Sites.{Site}
 use Rattle.handlebars_meaning.specs.State.{Setting, State, entered, left}
 use Rattle.handlebars_meaning.specs.Steps.{Task, Steps, Done, Refuse, Get, Set, Do, Prog, return, run, refuse_for, state, perform, ◌>>=◌, ◌>>◌}
-use Rattle.handlebars_meaning.specs.Writing.{write_text, write_word}
+use Rattle.handlebars_meaning.specs.Writing.{write_text, write_step, write_word}
 use Rattle.handlebars_meaning.specs.CarryOut.{change, in_block}
 use Rattle.handlebars_meaning.specs.Means.{unescaped, line_in, line_out, in_bracket, todo}
 use Rattle.handlebars_meaning.specs.Runs.{Fault, plain_fault, Outcome, Ended, Refused, Faulted, NoMemory, mark, cut_off, Runs, done, refused, wrote, got, set, did, did_over, stop, cut}
-use Rattle.handlebars_render.specs.View.{Moment, GivesValue, RefusesValue, TellsCause, TellsFault, Answered, Tells, ended, refusal, fault, no_memory, CarriesOut, CarriesOn, goes_on, is_over, Puts, all_put, front_put, PutsWord, word_put, word_cut}
+use Rattle.handlebars_render.specs.View.{Moment, GivesValue, RefusesValue, TellsCause, TellsFault, Answered, Tells, ended, refusal, fault, no_memory, CarriesOut, CarriesOn, goes_on, is_over, Puts, all_put, front_put, PutsStep, step_put, step_cut, PutsWord, word_put, word_cut}
 use Rattle.handlebars_render.specs.Boxed.{IsHandedOn, answer_of, error_of}
 use Rattle.handlebars_render.specs.declared.boxed.BoxedError.{BoxedError}
 use Rattle.handlebars_meaning.proofs.Runs.{join-append, Runs-short}
@@ -60,7 +60,7 @@ marked-reason : (t : Task) (e d : RenderError) → IsMarked t e d → reason_in 
     → reason_in d ≡ reason_in e
 marked-reason t e d m other = ap reason_of (m.cause other)
 
-marked-refusal : (t : Task) (e d : RenderError) → IsMarked t e d → reason_in d ≢ out_of_memory
+pub marked-refusal : (t : Task) (e d : RenderError) → IsMarked t e d → reason_in d ≢ out_of_memory
     → refusal_of d ≡ record { reason = reason_in e; spot = mark t (spot_of e) }
 marked-refusal t e d m other =
     ap (λ (r : Reason). record { reason = r; spot = spot_of d }) (marked-reason t e d m other)
@@ -83,7 +83,7 @@ marked-fault t e d cause f m tells = record {
 handed-reason : {e d : RenderError} → IsHandedOn e d → reason_in d ≢ out_of_memory → reason_in d ≡ reason_in e
 handed-reason h other = ap reason_of (h.cause other)
 
-handed-refusal : (e d : RenderError) → IsHandedOn e d → reason_in d ≢ out_of_memory → refusal_of d ≡ refusal_of e
+pub handed-refusal : (e d : RenderError) → IsHandedOn e d → reason_in d ≢ out_of_memory → refusal_of d ≡ refusal_of e
 handed-refusal e d h other =
     ap (λ (r : Reason). record { reason = r; spot = spot_of d }) (handed-reason h other)
     ∙ ap (λ (z : Spot). record { reason = reason_in e; spot = z }) (h.spot other)
@@ -212,6 +212,26 @@ module _ (p : Setting) (may : Error → Type 0) where
     runs = cut refl (cut_off cut_short.is_front);
     text = cut_short.text ∙ ap (λ (z : Text). h.text ++ z) (sym (append-nil cut_short.front));
     tells = fault cause (plain_fault true) given cut_short.faults tells;
+  })
+
+  -- the text of a step, which the state takes no note of
+  pub carries_on-step : (site : Site) (i : ℕ) (t : Text) {s next : State} {h new : Held} {r : Answered}
+      → PutsStep t may (at s h) r (at next new) → CarriesOn p (write_step site i t) may (at s h) r (at next new)
+  carries_on-step site i t {h = h} {new = new} (step_put is whole) = goes_on (λ k r last c. record {
+    pieces = pieces_of (of_step site i) t ++ c.pieces;
+    outcome = c.outcome;
+    runs = wrote (subst (λ (z : State). Runs p (k tt) z c.pieces c.outcome) is c.runs);
+    text = text-append h.text new.text last.held.text (pieces_of (of_step site i) t) c.pieces
+        (whole.text ∙ ap (λ (z : Text). h.text ++ z) (sym (join-pieces_of (of_step site i) t))) c.text;
+    tells = Tells-before whole.faults c.tells;
+  })
+  carries_on-step site i [] (step_cut cause given cut_short tells) = absurd (omega (arith, cut_short.some))
+  carries_on-step site i (b ∷ t) {h = h} (step_cut cause given cut_short tells) = is_over (λ k. record {
+    pieces = record { origin = of_step site i; text = cut_short.front } ∷ [];
+    outcome = Faulted (plain_fault false);
+    runs = cut refl (cut_off cut_short.is_front);
+    text = cut_short.text ∙ ap (λ (z : Text). h.text ++ z) (sym (append-nil cut_short.front));
+    tells = fault cause (plain_fault false) given cut_short.faults tells;
   })
 
   -- ---- values, and what is done with them

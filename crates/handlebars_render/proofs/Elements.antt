@@ -19,7 +19,7 @@ use Rattle.handlebars_render.proofs.Carry.{at, carries-done, carries-get, carrie
 abbrev pub from_index : TreeSite → List Element → List Place → ℕ → Steps
 from_index site es places i = run (render_elements site i (elements_of (drop i es)) places)
 
-at_index : (site : TreeSite) (es : List Element) (places : List Place) (i : ℕ) (d : Element) → i < length es
+pub at_index : (site : TreeSite) (es : List Element) (places : List Place) (i : ℕ) (d : Element) → i < length es
     → from_index site es places i ≡ Do (One (element_in site i) (slice_get places i) (get_or es i d)) (from_index site es places (i + 1))
 unfolding ◌>>◌
 at_index site es places i d lt =

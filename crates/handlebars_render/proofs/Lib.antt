@@ -11,4 +11,7 @@ mod Evaluates
 mod LoneValues
 mod Ordered
 mod Values
+mod OwnSteps
 mod Turns
+pub mod Silent
+mod Evaluated

@@ -10,24 +10,39 @@ use Rattle.handlebars_base.specs.Reasons.{Refusal, out_of_memory}
 use Rattle.handlebars_base.specs.RenderRefusals.{cause_of, reason_in, refusal_of, plain_refusal}
 use Rattle.handlebars_base.specs.declared.error.render_error.RenderError.{RenderError}
 use Rattle.handlebars_base.specs.declared.error.render_error.RenderErrorReason.TheVariants.{IOError}
-use Rattle.handlebars_base.specs.Values.{word}
+use Rattle.handlebars_base.specs.Values.{rendered, word}
 use Rattle.handlebars_base.specs.Outputs.{Held, IsWhole, IsCutOff, write_reason}
 use Rattle.handlebars_base.specs.Escape.{escaped}
 use Rattle.handlebars_scope.specs.LineState.{LineState, line_behind}
 use Rattle.handlebars_base.specs.Shown.{shown}
 use Rattle.handlebars_meaning.specs.Runs.{plain_fault}
 use Rattle.handlebars_meaning.specs.State.{State}
-use Rattle.handlebars_meaning.specs.Writing.{shown_if_any}
+use Rattle.handlebars_helpers.specs.Escaping.{Escaping, for_html, for_plain, written_by, gives_entities}
+use Rattle.handlebars_meaning.specs.Writing.{rendered_if_any}
 use Rattle.handlebars_render.specs.View.{Moment, Answered, Puts, all_put, front_put, TellsFault, PutsWord, word_put, word_cut, word_reason, behind, with_line}
 use Rattle.handlebars_render.specs.Boxed.{IsHandedOn}
 use Rattle.handlebars_render.proofs.Carry.{at, handed-fault}
 
 -- a missing value is written as null is
-pub shown_or_null : (escapes : Bool) (o : Option Data) → shown_if_any escapes o ≡ shown escapes (unwrap_or o null)
+pub rendered-or_null : (o : Option Data) → rendered_if_any o ≡ rendered (unwrap_or o null)
+rendered-or_null None = refl
+rendered-or_null (Some d) = refl
+
+-- what the base writes of a value, with entities or without, is its text, escaped as it is said
+pub shown-written : (k : Escaping) (escapes : Bool) (d : Data)
+    → shown (gives_entities k escapes) d ≡ written_by k escapes (rendered d)
+shown-written for_html true d = refl
+shown-written for_html false d = refl
+shown-written for_plain true d = refl
+shown-written for_plain false d = refl
+
+-- of no text nothing is written
+pub written_by-empty : (k : Escaping) (escapes : Bool) → written_by k escapes [] ≡ []
 unfolding escaped
-shown_or_null true None = refl
-shown_or_null false None = refl
-shown_or_null escapes (Some d) = refl
+written_by-empty for_html true = refl
+written_by-empty for_html false = refl
+written_by-empty for_plain true = refl
+written_by-empty for_plain false = refl
 
 pub tells_fault : (cause : Error) (e : RenderError) → refusal_of e ≡ plain_refusal (write_reason (error_kind cause))
     → (error_kind cause ≢ OutOfMemory → cause_of e ≡ IOError cause) → TellsFault cause (plain_fault false) e

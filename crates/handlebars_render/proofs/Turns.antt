@@ -1,5 +1,5 @@
 -- What turns and blocks of scope carry out.
-use Rattle.std.proofs.Common.{◌≡◌, ℕ, ◌+◌, List, [], ◌∷◌, Option, None, Some, option_map, Result, Ok, Err, sym, ap, ◌∙◌, subst}
+use Rattle.std.proofs.Common.{◌≡◌, ℕ, ◌+◌, ◌<◌, arith, length, slice_index_or, slice_set, List, [], ◌∷◌, Option, None, Some, option_map, Result, Ok, Err, refl, sym, ap, ◌∙◌, subst}
 use denote.Ref.{Bor}
 use Rattle.std.specs.declared.io.Error.{Error}
 use Rattle.std.specs.Result.{IsErrAnd}
@@ -15,15 +15,18 @@ use Rattle.handlebars_template.specs.declared.template.tree.HelperTemplate.{Help
 use Rattle.handlebars_template.proofs.Levels.{call_binding-view}
 use Rattle.handlebars_base.specs.Outputs.{Held}
 use Rattle.handlebars_scope.specs.Scopes.{Base, Frame}
+use Rattle.handlebars_scope.specs.ScopeView.{frame_of, frames_of}
+use Rattle.handlebars_scope.specs.declared.block.BlockContext.{BlockContext}
 use Rattle.handlebars_meaning.specs.Sites.{Site}
 use Rattle.handlebars_helpers.specs.CallView.{HelperView}
-use Rattle.handlebars_helpers.specs.Turns.{Turn, turned, with_block}
+use Rattle.handlebars_helpers.specs.Turns.{StandsBelow, Turn, turn_name, turned, with_block}
 use Rattle.handlebars_meaning.specs.CarryOut.{in_block, render_body, render_with, take_turn, take_turns}
-use Rattle.handlebars_meaning.specs.State.{Setting, State, entered, left, nearest_variables, with_nearest}
+use Rattle.handlebars_meaning.specs.State.{Setting, State, entered, left, nearest_as, nearest_variables, with_nearest}
 use Rattle.handlebars_meaning.specs.Steps.{Steps, ◌>>◌}
 use Rattle.handlebars_render.specs.Boxed.{answer_of, error_of}
 use Rattle.handlebars_render.specs.declared.boxed.BoxedError.{BoxedError}
-use Rattle.handlebars_render.specs.View.{Moment, Answered, CarriesOn, goes_on, is_over, CarriesOut}
+use Rattle.handlebars_render.specs.declared.context.RenderContext.{RenderContext}
+use Rattle.handlebars_render.specs.View.{IsKept, NearestBelow, state_of, without_partials, Moment, Answered, CarriesOn, goes_on, is_over, CarriesOut}
 use Rattle.handlebars_render.proofs.Carry.{at, carries_on-get, carries_on-changed, carries_on-in_block, carries_on-out_of_memory}
 
 -- ---- the names that a tag binds
@@ -40,6 +43,54 @@ pub entered-with : {s mid : State} {f : Frame} (base : Base) {b c : Binding} {vs
 entered-with {s = s} base {c = c} {vs = vs} is block binding variables =
     is ∙ ap (λ (f : Frame). entered f s)
     (block ∙ ap (λ (z : Binding). with_block base z vs) binding ∙ ap (with_block base c) variables)
+
+-- ---- where the nearest block stands
+
+stands-turned : (path : Option (List Text)) (b : Binding) (t : Turn) (f : Frame)
+    → StandsBelow path (turned path b t f)
+stands-turned None b t f = tt
+stands-turned (Some path) b t f = (turn_name t, refl)
+
+below-turned : (path : Option (List Text)) (b : Binding) (t : Turn) (fs : List Frame)
+    → NearestBelow path (nearest_as (turned path b t) fs)
+below-turned path b t [] = tt
+below-turned path b t (f ∷ fs) = stands-turned path b t f
+
+stands-same : (path : Option (List Text)) (f g : Frame) → g.base_path ≡ f.base_path
+    → StandsBelow path f → StandsBelow path g
+stands-same None f g is below = tt
+stands-same (Some path) f g is below = (below.0, is ∙ below.1)
+
+abbrev nearest_path : List Frame → List Text
+nearest_path [] = []
+nearest_path (f ∷ fs) = f.base_path
+
+below-same : (path : Option (List Text)) (fs gs : List Frame) → without_partials gs ≡ without_partials fs
+    → NearestBelow path fs → NearestBelow path gs
+below-same path fs [] is below = tt
+below-same path [] (g ∷ gs) is below = cc
+below-same path (f ∷ fs) (g ∷ gs) is below = stands-same path f g (ap nearest_path is) below
+
+-- The block was set up for a turn, and what was rendered there left its base as it was.
+pub below-kept : (path : Option (List Text)) (b : Binding) (t : Turn) (s : State) (mid after : RenderContext)
+    → state_of mid ≡ with_nearest (turned path b t) s → IsKept mid after
+    → NearestBelow path (state_of after).blocks
+below-kept path b t s mid after is kept = below-same path (state_of mid).blocks (state_of after).blocks kept.blocks
+    (subst (λ (z : State). NearestBelow path z.blocks) (sym is) (below-turned path b t s.blocks))
+
+-- the nearest block, where there is one
+pub below-front : (path : Option (List Text)) (bs : List BlockContext) (b : BlockContext) → 0 < length bs
+    → b ≡ slice_index_or bs 0 b → NearestBelow path (frames_of bs) → StandsBelow path (frame_of b)
+below-front path [] b some is below = absurd (omega (arith, some))
+below-front path (c ∷ bs) b some is below = subst (λ z. StandsBelow path (frame_of z)) (sym is) below
+
+-- the blocks behind a change of the nearest one
+pub frames-turned : (change : Frame → Frame) (bs : List BlockContext) (b other : BlockContext)
+    → b ≡ slice_index_or bs 0 b → frame_of other ≡ change (frame_of b)
+    → frames_of (slice_set bs 0 other) ≡ nearest_as change (frames_of bs)
+frames-turned change [] b other is changed = refl
+frames-turned change (c ∷ bs) b other is changed =
+    ap (λ (f : Frame). f ∷ frames_of bs) (changed ∙ ap (λ z. change (frame_of z)) is)
 
 module _ (p : Setting) (may : Error → Type 0) where
   -- ---- the loop over turns

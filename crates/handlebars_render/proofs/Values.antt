@@ -5,7 +5,7 @@ use Rattle.std.proofs.lemmas.List.{drop_more, drop_all}
 use Rattle.std.specs.String.{string_bytes}
 use Rattle.serde_json.specs.Data.{string}
 use Rattle.serde_json.specs.View.{view}
-use Rattle.serde_json.specs.declared.value.Value as value
+use Rattle.serde_json.specs.declared.value.Value as json
 use Rattle.serde_json.specs.declared.value.Value.{the_lemmas}
 use Rattle.handlebars_base.specs.Answers.{Answer, gives, refuses, Answers, answer_map}
 use Rattle.handlebars_base.specs.Bytes.{Text}
@@ -20,17 +20,18 @@ use Rattle.handlebars_template.specs.declared.template.tree.Parameter.{Parameter
 use Rattle.handlebars_template.specs.declared.template.tree.Subexpression.{Subexpression, out-Subexpression}
 use Rattle.handlebars_template.specs.declared.template.tree.BlockParam as tree
 use Rattle.handlebars_helpers.specs.CallView.{CallView, HelperView}
+use Rattle.handlebars_helpers.specs.Callee.{Callee, built}
 use Rattle.handlebars_helpers.specs.Choice.{Kind, Choice, chosen}
 use Rattle.handlebars_meaning.specs.Asks.{Asks, Then, only, ◌>>=◌, goes_on, is_refused}
 use Rattle.handlebars_meaning.specs.State.{Setting, State, helper_for}
-use Rattle.handlebars_meaning.specs.Values.{is_literal, as_written, choice_value, helped_value, inner_call, HasInnerValue, HasView, HasWrittenValue, HaveValues, PairsHaveValues}
+use Rattle.handlebars_meaning.specs.Values.{is_literal, as_written, choice_value, inner_call, HasHelpedValue, HasInnerValue, HasView, HasWrittenValue, HaveValues, PairsHaveValues}
 use Rattle.handlebars_render.specs.View.{Yields}
 
 pub subexpression_view-out : (s : Subexpression)
     → subexpression_view s ≡ element_view (out-Subexpression s).element.value
 subexpression_view-out s = search (rules, tree.the_lemmas)
 
-pub view-String : (s : String Global) → view (value.String s) ≡ string (string_bytes s)
+pub view-String : (s : String Global) → view (json.String s) ≡ string (string_bytes s)
 view-String s = search (rules, the_lemmas)
 
 -- parameters from an index on
@@ -57,11 +58,10 @@ yields-answer seen a (Ok x) is = sym is
 yields-answer seen a (Err e) is = λ other. sym (is other)
 
 -- what is asked behind a value
-pub yields-then : {T A B : Type 0} (seen : T → B) (first : Asks A) (next : A → Answer B) {x : A}
-    (r : Result T RenderError) → first (gives x) → Answers seen r (next x)
-    → Yields (Then first (λ y b. b ≡ next y)) seen r
-yields-then seen first next (Ok y) g is = goes_on g (sym is)
-yields-then seen first next (Err e) g is = λ other. goes_on g (sym (is other))
+pub yields-then : {T A B : Type 0} (seen : T → B) (first : Asks A) (next : A → Asks B) {x : A}
+    (r : Result T RenderError) → first (gives x) → Yields (next x) seen r → Yields (Then first next) seen r
+yields-then seen first next (Ok y) g is = goes_on g is
+yields-then seen first next (Err e) g is = λ other. goes_on g (is other)
 
 -- ---- calls in parentheses
 
@@ -76,36 +76,39 @@ pub chosen-inside : (k : Kind) {h w : HelperView} {mode strict : Bool} {a : Answ
 chosen-inside k {w = w} {mode = mode} is same chooses =
     ap (λ (z : Bool). chosen z k w) (sym same) ∙ ap (chosen mode k) (sym is) ∙ chooses
 
-module _ (strict : Bool) (h : Option Kind) (v : HelperView) where
-  -- the value that is chosen, where there is memory for it
-  pub answers-helped : {T : Type 0} (seen : T → Found) (k : Kind) (choice : Choice) (r : Result T RenderError)
-      → h ≡ Some k → chosen strict k v ≡ gives choice → IfOk r (λ x. seen x ≡ choice_value choice)
-      → IfErr r (λ e. reason_in e ≡ out_of_memory) → Answers seen r (helped_value strict h v)
-  answers-helped seen k choice (Ok x) is chooses same memory =
-      ap (λ (z : Option Kind). helped_value strict z v) is ∙ ap (answer_map choice_value) chooses
-      ∙ ap (λ (z : Found). gives z) (sym same)
-  answers-helped seen k choice (Err e) is chooses same memory = λ other. absurd (other memory)
+module _ (p : Setting) (s : State) (v : HelperView) where
+  -- the value that a built-in helper chooses, where there is memory for it
+  pub yields-built : {T : Type 0} (seen : T → Found) (k : Kind) (choice : Choice) (r : Result T RenderError)
+      → chosen p.parts.strict k v ≡ gives choice → IfOk r (λ x. seen x ≡ choice_value choice)
+      → IfErr r (λ e. reason_in e ≡ out_of_memory) → Yields (HasHelpedValue p s (Some (built k)) v) seen r
+  yields-built seen k choice (Ok x) chooses same memory =
+      ap (λ (z : Found). gives z) same ∙ sym (ap (answer_map choice_value) chooses)
+  yields-built seen k choice (Err e) chooses same memory = λ other. absurd (other memory)
 
-  pub refuses-helped : (k : Kind) {r : Refusal} → h ≡ Some k → chosen strict k v ≡ refuses r
-      → helped_value strict h v ≡ refuses r
-  refuses-helped k is refusal =
-      ap (λ (z : Option Kind). helped_value strict z v) is ∙ ap (answer_map choice_value) refusal
+  -- the same of what a name calls, for a view
+  pub yields-helped : {T : Type 0} (seen : T → Found) (h : Option Callee) {o : Option Callee} {w : HelperView}
+      (r : Result T RenderError) → h ≡ o → w ≡ v → Yields (HasHelpedValue p s o w) seen r
+      → Yields (HasHelpedValue p s h v) seen r
+  yields-helped seen h {o = o} r is same y =
+      subst (λ (z : Option Callee). Yields (HasHelpedValue p s z v) seen r) (sym is)
+      (subst (λ (z : HelperView). Yields (HasHelpedValue p s o z) seen r) same y)
 
-  pub refuses-unknown : (e : RenderError) → h ≡ None → refusal_of e ≡ plain_refusal (helper_not_found v.call.name)
-      → helped_value strict h v ≡ refuses (refusal_of e)
-  refuses-unknown e is same =
-      ap (λ (z : Option Kind). helped_value strict z v) is ∙ ap (λ (z : Refusal). refuses z) (sym same)
+  pub refuses-unknown : (h : Option Callee) (e : RenderError) → h ≡ None
+      → refusal_of e ≡ plain_refusal (helper_not_found v.call.name) → HasHelpedValue p s h v (refuses (refusal_of e))
+  refuses-unknown h e is same =
+      subst (λ (z : Option Callee). HasHelpedValue p s z v (refuses (refusal_of e))) (sym is)
+      (ap (λ (z : Refusal). refuses z) same)
 
 -- What HasInnerValue says of a call, by the parts of the call.
 pub inner_value-parts : (p : Setting) (s : State) (c : Call) {a : Answer Found}
-    → (HasView p s (call_name c) (call_args c) >>= (λ v. only (helped_value p.parts.strict
-    (helper_for p.parts s false v.name) (inner_call (call_binding c) v)))) a
+    → (HasView p s (call_name c) (call_args c) >>= (λ v. HasHelpedValue p s
+    (helper_for p.parts s false v.name) (inner_call (call_binding c) v))) a
     → HasInnerValue p s (expression c) a
 inner_value-parts p s (call n (args ps hs) b t marks) h = h
 
 pub yields-inner_value : {T : Type 0} (seen : T → Found) (p : Setting) (s : State) (c : Call) (r : Result T RenderError)
-    → Yields (HasView p s (call_name c) (call_args c) >>= (λ v. only (helped_value p.parts.strict
-    (helper_for p.parts s false v.name) (inner_call (call_binding c) v)))) seen r
+    → Yields (HasView p s (call_name c) (call_args c) >>= (λ v. HasHelpedValue p s
+    (helper_for p.parts s false v.name) (inner_call (call_binding c) v))) seen r
     → Yields (HasInnerValue p s (expression c)) seen r
 yields-inner_value seen p s c (Ok x) h = inner_value-parts p s c h
 yields-inner_value seen p s c (Err e) h = λ other. inner_value-parts p s c (h other)

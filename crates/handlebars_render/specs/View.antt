@@ -1,12 +1,11 @@
 -- What the code's values stand for, and what a call of it says of a run.
-use Rattle.std.specs.Prelude.{◌≡◌, ◌≢◌, ℕ, Option, ◌+◌, ◌^◌, ◌<◌, List, [], ◌++◌, option_map, Result, Ok, Err, MatchResult, string_bytes, map, Bool, true, false}
+use Rattle.std.specs.Prelude.{◌≡◌, ◌≢◌, ℕ, Option, ◌+◌, ◌^◌, ◌<◌, List, [], ◌∷◌, ◌++◌, option_map, Result, Ok, Err, MatchResult, string_bytes, map, Bool, true, false}
 use Rattle.std.specs.Cow.{cow_str_bytes}
 use denote.Ref.{Bor}
 use Rattle.std.specs.declared.io.Error.{Error}
 use Rattle.std.specs.declared.io.ErrorKind.{ErrorKind}
 use Rattle.std.specs.declared.io.ErrorKind.TheVariants.{OutOfMemory}
 use Rattle.std.specs.IoError.{error_kind}
-use Rattle.serde_json.specs.View.{view}
 use Rattle.handlebars_base.specs.Answers.{gives, refuses}
 use Rattle.handlebars_base.specs.Bytes.{Text}
 use Rattle.handlebars_base.specs.Reasons.{Reason, Refusal, other, out_of_memory}
@@ -17,12 +16,14 @@ use Rattle.handlebars_base.specs.declared.json.value.path_and_json.PathAndJson.{
 use Rattle.handlebars_base.specs.declared.error.render_error.RenderErrorReason.TheVariants.{IOError}
 use Rattle.handlebars_base.specs.Values.{word}
 use Rattle.handlebars_scope.specs.LineView.{line_of}
+use Rattle.handlebars_scope.specs.Contexts.{data_of}
 use Rattle.handlebars_scope.specs.Scopes.{Frame, nothing_at}
 use Rattle.handlebars_scope.specs.ScopeView.{frames_of}
 use Rattle.handlebars_base.specs.Outputs.{Held, IsWhole, IsCutOff, write_reason}
 use Rattle.handlebars_scope.specs.LineState.{LineState, line_behind}
 use Rattle.handlebars_meaning.specs.Pieces.{Piece, join}
 use Rattle.handlebars_helpers.specs.CallView.{CallView}
+use Rattle.handlebars_helpers.specs.Turns.{StandsBelow}
 use Rattle.handlebars_meaning.specs.State.{Kept, Parts, Setting, State, outer}
 use Rattle.handlebars_meaning.specs.Steps.{Steps, Prog}
 use Rattle.handlebars_meaning.specs.Asks.{Asks}
@@ -35,7 +36,7 @@ use Rattle.handlebars_render.specs.declared.setting.Setting as declared
 
 -- the setting of a run, as the code of a rendering has it, with what it sees of a registry
 abbrev pub setting_in : {P : Type 0} → (P → Parts) → declared.Setting P → Setting
-setting_in parts x = record { given = view x.given.now; parts = parts x.parts.now }
+setting_in parts x = record { given = data_of x.given.now; parts = parts x.parts.now }
 
 -- what a call or another tag shows
 abbrev pub pairs_seen : List (Bor Text × PathAndJson) → List (Text × PathAndData)
@@ -101,6 +102,11 @@ pub record HasOuter (before after : RenderContext) : Type 0 where
   pub recursive : (state_of after).recursive ≡ (state_of before).recursive
   pub escapes : (state_of after).escapes ≡ (state_of before).escapes
   pub failed : has_failed after ≡ has_failed before
+
+-- the nearest block, if there is one, stands at a member of what has this path
+abbrev pub NearestBelow : Option (List Text) → List Frame → Type 0
+NearestBelow path [] = Unit {0}
+NearestBelow path (f ∷ fs) = StandsBelow path f
 
 -- the state of a run and what its output holds, at one moment
 pub record Moment : Type 0 where
@@ -192,6 +198,13 @@ pub data Puts (t : Text) (may : Error → Type 0) (before : Moment) : Answered �
       → Puts t may before (Ok u) after
   front_put : {after : Moment} {e : RenderError} (cause : Error) → may cause → IsCutOff t before.held after.held
       → TellsFault cause (plain_fault false) e → Puts t may before (Err e) after
+
+-- The text of a step was written, or a beginning of it, and the output failed. The state is as it was.
+pub data PutsStep (t : Text) (may : Error → Type 0) (before : Moment) : Answered → Moment → Type 0 where
+  step_put : {after : Moment} {u : Unit {0}} → after.state ≡ before.state → IsWhole t before.held after.held
+      → PutsStep t may before (Ok u) after
+  step_cut : {after : Moment} {e : RenderError} (cause : Error) → may cause → IsCutOff t before.held after.held
+      → TellsFault cause (plain_fault false) e → PutsStep t may before (Err e) after
 
 -- A boolean helper's word was written, or a beginning of it, and the output failed. The state is as it was.
 pub data PutsWord (b : Bool) (may : Error → Type 0) (before : Moment) : Answered → Moment → Type 0 where

@@ -7,12 +7,14 @@ ghost use Rattle.handlebars_meaning.specs.Sites.{Site, inverse_at};
 ghost use Rattle.handlebars_base.specs.Answers.{gives};
 ghost use Rattle.handlebars_helpers.specs.CallView.{CallView};
 ghost use Rattle.handlebars_helpers.specs.Choice.{Kind, body_if, chosen};
-ghost use Rattle.handlebars_helpers.specs.View.{choice_of, kind_of};
+ghost use Rattle.handlebars_helpers.specs.Callee.{built};
+ghost use Rattle.handlebars_helpers.specs.View.{choice_of, helper_view, kind_of};
 ghost use Rattle.handlebars_meaning.specs.CarryOut.{carry_out, helper_call, render_body, render_branch, render_word};
 ghost use Rattle.handlebars_meaning.specs.Means.{line_in, line_out, render_chosen, render_helped, render_tag};
 ghost use Rattle.handlebars_meaning.specs.State.{Kept};
 ghost use Rattle.handlebars_render.specs.Boxed.{answer_of};
 ghost use Rattle.handlebars_render.specs.Next.{render_next};
+ghost use Rattle.handlebars_render.specs.Targets.{callee_in};
 ghost use Rattle.handlebars_render.specs.View.{setting_in, state_of, moment, called_view, CarriesOn, IsKept};
 
 use crate::boxed::BoxedError;
@@ -20,14 +22,16 @@ use crate::called::Called;
 use crate::context::RenderContext;
 use crate::each::{render_each, render_with};
 use crate::next::{Next, ToCall, settle_tag};
-use crate::registered::Registered;
+use crate::registered::{Registered, Target, hook};
 use crate::setting::Setting;
+use crate::steps::render_own;
 use crate::tree::render_tree;
 use crate::write::{write_chosen, write_count, write_word};
 use handlebars_base::output::Output;
 use handlebars_helpers::built_in::BuiltIn;
 use handlebars_helpers::choice::{Choice, choose};
 use handlebars_helpers::each_turns::Turns;
+use handlebars_helpers::view::Helper;
 use handlebars_template::template::HelperTemplate;
 
 /// Renders a block, or an expression: a value is written, or a helper is called.
@@ -68,7 +72,7 @@ fn render_branch<'a, O: Output, P: Registered>(
 ) -> Result<(), BoxedError>
     ensures renders { (site : Site) (kept : Kept) (block : Bool) (k : Kind) (v : CallView)
         → chosen (P.parts setting.now.parts.now).strict k (helper_call block (call_view helper.now) v) ≡ gives (body_if truth)
-        → CarriesOn (setting_in P.parts setting.now) (render_helped site block (call_view helper.now) k v)
+        → CarriesOn (setting_in P.parts setting.now) (render_helped site block (call_view helper.now) (built k) v)
         O.may_give (moment kept rc.old (O.held out.old)) (answer_of result) (moment kept rc.new (O.held out.new)) }
     ensures kept { IsKept rc.old rc.new }
 {
@@ -95,16 +99,16 @@ fn render_next<'a, O: Output, P: Registered>(
         O.may_give (moment kept rc.old (O.held out.old)) (answer_of result) (moment kept rc.new (O.held out.new)) }
     ensures kept { IsKept rc.old rc.new }
 {
-    let kind = to_call.kind;
+    let target = to_call.target;
     let bracket = to_call.bracket;
     let call = to_call.into_call();
     if !bracket {
-        return render_chosen(helper, setting, block, kind, call, rc, out);
+        return render_chosen(helper, setting, block, target, call, rc, out);
     }
     let before = rc.get_indent_before_write();
     let produced = rc.get_content_produced();
     enter_call(rc, helper.indent_before_write);
-    let answer = render_chosen(helper, setting, block, kind, call, rc, out);
+    let answer = render_chosen(helper, setting, block, target, call, rc, out);
     leave_call(rc, before, produced);
     answer
 }
@@ -115,19 +119,43 @@ fn render_chosen<'a, O: Output, P: Registered>(
     helper: &'a HelperTemplate,
     setting: &Setting<'_, 'a, P>,
     block: bool,
-    kind: BuiltIn,
+    target: Target,
     call: Called<'a>,
     rc: &mut RenderContext,
     out: &mut O,
 ) -> Result<(), BoxedError>
     ensures renders { (site : Site) (kept : Kept) → CarriesOn (setting_in P.parts setting.now)
-        (render_chosen site (kind_of kind)
+        (render_chosen site (callee_in block (called_view call.entry).name target)
         (helper_call block (call_view helper.now) (called_view call.entry)))
         O.may_give (moment kept rc.old (O.held out.old)) (answer_of result) (moment kept rc.new (O.held out.new)) }
     ensures kept { IsKept rc.old rc.new }
 {
     let view = call.of_call(helper, block);
-    match choose(setting.alloc, setting.parts.strict(), kind, &view) {
+    match target {
+        Target::Built(kind) => render_built(helper, setting, block, kind, &view, rc, out),
+        Target::Named => render_own(helper, setting, view.name(), &view, rc, out),
+        Target::Hooked => render_own(helper, setting, hook(block), &view, rc, out),
+    }
+}
+
+// Renders what a built-in helper chooses.
+#[cycle(render)]
+fn render_built<'a, O: Output, P: Registered>(
+    helper: &'a HelperTemplate,
+    setting: &Setting<'_, 'a, P>,
+    block: bool,
+    kind: BuiltIn,
+    view: &Helper,
+    rc: &mut RenderContext,
+    out: &mut O,
+) -> Result<(), BoxedError>
+    ensures renders { (site : Site) (kept : Kept) (v : CallView)
+        → helper_view view.now ≡ helper_call block (call_view helper.now) v → CarriesOn (setting_in P.parts setting.now)
+        (render_chosen site (built (kind_of kind)) (helper_call block (call_view helper.now) v))
+        O.may_give (moment kept rc.old (O.held out.old)) (answer_of result) (moment kept rc.new (O.held out.new)) }
+    ensures kept { IsKept rc.old rc.new }
+{
+    match choose(setting.alloc, setting.parts.strict(), kind, view) {
         Ok(choice) => carry_out(helper, setting, block, choice, rc, out),
         Err(e) => Err(BoxedError::new(setting.alloc, e)),
     }
@@ -168,8 +196,8 @@ fn carry_out<'a, O: Output, P: Registered>(
             rc,
             out,
         ),
-        Choice::Value(value) => write_chosen(setting.alloc, value, rc, out),
-        Choice::Count(count) => write_count(setting.alloc, count, rc, out),
+        Choice::Value(value) => write_chosen(setting.alloc, value, setting.parts.escape(), rc, out),
+        Choice::Count(count) => write_count(setting.alloc, count, setting.parts.escape(), rc, out),
         Choice::Word(word) => render_word(helper, setting, block, word, rc, out),
         Choice::Line(level, text) => {
             setting.parts.log(level, text.as_str());
@@ -225,14 +253,14 @@ pub fn render_body<'a, O: Output, P: Registered>(
 
 // The inverse, where the call has one.
 #[cycle(render)]
-fn render_inverse<'a, O: Output, P: Registered>(
+pub fn render_inverse<'a, O: Output, P: Registered>(
     helper: &'a HelperTemplate,
     setting: &Setting<'_, 'a, P>,
     rc: &mut RenderContext,
     out: &mut O,
 ) -> Result<(), BoxedError>
-    ensures renders { (site : Site) (kept : Kept) (block : Bool) (v : CallView) → CarriesOn (setting_in P.parts setting.now)
-        (render_branch (inverse_at site 0) (helper_call block (call_view helper.now) v).inverse)
+    ensures renders { (site : Site) (kept : Kept) (i : ℕ) (block : Bool) (v : CallView) → CarriesOn (setting_in P.parts setting.now)
+        (render_branch (inverse_at site i) (helper_call block (call_view helper.now) v).inverse)
         O.may_give (moment kept rc.old (O.held out.old)) (answer_of result) (moment kept rc.new (O.held out.new)) }
     ensures kept { IsKept rc.old rc.new }
 {

@@ -1,6 +1,6 @@
 //! A refusal on its way through a rendering.
 
-ghost use Rattle.std.specs.Prelude.{◌≡◌, ◌≢◌, string_bytes};
+ghost use Rattle.std.specs.Prelude.{◌≡◌, ◌≢◌, IfOk, option_map, string_bytes};
 ghost use Rattle.handlebars_base.specs.Reasons.{out_of_memory};
 ghost use Rattle.handlebars_base.specs.RenderRefusals.{reason_in, spot_of, cause_of, name_if_none, place_if_none};
 ghost use Rattle.handlebars_render.specs.Boxed.{error_of, IsHandedOn};
@@ -57,6 +57,25 @@ impl BoxedError {
         }
     }
 
+    /// With the name of a template, or none, in place of its own. Where a copy of it finds no memory, that is the error.
+    pub fn renamed(self, name: &Option<String>) -> BoxedError
+        ensures spot { reason_in (error_of result) ≢ out_of_memory → spot_of (error_of result)
+            ≡ record (spot_of (error_of self)) { name = option_map string_bytes name.now } }
+        ensures cause { reason_in (error_of result) ≢ out_of_memory → cause_of (error_of result) ≡ cause_of (error_of self) }
+        ensures memory { reason_in (error_of self) ≡ out_of_memory → reason_in (error_of result) ≡ out_of_memory }
+    {
+        match self {
+            BoxedError::OutOfMemory => BoxedError::OutOfMemory,
+            BoxedError::Error(mut error) => match copied(name) {
+                Ok(name) => {
+                    error.template_name = name;
+                    BoxedError::Error(error)
+                }
+                Err(AllocError) => BoxedError::OutOfMemory,
+            },
+        }
+    }
+
     /// With the name of a template, where none is known yet. Where a copy of it finds no memory, that is the error.
     pub fn in_template(self, alloc: Global, name: &String) -> BoxedError
         ensures spot { reason_in (error_of result) ≢ out_of_memory
@@ -76,6 +95,16 @@ impl BoxedError {
                 BoxedError::Error(error)
             }
         }
+    }
+}
+
+// A copy of a name, where there is one.
+fn copied(name: &Option<String>) -> Result<Option<String>, AllocError>
+    ensures { IfOk result (λ copy. option_map string_bytes copy ≡ option_map string_bytes name.now) }
+{
+    match name {
+        Some(name) => Ok(Some(name.clone()?)),
+        None => Ok(None),
     }
 }
 

@@ -1,21 +1,23 @@
 //! The short way of `if` and `unless`, whose condition is most often a path: nothing is made for it.
 
-ghost use Rattle.std.specs.Prelude.{◌≡◌, IfSome, Some, option_map};
+ghost use Rattle.std.specs.Prelude.{◌≡◌, Bool, IfSome, Some, option_map};
 ghost use Rattle.handlebars_base.specs.Answers.{IsRefusal};
 ghost use Rattle.handlebars_base.specs.PathView.{reference_of};
 ghost use Rattle.handlebars_base.specs.Reasons.{invalid_json_index};
 ghost use Rattle.handlebars_base.specs.RenderRefusals.{plain_refusal};
 ghost use Rattle.handlebars_template.specs.Tree.{call_args};
 ghost use Rattle.handlebars_template.specs.TreeView.{call_view};
-ghost use Rattle.handlebars_helpers.specs.View.{kind_of};
+ghost use Rattle.handlebars_base.specs.Bytes.{Text};
+ghost use Rattle.handlebars_helpers.specs.Callee.{built};
 ghost use Rattle.handlebars_meaning.specs.State.{Kept};
 ghost use Rattle.handlebars_render.specs.Boxed.{answer_of, error_of};
 ghost use Rattle.handlebars_render.specs.Next.{Judges, path_alone, wanting};
+ghost use Rattle.handlebars_render.specs.Targets.{callee_in};
 ghost use Rattle.handlebars_render.specs.View.{setting_in, state_with};
 
 use crate::boxed::BoxedError;
 use crate::context::RenderContext;
-use crate::registered::Registered;
+use crate::registered::{Registered, Target};
 use crate::setting::Setting;
 use handlebars_base::json::path::Path;
 use handlebars_base::json::value::JsonTruthy;
@@ -26,11 +28,11 @@ use std::alloc::Global;
 
 /// The condition of a call of `if` or `unless` that is a path, without any other parameter or pair, and whether it
 /// holds for the body.
-pub fn branching(helper: &HelperTemplate, kind: Option<BuiltIn>) -> Option<(bool, &Path)>
-    ensures kind { IfSome result (λ x. option_map kind_of kind ≡ Some (wanting x.0)) }
+pub fn branching(helper: &HelperTemplate, target: Option<Target>) -> Option<(bool, &Path)>
+    ensures kind { IfSome result (λ x. (block : Bool) (name : Text) → option_map (callee_in block name) target ≡ Some (built (wanting x.0))) }
     ensures path { IfSome result (λ x. call_args (call_view helper.now) ≡ path_alone (reference_of x.1.now)) }
 {
-    match wanted(kind) {
+    match wanted(target) {
         Some(wanted) => match lone_path(helper) {
             Some(path) => Some((wanted, path)),
             None => None,
@@ -40,12 +42,12 @@ pub fn branching(helper: &HelperTemplate, kind: Option<BuiltIn>) -> Option<(bool
 }
 
 // What the condition is for the body: true of `if`, and false of `unless`.
-fn wanted(kind: Option<BuiltIn>) -> Option<bool>
-    ensures { IfSome result (λ wanted. option_map kind_of kind ≡ Some (wanting wanted)) }
+fn wanted(target: Option<Target>) -> Option<bool>
+    ensures { IfSome result (λ wanted. (block : Bool) (name : Text) → option_map (callee_in block name) target ≡ Some (built (wanting wanted))) }
 {
-    match kind {
-        Some(BuiltIn::If) => Some(true),
-        Some(BuiltIn::Unless) => Some(false),
+    match target {
+        Some(Target::Built(BuiltIn::If)) => Some(true),
+        Some(Target::Built(BuiltIn::Unless)) => Some(false),
         _ => None,
     }
 }
@@ -71,7 +73,7 @@ pub fn condition<P: Registered>(
 ) -> Result<bool, BoxedError>
     ensures { (kept : Kept) → Judges (setting_in P.parts setting.now) (state_with kept rc.now) (reference_of path.now) (answer_of result) }
 {
-    match rc.reach(setting.given, path) {
+    match rc.reach(setting.given.data(), path) {
         Reached::Value(value) => Ok(value.is_truthy(false)),
         Reached::Nothing => Ok(false),
         Reached::NoIndex(name) => Err(not_an_index(setting.alloc, name)),

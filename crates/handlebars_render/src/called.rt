@@ -1,27 +1,33 @@
 //! What a call or another tag shows of itself, and what a call in parentheses comes to.
 
-ghost use Rattle.std.specs.Prelude.{◌≡◌, [], IfErr, IfOk, false};
+ghost use Rattle.std.specs.Prelude.{◌≡◌, [], IfErr, IfOk, Some, false};
 ghost use Rattle.std.specs.Cow.{cow_str_bytes};
 ghost use Rattle.serde_json.specs.Data.{string};
-ghost use Rattle.handlebars_base.specs.Answers.{Answers, IsRefusal};
+ghost use Rattle.handlebars_base.specs.Answers.{IsRefusal};
 ghost use Rattle.handlebars_base.specs.Reasons.{helper_not_found, out_of_memory};
 ghost use Rattle.handlebars_base.specs.RenderRefusals.{plain_refusal, reason_in};
 ghost use Rattle.handlebars_base.specs.Scoped.{found_of, is_constant, value};
 ghost use Rattle.handlebars_template.specs.Tree.{call_binding, decorator_args, decorator_name};
 ghost use Rattle.handlebars_template.specs.TreeView.{call_view, decorator_view};
-ghost use Rattle.handlebars_helpers.specs.View.{choice_of, helper_view};
+ghost use Rattle.handlebars_helpers.specs.DecoratorsView.{tag_view};
+ghost use Rattle.handlebars_helpers.specs.Callee.{built};
+ghost use Rattle.handlebars_helpers.specs.View.{choice_of, helper_view, kind_of};
 ghost use Rattle.handlebars_meaning.specs.CarryOut.{helper_call};
+ghost use Rattle.handlebars_meaning.specs.Means.{shown_tag};
 ghost use Rattle.handlebars_meaning.specs.State.{Kept, State, helper_for};
-ghost use Rattle.handlebars_meaning.specs.Values.{HasView, choice_value, helped_value, inner_call};
+ghost use Rattle.handlebars_meaning.specs.Values.{HasHelpedValue, HasView, choice_value, inner_call};
 ghost use Rattle.handlebars_render.specs.View.{setting_in, called_view, name_alone, Yields, state_with};
 
 use crate::context::RenderContext;
-use crate::registered::{Registered, helper_for};
+use crate::own::own_value;
+use crate::registered::{Registered, Target, helper_for, hook};
 use crate::setting::Setting;
 use crate::value::{expand_as_name, pairs_values, params_values};
 use handlebars_base::error::{RenderError, RenderErrorReason};
 use handlebars_base::json::value::{Json, PathAndJson, ScopedJson};
+use handlebars_helpers::built_in::BuiltIn;
 use handlebars_helpers::choice::{Choice, choose};
+use handlebars_helpers::decorators::view::Decorator;
 use handlebars_helpers::view::Helper;
 use handlebars_template::template::{DecoratorTemplate, HelperTemplate};
 use serde_json::Number;
@@ -91,6 +97,14 @@ impl<'a> Called<'a> {
         )
     }
 
+    /// What a decorator sees of a tag: beside its values its body.
+    pub fn of_tag(self, tag: &'a DecoratorTemplate) -> Decorator<'a>
+        ensures { tag_view result ≡ shown_tag (decorator_view tag.now) (called_view self.entry) }
+    {
+        let Called { name, params, hash } = self;
+        Decorator::new(name, params, hash, tag.template.as_ref())
+    }
+
     /// The name alone.
     pub fn into_name(self) -> CowStr<'a>
         ensures { result ≡ self.entry.name }
@@ -126,18 +140,33 @@ pub fn helped_value<'a, 'c, P: Registered>(
     helper: &'c HelperTemplate,
     call: Called<'c>,
 ) -> Result<ScopedJson<'a>, RenderError>
-    ensures value { (s : State) → Answers found_of result (helped_value (P.parts setting.now.parts.now).strict
+    ensures value { (s : State) → Yields (HasHelpedValue (setting_in P.parts setting.now) s
         (helper_for (P.parts setting.now.parts.now) s false (called_view call.entry).name)
-        (inner_call (call_binding (call_view helper.now)) (called_view call.entry))) }
+        (inner_call (call_binding (call_view helper.now)) (called_view call.entry))) found_of result }
     ensures constant { IfOk result (λ found. is_constant found ≡ false) }
 {
     let view = call.in_parentheses(helper);
     match helper_for(setting.parts, false, view.name()) {
-        Some(kind) => match choose(setting.alloc, setting.parts.strict(), kind, &view) {
-            Ok(choice) => chosen_value(setting, &choice),
-            Err(e) => Err(e),
-        },
+        Some(Target::Built(kind)) => built_value(setting, kind, &view),
+        Some(Target::Named) => own_value(setting, view.name(), &view),
+        Some(Target::Hooked) => own_value(setting, hook(false), &view),
         None => Err(helper_not_found(setting.alloc, view.name())),
+    }
+}
+
+// The value of a call of a built-in helper.
+fn built_value<'a, P: Registered>(
+    setting: &Setting<P>,
+    kind: BuiltIn,
+    view: &Helper,
+) -> Result<ScopedJson<'a>, RenderError>
+    ensures value { (s : State) → Yields
+        (HasHelpedValue (setting_in P.parts setting.now) s (Some (built (kind_of kind))) (helper_view view.now)) found_of result }
+    ensures constant { IfOk result (λ found. is_constant found ≡ false) }
+{
+    match choose(setting.alloc, setting.parts.strict(), kind, view) {
+        Ok(choice) => chosen_value(setting, &choice),
+        Err(e) => Err(e),
     }
 }
 
@@ -169,7 +198,7 @@ fn chosen_value<'a, P: Registered>(
 }
 
 // The value of what writes nothing.
-fn empty_text<'a>(alloc: Global) -> ScopedJson<'a>
+pub fn empty_text<'a>(alloc: Global) -> ScopedJson<'a>
     ensures value { found_of result ≡ value (string []) }
     ensures constant { is_constant result ≡ false }
 {

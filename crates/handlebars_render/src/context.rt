@@ -8,32 +8,35 @@ ghost use Rattle.handlebars_base.specs.PathView.{reference_of};
 ghost use Rattle.handlebars_base.specs.Reasons.{out_of_memory};
 ghost use Rattle.handlebars_base.specs.RenderRefusals.{reason_in, refusal_of};
 ghost use Rattle.handlebars_base.specs.Scoped.{found_of, is_constant, present_in};
-ghost use Rattle.handlebars_template.specs.TreeView.{binding_of, binding_view};
+ghost use Rattle.handlebars_template.specs.TreeView.{binding_of, binding_view, tree_view};
 ghost use Rattle.handlebars_scope.specs.Contexts.{data_of};
 ghost use Rattle.handlebars_scope.specs.LineView.{line_of};
 ghost use Rattle.handlebars_scope.specs.Resolve.{resolved};
 ghost use Rattle.handlebars_scope.specs.ScopeView.{frame_of, frames_of, variables_of};
 ghost use Rattle.handlebars_scope.specs.WayView.{reached_of};
+ghost use Rattle.handlebars_helpers.specs.DecoratorsView.{decoration_of};
 ghost use Rattle.handlebars_helpers.specs.Turns.{turned};
 ghost use Rattle.handlebars_helpers.specs.View.{path_view, turn_view};
 ghost use Rattle.handlebars_meaning.specs.Values.{Evaluates};
 ghost use Rattle.handlebars_render.specs.Lending.{LendsBlock};
-ghost use Rattle.handlebars_meaning.specs.State.{entered, first_state, left, nearest_variables, with_nearest};
-ghost use Rattle.handlebars_render.specs.View.{state_of, root_of, has_failed, behind, with_line, HasOuter, IsKept};
+ghost use Rattle.handlebars_meaning.specs.State.{entered, first_state, left, nearest_variables, partial_in, with_decoration, with_nearest, with_partial};
+ghost use Rattle.handlebars_render.specs.View.{state_of, root_of, has_failed, behind, with_line, HasOuter, IsKept, NearestBelow};
 
 use handlebars_base::error::RenderError;
 use handlebars_base::json::path::Path;
 use handlebars_base::json::value::{Json, ScopedJson};
-use handlebars_helpers::turn::{Turn, set_up_turn};
+use handlebars_helpers::decorators::Decoration;
+use handlebars_helpers::turn::{Turn, set_up_next_turn, set_up_turn};
 use handlebars_scope::block::BlockContext;
 use handlebars_scope::context::reached::Reached;
 use handlebars_scope::context::{Context, walk};
 use handlebars_scope::line::LineState;
 use handlebars_scope::local_vars::LocalVars;
-use handlebars_template::template::BlockParam;
+use handlebars_template::template::{BlockParam, Template};
 use std::alloc::{AllocError, Global};
 use std::collections::VecDeque;
 use std::mem;
+use std::rc::Rc;
 
 /// The state of a rendering: what templates change as they are rendered, beside their data.
 pub struct RenderContext {
@@ -152,22 +155,65 @@ impl RenderContext {
         self.recursive_lookup = enabled;
     }
 
-    // Sets the nearest block up for a turn of `each`.
+    // Sets the nearest block up for a turn of `each`: the first one, or another one of the same.
     pub(super) fn set_up_turn(
         &mut self,
+        first: bool,
         binding: Option<&BlockParam>,
         path: Option<&Vec<String>>,
         turn: Turn,
     ) -> Result<(), AllocError>
-        ensures ok { OnOk result (state_of self.new ≡ with_nearest (turned (path_view path.entry)
+        ensures ok { (first ≡ false → NearestBelow (path_view path.entry) (state_of self.old).blocks)
+            → OnOk result (state_of self.new ≡ with_nearest (turned (path_view path.entry)
             (binding_of (option_map (λ b. binding_view b.now) binding.entry)) (turn_view turn.entry))
             (state_of self.old)) }
         ensures outer { HasOuter self.old self.new }
     {
         match self.blocks.front_mut() {
-            Some(block) => set_up_turn(self.alloc, block, binding, path, turn),
+            Some(block) => {
+                if first {
+                    set_up_turn(self.alloc, block, binding, path, turn)
+                } else {
+                    set_up_next_turn(self.alloc, block, binding, path, turn)
+                }
+            }
             None => Ok(()),
         }
+    }
+
+    // Does what a decorator does.
+    pub(super) fn decorate(&mut self, decoration: Decoration) -> Result<(), AllocError>
+        ensures ok { OnOk result (state_of self.new
+            ≡ with_decoration (decoration_of decoration.entry) (state_of self.old)) }
+        ensures kept { IsKept self.old self.new }
+    {
+        match decoration {
+            Decoration::SetsPartial(name, template) => self.set_partial(name, template),
+        }
+    }
+
+    // The nearest block has this template under the name from now on; without any block nothing is changed.
+    fn set_partial(&mut self, name: &str, template: &Template) -> Result<(), AllocError>
+        ensures ok { OnOk result (state_of self.new
+            ≡ with_nearest (with_partial name.now (tree_view template.now)) (state_of self.old)) }
+        ensures kept { IsKept self.old self.new }
+    {
+        match self.blocks.front_mut() {
+            Some(block) => put_partial(self.alloc, block, name, template),
+            None => Ok(()),
+        }
+    }
+
+    /// The partial of a name that a decorator set: the one of the nearest block that has one.
+    pub fn get_partial(&self, name: &str) -> Option<&Template>
+        ensures { option_map (λ t. tree_view t.now) result ≡ partial_in (state_of self.now).blocks name.now }
+    {
+        for block in self.blocks.iter() {
+            if let Some(template) = block.get_local_partial(name) {
+                return Some(&**template);
+            }
+        }
+        None
     }
 
     // The variables of the nearest block; without any block there are none.
@@ -352,4 +398,18 @@ impl RenderContext {
     {
         self.line = line;
     }
+}
+
+// Puts a copy of a template under a name in a block.
+fn put_partial(
+    alloc: Global,
+    block: &mut BlockContext,
+    name: &str,
+    template: &Template,
+) -> Result<(), AllocError>
+    ensures ok { OnOk result (frame_of block.new ≡ with_partial name.now (tree_view template.now) (frame_of block.old)) }
+    ensures err { OnErr result (frame_of block.new ≡ frame_of block.old) }
+{
+    let copy = Rc::new(alloc, template.clone(alloc)?)?;
+    block.set_local_partial(name, copy)
 }

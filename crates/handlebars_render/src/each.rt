@@ -82,8 +82,10 @@ fn take_turns<'a, O: Output, P: Registered>(
     ensures outer { HasOuter rc.old rc.new }
 {
     let mut left = turns;
+    let mut first = true;
     'turns: while let Some(turn) = left.next() {
-        rc.set_up_turn(helper.block_param.as_ref(), path, turn)?;
+        rc.set_up_turn(first, helper.block_param.as_ref(), path, turn)?;
+        first = false;
         if let Err(e) = render_body(helper, setting, rc, out) {
             return Err(e);
         }

@@ -3,11 +3,11 @@
 ghost use Rattle.std.specs.Prelude.{◌≡◌, ◌≢◌};
 ghost use Rattle.std.specs.Cow.{cow_str_bytes};
 ghost use Rattle.handlebars_base.specs.Answers.{IsRefusal};
-ghost use Rattle.handlebars_base.specs.Reasons.{out_of_memory, decorator_not_found, partial_not_found};
+ghost use Rattle.handlebars_base.specs.Reasons.{out_of_memory, partial_not_found};
 ghost use Rattle.handlebars_base.specs.RenderRefusals.{plain_refusal, reason_in, refusal_of};
 ghost use Rattle.handlebars_template.specs.TreeView.{element_view, call_view, decorator_view};
 ghost use Rattle.handlebars_meaning.specs.Sites.{Site};
-ghost use Rattle.handlebars_meaning.specs.Means.{render_decorator, render_element, render_expression, render_partial, unescaped};
+ghost use Rattle.handlebars_meaning.specs.Means.{render_element, render_expression, render_partial, unescaped};
 ghost use Rattle.handlebars_meaning.specs.Steps.{run};
 ghost use Rattle.handlebars_meaning.specs.State.{Kept};
 ghost use Rattle.handlebars_render.specs.Boxed.{answer_of, error_of};
@@ -17,6 +17,7 @@ use crate::block::render_tag;
 use crate::boxed::BoxedError;
 use crate::called::view_of_tag;
 use crate::context::RenderContext;
+use crate::decorator::render_decorator;
 use crate::registered::Registered;
 use crate::setting::Setting;
 use crate::write::write_text;
@@ -45,8 +46,8 @@ pub fn render_element<'a, O: Output, P: Registered>(
         TemplateElement::Comment(_) => Ok(()),
         TemplateElement::HtmlExpression(helper) => render_unescaped(helper, setting, rc, out),
         TemplateElement::HelperBlock(helper) => render_tag(helper, setting, true, rc, out),
-        TemplateElement::DecoratorExpression(tag) => Err(refuse_decorator(tag, setting, rc)),
-        TemplateElement::DecoratorBlock(tag) => Err(refuse_decorator(tag, setting, rc)),
+        TemplateElement::DecoratorExpression(tag) => render_decorator(tag, setting, rc),
+        TemplateElement::DecoratorBlock(tag) => render_decorator(tag, setting, rc),
         TemplateElement::PartialExpression(tag) => Err(refuse_partial(tag, setting, rc)),
         TemplateElement::PartialBlock(tag) => Err(refuse_partial(tag, setting, rc)),
     }
@@ -72,25 +73,7 @@ fn render_unescaped<'a, O: Output, P: Registered>(
     answer
 }
 
-// A decorator and an inclusion are refused once their tag is evaluated, since nothing is registered for them.
-#[cold]
-#[inline(never)]
-fn refuse_decorator<'a, P: Registered>(
-    tag: &'a DecoratorTemplate,
-    setting: &Setting<'_, 'a, P>,
-    rc: &RenderContext,
-) -> BoxedError
-    ensures { (kept : Kept) → reason_in (error_of result) ≢ out_of_memory
-        → RefusesValue (setting_in P.parts setting.now)
-        (render_decorator (decorator_view tag.now))
-        (state_with kept rc.now) (refusal_of (error_of result)) }
-{
-    match view_of_tag(setting, rc, tag) {
-        Ok(view) => BoxedError::new(setting.alloc, no_decorator(setting.alloc, view.into_name())),
-        Err(e) => BoxedError::new(setting.alloc, e),
-    }
-}
-
+// An inclusion is refused once its tag is evaluated, since nothing is registered for it.
 #[cold]
 #[inline(never)]
 fn refuse_partial<'a, P: Registered>(
@@ -106,15 +89,6 @@ fn refuse_partial<'a, P: Registered>(
     match view_of_tag(setting, rc, tag) {
         Ok(view) => BoxedError::new(setting.alloc, no_partial(setting.alloc, view.into_name())),
         Err(e) => BoxedError::new(setting.alloc, e),
-    }
-}
-
-fn no_decorator(alloc: Global, name: CowStr) -> RenderError
-    ensures { IsRefusal (plain_refusal (decorator_not_found (cow_str_bytes name.entry))) result }
-{
-    match name.into_owned(alloc) {
-        Ok(name) => RenderErrorReason::DecoratorNotFound(name).into(),
-        Err(AllocError) => RenderErrorReason::OutOfMemory.into(),
     }
 }
 

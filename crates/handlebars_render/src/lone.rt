@@ -25,7 +25,7 @@ use crate::branch::not_an_index;
 use crate::called::Called;
 use crate::context::RenderContext;
 use crate::next::{Next, to_call};
-use crate::registered::{Registered, hook};
+use crate::registered::{Registered, hook, hooked, named};
 use crate::setting::Setting;
 use crate::value::{inner_value, written};
 use crate::write::write_found;
@@ -75,9 +75,9 @@ fn settle_name<'a, P: Registered>(
         (render_lone site (call_view helper.now)) (state_with kept rc.now) (answer_of result) }
 {
     match setting.parts.helper(text) {
-        Some(kind) => to_call(
+        Some(callee) => to_call(
             setting.alloc,
-            kind,
+            named(callee),
             Called::alone(setting.alloc, CowStr::Borrowed(text)),
             true,
         ),
@@ -99,13 +99,13 @@ fn settle_path<'a, O: Output, P: Registered>(
         O.may_give (moment kept rc.now (O.held out.old)) (answer_of result) (O.held out.new) }
 {
     match setting.parts.helper(path.raw()) {
-        Some(kind) => to_call(
+        Some(callee) => to_call(
             setting.alloc,
-            kind,
+            named(callee),
             Called::alone(setting.alloc, CowStr::Borrowed(path.raw())),
             true,
         ),
-        None => match rc.reach(setting.given, path) {
+        None => match rc.reach(setting.given.data(), path) {
             Reached::Value(value) => settle_found(setting, value, rc, out),
             Reached::Nothing => settle_missing(helper, setting, CowStr::Borrowed(path.raw()), rc),
             Reached::NoIndex(name) => Err(not_an_index(setting.alloc, name)),
@@ -132,9 +132,9 @@ fn settle_value<'a, O: Output, P: Registered>(
 {
     let name = value.render(setting.alloc)?;
     match setting.parts.helper(name.as_str()) {
-        Some(kind) => to_call(
+        Some(callee) => to_call(
             setting.alloc,
-            kind,
+            named(callee),
             Called::alone(setting.alloc, CowStr::Owned(name)),
             true,
         ),
@@ -158,7 +158,7 @@ fn settle_found<'a, O: Output, P: Registered>(
         → ComesTo (setting_in P.parts setting.now) site false c (render_lone_as site c v None)
         O.may_give (moment kept rc.now (O.held out.old)) (answer_of result) (O.held out.new) }
 {
-    match write_found(setting.alloc, Some(value), rc, out) {
+    match write_found(setting.alloc, Some(value), setting.parts.escape(), rc, out) {
         Ok(line) => Ok(Next::Done(line)),
         Err(e) => Err(e),
     }
@@ -179,9 +179,9 @@ fn settle_missing<'a, P: Registered>(
         return Err(missing_variable(setting.alloc, &helper.name));
     }
     match setting.parts.helper(hook(false)) {
-        Some(kind) => to_call(
+        Some(callee) => to_call(
             setting.alloc,
-            kind,
+            hooked(callee),
             Called::alone(setting.alloc, name),
             false,
         ),

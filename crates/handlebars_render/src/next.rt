@@ -7,13 +7,13 @@ ghost use Rattle.handlebars_base.specs.Reasons.{helper_not_found};
 ghost use Rattle.handlebars_base.specs.RenderRefusals.{plain_refusal};
 ghost use Rattle.handlebars_template.specs.Tree.{as_name, call_name};
 ghost use Rattle.handlebars_template.specs.TreeView.{call_view};
-ghost use Rattle.handlebars_helpers.specs.View.{kind_of};
 ghost use Rattle.handlebars_meaning.specs.Sites.{Site};
 ghost use Rattle.handlebars_meaning.specs.Means.{render_call, render_expression, render_tag};
 ghost use Rattle.handlebars_meaning.specs.Values.{HasName};
 ghost use Rattle.handlebars_meaning.specs.State.{Kept, helper_for};
 ghost use Rattle.handlebars_render.specs.Boxed.{answer_of, error_of};
 ghost use Rattle.handlebars_render.specs.Next.{ComesTo, IsCall, Settles};
+ghost use Rattle.handlebars_render.specs.Targets.{callee_in};
 ghost use Rattle.handlebars_render.specs.View.{setting_in, moment, state_with};
 
 use crate::boxed::BoxedError;
@@ -21,11 +21,10 @@ use crate::branch::{branching, condition};
 use crate::called::{Called, helper_not_found};
 use crate::context::RenderContext;
 use crate::lone::settle_lone;
-use crate::registered::{Registered, helper_for};
+use crate::registered::{Registered, Target, helper_for};
 use crate::setting::Setting;
 use crate::value::{expand_as_name, pairs_values, params_values};
 use handlebars_base::output::Output;
-use handlebars_helpers::built_in::BuiltIn;
 use handlebars_scope::line::LineState;
 use handlebars_template::template::HelperTemplate;
 use std::alloc::Global;
@@ -45,7 +44,7 @@ pub enum Next<'a> {
 /// A helper that is to be called, with what the call shows of itself: in the bracket of a call, or
 /// without it, as the hook of a missing value is.
 pub struct ToCall<'a> {
-    pub kind: BuiltIn,
+    pub target: Target,
     pub call: Called<'a>,
     pub bracket: bool,
 }
@@ -54,7 +53,7 @@ pub struct ToCall<'a> {
 impl<'a> Drop for ToCall<'a> {
     fn drop(self) {
         let ToCall {
-            kind: _,
+            target: _,
             call: _,
             bracket: _,
         } = self;
@@ -67,7 +66,7 @@ impl<'a> ToCall<'a> {
         ensures { result ≡ self.entry.call }
     {
         let ToCall {
-            kind: _,
+            target: _,
             call,
             bracket: _,
         } = self;
@@ -128,8 +127,8 @@ fn settle_call<'a, P: Registered>(
     }
     match expand_as_name(setting, rc, &helper.name) {
         Ok(name) => {
-            let kind = helper_for(setting.parts, block, name.as_str());
-            settle_viewed(helper, setting, block, name, kind, rc)
+            let target = helper_for(setting.parts, block, name.as_str());
+            settle_viewed(helper, setting, block, name, target, rc)
         }
         Err(e) => Err(BoxedError::new(setting.alloc, e)),
     }
@@ -147,13 +146,13 @@ fn settle_named<'a, P: Registered>(
         → Settles (setting_in P.parts setting.now) site block (call_view helper.now)
         (render_call site block (call_view helper.now)) (state_with kept rc.now) (answer_of result) }
 {
-    let kind = helper_for(setting.parts, block, name);
-    match branching(helper, kind) {
+    let target = helper_for(setting.parts, block, name);
+    match branching(helper, target) {
         Some((wanted, path)) => match condition(setting, path, rc) {
             Ok(truth) => Ok(Next::Branch(takes(wanted, truth))),
             Err(e) => Err(e),
         },
-        None => settle_viewed(helper, setting, block, CowStr::Borrowed(name), kind, rc),
+        None => settle_viewed(helper, setting, block, CowStr::Borrowed(name), target, rc),
     }
 }
 
@@ -170,12 +169,12 @@ fn settle_viewed<'a, P: Registered>(
     setting: &Setting<'_, 'a, P>,
     block: bool,
     name: CowStr<'a>,
-    kind: Option<BuiltIn>,
+    target: Option<Target>,
     rc: &RenderContext,
 ) -> Result<Next<'a>, BoxedError>
     ensures { (site : Site) (kept : Kept) → HasName (setting_in P.parts setting.now) (state_with kept rc.now)
         (call_name (call_view helper.now)) (gives (cow_str_bytes name.entry))
-        → option_map kind_of kind ≡ helper_for (P.parts setting.now.parts.now) (state_with kept rc.now) block (cow_str_bytes name.entry)
+        → option_map (callee_in block (cow_str_bytes name.entry)) target ≡ helper_for (P.parts setting.now.parts.now) (state_with kept rc.now) block (cow_str_bytes name.entry)
         → Settles (setting_in P.parts setting.now) site block (call_view helper.now)
         (render_call site block (call_view helper.now)) (state_with kept rc.now) (answer_of result) }
 {
@@ -187,8 +186,8 @@ fn settle_viewed<'a, P: Registered>(
         Ok(hash) => hash,
         Err(e) => return Err(BoxedError::new(setting.alloc, e)),
     };
-    match kind {
-        Some(kind) => to_call(setting.alloc, kind, Called { name, params, hash }, true),
+    match target {
+        Some(target) => to_call(setting.alloc, target, Called { name, params, hash }, true),
         None => Err(unknown_helper(setting.alloc, name.as_str())),
     }
 }
@@ -196,14 +195,14 @@ fn settle_viewed<'a, P: Registered>(
 /// A helper is to be called.
 pub fn to_call<'a>(
     alloc: Global,
-    kind: BuiltIn,
+    target: Target,
     call: Called<'a>,
     bracket: bool,
 ) -> Result<Next<'a>, BoxedError>
-    ensures { IsCall (record { kind = kind; call = call.entry; bracket = bracket }) (answer_of result) }
+    ensures { IsCall (record { target = target; call = call.entry; bracket = bracket }) (answer_of result) }
 {
     let to_call = ToCall {
-        kind,
+        target,
         call,
         bracket,
     };

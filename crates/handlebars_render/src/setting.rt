@@ -1,6 +1,6 @@
 //! What a run reads.
 
-use handlebars_base::json::value::Json;
+use handlebars_scope::context::Context;
 use std::alloc::Global;
 
 /// All that stays as it is in a run.
@@ -8,5 +8,5 @@ use std::alloc::Global;
 pub struct Setting<'r, 'a, P> {
     pub alloc: Global,
     pub parts: &'r P,
-    pub given: &'a Json,
+    pub given: &'a Context,
 }

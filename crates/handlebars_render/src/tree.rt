@@ -62,8 +62,8 @@ fn render_whole<'a, O: Output, P: Registered>(
     Ok(())
 }
 
-// With the position of an element, where it has one and none is known yet.
-fn placed(error: BoxedError, place: Option<&TemplateMapping>) -> BoxedError
+/// With the position of an element, where it has one and none is known yet.
+pub fn placed(error: BoxedError, place: Option<&TemplateMapping>) -> BoxedError
     ensures spot { reason_in (error_of result) ≢ out_of_memory
         → spot_of (error_of result) ≡ placed_at (option_map (λ m. place_of m.now) place.entry) (spot_of (error_of error)) }
     ensures cause { cause_of (error_of result) ≡ cause_of (error_of error) }

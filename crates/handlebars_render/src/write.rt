@@ -8,18 +8,21 @@ ghost use Rattle.handlebars_base.specs.Bytes.{Text};
 ghost use Rattle.handlebars_base.specs.Reasons.{out_of_memory};
 ghost use Rattle.handlebars_base.specs.RenderRefusals.{plain_refusal, reason_in, refusal_of};
 ghost use Rattle.handlebars_base.specs.Values as values;
+ghost use Rattle.handlebars_base.specs.Values.{rendered};
 ghost use Rattle.handlebars_scope.specs.LineView.{line_of};
+ghost use Rattle.handlebars_helpers.specs.Escaping.{escaping_of, written_by};
 ghost use Rattle.handlebars_meaning.specs.Runs.{plain_fault};
-ghost use Rattle.handlebars_meaning.specs.Writing.{shown_if_any};
+ghost use Rattle.handlebars_meaning.specs.Writing.{rendered_if_any};
 ghost use Rattle.handlebars_meaning.specs.State.{Kept, State};
 ghost use Rattle.handlebars_render.specs.Boxed.{answer_of, error_of};
-ghost use Rattle.handlebars_render.specs.View.{state_of, moment, with_line, word_reason, Puts, PutsWord, TellsFault, IsKept, state_with};
+ghost use Rattle.handlebars_render.specs.View.{state_of, moment, with_line, word_reason, Puts, PutsStep, PutsWord, TellsFault, IsKept, state_with};
 
 use crate::boxed::BoxedError;
 use crate::context::RenderContext;
 use handlebars_base::error::{RenderError, RenderErrorReason};
 use handlebars_base::json::value::{Json, write_value};
 use handlebars_base::output::{Output, output_fault};
+use handlebars_helpers::escape::EscapeKind;
 use handlebars_scope::line::LineState;
 use serde_json::Number;
 use std::alloc::Global;
@@ -71,25 +74,26 @@ fn write_fault(alloc: Global, fault: io::Error) -> BoxedError
     BoxedError::new(alloc, output_fault(fault))
 }
 
-/// Writes a value, rendered, and escaped where escaping is on, and answers the line behind it; nothing
+/// Writes a value, rendered, and escaped so where escaping is on, and answers the line behind it; nothing
 /// where there is none. The value may be one of a block, so the context is left to the caller.
 pub(super) fn write_found<O: Output>(
     alloc: Global,
     value: Option<&Json>,
+    escape: &EscapeKind,
     rc: &RenderContext,
     out: &mut O,
 ) -> Result<LineState, BoxedError>
     ensures puts { (kept : Kept) → MatchResult result
-        (λ line. Puts (shown_if_any (state_of rc.now).escapes (option_map (λ v. view v.now) value.entry)) O.may_give
+        (λ line. Puts (written_by (escaping_of escape.now) (state_of rc.now).escapes (rendered_if_any (option_map (λ v. view v.now) value.entry))) O.may_give
         (moment kept rc.now (O.held out.old)) (Ok tt)
         (record { state = with_line (line_of line) (state_with kept rc.now); held = O.held out.new }))
-        (λ e. Puts (shown_if_any (state_of rc.now).escapes (option_map (λ v. view v.now) value.entry)) O.may_give
+        (λ e. Puts (written_by (escaping_of escape.now) (state_of rc.now).escapes (rendered_if_any (option_map (λ v. view v.now) value.entry))) O.may_give
         (moment kept rc.now (O.held out.old)) (Err (error_of e)) (moment kept rc.now (O.held out.new))) }
 {
     let Some(value) = value else {
         return Ok(rc.line());
     };
-    match write_value(out, value, rc.escapes()) {
+    match write_value(out, value, escape.gives_entities(rc.escapes())) {
         Ok(()) => Ok(rc.line().behind_value(value)),
         Err(cause) => Err(write_fault(alloc, cause)),
     }
@@ -99,15 +103,16 @@ pub(super) fn write_found<O: Output>(
 pub(super) fn write_chosen<O: Output>(
     alloc: Global,
     value: Option<&Json>,
+    escape: &EscapeKind,
     rc: &mut RenderContext,
     out: &mut O,
 ) -> Result<(), BoxedError>
     ensures puts { (kept : Kept) → Puts
-        (shown_if_any (state_of rc.old).escapes (Some (unwrap_or (option_map (λ v. view v.now) value.entry) null)))
+        (written_by (escaping_of escape.now) (state_of rc.old).escapes (rendered (unwrap_or (option_map (λ v. view v.now) value.entry) null)))
         O.may_give (moment kept rc.old (O.held out.old)) (answer_of result) (moment kept rc.new (O.held out.new)) }
     ensures kept { IsKept rc.old rc.new }
 {
-    match write_found(alloc, value, rc, out) {
+    match write_found(alloc, value, escape, rc, out) {
         Ok(line) => {
             rc.set_line(line);
             Ok(())
@@ -120,15 +125,31 @@ pub(super) fn write_chosen<O: Output>(
 pub(super) fn write_count<O: Output>(
     alloc: Global,
     count: usize,
+    escape: &EscapeKind,
     rc: &mut RenderContext,
     out: &mut O,
 ) -> Result<(), BoxedError>
-    ensures puts { (kept : Kept) → Puts (shown_if_any (state_of rc.old).escapes (Some (number (unsigned count))))
-        O.may_give (moment kept rc.old (O.held out.old)) (answer_of result) (moment kept rc.new (O.held out.new)) }
+    ensures puts { (kept : Kept) → Puts
+        (written_by (escaping_of escape.now) (state_of rc.old).escapes (rendered (number (unsigned count)))) O.may_give (moment kept rc.old (O.held out.old)) (answer_of result) (moment kept rc.new (O.held out.new)) }
     ensures kept { IsKept rc.old rc.new }
 {
     let value = Json::Number(Number::from(count));
-    write_chosen(alloc, Some(&value), rc, out)
+    write_chosen(alloc, Some(&value), escape, rc, out)
+}
+
+/// Writes the text of a step, as it is, whatever the line and the escaping.
+pub(super) fn write_as_is<O: Output>(
+    alloc: Global,
+    text: &str,
+    out: &mut O,
+) -> Result<(), BoxedError>
+    ensures { (s : State) → PutsStep text.now O.may_give (record { state = s; held = O.held out.old })
+        (answer_of result) (record { state = s; held = O.held out.new }) }
+{
+    match out.write(text) {
+        Ok(()) => Ok(()),
+        Err(fault) => Err(write_fault(alloc, fault)),
+    }
 }
 
 /// Writes the word of a boolean helper, as it is, whatever the line.

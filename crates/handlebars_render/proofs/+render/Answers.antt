@@ -1,33 +1,40 @@
-use Rattle.std.proofs.Common.{◌∙◌, ◌+◌, refl, sym, ap, map, Option, option_map, List}
+use Rattle.std.proofs.Common.{◌∙◌, ◌+◌, true≢false, refl, sym, ap, map, Option, option_map, List, length, arith}
 use Rattle.std.specs.Prelude.{slice_get, unwrap_or}
 use Rattle.serde_json.specs.Data.{null, number, unsigned}
 use Rattle.serde_json.specs.View.{view}
 use Rattle.handlebars_base.specs.RenderRefusals.{spot_of}
 use Rattle.handlebars_template.specs.Place.{Place}
 use Rattle.handlebars_template.specs.Tree.{Tree, tree_name, CallMarks, call_marks}
-use Rattle.handlebars_template.specs.TreeView.{body_view, call_view, element_view, place_of}
+use Rattle.handlebars_template.specs.TreeView.{body_view, call_view, decorator_view, element_view, place_of}
 use Rattle.handlebars_template.specs.declared.template.tree.TemplateMapping.{TemplateMapping}
 use Rattle.handlebars_template.proofs.Levels.{call_body-view, call_inverse-view, call_marks-view, element_view-Expression, element_view-HelperBlock, element_view-DecoratorExpression, element_view-DecoratorBlock, element_view-PartialExpression, element_view-PartialBlock, element_view-Comment, element_view-RawString}
 use Rattle.handlebars_template.proofs.Trees.{tree_view-out}
 use Rattle.handlebars_meaning.specs.Pieces.{of_text}
 use Rattle.handlebars_meaning.specs.Sites.{body_at, inverse_at, element_in}
 use Rattle.handlebars_helpers.specs.Choice.{body_if}
+use Rattle.handlebars_scope.specs.ScopeView.{frame_of}
+use Rattle.handlebars_helpers.specs.CallView.{HelperView}
+use Rattle.handlebars_helpers.specs.Callee.{built, own}
+use Rattle.handlebars_helpers.specs.OwnView.{step_of}
 use Rattle.handlebars_helpers.specs.View.{kind_of, base_view, path_view, turn_view}
 use Rattle.handlebars_scope.specs.Scopes.{Frame, empty_frame}
 use Rattle.handlebars_meaning.specs.CarryOut.{helper_call}
-use Rattle.handlebars_meaning.specs.Means.{render_chosen}
+use Rattle.handlebars_meaning.specs.Means.{render_chosen, render_decorator}
 use Rattle.handlebars_meaning.specs.Runs.{named_as, placed_at}
-use Rattle.handlebars_render.specs.Boxed.{error_of}
+use Rattle.handlebars_render.specs.Boxed.{answer_of, error_of}
+use Rattle.handlebars_render.specs.Targets.{callee_in}
 use Rattle.handlebars_render.specs.View.{called_view, keeping, state_of, state_with}
 use Rattle.handlebars_render.proofs.Branches.{carries-branch}
-use Rattle.handlebars_render.proofs.Calls.{branch_none, carry_out_value, chosen_ok, chosen_err, entered_as}
+use Rattle.handlebars_render.proofs.Calls.{branch_none, carry_out_value, choice_err, choice_ok, chosen_by, chosen_ok, chosen_err, entered_as}
 use Rattle.handlebars_render.proofs.Leaves.{carries_on-leaves}
-use Rattle.handlebars_render.proofs.Carry.{carries-done, carries-no_value, carries-out_of_memory, carries-puts, carries-run, carries-unescaped, carries_on-bracket, carries_on-done, carries_on-handed, carries_on-task, carries_on-task_over, carries_on-word, restored, carries_on-in_block, carries_on-out_of_memory}
-use Rattle.handlebars_meaning.specs.State.{entered}
+use Rattle.handlebars_render.proofs.Carry.{carries-done, carries-no_value, carries-out_of_memory, carries-puts, carries-run, carries-unescaped, carries_on-bracket, carries_on-done, carries_on-handed, carries_on-task, carries_on-task_over, carries_on-step, carries_on-word, restored, carries_on-in_block, carries_on-out_of_memory}
+use Rattle.handlebars_meaning.specs.State.{entered, hook}
 use Rattle.handlebars_render.proofs.Elements.{left_starts, left_goes, left_over, left_ends, whole_with}
 use Rattle.handlebars_render.proofs.Kept.{kept-refl, kept-trans, outer-kept, outer-trans}
 use Rattle.handlebars_render.proofs.Lists.{get_or-seen, below-seen, over-seen, place_there, looked_up, placed_marks}
-use Rattle.handlebars_render.proofs.Turns.{binding-seen, carries_on-turn, carries_on-with, entered-with, turns-end, turns-go, turns-no_memory, turns-over}
+use Rattle.handlebars_render.proofs.Silent.{carries-does}
+use Rattle.handlebars_render.proofs.OwnSteps.{nothing_left, steps-end, steps-go, steps-over}
+use Rattle.handlebars_render.proofs.Turns.{below-kept, binding-seen, carries_on-turn, carries_on-with, entered-with, turns-end, turns-go, turns-no_memory, turns-over}
 use Rattle.handlebars_render.proofs.+render.Goals as goal
 
 -- ---- calls
@@ -51,7 +58,7 @@ pub block::render_branch-returns-clause-renders : goal.block::render_branch-retu
 block::render_branch-returns-clause-renders g t c = λ site kept block k v chooses.
     let marked = ap (λ (m : CallMarks). m.indent_before_write) (call_marks-view c.args.helper.now) in
     carries_on-bracket _ _ (call_marks (call_view c.args.helper.now)).indent_before_write
-    (render_chosen site k (helper_call block (call_view c.args.helper.now) v))
+    (render_chosen site (built k) (helper_call block (call_view c.args.helper.now) v))
     (entered_as (state_with kept c.args.rc.now) (state_with kept c.enter_call.new.rc) _ _ marked (ap (keeping kept) c.enter_call.ensures.state))
     (ap (keeping kept) (c.leave_call.ensures.state (state_of c.args.rc.now).line (sym c.get_indent_before_write-before.ensures)
     (sym c.get_content_produced-produced.ensures)))
@@ -71,42 +78,57 @@ pub block::render_next-returns-clause-renders : goal.block::render_next-returns-
 block::render_next-returns-clause-renders g t c = λ site kept.
     let marked = ap (λ (m : CallMarks). m.indent_before_write) (call_marks-view c.args.helper.now) in
     rw c.if-not-bracket.false (carries_on-bracket _ _ (call_marks (call_view c.args.helper.now)).indent_before_write
-    (render_chosen site (kind_of c.args.to_call.kind)
+    (render_chosen site (callee_in c.args.block (called_view c.args.to_call.call).name c.args.to_call.target)
     (helper_call c.args.block (call_view c.args.helper.now) (called_view c.args.to_call.call)))
     (entered_as (state_with kept c.args.rc.now) (state_with kept c.enter_call.new.rc) _ _ marked (ap (keeping kept) c.enter_call.ensures.state))
     (ap (keeping kept) (c.leave_call.ensures.state (state_of c.args.rc.now).line (sym c.get_indent_before_write-before.ensures)
     (sym c.get_content_produced-produced.ensures)))
     (rw c.into_call-call.ensures at (c.render_chosen-answer.ensures.renders site kept)))
 
-pub block::render_chosen-returns-in-Ok-clause-renders : goal.block::render_chosen-returns-in-Ok-clause-renders
-block::render_chosen-returns-in-Ok-clause-renders g t c = λ site kept.
-    chosen_ok _ _ _ site (kind_of c.args.kind) _
-    (helper_call c.args.block (call_view c.args.helper.now) (called_view c.args.call)) _
-    c.strict.ensures c.of_call-view.ensures c.in-Ok.ensures
-    (c.carry_out.ensures.renders site kept (called_view c.args.call))
+pub block::render_chosen-returns-in-Built-clause-renders : goal.block::render_chosen-returns-in-Built-clause-renders
+block::render_chosen-returns-in-Built-clause-renders g t c = λ site kept. rw c.in-Built.is
+    (c.render_built.ensures.renders site kept (called_view c.args.call) c.of_call-view.ensures)
+
+pub block::render_chosen-returns-in-Named-clause-renders : goal.block::render_chosen-returns-in-Named-clause-renders
+block::render_chosen-returns-in-Named-clause-renders g t c = λ site kept. rw c.in-Named.is
+    (chosen_by _ _ site _ (own (called_view c.args.call).name)
+    (helper_call c.args.block (call_view c.args.helper.now) (called_view c.args.call))
+    (ap (λ t. own t) (sym (c.name.ensures ∙ ap (λ (h : HelperView). h.call.name) c.of_call-view.ensures)))
+    (c.render_own.ensures.renders site kept c.args.block (called_view c.args.call) c.of_call-view.ensures))
 
 pub block::render_chosen-returns-clause-renders : goal.block::render_chosen-returns-clause-renders
-block::render_chosen-returns-clause-renders g t c = λ site kept.
+block::render_chosen-returns-clause-renders g t c = λ site kept. rw c.in-Hooked.is
+    (chosen_by _ _ site _ (own (hook c.args.block))
+    (helper_call c.args.block (call_view c.args.helper.now) (called_view c.args.call))
+    (ap (λ t. own t) (sym c.hook.ensures))
+    (c.render_own-in-Hooked.ensures.renders site kept c.args.block (called_view c.args.call) c.of_call-view.ensures))
+
+pub block::render_built-returns-in-Ok-clause-renders : goal.block::render_built-returns-in-Ok-clause-renders
+block::render_built-returns-in-Ok-clause-renders g t c = λ site kept v same.
+    chosen_ok _ _ _ site (kind_of c.args.kind) _ (helper_call c.args.block (call_view c.args.helper.now) v) _
+    c.strict.ensures same c.in-Ok.ensures (c.carry_out.ensures.renders site kept v)
+
+pub block::render_built-returns-in-Err-clause-renders : goal.block::render_built-returns-in-Err-clause-renders
+block::render_built-returns-in-Err-clause-renders g t c = λ site kept v same.
     carries_on-handed _ _ c.in-Err.e (error_of c.new.result) c.new.ensures
-    (chosen_err _ _ _ site (kind_of c.args.kind) _
-    (helper_call c.args.block (call_view c.args.helper.now) (called_view c.args.call)) c.in-Err.e
-    c.strict.ensures c.of_call-view.ensures c.in-Err.ensures)
+    (chosen_err _ _ _ site (kind_of c.args.kind) _ (helper_call c.args.block (call_view c.args.helper.now) v) c.in-Err.e
+    c.strict.ensures same c.in-Err.ensures)
 
 pub block::carry_out-returns-in-Body-clause-renders : goal.block::carry_out-returns-in-Body-clause-renders
 block::carry_out-returns-in-Body-clause-renders g t c = λ site kept v. rw c.in-Body.is (c.render_body.ensures.renders site kept 0 c.args.block v)
 
 pub block::carry_out-returns-in-Inverse-clause-renders : goal.block::carry_out-returns-in-Inverse-clause-renders
-block::carry_out-returns-in-Inverse-clause-renders g t c = λ site kept v. rw c.in-Inverse.is (c.render_inverse.ensures.renders site kept c.args.block v)
+block::carry_out-returns-in-Inverse-clause-renders g t c = λ site kept v. rw c.in-Inverse.is (c.render_inverse.ensures.renders site kept 0 c.args.block v)
 
 pub block::carry_out-returns-in-Value-clause-renders : goal.block::carry_out-returns-in-Value-clause-renders
 block::carry_out-returns-in-Value-clause-renders g t c = λ site kept v. rw c.in-Value.is
     (carry_out_value _ _ site (helper_call c.args.block (call_view c.args.helper.now) v) (unwrap_or (option_map (λ x. view x.now) c.in-Value.value) null)
-    (c.write_chosen.ensures.puts kept))
+    (rw c.escape.ensures at (c.write_chosen.ensures.puts kept)))
 
 pub block::carry_out-returns-in-Count-clause-renders : goal.block::carry_out-returns-in-Count-clause-renders
 block::carry_out-returns-in-Count-clause-renders g t c = λ site kept v. rw c.in-Count.is
     (carry_out_value _ _ site (helper_call c.args.block (call_view c.args.helper.now) v) (number (unsigned c.in-Count.count))
-    (c.write_count.ensures.puts kept))
+    (rw c.escape-in-Count.ensures at (c.write_count.ensures.puts kept)))
 
 pub block::carry_out-returns-in-Word-clause-renders : goal.block::carry_out-returns-in-Word-clause-renders
 block::carry_out-returns-in-Word-clause-renders g t c = λ site kept v. rw c.in-Word.is (c.render_word.ensures.renders site kept v)
@@ -127,15 +149,15 @@ block::render_word-returns-then-word-clause-renders g t c = λ site kept v. rw (
 
 pub block::render_word-returns-else-word-clause-renders : goal.block::render_word-returns-else-word-clause-renders
 block::render_word-returns-else-word-clause-renders g t c = λ site kept v. rw (c.if-not-block.false, c.if-word.false)
-    (c.render_inverse.ensures.renders site kept c.args.block v)
+    (c.render_inverse.ensures.renders site kept 0 c.args.block v)
 
 pub block::render_body-returns-in-None-clause-renders : goal.block::render_body-returns-in-None-clause-renders
 block::render_body-returns-in-None-clause-renders g t c = λ site kept i block v.
     branch_none _ _ (body_at site i) _ (call_body-view c.args.helper.now ∙ ap body_view c.in-None.is)
 
 pub block::render_inverse-returns-in-None-clause-renders : goal.block::render_inverse-returns-in-None-clause-renders
-block::render_inverse-returns-in-None-clause-renders g t c = λ site kept block v.
-    branch_none _ _ (inverse_at site 0) _ (call_inverse-view c.args.helper.now ∙ ap body_view c.in-None.is)
+block::render_inverse-returns-in-None-clause-renders g t c = λ site kept i block v.
+    branch_none _ _ (inverse_at site i) _ (call_inverse-view c.args.helper.now ∙ ap body_view c.in-None.is)
 
 -- ---- elements
 
@@ -156,13 +178,13 @@ element::render_element-returns-in-HelperBlock-clause-renders g t c = λ site ke
 
 pub element::render_element-returns-in-DecoratorExpression-clause-renders : goal.element::render_element-returns-in-DecoratorExpression-clause-renders
 element::render_element-returns-in-DecoratorExpression-clause-renders g t c = λ site kept. rw (c.in-DecoratorExpression.is, element_view-DecoratorExpression)
-    (carries-no_value _ _ _ _ (error_of c.refuse_decorator.result)
-    (rw c.deref-in-DecoratorExpression.ensures at (c.refuse_decorator.ensures kept)))
+    (carries-does _ _ (render_decorator (decorator_view c.in-DecoratorExpression.tag.value)) (answer_of c.render_decorator.result)
+    (rw c.deref-in-DecoratorExpression.ensures at (c.render_decorator.ensures.does kept)))
 
 pub element::render_element-returns-in-DecoratorBlock-clause-renders : goal.element::render_element-returns-in-DecoratorBlock-clause-renders
 element::render_element-returns-in-DecoratorBlock-clause-renders g t c = λ site kept. rw (c.in-DecoratorBlock.is, element_view-DecoratorBlock)
-    (carries-no_value _ _ _ _ (error_of c.refuse_decorator-in-DecoratorBlock.result)
-    (rw c.deref-in-DecoratorBlock.ensures at (c.refuse_decorator-in-DecoratorBlock.ensures kept)))
+    (carries-does _ _ (render_decorator (decorator_view c.in-DecoratorBlock.tag.value)) (answer_of c.render_decorator-in-DecoratorBlock.result)
+    (rw c.deref-in-DecoratorBlock.ensures at (c.render_decorator-in-DecoratorBlock.ensures.does kept)))
 
 pub element::render_element-returns-in-PartialExpression-clause-renders : goal.element::render_element-returns-in-PartialExpression-clause-renders
 element::render_element-returns-in-PartialExpression-clause-renders g t c = λ site kept. rw (c.in-PartialExpression.is, element_view-PartialExpression)
@@ -239,6 +261,94 @@ tree::render_whole-returns-clause-renders g t c = λ at kept.
 pub tree::render_whole-returns-clause-kept : goal.tree::render_whole-returns-clause-kept
 tree::render_whole-returns-clause-kept g t c = kept-trans c.in_ok-enter.ensures.kept c.elements.invariant.kept
 
+-- ---- steps of helpers of one's own
+
+pub steps::render_own-returns-in-Ok-clause-renders : goal.steps::render_own-returns-in-Ok-clause-renders
+steps::render_own-returns-in-Ok-clause-renders g t c = λ site kept block v same.
+    choice_ok _ _ site (own c.args.name.now) _ (helper_call block (call_view c.args.helper.now) v) _ same
+    (c.in-Ok.ensures (state_with kept c.args.rc.now)) (c.carry_out_own.ensures.renders site kept block v)
+
+pub steps::render_own-returns-in-Err-clause-renders : goal.steps::render_own-returns-in-Err-clause-renders
+steps::render_own-returns-in-Err-clause-renders g t c = λ site kept block v same.
+    carries_on-handed _ _ c.in-Err.e (error_of c.new.result) c.new.ensures
+    (choice_err _ _ site (own c.args.name.now) _ (helper_call block (call_view c.args.helper.now) v) c.in-Err.e same
+    (c.in-Err.ensures (state_with kept c.args.rc.now)))
+
+pub steps::carry_out_own-returns-in-Steps-clause-renders : goal.steps::carry_out_own-returns-in-Steps-clause-renders
+steps::carry_out_own-returns-in-Steps-clause-renders g t c = λ site kept block v. rw c.in-Steps.is
+    (c.take_steps.ensures.renders site kept block v)
+
+pub steps::carry_out_own-returns-in-Value-clause-renders : goal.steps::carry_out_own-returns-in-Value-clause-renders
+steps::carry_out_own-returns-in-Value-clause-renders g t c = λ site kept block v. rw c.in-Value.is
+    (carry_out_value _ _ site (helper_call block (call_view c.args.helper.now) v) (view c.in-Value.value)
+    (rw c.escape.ensures at (c.write_chosen.ensures.puts kept)))
+
+pub steps::carry_out_own-returns-in-Nothing-clause-renders : goal.steps::carry_out_own-returns-in-Nothing-clause-renders
+steps::carry_out_own-returns-in-Nothing-clause-renders g t c = λ site kept block v. rw c.in-Nothing.is (carries_on-done _ _)
+
+pub steps::take_step-returns-in-Write-clause-renders : goal.steps::take_step-returns-in-Write-clause-renders
+steps::take_step-returns-in-Write-clause-renders g t c = λ site kept i block v. rw c.in-Write.is
+    (carries_on-step _ _ site i _ (rw c.as_str.ensures.value at (c.write_as_is.ensures (state_with kept c.args.rc.now))))
+
+pub steps::take_step-returns-in-Body-clause-renders : goal.steps::take_step-returns-in-Body-clause-renders
+steps::take_step-returns-in-Body-clause-renders g t c = λ site kept i block v. rw c.in-Body.is
+    (c.render_body.ensures.renders site kept i block v)
+
+pub steps::take_step-returns-in-Inverse-clause-renders : goal.steps::take_step-returns-in-Inverse-clause-renders
+steps::take_step-returns-in-Inverse-clause-renders g t c = λ site kept i block v. rw c.in-Inverse.is
+    (c.render_inverse.ensures.renders site kept i block v)
+
+pub steps::take_step-returns-in-BodyIn-clause-renders : goal.steps::take_step-returns-in-BodyIn-clause-renders
+steps::take_step-returns-in-BodyIn-clause-renders g t c = λ site kept i block v. rw c.in-BodyIn.is
+    (c.render_in.ensures.renders site kept i block v)
+
+pub steps::render_in-returns-in_err-push_block-clause-renders : goal.steps::render_in-returns-in_err-push_block-clause-renders
+steps::render_in-returns-in_err-push_block-clause-renders g t c = λ site kept i block v.
+    carries_on-out_of_memory _ _ c.from_residual.result c.from_residual.ensures.1
+
+pub steps::render_in-returns-clause-renders : goal.steps::render_in-returns-clause-renders
+steps::render_in-returns-clause-renders g t c = λ site kept i block v.
+    carries_on-in_block _ _ (frame_of c.args.scope) _ (ap (keeping kept) c.in_ok-push_block.ensures.ok)
+    (ap (keeping kept) c.pop_block.ensures.state) (c.render_body-answer.ensures.renders site kept i block v)
+
+pub steps::take_steps-returns-in-Err-clause-renders : goal.steps::take_steps-returns-in-Err-clause-renders
+steps::take_steps-returns-in-Err-clause-renders g t c = λ site kept block v.
+    rw (sym c.into_iter-step-iterator.ensures.into_iter_gives.0)
+    (steps-over _ _ site c.steps.invariant.number (helper_call block (call_view c.args.helper.now) v) _
+    (ap (map step_of) c.in-Some.ensures.steps.0) (c.steps.invariant.left site kept block v)
+    (c.in-Err.ensures.renders site kept c.steps.invariant.number block v))
+
+pub steps::take_steps-steps-init : goal.steps::take_steps-steps-init
+steps::take_steps-steps-init g t c = record {
+  number = 0;
+  left = λ site kept block v next r last d. d;
+  sized = c.into_iter-step-iterator.ensures.into_iter_gives.1 ∙ c.args.steps.ok.0
+      ∙ ap length (sym c.into_iter-step-iterator.ensures.into_iter_gives.0);
+  kept = kept-refl _;
+}
+
+pub steps::take_steps-steps-preserved : goal.steps::take_steps-steps-preserved
+steps::take_steps-steps-preserved g t c =
+    let was = c.steps.invariant.sized in
+    let gone = c.in-Some.ensures.steps.1 in
+    let short = ap length c.in-Some.ensures.steps.0 in
+    record {
+      number = c.steps.invariant.number + 1;
+      left = λ site kept block v.
+          steps-go _ _ site c.steps.invariant.number (helper_call block (call_view c.args.helper.now) v) _
+          (ap (map step_of) c.in-Some.ensures.steps.0) (c.steps.invariant.left site kept block v)
+          (c.in_default.ensures.renders site kept c.steps.invariant.number block v);
+      sized = omega arith;
+      kept = kept-trans c.steps.invariant.kept c.in_default.ensures.kept;
+    }
+
+pub steps::take_steps-returns-clause-renders : goal.steps::take_steps-returns-clause-renders
+steps::take_steps-returns-clause-renders g t c = λ site kept block v.
+    rw (sym c.into_iter-step-iterator.ensures.into_iter_gives.0)
+    (steps-end _ _ site c.steps.invariant.number (helper_call block (call_view c.args.helper.now) v) _
+    (ap (map step_of) (nothing_left _ (sym c.steps.invariant.sized ∙ c.in-None.ensures.steps.0)))
+    (c.steps.invariant.left site kept block v))
+
 -- ---- turns
 
 -- ---- blocks of scope
@@ -284,12 +394,17 @@ each::take_turns-returns-in-Err-clause-renders g t c = λ site kept block v.
     turns-over _ _ site c.turns.invariant.number (helper_call block (call_view c.args.helper.now) v) (path_view c.args.path) _
     c.in-Some.ensures (c.turns.invariant.left site kept block v)
     (carries_on-turn _ _ site c.turns.invariant.number (helper_call block (call_view c.args.helper.now) v) (path_view c.args.path) (turn_view c.in-Some.turn)
-    (rw (sym (binding-seen c.args.helper.now c.as_ref.result c.as_ref.ensures.value)) (ap (keeping kept) c.in_ok-set_up_turn.ensures.ok))
+    (rw (sym (binding-seen c.args.helper.now c.as_ref.result c.as_ref.ensures.value)) (ap (keeping kept) (c.in_ok-set_up_turn.ensures.ok c.turns.invariant.below)))
     (c.in-Err.ensures.renders site kept c.turns.invariant.number block v))
 
 pub each::take_turns-turns-init : goal.each::take_turns-turns-init
 each::take_turns-turns-init g t c =
-    record { number = 0; left = λ site kept block v next r last d. d; outer = outer-kept (kept-refl _) }
+    record {
+      number = 0;
+      left = λ site kept block v next r last d. d;
+      outer = outer-kept (kept-refl _);
+      below = λ is. absurd (true≢false is);
+    }
 
 pub each::take_turns-turns-preserved : goal.each::take_turns-turns-preserved
 each::take_turns-turns-preserved g t c = record {
@@ -298,10 +413,12 @@ each::take_turns-turns-preserved g t c = record {
       turns-go _ _ site c.turns.invariant.number (helper_call block (call_view c.args.helper.now) v) (path_view c.args.path) _
       c.in-Some.ensures (c.turns.invariant.left site kept block v)
       (carries_on-turn _ _ site c.turns.invariant.number (helper_call block (call_view c.args.helper.now) v) (path_view c.args.path) (turn_view c.in-Some.turn)
-      (rw (sym (binding-seen c.args.helper.now c.as_ref.result c.as_ref.ensures.value)) (ap (keeping kept) c.in_ok-set_up_turn.ensures.ok))
+      (rw (sym (binding-seen c.args.helper.now c.as_ref.result c.as_ref.ensures.value)) (ap (keeping kept) (c.in_ok-set_up_turn.ensures.ok c.turns.invariant.below)))
       (c.in_default-render_body.ensures.renders site kept c.turns.invariant.number block v));
   outer = outer-trans c.turns.invariant.outer
       (outer-trans c.in_ok-set_up_turn.ensures.outer (outer-kept c.in_default-render_body.ensures.kept));
+  below = λ is. below-kept (path_view c.args.path) _ (turn_view c.in-Some.turn) _ _ _
+      (c.in_ok-set_up_turn.ensures.ok c.turns.invariant.below) c.in_default-render_body.ensures.kept;
 }
 
 pub each::take_turns-returns-clause-renders : goal.each::take_turns-returns-clause-renders

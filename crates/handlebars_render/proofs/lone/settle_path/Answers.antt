@@ -6,8 +6,10 @@ use Rattle.handlebars_base.specs.Reasons.{invalid_json_index}
 use Rattle.handlebars_base.specs.RenderRefusals.{plain_refusal}
 use Rattle.handlebars_template.specs.Tree.{call_name}
 use Rattle.handlebars_template.specs.TreeView.{call_view}
-use Rattle.handlebars_helpers.specs.View.{kind_of}
+use Rattle.handlebars_helpers.specs.CallView.{CallView}
+use Rattle.handlebars_helpers.specs.OwnView.{callee_of}
 use Rattle.handlebars_render.specs.Boxed.{answer_of, error_of}
+use Rattle.handlebars_render.specs.Targets.{callee_in}
 use Rattle.handlebars_render.specs.View.{called_view, name_alone, setting_in, state_with}
 use Rattle.handlebars_render.proofs.Calls.{value_err, value_lacks}
 use Rattle.handlebars_render.proofs.Leaves.{comes_to-leaves, comes_to-settles, leaves-missing, leaves-named, leaves-value, settles-call}
@@ -18,13 +20,18 @@ pub returns-in-Some : goal.returns-in-Some
 returns-in-Some g c = λ lone is site kept.
     comes_to-settles _ _ site false (call_view c.args.helper.now) _ _ _ _ (answer_of c.to_call.result) refl
     (settles-call _ site false (call_view c.args.helper.now) _ _ (answer_of c.to_call.result) c.to_call.ensures
-    (leaves-named _ site (call_view c.args.helper.now) c.raw.result.now (kind_of c.in-Some.kind) (called_view c.alone.result)
+    (leaves-named _ site (call_view c.args.helper.now) c.raw.result.now (callee_of c.raw.result.now c.in-Some.callee)
+    (callee_in false (called_view c.alone.result).name c.named.result) (called_view c.alone.result)
     lone (named-path _ _ (call_name (call_view c.args.helper.now)) (reference_of c.args.path.now) _ is c.raw.ensures)
-    c.in-Some.ensures (c.alone.ensures ∙ ap (λ t. name_alone t) (c.raw-in-Some.ensures ∙ sym c.raw.ensures))))
+    c.in-Some.ensures
+    (c.named.ensures false (called_view c.alone.result).name
+    ∙ ap (λ (v : CallView). callee_of v.name c.in-Some.callee)
+    (c.alone.ensures ∙ ap (λ t. name_alone t) (c.raw-in-Some.ensures ∙ sym c.raw.ensures)))
+    (c.alone.ensures ∙ ap (λ t. name_alone t) (c.raw-in-Some.ensures ∙ sym c.raw.ensures))))
 
 pub returns-in-Value : goal.returns-in-Value
 returns-in-Value g c = λ lone is site kept.
-    let has = reached-value (setting_in g.P.Registered.parts c.args.setting.now) (state_with kept c.args.rc.now) (call_name (call_view c.args.helper.now)) (reference_of c.args.path.now) (Some (view c.in-Value.value.now)) is c.in-Value.ensures in
+    let has = reached-value (setting_in g.P.Registered.parts c.args.setting.now) (state_with kept c.args.rc.now) (call_name (call_view c.args.helper.now)) (reference_of c.args.path.now) (Some (view c.in-Value.value.now)) is (rw c.data.ensures.value at c.in-Value.ensures) in
     comes_to-leaves _ _ site false (call_view c.args.helper.now) _ _ _ _ _ (answer_of c.settle_found.result)
     (leaves-value _ site (call_view c.args.helper.now) c.raw.result.now lone
     (named-path _ _ (call_name (call_view c.args.helper.now)) (reference_of c.args.path.now) _ is c.raw.ensures) c.in-None.ensures)
@@ -32,7 +39,7 @@ returns-in-Value g c = λ lone is site kept.
 
 pub returns-in-Nothing : goal.returns-in-Nothing
 returns-in-Nothing g c = λ lone is site kept.
-    let has = reached-value (setting_in g.P.Registered.parts c.args.setting.now) (state_with kept c.args.rc.now) (call_name (call_view c.args.helper.now)) (reference_of c.args.path.now) None is c.in-Nothing.ensures in
+    let has = reached-value (setting_in g.P.Registered.parts c.args.setting.now) (state_with kept c.args.rc.now) (call_name (call_view c.args.helper.now)) (reference_of c.args.path.now) None is (rw c.data.ensures.value at c.in-Nothing.ensures) in
     comes_to-leaves _ _ site false (call_view c.args.helper.now) _ _ _ _ _ (answer_of c.settle_missing.result)
     (leaves-value _ site (call_view c.args.helper.now) c.raw-in-Nothing.result.now lone
     (named-path _ _ (call_name (call_view c.args.helper.now)) (reference_of c.args.path.now) _ is c.raw-in-Nothing.ensures)
@@ -50,4 +57,4 @@ returns-in-NoIndex g c = λ lone is site kept.
     (named-path _ _ (call_name (call_view c.args.helper.now)) (reference_of c.args.path.now) _ is c.raw.ensures) c.in-None.ensures)
     (value_err _ _ site (call_view c.args.helper.now) (name_alone c.raw.result.now) _ (error_of c.not_an_index.result) refl
     (λ other. reached-none-as (setting_in g.P.Registered.parts c.args.setting.now) (state_with kept c.args.rc.now) (call_name (call_view c.args.helper.now)) (reference_of c.args.path.now)
-    (plain_refusal (invalid_json_index c.in-NoIndex.name.now)) _ is c.in-NoIndex.ensures (c.not_an_index.ensures other)))
+    (plain_refusal (invalid_json_index c.in-NoIndex.name.now)) _ is (rw c.data.ensures.value at c.in-NoIndex.ensures) (c.not_an_index.ensures other)))

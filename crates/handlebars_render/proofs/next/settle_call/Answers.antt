@@ -18,8 +18,7 @@ returns-in-Some g c = λ site kept.
 pub returns-in-Ok : goal.returns-in-Ok
 returns-in-Ok g c = λ site kept.
     c.settle_viewed.ensures site kept (rw (call_name-view c.args.helper.now) (c.in-Ok.ensures kept))
-    (c.helper_for-kind.ensures (state_with kept c.args.rc.now)
-    ∙ ap (helper_for (g.P.Registered.parts c.args.setting.now.parts.now) (state_with kept c.args.rc.now) c.args.block) c.as_str.ensures.value)
+    (rw c.as_str.ensures.value at (c.helper_for-target.ensures (state_with kept c.args.rc.now)))
 
 pub returns-in-Err : goal.returns-in-Err
 returns-in-Err g c = λ site kept.

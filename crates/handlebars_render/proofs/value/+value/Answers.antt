@@ -51,7 +51,7 @@ expand_as_name-returns-in-Err g t c = λ kept other. rw (c.in-Subexpression.is, 
 
 pub expands-returns-in-Path-clause-value : goal.expands-returns-in-Path-clause-value
 expands-returns-in-Path-clause-value g t c = λ kept. rw (c.in-Path.is, param_view-Path)
-    (yields-answer found_of _ _ c.find.ensures.found)
+    (yields-answer found_of _ _ (rw c.data.ensures.value at c.find.ensures.found))
 
 pub expands-returns-in-Subexpression-clause-value : goal.expands-returns-in-Subexpression-clause-value
 expands-returns-in-Subexpression-clause-value g t c = λ kept. rw (c.in-Subexpression.is, param_view-Subexpression)

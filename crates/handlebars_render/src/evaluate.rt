@@ -1,0 +1,62 @@
+//! Evaluating: carrying out decorators alone.
+
+ghost use Rattle.handlebars_template.specs.Tree.{tree_name};
+ghost use Rattle.handlebars_template.specs.TreeView.{element_view, tree_view};
+ghost use Rattle.handlebars_meaning.specs.Evaluation.{decorator_alone, eval_tree, renamed};
+ghost use Rattle.handlebars_meaning.specs.Means.{render_element};
+ghost use Rattle.handlebars_meaning.specs.Sites.{Site};
+ghost use Rattle.handlebars_meaning.specs.State.{Kept};
+ghost use Rattle.handlebars_render.specs.Boxed.{answer_of};
+ghost use Rattle.handlebars_render.specs.Silent.{Does, Evals};
+ghost use Rattle.handlebars_render.specs.View.{IsKept, setting_in, state_with};
+
+use crate::boxed::BoxedError;
+use crate::context::RenderContext;
+use crate::decorator::render_decorator;
+use crate::registered::Registered;
+use crate::setting::Setting;
+use crate::tree::placed;
+use handlebars_template::template::{Template, TemplateElement};
+
+/// Carries out the decorators of a tree, in order. The name of the tree takes the place of the one in an error.
+pub fn eval_tree<'a, P: Registered>(
+    template: &'a Template,
+    setting: &Setting<'_, 'a, P>,
+    rc: &mut RenderContext,
+) -> Result<(), BoxedError>
+    ensures evals { (kept : Kept) → Evals (setting_in P.parts setting.now) (eval_tree (tree_view template.now))
+        (renamed (tree_name (tree_view template.now))) (state_with kept rc.old) (answer_of result)
+        (state_with kept rc.new) }
+    ensures kept { IsKept rc.old rc.new }
+{
+    'elements: for (index, element) in template.elements.iter().enumerate() {
+        if let Err(e) = eval_element(element, setting, rc) {
+            return Err(placed(e, template.mapping.get(index)).renamed(&template.name));
+        }
+    }
+    Ok(())
+}
+
+/// Carries out an element that is a decorator; any other does nothing.
+pub fn eval_element<'a, P: Registered>(
+    element: &'a TemplateElement,
+    setting: &Setting<'_, 'a, P>,
+    rc: &mut RenderContext,
+) -> Result<(), BoxedError>
+    ensures does { (site : Site) (kept : Kept) → Does (setting_in P.parts setting.now)
+        (render_element site (decorator_alone (element_view element.now)))
+        (state_with kept rc.old) (answer_of result) (state_with kept rc.new) }
+    ensures kept { IsKept rc.old rc.new }
+{
+    match element {
+        TemplateElement::DecoratorExpression(tag) => render_decorator(tag, setting, rc),
+        TemplateElement::DecoratorBlock(tag) => render_decorator(tag, setting, rc),
+        TemplateElement::RawString(_) => Ok(()),
+        TemplateElement::HtmlExpression(_) => Ok(()),
+        TemplateElement::Expression(_) => Ok(()),
+        TemplateElement::HelperBlock(_) => Ok(()),
+        TemplateElement::PartialExpression(_) => Ok(()),
+        TemplateElement::PartialBlock(_) => Ok(()),
+        TemplateElement::Comment(_) => Ok(()),
+    }
+}

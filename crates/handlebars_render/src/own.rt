@@ -1,0 +1,119 @@
+//! What helpers of one's own choose, and their values in parentheses.
+
+ghost use Rattle.std.specs.Prelude.{◌≡◌, IfOk, Some, false, map, string_bytes};
+ghost use Rattle.serde_json.specs.Data.{string};
+ghost use Rattle.handlebars_base.specs.Answers.{Answers};
+ghost use Rattle.handlebars_base.specs.Scoped.{found_of, is_constant, value};
+ghost use Rattle.handlebars_helpers.specs.Callee.{own};
+ghost use Rattle.handlebars_helpers.specs.OwnView.{offer_of, step_of};
+ghost use Rattle.handlebars_helpers.specs.View.{helper_view};
+ghost use Rattle.handlebars_meaning.specs.Questions.{HasChoice, offered};
+ghost use Rattle.handlebars_meaning.specs.State.{State};
+ghost use Rattle.handlebars_meaning.specs.Values.{HasHelpedValue, step_text, text_of};
+ghost use Rattle.handlebars_render.specs.OwnChoice.{own_choice_of};
+ghost use Rattle.handlebars_render.specs.View.{setting_in, Yields};
+
+use crate::called::empty_text;
+use crate::registered::Registered;
+use crate::setting::Setting;
+use handlebars_base::error::{RenderError, RenderErrorReason};
+use handlebars_base::json::value::{Json, ScopedJson};
+use handlebars_helpers::own::{HelperStep, HelperValue};
+use handlebars_helpers::view::Helper;
+use std::alloc::{AllocError, Global};
+
+/// What a helper of one's own chose.
+#[derive(Drop)]
+pub enum OwnChoice {
+    Steps(Vec<HelperStep>),
+    Value(Json),
+    Nothing,
+}
+
+/// What the helper of this name chooses for a call: its steps, or else what it offers.
+pub fn choose_own<P: Registered>(
+    setting: &Setting<P>,
+    name: &str,
+    view: &Helper,
+) -> Result<OwnChoice, RenderError>
+    ensures { (s : State) → Yields (HasChoice (setting_in P.parts setting.now) s (own name.now) (helper_view view.now))
+        own_choice_of result }
+{
+    match setting.parts.steps_of(name, view, setting.given) {
+        Ok(Some(steps)) => Ok(OwnChoice::Steps(steps)),
+        Ok(None) => match setting.parts.offer_of(name, view, setting.given) {
+            Ok(offer) => choose_offer(setting.parts.strict(), offer),
+            Err(e) => Err(e),
+        },
+        Err(e) => Err(e),
+    }
+}
+
+// What is chosen of an offer, in strict mode or not.
+fn choose_offer(strict: bool, offer: HelperValue) -> Result<OwnChoice, RenderError>
+    ensures { Answers own_choice_of result (offered strict (offer_of offer)) }
+{
+    match offer {
+        HelperValue::NotOffered => Ok(OwnChoice::Nothing),
+        HelperValue::Value(value) => Ok(OwnChoice::Value(value)),
+        HelperValue::Missing => {
+            if strict {
+                Err(RenderErrorReason::MissingVariable(None).into())
+            } else {
+                Ok(OwnChoice::Value(Json::Null))
+            }
+        }
+    }
+}
+
+/// The value of a call of the helper of this name in parentheses: what it offers, or else the text that it writes.
+pub fn own_value<'a, P: Registered>(
+    setting: &Setting<P>,
+    name: &str,
+    view: &Helper,
+) -> Result<ScopedJson<'a>, RenderError>
+    ensures value { (s : State) → Yields
+        (HasHelpedValue (setting_in P.parts setting.now) s (Some (own name.now)) (helper_view view.now)) found_of result }
+    ensures constant { IfOk result (λ found. is_constant found ≡ false) }
+{
+    match setting.parts.offer_of(name, view, setting.given) {
+        Ok(HelperValue::Value(value)) => Ok(ScopedJson::Derived(value)),
+        Ok(HelperValue::Missing) => Ok(ScopedJson::Missing),
+        Ok(HelperValue::NotOffered) => match setting.parts.steps_of(name, view, setting.given) {
+            Ok(None) => Ok(empty_text(setting.alloc)),
+            Ok(Some(steps)) => Ok(text_value(text_written(setting.alloc, &steps)?)),
+            Err(e) => Err(e),
+        },
+        Err(e) => Err(e),
+    }
+}
+
+// The texts that the steps write, one behind the other.
+fn text_written(alloc: Global, steps: &Vec<HelperStep>) -> Result<String, AllocError>
+    ensures { IfOk result (λ text. string_bytes text ≡ text_of (map step_of steps.now.items)) }
+{
+    let mut text = String::new(alloc);
+    'steps: for step in steps {
+        text.push_str(written(step))?;
+    }
+    Ok(text)
+}
+
+// What a step writes where there are no bodies.
+fn written(step: &HelperStep) -> &str
+    ensures { result.now ≡ step_text (step_of step.now) }
+{
+    match step {
+        HelperStep::Write(text) => text.as_str(),
+        HelperStep::Body => "",
+        HelperStep::Inverse => "",
+        HelperStep::BodyIn(_) => "",
+    }
+}
+
+fn text_value<'a>(text: String) -> ScopedJson<'a>
+    ensures value { found_of result ≡ value (string (string_bytes text)) }
+    ensures constant { is_constant result ≡ false }
+{
+    ScopedJson::Derived(Json::String(text))
+}
