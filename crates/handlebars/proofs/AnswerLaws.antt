@@ -12,7 +12,7 @@ use Rattle.handlebars_tags.specs.Options.{Options}
 use Rattle.handlebars_template.specs.Compile.{Compilation, Compiles, compiled, refused}
 use Rattle.handlebars_template.proofs.One.{one_compilation}
 use Rattle.handlebars_meaning.specs.Pieces.{Piece}
-use Rattle.handlebars_meaning.specs.State.{Setting, State, first_state}
+use Rattle.handlebars_meaning.specs.State.{IsLawful, Setting, State, first_state}
 use Rattle.handlebars_meaning.specs.Means.{render_tree}
 use Rattle.handlebars_meaning.specs.Runs.{Outcome, Ended, Refused, Means}
 use Rattle.handlebars_render.specs.View.{GivesString, RefusesString}
@@ -89,7 +89,7 @@ no_tree-injective {r = r} e = ap (beginning_refusal r) e
 a_tree≢no_tree : {t : Tree} {r : Refusal} → a_tree t ≡ no_tree r → ⊥
 a_tree≢no_tree e = cc
 
-module _ (p : Setting) (begins : Beginning → Type 0) (one : IsOne begins) where
+module _ (p : Setting) (lawful : IsLawful p.parts) (begins : Beginning → Type 0) (one : IsOne begins) where
   Means-tree : {t u : Tree} {ps : List Piece} {o : Outcome} → t ≡ u → Means p u (first_state p.parts.recursive) ps o
       → Means p t (first_state p.parts.recursive) ps o
   Means-tree {ps = ps} {o = o} e r = subst (λ (t : Tree). Means p t (first_state p.parts.recursive) ps o) (sym e) r
@@ -100,7 +100,7 @@ module _ (p : Setting) (begins : Beginning → Type 0) (one : IsOne begins) wher
   has_one_answer _ _ _ _ (not_begun {r = r} a) (rendered {t = t} b x) h i = absurd (a_tree≢no_tree (one (a_tree t) (no_tree r) b a))
   has_one_answer _ _ _ _ (rendered {t = t} b x) (not_begun {r = r} a) h i = absurd (a_tree≢no_tree (one (a_tree t) (no_tree r) b a))
   has_one_answer _ _ _ _ (rendered {t = t} a x) (rendered {t = u} b y) h i =
-      Runs-one x (Means-tree (a_tree-injective (one (a_tree t) (a_tree u) a b)) y) h i
+      Runs-one lawful x (Means-tree (a_tree-injective (one (a_tree t) (a_tree u) a b)) y) h i
 
 -- ---- origins
 

@@ -1,4 +1,6 @@
 pub mod AnswerLaws
+pub mod OwnLaws
 pub mod Rendered
 pub mod Stored
 pub mod Texts
+mod Evaluated

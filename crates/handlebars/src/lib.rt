@@ -24,6 +24,9 @@ pub use handlebars_base::json::value::{
 pub use handlebars_base::output::{Output, StringOutput};
 pub use handlebars_base::support::{escape_html, html_escape, no_escape};
 pub use handlebars_helpers::built_in::{BuiltIn, HelperEntry};
+pub use handlebars_helpers::decorators::DecoratorEntry;
+pub use handlebars_helpers::decorators::view::Decorator;
+pub use handlebars_helpers::escape::EscapeKind;
 pub use handlebars_helpers::log_line::log_record;
 pub use handlebars_helpers::view::Helper;
 pub use handlebars_render::context::RenderContext;
@@ -37,6 +40,6 @@ pub use handlebars_template::template::{
     Template, TemplateElement, TemplateMapping, TemplateOptions,
 };
 pub use registry::{Registry, Registry as Handlebars};
-pub use render::{Expand, Renderable};
+pub use render::{Evaluable, Expand, Renderable};
 pub use serde_json::Value as JsonValue;
 pub use sources::{EntryKind, NoFiles, TemplateReader};

@@ -2,26 +2,34 @@
 
 ghost use Rattle.std.specs.Prelude.{◌≡◌, ◌≢◌, IfOk, IfErr, OnErr, OnOk, option_map, string_bytes, None, Some, false, is_some};
 ghost use Rattle.handlebars_base.specs.Bytes.{Text};
-ghost use Rattle.handlebars_base.specs.Reasons.{out_of_memory, template_out_of_memory};
-ghost use Rattle.handlebars_base.specs.RenderRefusals.{refusal_of, reason_in};
+ghost use Rattle.handlebars_base.specs.Answers.{IsRefusal};
+ghost use Rattle.handlebars_base.specs.Reasons.{helper_not_found, out_of_memory, template_out_of_memory};
+ghost use Rattle.handlebars_base.specs.RenderRefusals.{plain_refusal, refusal_of, reason_in};
 ghost use Rattle.handlebars_base.specs.TemplateRefusals.{template_refusal_of};
 ghost use Rattle.handlebars_tags.specs.Options.{named_options};
 ghost use Rattle.handlebars_template.specs.Compile.{Compiles, compiled, refused};
 ghost use Rattle.handlebars_template.specs.Tree.{Tree};
 ghost use Rattle.handlebars_template.specs.TreeView.{tree_view};
-ghost use Rattle.handlebars_helpers.specs.Choice.{built_in};
-ghost use Rattle.handlebars_helpers.specs.View.{kind_of, kind_of_entry};
+ghost use Rattle.handlebars_helpers.specs.Decoration.{built_in_decorator};
+ghost use Rattle.handlebars_helpers.specs.DecoratorsView.{decorator_kind};
+ghost use Rattle.handlebars_helpers.specs.Callee.{built, first_callee};
+ghost use Rattle.handlebars_helpers.specs.Escaping.{escaping_of, for_html};
+ghost use Rattle.handlebars_helpers.specs.OwnView.{callee_of};
+ghost use Rattle.handlebars_helpers.specs.View.{kind_of_entry};
 ghost use Rattle.handlebars_meaning.specs.Answer.{FromSource, FromName, GivesText, RefusesWith, HasOneAnswer, AnswerHasOrigins};
 ghost use Rattle.handlebars_meaning.specs.State.{first_state};
-ghost use Rattle.handlebars.specs.Store.{stored, Stores, HasHelper, HasSameParts, HasSameTemplates};
+ghost use Rattle.handlebars.specs.Store.{stored, Stores, HasDecorator, HasHelper, HasSameHelpers, HasSameParts, HasSameTemplates};
 ghost use Rattle.handlebars_render.specs.View.{state_of, root_of, has_failed};
-ghost use Rattle.handlebars.specs.View.{parts_of, setting_of, options_of};
+ghost use Rattle.handlebars.specs.View.{modes_of, parts_of, setting_of, options_of};
 
 use crate::render::Renderable;
 use crate::sources::TemplateReader;
 use handlebars_base::error::{RenderError, RenderErrorReason, TemplateError};
-use handlebars_helpers::built_in::{BuiltIn, HelperEntry};
+use handlebars_helpers::built_in::HelperEntry;
+use handlebars_helpers::decorators::{DecoratorEntry, built_in_decorators};
+use handlebars_helpers::escape::EscapeKind;
 use handlebars_helpers::helpers::Helpers;
+use handlebars_helpers::own::Callee;
 use handlebars_render::context::RenderContext;
 use handlebars_scope::context::Context;
 use handlebars_template::template::Template;
@@ -35,16 +43,20 @@ pub struct Registry {
     alloc: Global,
     templates: BTreeMap<String, Template>,
     helpers: Helpers,
+    decorators: BTreeMap<String, DecoratorEntry>,
+    escape: EscapeKind,
     strict_mode: bool,
     recursive_lookup: bool,
 }
 
 impl Registry {
-    /// A registry with the built-in helpers, and nothing else; the mode isn't strict, and lookup isn't
-    /// recursive.
+    /// A registry with the built-in helpers and decorators, and nothing else; values are escaped for
+    /// html, the mode isn't strict, and lookup isn't recursive.
     pub fn new(alloc: Global) -> Result<Registry, AllocError>
         ensures templates { IfOk result (λ r. (name : Text) → stored r name ≡ None) }
-        ensures helpers { IfOk result (λ r. (name : Text) → (parts_of r).helper name ≡ built_in name) }
+        ensures helpers { IfOk result (λ r. (name : Text) → (parts_of r).helper name ≡ first_callee name) }
+        ensures decorators { IfOk result (λ r. (name : Text) → (parts_of r).decorator name ≡ built_in_decorator name) }
+        ensures escape { IfOk result (λ r. (parts_of r).escape ≡ for_html) }
         ensures strict { IfOk result (λ r. (parts_of r).strict ≡ false) }
         ensures recursive { IfOk result (λ r. (parts_of r).recursive ≡ false) }
     {
@@ -52,6 +64,8 @@ impl Registry {
             alloc,
             templates: BTreeMap::new(alloc),
             helpers: Helpers::new(alloc)?,
+            decorators: built_in_decorators(alloc)?,
+            escape: EscapeKind::Html,
             strict_mode: false,
             recursive_lookup: false,
         })
@@ -60,7 +74,8 @@ impl Registry {
     /// From now on, or no more, a value that is missing is refused where it would be written, and so
     /// are values that some helpers can't do without.
     pub fn set_strict_mode(&mut self, enabled: bool)
-        ensures parts { parts_of self.new ≡ record (parts_of self.old) { strict = enabled } }
+        ensures modes { modes_of self.new ≡ record (modes_of self.old) { strict = enabled } }
+        ensures helpers { HasSameHelpers self.old self.new }
         ensures kept { HasSameTemplates self.old self.new }
     {
         self.strict_mode = enabled;
@@ -76,7 +91,8 @@ impl Registry {
     /// From now on, or no more, a plain name that no block binds, in a block that stands at a path of
     /// the data, is sought under the fronts of that path, the longest first.
     pub fn set_recursive_lookup(&mut self, enabled: bool)
-        ensures parts { parts_of self.new ≡ record (parts_of self.old) { recursive = enabled } }
+        ensures modes { modes_of self.new ≡ record (modes_of self.old) { recursive = enabled } }
+        ensures helpers { HasSameHelpers self.old self.new }
         ensures kept { HasSameTemplates self.old self.new }
     {
         self.recursive_lookup = enabled;
@@ -93,7 +109,7 @@ impl Registry {
     /// `helperMissing` is called by expressions, and one named `blockHelperMissing` by blocks, whose
     /// name has no helper.
     pub fn register_helper(&mut self, name: &str, def: HelperEntry) -> Result<(), AllocError>
-        ensures ok { OnOk result (HasHelper self.old self.new name.now (Some (kind_of_entry def))) }
+        ensures ok { OnOk result (HasHelper self.old self.new name.now (Some (built (kind_of_entry def)))) }
         ensures err { OnErr result (HasSameParts self.old self.new) }
         ensures kept { HasSameTemplates self.old self.new }
     {
@@ -109,11 +125,67 @@ impl Registry {
         self.helpers.remove(name);
     }
 
-    // The helper under a name, if there is one.
-    pub(crate) fn helper(&self, name: &str) -> Option<BuiltIn>
-        ensures { option_map kind_of result ≡ (parts_of self.now).helper name.now }
+    /// Registers a decorator under a name, in place of one that stood there.
+    pub fn register_decorator(&mut self, name: &str, def: DecoratorEntry) -> Result<(), AllocError>
+        ensures ok { OnOk result (HasDecorator self.old self.new name.now (decorator_kind def)) }
+        ensures err { OnErr result (HasSameParts self.old self.new) }
+        ensures kept { HasSameTemplates self.old self.new }
     {
-        self.helpers.get(name)
+        let name = String::from_str(self.alloc, name)?;
+        self.decorators.insert(name, def)?;
+        Ok(())
+    }
+
+    // The decorator under a name, if there is one.
+    pub(crate) fn decorator(&self, name: &str) -> Option<&DecoratorEntry>
+        ensures { option_map (λ d. decorator_kind d.now) result ≡ (parts_of self.now).decorator name.now }
+    {
+        self.decorators.get(name)
+    }
+
+    /// From now on the text of a value is escaped so before it is written.
+    pub fn register_escape_fn(&mut self, escape_fn: EscapeKind)
+        ensures modes { modes_of self.new ≡ record (modes_of self.old) { escape = escaping_of escape_fn } }
+        ensures helpers { HasSameHelpers self.old self.new }
+        ensures kept { HasSameTemplates self.old self.new }
+    {
+        self.escape = escape_fn;
+    }
+
+    /// From now on values are escaped for html, as they are in a new registry.
+    pub fn unregister_escape_fn(&mut self)
+        ensures modes { modes_of self.new ≡ record (modes_of self.old) { escape = for_html } }
+        ensures helpers { HasSameHelpers self.old self.new }
+        ensures kept { HasSameTemplates self.old self.new }
+    {
+        self.escape = EscapeKind::Html;
+    }
+
+    /// How values are escaped.
+    pub fn get_escape_fn(&self) -> &EscapeKind
+        ensures { escaping_of result.now ≡ (parts_of self.now).escape }
+    {
+        &self.escape
+    }
+
+    // The helper under a name, if there is one.
+    pub(crate) fn helper(&self, name: &str) -> Option<Callee>
+        ensures { option_map (callee_of name.now) result ≡ (parts_of self.now).helper name.now }
+    {
+        match self.helpers.get(name) {
+            Some(kind) => Some(Callee::Built(kind)),
+            None => None,
+        }
+    }
+
+    // The refusal of a name that no helper has.
+    pub(crate) fn no_helper(&self, name: &str) -> RenderError
+        ensures { IsRefusal (plain_refusal (helper_not_found name.now)) result }
+    {
+        match String::from_str(self.alloc, name) {
+            Ok(name) => RenderErrorReason::HelperNotFound(name).into(),
+            Err(AllocError) => RenderErrorReason::OutOfMemory.into(),
+        }
     }
 
     /// Compiles a source and registers its tree under the name, in place of one that stood there.
@@ -128,7 +200,7 @@ impl Registry {
         ensures err { IfErr result (λ e. (template_refusal_of e).reason ≢ template_out_of_memory
             → Compiles source.now (named_options name.now) (refused (template_refusal_of e))) }
         ensures kept { OnErr result (HasSameTemplates self.old self.new) }
-        ensures parts { parts_of self.new ≡ parts_of self.old }
+        ensures parts { HasSameParts self.old self.new }
     {
         let key = String::from_str(self.alloc, name)?;
         let template = Template::compile_with_name(

@@ -10,11 +10,13 @@ ghost use Rattle.handlebars_meaning.specs.State.{Kept};
 ghost use Rattle.handlebars_render.specs.View.{state_of, state_with, root_of, has_failed, moment, without_partials, CarriesOut, GivesString, RefusesString};
 ghost use Rattle.handlebars.specs.View.{setting_of};
 
+mod evaluable;
 mod expand;
 mod logging;
 
 use crate::registry::Registry;
 use crate::render::logging::Logging;
+pub use evaluable::Evaluable;
 pub use expand::Expand;
 use handlebars_base::error::RenderError;
 use handlebars_base::output::{Output, StringOutput};
@@ -101,12 +103,11 @@ impl Renderable for Template {
         log: &L,
     ) -> Result<(), RenderError> {
         ready(rc)?;
-        let given = data.data();
         let parts = &Logging { registry, log };
         let setting = Setting {
             alloc,
             parts,
-            given,
+            given: data,
         };
         match render_tree(self, &setting, rc, out) {
             Ok(()) => Ok(()),
@@ -129,12 +130,11 @@ impl Renderable for TemplateElement {
         log: &L,
     ) -> Result<(), RenderError> {
         ready(rc)?;
-        let given = data.data();
         let parts = &Logging { registry, log };
         let setting = Setting {
             alloc,
             parts,
-            given,
+            given: data,
         };
         match render_element(self, &setting, rc, out) {
             Ok(()) => Ok(()),

@@ -2,6 +2,7 @@
 
 mod blocks_of_scope;
 mod contexts;
+mod decorators;
 mod helpers;
 mod names;
 mod registries;

@@ -84,13 +84,12 @@ impl Expand for Parameter {
         log: &L,
     ) -> Result<PathAndJson<'rc>, RenderError> {
         ready(rc)?;
-        let given = data.data();
         let parts = &Logging { registry, log };
         let answer = value::expand(
             &Setting {
                 alloc,
                 parts,
-                given,
+                given: data,
             },
             rc,
             self,
@@ -107,13 +106,12 @@ impl Expand for Parameter {
         log: &L,
     ) -> Result<CowStr<'rc>, RenderError> {
         ready(rc)?;
-        let given = data.data();
         let parts = &Logging { registry, log };
         let answer = value::expand_as_name(
             &Setting {
                 alloc,
                 parts,
-                given,
+                given: data,
             },
             rc,
             self,

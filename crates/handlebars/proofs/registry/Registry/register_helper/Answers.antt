@@ -10,10 +10,10 @@ returns-clause-ok c =
     let new : Registry = record c.args.self.now { helpers = c.insert.new.self } in
     on_ok_weaker c.insert.result
     (has_helper c.args.self.now new (string_bytes c.in_ok-name.name) c.args.name.now (Some (kind_of_entry c.args.def))
-    c.in_ok-name.ensures.ok refl refl)
+    c.in_ok-name.ensures.ok refl)
     c.insert.ensures.ok
 
 pub returns-clause-err : goal.returns-clause-err
 returns-clause-err c =
     let new : Registry = record c.args.self.now { helpers = c.insert.new.self } in
-    on_err_weaker c.insert.result (has_same_parts c.args.self.now new refl refl) c.insert.ensures.err
+    on_err_weaker c.insert.result (has_same_parts c.args.self.now new refl) c.insert.ensures.err

@@ -1,0 +1,109 @@
+//! Evaluating with a registry: carrying out decorators alone.
+
+ghost use Rattle.std.specs.Prelude.{◌≡◌, IsErrAnd, OnErr, OnOk, true, false};
+ghost use Rattle.handlebars_base.specs.Reasons.{Refusal, failed};
+ghost use Rattle.handlebars_base.specs.RenderRefusals.{refusal_of, plain_refusal};
+ghost use Rattle.handlebars_template.specs.Tree.{tree_name};
+ghost use Rattle.handlebars_template.specs.TreeView.{tree_view, element_view};
+ghost use Rattle.handlebars_meaning.specs.Evaluation.{eval_alone, eval_tree, renamed};
+ghost use Rattle.handlebars_meaning.specs.State.{Kept};
+ghost use Rattle.handlebars_meaning.specs.Steps.{Steps};
+ghost use Rattle.handlebars_render.specs.Silent.{Evals};
+ghost use Rattle.handlebars_render.specs.View.{state_of, state_with, root_of, has_failed, without_partials};
+ghost use Rattle.handlebars.specs.View.{setting_of};
+
+use crate::registry::Registry;
+use crate::render::logging::Logging;
+use handlebars_base::error::RenderError;
+use handlebars_render::context::RenderContext;
+use handlebars_render::evaluate::{eval_element, eval_tree};
+use handlebars_render::failure::{fail_after, ready};
+use handlebars_render::setting::Setting;
+use handlebars_scope::context::Context;
+use handlebars_template::template::{Template, TemplateElement};
+use log::Log;
+use std::alloc::Global;
+
+/// What can be evaluated: its decorators alone are carried out.
+pub trait Evaluable {
+    // What that means, step by step, and what becomes of a refusal of it.
+    ghost steps: { Self → Steps };
+
+    ghost seen: { Self → Refusal → Refusal };
+
+    /// Carries out the decorators, in order, and writes nothing. After a refusal the render context has failed:
+    /// it answers `Failed` from then on. The name of a template, or none, takes the place of the one in its error.
+    fn eval<L: Log>(
+        &self,
+        alloc: Global,
+        registry: &Registry,
+        data: &Context,
+        rc: &mut RenderContext,
+        log: &L,
+    ) -> Result<(), RenderError>
+        ensures evals { (kept : Kept) → has_failed rc.old ≡ false → Evals (setting_of registry.now «data».now) (steps self.now)
+            (seen self.now) (state_with kept rc.old) result (state_with kept rc.new) }
+        ensures failed { has_failed rc.old ≡ true
+            → IsErrAnd result (λ e. refusal_of e ≡ plain_refusal failed) × (rc.new ≡ rc.old) }
+        ensures root { root_of rc.new ≡ root_of rc.old }
+        ensures blocks { without_partials (state_of rc.new).blocks ≡ without_partials (state_of rc.old).blocks }
+        ensures recursive { (state_of rc.new).recursive ≡ (state_of rc.old).recursive }
+        ensures escapes { (state_of rc.new).escapes ≡ (state_of rc.old).escapes }
+        ensures ok { OnOk result (has_failed rc.new ≡ false) }
+        ensures err { OnErr result (has_failed rc.new ≡ true) };
+}
+
+impl Evaluable for Template {
+    ghost steps = { λ t. eval_tree (tree_view t) };
+
+    ghost seen = { λ t. renamed (tree_name (tree_view t)) };
+
+    fn eval<L: Log>(
+        &self,
+        alloc: Global,
+        registry: &Registry,
+        data: &Context,
+        rc: &mut RenderContext,
+        log: &L,
+    ) -> Result<(), RenderError> {
+        ready(rc)?;
+        let parts = &Logging { registry, log };
+        let setting = Setting {
+            alloc,
+            parts,
+            given: data,
+        };
+        match eval_tree(self, &setting, rc) {
+            Ok(()) => Ok(()),
+            Err(e) => fail_after(rc, Err(e.into_error())),
+        }
+    }
+}
+
+/// An element alone, which has no position: a refusal of it has none either, and no name.
+impl Evaluable for TemplateElement {
+    ghost steps = { λ e. eval_alone (element_view e) };
+
+    ghost seen = { λ e r. r };
+
+    fn eval<L: Log>(
+        &self,
+        alloc: Global,
+        registry: &Registry,
+        data: &Context,
+        rc: &mut RenderContext,
+        log: &L,
+    ) -> Result<(), RenderError> {
+        ready(rc)?;
+        let parts = &Logging { registry, log };
+        let setting = Setting {
+            alloc,
+            parts,
+            given: data,
+        };
+        match eval_element(self, &setting, rc) {
+            Ok(()) => Ok(()),
+            Err(e) => fail_after(rc, Err(e.into_error())),
+        }
+    }
+}
