@@ -6,3 +6,5 @@ mod ScopeTrees
 mod ScopeRows
 mod HelperTrees
 mod HelperRows
+mod OwnRows
+mod DecoratorRows

@@ -7,7 +7,7 @@ use Rattle.handlebars_meaning.specs.State.{Setting, State, first_state}
 use Rattle.handlebars_meaning.specs.Steps.{Task, Steps, Done, Refuse, Write, Get, Set, Ask, Do, Capture}
 use Rattle.handlebars_meaning.specs.Means.{todo, render_tree}
 use Rattle.handlebars_meaning.specs.Runs.{Outcome, Ended, Refused, Faulted, NoMemory, Runs, done, refused, wrote, got, set, asked, did, did_over, captured, captured_over, stop}
-use Rattle.handlebars_worked.proofs.Answered.{answer_in}
+use Rattle.handlebars_worked.proofs.Answered.{KnowsOwn, answer_in}
 use Rattle.handlebars_meaning.specs.Answer.{Beginning, a_tree, rendered, RenderAnswers, GivesText}
 
 -- a run of these steps from this state
@@ -33,24 +33,25 @@ behind_capture (Faulted f) r rest = record { pieces = _; outcome = _; runs = cap
 behind_capture NoMemory r rest = record { pieces = _; outcome = _; runs = captured_over r tt }
 
 -- Where the steps don't suffice, it stops on the way.
-abbrev pub run_of : ℕ → (p : Setting) (k : Steps) (s : State) → RunFrom p k s
-run_of zero p k s = record { pieces = _; outcome = _; runs = stop }
-run_of (suc n) p Done s = record { pieces = _; outcome = _; runs = done }
-run_of (suc n) p (Refuse r) s = record { pieces = _; outcome = _; runs = refused }
-run_of (suc n) p (Write w xs k) s = record { pieces = _; outcome = _; runs = wrote (run_of n p k s).runs }
-run_of (suc n) p (Get f) s = record { pieces = _; outcome = _; runs = got (run_of n p (f s) s).runs }
-run_of (suc n) p (Set next k) s = record { pieces = _; outcome = _; runs = set (run_of n p k next).runs }
-run_of (suc n) p (Ask q f) s =
-    let a = answer_in p s q in
-    record { pieces = _; outcome = _; runs = asked a.0 a.1 (run_of n p (f a.0) s).runs }
-run_of (suc n) p (Do t k) s =
-    let r = run_of n p (todo t) s in behind_part r.outcome r.runs (λ next. run_of n p k next)
-run_of (suc n) p (Capture m f) s =
-    let r = run_of n p m s in behind_capture r.outcome r.runs (λ next. run_of n p (f r.pieces) next)
+abbrev pub run_of : ℕ → (p : Setting) (own : KnowsOwn p.parts.own) (k : Steps) (s : State) → RunFrom p k s
+run_of zero p own k s = record { pieces = _; outcome = _; runs = stop }
+run_of (suc n) p own Done s = record { pieces = _; outcome = _; runs = done }
+run_of (suc n) p own (Refuse r) s = record { pieces = _; outcome = _; runs = refused }
+run_of (suc n) p own (Write w xs k) s = record { pieces = _; outcome = _; runs = wrote (run_of n p own k s).runs }
+run_of (suc n) p own (Get f) s = record { pieces = _; outcome = _; runs = got (run_of n p own (f s) s).runs }
+run_of (suc n) p own (Set next k) s = record { pieces = _; outcome = _; runs = set (run_of n p own k next).runs }
+run_of (suc n) p own (Ask q f) s =
+    let a = answer_in p own s q in
+    record { pieces = _; outcome = _; runs = asked a.0 a.1 (run_of n p own (f a.0) s).runs }
+run_of (suc n) p own (Do t k) s =
+    let r = run_of n p own (todo t) s in behind_part r.outcome r.runs (λ next. run_of n p own k next)
+run_of (suc n) p own (Capture m f) s =
+    let r = run_of n p own m s in behind_capture r.outcome r.runs (λ next. run_of n p own (f r.pieces) next)
 
 -- the run of a whole tree, where it takes less than a hundred steps in depth
-abbrev pub tree_run : (p : Setting) (t : Tree) → RunFrom p (render_tree t) (first_state p.parts.recursive)
-tree_run p t = run_of 99 p (render_tree t) (first_state p.parts.recursive)
+abbrev pub tree_run : (p : Setting) (own : KnowsOwn p.parts.own) (t : Tree)
+    → RunFrom p (render_tree t) (first_state p.parts.recursive)
+tree_run p own t = run_of 99 p own (render_tree t) (first_state p.parts.recursive)
 
 -- what a run gives as a text
 abbrev pub Gives : List Piece → Outcome → Text → Type 0

@@ -11,7 +11,11 @@ use Rattle.handlebars_base.specs.Reasons.{Reason, missing_variable, param_not_fo
 use Rattle.handlebars_tags.specs.Options.{no_options}
 use Rattle.handlebars_meaning.specs.Pieces.{Piece, of_text}
 use Rattle.handlebars_meaning.specs.Sites.{first_tree, element_in}
-use Rattle.handlebars_helpers.specs.Choice.{Kind, kind_len, built_in}
+use Rattle.handlebars_helpers.specs.Callee.{Callee, built, first_callee}
+use Rattle.handlebars_helpers.specs.Choice.{kind_len}
+use Rattle.handlebars_helpers.specs.Decoration.{built_in_decorator}
+use Rattle.handlebars_helpers.specs.Own.{no_own}
+use Rattle.handlebars_helpers.specs.Escaping.{for_html, for_plain}
 use Rattle.handlebars_meaning.specs.State.{Setting}
 use Rattle.handlebars_meaning.specs.Runs.{Refused}
 use Rattle.handlebars_meaning.specs.Answer.{FromSource, RenderAnswers}
@@ -105,7 +109,7 @@ LogRow = Gives (over one) (codes "{{log a}}") []
 
 -- a run in strict mode, with the helpers that every registry begins with
 abbrev pub strict_over : Data → Setting
-strict_over given = record { given = given; parts = record { helper = built_in; strict = true; recursive = false } }
+strict_over given = record { given = given; parts = record { helper = first_callee; own = no_own; decorator = built_in_decorator; escape = for_html; strict = true; recursive = false } }
 
 -- In strict mode a missing value is refused, by its text as written.
 abbrev pub StrictRow : Type 0
@@ -115,19 +119,29 @@ StrictRow = IsRefusedAt (strict_over nothing_given) (codes "{{x}}") [] 1 (missin
 abbrev pub StrictNullRow : Type 0
 StrictNullRow = Gives (strict_over (with (codes "x") null)) (codes "{{x}}") []
 
+-- ---- other escapes
+
+-- a run that escapes values for plain text
+abbrev pub plain_over : Data → Setting
+plain_over given = record { given = given; parts = record { helper = first_callee; own = no_own; decorator = built_in_decorator; escape = for_plain; strict = false; recursive = false } }
+
+-- For plain text a mark of html is written as it is.
+abbrev pub PlainRow : Type 0
+PlainRow = Gives (plain_over (with (codes "x") (string (codes "<")))) (codes "{{x}}") (codes "<")
+
 -- ---- other helpers
 
 -- the helpers that every registry begins with, but this one or none under a name
-abbrev pub built_in_but : Text → Option Kind → Text → Option Kind
-built_in_but name kind other = cond (bytes_eq name other) kind (built_in other)
+abbrev pub built_in_but : Text → Option Callee → Text → Option Callee
+built_in_but name callee other = cond (bytes_eq name other) callee (first_callee other)
 
 -- a run over data, with other helpers
-abbrev pub over_with : (Text → Option Kind) → Data → Setting
-over_with helper given = record { given = given; parts = record { helper = helper; strict = false; recursive = false } }
+abbrev pub over_with : (Text → Option Callee) → Data → Setting
+over_with helper given = record { given = given; parts = record { helper = helper; own = no_own; decorator = built_in_decorator; escape = for_html; strict = false; recursive = false } }
 
 -- A call whose name has no helper calls the hook `helperMissing`, here `len`, over any data.
 abbrev pub HookRow : Type 0
-HookRow = (given : Data) → Gives (over_with (built_in_but (codes "helperMissing") (Some kind_len)) given)
+HookRow = (given : Data) → Gives (over_with (built_in_but (codes "helperMissing") (Some (built kind_len))) given)
     (codes "{{x \"ab\"}}") (codes "2")
 
 -- Without a helper of that name `len` stands for its value.

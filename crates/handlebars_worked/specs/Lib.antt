@@ -2,3 +2,5 @@ pub mod SourceRows
 pub mod Rows
 pub mod ScopeRows
 pub mod HelperRows
+pub mod OwnRows
+pub mod DecoratorRows

@@ -15,7 +15,10 @@ use Rattle.handlebars_template.specs.Tree.{Tree, tree, elements_of, Element, htm
 use Rattle.handlebars_meaning.specs.Pieces.{Piece, of_text}
 use Rattle.handlebars_scope.specs.Scopes.{empty_frame}
 use Rattle.handlebars_meaning.specs.Sites.{first_tree, element_in}
-use Rattle.handlebars_helpers.specs.Choice.{built_in}
+use Rattle.handlebars_helpers.specs.Decoration.{built_in_decorator}
+use Rattle.handlebars_helpers.specs.Callee.{first_callee}
+use Rattle.handlebars_helpers.specs.Own.{no_own}
+use Rattle.handlebars_helpers.specs.Escaping.{for_html}
 use Rattle.handlebars_meaning.specs.State.{Setting, State}
 use Rattle.handlebars_meaning.specs.Values.{HasValue}
 use Rattle.handlebars_meaning.specs.Steps.{◌>>=◌, ◌>>◌, run, write, become, capture}
@@ -29,7 +32,7 @@ with key d = object (member key d no_members)
 
 -- a run over data, with the helpers that every registry begins with
 abbrev pub over : Data → Setting
-over given = record { given = given; parts = record { helper = built_in; strict = false; recursive = false } }
+over given = record { given = given; parts = record { helper = first_callee; own = no_own; decorator = built_in_decorator; escape = for_html; strict = false; recursive = false } }
 
 -- The empty source gives the empty text, over any data.
 abbrev pub EmptyRow : Type 0
@@ -191,5 +194,5 @@ InnerIfRow = (a recursive : Bool) (s : State)
 
 -- What is captured is told to what comes next, which here writes it once, and the run goes on from the state behind it.
 abbrev pub CaptureRow : Type 0
-CaptureRow = (p : Setting) (s next : State) (x : Piece)
-    → Runs p (run (capture (write false (x ∷ []) >> become next) >>= λ told. write false told)) s (x ∷ []) (Ended next)
+CaptureRow = (given : Data) (s next : State) (x : Piece)
+    → Runs (over given) (run (capture (write false (x ∷ []) >> become next) >>= λ told. write false told)) s (x ∷ []) (Ended next)

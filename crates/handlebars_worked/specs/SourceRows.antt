@@ -5,9 +5,9 @@ use Rattle.handlebars_base.specs.Bytes.{Text, backslash, newline}
 use Rattle.handlebars_base.specs.Path.{Segment, named, up, relative}
 use Rattle.handlebars_lines.specs.Parameter.{left_parenthesis, right_parenthesis}
 use Rattle.handlebars_template.specs.Place.{Place}
-use Rattle.handlebars_template.specs.Tree.{Tree, tree, empty_tree, Element, no_elements, element, raw_string, html_expression, expression, Param, name, path, literal, subexpression, args, no_arguments, no_params, param, no_pairs, pair, no_binding, no_body}
+use Rattle.handlebars_template.specs.Tree.{Tree, tree, empty_tree, Element, no_elements, element, raw_string, html_expression, expression, decorator_expression, decorator_block, Decorator, decorator, Body, Param, name, path, literal, subexpression, args, no_arguments, no_params, param, no_pairs, pair, no_binding, no_body}
 use Rattle.handlebars_template.specs.Calls.{plain_call, invalid}
-use Rattle.handlebars_template.specs.Nest.{helper_opening, raw_opening, Opening, mismatched, Placed, body_with, block_of}
+use Rattle.handlebars_template.specs.Nest.{helper_opening, raw_opening, decorator_opening, Opening, mismatched, Placed, body_with, block_of}
 use Rattle.handlebars_tags.specs.Options.{no_options}
 use Rattle.handlebars_template.specs.Compile.{Compiles, compiled, refused, syntax_refusal, unreadable_tag, refusal_for}
 
@@ -184,6 +184,26 @@ RawRow =
     Compiles (codes "a{{{{raw}}}}{{content}}{{{{/raw}}}}") no_options
     (compiled (text_and_element (codes "a") raw_block (at 1 2)))
 
+-- ---- decorators
+
+-- the decorator `a` with a parameter `b` and this body
+abbrev pub decorator_a : Bool → Body → Decorator
+decorator_a indent b =
+    decorator (name (codes "a")) (args (param (path_to (codes "b")) no_params) no_pairs) b
+    (record { indent = None; indent_before_write = indent })
+
+-- Alone on its line, so its mark is set, and the line's end goes with it.
+abbrev pub DecoratorRow : Type 0
+DecoratorRow =
+    Compiles (codes "{{*a b}}\ny") no_options
+    (compiled (block_and_text (decorator_expression (decorator_a true no_body)) (codes "y") (at 1 9)))
+
+-- A close without a name ends the block of a decorator.
+abbrev pub DecoratorBlockRow : Type 0
+DecoratorBlockRow =
+    Compiles (codes "{{#*a b}}x{{/}}") no_options
+    (compiled (alone (decorator_block (decorator_a false (body_with (words 1 10 (codes "x") ∷ []))))))
+
 -- ---- refusals
 
 -- the source is refused with this message, at this place
@@ -214,6 +234,15 @@ abbrev pub OtherNameRow : Type 0
 OtherNameRow =
     Compiles (codes "{{#if a}}x{{/unless}}") no_options
     (refused (refusal_for no_options (mismatched helper_opening (codes "if") (codes "unless") (at 1 11))))
+
+-- In the block of a decorator no inverse stands, and a close by another name is refused.
+abbrev pub DecoratorInverseRow : Type 0
+DecoratorInverseRow = IsRefused (codes "{{#*a b}}x{{else}}y{{/a}}") (codes "unexpected tag") (at 1 11)
+
+abbrev pub DecoratorNameRow : Type 0
+DecoratorNameRow =
+    Compiles (codes "{{#*a b}}x{{/b}}") no_options
+    (refused (refusal_for no_options (mismatched decorator_opening (codes "a") (codes "b") (at 1 11))))
 
 -- a literal with no value
 abbrev pub NumberRow : Type 0

@@ -1,6 +1,6 @@
 //! Worked sources of helpers, and values that they compare.
 
-ghost use Rattle.handlebars_worked.specs.HelperRows.{RangeRow, SpelledRow, MinusZeroRow, ZeroInFrontRow, DigitsRow, WordRow, BooleanBlockRow, InnerBooleanRow, OneValueRow, LenRow, LenAloneRow, LogRow, StrictRow, StrictNullRow, HookRow, UnregisteredRow};
+ghost use Rattle.handlebars_worked.specs.HelperRows.{RangeRow, SpelledRow, MinusZeroRow, ZeroInFrontRow, DigitsRow, WordRow, BooleanBlockRow, InnerBooleanRow, OneValueRow, LenRow, LenAloneRow, LogRow, StrictRow, StrictNullRow, PlainRow, HookRow, UnregisteredRow};
 
 /// How some values compare, and what some sources of helpers answer over some data, in strict mode
 /// or not, with the helpers that every registry begins with or with others.
@@ -19,6 +19,7 @@ pub fn worked_helpers()
     ensures log { LogRow }
     ensures strict { StrictRow }
     ensures strict_null { StrictNullRow }
+    ensures plain { PlainRow }
     ensures hook { HookRow }
     ensures unregistered { UnregisteredRow }
 {}

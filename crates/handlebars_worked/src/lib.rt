@@ -2,12 +2,16 @@
 //! nothing: its contract is what is worked out.
 #![tactic(auto)]
 
+mod decorators;
 mod helpers;
+mod own;
 mod rows;
 mod scopes;
 mod sources;
 
+pub use decorators::worked_decorators;
 pub use helpers::worked_helpers;
+pub use own::worked_own_helpers;
 pub use rows::worked_rows;
 pub use scopes::worked_scopes;
 pub use sources::worked_sources;

@@ -1,6 +1,6 @@
 //! Worked sources, each with its tree or its refusal.
 
-ghost use Rattle.handlebars_worked.specs.SourceRows.{EmptyRow, ValueRow, EscapedRow, MemberRow, UnclosedRow, PlaceRow, HtmlRow, AmpersandRow, CallRow, NestedRow, UpRow, ChainRow, LinesRow, TildeRow, InverseRow, RawRow, ElseRow, CloseRow, OpenRow, DeepRow, OtherNameRow, NumberRow};
+ghost use Rattle.handlebars_worked.specs.SourceRows.{EmptyRow, ValueRow, EscapedRow, MemberRow, UnclosedRow, PlaceRow, HtmlRow, AmpersandRow, CallRow, NestedRow, UpRow, ChainRow, LinesRow, TildeRow, InverseRow, RawRow, ElseRow, CloseRow, OpenRow, DeepRow, OtherNameRow, NumberRow, DecoratorRow, DecoratorBlockRow, DecoratorInverseRow, DecoratorNameRow};
 
 /// What some sources compile to.
 pub fn worked_sources()
@@ -26,4 +26,8 @@ pub fn worked_sources()
     ensures deep_call { DeepRow }
     ensures other_name { OtherNameRow }
     ensures number_row { NumberRow }
+    ensures decorator_tag { DecoratorRow }
+    ensures decorator_block { DecoratorBlockRow }
+    ensures decorator_inverse { DecoratorInverseRow }
+    ensures decorator_name { DecoratorNameRow }
 {}

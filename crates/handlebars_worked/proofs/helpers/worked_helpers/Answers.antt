@@ -1,4 +1,4 @@
-use Rattle.handlebars_worked.proofs.HelperRows.{range_row, spelled_row, minus_zero_row, zero_in_front_row, digits_row, word_row, boolean_block_row, inner_boolean_row, one_value_row, len_row, len_alone_row, log_row, strict_row, strict_null_row, hook_row, unregistered_row}
+use Rattle.handlebars_worked.proofs.HelperRows.{range_row, spelled_row, minus_zero_row, zero_in_front_row, digits_row, word_row, boolean_block_row, inner_boolean_row, one_value_row, len_row, len_alone_row, log_row, strict_row, strict_null_row, plain_row, hook_row, unregistered_row}
 use Rattle.handlebars_worked.proofs.helpers.worked_helpers.Goals as goal
 
 pub returns : goal.returns
@@ -17,6 +17,7 @@ returns c = record {
   log = log_row;
   strict = strict_row;
   strict_null = strict_null_row;
+  plain = plain_row;
   hook = hook_row;
   unregistered = unregistered_row;
 }

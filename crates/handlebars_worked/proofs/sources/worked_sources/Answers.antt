@@ -1,4 +1,4 @@
-use Rattle.handlebars_worked.proofs.SourceRows.{empty_row, value_row, escaped_row, member_row, unclosed_row, place_row, html_row, ampersand_row, call_row, nested_row, up_row, chain_row, lines_row, tilde_row, inverse_row, raw_row, else_row, close_row, open_row, deep_row, other_name_row, number_row}
+use Rattle.handlebars_worked.proofs.SourceRows.{empty_row, value_row, escaped_row, member_row, unclosed_row, place_row, html_row, ampersand_row, call_row, nested_row, up_row, chain_row, lines_row, tilde_row, inverse_row, raw_row, else_row, close_row, open_row, deep_row, other_name_row, number_row, decorator_row, decorator_block_row, decorator_inverse_row, decorator_name_row}
 use Rattle.handlebars_worked.proofs.sources.worked_sources.Goals as goal
 
 pub returns-clause-empty : goal.returns-clause-empty
@@ -66,3 +66,15 @@ returns-clause-number_row c = number_row
 
 pub returns-clause-deep_call : goal.returns-clause-deep_call
 returns-clause-deep_call c = deep_row
+
+pub returns-clause-decorator_tag : goal.returns-clause-decorator_tag
+returns-clause-decorator_tag c = decorator_row
+
+pub returns-clause-decorator_block : goal.returns-clause-decorator_block
+returns-clause-decorator_block c = decorator_block_row
+
+pub returns-clause-decorator_inverse : goal.returns-clause-decorator_inverse
+returns-clause-decorator_inverse c = decorator_inverse_row
+
+pub returns-clause-decorator_name : goal.returns-clause-decorator_name
+returns-clause-decorator_name c = decorator_name_row
