@@ -2,6 +2,7 @@
 
 use crate::failure::RowFailure;
 use crate::helpers::helper_named;
+use handlebars_helpers::escape::EscapeKind;
 use serde_json::{Map, Value as JsonValue};
 use std::alloc::{AllocError, Global};
 use std::io::ErrorKind;
@@ -124,6 +125,27 @@ fn all_helpers(members: &Map<String, JsonValue>) -> bool {
         }
     }
     true
+}
+
+/// Sets the field to a kind of escape, by its name.
+pub fn set_escape(
+    field: &mut Option<EscapeKind>,
+    name: String,
+    value: &JsonValue,
+) -> Result<(), RowFailure> {
+    let Some(kind) = escape(value) else {
+        return Err(RowFailure::Field(name, "is no kind of escape"));
+    };
+    *field = Some(kind);
+    Ok(())
+}
+
+fn escape(value: &JsonValue) -> Option<EscapeKind> {
+    match value.as_str()? {
+        "html" => Some(EscapeKind::Html),
+        "plain" => Some(EscapeKind::Plain),
+        _ => None,
+    }
 }
 
 /// Sets the field to an array of lines, each a level and a text.

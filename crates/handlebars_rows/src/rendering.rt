@@ -4,6 +4,7 @@ use crate::failure::RowFailure;
 use crate::fields;
 use crate::outcome::{Outcome, Refusal};
 use crate::told::Wanted;
+use handlebars_helpers::escape::EscapeKind;
 use serde_json::{Map, Value as JsonValue};
 use std::alloc::Global;
 use std::fmt;
@@ -15,6 +16,8 @@ pub struct Rendering {
     pub templates: Option<Map<String, JsonValue>>,
     /// Names and built-in helpers, which are texts; a name with null has none.
     pub helpers: Option<Map<String, JsonValue>>,
+    /// How values are escaped, where it is said.
+    pub escape: Option<EscapeKind>,
     /// Whether the mode is strict.
     pub strict: bool,
     /// Whether lookup is recursive.
@@ -33,6 +36,7 @@ impl Drop for Rendering {
         let Rendering {
             templates: _,
             helpers: _,
+            escape: _,
             strict: _,
             recursive: _,
             rendered: _,
@@ -77,6 +81,7 @@ impl Rendering {
 struct Fields {
     templates: Option<Map<String, JsonValue>>,
     helpers: Option<Map<String, JsonValue>>,
+    escape: Option<EscapeKind>,
     strict: bool,
     recursive: bool,
     source: Option<String>,
@@ -98,6 +103,7 @@ impl Drop for Fields {
         let Fields {
             templates: _,
             helpers: _,
+            escape: _,
             strict: _,
             recursive: _,
             source: _,
@@ -121,6 +127,7 @@ impl Fields {
         match name.as_str() {
             "templates" => fields::set_texts(&mut self.templates, name, value),
             "helpers" => fields::set_helpers(&mut self.helpers, name, value),
+            "escape" => fields::set_escape(&mut self.escape, name, &value),
             "strict" => fields::set_boolean(&mut self.strict, name, &value),
             "recursive" => fields::set_boolean(&mut self.recursive, name, &value),
             "source" => fields::set_text(&mut self.source, alloc, name, value),
@@ -205,6 +212,7 @@ impl Fields {
         let Fields {
             templates,
             helpers,
+            escape,
             strict,
             recursive,
             source: _,
@@ -229,6 +237,7 @@ impl Fields {
         Rendering {
             templates,
             helpers,
+            escape,
             strict,
             recursive,
             rendered,

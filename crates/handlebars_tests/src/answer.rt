@@ -4,7 +4,7 @@ ghost use Rattle.std.specs.Prelude.{◌≡◌, IfOk, IsTrue, IfSome, Some, is_so
 ghost use Rattle.handlebars_rows.specs.Outcomes.{outcome_view, handed_of, handed_out};
 
 use handlebars::{
-    Context, HelperEntry, JsonValue, NoFiles, Registry, RenderContext, RenderError,
+    Context, EscapeKind, HelperEntry, JsonValue, NoFiles, Registry, RenderContext, RenderError,
     RenderErrorReason, Renderable, Template,
 };
 use handlebars_rows::bounded::Bounded;
@@ -141,6 +141,9 @@ fn registry_of(alloc: Global, row: &Rendering) -> Result<Registry, RenderError> 
     if let Some(helpers) = &row.helpers {
         register_helpers(&mut registry, helpers)?;
     }
+    if let Some(kind) = &row.escape {
+        register_escape(&mut registry, kind);
+    }
     registry.set_strict_mode(row.strict);
     registry.set_recursive_lookup(row.recursive);
     if let Some(templates) = &row.templates {
@@ -163,6 +166,15 @@ fn register_helpers(
         }
     }
     Ok(())
+}
+
+// `Html` is registered behind `Plain`, in the place of it.
+fn register_escape(registry: &mut Registry, kind: &EscapeKind) {
+    registry.register_escape_fn(EscapeKind::Plain);
+    match kind {
+        EscapeKind::Html => registry.register_escape_fn(EscapeKind::Html),
+        EscapeKind::Plain => {}
+    }
 }
 
 fn registry_text(alloc: Global, row: &Rendering, log: &Memory) -> Result<String, RenderError> {
