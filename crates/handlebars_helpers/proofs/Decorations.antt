@@ -1,5 +1,5 @@
 -- The table of decorators, and what `inline` does.
-use Rattle.std.proofs.Common.{◌≡◌, cond, [], Some, None, option_map, String, Global, codes, string_bytes, bytes_eq, nat_cmp, refl, ap, ◌∙◌}
+use Rattle.std.proofs.Common.{◌≡◌, cond, [], ◌∷◌, Some, None, option_map, String, Global, codes, string_bytes, bytes_eq, nat_cmp, refl, ap, ◌∙◌}
 use Rattle.std.proofs.lemmas.Cmp.{nat_list_eq_equiv}
 use Rattle.std.proofs.lemmas.Map.Made.{IsDistinct-from_count, update_all_none}
 use Rattle.std.proofs.lemmas.Map.Text.{btree_map_updates_text}
@@ -18,7 +18,7 @@ use Rattle.handlebars_base.specs.Scoped.{data_in}
 use Rattle.handlebars_base.proofs.OptionBinds.{option_map-cond}
 use Rattle.handlebars_template.specs.Tree.{Tree, Body, no_body, body}
 use Rattle.handlebars_helpers.specs.CallView.{param_at}
-use Rattle.handlebars_helpers.specs.Decoration.{kind_inline, DecoratorView, sets_partial, built_in_decorators, built_in_decorator, by_text, by_body, inline_decoration}
+use Rattle.handlebars_helpers.specs.Decoration.{kind_inline, DecoratorView, sets_partial, built_in_decorators, built_in_decorator, by_text, by_body, inline_deeds}
 use Rattle.handlebars_helpers.specs.DecoratorsView.{decorator_at, decorator_kind}
 use Rattle.handlebars_helpers.specs.declared.decorators.DecoratorEntry.{DecoratorEntry}
 
@@ -27,14 +27,14 @@ use Rattle.handlebars_helpers.specs.declared.decorators.DecoratorEntry.{Decorato
 -- `inline`, inserted into the empty map
 pub decorator_at-first : (m n : BTreeMap (String Global) DecoratorEntry) (key : String Global) (entry : DecoratorEntry)
     → m.entries ≡ [] → UpdatesBy string_cmp (string_cmp key) m n (Some entry) → string_bytes key ≡ codes "inline"
-    → decorator_kind entry ≡ kind_inline → (name : Text) → decorator_at name n ≡ built_in_decorator name
+    → ((n : Text) → decorator_kind n entry ≡ kind_inline) → (name : Text) → decorator_at name n ≡ built_in_decorator name
 decorator_at-first m n key entry empty updates is_name is_kind name =
-    ap (option_map decorator_kind) (btree_map_updates_text (string_bytes key) m n (Some entry) updates name)
-    ∙ ap (λ es. option_map decorator_kind (cond (bytes_eq (string_bytes key) name) (Some entry)
+    ap (option_map (decorator_kind name)) (btree_map_updates_text (string_bytes key) m n (Some entry) updates name)
+    ∙ ap (λ es. option_map (decorator_kind name) (cond (bytes_eq (string_bytes key) name) (Some entry)
     (lookup (is_at (λ k. slice_cmp nat_cmp name (string_bytes k))) es))) empty
-    ∙ option_map-cond decorator_kind (bytes_eq (string_bytes key) name) entry None
-    ∙ ap (λ z. cond (bytes_eq z name) (Some (decorator_kind entry)) None) is_name
-    ∙ ap (λ z. cond (bytes_eq (codes "inline") name) (Some z) None) is_kind
+    ∙ option_map-cond (decorator_kind name) (bytes_eq (string_bytes key) name) entry None
+    ∙ ap (λ z. cond (bytes_eq z name) (Some (decorator_kind name entry)) None) is_name
+    ∙ ap (λ z. cond (bytes_eq (codes "inline") name) (Some z) None) (is_kind name)
     ∙ update_all_none nat_list_eq_equiv bytes_eq (λ x y. refl) built_in_decorators name
     (IsDistinct-from_count nat_list_eq_equiv (keys_of built_in_decorators) refl)
 
@@ -67,9 +67,9 @@ by_body-refuses (body t) f r is = cc
 -- a tag without a body, behind a name
 pub inline-refuses : (v : DecoratorView) (p : PathAndData) (name : Text) (r : Refusal) → param_at 0 v.call ≡ Some p
     → by_text (data_in p.found) (λ t. gives t) ≡ gives name → by_body v.body (λ t. gives t) ≡ refuses r
-    → inline_decoration v ≡ refuses r
+    → inline_deeds v ≡ refuses r
 inline-refuses v p name r first is_text lacks =
-    ap (λ o. with_or o (λ q. by_text (data_in q.found) (λ n. by_body v.body (λ t. gives (sets_partial n t))))
+    ap (λ o. with_or o (λ q. by_text (data_in q.found) (λ n. by_body v.body (λ t. gives (sets_partial n ∷ []))))
     (refuses (plain_refusal (param_not_found_for_index (codes "inline") 0)))) first
-    ∙ by_text-gives (data_in p.found) (λ n. by_body v.body (λ t. gives (sets_partial n t))) name is_text
-    ∙ by_body-refuses v.body (λ t. gives (sets_partial name t)) r lacks
+    ∙ by_text-gives (data_in p.found) (λ n. by_body v.body (λ t. gives (sets_partial n ∷ []))) name is_text
+    ∙ by_body-refuses v.body (λ t. gives (sets_partial name ∷ [])) r lacks

@@ -1,10 +1,12 @@
 -- What a call shows of itself, as plain data.
-use Rattle.std.specs.Prelude.{ℕ, Bool, true, false, List, Option, None, Some}
+use Rattle.std.specs.Prelude.{ℕ, Bool, true, false, List, ◌++◌, map, Option, None, Some}
+use Rattle.serde_json.specs.Data.{Data}
 use Rattle.std.specs.List.{slice_get}
 use Rattle.std.specs.Map.{lookup}
 use Rattle.std.specs.Str.{bytes_eq}
 use Rattle.handlebars_base.specs.Bytes.{Text}
 use Rattle.handlebars_base.specs.PathAndData.{PathAndData}
+use Rattle.handlebars_base.specs.Scoped.{value}
 use Rattle.handlebars_base.specs.Optional.{◌>>=◌}
 use Rattle.handlebars_template.specs.Tree.{Binding, no_binding, single, both, Body, as_name}
 
@@ -48,3 +50,13 @@ abbrev pub both_names : Binding → Option (Text × Text)
 both_names no_binding = None
 both_names (single p) = None
 both_names (both p q) = as_name p >>= λ first. as_name q >>= λ second. Some (first, second)
+
+-- ---- values that a local helper has
+
+-- a value that no text and no path of the template leads to
+abbrev pub plain_value : Data → PathAndData
+plain_value d = record { relative_path = None; found = value d; is_constant = false }
+
+-- the values go before the parameters of the call
+abbrev pub with_constants : List Data → HelperView → HelperView
+with_constants ds h = record h { call = record h.call { params = map plain_value ds ++ h.call.params } }

@@ -1,4 +1,4 @@
--- The built-in decorators by their names, and what each does for the view of its tag.
+-- The decorators that every registry begins with, by their names, and what decorators do.
 use Rattle.std.specs.Prelude.{List, [], ◌∷◌, Option, codes}
 use Rattle.std.specs.Map.{lookup}
 use Rattle.std.specs.Str.{bytes_eq}
@@ -9,10 +9,13 @@ use Rattle.handlebars_base.specs.Reasons.{invalid_param_type, block_content_requ
 use Rattle.handlebars_base.specs.Scoped.{data_in}
 use Rattle.handlebars_template.specs.Tree.{Tree, Body, no_body, body}
 use Rattle.handlebars_helpers.specs.CallView.{CallView}
+use Rattle.handlebars_helpers.specs.Callee.{LocalHelper}
 use Rattle.handlebars_helpers.specs.Params.{by_param}
 
+-- `inline`, or a decorator of one's own, by its name
 pub data DecoratorKind : Type 0 where
   kind_inline : DecoratorKind
+  kind_own : Text → DecoratorKind
 
 -- the decorators that every registry begins with
 abbrev pub built_in_decorators : List (Text × DecoratorKind)
@@ -27,9 +30,13 @@ pub record DecoratorView : Type 0 where
   pub call : CallView
   pub body : Body
 
--- What a decorator does: it puts a template under a name in the nearest block of scope.
-pub data Decoration : Type 0 where
-  sets_partial : Text → Tree → Decoration
+-- A deed of a decorator: the data is changed; a name has a local helper; it has none any more; or the body of the tag is a
+-- partial of the nearest block of scope, under a name.
+pub data Deed : Type 0 where
+  sets_data : Data → Deed
+  binds : Text → LocalHelper → Deed
+  unbinds : Text → Deed
+  sets_partial : Text → Deed
 
 -- ---- `inline`
 
@@ -48,12 +55,7 @@ by_body no_body f = refuses_for block_content_required
 by_body (body t) f = f t
 
 -- The first parameter is the name of a partial, which is the body.
-abbrev pub inline_decoration : DecoratorView → Answer Decoration
-inline_decoration v =
+abbrev pub inline_deeds : DecoratorView → Answer (List Deed)
+inline_deeds v =
     by_param (codes "inline") 0 v.call (λ p. by_text (data_in p.found) (λ name. by_body v.body (λ t.
-    gives (sets_partial name t))))
-
--- ---- what each decorator does
-
-abbrev pub decorated : DecoratorKind → DecoratorView → Answer Decoration
-decorated kind_inline v = inline_decoration v
+    gives (sets_partial name ∷ []))))

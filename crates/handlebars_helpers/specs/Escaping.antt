@@ -1,30 +1,25 @@
 -- How the text of a value is escaped before it is written.
-use Rattle.std.specs.Prelude.{Bool, true, false}
+use Rattle.std.specs.Prelude.{◌≡◌}
+use Rattle.handlebars_base.specs.Answers.{Answer, gives}
 use Rattle.handlebars_base.specs.Bytes.{Text}
 use Rattle.handlebars_base.specs.Escape.{escaped}
-use Rattle.handlebars_helpers.specs.declared.escape.EscapeKind.{EscapeKind}
-use Rattle.handlebars_helpers.specs.declared.escape.EscapeKind.TheVariants.{Html, Plain}
 
--- for html, by its entities; for plain text, not at all
+-- for html, by its entities; for plain text, not at all; or by an escape function of one's own
 pub data Escaping : Type 0 where
   for_html : Escaping
   for_plain : Escaping
+  by_own : Escaping
 
-abbrev pub escaped_by : Escaping → Text → Text
-escaped_by for_html t = escaped t
-escaped_by for_plain t = t
+-- An escape function: the answers that it has for a text.
+abbrev pub OwnEscape : Type 1
+OwnEscape = Text → Answer Text → Type 0
 
--- what is written of a text, where escaping is on or off
-abbrev pub written_by : Escaping → Bool → Text → Text
-written_by k true t = escaped_by k t
-written_by k false t = t
+-- the answers that there are for a text, by the one of one's own where that is asked
+abbrev pub HasEscaped : Escaping → OwnEscape → Text → Answer Text → Type 0
+HasEscaped for_html own t a = a ≡ gives (escaped t)
+HasEscaped for_plain own t a = a ≡ gives t
+HasEscaped by_own own t a = own t a
 
--- whether entities are written
-abbrev pub gives_entities : Escaping → Bool → Bool
-gives_entities for_html on = on
-gives_entities for_plain on = false
-
--- what the code's case stands for
-abbrev pub escaping_of : EscapeKind → Escaping
-escaping_of Html = for_html
-escaping_of Plain = for_plain
+-- where none of one's own is registered, so that none is asked
+abbrev pub no_own_escape : OwnEscape
+no_own_escape t a = a ≡ gives t

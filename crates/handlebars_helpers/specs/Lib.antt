@@ -9,8 +9,10 @@ pub mod Choice
 pub mod Callee
 pub mod View
 pub mod Escaping
+pub mod EscapeView
 pub mod Marks
 pub mod HelpersView
 pub mod OwnView
 pub mod Decoration
+pub mod OwnDecorator
 pub mod DecoratorsView

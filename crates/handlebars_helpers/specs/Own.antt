@@ -33,9 +33,9 @@ pub record OwnHelper : Type 1 where
   pub has_steps : Asked → Answer (Option (List Step)) → Type 0
   pub has_offer : Asked → Answer Offer → Type 0
 
--- there is at most one answer
+-- there is at most one answer: two are one, though it is not told how
 abbrev pub HasOne : {A : Type 0} → (Answer A → Type 0) → Type 0
-HasOne {A = A} has = (x y : Answer A) → has x → has y → x ≡ y
+HasOne {A = A} has = (x y : Answer A) → has x → has y → ∥ x ≡ y ∥₁
 
 -- the law of helpers: to each question there is at most one answer
 pub record AnswersOnce (own : OwnHelper) : Type 0 where

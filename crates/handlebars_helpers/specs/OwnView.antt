@@ -13,6 +13,7 @@ use Rattle.handlebars_helpers.specs.Own.{Step, writes, renders_body, renders_inv
 use Rattle.handlebars_helpers.specs.View.{kind_of}
 use Rattle.handlebars_helpers.specs.declared.own.Callee.{Callee}
 use Rattle.handlebars_helpers.specs.declared.own.Callee.TheVariants.{Built, Own}
+use Rattle.handlebars_helpers.specs.declared.own.LocalHelper as declared
 use Rattle.handlebars_helpers.specs.declared.own.HelperStep.{HelperStep}
 use Rattle.handlebars_helpers.specs.declared.own.HelperStep.TheVariants.{Write, Body, Inverse, BodyIn}
 use Rattle.handlebars_helpers.specs.declared.own.HelperValue.{HelperValue}
@@ -22,6 +23,9 @@ use Rattle.handlebars_helpers.specs.declared.own.HelperValue.TheVariants.{NotOff
 abbrev pub callee_of : Text → Callee → plain.Callee
 callee_of name (Built b) = plain.built (kind_of b)
 callee_of name Own = plain.own name
+
+abbrev pub local_of : declared.LocalHelper → plain.LocalHelper
+local_of l = record { registered = string_bytes l.registered; constants = map view l.constants.items }
 
 abbrev pub step_of : HelperStep → Step
 step_of (Write t) = writes (string_bytes t)

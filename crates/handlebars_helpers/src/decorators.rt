@@ -1,18 +1,19 @@
 //! Decorators, which change how the rest is rendered and write nothing themselves.
 
-ghost use Rattle.std.specs.Prelude.{◌≡◌, IfOk, MatchResult};
+ghost use Rattle.std.specs.Prelude.{◌≡◌, ◌∷◌, [], IfOk};
 ghost use Rattle.serde_json.specs.View.{view};
 ghost use Rattle.handlebars_base.specs.Answers.{Answers, gives};
 ghost use Rattle.handlebars_base.specs.Bytes.{Text};
 ghost use Rattle.handlebars_template.specs.TreeView.{tree_view};
-ghost use Rattle.handlebars_helpers.specs.Decoration.{built_in_decorator, by_body, by_text, decorated, inline_decoration};
-ghost use Rattle.handlebars_helpers.specs.DecoratorsView.{decoration_of, decorator_at, decorator_kind, tag_view};
+ghost use Rattle.handlebars_helpers.specs.Decoration.{built_in_decorator, by_body, by_text, inline_deeds, sets_partial};
+ghost use Rattle.handlebars_helpers.specs.DecoratorsView.{decorator_at, tag_view};
 
 pub mod view;
 
 use crate::params::there;
 use handlebars_base::error::{RenderError, RenderErrorReason};
 use handlebars_base::json::value::Json;
+use handlebars_scope::context::Context;
 use handlebars_template::template::Template;
 use std::alloc::{AllocError, Global};
 use std::collections::BTreeMap;
@@ -34,32 +35,43 @@ pub fn built_in_decorators(alloc: Global) -> Result<BTreeMap<String, DecoratorEn
     Ok(decorators)
 }
 
-/// What a decorator does. It borrows what it is about from the view of the tag.
+/// What stands under a name of decorators.
+#[derive(Clone, Copy, Debug, PartialEq, Eq)]
+pub enum DecoratorKind {
+    /// `inline`.
+    Inline,
+    /// A decorator of one's own, which is asked by that name.
+    Own,
+}
+
+/// A deed of a decorator.
 #[derive(Drop)]
-pub enum Decoration<'d> {
-    /// The nearest block of scope has this template under this name from now on.
-    SetsPartial(&'d str, &'d Template),
+pub enum DecoratorStep {
+    /// The data of this context stands in the place of what was given from now on.
+    SetContext(Context),
+    /// Calls of the local name go to what is registered under another one, with the constants before
+    /// their parameters.
+    BindHelper {
+        local: String,
+        registered: String,
+        constants: Vec<Json>,
+    },
+    /// The name has no local helper any more.
+    UnbindHelper(String),
+    /// The body of the tag is a partial of the nearest block of scope under this name.
+    SetLocalPartial(String),
 }
 
-/// What a decorator does for a tag.
-pub fn decorate<'d>(
-    entry: &DecoratorEntry,
-    decorator: &'d Decorator,
-) -> Result<Decoration<'d>, RenderError>
-    ensures { Answers decoration_of result (decorated (decorator_kind entry.now) (tag_view decorator.now)) }
-{
-    match entry {
-        DecoratorEntry::Inline => inline(decorator),
-    }
-}
+/// What a decorator answers for a tag: its deeds, which are done in order.
+pub type DecoratorResult = Result<Vec<DecoratorStep>, RenderError>;
 
-// The partial of the name that the first parameter says.
-fn inline<'d>(decorator: &'d Decorator) -> Result<Decoration<'d>, RenderError>
-    ensures { Answers decoration_of result (inline_decoration (tag_view decorator.now)) }
+/// The name of the partial that `inline` makes of the body of a tag.
+pub fn inline<'d>(decorator: &'d Decorator) -> Result<&'d str, RenderError>
+    ensures { Answers (λ name. sets_partial name.now ∷ []) result (inline_deeds (tag_view decorator.now)) }
 {
     let name = text_of(there(decorator.param(0), "inline", 0)?.value())?;
-    let template = body_of(decorator)?;
-    Ok(Decoration::SetsPartial(name, template))
+    body_of(decorator)?;
+    Ok(name)
 }
 
 // The text that a value is.

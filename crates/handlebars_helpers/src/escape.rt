@@ -1,7 +1,7 @@
 //! How values are escaped.
 
 ghost use Rattle.std.specs.Prelude.{◌≡◌};
-ghost use Rattle.handlebars_helpers.specs.Escaping.{escaping_of, gives_entities};
+ghost use Rattle.handlebars_helpers.specs.EscapeView.{escaping_of, kind_escaping};
 
 /// How the text of a value is escaped before it is written.
 #[derive(Debug, Drop)]
@@ -12,14 +12,22 @@ pub enum EscapeKind {
     Plain,
 }
 
+/// How texts are escaped: for html, not at all, or by an escape function of one's own, which is to be asked.
+#[derive(Clone, Copy, Debug, PartialEq, Eq)]
+pub enum Escaping {
+    Html,
+    Plain,
+    Own,
+}
+
 impl EscapeKind {
-    /// Whether entities are written, where escaping is on or off.
-    pub fn gives_entities(&self, escapes: bool) -> bool
-        ensures { result ≡ gives_entities (escaping_of self.now) escapes }
+    /// Which of them it is.
+    pub fn escaping(&self) -> Escaping
+        ensures { escaping_of result ≡ kind_escaping self.now }
     {
         match self {
-            EscapeKind::Html => escapes,
-            EscapeKind::Plain => false,
+            EscapeKind::Html => Escaping::Html,
+            EscapeKind::Plain => Escaping::Plain,
         }
     }
 }

@@ -13,6 +13,22 @@ pub enum Callee {
     Own,
 }
 
+/// A local helper: the name that its calls go to, and the values before their parameters.
+pub struct LocalHelper {
+    pub registered: String,
+    pub constants: Vec<Json>,
+}
+
+// By hand, so that each place that lets one go is one call.
+impl Drop for LocalHelper {
+    fn drop(self) {
+        let LocalHelper {
+            registered: _,
+            constants: _,
+        } = self;
+    }
+}
+
 /// A step of the answer of a helper of one's own.
 #[derive(Drop)]
 pub enum HelperStep {

@@ -46,11 +46,11 @@ pub record RefusesWith (p : Setting) (begins : Beginning → Type 0) (r : Refusa
   pub pieces : List Piece
   pub answers : RenderAnswers p begins pieces (Refused r)
 
--- There is at most one answer, but for runs that stop on the way.
+-- There is at most one answer, but for runs that stop on the way: two are one, though it is not told how.
 abbrev pub HasOneAnswer : Setting → (Beginning → Type 0) → Type 0
 HasOneAnswer p begins = (ps qs : List Piece) (o q : Outcome)
     → RenderAnswers p begins ps o → RenderAnswers p begins qs q
-    → (IsStop o → ⊥) → (IsStop q → ⊥) → (ps ≡ qs) × (o ≡ q)
+    → (IsStop o → ⊥) → (IsStop q → ⊥) → ∥ (ps ≡ qs) × (o ≡ q) ∥₁
 
 -- The run of an answer comes to no site twice, and each of its pieces comes from the tree that it begins with: it is a
 -- part of a text of the tree, or of the value or the boolean helper's word that is written at its site in the state in

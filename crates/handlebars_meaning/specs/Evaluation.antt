@@ -1,5 +1,5 @@
 -- What is evaluated: the decorators of a tree or of an element alone, which are carried out with nothing rendered.
-use Rattle.std.specs.Prelude.{Option, None, []}
+use Rattle.std.specs.Prelude.{Option, []}
 use Rattle.handlebars_base.specs.Bytes.{Text}
 use Rattle.handlebars_base.specs.Reasons.{Refusal}
 use Rattle.handlebars_template.specs.Tree.{Tree, tree, Elements, no_elements, element, Element, raw_string, html_expression, expression, helper_block, decorator_expression, decorator_block, partial_expression, partial_block, comment}

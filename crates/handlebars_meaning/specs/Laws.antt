@@ -10,15 +10,15 @@ use Rattle.handlebars_meaning.specs.Runs.{Outcome, IsStop, Runs, Means}
 use Rattle.handlebars_meaning.specs.Origins.{HaveOrigins}
 use Rattle.handlebars_meaning.specs.Visits.{visits, ComeOnce}
 
--- two runs of the same steps that don't stop on the way are one
+-- two runs of the same steps that don't stop on the way are one, though it is not told how
 abbrev pub OneRun : Setting → Type 0
 OneRun p = (k : Steps) (s : State) (ps qs : List Piece) (o q : Outcome)
-    → Runs p k s ps o → Runs p k s qs q → (IsStop o → ⊥) → (IsStop q → ⊥) → (ps ≡ qs) × (o ≡ q)
+    → Runs p k s ps o → Runs p k s qs q → (IsStop o → ⊥) → (IsStop q → ⊥) → ∥ (ps ≡ qs) × (o ≡ q) ∥₁
 
 -- a run that stops on the way has written a beginning of what the whole run writes
 abbrev pub StopsInBeginning : Setting → Type 0
 StopsInBeginning p = (k : Steps) (s : State) (ps qs : List Piece) (o q : Outcome)
-    → Runs p k s ps o → Runs p k s qs q → IsStop o → (IsStop q → ⊥) → IsBeginning (join ps) (join qs)
+    → Runs p k s ps o → Runs p k s qs q → IsStop o → (IsStop q → ⊥) → ∥ IsBeginning (join ps) (join qs) ∥₁
 
 -- A tree's run comes to no site twice.
 abbrev pub ComesOnce : Setting → Type 0

@@ -1,18 +1,19 @@
 -- What a template means: what each of its elements does, step by step.
-use Rattle.std.specs.Prelude.{ℕ, ◌+◌, Bool, true, false, ◌&&◌, ◌||◌, if◌then◌else◌, List, Option, None, Some, slice_get}
-use Rattle.handlebars_base.specs.Reasons.{partial_not_found}
+use Rattle.std.specs.Prelude.{ℕ, ◌+◌, Bool, true, false, ◌&&◌, ◌||◌, if◌then◌else◌, List, [], ◌∷◌, Option, None, Some, slice_get}
+use Rattle.handlebars_base.specs.Bytes.{Text}
+use Rattle.handlebars_base.specs.Reasons.{block_content_required, partial_not_found}
 use Rattle.handlebars_base.specs.Scoped.{Found, walked, value, missing}
 use Rattle.handlebars_template.specs.Place.{Place}
-use Rattle.handlebars_template.specs.Tree.{Tree, tree, Elements, no_elements, element, Element, raw_string, html_expression, expression, helper_block, decorator_expression, decorator_block, partial_expression, partial_block, comment, Call, call_name, call_args, call_marks, is_value, Decorator, decorator_name, decorator_args, decorator_body}
+use Rattle.handlebars_template.specs.Tree.{Tree, tree, Elements, no_elements, element, Element, raw_string, html_expression, expression, helper_block, decorator_expression, decorator_block, partial_expression, partial_block, comment, Call, call_name, call_args, call_marks, is_value, Decorator, decorator_name, decorator_args, decorator_body, Body, no_body, body}
 use Rattle.handlebars_scope.specs.LineState.{LineState}
 use Rattle.handlebars_helpers.specs.CallView.{CallView, HelperView}
-use Rattle.handlebars_helpers.specs.Decoration.{DecoratorView}
-use Rattle.handlebars_helpers.specs.Callee.{Callee}
+use Rattle.handlebars_helpers.specs.Callee.{Target}
+use Rattle.handlebars_helpers.specs.Decoration.{DecoratorView, Deed, sets_data, binds, unbinds, sets_partial}
 use Rattle.handlebars_meaning.specs.CarryOut.{helper_call, carry_out, change}
 use Rattle.handlebars_meaning.specs.Pieces.{of_text}
-use Rattle.handlebars_meaning.specs.Questions.{value_of, view_of, helper_of, called_as, hook_for, choice_of, decorator_of, decoration_of}
+use Rattle.handlebars_meaning.specs.Questions.{value_of, view_of, helper_of, called_as, hook_for, choice_of, decorator_of, deeds_of}
 use Rattle.handlebars_meaning.specs.Sites.{TreeSite, first_tree, Site, element_in}
-use Rattle.handlebars_meaning.specs.State.{with_decoration}
+use Rattle.handlebars_meaning.specs.State.{with_nearest, with_partial, with_data, with_local, without_local}
 use Rattle.handlebars_meaning.specs.Steps.{Task, One, Whole, Steps, Done, Do, Prog, return, ◌>>=◌, ◌>>◌, run, refuse_for, ask, state, become, perform}
 use Rattle.handlebars_meaning.specs.Writing.{write_text, write_value}
 
@@ -50,11 +51,11 @@ in_bracket marked steps = do
 -- ---- calls
 
 -- What a helper chooses for a call of this view is carried out.
-abbrev pub render_chosen : Site → Callee → HelperView → Prog (Unit {0})
+abbrev pub render_chosen : Site → Target → HelperView → Prog (Unit {0})
 render_chosen site k h = ask (choice_of k h) >>= carry_out site h
 
 -- A helper is called in the bracket, for a block or an expression.
-abbrev pub render_helped : Site → Bool → Call → Callee → CallView → Prog (Unit {0})
+abbrev pub render_helped : Site → Bool → Call → Target → CallView → Prog (Unit {0})
 render_helped site block c k v =
     in_bracket (call_marks c).indent_before_write (render_chosen site k (helper_call block c v))
 
@@ -68,7 +69,7 @@ render_call site block c = do
 -- ---- lone expressions
 
 -- The hook is called for a missing value, and with no bracket. Without a hook nothing is written.
-abbrev pub render_hook : Site → Call → CallView → Option Callee → Prog (Unit {0})
+abbrev pub render_hook : Site → Call → CallView → Option Target → Prog (Unit {0})
 render_hook site c v None = return tt
 render_hook site c v (Some k) = render_chosen site k (helper_call false c v)
 
@@ -79,7 +80,7 @@ render_found site c v (value d) = write_value site (value d)
 render_found site c v missing = ask (hook_for (call_name c)) >>= render_hook site c v
 
 -- A lone expression calls the helper of its name, where there is one, and is a value else.
-abbrev pub render_lone_as : Site → Call → CallView → Option Callee → Prog (Unit {0})
+abbrev pub render_lone_as : Site → Call → CallView → Option Target → Prog (Unit {0})
 render_lone_as site c v None = ask (value_of (call_name c)) >>= render_found site c v
 render_lone_as site c v (Some k) = render_helped site false c k v
 
@@ -95,13 +96,29 @@ render_lone site c = do
 abbrev pub shown_tag : Decorator → CallView → DecoratorView
 shown_tag t v = record { call = v; body = decorator_body t }
 
--- The decorator of the tag's name is asked what it does, and that is done.
+-- The body of the tag is a partial of the nearest block from now on; without any block nothing is set.
+abbrev pub set_partial : Text → Body → Prog (Unit {0})
+set_partial name no_body = refuse_for block_content_required
+set_partial name (body t) = change (with_nearest (with_partial name t))
+
+-- a deed of a decorator, whose tag has this body
+abbrev pub do_deed : Body → Deed → Prog (Unit {0})
+do_deed b (sets_data d) = change (with_data d)
+do_deed b (binds name l) = change (with_local name l)
+do_deed b (unbinds name) = change (without_local name)
+do_deed b (sets_partial name) = set_partial name b
+
+abbrev pub do_deeds : Body → List Deed → Prog (Unit {0})
+do_deeds b [] = return tt
+do_deeds b (deed ∷ deeds) = do_deed b deed >> do_deeds b deeds
+
+-- The decorator of the tag's name is asked for its deeds, and they are done in order.
 abbrev pub render_decorator : Decorator → Prog (Unit {0})
 render_decorator t = do
   v ← ask (view_of (decorator_name t) (decorator_args t))
   k ← ask (decorator_of v.name)
-  d ← ask (decoration_of k (shown_tag t v))
-  change (with_decoration d)
+  deeds ← ask (deeds_of k (shown_tag t v))
+  do_deeds (decorator_body t) deeds
 
 -- ---- elements
 

@@ -10,7 +10,7 @@ use Rattle.handlebars_base.specs.Values.{word}
 use Rattle.handlebars_template.specs.Tree.{Tree, tree_elements, Elements, no_elements, element, Element, raw_string, html_expression, expression, helper_block, decorator_expression, decorator_block, partial_expression, partial_block, Call, call_name, call_args, call_body, call_inverse, is_value, Decorator, decorator_body, Body, no_body, body}
 use Rattle.handlebars_base.specs.Outputs.{IsBeginning}
 use Rattle.handlebars_helpers.specs.CallView.{CallView}
-use Rattle.handlebars_helpers.specs.Callee.{Callee}
+use Rattle.handlebars_helpers.specs.Callee.{Target}
 use Rattle.handlebars_helpers.specs.Choice.{Choice, the_value, the_word, the_steps}
 use Rattle.handlebars_helpers.specs.Own.{Step, writes}
 use Rattle.handlebars_meaning.specs.CarryOut.{helper_call}
@@ -125,18 +125,18 @@ pub record IsValue (p : Setting) (block : Bool) (c : Call) (s : State) (v : Call
 
 -- A call by a name calls the helper of the name, or else the hook; a lone expression calls the hook only for a missing
 -- value.
-pub data Calls (p : Setting) (block : Bool) (c : Call) (s : State) (v : CallView) (callee : Callee) : Type 0 where
-  by_name : is_lone block c ≡ true → IsAnswered p s (helper_of v.name) (gives (Some callee)) → Calls p block c s v callee
-  by_name_or_hook : is_lone block c ≡ false → IsAnswered p s (called_as block v.name) (gives callee)
-      → Calls p block c s v callee
-  by_hook : IsValue p block c s v missing → IsAnswered p s (hook_for (call_name c)) (gives (Some callee))
-      → Calls p block c s v callee
+pub data Calls (p : Setting) (block : Bool) (c : Call) (s : State) (v : CallView) (target : Target) : Type 0 where
+  by_name : is_lone block c ≡ true → IsAnswered p s (helper_of v.name) (gives (Some target)) → Calls p block c s v target
+  by_name_or_hook : is_lone block c ≡ false → IsAnswered p s (called_as block v.name) (gives target)
+      → Calls p block c s v target
+  by_hook : IsValue p block c s v missing → IsAnswered p s (hook_for (call_name c)) (gives (Some target))
+      → Calls p block c s v target
 
 -- A call of this view, of a block or an expression, calls a helper or the hook in a state, and that chooses this.
 pub record Chooses (p : Setting) (block : Bool) (c : Call) (s : State) (v : CallView) (choice : Choice) : Type 0 where
-  pub callee : Callee
-  pub calls : Calls p block c s v callee
-  pub chooses : IsAnswered p s (choice_of callee (helper_call block c v)) (gives choice)
+  pub target : Target
+  pub calls : Calls p block c s v target
+  pub chooses : IsAnswered p s (choice_of target (helper_call block c v)) (gives choice)
 
 -- A call of this view writes this value in a state: its own, as a lone expression, or the one that its helper chooses.
 pub data WritesValue (p : Setting) (block : Bool) (c : Call) (s : State) (v : CallView) : Found → Type 0 where

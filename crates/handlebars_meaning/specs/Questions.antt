@@ -7,43 +7,44 @@ use Rattle.handlebars_base.specs.Reasons.{decorator_not_found, helper_not_found,
 use Rattle.handlebars_base.specs.Scoped.{Found}
 use Rattle.handlebars_template.specs.Tree.{Param, Args, as_name}
 use Rattle.handlebars_helpers.specs.CallView.{CallView, HelperView}
-use Rattle.handlebars_helpers.specs.Callee.{Callee, built, own}
+use Rattle.handlebars_helpers.specs.Callee.{Callee, built, own, Target, calls_registered, calls_local}
 use Rattle.handlebars_helpers.specs.Choice.{Choice, chosen, null_or_refusal, the_value, the_steps, nothing}
-use Rattle.handlebars_helpers.specs.Decoration.{DecoratorKind, DecoratorView, Decoration, decorated}
-use Rattle.handlebars_helpers.specs.Escaping.{escaped_by}
+use Rattle.handlebars_helpers.specs.Decoration.{DecoratorKind, kind_inline, kind_own, DecoratorView, Deed, inline_deeds}
+use Rattle.handlebars_helpers.specs.Escaping.{HasEscaped}
 use Rattle.handlebars_helpers.specs.Own.{Step, Offer, not_offered, offers_missing, offers}
+use Rattle.handlebars_helpers.specs.OwnDecorator.{TagAsked}
 use Rattle.handlebars_meaning.specs.Asks.{Asks, only, ◌>>=◌}
-use Rattle.handlebars_meaning.specs.State.{Parts, Setting, State, hook, helper_for}
-use Rattle.handlebars_meaning.specs.Values.{asked_in, HasSteps, HasOffer, HasValue, HasView}
+use Rattle.handlebars_meaning.specs.State.{Parts, Setting, State, hook, helper_named, helper_for, registered_target, local_call}
+use Rattle.handlebars_meaning.specs.Values.{HasSteps, HasOffer, HasValue, HasView}
 
 -- the value of a parameter; the view of a call or of another tag, by its name and its arguments; the helper of a name, if
 -- it has one; the helper or the hook that a call by a name calls, of a block or not; the hook that is called for a
 -- parameter without a value, if there is one; what a helper chooses for a call; the text of a value, escaped; the
--- decorator of a name, and what it does for a tag
+-- decorator of a name, and its deeds for a tag
 pub data Question : Type 0 where
   value_of : Param → Question
   view_of : Param → Args → Question
   helper_of : Text → Question
   called_as : Bool → Text → Question
   hook_for : Param → Question
-  choice_of : Callee → HelperView → Question
+  choice_of : Target → HelperView → Question
   escape_of : Text → Question
   decorator_of : Text → Question
-  decoration_of : DecoratorKind → DecoratorView → Question
+  deeds_of : DecoratorKind → DecoratorView → Question
 
 abbrev pub Reply : Question → Type 0
 Reply (value_of q) = Found
 Reply (view_of n xs) = CallView
-Reply (helper_of name) = Option Callee
-Reply (called_as block name) = Callee
-Reply (hook_for q) = Option Callee
-Reply (choice_of callee h) = Choice
+Reply (helper_of name) = Option Target
+Reply (called_as block name) = Target
+Reply (hook_for q) = Option Target
+Reply (choice_of target h) = Choice
 Reply (escape_of t) = Text
 Reply (decorator_of name) = DecoratorKind
-Reply (decoration_of kind v) = Decoration
+Reply (deeds_of kind v) = List Deed
 
 -- A call by a name that calls nothing is refused.
-abbrev pub helper_or_refusal : Text → Option Callee → Answer Callee
+abbrev pub helper_or_refusal : Text → Option Target → Answer Target
 helper_or_refusal name None = refuses_for (helper_not_found name)
 helper_or_refusal name (Some k) = gives k
 
@@ -53,9 +54,9 @@ decorator_or_refusal name None = refuses_for (decorator_not_found name)
 decorator_or_refusal name (Some k) = gives k
 
 -- Strict mode refuses a missing value, by its text as written. Otherwise the hook is called, where there is one.
-abbrev pub hook_or_refusal : Parts → Param → Answer (Option Callee)
+abbrev pub hook_or_refusal : Parts → Param → Answer (Option Target)
 hook_or_refusal parts q =
-    if parts.strict then refuses_for (missing_variable (as_name q)) else gives (parts.helper (hook false))
+    if parts.strict then refuses_for (missing_variable (as_name q)) else gives (registered_target parts (hook false))
 
 -- What a helper of one's own offers is a value; a missing one is null, and in strict mode a refusal; what isn't offered is
 -- nothing.
@@ -69,19 +70,34 @@ abbrev pub steps_or_offer : Setting → State → Text → HelperView → Option
 steps_or_offer p s called h None = HasOffer p s called h >>= (λ offer. only (offered p.parts.strict offer))
 steps_or_offer p s called h (Some steps) = only (gives (the_steps steps))
 
+-- what is registered so chooses
+abbrev pub HasRegisteredChoice : Setting → State → Callee → HelperView → Asks Choice
+HasRegisteredChoice p s (built kind) h = only (chosen p.parts.strict kind h)
+HasRegisteredChoice p s (own called) h = HasSteps p s called h >>= steps_or_offer p s called h
+
 -- what the helper that is called chooses
-abbrev pub HasChoice : Setting → State → Callee → HelperView → Asks Choice
-HasChoice p s (built kind) h = only (chosen p.parts.strict kind h)
-HasChoice p s (own called) h = HasSteps p s called h >>= steps_or_offer p s called h
+abbrev pub HasChoice : Setting → State → Target → HelperView → Asks Choice
+HasChoice p s (calls_registered k) h = HasRegisteredChoice p s k h
+HasChoice p s (calls_local name) h =
+    only (local_call p.parts (s.local name) name h) >>= (λ c. HasRegisteredChoice p s c.0 c.1)
+
+-- what a decorator of one's own is asked about in a state
+abbrev pub tag_asked : Setting → State → DecoratorView → TagAsked
+tag_asked p s v = record { view = v; given = p.given; changed = s.changed; strict = p.parts.strict }
+
+-- the deeds of a decorator for a tag
+abbrev pub HasDeeds : Setting → State → DecoratorKind → DecoratorView → Asks (List Deed)
+HasDeeds p s kind_inline v = only (inline_deeds v)
+HasDeeds p s (kind_own called) v = p.parts.own_decorator called (tag_asked p s v)
 
 -- the answers that a question has in a state
 abbrev pub IsAnswered : Setting → State → (q : Question) → Asks (Reply q)
 IsAnswered p s (value_of q) = HasValue p s q
 IsAnswered p s (view_of n xs) = HasView p s n xs
-IsAnswered p s (helper_of name) = only (gives (p.parts.helper name))
+IsAnswered p s (helper_of name) = only (gives (helper_named p.parts s name))
 IsAnswered p s (called_as block name) = only (helper_or_refusal name (helper_for p.parts s block name))
 IsAnswered p s (hook_for q) = only (hook_or_refusal p.parts q)
-IsAnswered p s (choice_of callee h) = HasChoice p s callee h
-IsAnswered p s (escape_of t) = only (gives (escaped_by p.parts.escape t))
+IsAnswered p s (choice_of target h) = HasChoice p s target h
+IsAnswered p s (escape_of t) = HasEscaped p.parts.escape p.parts.own_escape t
 IsAnswered p s (decorator_of name) = only (decorator_or_refusal name (p.parts.decorator name))
-IsAnswered p s (decoration_of kind v) = only (decorated kind v)
+IsAnswered p s (deeds_of kind v) = HasDeeds p s kind v

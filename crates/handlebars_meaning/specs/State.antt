@@ -1,31 +1,41 @@
 -- What a run reads and what it changes.
-use Rattle.std.specs.Prelude.{Bool, true, false, List, [], ◌∷◌, Option, None, codes}
+use Rattle.std.specs.Prelude.{Bool, true, false, List, [], ◌∷◌, Option, None, Some, codes, cond, option_map, unwrap_or}
+use Rattle.std.specs.Str.{bytes_eq}
 use Rattle.serde_json.specs.Data.{Data}
+use Rattle.handlebars_base.specs.Answers.{Answer, gives, refuses_for}
 use Rattle.handlebars_base.specs.Bytes.{Text}
+use Rattle.handlebars_base.specs.Reasons.{helper_not_found}
 use Rattle.handlebars_scope.specs.LineState.{LineState, first_line}
 use Rattle.handlebars_scope.specs.Resolve.{or_else}
 use Rattle.handlebars_scope.specs.Scopes.{nothing_at, put_at, Frame, empty_frame}
 use Rattle.handlebars_template.specs.Tree.{Tree}
-use Rattle.handlebars_helpers.specs.Decoration.{DecoratorKind, Decoration, sets_partial}
-use Rattle.handlebars_helpers.specs.Callee.{Callee}
-use Rattle.handlebars_helpers.specs.Escaping.{Escaping}
-use Rattle.handlebars_helpers.specs.Own.{OwnHelper, AnswersOnce}
+use Rattle.handlebars_helpers.specs.CallView.{HelperView, with_constants}
+use Rattle.handlebars_helpers.specs.Callee.{Callee, LocalHelper, Target, calls_registered, calls_local}
+use Rattle.handlebars_helpers.specs.Decoration.{DecoratorKind}
+use Rattle.handlebars_helpers.specs.Escaping.{Escaping, OwnEscape}
+use Rattle.handlebars_helpers.specs.Own.{OwnHelper, AnswersOnce, HasOne}
+use Rattle.handlebars_helpers.specs.OwnDecorator.{TagAsked, OwnDecorator}
 use Rattle.handlebars_meaning.specs.Pieces.{Piece}
 
--- what a registry has for a run: what stands under a name of helpers, if anything does, and what a helper of one's own of
--- that name answers; the decorator under a name, if there is one; how values are escaped, whether its mode is strict, and
--- whether lookup is recursive in the runs that it begins
+-- What a registry has for a run: what stands under a name of helpers, if anything does, and what a helper of one's own of
+-- that name answers; the decorator under a name, if there is one, and what one of one's own answers; how values are escaped,
+-- and what an escape function of one's own answers; whether its mode is strict, and whether lookup is recursive in the runs
+-- that it begins.
 pub record Parts : Type 1 where
   pub helper : Text → Option Callee
   pub own : Text → OwnHelper
   pub decorator : Text → Option DecoratorKind
+  pub own_decorator : Text → OwnDecorator
   pub escape : Escaping
+  pub own_escape : OwnEscape
   pub strict : Bool
   pub recursive : Bool
 
--- no helper has two answers to one question
-abbrev pub IsLawful : Parts → Type 0
-IsLawful parts = (name : Text) → AnswersOnce (parts.own name)
+-- nothing of one's own has two answers to one question
+pub record IsLawful (parts : Parts) : Type 0 where
+  pub helpers : (name : Text) → AnswersOnce (parts.own name)
+  pub decorators : (name : Text) (q : TagAsked) → HasOne (parts.own_decorator name q)
+  pub escape : (t : Text) → HasOne (parts.own_escape t)
 
 -- the name of the hook, which is called where a name has no helper: of blocks, and of all other calls
 abbrev pub hook : Bool → Text
@@ -42,8 +52,9 @@ abbrev pub Kept : Type 0
 Kept = List (Option (List Piece))
 
 -- What a run changes: the name of the template that is being rendered, if it has one, the blocks of scope, nearest first,
--- the line that is written, whether escaping is on, and what is kept. Whether lookup is recursive stays as it is when the
--- run begins. No step keeps anything yet.
+-- the line that is written, whether escaping is on, what is kept, the data that stands in the place of the given one, if it
+-- was changed, and the local helpers by their names. Whether lookup is recursive stays as it is when the run begins. No step
+-- keeps anything yet.
 pub record State : Type 0 where
   pub current : Option Text
   pub blocks : List Frame
@@ -51,6 +62,8 @@ pub record State : Type 0 where
   pub line : LineState
   pub escapes : Bool
   pub kept : Kept
+  pub changed : Option Data
+  pub local : Text → Option LocalHelper
 
 -- A run begins with one empty block.
 abbrev pub first_state : Bool → State
@@ -61,15 +74,38 @@ first_state recursive = record {
   line = first_line;
   escapes = true;
   kept = [];
+  changed = None;
+  local = nothing_at;
 }
 
--- What a call by a name calls in a state, a block or not: the helper of the name, else the hook.
-abbrev pub helper_for : Parts → State → Bool → Text → Option Callee
-helper_for parts s block name = or_else (parts.helper name) (parts.helper (hook block))
-
--- the data that paths lead into, which no run changes yet
+-- the data that paths lead into: the one that was set last, or else the given one
 abbrev pub data_at : Setting → State → Data
-data_at p s = p.given
+data_at p s = unwrap_or s.changed p.given
+
+-- ---- what calls call
+
+-- what is registered under a name, as what is called
+abbrev pub registered_target : Parts → Text → Option Target
+registered_target parts name = option_map (λ k. calls_registered k) (parts.helper name)
+
+-- the helper of a name in a state: a local one, else a registered one
+abbrev pub helper_named : Parts → State → Text → Option Target
+helper_named parts s name = or_else (option_map (λ l. calls_local name) (s.local name)) (registered_target parts name)
+
+-- What a call by a name calls, a block or not: the helper of the name, else the registered hook.
+abbrev pub helper_for : Parts → State → Bool → Text → Option Target
+helper_for parts s block name = or_else (helper_named parts s name) (registered_target parts (hook block))
+
+-- A local helper calls what is registered under its name there, if anything still is, and shows it its constants before the
+-- parameters of the call.
+abbrev pub bound_call : LocalHelper → HelperView → Option Callee → Answer (Callee × HelperView)
+bound_call l h None = refuses_for (helper_not_found l.registered)
+bound_call l h (Some k) = gives (k, with_constants l.constants h)
+
+-- what the local helper calls for a call of this view
+abbrev pub local_call : Parts → Option LocalHelper → Text → HelperView → Answer (Callee × HelperView)
+local_call parts None name h = refuses_for (helper_not_found name)
+local_call parts (Some l) name h = bound_call l h (parts.helper l.registered)
 
 -- ---- changes of the blocks
 
@@ -109,6 +145,17 @@ partial_in (f ∷ fs) name = or_else (f.partial name) (partial_in fs name)
 abbrev pub with_partial : Text → Tree → Frame → Frame
 with_partial name t f = record f { partial = put_at name t f.partial }
 
--- the state behind what a decorator does; without any block it is as it was
-abbrev pub with_decoration : Decoration → State → State
-with_decoration (sets_partial name t) s = with_nearest (with_partial name t) s
+-- ---- data and local helpers
+
+abbrev pub with_data : Data → State → State
+with_data d s = record s { changed = Some d }
+
+abbrev pub with_local : Text → LocalHelper → State → State
+with_local name l s = record s { local = put_at name l s.local }
+
+-- the map with nothing under the name
+abbrev pub taken_from : {X : Type 0} → Text → (Text → Option X) → Text → Option X
+taken_from name map other = cond (bytes_eq name other) None (map other)
+
+abbrev pub without_local : Text → State → State
+without_local name s = record s { local = taken_from name s.local }

@@ -1,22 +1,22 @@
 -- What parameters and calls come to in a state: values, or refusals. None of it writes or changes the state.
 use Rattle.std.specs.Prelude.{◌≡◌, Bool, true, false, List, [], ◌∷◌, ◌++◌, Option, Some, None, unwrap_or}
-use Rattle.serde_json.specs.Data.{Data, string}
+use Rattle.serde_json.specs.Data.{Data, null, string}
 use Rattle.handlebars_base.specs.Answers.{Answer, gives, refuses_for, answer_map}
 use Rattle.handlebars_base.specs.Bytes.{Text}
 use Rattle.handlebars_base.specs.Path.{Reference, raw_of, IsPath}
 use Rattle.handlebars_base.specs.PathAndData.{PathAndData}
 use Rattle.handlebars_base.specs.Reasons.{helper_not_found, invalid_json_path}
-use Rattle.handlebars_base.specs.Scoped.{Found, value, missing, data_in}
+use Rattle.handlebars_base.specs.Scoped.{Found, walked, value, missing, data_in}
 use Rattle.handlebars_base.specs.Values.{rendered}
 use Rattle.handlebars_template.specs.Tree.{Element, expression, call, Args, args, args_params, args_pairs, Param, name, path, literal, subexpression, Params, no_params, param, Pairs, no_pairs, pair, as_name, Binding, no_body}
 use Rattle.handlebars_scope.specs.Resolve.{resolved}
 use Rattle.handlebars_scope.specs.Scopes.{Frame}
 use Rattle.handlebars_helpers.specs.CallView.{CallView, HelperView}
-use Rattle.handlebars_helpers.specs.Callee.{Callee, built, own}
+use Rattle.handlebars_helpers.specs.Callee.{Callee, built, own, Target, calls_registered, calls_local}
 use Rattle.handlebars_helpers.specs.Choice.{Choice, value_in, chosen}
 use Rattle.handlebars_helpers.specs.Own.{Asked, Step, writes, renders_body, renders_inverse, renders_body_in, Offer, not_offered, offers_missing, offers}
 use Rattle.handlebars_meaning.specs.Asks.{Asks, only, ◌>>=◌}
-use Rattle.handlebars_meaning.specs.State.{Setting, State, helper_for, data_at}
+use Rattle.handlebars_meaning.specs.State.{Setting, State, helper_for, data_at, local_call}
 
 -- ---- values as they are written
 
@@ -42,9 +42,9 @@ choice_value choice = value (unwrap_or (value_in choice) (string []))
 
 -- ---- helpers of one's own
 
--- what one is asked about in a state: the data is as it was given
+-- what one is asked about in a state
 abbrev pub asked_in : Setting → State → HelperView → Asked
-asked_in p s h = record { view = h; given = p.given; changed = None; strict = p.parts.strict }
+asked_in p s h = record { view = h; given = p.given; changed = s.changed; strict = p.parts.strict }
 
 -- what it answers when it is called, and when it is asked for a value
 abbrev pub HasSteps : Setting → State → Text → HelperView → Asks (Option (List Step))
@@ -74,11 +74,34 @@ offer_or_text p s called h not_offered = HasSteps p s called h >>= (λ steps. on
 offer_or_text p s called h offers_missing = only (gives missing)
 offer_or_text p s called h (offers d) = only (gives (value d))
 
+-- the value of a call of this view of what is registered so
+abbrev pub HasRegisteredValue : Setting → State → Callee → HelperView → Asks Found
+HasRegisteredValue p s (built kind) h = only (answer_map choice_value (chosen p.parts.strict kind h))
+HasRegisteredValue p s (own called) h = HasOffer p s called h >>= offer_or_text p s called h
+
 -- the value of a call of this view, which calls this
-abbrev pub HasHelpedValue : Setting → State → Option Callee → HelperView → Asks Found
+abbrev pub HasHelpedValue : Setting → State → Option Target → HelperView → Asks Found
 HasHelpedValue p s None h = only (refuses_for (helper_not_found h.call.name))
-HasHelpedValue p s (Some (built kind)) h = only (answer_map choice_value (chosen p.parts.strict kind h))
-HasHelpedValue p s (Some (own called)) h = HasOffer p s called h >>= offer_or_text p s called h
+HasHelpedValue p s (Some (calls_registered k)) h = HasRegisteredValue p s k h
+HasHelpedValue p s (Some (calls_local called)) h =
+    only (local_call p.parts (s.local called) called h) >>= (λ c. HasRegisteredValue p s c.0 c.1)
+
+-- ---- values of the data
+
+-- A value with no path; one that is missing is null.
+abbrev pub plain : Found → Found
+plain (walked d names) = value d
+plain (value d) = value d
+plain missing = value null
+
+-- What a path leads to, as it is read: where the data was changed, no value has a path, and none is missing.
+abbrev pub as_read : Option Data → Answer Found → Answer Found
+as_read None a = a
+as_read (Some changed) a = answer_map plain a
+
+-- what a path leads to in a state
+abbrev pub value_at : Setting → State → Reference → Answer Found
+value_at p s r = as_read s.changed (resolved s.recursive s.blocks r (data_at p s))
 
 -- ---- parameters and calls
 
@@ -100,7 +123,7 @@ abbrev mutual
   -- A name alone has no value. A path leads where the blocks and the data have it. A literal is itself.
   pub HasValue : Setting → State → Param → Asks Found
   HasValue p s (name n) = only (gives missing)
-  HasValue p s (path r) = only (resolved s.recursive s.blocks r (data_at p s))
+  HasValue p s (path r) = only (value_at p s r)
   HasValue p s (literal d) = only (gives (value d))
   HasValue p s (subexpression e) = HasInnerValue p s e
 

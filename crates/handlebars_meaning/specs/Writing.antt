@@ -21,7 +21,7 @@ abbrev pub rendered_if_any : Option Data → Text
 rendered_if_any None = []
 rendered_if_any (Some d) = rendered d
 
--- A value is rendered, and escaped as the registry has it where escaping is on.
+-- A value is rendered, and escaped as the registry has it where escaping is on: its whole text is asked for once.
 abbrev pub write_rendered : Site → Found → Bool → Prog (Unit {0})
 write_rendered site v true = ask (escape_of (rendered_if_any (present_in v))) >>= write_text (of_value site v)
 write_rendered site v false = write_text (of_raw site v) (rendered_if_any (present_in v))

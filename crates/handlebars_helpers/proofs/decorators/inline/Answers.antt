@@ -1,20 +1,20 @@
-use Rattle.std.proofs.Common.{ap, sym, ◌∙◌}
+use Rattle.std.proofs.Common.{[], ◌∷◌, ap, sym, ◌∙◌}
 use Rattle.handlebars_base.specs.Answers.{gives}
 use Rattle.handlebars_base.specs.PathAndData.{path_and_data}
 use Rattle.handlebars_base.specs.RenderRefusals.{refusal_of}
-use Rattle.handlebars_helpers.specs.Decoration.{by_text, inline_decoration}
-use Rattle.handlebars_helpers.specs.DecoratorsView.{decoration_of, tag_view}
+use Rattle.handlebars_helpers.specs.Decoration.{by_text, inline_deeds, sets_partial}
+use Rattle.handlebars_helpers.specs.DecoratorsView.{tag_view}
 use Rattle.handlebars_helpers.proofs.Decorations.{inline-refuses}
 use Rattle.handlebars_helpers.proofs.Values.{answers-handed_on}
 use Rattle.handlebars_helpers.proofs.decorators.inline.Goals as goal
 
-pub returns-in_err-template : goal.returns-in_err-template
-returns-in_err-template c =
+pub returns-in_err-body_of : goal.returns-in_err-body_of
+returns-in_err-body_of c =
     let v = tag_view c.args.decorator.now in
-    let e = c.in_err-template.field-0.0 in
-    answers-handed_on decoration_of (inline_decoration v) c.from_residual-in_err-template.result e
-    c.from_residual-in_err-template.ensures.1
+    let e = c.in_err-body_of.field-0.0 in
+    answers-handed_on (λ name. sets_partial name.now ∷ []) (inline_deeds v) c.from_residual-in_err-body_of.result e
+    c.from_residual-in_err-body_of.ensures.1
     (λ other. inline-refuses v (path_and_data c.in_ok-there.field-0.now) c.in_ok-name.name.now (refusal_of e)
     (sym c.param.ensures ∙ c.in_ok-there.ensures)
     (ap (λ d. by_text d (λ t. gives t)) (sym c.value.ensures) ∙ c.in_ok-name.ensures)
-    (c.in_err-template.ensures other))
+    (c.in_err-body_of.ensures other))
