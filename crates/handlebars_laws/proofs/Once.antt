@@ -7,10 +7,11 @@ use Rattle.handlebars_base.specs.Bytes.{Text}
 use Rattle.handlebars_base.specs.Reasons.{Reason, partial_not_found}
 use Rattle.handlebars_base.specs.Scoped.{Found, walked, value, missing, present_in}
 use Rattle.handlebars_template.specs.Place.{Place}
-use Rattle.handlebars_template.specs.Tree.{Tree, tree, Elements, no_elements, element, Element, raw_string, html_expression, expression, helper_block, decorator_expression, decorator_block, partial_expression, partial_block, comment, Call, is_value, Decorator, Body, no_body, body}
+use Rattle.handlebars_template.specs.Tree.{Tree, tree, Elements, no_elements, element, Element, raw_string, html_expression, expression, helper_block, decorator_expression, decorator_block, partial_expression, partial_block, comment, Call, is_value, Decorator, decorator_body, Body, no_body, body}
 use Rattle.handlebars_scope.specs.Scopes.{Frame, empty_frame}
 use Rattle.handlebars_helpers.specs.CallView.{CallView, HelperView}
-use Rattle.handlebars_helpers.specs.Callee.{Callee}
+use Rattle.handlebars_helpers.specs.Callee.{Target}
+use Rattle.handlebars_helpers.specs.Decoration.{Deed, sets_data, binds, unbinds, sets_partial}
 use Rattle.handlebars_helpers.specs.Choice.{Choice, the_body, the_inverse, body_in_block, body_in_turns, the_value, the_word, the_line, the_steps, nothing}
 use Rattle.handlebars_helpers.specs.Own.{Step, writes, renders_body, renders_inverse, renders_body_in}
 use Rattle.handlebars_helpers.specs.Turns.{Turn, with_block}
@@ -21,7 +22,7 @@ use Rattle.handlebars_meaning.specs.Sites.{TreeSite, first_tree, body_at, invers
 use Rattle.handlebars_meaning.specs.Visits.{Visit, arrival, visits, ComeOnce}
 use Rattle.handlebars_meaning.specs.Writing.{rendered_if_any, write_text, write_rendered, write_value}
 use Rattle.handlebars_meaning.specs.CarryOut.{in_block, render_branch, render_body, render_word, take_turns, take_step, take_steps, carry_out}
-use Rattle.handlebars_meaning.specs.Means.{unescaped, in_bracket, render_chosen, render_helped, render_call, render_hook, render_found, render_lone_as, render_lone, render_expression, render_decorator, render_element, render_elements, render_whole, todo}
+use Rattle.handlebars_meaning.specs.Means.{unescaped, in_bracket, render_chosen, render_helped, render_call, render_hook, render_found, render_lone_as, render_lone, render_expression, set_partial, do_deed, do_deeds, render_decorator, render_element, render_elements, render_whole, todo}
 use Rattle.handlebars_meaning.specs.Runs.{Outcome, Runs, done, refused, wrote, got, set, asked, did, did_over, captured, captured_over, stop, cut, Means}
 
 -- ---- addresses
@@ -271,11 +272,11 @@ module _ (site : Site) where
   carry_ordered v (the_steps steps) next h = steps_ordered 0 v steps next h
   carry_ordered v nothing next h = h 0 (omega arith)
 
-  chosen_ordered : (k : Callee) (v : HelperView) → IsOrdered (address site) 0 (render_chosen site k v)
+  chosen_ordered : (k : Target) (v : HelperView) → IsOrdered (address site) 0 (render_chosen site k v)
   unfolding IsOrdered ◌>>=◌
   chosen_ordered k v next h = λ a. answer_ordered (address site) 0 a _ (λ choice. carry_ordered v choice next h)
 
-  helped_ordered : (block : Bool) (c : Call) (k : Callee) (v : CallView)
+  helped_ordered : (block : Bool) (c : Call) (k : Target) (v : CallView)
       → IsOrdered (address site) 0 (render_helped site block c k v)
   helped_ordered block c k v = bracket_ordered (address site) 0 _ _ (chosen_ordered k _)
 
@@ -284,7 +285,7 @@ module _ (site : Site) where
   call_ordered block c next h = λ a. answer_ordered (address site) 0 a _ (λ v b.
       answer_ordered (address site) 0 b _ (λ k. helped_ordered block c k v next h))
 
-  hook_ordered : (c : Call) (v : CallView) (o : Option Callee) → IsOrdered (address site) 0 (render_hook site c v o)
+  hook_ordered : (c : Call) (v : CallView) (o : Option Target) → IsOrdered (address site) 0 (render_hook site c v o)
   unfolding IsOrdered
   hook_ordered c v None next h = h 0 (omega arith)
   hook_ordered c v (Some k) next h = chosen_ordered k _ next h
@@ -295,7 +296,7 @@ module _ (site : Site) where
   found_ordered c v (value d) next h = value_ordered (address site) 0 site (value d) next h
   found_ordered c v missing next h = λ a. answer_ordered (address site) 0 a _ (λ o. hook_ordered c v o next h)
 
-  lone_as_ordered : (c : Call) (v : CallView) (o : Option Callee) → IsOrdered (address site) 0 (render_lone_as site c v o)
+  lone_as_ordered : (c : Call) (v : CallView) (o : Option Target) → IsOrdered (address site) 0 (render_lone_as site c v o)
   unfolding IsOrdered ◌>>=◌
   lone_as_ordered c v None next h = λ a. answer_ordered (address site) 0 a _ (λ found. found_ordered c v found next h)
   lone_as_ordered c v (Some k) next h = helped_ordered false c k v next h
@@ -313,11 +314,29 @@ module _ (site : Site) where
       → Ordered (address site) 0 (answer a (λ v. refuse_for (why v.name) next))
   tag_ordered t why a next = answer_ordered (address site) 0 a _ (λ v. tt)
 
+  partial_ordered : (n : ℕ) (name : Text) (b : Body) → IsOrdered (address site) n (set_partial name b)
+  unfolding IsOrdered ◌>>=◌
+  partial_ordered n name no_body next h = tt
+  partial_ordered n name (body t) next h = λ s. plain (address site) n next h
+
+  deed_ordered : (n : ℕ) (b : Body) (deed : Deed) → IsOrdered (address site) n (do_deed b deed)
+  unfolding IsOrdered ◌>>=◌
+  deed_ordered n b (sets_data d) next h = λ s. plain (address site) n next h
+  deed_ordered n b (binds name l) next h = λ s. plain (address site) n next h
+  deed_ordered n b (unbinds name) next h = λ s. plain (address site) n next h
+  deed_ordered n b (sets_partial name) next h = partial_ordered n name b next h
+
+  deeds_ordered : (n : ℕ) (b : Body) (deeds : List Deed) → IsOrdered (address site) n (do_deeds b deeds)
+  unfolding IsOrdered ◌>>◌
+  deeds_ordered n b [] next h = h n (omega arith)
+  deeds_ordered n b (deed ∷ deeds) next h = deed_ordered n b deed (λ z. do_deeds b deeds next)
+      (λ j le. deeds_ordered j b deeds next (λ i far. h i (omega (arith, le, far))))
+
   decorator_ordered : (t : Decorator) → IsOrdered (address site) 0 (render_decorator t)
   unfolding IsOrdered ◌>>=◌
   decorator_ordered t next h = λ a. answer_ordered (address site) 0 a _ (λ v b.
       answer_ordered (address site) 0 b _ (λ k c.
-      answer_ordered (address site) 0 c _ (λ d s. plain (address site) 0 next h)))
+      answer_ordered (address site) 0 c _ (λ deeds. deeds_ordered 0 (decorator_body t) deeds next h)))
 
   element_ordered : (e : Element) → IsOrdered (address site) 0 (render_element site e)
   unfolding IsOrdered ◌>>=◌

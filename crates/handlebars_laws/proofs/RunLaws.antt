@@ -1,5 +1,6 @@
 -- What is written is determined: two whole runs are one, and a run that stopped wrote a beginning of the whole one.
 use Rattle.std.proofs.Common.{◌≡◌, Bool, List, [], ◌∷◌, ◌++◌, refl, sym, ap, ◌∙◌, subst, append_assoc, append-nil}
+use Rattle.std.proofs.Math.Logic.{∥∥₁_elim, ∥∥₁_map, ∥∥₁_prop}
 use Rattle.handlebars_base.specs.Answers.{Answer}
 use Rattle.handlebars_base.specs.Outputs.{IsBeginning}
 use Rattle.handlebars_meaning.specs.Pieces.{Piece, join}
@@ -58,41 +59,48 @@ marked-IsStop t (Faulted f) h = h
 marked-IsStop t NoMemory h = h
 
 pub Runs-one : {p : Setting} {k : Steps} {s : State} {ps qs : List Piece} {o q : Outcome}
-    → IsLawful p.parts → Runs p k s ps o → Runs p k s qs q → IsWhole o → IsWhole q → (ps ≡ qs) × (o ≡ q)
-Runs-one lawful done done h g = (refl, refl)
+    → IsLawful p.parts → Runs p k s ps o → Runs p k s qs q → IsWhole o → IsWhole q → ∥ (ps ≡ qs) × (o ≡ q) ∥₁
+Runs-one lawful done done h g = ∣ (refl, refl) ∣₁
 Runs-one lawful done stop h g = absurd (g tt)
-Runs-one lawful refused refused h g = (refl, refl)
+Runs-one lawful refused refused h g = ∣ (refl, refl) ∣₁
 Runs-one lawful refused stop h g = absurd (g tt)
 Runs-one lawful stop q h g = absurd (h tt)
-Runs-one lawful (wrote {xs = xs} r) (wrote q) h g = let e = Runs-one lawful r q h g in (ap (λ zs. xs ++ zs) e.0, e.1)
+Runs-one lawful (wrote {xs = xs} r) (wrote q) h g =
+    ∥∥₁_map (Runs-one lawful r q h g) (λ e. (ap (λ zs. xs ++ zs) e.0, e.1))
 Runs-one lawful (wrote r) (cut {at_word = w} {o = o} i b) h g = absurd (g (stops w o i))
 Runs-one lawful (wrote r) stop h g = absurd (g tt)
 Runs-one lawful (cut {at_word = w} {o = o} i b) q h g = absurd (h (stops w o i))
 Runs-one lawful (got r) (got q) h g = Runs-one lawful r q h g
 Runs-one lawful (got r) stop h g = absurd (g tt)
 Runs-one {p = p} {s = s} lawful (asked {q = w} {f = f} a i r) (asked b j q) h g =
-    Runs-one lawful r (Runs-answer w f (IsAnswered-one p lawful s w a b i j) q) h g
+    ∥∥₁_elim (IsAnswered-one p lawful s w a b i j) ∥∥₁_prop (λ e. Runs-one lawful r (Runs-answer w f e q) h g)
 Runs-one lawful (asked a i r) stop h g = absurd (g tt)
 Runs-one lawful (set r) (set q) h g = Runs-one lawful r q h g
 Runs-one lawful (set r) stop h g = absurd (g tt)
 Runs-one lawful (did {ps = xs} {qs = ys} a b) (did {ps = zs} c d) h g =
-    let e = Runs-one lawful a c (λ x. x) (λ x. x) in
-    let f = Runs-one lawful b (Runs-state (Ended-injective e.1) d) h g in
-    (ap (λ ws. ws ++ ys) e.0 ∙ ap (λ ws. zs ++ ws) f.0, f.1)
+    ∥∥₁_elim (Runs-one lawful a c (λ x. x) (λ x. x)) ∥∥₁_prop
+    (λ e. ∥∥₁_map (Runs-one lawful b (Runs-state (Ended-injective e.1) d) h g)
+    (λ f. (ap (λ ws. ws ++ ys) e.0 ∙ ap (λ ws. zs ++ ws) f.0, f.1)))
 Runs-one lawful (did a b) (did_over {t = t} {o = o} c over) h g =
-    absurd (subst IsOver (sym (Runs-one lawful a c (λ x. x) (λ i. g (IsStop-marked t o i))).1) over)
+    ∥∥₁_elim (Runs-one lawful a c (λ x. x) (λ i. g (IsStop-marked t o i))) ∥∥₁_prop
+    (λ e. absurd (subst IsOver (sym e.1) over))
 Runs-one lawful (did a b) stop h g = absurd (g tt)
 Runs-one lawful (did_over {t = t} {o = o} a over) (did c d) h g =
-    absurd (subst IsOver (Runs-one lawful a c (λ i. h (IsStop-marked t o i)) (λ x. x)).1 over)
+    ∥∥₁_elim (Runs-one lawful a c (λ i. h (IsStop-marked t o i)) (λ x. x)) ∥∥₁_prop
+    (λ e. absurd (subst IsOver e.1 over))
 Runs-one lawful (did_over {t = t} {o = o} a over) (did_over {o = o'} c over') h g =
-    let e = Runs-one lawful a c (λ i. h (IsStop-marked t o i)) (λ i. g (IsStop-marked t o' i)) in (e.0, ap (marked t) e.1)
+    ∥∥₁_map (Runs-one lawful a c (λ i. h (IsStop-marked t o i)) (λ i. g (IsStop-marked t o' i)))
+    (λ e. (e.0, ap (marked t) e.1))
 Runs-one lawful (did_over a over) stop h g = absurd (g tt)
 Runs-one lawful (captured {f = f} a b) (captured c d) h g =
-    let e = Runs-one lawful a c (λ x. x) (λ x. x) in Runs-one lawful b (Runs-captured f e.0 (Ended-injective e.1) d) h g
-Runs-one lawful (captured a b) (captured_over c over) h g = absurd (subst IsOver (sym (Runs-one lawful a c (λ x. x) g).1) over)
+    ∥∥₁_elim (Runs-one lawful a c (λ x. x) (λ x. x)) ∥∥₁_prop
+    (λ e. Runs-one lawful b (Runs-captured f e.0 (Ended-injective e.1) d) h g)
+Runs-one lawful (captured a b) (captured_over c over) h g =
+    ∥∥₁_elim (Runs-one lawful a c (λ x. x) g) ∥∥₁_prop (λ e. absurd (subst IsOver (sym e.1) over))
 Runs-one lawful (captured a b) stop h g = absurd (g tt)
-Runs-one lawful (captured_over a over) (captured c d) h g = absurd (subst IsOver (Runs-one lawful a c h (λ x. x)).1 over)
-Runs-one lawful (captured_over a over) (captured_over c over') h g = (refl, (Runs-one lawful a c h g).1)
+Runs-one lawful (captured_over a over) (captured c d) h g =
+    ∥∥₁_elim (Runs-one lawful a c h (λ x. x)) ∥∥₁_prop (λ e. absurd (subst IsOver e.1 over))
+Runs-one lawful (captured_over a over) (captured_over c over') h g = ∥∥₁_map (Runs-one lawful a c h g) (λ e. (refl, e.1))
 Runs-one lawful (captured_over a over) stop h g = absurd (g tt)
 
 IsBeginning-join : (xs ys zs : List Piece) → IsBeginning (join ys) (join zs)
@@ -110,37 +118,42 @@ IsBeginning-front (more {p = p} {qs = qs} {ps = ps} f) = let b = IsBeginning-fro
 
 -- a run that stopped wrote a beginning of the whole one
 pub Runs-beginning : {p : Setting} {k : Steps} {s : State} {ps qs : List Piece} {o q : Outcome}
-    → IsLawful p.parts → Runs p k s ps o → Runs p k s qs q → IsStop o → IsWhole q → IsBeginning (join ps) (join qs)
+    → IsLawful p.parts → Runs p k s ps o → Runs p k s qs q → IsStop o → IsWhole q → ∥ IsBeginning (join ps) (join qs) ∥₁
 Runs-beginning lawful done q h g = absurd h
 Runs-beginning lawful refused q h g = absurd h
-Runs-beginning {qs = qs} lawful stop q h g = (join qs, refl)
-Runs-beginning lawful (wrote {xs = xs} {ps = ps} r) (wrote {ps = qs} q) h g = IsBeginning-join xs ps qs (Runs-beginning lawful r q h g)
+Runs-beginning {qs = qs} lawful stop q h g = ∣ (join qs, refl) ∣₁
+Runs-beginning lawful (wrote {xs = xs} {ps = ps} r) (wrote {ps = qs} q) h g =
+    ∥∥₁_map (Runs-beginning lawful r q h g) (IsBeginning-join xs ps qs)
 Runs-beginning lawful (wrote r) (cut {at_word = w} {o = o} i b) h g = absurd (g (stops w o i))
 Runs-beginning lawful (wrote r) stop h g = absurd (g tt)
-Runs-beginning lawful (cut {x = x} {xs = xs} {ys = ys} i b) (wrote {ps = qs} q) h g = IsBeginning-more ys (x ∷ xs) qs (IsBeginning-front b)
+Runs-beginning lawful (cut {x = x} {xs = xs} {ys = ys} i b) (wrote {ps = qs} q) h g =
+    ∣ IsBeginning-more ys (x ∷ xs) qs (IsBeginning-front b) ∣₁
 Runs-beginning lawful (cut i b) (cut {at_word = w} {o = o} j c) h g = absurd (g (stops w o j))
 Runs-beginning lawful (cut i b) stop h g = absurd (g tt)
 Runs-beginning lawful (got r) (got q) h g = Runs-beginning lawful r q h g
 Runs-beginning lawful (got r) stop h g = absurd (g tt)
 Runs-beginning {p = p} {s = s} lawful (asked {q = w} {f = f} a i r) (asked b j q) h g =
-    Runs-beginning lawful r (Runs-answer w f (IsAnswered-one p lawful s w a b i j) q) h g
+    ∥∥₁_elim (IsAnswered-one p lawful s w a b i j) ∥∥₁_prop (λ e. Runs-beginning lawful r (Runs-answer w f e q) h g)
 Runs-beginning lawful (asked a i r) stop h g = absurd (g tt)
 Runs-beginning lawful (set r) (set q) h g = Runs-beginning lawful r q h g
 Runs-beginning lawful (set r) stop h g = absurd (g tt)
 Runs-beginning lawful (did {ps = xs} {qs = ys} a b) (did {ps = zs} {qs = ws} c d) h g =
-    let e = Runs-one lawful a c (λ x. x) (λ x. x) in
-    subst (λ (us : List Piece). IsBeginning (join (xs ++ ys)) (join (us ++ ws))) e.0
-    (IsBeginning-join xs ys ws (Runs-beginning lawful b (Runs-state (Ended-injective e.1) d) h g))
+    ∥∥₁_elim (Runs-one lawful a c (λ x. x) (λ x. x)) ∥∥₁_prop
+    (λ e. ∥∥₁_map (Runs-beginning lawful b (Runs-state (Ended-injective e.1) d) h g)
+    (λ f. subst (λ (us : List Piece). IsBeginning (join (xs ++ ys)) (join (us ++ ws))) e.0 (IsBeginning-join xs ys ws f)))
 Runs-beginning lawful (did a b) (did_over {t = t} {o = o} c over) h g =
-    absurd (subst IsOver (sym (Runs-one lawful a c (λ x. x) (λ i. g (IsStop-marked t o i))).1) over)
+    ∥∥₁_elim (Runs-one lawful a c (λ x. x) (λ i. g (IsStop-marked t o i))) ∥∥₁_prop
+    (λ e. absurd (subst IsOver (sym e.1) over))
 Runs-beginning lawful (did a b) stop h g = absurd (g tt)
 Runs-beginning lawful (did_over {t = t} {ps = xs} {o = o} a over) (did {ps = zs} {qs = ws} c d) h g =
-    IsBeginning-more xs zs ws (Runs-beginning lawful a c (marked-IsStop t o h) (λ x. x))
+    ∥∥₁_map (Runs-beginning lawful a c (marked-IsStop t o h) (λ x. x)) (IsBeginning-more xs zs ws)
 Runs-beginning lawful (did_over {t = t} {o = o} a over) (did_over {o = o'} c over') h g =
     Runs-beginning lawful a c (marked-IsStop t o h) (λ i. g (IsStop-marked t o' i))
 Runs-beginning lawful (did_over a over) stop h g = absurd (g tt)
 Runs-beginning lawful (captured {f = f} a b) (captured c d) h g =
-    let e = Runs-one lawful a c (λ x. x) (λ x. x) in Runs-beginning lawful b (Runs-captured f e.0 (Ended-injective e.1) d) h g
-Runs-beginning lawful (captured a b) (captured_over c over) h g = absurd (subst IsOver (sym (Runs-one lawful a c (λ x. x) g).1) over)
+    ∥∥₁_elim (Runs-one lawful a c (λ x. x) (λ x. x)) ∥∥₁_prop
+    (λ e. Runs-beginning lawful b (Runs-captured f e.0 (Ended-injective e.1) d) h g)
+Runs-beginning lawful (captured a b) (captured_over c over) h g =
+    ∥∥₁_elim (Runs-one lawful a c (λ x. x) g) ∥∥₁_prop (λ e. absurd (subst IsOver (sym e.1) over))
 Runs-beginning lawful (captured a b) stop h g = absurd (g tt)
-Runs-beginning {qs = qs} lawful (captured_over a over) q h g = (join qs, refl)
+Runs-beginning {qs = qs} lawful (captured_over a over) q h g = ∣ (join qs, refl) ∣₁

@@ -13,24 +13,26 @@ use Rattle.handlebars_base.specs.Reasons.{Reason, partial_not_found}
 use Rattle.handlebars_base.specs.Scoped.{Found, walked, value, missing, present_in}
 use Rattle.handlebars_base.specs.Values.{word}
 use Rattle.handlebars_template.specs.Place.{Place}
-use Rattle.handlebars_template.specs.Tree.{Tree, tree, Elements, no_elements, element, Element, raw_string, html_expression, expression, helper_block, decorator_expression, decorator_block, partial_expression, partial_block, comment, Call, call_name, call_args, call_body, call_inverse, call_marks, is_value, Decorator, Body, no_body, body}
+use Rattle.handlebars_template.specs.Tree.{Tree, tree, Elements, no_elements, element, Element, raw_string, html_expression, expression, helper_block, decorator_expression, decorator_block, partial_expression, partial_block, comment, Call, call_name, call_args, call_body, call_inverse, call_marks, is_value, Decorator, decorator_body, Body, no_body, body}
 use Rattle.handlebars_base.specs.Outputs.{IsBeginning}
+use Rattle.handlebars_scope.specs.LineState.{LineState}
 use Rattle.handlebars_scope.specs.Scopes.{Frame, empty_frame, Base}
-use Rattle.handlebars_helpers.specs.CallView.{CallView}
-use Rattle.handlebars_helpers.specs.Callee.{Callee}
+use Rattle.handlebars_helpers.specs.CallView.{CallView, HelperView}
+use Rattle.handlebars_helpers.specs.Callee.{Callee, built, own, Target, calls_registered, calls_local}
 use Rattle.handlebars_helpers.specs.Choice.{Choice, the_body, the_inverse, body_in_block, body_in_turns, the_value, the_word, the_line, the_steps, nothing}
-use Rattle.handlebars_helpers.specs.Decoration.{DecoratorKind, Decoration, sets_partial}
+use Rattle.handlebars_helpers.specs.Decoration.{DecoratorKind, Deed, sets_data, binds, unbinds, sets_partial}
 use Rattle.handlebars_helpers.specs.Own.{Step, writes, renders_body, renders_inverse, renders_body_in}
 use Rattle.handlebars_helpers.specs.Turns.{Turn, turned, with_block}
-use Rattle.handlebars_meaning.specs.State.{Setting, State, entered, left, with_nearest, nearest_variables, with_decoration}
+use Rattle.handlebars_meaning.specs.State.{Setting, State, entered, left, with_nearest, nearest_variables, with_partial, with_data, with_local, without_local}
 use Rattle.handlebars_meaning.specs.Steps.{Task, One, Whole, Steps, Done, Refuse, Write, Get, Set, Ask, Do, Capture, Prog, ◌>>=◌, ◌>>◌, answer, ask, refuse_for}
+use Rattle.handlebars_meaning.specs.Asks.{goes_on, is_refused}
 use Rattle.handlebars_meaning.specs.Pieces.{Origin, of_text, of_value, of_raw, of_word, of_step, Piece}
-use Rattle.handlebars_meaning.specs.Questions.{value_of, view_of, helper_of, called_as, hook_for, choice_of, escape_of, decorator_of, decoration_of, Reply, IsAnswered}
+use Rattle.handlebars_meaning.specs.Questions.{value_of, view_of, helper_of, called_as, hook_for, choice_of, escape_of, decorator_of, deeds_of, steps_or_offer, HasRegisteredChoice, HasChoice, Reply, IsAnswered}
 use Rattle.handlebars_meaning.specs.Sites.{TreeSite, body_at, inverse_at, Site, element_in}
 use Rattle.handlebars_meaning.specs.Visits.{Visit, arrival, visits}
 use Rattle.handlebars_meaning.specs.Writing.{rendered_if_any, write_text, write_rendered, write_value, write_step}
-use Rattle.handlebars_meaning.specs.CarryOut.{change, in_block, helper_call, render_branch, render_body, take_turn, take_turns, render_with, render_word, take_step, take_steps, carry_out}
-use Rattle.handlebars_meaning.specs.Means.{line_in, line_out, render_chosen, render_helped, render_call, render_hook, render_found, render_lone_as, render_lone, render_expression, shown_tag, render_decorator, render_partial, render_element, render_elements, render_whole, render_alone, todo}
+use Rattle.handlebars_meaning.specs.CarryOut.{in_block, helper_call, render_branch, render_body, take_turn, take_turns, render_with, render_word, take_step, take_steps, carry_out}
+use Rattle.handlebars_meaning.specs.Means.{line_in, line_out, render_chosen, render_helped, render_call, render_hook, render_found, render_lone_as, render_lone, render_expression, shown_tag, set_partial, do_deed, do_deeds, render_decorator, render_partial, render_element, render_elements, render_whole, render_alone, todo}
 use Rattle.handlebars_meaning.specs.Runs.{Outcome, Ended, Refused, Faulted, NoMemory, IsOver, Stops, marked, Front, none, cut_off, more, Runs, done, refused, wrote, got, set, asked, did, did_over, captured, captured_over, stop, cut, Means}
 use Rattle.handlebars_meaning.specs.Origins.{IsWithin, nth, nth_in, tree_in, body_of, inverse_of, tree_at, element_at, shown_call, is_html, is_raw_tree, is_raw_site, is_lone, IsValue, Calls, by_name, by_name_or_hook, by_hook, Chooses, WritesValue, of_itself, of_helper, IsReached, IsCalled, Shows, ComesFrom, HaveOrigins}
 use Rattle.handlebars_meaning.specs.Laws.{alone}
@@ -84,6 +86,28 @@ steps_behind all i step steps h =
     let same : i ≡ n = h.1 in
     let is : length (h.0 ++ step ∷ []) ≡ n + 1 = length-append h.0 (step ∷ []) in
     (h.0 ++ step ∷ [], omega (arith, same, is), h.2 ∙ sym (append_assoc h.0 (step ∷ []) steps))
+
+-- ---- what a helper chooses doesn't depend on the line
+
+module _ (p : Setting) (s : State) (line : LineState) where
+  steps_or_offer-line : (called : Text) (h : HelperView) (steps : Option (List Step)) (a : Answer Choice)
+      → steps_or_offer p (record s { line = line }) called h steps a → steps_or_offer p s called h steps a
+  steps_or_offer-line called h None a is = is
+  steps_or_offer-line called h (Some steps) a is = is
+
+  HasRegisteredChoice-line : (k : Callee) (h : HelperView) (a : Answer Choice)
+      → HasRegisteredChoice p (record s { line = line }) k h a → HasRegisteredChoice p s k h a
+  HasRegisteredChoice-line (built kind) h a is = is
+  HasRegisteredChoice-line (own called) h _ (goes_on {x = steps} {a = a} is next) =
+      goes_on is (steps_or_offer-line called h steps a next)
+  HasRegisteredChoice-line (own called) h _ (is_refused is) = is_refused is
+
+  HasChoice-line : (k : Target) (h : HelperView) (a : Answer Choice)
+      → HasChoice p (record s { line = line }) k h a → HasChoice p s k h a
+  HasChoice-line (calls_registered k) h a is = HasRegisteredChoice-line k h a is
+  HasChoice-line (calls_local called) h _ (goes_on {x = c} {a = a} is next) =
+      goes_on is (HasRegisteredChoice-line c.0 c.1 a next)
+  HasChoice-line (calls_local called) h _ (is_refused is) = is_refused is
 
 module _ (p : Setting) (u : Tree) (vs : List Visit) where
   from_front : (o : Origin) (a b : Text) → IsBeginning a b → ComesFrom p u vs o b → ComesFrom p u vs o a
@@ -365,10 +389,10 @@ module _ (p : Setting) (u : Tree) (vs : List Visit) where
 
       -- ---- what its helper chose
 
-      module _ (k : Callee) (calls : Calls p block c before v k) where
+      module _ (k : Target) (calls : Calls p block c before v k) where
         chooses_so : (choice : Choice) → IsAnswered p before (choice_of k (helper_call block c v)) (gives choice)
             → Chooses p block c before v choice
-        chooses_so choice chose = record { callee = k; calls = calls; chooses = chose }
+        chooses_so choice chose = record { target = k; calls = calls; chooses = chose }
 
         word_comes : (b : Bool) → block ≡ false
             → IsAnswered p before (choice_of k (helper_call block c v)) (gives (the_word b))
@@ -456,15 +480,18 @@ module _ (p : Setting) (u : Tree) (vs : List Visit) where
         chosen_as s on next (refuses r) raw g chose = tt
 
         chosen_good : (s : State) → s.escapes ≡ not (is_raw_site u site)
+            → ((a : Answer Choice) → IsAnswered p s (choice_of k (helper_call block c v)) a
+            → IsAnswered p before (choice_of k (helper_call block c v)) a)
             → IsGoodFrom s (render_chosen site k (helper_call block c v))
         unfolding ◌>>=◌
-        chosen_good s raw on next g = λ a chose. chosen_as s on next a raw g chose
+        chosen_good s raw same on next g = λ a chose. chosen_as s on next a raw g (same a chose)
 
-        helped_good : (s : State) → s.escapes ≡ not (is_raw_site u site)
-            → IsGoodFrom s (render_helped site block c k v)
+        helped_good : before.escapes ≡ not (is_raw_site u site) → IsGoodFrom before (render_helped site block c k v)
         unfolding ◌>>=◌ ◌>>◌
-        helped_good s raw on next g =
-            chosen_good (record s { line = line_in (call_marks c).indent_before_write s.line }) raw on
+        helped_good raw on next g =
+            let s = before in
+            let line = line_in (call_marks c).indent_before_write s.line in
+            chosen_good (record s { line = line }) raw (λ a. HasChoice-line p s line k (helper_call block c v) a) on
             (λ i. Get (λ n. Set (record n { line = line_out s.line n.line }) (next tt))) (λ n is. g _ is)
 
     module _ (s : State) (raw : s.escapes ≡ not (is_raw_site u site)) (reached : IsReached vs site s) where
@@ -481,13 +508,13 @@ module _ (p : Setting) (u : Tree) (vs : List Visit) where
       viewed_as f on next (refuses r) good g viewed = tt
 
       module _ (not_lone : is_lone block c ≡ false) where
-        called_good : (v : CallView) (on : Bool) (next : Unit {0} → Steps) (a : Answer Callee)
+        called_good : (v : CallView) (on : Bool) (next : Unit {0} → Steps) (a : Answer Target)
             → IsAnswered p s (view_of (call_name c) (call_args c)) (gives v)
             → ((n : State) → n.escapes ≡ s.escapes → Good on n (next tt))
             → IsAnswered p s (called_as block v.name) a
             → Good on s (answer a (λ k. render_helped site block c k v next))
         called_good v on next (gives k) viewed g calls =
-            helped_good s reached v viewed k (by_name_or_hook not_lone calls) s raw on next g
+            helped_good s reached v viewed k (by_name_or_hook not_lone calls) raw on next g
         called_good v on next (refuses r) viewed g calls = tt
 
         call_good : IsGoodFrom s (render_call site block c)
@@ -503,13 +530,13 @@ module _ (p : Setting) (u : Tree) (vs : List Visit) where
     module _ (s : State) (raw : s.escapes ≡ not (is_raw_site u site)) (reached : IsReached vs site s)
         (lone : is_value c ≡ true) where
       module _ (v : CallView) (viewed : IsAnswered p s (view_of (call_name c) (call_args c)) (gives v)) where
-        hook_good : (h : Option Callee) → IsAnswered p s (hook_for (call_name c)) (gives h)
+        hook_good : (h : Option Target) → IsAnswered p s (hook_for (call_name c)) (gives h)
             → IsValue p false c s v missing → IsGoodFrom s (render_hook site c v h)
         hook_good None is has = λ on next g. g s refl
         hook_good (Some k) is has =
-            chosen_good site false c has_body has_inverse stands s reached v viewed k (by_hook has is) s raw
+            chosen_good site false c has_body has_inverse stands s reached v viewed k (by_hook has is) s raw (λ a is. is)
 
-        hooked_as : (on : Bool) (next : Unit {0} → Steps) (a : Answer (Option Callee))
+        hooked_as : (on : Bool) (next : Unit {0} → Steps) (a : Answer (Option Target))
             → IsValue p false c s v missing → ((n : State) → n.escapes ≡ s.escapes → Good on n (next tt))
             → IsAnswered p s (hook_for (call_name c)) a
             → Good on s (answer a (λ h. render_hook site c v h next))
@@ -534,14 +561,14 @@ module _ (p : Setting) (u : Tree) (vs : List Visit) where
             found_good found (record { lone = lone; no_helper = without; has = has }) on next g
         value_as on next (refuses r) without g has = tt
 
-        lone_as_good : (h : Option Callee) → IsAnswered p s (helper_of v.name) (gives h)
+        lone_as_good : (h : Option Target) → IsAnswered p s (helper_of v.name) (gives h)
             → IsGoodFrom s (render_lone_as site c v h)
         unfolding ◌>>=◌
         lone_as_good None without = λ on next g a has. value_as on next a without g has
         lone_as_good (Some k) helps =
-            helped_good site false c has_body has_inverse stands s reached v viewed k (by_name lone helps) s raw
+            helped_good site false c has_body has_inverse stands s reached v viewed k (by_name lone helps) raw
 
-        helper_as : (on : Bool) (next : Unit {0} → Steps) (a : Answer (Option Callee))
+        helper_as : (on : Bool) (next : Unit {0} → Steps) (a : Answer (Option Target))
             → ((n : State) → n.escapes ≡ s.escapes → Good on n (next tt))
             → IsAnswered p s (helper_of v.name) a
             → Good on s (answer a (λ h. render_lone_as site c v h next))
@@ -566,22 +593,39 @@ module _ (p : Setting) (u : Tree) (vs : List Visit) where
 
   -- ---- decorators: none changes whether escaping is on
 
+  partial_set_good : (name : Text) (b : Body) (s : State) → IsGoodFrom s (set_partial name b)
+  unfolding ◌>>=◌
+  partial_set_good name no_body s on next g = tt
+  partial_set_good name (body t) s on next g = g (with_nearest (with_partial name t) s) refl
+
+  deed_good : (b : Body) (deed : Deed) (s : State) → IsGoodFrom s (do_deed b deed)
+  unfolding ◌>>=◌
+  deed_good b (sets_data d) s on next g = g (with_data d s) refl
+  deed_good b (binds name l) s on next g = g (with_local name l s) refl
+  deed_good b (unbinds name) s on next g = g (without_local name s) refl
+  deed_good b (sets_partial name) s on next g = partial_set_good name b s on next g
+
+  deeds_good : (b : Body) (deeds : List Deed) (s : State) → IsGoodFrom s (do_deeds b deeds)
+  unfolding ◌>>◌
+  deeds_good b [] s on next g = g s refl
+  deeds_good b (deed ∷ deeds) s on next g = deed_good b deed s on (λ z. do_deeds b deeds next)
+      (λ n same. deeds_good b deeds n on next (λ i is. g i (is ∙ same)))
+
   module _ (s : State) (on : Bool) (next : Unit {0} → Steps) (g : (n : State) → n.escapes ≡ s.escapes → Good on n (next tt))
     where
-      decorated_as : (a : Answer Decoration) → Good on s (answer a (λ d. change (with_decoration d) next))
-      unfolding ◌>>=◌
-      decorated_as (gives (sets_partial name t)) = g (with_decoration (sets_partial name t) s) refl
-      decorated_as (refuses r) = tt
+      done_as : (b : Body) (a : Answer (List Deed)) → Good on s (answer a (λ deeds. do_deeds b deeds next))
+      done_as b (gives deeds) = deeds_good b deeds s on next g
+      done_as b (refuses r) = tt
 
       decorator_as : (t : Decorator) (v : CallView) (a : Answer DecoratorKind)
-          → Good on s (answer a (λ k. (ask (decoration_of k (shown_tag t v)) >>= (λ d. change (with_decoration d))) next))
+          → Good on s (answer a (λ k. (ask (deeds_of k (shown_tag t v)) >>= do_deeds (decorator_body t)) next))
       unfolding ◌>>=◌
-      decorator_as t v (gives k) = λ a is. decorated_as a
+      decorator_as t v (gives k) = λ a is. done_as (decorator_body t) a
       decorator_as t v (refuses r) = tt
 
       shown_as : (t : Decorator) (a : Answer CallView)
-          → Good on s (answer a (λ v. (ask (decorator_of v.name) >>= (λ k. ask (decoration_of k (shown_tag t v))
-          >>= (λ d. change (with_decoration d)))) next))
+          → Good on s (answer a (λ v. (ask (decorator_of v.name) >>= (λ k. ask (deeds_of k (shown_tag t v))
+          >>= do_deeds (decorator_body t))) next))
       unfolding ◌>>=◌
       shown_as t (gives v) = λ a is. decorator_as t v a
       shown_as t (refuses r) = tt
