@@ -8,3 +8,4 @@ mod HelperTrees
 mod HelperRows
 mod OwnRows
 mod DecoratorRows
+mod DeedRows

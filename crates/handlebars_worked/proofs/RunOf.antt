@@ -7,7 +7,7 @@ use Rattle.handlebars_meaning.specs.State.{Setting, State, first_state}
 use Rattle.handlebars_meaning.specs.Steps.{Task, Steps, Done, Refuse, Write, Get, Set, Ask, Do, Capture}
 use Rattle.handlebars_meaning.specs.Means.{todo, render_tree}
 use Rattle.handlebars_meaning.specs.Runs.{Outcome, Ended, Refused, Faulted, NoMemory, Runs, done, refused, wrote, got, set, asked, did, did_over, captured, captured_over, stop}
-use Rattle.handlebars_worked.proofs.Answered.{KnowsOwn, answer_in}
+use Rattle.handlebars_worked.proofs.Answered.{Knows, answer_in}
 use Rattle.handlebars_meaning.specs.Answer.{Beginning, a_tree, rendered, RenderAnswers, GivesText}
 
 -- a run of these steps from this state
@@ -33,7 +33,7 @@ behind_capture (Faulted f) r rest = record { pieces = _; outcome = _; runs = cap
 behind_capture NoMemory r rest = record { pieces = _; outcome = _; runs = captured_over r tt }
 
 -- Where the steps don't suffice, it stops on the way.
-abbrev pub run_of : ℕ → (p : Setting) (own : KnowsOwn p.parts.own) (k : Steps) (s : State) → RunFrom p k s
+abbrev pub run_of : ℕ → (p : Setting) (own : Knows p.parts) (k : Steps) (s : State) → RunFrom p k s
 run_of zero p own k s = record { pieces = _; outcome = _; runs = stop }
 run_of (suc n) p own Done s = record { pieces = _; outcome = _; runs = done }
 run_of (suc n) p own (Refuse r) s = record { pieces = _; outcome = _; runs = refused }
@@ -49,7 +49,7 @@ run_of (suc n) p own (Capture m f) s =
     let r = run_of n p own m s in behind_capture r.outcome r.runs (λ next. run_of n p own (f r.pieces) next)
 
 -- the run of a whole tree, where it takes less than a hundred steps in depth
-abbrev pub tree_run : (p : Setting) (own : KnowsOwn p.parts.own) (t : Tree)
+abbrev pub tree_run : (p : Setting) (own : Knows p.parts) (t : Tree)
     → RunFrom p (render_tree t) (first_state p.parts.recursive)
 tree_run p own t = run_of 99 p own (render_tree t) (first_state p.parts.recursive)
 

@@ -13,13 +13,11 @@ use Rattle.handlebars_meaning.specs.Pieces.{Piece, of_text}
 use Rattle.handlebars_meaning.specs.Sites.{first_tree, element_in}
 use Rattle.handlebars_helpers.specs.Callee.{Callee, built, first_callee}
 use Rattle.handlebars_helpers.specs.Choice.{kind_len}
-use Rattle.handlebars_helpers.specs.Decoration.{built_in_decorator}
-use Rattle.handlebars_helpers.specs.Own.{no_own}
-use Rattle.handlebars_helpers.specs.Escaping.{for_html, for_plain}
+use Rattle.handlebars_helpers.specs.Escaping.{for_plain}
 use Rattle.handlebars_meaning.specs.State.{Setting}
 use Rattle.handlebars_meaning.specs.Runs.{Refused}
 use Rattle.handlebars_meaning.specs.Answer.{FromSource, RenderAnswers}
-use Rattle.handlebars_worked.specs.Rows.{with, over, one}
+use Rattle.handlebars_worked.specs.Rows.{with, over, one, first_parts}
 use Rattle.handlebars_worked.specs.ScopeRows.{natural, Gives}
 
 -- ---- order and equality of values
@@ -109,7 +107,7 @@ LogRow = Gives (over one) (codes "{{log a}}") []
 
 -- a run in strict mode, with the helpers that every registry begins with
 abbrev pub strict_over : Data → Setting
-strict_over given = record { given = given; parts = record { helper = first_callee; own = no_own; decorator = built_in_decorator; escape = for_html; strict = true; recursive = false } }
+strict_over given = record { given = given; parts = record first_parts { strict = true } }
 
 -- In strict mode a missing value is refused, by its text as written.
 abbrev pub StrictRow : Type 0
@@ -123,7 +121,7 @@ StrictNullRow = Gives (strict_over (with (codes "x") null)) (codes "{{x}}") []
 
 -- a run that escapes values for plain text
 abbrev pub plain_over : Data → Setting
-plain_over given = record { given = given; parts = record { helper = first_callee; own = no_own; decorator = built_in_decorator; escape = for_plain; strict = false; recursive = false } }
+plain_over given = record { given = given; parts = record first_parts { escape = for_plain } }
 
 -- For plain text a mark of html is written as it is.
 abbrev pub PlainRow : Type 0
@@ -137,7 +135,7 @@ built_in_but name callee other = cond (bytes_eq name other) callee (first_callee
 
 -- a run over data, with other helpers
 abbrev pub over_with : (Text → Option Callee) → Data → Setting
-over_with helper given = record { given = given; parts = record { helper = helper; own = no_own; decorator = built_in_decorator; escape = for_html; strict = false; recursive = false } }
+over_with helper given = record { given = given; parts = record first_parts { helper = helper } }
 
 -- A call whose name has no helper calls the hook `helperMissing`, here `len`, over any data.
 abbrev pub HookRow : Type 0

@@ -4,3 +4,4 @@ pub mod ScopeRows
 pub mod HelperRows
 pub mod OwnRows
 pub mod DecoratorRows
+pub mod DeedRows

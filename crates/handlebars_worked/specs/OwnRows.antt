@@ -1,22 +1,20 @@
 -- Helpers of one's own, each with what a tree that calls it answers.
 use Rattle.std.specs.Prelude.{◌≡◌, Bool, true, false, List, [], ◌∷◌, Option, None, Some, bytes_eq, codes, cond}
 use Rattle.serde_json.specs.Data.{Data, number, string, unsigned}
-use Rattle.handlebars_base.specs.Answers.{Answer, gives, refuses_for}
+use Rattle.handlebars_base.specs.Answers.{Answer, gives}
 use Rattle.handlebars_base.specs.Bytes.{Text}
 use Rattle.handlebars_base.specs.Path.{relative}
-use Rattle.handlebars_base.specs.Reasons.{invalid_param_type, missing_variable}
+use Rattle.handlebars_base.specs.Reasons.{missing_variable}
 use Rattle.handlebars_base.specs.RenderRefusals.{plain_refusal}
-use Rattle.handlebars_template.specs.Tree.{Element, expression, html_expression, Param, path, literal, subexpression, Body, body, tree, elements_of, no_body}
+use Rattle.handlebars_template.specs.Tree.{Element, expression, path, subexpression, no_body}
 use Rattle.handlebars_scope.specs.Scopes.{Frame, empty_frame}
-use Rattle.handlebars_helpers.specs.Callee.{Callee, own}
-use Rattle.handlebars_helpers.specs.Decoration.{built_in_decorator}
-use Rattle.handlebars_helpers.specs.Escaping.{for_html}
-use Rattle.handlebars_helpers.specs.Own.{Asked, Step, writes, renders_body, renders_inverse, renders_body_in, Offer, not_offered, offers_missing, offers, OwnHelper}
+use Rattle.handlebars_helpers.specs.Callee.{own}
+use Rattle.handlebars_helpers.specs.Own.{Step, writes, renders_body, renders_inverse, renders_body_in, Offer, not_offered, offers_missing, offers, OwnHelper}
 use Rattle.handlebars_meaning.specs.Answer.{GivesText, RenderAnswers}
 use Rattle.handlebars_meaning.specs.Laws.{alone}
 use Rattle.handlebars_meaning.specs.Runs.{Refused}
 use Rattle.handlebars_meaning.specs.State.{Setting}
-use Rattle.handlebars_worked.specs.Rows.{block, body_of, call_of, keeping, path_of, text, with}
+use Rattle.handlebars_worked.specs.Rows.{block, body_of, call_of, first_parts, keeping, path_of, text}
 
 -- a helper that has these answers alone
 abbrev pub answering : Answer (Option (List Step)) → Answer Offer → OwnHelper
@@ -26,13 +24,10 @@ answering steps offer = record { has_steps = λ q a. a ≡ steps; has_offer = λ
 abbrev pub over_own : Bool → OwnHelper → Data → Setting
 over_own strict helper given = record {
   given = given;
-  parts = record {
+  parts = record first_parts {
     helper = λ name. cond (bytes_eq name (codes "this")) None (Some (own name));
     own = λ name. helper;
-    decorator = built_in_decorator;
-    escape = for_html;
     strict = strict;
-    recursive = false;
   };
 }
 

@@ -13,13 +13,14 @@ use Rattle.handlebars_template.specs.Compile.{unreadable_tag}
 use Rattle.handlebars_worked.specs.SourceRows.{at, escaped_source}
 use Rattle.handlebars_template.specs.Tree.{Tree, tree, elements_of, Element, html_expression, expression, raw_string, helper_block, Call, call, args, bodies, Body, no_body, body, no_binding, no_pairs, params_of, Param, name, path, literal, subexpression}
 use Rattle.handlebars_meaning.specs.Pieces.{Piece, of_text}
-use Rattle.handlebars_scope.specs.Scopes.{empty_frame}
+use Rattle.handlebars_scope.specs.Scopes.{empty_frame, nothing_at}
 use Rattle.handlebars_meaning.specs.Sites.{first_tree, element_in}
 use Rattle.handlebars_helpers.specs.Decoration.{built_in_decorator}
 use Rattle.handlebars_helpers.specs.Callee.{first_callee}
 use Rattle.handlebars_helpers.specs.Own.{no_own}
-use Rattle.handlebars_helpers.specs.Escaping.{for_html}
-use Rattle.handlebars_meaning.specs.State.{Setting, State}
+use Rattle.handlebars_helpers.specs.OwnDecorator.{no_own_decorator}
+use Rattle.handlebars_helpers.specs.Escaping.{for_html, no_own_escape}
+use Rattle.handlebars_meaning.specs.State.{Parts, Setting, State}
 use Rattle.handlebars_meaning.specs.Values.{HasValue}
 use Rattle.handlebars_meaning.specs.Steps.{◌>>=◌, ◌>>◌, run, write, become, capture}
 use Rattle.handlebars_meaning.specs.Runs.{Ended, Refused, Runs}
@@ -30,9 +31,22 @@ use Rattle.handlebars_meaning.specs.Laws.{alone}
 abbrev pub with : Text → Data → Data
 with key d = object (member key d no_members)
 
--- a run over data, with the helpers that every registry begins with
+-- what a registry has in the beginning
+abbrev pub first_parts : Parts
+first_parts = record {
+  helper = first_callee;
+  own = no_own;
+  decorator = built_in_decorator;
+  own_decorator = no_own_decorator;
+  escape = for_html;
+  own_escape = no_own_escape;
+  strict = false;
+  recursive = false;
+}
+
+-- a run over data, with what every registry begins with
 abbrev pub over : Data → Setting
-over given = record { given = given; parts = record { helper = first_callee; own = no_own; decorator = built_in_decorator; escape = for_html; strict = false; recursive = false } }
+over given = record { given = given; parts = first_parts }
 
 -- The empty source gives the empty text, over any data.
 abbrev pub EmptyRow : Type 0
@@ -183,9 +197,10 @@ BlockRow = (given : Data) (b i : Body) → IsRefusedFor given (block (codes "a")
 abbrev pub nested_if : Text → Param
 nested_if key = subexpression (expression (call_of (name (codes "if")) (path_of key ∷ [])))
 
--- the state, in the one block that a run begins with
+-- the state, in the one block that a run begins with, and where no decorator has changed anything
 abbrev pub in_first_block : Bool → State → State
-in_first_block recursive s = record s { blocks = empty_frame ∷ []; recursive = recursive }
+in_first_block recursive s =
+    record s { blocks = empty_frame ∷ []; recursive = recursive; changed = None; local = nothing_at }
 
 -- In parentheses an `if` has no body, so its value is the empty text: (if a).
 abbrev pub InnerIfRow : Type 0

@@ -5,15 +5,11 @@ use Rattle.handlebars_base.specs.Bytes.{Text}
 use Rattle.handlebars_base.specs.Reasons.{Refusal, invalid_json_index}
 use Rattle.handlebars_tags.specs.Options.{no_options}
 use Rattle.handlebars_template.specs.Tree.{expression, name, literal}
-use Rattle.handlebars_helpers.specs.Decoration.{built_in_decorator}
-use Rattle.handlebars_helpers.specs.Callee.{first_callee}
-use Rattle.handlebars_helpers.specs.Own.{no_own}
-use Rattle.handlebars_helpers.specs.Escaping.{for_html}
 use Rattle.handlebars_meaning.specs.State.{Setting}
 use Rattle.handlebars_meaning.specs.Runs.{Refused}
 use Rattle.handlebars_meaning.specs.Answer.{FromSource, RenderAnswers, GivesText}
 use Rattle.handlebars_meaning.specs.Laws.{alone}
-use Rattle.handlebars_worked.specs.Rows.{with, over, keeping, path_of, call_of}
+use Rattle.handlebars_worked.specs.Rows.{with, over, first_parts, keeping, path_of, call_of}
 
 -- ---- data
 
@@ -33,7 +29,7 @@ with_two key d other e = object (member key d (member other e no_members))
 
 -- a run with recursive lookup, with the helpers that every registry begins with
 abbrev pub recursive_over : Data → Setting
-recursive_over given = record { given = given; parts = record { helper = first_callee; own = no_own; decorator = built_in_decorator; escape = for_html; strict = false; recursive = true } }
+recursive_over given = record { given = given; parts = record first_parts { recursive = true } }
 
 -- the text that a source gives in a run
 abbrev pub Gives : Setting → Text → Text → Type 0

@@ -3,6 +3,7 @@
 #![tactic(auto)]
 
 mod decorators;
+mod deeds;
 mod helpers;
 mod own;
 mod rows;
@@ -10,6 +11,7 @@ mod scopes;
 mod sources;
 
 pub use decorators::worked_decorators;
+pub use deeds::worked_deeds;
 pub use helpers::worked_helpers;
 pub use own::worked_own_helpers;
 pub use rows::worked_rows;
