@@ -2,3 +2,4 @@ pub mod OneAnswer
 pub mod Once
 pub mod RunLaws
 pub mod RunOrigins
+pub mod Counted

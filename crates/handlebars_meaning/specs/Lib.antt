@@ -13,4 +13,5 @@ pub mod Runs
 pub mod Visits
 pub mod Origins
 pub mod Laws
+pub mod Counted
 pub mod Answer
