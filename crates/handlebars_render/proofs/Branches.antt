@@ -11,16 +11,15 @@ use Rattle.handlebars_base.specs.Scoped.{Found, data_in, missing, present_in, va
 use Rattle.handlebars_base.specs.Values.{truth}
 use Rattle.handlebars_base.specs.declared.error.render_error.RenderError.{RenderError}
 use Rattle.handlebars_template.specs.Tree.{Args, Call, call_args, call_name, path}
-use Rattle.handlebars_scope.specs.Resolve.{resolved}
 use Rattle.handlebars_helpers.specs.CallView.{CallView}
-use Rattle.handlebars_helpers.specs.Callee.{built}
+use Rattle.handlebars_helpers.specs.Callee.{built, calls_registered}
 use Rattle.handlebars_helpers.specs.Choice.{body_if, chosen}
 use Rattle.handlebars_meaning.specs.Asks.{goes_on, is_refused}
 use Rattle.handlebars_meaning.specs.CarryOut.{carry_out, helper_call, render_word}
 use Rattle.handlebars_meaning.specs.Means.{render_call}
 use Rattle.handlebars_meaning.specs.Sites.{Site}
-use Rattle.handlebars_meaning.specs.State.{Setting, State, data_at, helper_for}
-use Rattle.handlebars_meaning.specs.Values.{HasName, HasValue, HasView, as_written}
+use Rattle.handlebars_meaning.specs.State.{Setting, State, helper_for}
+use Rattle.handlebars_meaning.specs.Values.{HasName, HasValue, HasView, as_written, value_at}
 use Rattle.handlebars_render.specs.Next.{Judges, Takes, path_alone, wanting}
 use Rattle.handlebars_render.specs.View.{Answered, CarriesOn, Moment, RefusesValue}
 use Rattle.handlebars_render.proofs.Leaves.{leaves-called, refuses-view}
@@ -48,34 +47,34 @@ chooses-wanted strict block false b c t r found is = ap (λ (z : Bool). gives (b
 module _ (p : Setting) where
   module _ (s : State) (r : Reference) where
     pub judges-value : (d : Data) (b : Bool)
-        → gives (Some d) ≡ answer_map present_in (resolved s.recursive s.blocks r (data_at p s))
+        → gives (Some d) ≡ answer_map present_in (value_at p s r)
         → b ≡ truth false d → Judges p s r (Ok b)
     judges-value d b e is =
         let x = reached-value p s (path r) r (Some d) refl e in
         (x.0, x.1, is ∙ ap (truth false) (sym (data-seen x.0 d x.2)))
 
-    pub judges-nothing : gives None ≡ answer_map present_in (resolved s.recursive s.blocks r (data_at p s))
+    pub judges-nothing : gives None ≡ answer_map present_in (value_at p s r)
         → Judges p s r (Ok false)
     judges-nothing e =
         let x = reached-value p s (path r) r None refl e in
         (x.0, x.1, ap (truth false) (sym (data-unseen x.0 x.2)))
 
     pub judges-refused : (why : Refusal) (e : RenderError)
-        → refuses why ≡ answer_map present_in (resolved s.recursive s.blocks r (data_at p s))
+        → refuses why ≡ answer_map present_in (value_at p s r)
         → (reason_in e ≢ out_of_memory → refusal_of e ≡ why) → Judges p s r (Err e)
     judges-refused why e reached same = λ other.
         subst (λ (z : Refusal). HasValue p s (path r) (refuses z)) (sym (same other)) (reached-none p s (path r) r why refl reached)
 
   module _ (site : Site) (block : Bool) (c : Call) (t : Text) (r : Reference) {s : State}
       (named : HasName p s (call_name c) (gives t)) (alone : call_args c ≡ path_alone r) where
-    pub takes-path : (wanted b truth : Bool) → Some (built (wanting wanted)) ≡ helper_for p.parts s block t
+    pub takes-path : (wanted b truth : Bool) → Some (calls_registered (built (wanting wanted))) ≡ helper_for p.parts s block t
         → Judges p s r (Ok b) → truth ≡ (if wanted then b else not b)
         → Takes p site block c (render_call site block c) s truth
     takes-path wanted b truth is judged same = record {
       kind = wanting wanted;
       view = record { name = t; params = as_written (path r) judged.0 ∷ []; pairs = [] };
       leaves = leaves-called p site block c (record { name = t; params = as_written (path r) judged.0 ∷ []; pairs = [] })
-          (built (wanting wanted))
+          (calls_registered (built (wanting wanted)))
           (subst (λ (z : Args). HasView p s (call_name c) z
           (gives (record { name = t; params = as_written (path r) judged.0 ∷ []; pairs = [] }))) (sym alone)
           (goes_on named (goes_on (goes_on (goes_on judged.1 refl) (goes_on refl refl)) (goes_on refl refl)))) is;

@@ -1,5 +1,5 @@
 -- What calls of helpers carry out, and lone expressions.
-use Rattle.std.proofs.Common.{◌≡◌, ◌≢◌, Bool, true, false, [], Option, None, Some, Ok, Err, refl, sym, ap, ◌∙◌, subst}
+use Rattle.std.proofs.Common.{◌≡◌, ◌≢◌, Bool, [], None, Some, Ok, Err, refl, sym, ap, ◌∙◌, subst}
 use Rattle.std.specs.declared.io.Error.{Error}
 use Rattle.serde_json.specs.Data.{Data}
 use Rattle.handlebars_base.specs.Answers.{gives, refuses, IsRefusal}
@@ -7,26 +7,23 @@ use Rattle.handlebars_base.specs.Bytes.{Text}
 use Rattle.handlebars_base.specs.Reasons.{Reason, Refusal, out_of_memory}
 use Rattle.handlebars_base.specs.RenderRefusals.{plain_refusal, reason_in, refusal_of}
 use Rattle.handlebars_base.specs.Scoped.{Found, walked, value, missing, present_in}
-use Rattle.handlebars_base.specs.Values.{rendered}
 use Rattle.handlebars_base.specs.declared.error.render_error.RenderError.{RenderError}
 use Rattle.handlebars_template.specs.Tree.{Param, Body, no_body, Call, call_name, Decorator, decorator_name, decorator_args}
 use Rattle.handlebars_base.specs.Outputs.{Held}
 use Rattle.handlebars_meaning.specs.Sites.{TreeSite, Site}
 use Rattle.handlebars_helpers.specs.CallView.{CallView, HelperView}
-use Rattle.handlebars_helpers.specs.Callee.{Callee, built}
-use Rattle.handlebars_helpers.specs.Choice.{Kind, Choice, the_value, chosen}
-use Rattle.handlebars_helpers.specs.Escaping.{escaped_by, written_by}
+use Rattle.handlebars_helpers.specs.Callee.{Target, built, calls_registered}
+use Rattle.handlebars_helpers.specs.Choice.{Kind, Choice, chosen}
 use Rattle.handlebars_meaning.specs.State.{Setting, State}
 use Rattle.handlebars_meaning.specs.Steps.{Prog, ask, refuse_for, ◌>>=◌}
-use Rattle.handlebars_meaning.specs.Writing.{rendered_if_any, write_text, write_rendered, write_value}
-use Rattle.handlebars_meaning.specs.Pieces.{of_value, of_raw}
+use Rattle.handlebars_meaning.specs.Writing.{write_value}
 use Rattle.handlebars_meaning.specs.CarryOut.{render_branch, carry_out}
-use Rattle.handlebars_meaning.specs.Questions.{value_of, view_of, choice_of, escape_of, HasChoice}
+use Rattle.handlebars_meaning.specs.Questions.{value_of, view_of, choice_of, HasChoice}
 use Rattle.handlebars_meaning.specs.Values.{HasValue, HasView}
 use Rattle.handlebars_meaning.specs.Means.{line_in, render_chosen, render_found, render_lone_as}
 use Rattle.handlebars_meaning.specs.Runs.{Runs, Refused, refused}
-use Rattle.handlebars_render.specs.View.{Moment, Answered, CarriesOn, GivesValue, Puts, RefusesValue}
-use Rattle.handlebars_render.proofs.Carry.{at, carries_on-get, carries_on-puts, carries_on-value, carries_on-no_value, carries_on-done}
+use Rattle.handlebars_render.specs.View.{Moment, Answered, CarriesOn, GivesValue, RefusesValue}
+use Rattle.handlebars_render.proofs.Carry.{at, carries_on-value, carries_on-no_value, carries_on-done}
 use Rattle.handlebars_render.proofs.Asked.{gives-ask, refuses-ask, refuses-bind, refuses-then}
 
 -- the line with another mark
@@ -71,25 +68,6 @@ module _ (p : Setting) where
       (subst (λ (z : Found). HasValue p s r (gives z)) (missing-seen v is) g)
 
 module _ (p : Setting) (may : Error → Type 0) where
-  -- ---- values that are written
-
-  shows_rendered : (site : Site) (v : Found) (escapes : Bool) {s next : State} {h new : Held} {r : Answered}
-      → Puts (written_by p.parts.escape escapes (rendered_if_any (present_in v))) may (at s h) r (at next new)
-      → CarriesOn p (write_rendered site v escapes) may (at s h) r (at next new)
-  shows_rendered site v true puts =
-      let t = rendered_if_any (present_in v) in
-      carries_on-value p may (ask (escape_of t)) (write_text (of_value site v))
-      (gives-ask p (escape_of t) (escaped_by p.parts.escape t) refl)
-      (carries_on-puts p may (of_value site v) (escaped_by p.parts.escape t) puts)
-  shows_rendered site v false puts =
-      carries_on-puts p may (of_raw site v) (rendered_if_any (present_in v)) puts
-
-  shows : (site : Site) (v : Found) {s next : State} {h new : Held} {r : Answered}
-      → Puts (written_by p.parts.escape s.escapes (rendered_if_any (present_in v))) may (at s h) r (at next new)
-      → CarriesOn p (write_value site v) may (at s h) r (at next new)
-  shows site v {s = s} puts =
-      carries_on-get p may (λ z. write_rendered site v z.escapes) (shows_rendered site v s.escapes puts)
-
   -- ---- bodies, and values that are chosen
 
   -- a body that isn't there
@@ -99,76 +77,48 @@ module _ (p : Setting) (may : Error → Type 0) where
       subst (λ (z : Body). CarriesOn p (render_branch there z) may (at s h) (Ok u) (at s h)) (sym is)
       (carries_on-done p may)
 
-  -- a value that a helper chose
-  pub carry_out_value : (site : Site) (h : HelperView) (d : Data) {s next : State} {old new : Held} {r : Answered}
-      → Puts (written_by p.parts.escape s.escapes (rendered d)) may (at s old) r (at next new)
-      → CarriesOn p (carry_out site h (the_value d)) may (at s old) r (at next new)
-  carry_out_value site h d puts = shows site (value d) puts
-
   -- ---- what is chosen, and by whom
 
   pub chosen_ok : (strict : Bool) (site : Site) (k : Kind) (v w : HelperView) (x : Choice) {s : State} {h : Held}
       {after : Moment} {r : Answered} → strict ≡ p.parts.strict → v ≡ w → chosen strict k v ≡ gives x
-      → CarriesOn p (carry_out site w x) may (at s h) r after → CarriesOn p (render_chosen site (built k) w) may (at s h) r after
+      → CarriesOn p (carry_out site w x) may (at s h) r after
+      → CarriesOn p (render_chosen site (calls_registered (built k)) w) may (at s h) r after
   chosen_ok strict site k v w x same_mode same is a =
-      carries_on-value p may (ask (choice_of (built k) w)) (carry_out site w)
-      (gives-ask p (choice_of (built k) w) x
+      carries_on-value p may (ask (choice_of (calls_registered (built k)) w)) (carry_out site w)
+      (gives-ask p (choice_of (calls_registered (built k)) w) x
       (sym is ∙ ap (λ (z : Bool). chosen z k v) same_mode ∙ ap (chosen p.parts.strict k) same)) a
 
-  pub chosen_err : (strict : Bool) (site : Site) (k : Kind) (v w : HelperView) {s next : State} {h : Held}
-      (e : RenderError) → strict ≡ p.parts.strict → v ≡ w
-      → (reason_in e ≢ out_of_memory → chosen strict k v ≡ refuses (refusal_of e))
-      → CarriesOn p (render_chosen site (built k) w) may (at s h) (Err e) (at next h)
-  chosen_err strict site k v w e same_mode same is =
-      carries_on-no_value p may (ask (choice_of (built k) w)) (carry_out site w) e
-      (λ other. refuses-ask p (choice_of (built k) w)
-      (sym (is other) ∙ ap (λ (z : Bool). chosen z k v) same_mode ∙ ap (chosen p.parts.strict k) same))
-
   -- what is chosen by whatever is called
-  pub choice_ok : (site : Site) (callee : Callee) (v w : HelperView) (x : Choice) {s : State} {h : Held} {after : Moment}
-      {r : Answered} → v ≡ w → HasChoice p s callee v (gives x) → CarriesOn p (carry_out site w x) may (at s h) r after
-      → CarriesOn p (render_chosen site callee w) may (at s h) r after
-  choice_ok site callee v w x {s = s} same has a =
-      carries_on-value p may (ask (choice_of callee w)) (carry_out site w)
-      (gives-ask p (choice_of callee w) x (subst (λ (z : HelperView). HasChoice p s callee z (gives x)) same has)) a
+  pub choice_ok : (site : Site) (target : Target) (w : HelperView) (x : Choice) {s : State} {h : Held} {after : Moment}
+      {r : Answered} → HasChoice p s target w (gives x) → CarriesOn p (carry_out site w x) may (at s h) r after
+      → CarriesOn p (render_chosen site target w) may (at s h) r after
+  choice_ok site target w x has a =
+      carries_on-value p may (ask (choice_of target w)) (carry_out site w) (gives-ask p (choice_of target w) x has) a
 
-  pub choice_err : (site : Site) (callee : Callee) (v w : HelperView) {s next : State} {h : Held} (e : RenderError)
-      → v ≡ w → (reason_in e ≢ out_of_memory → HasChoice p s callee v (refuses (refusal_of e)))
-      → CarriesOn p (render_chosen site callee w) may (at s h) (Err e) (at next h)
-  choice_err site callee v w {s = s} e same is =
-      carries_on-no_value p may (ask (choice_of callee w)) (carry_out site w) e
-      (λ other. refuses-ask p (choice_of callee w)
-      (subst (λ (z : HelperView). HasChoice p s callee z (refuses (refusal_of e))) same (is other)))
-
-  -- a call under another name of what is called
-  pub chosen_by : (site : Site) (a b : Callee) (h : HelperView) {before after : Moment} {r : Answered} → b ≡ a
-      → CarriesOn p (render_chosen site a h) may before r after → CarriesOn p (render_chosen site b h) may before r after
-  chosen_by site a b h {before = before} {after = after} {r = r} same c =
-      subst (λ (z : Callee). CarriesOn p (render_chosen site z h) may before r after) (sym same) c
+  pub choice_err : (site : Site) (target : Target) (w : HelperView) {s next : State} {h : Held} (e : RenderError)
+      → (reason_in e ≢ out_of_memory → HasChoice p s target w (refuses (refusal_of e)))
+      → CarriesOn p (render_chosen site target w) may (at s h) (Err e) (at next h)
+  choice_err site target w e is =
+      carries_on-no_value p may (ask (choice_of target w)) (carry_out site w) e
+      (λ other. refuses-ask p (choice_of target w) (is other))
 
   -- ---- lone expressions
 
-  found_there : (site : Site) (c : Call) (w : CallView) (v : Found) (d : Data) {s next : State} {h new : Held} {r : Answered}
-      → present_in v ≡ Some d → Puts (written_by p.parts.escape s.escapes (rendered d)) may (at s h) r (at next new)
-      → CarriesOn p (render_found site c w v) may (at s h) r (at next new)
-  found_there site c w (walked e path) d {s = s} {next = next} {h = h} {new = new} {r = r} is puts =
-      shows site (walked e path)
-      (subst (λ (z : Option Data). Puts (written_by p.parts.escape s.escapes (rendered_if_any z)) may (at s h) r (at next new)) (sym is) puts)
-  found_there site c w (value e) d {s = s} {next = next} {h = h} {new = new} {r = r} is puts =
-      shows site (value e)
-      (subst (λ (z : Option Data). Puts (written_by p.parts.escape s.escapes (rendered_if_any z)) may (at s h) r (at next new)) (sym is) puts)
-  found_there site c w missing d is puts = absurd (None≢Some is)
+  found_there : (site : Site) (c : Call) (w : CallView) (v : Found) (d : Data) {before after : Moment} {r : Answered}
+      → present_in v ≡ Some d → CarriesOn p (write_value site v) may before r after
+      → CarriesOn p (render_found site c w v) may before r after
+  found_there site c w (walked e path) d is a = a
+  found_there site c w (value e) d is a = a
+  found_there site c w missing d is a = absurd (None≢Some is)
 
   -- a value that is there
-  pub value_there : (site : Site) (c : Call) (w : CallView) (q : Param) (v : Found) (d : Data)
-      {s next : State} {h new : Held} {r : Answered}
-      → call_name c ≡ q → HasValue p s q (gives v) → present_in v ≡ Some d
-      → Puts (written_by p.parts.escape s.escapes (rendered d)) may (at s h) r (at next new)
-      → CarriesOn p (render_lone_as site c w None) may (at s h) r (at next new)
-  value_there site c w q v d {s = s} same g is puts =
+  pub value_there : (site : Site) (c : Call) (w : CallView) (v : Found) (d : Data) {s : State} {h : Held}
+      {after : Moment} {r : Answered} → HasValue p s (call_name c) (gives v) → present_in v ≡ Some d
+      → CarriesOn p (write_value site v) may (at s h) r after
+      → CarriesOn p (render_lone_as site c w None) may (at s h) r after
+  value_there site c w v d g is a =
       carries_on-value p may (ask (value_of (call_name c))) (render_found site c w)
-      (gives-ask p (value_of (call_name c)) v (subst (λ (z : Param). HasValue p s z (gives v)) (sym same) g))
-      (found_there site c w v d is puts)
+      (gives-ask p (value_of (call_name c)) v g) (found_there site c w v d is a)
 
   pub value_err : (site : Site) (c : Call) (w : CallView) (q : Param) {s next : State} {h : Held} (e : RenderError)
       → call_name c ≡ q → (reason_in e ≢ out_of_memory → HasValue p s q (refuses (refusal_of e)))

@@ -13,14 +13,14 @@ use Rattle.handlebars_scope.specs.LineView.{line_of}
 use Rattle.handlebars_scope.specs.LineState.{LineState}
 use Rattle.handlebars_base.specs.Outputs.{Held}
 use Rattle.handlebars_helpers.specs.CallView.{CallView}
-use Rattle.handlebars_helpers.specs.Callee.{Callee}
+use Rattle.handlebars_helpers.specs.Callee.{Target}
 use Rattle.handlebars_meaning.specs.Asks.{is_refused}
 use Rattle.handlebars_meaning.specs.CarryOut.{helper_call}
 use Rattle.handlebars_meaning.specs.Means.{render_chosen, render_helped, render_call, render_hook, render_found, render_lone_as, render_lone, render_expression}
 use Rattle.handlebars_meaning.specs.Questions.{value_of, view_of, helper_of, called_as, hook_for, helper_or_refusal}
 use Rattle.handlebars_meaning.specs.Runs.{Runs, Refused}
 use Rattle.handlebars_meaning.specs.Sites.{Site}
-use Rattle.handlebars_meaning.specs.State.{Setting, State, hook, helper_for}
+use Rattle.handlebars_meaning.specs.State.{Setting, State, hook, helper_for, helper_named, registered_target}
 use Rattle.handlebars_meaning.specs.Steps.{Steps, Prog, ask, ◌>>=◌}
 use Rattle.handlebars_meaning.specs.Values.{HasName, HasValue, HasView}
 use Rattle.handlebars_render.specs.Boxed.{answer_of, error_of}
@@ -35,7 +35,7 @@ use Rattle.handlebars_render.proofs.Carry.{at, carries-no_value}
 use Rattle.handlebars_render.proofs.LoneValues.{view-alone}
 
 -- strict mode's answer for a missing value
-abbrev refused_missing : Param → Answer (Option Callee)
+abbrev refused_missing : Param → Answer (Option Target)
 refused_missing q = refuses_for (missing_variable (as_name q))
 
 module _ (p : Setting) where
@@ -77,7 +77,7 @@ module _ (p : Setting) where
         (gives-ask p (view_of (call_name c) (call_args c)) v g)
 
     -- and its helper looked up
-    pub leaves-called : (v : CallView) (k : Callee) {s : State} → HasView p s (call_name c) (call_args c) (gives v)
+    pub leaves-called : (v : CallView) (k : Target) {s : State} → HasView p s (call_name c) (call_args c) (gives v)
         → Some k ≡ helper_for p.parts s block v.name
         → Leaves p (render_call site block c) s (render_helped site block c k v)
     leaves-called v k {s = s} g is =
@@ -116,8 +116,8 @@ module _ (p : Setting) where
   -- ---- lone expressions
 
   module _ (site : Site) (c : Call) where
-    leaves-lone_as : (t : Text) (h : Option Callee) {s : State} → is_value c ≡ true
-        → HasName p s (call_name c) (gives t) → h ≡ p.parts.helper t
+    leaves-lone_as : (t : Text) (h : Option Target) {s : State} → is_value c ≡ true
+        → HasName p s (call_name c) (gives t) → h ≡ helper_named p.parts s t
         → Leaves p (render_lone site c) s (render_lone_as site c (name_alone t) h)
     leaves-lone_as t h {s = s} lone named is =
         leaves-trans (render_lone site c) (ask (helper_of t) >>= render_lone_as site c (name_alone t))
@@ -126,20 +126,20 @@ module _ (p : Setting) where
         (λ v. ask (helper_of v.name) >>= render_lone_as site c v) (name_alone t)
         (gives-ask p (view_of (call_name c) (call_args c)) (name_alone t) (view-alone p s c t lone named)))
         (leaves-value_of (ask (helper_of t)) (render_lone_as site c (name_alone t)) h
-        (gives-ask p (helper_of t) h (ap (λ (z : Option Callee). gives z) is)))
+        (gives-ask p (helper_of t) h (ap (λ (z : Option Target). gives z) is)))
 
     -- a helper has the name
-    pub leaves-named : (t : Text) (h k : Callee) (v : CallView) {s : State} → is_value c ≡ true
-        → HasName p s (call_name c) (gives t) → Some h ≡ p.parts.helper t → k ≡ h → v ≡ name_alone t
+    pub leaves-named : (t : Text) (h k : Target) (v : CallView) {s : State} → is_value c ≡ true
+        → HasName p s (call_name c) (gives t) → Some h ≡ helper_named p.parts s t → k ≡ h → v ≡ name_alone t
         → Leaves p (render_lone site c) s (render_helped site false c k v)
     leaves-named t h k v {s = s} lone g is called same =
-        subst (λ (z : Callee). Leaves p (render_lone site c) s (render_helped site false c z v)) (sym called)
+        subst (λ (z : Target). Leaves p (render_lone site c) s (render_helped site false c z v)) (sym called)
         (subst (λ (z : CallView). Leaves p (render_lone site c) s (render_helped site false c h z)) (sym same)
         (leaves-lone_as t (Some h) lone g is))
 
     -- no helper has it
     pub leaves-value : (t : Text) {s : State} → is_value c ≡ true → HasName p s (call_name c) (gives t)
-        → None ≡ p.parts.helper t → Leaves p (render_lone site c) s (render_lone_as site c (name_alone t) None)
+        → None ≡ helper_named p.parts s t → Leaves p (render_lone site c) s (render_lone_as site c (name_alone t) None)
     leaves-value t lone g is = leaves-lone_as t None lone g is
 
     pub refuses-lone : {s : State} {r : Refusal} → HasName p s (call_name c) (refuses r)
@@ -161,27 +161,27 @@ module _ (p : Setting) where
         (refuses-ask p (hook_for (call_name c))
         (ap (λ (z : Refusal). refuses z) (why other)
         ∙ ap refused_missing (sym same)
-        ∙ ap (λ (z : Bool). if z then refuses_for (missing_variable (as_name (call_name c))) else gives (p.parts.helper (hook false)))
+        ∙ ap (λ (z : Bool). if z then refuses_for (missing_variable (as_name (call_name c))) else gives (registered_target p.parts (hook false)))
         strict))
 
-    leaves-hook_as : (v : CallView) (h : Option Callee) {s : State} → false ≡ p.parts.strict → h ≡ p.parts.helper (hook false)
+    leaves-hook_as : (v : CallView) (h : Option Target) {s : State} → false ≡ p.parts.strict → h ≡ registered_target p.parts (hook false)
         → Leaves p (render_found site c v missing) s (render_hook site c v h)
     leaves-hook_as v h lenient is = leaves-value_of (ask (hook_for (call_name c))) (render_hook site c v) h
         (gives-ask p (hook_for (call_name c)) h
-        (ap (λ (z : Option Callee). gives z) is
-        ∙ ap (λ (z : Bool). if z then refuses_for (missing_variable (as_name (call_name c))) else gives (p.parts.helper (hook false)))
+        (ap (λ (z : Option Target). gives z) is
+        ∙ ap (λ (z : Bool). if z then refuses_for (missing_variable (as_name (call_name c))) else gives (registered_target p.parts (hook false)))
         lenient))
 
-    pub leaves-hook : (t : Text) (h k : Callee) (v : CallView) {s : State} → false ≡ p.parts.strict
-        → Some h ≡ p.parts.helper (hook false) → k ≡ h → v ≡ name_alone t
+    pub leaves-hook : (t : Text) (h k : Target) (v : CallView) {s : State} → false ≡ p.parts.strict
+        → Some h ≡ registered_target p.parts (hook false) → k ≡ h → v ≡ name_alone t
         → Leaves p (render_found site c (name_alone t) missing) s (render_chosen site k (helper_call false c v))
     leaves-hook t h k v {s = s} lenient is called same =
-        subst (λ (z : Callee). Leaves p (render_found site c (name_alone t) missing) s
+        subst (λ (z : Target). Leaves p (render_found site c (name_alone t) missing) s
         (render_chosen site z (helper_call false c v))) (sym called)
         (subst (λ (z : CallView). Leaves p (render_found site c (name_alone t) missing) s
         (render_chosen site h (helper_call false c z))) (sym same) (leaves-hook_as (name_alone t) (Some h) lenient is))
 
-    pub gives-nothing : (v : CallView) {s : State} → false ≡ p.parts.strict → None ≡ p.parts.helper (hook false)
+    pub gives-nothing : (v : CallView) {s : State} → false ≡ p.parts.strict → None ≡ registered_target p.parts (hook false)
         → GivesValue p (render_found site c v missing) s tt
     gives-nothing v lenient is = leaves-hook_as v None lenient is
 

@@ -12,6 +12,9 @@ mod LoneValues
 mod Ordered
 mod Values
 mod OwnSteps
+mod Shows
+mod LocalCalls
+mod Changed
 mod Turns
 pub mod Silent
 mod Evaluated

@@ -8,10 +8,9 @@ use Rattle.handlebars_base.specs.Reasons.{Refusal}
 use Rattle.handlebars_base.specs.Scoped.{Found, missing, present_in, value}
 use Rattle.handlebars_base.specs.Path.{Reference, raw_of}
 use Rattle.handlebars_template.specs.Tree.{Call, Element, Param, as_name, call, name, literal, path, subexpression, call_name, call_args, is_value, args, no_params, param, no_pairs, pair}
-use Rattle.handlebars_scope.specs.Resolve.{resolved}
 use Rattle.handlebars_meaning.specs.Asks.{goes_on, is_refused}
-use Rattle.handlebars_meaning.specs.State.{Setting, State, data_at}
-use Rattle.handlebars_meaning.specs.Values.{HasInnerValue, HasName, HasValue, HasView, called_by}
+use Rattle.handlebars_meaning.specs.State.{Setting, State}
+use Rattle.handlebars_meaning.specs.Values.{HasInnerValue, HasName, HasValue, HasView, called_by, value_at}
 use Rattle.handlebars_render.specs.View.{name_alone}
 
 None≢Some : {A : Type 0} {x : A} → None ≡ Some x → ⊥
@@ -105,21 +104,21 @@ module _ (p : Setting) (s : State) where
   -- ---- what a path reaches
 
   pub reached-value : (q : Param) (r : Reference) (o : Option Data) → q ≡ path r
-      → gives o ≡ answer_map present_in (resolved s.recursive s.blocks r (data_at p s))
+      → gives o ≡ answer_map present_in (value_at p s r)
       → (found : Found) × HasValue p s q (gives found) × (present_in found ≡ o)
   reached-value q r o is e =
-      let x = gives-resolved (resolved s.recursive s.blocks r (data_at p s)) o o (sym e) refl in
+      let x = gives-resolved (value_at p s r) o o (sym e) refl in
       (x.0, subst (λ (z : Param). HasValue p s z (gives x.0)) (sym is) x.1, x.2)
 
   pub reached-none : (q : Param) (r : Reference) (why : Refusal) → q ≡ path r
-      → refuses why ≡ answer_map present_in (resolved s.recursive s.blocks r (data_at p s))
+      → refuses why ≡ answer_map present_in (value_at p s r)
       → HasValue p s q (refuses why)
   reached-none q r why is e =
       subst (λ (z : Param). HasValue p s z (refuses why)) (sym is)
-      (refuses-resolved (resolved s.recursive s.blocks r (data_at p s)) why (sym e))
+      (refuses-resolved (value_at p s r) why (sym e))
 
   pub reached-none-as : (q : Param) (r : Reference) (why given : Refusal) → q ≡ path r
-      → refuses why ≡ answer_map present_in (resolved s.recursive s.blocks r (data_at p s)) → given ≡ why
+      → refuses why ≡ answer_map present_in (value_at p s r) → given ≡ why
       → HasValue p s q (refuses given)
   reached-none-as q r why given is e same =
       subst (λ (z : Refusal). HasValue p s q (refuses z)) (sym same) (reached-none q r why is e)

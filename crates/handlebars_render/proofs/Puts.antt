@@ -14,10 +14,9 @@ use Rattle.handlebars_base.specs.Values.{rendered, word}
 use Rattle.handlebars_base.specs.Outputs.{Held, IsWhole, IsCutOff, write_reason}
 use Rattle.handlebars_base.specs.Escape.{escaped}
 use Rattle.handlebars_scope.specs.LineState.{LineState, line_behind}
-use Rattle.handlebars_base.specs.Shown.{shown}
+use Rattle.handlebars_base.specs.Shown.{escaped_if}
 use Rattle.handlebars_meaning.specs.Runs.{plain_fault}
 use Rattle.handlebars_meaning.specs.State.{State}
-use Rattle.handlebars_helpers.specs.Escaping.{Escaping, for_html, for_plain, written_by, gives_entities}
 use Rattle.handlebars_meaning.specs.Writing.{rendered_if_any}
 use Rattle.handlebars_render.specs.View.{Moment, Answered, Puts, all_put, front_put, TellsFault, PutsWord, word_put, word_cut, word_reason, behind, with_line}
 use Rattle.handlebars_render.specs.Boxed.{IsHandedOn}
@@ -28,21 +27,11 @@ pub rendered-or_null : (o : Option Data) → rendered_if_any o ≡ rendered (unw
 rendered-or_null None = refl
 rendered-or_null (Some d) = refl
 
--- what the base writes of a value, with entities or without, is its text, escaped as it is said
-pub shown-written : (k : Escaping) (escapes : Bool) (d : Data)
-    → shown (gives_entities k escapes) d ≡ written_by k escapes (rendered d)
-shown-written for_html true d = refl
-shown-written for_html false d = refl
-shown-written for_plain true d = refl
-shown-written for_plain false d = refl
-
 -- of no text nothing is written
-pub written_by-empty : (k : Escaping) (escapes : Bool) → written_by k escapes [] ≡ []
+pub escaped_if-empty : (entities : Bool) → escaped_if entities [] ≡ []
 unfolding escaped
-written_by-empty for_html true = refl
-written_by-empty for_html false = refl
-written_by-empty for_plain true = refl
-written_by-empty for_plain false = refl
+escaped_if-empty true = refl
+escaped_if-empty false = refl
 
 pub tells_fault : (cause : Error) (e : RenderError) → refusal_of e ≡ plain_refusal (write_reason (error_kind cause))
     → (error_kind cause ≢ OutOfMemory → cause_of e ≡ IOError cause) → TellsFault cause (plain_fault false) e

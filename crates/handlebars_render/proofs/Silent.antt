@@ -1,104 +1,107 @@
 -- What is done with nothing written.
-use Rattle.std.proofs.Common.{◌≡◌, ◌≢◌, [], Option, None, Some, Result, Ok, Err, refl, sym, ap, ◌∙◌, subst, append-nil}
+use Rattle.std.proofs.Common.{◌≡◌, ◌≢◌, List, [], ◌∷◌, None, Ok, Err, refl, sym, ◌∙◌, subst, append-nil}
 use Rattle.std.specs.declared.io.Error.{Error}
-use Rattle.std.specs.Result.{IsErrAnd}
-use Rattle.handlebars_base.specs.Answers.{Answer, gives, refuses, refuses_for}
-use Rattle.handlebars_base.specs.Optional.{with_or}
+use Rattle.handlebars_base.specs.Answers.{gives, refuses, IsRefusal}
+use Rattle.handlebars_base.specs.Bytes.{Text}
 use Rattle.handlebars_base.specs.Outputs.{Held}
-use Rattle.handlebars_base.specs.Reasons.{Refusal, decorator_not_found, out_of_memory}
-use Rattle.handlebars_base.specs.RenderRefusals.{reason_in, refusal_of}
+use Rattle.handlebars_base.specs.Reasons.{Refusal, block_content_required, out_of_memory}
+use Rattle.handlebars_base.specs.RenderRefusals.{plain_refusal, reason_in, refusal_of}
 use Rattle.handlebars_base.specs.declared.error.render_error.RenderError.{RenderError}
-use Rattle.handlebars_template.specs.Tree.{Element, Decorator, decorator_name, decorator_args}
+use Rattle.handlebars_template.specs.Tree.{Tree, Body, no_body, body, Element, Decorator, decorator_args, decorator_name}
 use Rattle.handlebars_helpers.specs.CallView.{CallView}
-use Rattle.handlebars_helpers.specs.Decoration.{DecoratorKind, DecoratorView, Decoration, sets_partial, decorated}
+use Rattle.handlebars_helpers.specs.Decoration.{Deed, DecoratorView}
 use Rattle.handlebars_meaning.specs.CarryOut.{change}
-use Rattle.handlebars_meaning.specs.Means.{render_decorator, render_element, shown_tag}
-use Rattle.handlebars_meaning.specs.Questions.{decorator_of, decoration_of, decorator_or_refusal, view_of}
-use Rattle.handlebars_meaning.specs.Runs.{Ended, Runs, done, refused, got, set, asked, did, did_over}
+use Rattle.handlebars_meaning.specs.Means.{do_deed, do_deeds, render_decorator, render_element, set_partial, shown_tag}
+use Rattle.handlebars_meaning.specs.Questions.{IsAnswered, Question, Reply, view_of}
+use Rattle.handlebars_meaning.specs.Runs.{Ended, Refused, Runs, done, refused, got, set, asked, did, did_over}
 use Rattle.handlebars_meaning.specs.Sites.{Site}
-use Rattle.handlebars_meaning.specs.State.{Kept, Parts, Setting, State, with_decoration}
-use Rattle.handlebars_meaning.specs.Steps.{One, Steps, Done, Do, Prog, ask, run, ◌>>=◌}
+use Rattle.handlebars_meaning.specs.State.{Setting, State, with_nearest, with_partial}
+use Rattle.handlebars_meaning.specs.Steps.{One, Steps, Done, Do, Prog, ask, return, run, ◌>>=◌, ◌>>◌}
 use Rattle.handlebars_meaning.specs.Values.{HasView}
-use Rattle.handlebars_render.specs.Boxed.{IsHandedOn, answer_of, error_of}
-use Rattle.handlebars_render.specs.declared.boxed.BoxedError.{BoxedError}
-use Rattle.handlebars_render.specs.Silent.{Does, Decorates, Evals}
-use Rattle.handlebars_render.specs.View.{Answered, CarriesOut, GivesValue, RefusesValue, ended, keeping}
+use Rattle.handlebars_render.specs.Boxed.{IsHandedOn}
+use Rattle.handlebars_render.specs.Silent.{Does, Evals, decorate_as}
+use Rattle.handlebars_render.specs.View.{Answered, CarriesOut, ended}
 use Rattle.handlebars_render.proofs.Asked.{refuses-ask, refuses-bind}
 use Rattle.handlebars_render.proofs.Carry.{at, carries-no_value, handed-refusal, refuses-handed}
 
--- a refusal that is an answer
-refusal_or : Refusal → Answer Decoration → Refusal
-refusal_or r (gives d) = r
-refusal_or r (refuses q) = q
-
--- the refusal of an answer, handed on
-pub refuses-answer : (a : Answer Decoration) (e d : RenderError) → IsHandedOn e d
-    → (reason_in e ≢ out_of_memory → a ≡ refuses (refusal_of e)) → reason_in d ≢ out_of_memory
-    → a ≡ refuses (refusal_of d)
-refuses-answer a e d h is other =
-    is (λ memory. other (h.memory memory)) ∙ ap (λ (r : Refusal). refuses r) (sym (handed-refusal e d h other))
-
--- what is kept stays so
-kept-decoration : (kept : Kept) (d : Decoration) (s : State) → keeping kept (with_decoration d s) ≡ with_decoration d (keeping kept s)
-kept-decoration kept (sets_partial name t) s = refl
-
-decorates-kept : (kept : Kept) (parts : Parts) (v : DecoratorView) (s next : State) (r : Answered)
-    → Decorates parts v s r next → Decorates parts v (keeping kept s) r (keeping kept next)
-decorates-kept kept parts v s next (Ok u) d = (d.0, d.1, ap (keeping kept) d.2 ∙ kept-decoration kept d.0 s)
-decorates-kept kept parts v s next (Err e) d = d
-
--- an error that says that memory ran out, as `?` hands it on
-pub decorates-out_of_memory : (parts : Parts) (v : DecoratorView) (s next : State) (r : Result (Unit {0}) BoxedError)
-    → IsErrAnd r (λ e. reason_in (error_of e) ≡ out_of_memory) → Decorates parts v s (answer_of r) next
-decorates-out_of_memory parts v s next (Ok u) is = absurd is
-decorates-out_of_memory parts v s next (Err e) is = λ other. absurd (other is)
-
 module _ (p : Setting) where
-  decoration_given : (w : DecoratorView) (o : Option DecoratorKind) (d : Decoration) {s : State}
-      → o ≡ p.parts.decorator w.call.name
-      → with_or o (λ k. decorated k w) (refuses_for (decorator_not_found w.call.name)) ≡ gives d
-      → GivesValue p (ask (decorator_of w.call.name) >>= (λ k. ask (decoration_of k w))) s d
+  -- ---- what is asked first
+
+  -- what is done with an answer
+  pub does-asked : (q : Question) (a : Reply q) (f : Reply q → Prog (Unit {0})) (s next : State) (r : Answered)
+      → IsAnswered p s q (gives a) → Does p (f a) s r next → Does p (ask q >>= f) s r next
   unfolding ◌>>=◌
-  decoration_given w None d is given = cc
-  decoration_given w (Some k) d is given = λ c ps o r.
-      asked (gives k) (ap (decorator_or_refusal w.call.name) is) (asked (gives d) (sym given) r)
+  does-asked q a f s next (Ok u) has d = λ k ps o r. asked (gives a) has (d k ps o r)
+  does-asked q a f s next (Err e) has d = λ other k. asked (gives a) has (d other k)
 
-  decoration_refused : (w : DecoratorView) (o : Option DecoratorKind) (r : Refusal) {s : State}
-      → o ≡ p.parts.decorator w.call.name
-      → with_or o (λ k. decorated k w) (refuses_for (decorator_not_found w.call.name)) ≡ refuses r
-      → RefusesValue p (ask (decorator_of w.call.name) >>= (λ k. ask (decoration_of k w))) s r
-  unfolding ◌>>=◌ refusal_or
-  decoration_refused w None r is given = λ c. asked (refuses r)
-      (ap (λ (q : Refusal). refuses q) (sym (ap (refusal_or r) given)) ∙ ap (decorator_or_refusal w.call.name) is) refused
-  decoration_refused w (Some k) r is given = λ c.
-      asked (gives k) (ap (decorator_or_refusal w.call.name) is) (asked (refuses r) (sym given) refused)
+  -- an answer that is a refusal, handed on
+  pub does-refused : (q : Question) (f : Reply q → Prog (Unit {0})) {s : State} (e d : RenderError) → IsHandedOn e d
+      → (reason_in e ≢ out_of_memory → IsAnswered p s q (refuses (refusal_of e))) → Does p (ask q >>= f) s (Err d) s
+  does-refused q f e d h is = refuses-handed p (ask q >>= f) e d h
+      (λ other. refuses-bind p (ask q) f (refuses-ask p q (is other)))
 
-  -- what the decorator of a tag does
-  pub does-decorated : (t : Decorator) (v : CallView) (s next : State) (r : Answered)
-      → HasView p s (decorator_name t) (decorator_args t) (gives v)
-      → Decorates p.parts (shown_tag t v) s r next → Does p (render_decorator t) s r next
+  -- the same of one that is known
+  pub does-refused_as : (q : Question) (f : Reply q → Prog (Unit {0})) {s : State} (r : Refusal) (e : RenderError)
+      → IsRefusal r e → IsAnswered p s q (refuses r) → Does p (ask q >>= f) s (Err e) s
+  does-refused_as q f {s = s} r e why is = λ other. refuses-bind p (ask q) f
+      (refuses-ask p q (subst (λ (z : Refusal). IsAnswered p s q (refuses z)) (sym (why other)) is))
+
+  -- a tag, as its decorator sees it
+  pub does-tag : (t : Decorator) (v : CallView) (w : DecoratorView) (s next : State) (r : Answered) → w ≡ shown_tag t v
+      → HasView p s (decorator_name t) (decorator_args t) (gives v) → Does p (decorate_as w) s r next
+      → Does p (render_decorator t) s r next
+  does-tag t v w s next r same has d = does-asked (view_of (decorator_name t) (decorator_args t)) v
+      (λ x. decorate_as (shown_tag t x)) s next r has (subst (λ (z : DecoratorView). Does p (decorate_as z) s r next) same d)
+
+  -- ---- deeds
+
+  pub does-change : (f : State → State) {s next : State} {u : Unit {0}} → next ≡ f s → Does p (change f) s (Ok u) next
   unfolding ◌>>=◌
-  does-decorated t v s next (Ok u) has d = λ k ps o r. asked (gives v) has
-      (decoration_given (shown_tag t v) (p.parts.decorator v.name) d.0 refl d.1 (λ x. change (with_decoration x) k) ps o
-      (got (set (subst (λ (z : State). Runs p (k tt) z ps o) d.2 r))))
-  does-decorated t v s next (Err e) has d = λ other k. asked (gives v) has
-      (decoration_refused (shown_tag t v) (p.parts.decorator v.name) (refusal_of e) refl (d other)
-      (λ x. change (with_decoration x) k))
+  does-change f is = λ k ps o r. got (set (subst (λ (z : State). Runs p (k tt) z ps o) is r))
 
-  -- the same, of a tag as its decorator sees it
-  pub does-tag : (t : Decorator) (v : CallView) (w : DecoratorView) (kept : Kept) (s next : State) (r : Answered)
-      → w ≡ shown_tag t v → HasView p (keeping kept s) (decorator_name t) (decorator_args t) (gives v)
-      → Decorates p.parts w s r next → Does p (render_decorator t) (keeping kept s) r (keeping kept next)
-  does-tag t v w kept s next r same has d = does-decorated t v (keeping kept s) (keeping kept next) r has
-      (decorates-kept kept p.parts (shown_tag t v) s next r (subst (λ (z : DecoratorView). Decorates p.parts z s r next) same d))
+  pub does-partial : (name : Text) (b : Body) (t : Tree) {s next : State} {u : Unit {0}} → body t ≡ b
+      → next ≡ with_nearest (with_partial name t) s → Does p (set_partial name b) s (Ok u) next
+  does-partial name b t {s = s} {next = next} {u = u} same is =
+      subst (λ (z : Body). Does p (set_partial name z) s (Ok u) next) same
+      (does-change (with_nearest (with_partial name t)) {u = u} is)
 
-  -- a tag whose view is refused
-  pub refuses-decorator : (t : Decorator) {s : State} (e d : RenderError) → IsHandedOn e d
-      → (reason_in e ≢ out_of_memory → HasView p s (decorator_name t) (decorator_args t) (refuses (refusal_of e)))
-      → reason_in d ≢ out_of_memory → RefusesValue p (render_decorator t) s (refusal_of d)
-  refuses-decorator t e d h is = refuses-handed p (render_decorator t) e d h (λ other.
-      refuses-bind p (ask (view_of (decorator_name t) (decorator_args t))) _
-      (refuses-ask p (view_of (decorator_name t) (decorator_args t)) (is other)))
+  pub refuses-partial : (name : Text) (b : Body) {s : State} (e : RenderError) → no_body ≡ b
+      → IsRefusal (plain_refusal block_content_required) e → Does p (set_partial name b) s (Err e) s
+  refuses-partial name b {s = s} e same why = λ other k.
+      subst (λ (z : Body). Runs p (set_partial name z k) s [] (Refused (refusal_of e))) same
+      (subst (λ (z : Refusal). Runs p (set_partial name no_body k) s [] (Refused z)) (sym (why other)) refused)
+
+  -- a deed alone
+  pub does-alone : (m : Prog (Unit {0})) (s next : State) (r : Answered) → Does p m s r next
+      → Does p (m >> return tt) s r next
+  unfolding ◌>>◌
+  does-alone m s next (Ok u) d = λ k ps o r. d (λ v. k tt) ps o r
+  does-alone m s next (Err e) d = λ other k. d other (λ v. k tt)
+
+  -- What comes of the deeds that are left, from now on, comes of all of them from the first state on.
+  abbrev pub DeedsLeft : Body → List Deed → List Deed → State → State → Type 0
+  DeedsLeft b all rest s now = (k : Unit {0} → Steps) (ps : List _) (o : _)
+      → Runs p (do_deeds b rest k) now ps o → Runs p (do_deeds b all k) s ps o
+
+  pub deeds-go : (b : Body) (all : List Deed) {rest more : List Deed} {deed : Deed} {s now next : State} {u : Unit {0}}
+      → rest ≡ deed ∷ more → DeedsLeft b all rest s now → Does p (do_deed b deed) now (Ok u) next
+      → DeedsLeft b all more s next
+  unfolding ◌>>◌
+  deeds-go b all {more = more} {now = now} is left d = λ k ps o r. left k ps o
+      (subst (λ (ds : List Deed). Runs p (do_deeds b ds k) now ps o) (sym is) (d (λ v. do_deeds b more k) ps o r))
+
+  pub deeds-over : (b : Body) (all : List Deed) {rest more : List Deed} {deed : Deed} {s now : State}
+      (e : RenderError) → rest ≡ deed ∷ more → DeedsLeft b all rest s now → Does p (do_deed b deed) now (Err e) now
+      → Does p (do_deeds b all) s (Err e) s
+  unfolding ◌>>◌
+  deeds-over b all {more = more} {now = now} e is left d = λ other k. left k [] (Refused (refusal_of e))
+      (subst (λ (ds : List Deed). Runs p (do_deeds b ds k) now [] (Refused (refusal_of e))) (sym is)
+      (d other (λ v. do_deeds b more k)))
+
+  pub deeds-end : (b : Body) (all : List Deed) {rest : List Deed} {s now : State} {u : Unit {0}} → rest ≡ []
+      → DeedsLeft b all rest s now → Does p (do_deeds b all) s (Ok u) now
+  deeds-end b all {now = now} is left = λ k ps o r. left k ps o
+      (subst (λ (ds : List Deed). Runs p (do_deeds b ds k) now ps o) (sym is) r)
 
 -- what is done is carried out, and the output holds what it held
 pub carries-does : (p : Setting) (may : Error → Type 0) (m : Prog (Unit {0})) {s next : State} {h : Held} (r : Answered)

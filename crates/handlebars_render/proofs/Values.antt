@@ -1,5 +1,5 @@
 -- How the values of calls compose.
-use Rattle.std.proofs.Common.{◌≡◌, ◌++◌, ℕ, ◌+◌, ◌<◌, ◌≤◌, List, [], ◌∷◌, length, drop, get_or, Bool, false, Option, Some, None, Result, Ok, Err, String, Global, rules, refl, sym, ap, ◌∙◌, subst, append_assoc, append-nil}
+use Rattle.std.proofs.Common.{◌≡◌, ◌++◌, ℕ, ◌+◌, ◌<◌, ◌≤◌, List, [], ◌∷◌, length, drop, get_or, Bool, false, Option, None, Result, Ok, Err, String, Global, rules, refl, sym, ap, ◌∙◌, subst, append_assoc, append-nil}
 use Rattle.std.specs.Prelude.{IfErr, IfOk, IsErrAnd, MatchResult}
 use Rattle.std.proofs.lemmas.List.{drop_more, drop_all}
 use Rattle.std.specs.String.{string_bytes}
@@ -14,17 +14,17 @@ use Rattle.handlebars_base.specs.Reasons.{Refusal, out_of_memory, helper_not_fou
 use Rattle.handlebars_base.specs.RenderRefusals.{plain_refusal, reason_in, refusal_of}
 use Rattle.handlebars_base.specs.declared.error.render_error.RenderError.{RenderError}
 use Rattle.handlebars_base.specs.Scoped.{Found}
-use Rattle.handlebars_template.specs.Tree.{as_name, args, Binding, Call, call, call_args, call_binding, call_name, expression, Param, Params, param, Pairs, no_pairs, pair}
+use Rattle.handlebars_template.specs.Tree.{as_name, args, Call, call, call_args, call_binding, call_name, expression, Param, Params, param, Pairs, no_pairs, pair}
 use Rattle.handlebars_template.specs.TreeView.{element_view, param_view, params_view, subexpression_view}
 use Rattle.handlebars_template.specs.declared.template.tree.Parameter.{Parameter}
 use Rattle.handlebars_template.specs.declared.template.tree.Subexpression.{Subexpression, out-Subexpression}
 use Rattle.handlebars_template.specs.declared.template.tree.BlockParam as tree
-use Rattle.handlebars_helpers.specs.CallView.{CallView, HelperView}
-use Rattle.handlebars_helpers.specs.Callee.{Callee, built}
+use Rattle.handlebars_helpers.specs.CallView.{HelperView}
+use Rattle.handlebars_helpers.specs.Callee.{Callee, Target, built}
 use Rattle.handlebars_helpers.specs.Choice.{Kind, Choice, chosen}
-use Rattle.handlebars_meaning.specs.Asks.{Asks, Then, only, ◌>>=◌, goes_on, is_refused}
+use Rattle.handlebars_meaning.specs.Asks.{Asks, Then, ◌>>=◌, goes_on, is_refused}
 use Rattle.handlebars_meaning.specs.State.{Setting, State, helper_for}
-use Rattle.handlebars_meaning.specs.Values.{is_literal, as_written, choice_value, inner_call, HasHelpedValue, HasInnerValue, HasView, HasWrittenValue, HaveValues, PairsHaveValues}
+use Rattle.handlebars_meaning.specs.Values.{is_literal, as_written, choice_value, inner_call, HasHelpedValue, HasRegisteredValue, HasInnerValue, HasView, HasWrittenValue, HaveValues, PairsHaveValues}
 use Rattle.handlebars_render.specs.View.{Yields}
 
 pub subexpression_view-out : (s : Subexpression)
@@ -65,11 +65,6 @@ yields-then seen first next (Err e) g is = λ other. goes_on g (is other)
 
 -- ---- calls in parentheses
 
--- what stands under the name that a call in parentheses shows
-pub named-inside : {X : Type 0} (named : Text → Option X) {h : HelperView} {b : Binding} {v : CallView} {name : Text}
-    {found : Option X} → h ≡ inner_call b v → name ≡ h.call.name → named name ≡ found → named v.name ≡ found
-named-inside named is same stands = ap named (sym (same ∙ ap (λ z. z.call.name) is)) ∙ stands
-
 -- what is chosen for such a call
 pub chosen-inside : (k : Kind) {h w : HelperView} {mode strict : Bool} {a : Answer Choice}
     → h ≡ w → mode ≡ strict → chosen mode k h ≡ a → chosen strict k w ≡ a
@@ -80,24 +75,28 @@ module _ (p : Setting) (s : State) (v : HelperView) where
   -- the value that a built-in helper chooses, where there is memory for it
   pub yields-built : {T : Type 0} (seen : T → Found) (k : Kind) (choice : Choice) (r : Result T RenderError)
       → chosen p.parts.strict k v ≡ gives choice → IfOk r (λ x. seen x ≡ choice_value choice)
-      → IfErr r (λ e. reason_in e ≡ out_of_memory) → Yields (HasHelpedValue p s (Some (built k)) v) seen r
+      → IfErr r (λ e. reason_in e ≡ out_of_memory) → Yields (HasRegisteredValue p s (built k) v) seen r
   yields-built seen k choice (Ok x) chooses same memory =
       ap (λ (z : Found). gives z) same ∙ sym (ap (answer_map choice_value) chooses)
   yields-built seen k choice (Err e) chooses same memory = λ other. absurd (other memory)
 
-  -- the same of what a name calls, for a view
-  pub yields-helped : {T : Type 0} (seen : T → Found) (h : Option Callee) {o : Option Callee} {w : HelperView}
-      (r : Result T RenderError) → h ≡ o → w ≡ v → Yields (HasHelpedValue p s o w) seen r
-      → Yields (HasHelpedValue p s h v) seen r
-  yields-helped seen h {o = o} r is same y =
-      subst (λ (z : Option Callee). Yields (HasHelpedValue p s z v) seen r) (sym is)
-      (subst (λ (z : HelperView). Yields (HasHelpedValue p s o z) seen r) same y)
+  -- the value of what a name calls
+  pub yields-helped : {T : Type 0} (seen : T → Found) (h : Option Target) {o : Option Target} (r : Result T RenderError)
+      → o ≡ h → Yields (HasHelpedValue p s o v) seen r → Yields (HasHelpedValue p s h v) seen r
+  yields-helped seen h r is y = subst (λ (z : Option Target). Yields (HasHelpedValue p s z v) seen r) is y
 
-  pub refuses-unknown : (h : Option Callee) (e : RenderError) → h ≡ None
+  pub refuses-unknown : (h : Option Target) (e : RenderError) → None ≡ h
       → refusal_of e ≡ plain_refusal (helper_not_found v.call.name) → HasHelpedValue p s h v (refuses (refusal_of e))
   refuses-unknown h e is same =
-      subst (λ (z : Option Callee). HasHelpedValue p s z v (refuses (refusal_of e))) (sym is)
+      subst (λ (z : Option Target). HasHelpedValue p s z v (refuses (refusal_of e))) is
       (ap (λ (z : Refusal). refuses z) same)
+
+  -- the value for another view, or by a name that is known otherwise
+  pub yields-for : {T : Type 0} (seen : T → Found) (k : Callee) {j : Callee} {w : HelperView} (r : Result T RenderError)
+      → j ≡ k → w ≡ v → Yields (HasRegisteredValue p s j w) seen r → Yields (HasRegisteredValue p s k v) seen r
+  yields-for seen k {w = w} r is same y =
+      subst (λ (z : HelperView). Yields (HasRegisteredValue p s k z) seen r) same
+      (subst (λ (z : Callee). Yields (HasRegisteredValue p s z w) seen r) is y)
 
 -- What HasInnerValue says of a call, by the parts of the call.
 pub inner_value-parts : (p : Setting) (s : State) (c : Call) {a : Answer Found}

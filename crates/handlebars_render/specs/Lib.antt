@@ -1,6 +1,9 @@
 pub mod View
 pub mod Boxed
 pub mod Targets
+pub mod Bound
+pub mod Asking
+pub mod Shows
 pub mod OwnChoice
 pub mod Lending
 pub mod Next

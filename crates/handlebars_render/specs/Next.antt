@@ -14,7 +14,7 @@ use Rattle.handlebars_base.specs.Outputs.{Held}
 use Rattle.handlebars_meaning.specs.Pieces.{Piece}
 use Rattle.handlebars_meaning.specs.Sites.{Site}
 use Rattle.handlebars_helpers.specs.CallView.{CallView}
-use Rattle.handlebars_helpers.specs.Callee.{built}
+use Rattle.handlebars_helpers.specs.Callee.{built, calls_registered}
 use Rattle.handlebars_helpers.specs.Choice.{Kind, body_if, chosen, kind_if, kind_unless}
 use Rattle.handlebars_meaning.specs.CarryOut.{helper_call}
 use Rattle.handlebars_meaning.specs.Means.{render_chosen, render_helped}
@@ -23,7 +23,7 @@ use Rattle.handlebars_meaning.specs.State.{Setting, State}
 use Rattle.handlebars_meaning.specs.Steps.{Steps, Prog}
 use Rattle.handlebars_meaning.specs.Values.{HasValue}
 use Rattle.handlebars_render.specs.View.{Moment, CarriesOn, GivesValue, RefusesValue, called_view, with_line}
-use Rattle.handlebars_render.specs.Targets.{callee_in}
+use Rattle.handlebars_render.specs.Targets.{target_in}
 use Rattle.handlebars_render.specs.declared.next.Next.{Next}
 use Rattle.handlebars_render.specs.declared.next.Next.TheVariants.{Done, Branch, Call as Calls}
 use Rattle.handlebars_render.specs.declared.next.ToCall.{ToCall}
@@ -31,8 +31,8 @@ use Rattle.handlebars_render.specs.declared.next.ToCall.{ToCall}
 -- A helper is called, in the bracket of a call or without it.
 abbrev pub render_next : Site → Bool → Call → ToCall → Prog (Unit {0})
 render_next site block c x =
-    if x.bracket then render_helped site block c (callee_in block (called_view x.call).name x.target) (called_view x.call)
-    else render_chosen site (callee_in block (called_view x.call).name x.target) (helper_call block c (called_view x.call))
+    if x.bracket then render_helped site block c (target_in block (called_view x.call).name x.target) (called_view x.call)
+    else render_chosen site (target_in block (called_view x.call).name x.target) (helper_call block c (called_view x.call))
 
 -- From this state the first program does what the second does.
 abbrev pub Leaves : Setting → Prog (Unit {0}) → State → Prog (Unit {0}) → Type 0
@@ -43,7 +43,7 @@ pub record Takes (p : Setting) (site : Site) (block : Bool) (c : Call) (m : Prog
     : Type 0 where
   pub kind : Kind
   pub view : CallView
-  pub leaves : Leaves p m s (render_helped site block c (built kind) view)
+  pub leaves : Leaves p m s (render_helped site block c (calls_registered (built kind)) view)
   pub chooses : chosen p.parts.strict kind (helper_call block c view) ≡ gives (body_if truth)
 
 -- With nothing written, and the state as it was, the program is over, or only the call is left of it, or it is refused.

@@ -1,13 +1,13 @@
 -- What is done with nothing written: decorators, and what is evaluated.
 use Rattle.std.specs.Prelude.{◌≡◌, ◌≢◌, List, [], Ok, Err}
-use Rattle.handlebars_base.specs.Answers.{Answer, gives, refuses, refuses_for}
-use Rattle.handlebars_base.specs.Optional.{with_or}
-use Rattle.handlebars_base.specs.Reasons.{Refusal, decorator_not_found, out_of_memory}
+use Rattle.handlebars_base.specs.Reasons.{Refusal, out_of_memory}
 use Rattle.handlebars_base.specs.RenderRefusals.{reason_in, refusal_of}
-use Rattle.handlebars_helpers.specs.Decoration.{DecoratorView, Decoration, decorated}
+use Rattle.handlebars_helpers.specs.Decoration.{DecoratorKind, DecoratorView}
+use Rattle.handlebars_meaning.specs.Means.{do_deeds}
+use Rattle.handlebars_meaning.specs.Questions.{decorator_of, deeds_of}
 use Rattle.handlebars_meaning.specs.Runs.{Ended, Refused, Runs}
-use Rattle.handlebars_meaning.specs.State.{Parts, Setting, State, with_decoration}
-use Rattle.handlebars_meaning.specs.Steps.{Steps, Prog}
+use Rattle.handlebars_meaning.specs.State.{Setting, State}
+use Rattle.handlebars_meaning.specs.Steps.{Steps, Prog, ask, ◌>>=◌}
 use Rattle.handlebars_render.specs.View.{Answered, RefusesValue}
 
 -- From this state the program comes to the next one, or is refused, with nothing written.
@@ -21,12 +21,10 @@ Evals p k seen s (Ok u) next = Runs p k s [] (Ended next)
 Evals p k seen s (Err e) next =
     reason_in e ≢ out_of_memory → (r : Refusal) × Runs p k s [] (Refused r) × (refusal_of e ≡ seen r)
 
--- what the decorator of a tag's name does for it
-abbrev pub decoration_by : Parts → DecoratorView → Answer Decoration
-decoration_by parts v =
-    with_or (parts.decorator v.call.name) (λ k. decorated k v) (refuses_for (decorator_not_found v.call.name))
+-- a decorator is asked for its deeds, and they are done
+abbrev pub decorate_by : DecoratorKind → DecoratorView → Prog (Unit {0})
+decorate_by kind v = ask (deeds_of kind v) >>= do_deeds v.body
 
--- That is done, or it is refused.
-abbrev pub Decorates : Parts → DecoratorView → State → Answered → State → Type 0
-Decorates parts v s (Ok u) next = (d : Decoration) × (decoration_by parts v ≡ gives d) × (next ≡ with_decoration d s)
-Decorates parts v s (Err e) next = reason_in e ≢ out_of_memory → decoration_by parts v ≡ refuses (refusal_of e)
+-- the same for the decorator of the tag's name
+abbrev pub decorate_as : DecoratorView → Prog (Unit {0})
+decorate_as v = ask (decorator_of v.call.name) >>= (λ kind. decorate_by kind v)

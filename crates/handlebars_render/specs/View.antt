@@ -1,32 +1,39 @@
 -- What the code's values stand for, and what a call of it says of a run.
-use Rattle.std.specs.Prelude.{◌≡◌, ◌≢◌, ℕ, Option, ◌+◌, ◌^◌, ◌<◌, List, [], ◌∷◌, ◌++◌, option_map, Result, Ok, Err, MatchResult, string_bytes, map, Bool, true, false}
+use Rattle.std.specs.Prelude.{◌≡◌, ◌≢◌, ℕ, Option, ◌+◌, ◌^◌, ◌<◌, List, [], ◌∷◌, ◌++◌, option_map, unwrap_or, Result, Ok, Err, MatchResult, string_bytes, map, Bool, true, false}
+use Rattle.std.specs.BTreeMap.{get_by_text}
 use Rattle.std.specs.Cow.{cow_str_bytes}
 use denote.Ref.{Bor}
 use Rattle.std.specs.declared.io.Error.{Error}
 use Rattle.std.specs.declared.io.ErrorKind.{ErrorKind}
 use Rattle.std.specs.declared.io.ErrorKind.TheVariants.{OutOfMemory}
 use Rattle.std.specs.IoError.{error_kind}
-use Rattle.handlebars_base.specs.Answers.{gives, refuses}
+use Rattle.serde_json.specs.Data.{Data}
+use Rattle.handlebars_base.specs.Answers.{Answer, gives, refuses}
 use Rattle.handlebars_base.specs.Bytes.{Text}
+use Rattle.handlebars_base.specs.Path.{Reference}
 use Rattle.handlebars_base.specs.Reasons.{Reason, Refusal, other, out_of_memory}
 use Rattle.handlebars_base.specs.RenderRefusals.{reason_in, spot_of, refusal_of, cause_of}
 use Rattle.handlebars_base.specs.declared.error.render_error.RenderError.{RenderError}
 use Rattle.handlebars_base.specs.PathAndData.{PathAndData, path_and_data}
 use Rattle.handlebars_base.specs.declared.json.value.path_and_json.PathAndJson.{PathAndJson}
 use Rattle.handlebars_base.specs.declared.error.render_error.RenderErrorReason.TheVariants.{IOError}
+use Rattle.handlebars_base.specs.Scoped.{Found}
 use Rattle.handlebars_base.specs.Values.{word}
 use Rattle.handlebars_scope.specs.LineView.{line_of}
 use Rattle.handlebars_scope.specs.Contexts.{data_of}
+use Rattle.handlebars_scope.specs.Resolve.{resolved}
 use Rattle.handlebars_scope.specs.Scopes.{Frame, nothing_at}
 use Rattle.handlebars_scope.specs.ScopeView.{frames_of}
 use Rattle.handlebars_base.specs.Outputs.{Held, IsWhole, IsCutOff, write_reason}
 use Rattle.handlebars_scope.specs.LineState.{LineState, line_behind}
 use Rattle.handlebars_meaning.specs.Pieces.{Piece, join}
 use Rattle.handlebars_helpers.specs.CallView.{CallView}
+use Rattle.handlebars_helpers.specs.OwnView.{local_of}
 use Rattle.handlebars_helpers.specs.Turns.{StandsBelow}
 use Rattle.handlebars_meaning.specs.State.{Kept, Parts, Setting, State, outer}
 use Rattle.handlebars_meaning.specs.Steps.{Steps, Prog}
 use Rattle.handlebars_meaning.specs.Asks.{Asks}
+use Rattle.handlebars_meaning.specs.Values.{as_read}
 use Rattle.handlebars_meaning.specs.Runs.{Fault, plain_fault, Outcome, Ended, Refused, Faulted, NoMemory, Runs}
 use Rattle.handlebars_render.specs.declared.context.RenderContext.{RenderContext}
 use Rattle.handlebars_render.specs.declared.called.Called.{Called}
@@ -63,6 +70,8 @@ state_of rc = record {
   line = line_of rc.line;
   escapes = rc.escapes;
   kept = [];
+  changed = option_map data_of rc.changed;
+  local = λ name. option_map local_of (get_by_text rc.local_helpers name);
 }
 
 abbrev pub keeping : Kept → State → State
@@ -71,6 +80,10 @@ keeping kept s = record s { kept = kept }
 -- the state of a context with these pieces kept
 abbrev pub state_with : Kept → RenderContext → State
 state_with kept rc = keeping kept (state_of rc)
+
+-- what a path leads to in a state, where this is the given data
+abbrev pub read_in : State → Data → Reference → Answer Found
+read_in s given r = as_read s.changed (resolved s.recursive s.blocks r (unwrap_or s.changed given))
 
 -- the name of the template that the run began with, if it has one
 abbrev pub root_of : RenderContext → Option Text

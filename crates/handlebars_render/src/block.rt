@@ -7,20 +7,23 @@ ghost use Rattle.handlebars_meaning.specs.Sites.{Site, inverse_at};
 ghost use Rattle.handlebars_base.specs.Answers.{gives};
 ghost use Rattle.handlebars_helpers.specs.CallView.{CallView};
 ghost use Rattle.handlebars_helpers.specs.Choice.{Kind, body_if, chosen};
-ghost use Rattle.handlebars_helpers.specs.Callee.{built};
+ghost use Rattle.handlebars_helpers.specs.Callee as callee;
+ghost use Rattle.handlebars_helpers.specs.Callee.{built, calls_local, calls_registered};
 ghost use Rattle.handlebars_helpers.specs.View.{choice_of, helper_view, kind_of};
 ghost use Rattle.handlebars_meaning.specs.CarryOut.{carry_out, helper_call, render_body, render_branch, render_word};
 ghost use Rattle.handlebars_meaning.specs.Means.{line_in, line_out, render_chosen, render_helped, render_tag};
 ghost use Rattle.handlebars_meaning.specs.State.{Kept};
 ghost use Rattle.handlebars_render.specs.Boxed.{answer_of};
 ghost use Rattle.handlebars_render.specs.Next.{render_next};
-ghost use Rattle.handlebars_render.specs.Targets.{callee_in};
-ghost use Rattle.handlebars_render.specs.View.{setting_in, state_of, moment, called_view, CarriesOn, IsKept};
+ghost use Rattle.handlebars_render.specs.Bound.{bound_of};
+ghost use Rattle.handlebars_render.specs.Targets.{ChoosesFor, target_in};
+ghost use Rattle.handlebars_render.specs.View.{setting_in, state_of, state_with, moment, called_view, CarriesOn, IsKept};
 
 use crate::boxed::BoxedError;
 use crate::called::Called;
 use crate::context::RenderContext;
 use crate::each::{render_each, render_with};
+use crate::local::{BoundCall, bind_call};
 use crate::next::{Next, ToCall, settle_tag};
 use crate::registered::{Registered, Target, hook};
 use crate::setting::Setting;
@@ -31,6 +34,7 @@ use handlebars_base::output::Output;
 use handlebars_helpers::built_in::BuiltIn;
 use handlebars_helpers::choice::{Choice, choose};
 use handlebars_helpers::each_turns::Turns;
+use handlebars_helpers::own::Callee;
 use handlebars_helpers::view::Helper;
 use handlebars_template::template::HelperTemplate;
 
@@ -72,7 +76,7 @@ fn render_branch<'a, O: Output, P: Registered>(
 ) -> Result<(), BoxedError>
     ensures renders { (site : Site) (kept : Kept) (block : Bool) (k : Kind) (v : CallView)
         → chosen (P.parts setting.now.parts.now).strict k (helper_call block (call_view helper.now) v) ≡ gives (body_if truth)
-        → CarriesOn (setting_in P.parts setting.now) (render_helped site block (call_view helper.now) (built k) v)
+        → CarriesOn (setting_in P.parts setting.now) (render_helped site block (call_view helper.now) (calls_registered (built k)) v)
         O.may_give (moment kept rc.old (O.held out.old)) (answer_of result) (moment kept rc.new (O.held out.new)) }
     ensures kept { IsKept rc.old rc.new }
 {
@@ -125,16 +129,77 @@ fn render_chosen<'a, O: Output, P: Registered>(
     out: &mut O,
 ) -> Result<(), BoxedError>
     ensures renders { (site : Site) (kept : Kept) → CarriesOn (setting_in P.parts setting.now)
-        (render_chosen site (callee_in block (called_view call.entry).name target)
+        (render_chosen site (target_in block (called_view call.entry).name target)
         (helper_call block (call_view helper.now) (called_view call.entry)))
         O.may_give (moment kept rc.old (O.held out.old)) (answer_of result) (moment kept rc.new (O.held out.new)) }
     ensures kept { IsKept rc.old rc.new }
 {
-    let view = call.of_call(helper, block);
     match target {
-        Target::Built(kind) => render_built(helper, setting, block, kind, &view, rc, out),
-        Target::Named => render_own(helper, setting, view.name(), &view, rc, out),
-        Target::Hooked => render_own(helper, setting, hook(block), &view, rc, out),
+        Target::Built(kind) => {
+            let view = call.of_call(helper, block);
+            render_built(helper, setting, block, kind, &view, rc, out)
+        }
+        Target::Named => {
+            let view = call.of_call(helper, block);
+            render_own(helper, setting, view.name(), &view, rc, out)
+        }
+        Target::Hooked => {
+            let view = call.of_call(helper, block);
+            render_own(helper, setting, hook(block), &view, rc, out)
+        }
+        Target::Local => render_local(helper, setting, block, call, rc, out),
+    }
+}
+
+// Renders what the local helper of a call's name goes to.
+#[cycle(render)]
+fn render_local<'a, O: Output, P: Registered>(
+    helper: &'a HelperTemplate,
+    setting: &Setting<'_, 'a, P>,
+    block: bool,
+    call: Called<'a>,
+    rc: &mut RenderContext,
+    out: &mut O,
+) -> Result<(), BoxedError>
+    ensures renders { (site : Site) (kept : Kept) → CarriesOn (setting_in P.parts setting.now)
+        (render_chosen site (calls_local (called_view call.entry).name)
+        (helper_call block (call_view helper.now) (called_view call.entry)))
+        O.may_give (moment kept rc.old (O.held out.old)) (answer_of result) (moment kept rc.new (O.held out.new)) }
+    ensures kept { IsKept rc.old rc.new }
+{
+    match bind_call(setting, rc, call) {
+        Ok(bound) => render_bound(helper, setting, block, bound, rc, out),
+        Err(e) => Err(BoxedError::new(setting.alloc, e)),
+    }
+}
+
+// Renders what a call with constants comes to, in the place of the call of a local helper.
+#[cycle(render)]
+fn render_bound<'a, O: Output, P: Registered>(
+    helper: &'a HelperTemplate,
+    setting: &Setting<'_, 'a, P>,
+    block: bool,
+    bound: BoundCall<'a>,
+    rc: &mut RenderContext,
+    out: &mut O,
+) -> Result<(), BoxedError>
+    ensures renders { (site : Site) (kept : Kept) (target : callee.Target) (v : CallView)
+        → ChoosesFor (setting_in P.parts setting.now) (state_with kept rc.old) (bound_of bound.entry).0
+        (helper_call block (call_view helper.now) (bound_of bound.entry).1)
+        target (helper_call block (call_view helper.now) v) → CarriesOn (setting_in P.parts setting.now)
+        (render_chosen site target (helper_call block (call_view helper.now) v))
+        O.may_give (moment kept rc.old (O.held out.old)) (answer_of result) (moment kept rc.new (O.held out.new)) }
+    ensures kept { IsKept rc.old rc.new }
+{
+    let BoundCall {
+        callee,
+        registered,
+        call,
+    } = bound;
+    let view = call.of_call(helper, block);
+    match callee {
+        Callee::Built(kind) => render_built(helper, setting, block, kind, &view, rc, out),
+        Callee::Own => render_own(helper, setting, registered.as_str(), &view, rc, out),
     }
 }
 
@@ -149,9 +214,10 @@ fn render_built<'a, O: Output, P: Registered>(
     rc: &mut RenderContext,
     out: &mut O,
 ) -> Result<(), BoxedError>
-    ensures renders { (site : Site) (kept : Kept) (v : CallView)
-        → helper_view view.now ≡ helper_call block (call_view helper.now) v → CarriesOn (setting_in P.parts setting.now)
-        (render_chosen site (built (kind_of kind)) (helper_call block (call_view helper.now) v))
+    ensures renders { (site : Site) (kept : Kept) (target : callee.Target) (v : CallView)
+        → ChoosesFor (setting_in P.parts setting.now) (state_with kept rc.old) (built (kind_of kind)) (helper_view view.now)
+        target (helper_call block (call_view helper.now) v) → CarriesOn (setting_in P.parts setting.now)
+        (render_chosen site target (helper_call block (call_view helper.now) v))
         O.may_give (moment kept rc.old (O.held out.old)) (answer_of result) (moment kept rc.new (O.held out.new)) }
     ensures kept { IsKept rc.old rc.new }
 {
@@ -196,8 +262,8 @@ fn carry_out<'a, O: Output, P: Registered>(
             rc,
             out,
         ),
-        Choice::Value(value) => write_chosen(setting.alloc, value, setting.parts.escape(), rc, out),
-        Choice::Count(count) => write_count(setting.alloc, count, setting.parts.escape(), rc, out),
+        Choice::Value(value) => write_chosen(setting, value, rc, out),
+        Choice::Count(count) => write_count(setting, count, rc, out),
         Choice::Word(word) => render_word(helper, setting, block, word, rc, out),
         Choice::Line(level, text) => {
             setting.parts.log(level, text.as_str());

@@ -8,11 +8,11 @@ ghost use Rattle.handlebars_base.specs.RenderRefusals.{plain_refusal};
 ghost use Rattle.handlebars_template.specs.Tree.{call_args};
 ghost use Rattle.handlebars_template.specs.TreeView.{call_view};
 ghost use Rattle.handlebars_base.specs.Bytes.{Text};
-ghost use Rattle.handlebars_helpers.specs.Callee.{built};
+ghost use Rattle.handlebars_helpers.specs.Callee.{built, calls_registered};
 ghost use Rattle.handlebars_meaning.specs.State.{Kept};
 ghost use Rattle.handlebars_render.specs.Boxed.{answer_of, error_of};
 ghost use Rattle.handlebars_render.specs.Next.{Judges, path_alone, wanting};
-ghost use Rattle.handlebars_render.specs.Targets.{callee_in};
+ghost use Rattle.handlebars_render.specs.Targets.{target_in};
 ghost use Rattle.handlebars_render.specs.View.{setting_in, state_with};
 
 use crate::boxed::BoxedError;
@@ -29,7 +29,7 @@ use std::alloc::Global;
 /// The condition of a call of `if` or `unless` that is a path, without any other parameter or pair, and whether it
 /// holds for the body.
 pub fn branching(helper: &HelperTemplate, target: Option<Target>) -> Option<(bool, &Path)>
-    ensures kind { IfSome result (λ x. (block : Bool) (name : Text) → option_map (callee_in block name) target ≡ Some (built (wanting x.0))) }
+    ensures kind { IfSome result (λ x. (block : Bool) (name : Text) → option_map (target_in block name) target ≡ Some (calls_registered (built (wanting x.0)))) }
     ensures path { IfSome result (λ x. call_args (call_view helper.now) ≡ path_alone (reference_of x.1.now)) }
 {
     match wanted(target) {
@@ -43,7 +43,7 @@ pub fn branching(helper: &HelperTemplate, target: Option<Target>) -> Option<(boo
 
 // What the condition is for the body: true of `if`, and false of `unless`.
 fn wanted(target: Option<Target>) -> Option<bool>
-    ensures { IfSome result (λ wanted. (block : Bool) (name : Text) → option_map (callee_in block name) target ≡ Some (built (wanting wanted))) }
+    ensures { IfSome result (λ wanted. (block : Bool) (name : Text) → option_map (target_in block name) target ≡ Some (calls_registered (built (wanting wanted)))) }
 {
     match target {
         Some(Target::Built(BuiltIn::If)) => Some(true),

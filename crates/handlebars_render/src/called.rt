@@ -1,24 +1,28 @@
 //! What a call or another tag shows of itself, and what a call in parentheses comes to.
 
-ghost use Rattle.std.specs.Prelude.{◌≡◌, [], IfErr, IfOk, Some, false};
+ghost use Rattle.std.specs.Prelude.{◌≡◌, ◌++◌, [], IfErr, IfOk, Some, false, map};
 ghost use Rattle.std.specs.Cow.{cow_str_bytes};
 ghost use Rattle.serde_json.specs.Data.{string};
 ghost use Rattle.handlebars_base.specs.Answers.{IsRefusal};
 ghost use Rattle.handlebars_base.specs.Reasons.{helper_not_found, out_of_memory};
 ghost use Rattle.handlebars_base.specs.RenderRefusals.{plain_refusal, reason_in};
+ghost use Rattle.handlebars_base.specs.PathAndData.{path_and_data};
 ghost use Rattle.handlebars_base.specs.Scoped.{found_of, is_constant, value};
 ghost use Rattle.handlebars_template.specs.Tree.{call_binding, decorator_args, decorator_name};
 ghost use Rattle.handlebars_template.specs.TreeView.{call_view, decorator_view};
 ghost use Rattle.handlebars_helpers.specs.DecoratorsView.{tag_view};
-ghost use Rattle.handlebars_helpers.specs.Callee.{built};
+ghost use Rattle.handlebars_helpers.specs.Callee.{built, calls_local, own};
 ghost use Rattle.handlebars_helpers.specs.View.{choice_of, helper_view, kind_of};
 ghost use Rattle.handlebars_meaning.specs.CarryOut.{helper_call};
 ghost use Rattle.handlebars_meaning.specs.Means.{shown_tag};
 ghost use Rattle.handlebars_meaning.specs.State.{Kept, State, helper_for};
-ghost use Rattle.handlebars_meaning.specs.Values.{HasHelpedValue, HasView, choice_value, inner_call};
+ghost use Rattle.handlebars_meaning.specs.Values.{HasHelpedValue, HasRegisteredValue, HasView, choice_value, inner_call};
+ghost use Rattle.handlebars_render.specs.Bound.{bound_of};
+ghost use Rattle.handlebars_render.specs.Targets.{target_in};
 ghost use Rattle.handlebars_render.specs.View.{setting_in, called_view, name_alone, Yields, state_with};
 
 use crate::context::RenderContext;
+use crate::local::{BoundCall, bind_call};
 use crate::own::own_value;
 use crate::registered::{Registered, Target, helper_for, hook};
 use crate::setting::Setting;
@@ -28,6 +32,7 @@ use handlebars_base::json::value::{Json, PathAndJson, ScopedJson};
 use handlebars_helpers::built_in::BuiltIn;
 use handlebars_helpers::choice::{Choice, choose};
 use handlebars_helpers::decorators::view::Decorator;
+use handlebars_helpers::own::Callee;
 use handlebars_helpers::view::Helper;
 use handlebars_template::template::{DecoratorTemplate, HelperTemplate};
 use serde_json::Number;
@@ -105,6 +110,26 @@ impl<'a> Called<'a> {
         Decorator::new(name, params, hash, tag.template.as_ref())
     }
 
+    /// The call with these values before its parameters.
+    pub fn behind(self, values: Vec<PathAndJson<'a>>) -> Result<Called<'a>, AllocError>
+        ensures { IfOk result (λ call. called_view call ≡ record (called_view self.entry) {
+          params = map path_and_data values.entry.items ++ (called_view self.entry).params;
+        }) }
+    {
+        let Called {
+            name,
+            mut params,
+            hash,
+        } = self;
+        let mut all = values;
+        all.append(&mut params)?;
+        Ok(Called {
+            name,
+            params: all,
+            hash,
+        })
+    }
+
     /// The name alone.
     pub fn into_name(self) -> CowStr<'a>
         ensures { result ≡ self.entry.name }
@@ -137,20 +162,98 @@ pub fn view_of_tag<'a, P: Registered>(
 /// else that it chooses writes nothing there. A line of `log` goes to the logger.
 pub fn helped_value<'a, 'c, P: Registered>(
     setting: &Setting<P>,
+    rc: &RenderContext,
     helper: &'c HelperTemplate,
     call: Called<'c>,
 ) -> Result<ScopedJson<'a>, RenderError>
-    ensures value { (s : State) → Yields (HasHelpedValue (setting_in P.parts setting.now) s
-        (helper_for (P.parts setting.now.parts.now) s false (called_view call.entry).name)
+    ensures value { (kept : Kept) → Yields (HasHelpedValue (setting_in P.parts setting.now) (state_with kept rc.now)
+        (helper_for (P.parts setting.now.parts.now) (state_with kept rc.now) false (called_view call.entry).name)
         (inner_call (call_binding (call_view helper.now)) (called_view call.entry))) found_of result }
     ensures constant { IfOk result (λ found. is_constant found ≡ false) }
 {
-    let view = call.in_parentheses(helper);
-    match helper_for(setting.parts, false, view.name()) {
-        Some(Target::Built(kind)) => built_value(setting, kind, &view),
-        Some(Target::Named) => own_value(setting, view.name(), &view),
-        Some(Target::Hooked) => own_value(setting, hook(false), &view),
-        None => Err(helper_not_found(setting.alloc, view.name())),
+    match helper_for(setting.parts, rc, false, call.name.as_str()) {
+        Some(target) => target_value(setting, rc, target, helper, call),
+        None => Err(helper_not_found(setting.alloc, call.name.as_str())),
+    }
+}
+
+// The value of a call that calls this.
+fn target_value<'a, 'c, P: Registered>(
+    setting: &Setting<P>,
+    rc: &RenderContext,
+    target: Target,
+    helper: &'c HelperTemplate,
+    call: Called<'c>,
+) -> Result<ScopedJson<'a>, RenderError>
+    ensures value { (kept : Kept) → Yields (HasHelpedValue (setting_in P.parts setting.now) (state_with kept rc.now)
+        (Some (target_in false (called_view call.entry).name target))
+        (inner_call (call_binding (call_view helper.now)) (called_view call.entry))) found_of result }
+    ensures constant { IfOk result (λ found. is_constant found ≡ false) }
+{
+    match target {
+        Target::Built(kind) => built_value(setting, kind, &call.in_parentheses(helper)),
+        Target::Named => named_value(setting, rc, &call.in_parentheses(helper)),
+        Target::Hooked => own_value(setting, rc, hook(false), &call.in_parentheses(helper)),
+        Target::Local => local_value(setting, rc, helper, call),
+    }
+}
+
+// The value of a call of the helper of one's own under its name.
+fn named_value<'a, P: Registered>(
+    setting: &Setting<P>,
+    rc: &RenderContext,
+    view: &Helper,
+) -> Result<ScopedJson<'a>, RenderError>
+    ensures value { (kept : Kept) → Yields (HasRegisteredValue (setting_in P.parts setting.now) (state_with kept rc.now)
+        (own (helper_view view.now).call.name) (helper_view view.now)) found_of result }
+    ensures constant { IfOk result (λ found. is_constant found ≡ false) }
+{
+    own_value(setting, rc, view.name(), view)
+}
+
+// The value of a call of the local helper of its name.
+fn local_value<'a, 'c, P: Registered>(
+    setting: &Setting<P>,
+    rc: &RenderContext,
+    helper: &'c HelperTemplate,
+    call: Called<'c>,
+) -> Result<ScopedJson<'a>, RenderError>
+    ensures value { (kept : Kept) → Yields (HasHelpedValue (setting_in P.parts setting.now) (state_with kept rc.now)
+        (Some (calls_local (called_view call.entry).name))
+        (inner_call (call_binding (call_view helper.now)) (called_view call.entry))) found_of result }
+    ensures constant { IfOk result (λ found. is_constant found ≡ false) }
+{
+    match bind_call(setting, rc, call) {
+        Ok(bound) => bound_value(setting, rc, helper, bound),
+        Err(e) => Err(e),
+    }
+}
+
+// The value of what a local helper goes to.
+fn bound_value<'a, 'c, P: Registered>(
+    setting: &Setting<P>,
+    rc: &RenderContext,
+    helper: &'c HelperTemplate,
+    bound: BoundCall<'c>,
+) -> Result<ScopedJson<'a>, RenderError>
+    ensures value { (kept : Kept) → Yields (HasRegisteredValue (setting_in P.parts setting.now) (state_with kept rc.now)
+        (bound_of bound.entry).0 (inner_call (call_binding (call_view helper.now)) (bound_of bound.entry).1))
+        found_of result }
+    ensures constant { IfOk result (λ found. is_constant found ≡ false) }
+{
+    let BoundCall {
+        callee,
+        registered,
+        call,
+    } = bound;
+    match callee {
+        Callee::Built(kind) => built_value(setting, kind, &call.in_parentheses(helper)),
+        Callee::Own => own_value(
+            setting,
+            rc,
+            registered.as_str(),
+            &call.in_parentheses(helper),
+        ),
     }
 }
 
@@ -161,7 +264,7 @@ fn built_value<'a, P: Registered>(
     view: &Helper,
 ) -> Result<ScopedJson<'a>, RenderError>
     ensures value { (s : State) → Yields
-        (HasHelpedValue (setting_in P.parts setting.now) s (Some (built (kind_of kind))) (helper_view view.now)) found_of result }
+        (HasRegisteredValue (setting_in P.parts setting.now) s (built (kind_of kind)) (helper_view view.now)) found_of result }
     ensures constant { IfOk result (λ found. is_constant found ≡ false) }
 {
     match choose(setting.alloc, setting.parts.strict(), kind, view) {

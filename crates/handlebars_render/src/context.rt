@@ -1,6 +1,6 @@
 //! The state of a rendering.
 
-ghost use Rattle.std.specs.Prelude.{◌≡◌, ◌≢◌, not, IfOk, IfErr, OnOk, OnErr, true, false, option_map, slice_get, string_bytes};
+ghost use Rattle.std.specs.Prelude.{◌≡◌, ◌≢◌, not, IfOk, IfErr, OnOk, OnErr, true, false, is_some, map, option_map, slice_get, string_bytes};
 ghost use Rattle.std.specs.Borrow.{sem};
 ghost use Rattle.serde_json.specs.View.{view};
 ghost use Rattle.handlebars_base.specs.Answers.{Answers, answer_map, gives, refuses};
@@ -14,18 +14,20 @@ ghost use Rattle.handlebars_scope.specs.LineView.{line_of};
 ghost use Rattle.handlebars_scope.specs.Resolve.{resolved};
 ghost use Rattle.handlebars_scope.specs.ScopeView.{frame_of, frames_of, variables_of};
 ghost use Rattle.handlebars_scope.specs.WayView.{reached_of};
-ghost use Rattle.handlebars_helpers.specs.DecoratorsView.{decoration_of};
+ghost use Rattle.handlebars_helpers.specs.OwnView.{local_of};
 ghost use Rattle.handlebars_helpers.specs.Turns.{turned};
 ghost use Rattle.handlebars_helpers.specs.View.{path_view, turn_view};
+ghost use Rattle.handlebars_meaning.specs.Values as values;
 ghost use Rattle.handlebars_meaning.specs.Values.{Evaluates};
 ghost use Rattle.handlebars_render.specs.Lending.{LendsBlock};
-ghost use Rattle.handlebars_meaning.specs.State.{entered, first_state, left, nearest_variables, partial_in, with_decoration, with_nearest, with_partial};
-ghost use Rattle.handlebars_render.specs.View.{state_of, root_of, has_failed, behind, with_line, HasOuter, IsKept, NearestBelow};
+ghost use Rattle.handlebars_meaning.specs.State.{entered, first_state, left, nearest_variables, partial_in, with_data, with_local, with_nearest, with_partial, without_local};
+ghost use Rattle.handlebars_render.specs.View.{state_of, read_in, root_of, has_failed, behind, with_line, HasOuter, IsKept, NearestBelow};
 
+use crate::null::Null;
 use handlebars_base::error::RenderError;
 use handlebars_base::json::path::Path;
 use handlebars_base::json::value::{Json, ScopedJson};
-use handlebars_helpers::decorators::Decoration;
+use handlebars_helpers::own::LocalHelper;
 use handlebars_helpers::turn::{Turn, set_up_next_turn, set_up_turn};
 use handlebars_scope::block::BlockContext;
 use handlebars_scope::context::reached::Reached;
@@ -34,11 +36,12 @@ use handlebars_scope::line::LineState;
 use handlebars_scope::local_vars::LocalVars;
 use handlebars_template::template::{BlockParam, Template};
 use std::alloc::{AllocError, Global};
-use std::collections::VecDeque;
+use std::collections::{BTreeMap, VecDeque};
 use std::mem;
 use std::rc::Rc;
 
-/// The state of a rendering: what templates change as they are rendered, beside their data.
+/// The state of a rendering: what templates change as they are rendered, and what decorators put in the place of
+/// the data and bind to names.
 pub struct RenderContext {
     alloc: Global,
     root_template: Option<String>,
@@ -49,6 +52,11 @@ pub struct RenderContext {
     line: LineState,
     escapes: bool,
     failed: bool,
+    // What stands in the place of the data that was given, once a decorator changed it.
+    changed: Option<Context>,
+    local_helpers: BTreeMap<String, LocalHelper>,
+    // What is lent where a value of changed data is missing.
+    null: Null,
 }
 
 // By hand, so that each place that lets one go is one call.
@@ -63,6 +71,9 @@ impl Drop for RenderContext {
             line: _,
             escapes: _,
             failed: _,
+            changed: _,
+            local_helpers: _,
+            null: _,
         } = self;
     }
 }
@@ -89,6 +100,9 @@ impl RenderContext {
             line: LineState::first(),
             escapes: true,
             failed: false,
+            changed: None,
+            local_helpers: BTreeMap::new(alloc),
+            null: Null::new(),
         })
     }
 
@@ -181,19 +195,8 @@ impl RenderContext {
         }
     }
 
-    // Does what a decorator does.
-    pub(super) fn decorate(&mut self, decoration: Decoration) -> Result<(), AllocError>
-        ensures ok { OnOk result (state_of self.new
-            ≡ with_decoration (decoration_of decoration.entry) (state_of self.old)) }
-        ensures kept { IsKept self.old self.new }
-    {
-        match decoration {
-            Decoration::SetsPartial(name, template) => self.set_partial(name, template),
-        }
-    }
-
     // The nearest block has this template under the name from now on; without any block nothing is changed.
-    fn set_partial(&mut self, name: &str, template: &Template) -> Result<(), AllocError>
+    pub(super) fn set_partial(&mut self, name: &str, template: &Template) -> Result<(), AllocError>
         ensures ok { OnOk result (state_of self.new
             ≡ with_nearest (with_partial name.now (tree_view template.now)) (state_of self.old)) }
         ensures kept { IsKept self.old self.new }
@@ -226,26 +229,146 @@ impl RenderContext {
         }
     }
 
-    // What a path leads to in these blocks and this data; nothing is copied.
-    pub(super) fn reach<'v: 'n, 'n>(&'v self, given: &'v Json, path: &'n Path) -> Reached<'v, 'n>
-        ensures { reached_of result ≡ answer_map present_in (resolved (state_of self.now).recursive
-            (state_of self.now).blocks (reference_of path.now) (view given.now)) }
+    /// The data that a decorator put in the place of what was given, if one did.
+    pub fn context(&self) -> Option<&Context>
+        ensures { option_map (λ c. data_of c.now) result ≡ (state_of self.now).changed }
     {
-        walk::reach(given, path, &self.blocks, self.recursive_lookup)
+        self.changed.as_ref()
     }
 
-    // The same, with the full path of a value of the data. A value that a block holds is copied.
+    /// From now on this data stands in the place of what was given: values of it have no path, and a
+    /// missing one is null.
+    pub fn set_context(&mut self, context: Context)
+        ensures state { state_of self.new ≡ with_data (data_of context) (state_of self.old) }
+        ensures kept { IsKept self.old self.new }
+    {
+        self.changed = Some(context);
+    }
+
+    /// Calls of this name go to the helper that is registered under another one, with the constants
+    /// before their parameters. Where memory is refused, nothing is changed.
+    pub fn register_local_helper(
+        &mut self,
+        name: &str,
+        registered: &str,
+        constants: Vec<Json>,
+    ) -> Result<(), AllocError>
+        ensures ok { OnOk result (state_of self.new ≡ with_local name.now (record {
+          registered = registered.now;
+          constants = map view constants.items;
+        })
+            (state_of self.old)) }
+        ensures err { OnErr result (state_of self.new ≡ state_of self.old) }
+        ensures kept { IsKept self.old self.new }
+    {
+        let name = String::from_str(self.alloc, name)?;
+        let registered = String::from_str(self.alloc, registered)?;
+        self.bind_helper(
+            name,
+            LocalHelper {
+                registered,
+                constants,
+            },
+        )
+    }
+
+    // The same, of texts that nobody else needs.
+    pub(super) fn bind_helper(
+        &mut self,
+        name: String,
+        helper: LocalHelper,
+    ) -> Result<(), AllocError>
+        ensures ok { OnOk result (state_of self.new
+            ≡ with_local (string_bytes name) (local_of helper) (state_of self.old)) }
+        ensures err { OnErr result (state_of self.new ≡ state_of self.old) }
+        ensures kept { IsKept self.old self.new }
+    {
+        self.local_helpers.insert(name, helper)?;
+        Ok(())
+    }
+
+    /// This name has no local helper any more.
+    pub fn unregister_local_helper(&mut self, name: &str)
+        ensures state { state_of self.new ≡ without_local name.now (state_of self.old) }
+        ensures kept { IsKept self.old self.new }
+    {
+        self.local_helpers.remove(name);
+    }
+
+    /// The local helper of a name.
+    pub fn get_local_helper(&self, name: &str) -> Option<&LocalHelper>
+        ensures { option_map (λ l. local_of l.now) result ≡ (state_of self.now).local name.now }
+    {
+        self.local_helpers.get(name)
+    }
+
+    // Whether a name has a local helper. Most contexts have none, which is seen at once.
+    pub(super) fn has_local_helper(&self, name: &str) -> bool
+        ensures { result ≡ is_some ((state_of self.now).local name.now) }
+    {
+        !self.local_helpers.is_empty() && self.local_helpers.contains_key(name)
+    }
+
+    // What a path leads to in these blocks, and in this data where it wasn't changed; nothing is copied.
+    pub(super) fn reach<'v: 'n, 'n>(&'v self, given: &'v Json, path: &'n Path) -> Reached<'v, 'n>
+        ensures { reached_of result
+            ≡ answer_map present_in (read_in (state_of self.now) (view given.now) (reference_of path.now)) }
+    {
+        match &self.changed {
+            None => walk::reach(given, path, &self.blocks, self.recursive_lookup),
+            Some(context) => self.reach_changed(context, path),
+        }
+    }
+
+    // The same where the data was changed: a missing value is null.
+    fn reach_changed<'v: 'n, 'n>(&'v self, context: &'v Context, path: &'n Path) -> Reached<'v, 'n>
+        ensures { reached_of result ≡ answer_map present_in (answer_map values.plain (resolved
+            (state_of self.now).recursive (state_of self.now).blocks (reference_of path.now) (data_of context.now))) }
+    {
+        match walk::reach(context.data(), path, &self.blocks, self.recursive_lookup) {
+            Reached::Value(value) => Reached::Value(value),
+            Reached::Nothing => Reached::Value(self.null.value()),
+            Reached::NoIndex(name) => Reached::NoIndex(name),
+        }
+    }
+
+    // The same, with the full path of a value of the data, where it wasn't changed. A value that a block
+    // holds is copied, and so is one of changed data.
     pub(super) fn find<'a>(
         &self,
         given: &'a Json,
         path: &Path,
     ) -> Result<ScopedJson<'a>, RenderError>
-        ensures found { Answers found_of result
-            (resolved (state_of self.now).recursive (state_of self.now).blocks
-            (reference_of path.now) (view given.now)) }
+        ensures found { Answers found_of result (read_in (state_of self.now) (view given.now) (reference_of path.now)) }
         ensures plain { IfOk result (λ found. is_constant found ≡ false) }
     {
-        walk::find(self.alloc, given, path, &self.blocks, self.recursive_lookup)
+        match &self.changed {
+            None => walk::find(self.alloc, given, path, &self.blocks, self.recursive_lookup),
+            Some(context) => self.find_changed(context, path),
+        }
+    }
+
+    // The same where the data was changed: no value has a path, and a missing one is null.
+    fn find_changed<'a>(
+        &self,
+        context: &Context,
+        path: &Path,
+    ) -> Result<ScopedJson<'a>, RenderError>
+        ensures found { Answers found_of result (answer_map values.plain (resolved
+            (state_of self.now).recursive (state_of self.now).blocks (reference_of path.now) (data_of context.now))) }
+        ensures plain { IfOk result (λ found. is_constant found ≡ false) }
+    {
+        match walk::resolve(
+            self.alloc,
+            context.data(),
+            path,
+            &self.blocks,
+            self.recursive_lookup,
+        ) {
+            Ok(Some(found)) => Ok(ScopedJson::Derived(found.clone()?)),
+            Ok(None) => Ok(ScopedJson::Derived(Json::Null)),
+            Err(e) => Err(e),
+        }
     }
 
     /// Whether values are written as they are, and not escaped.
@@ -334,7 +457,13 @@ impl RenderContext {
         ensures plain { IfOk result (λ found. is_constant found ≡ false) }
     {
         let reference = Path::parse(self.alloc, path)?;
-        self.find(context.data(), &reference)
+        walk::find(
+            self.alloc,
+            context.data(),
+            &reference,
+            &self.blocks,
+            self.recursive_lookup,
+        )
     }
 
     // From now on renderings are refused.

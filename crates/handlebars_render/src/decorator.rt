@@ -1,15 +1,17 @@
 //! Carrying out a decorator.
 
-ghost use Rattle.handlebars_base.specs.Answers.{Answers, IsRefusal};
+ghost use Rattle.std.specs.Prelude.{map};
+ghost use Rattle.handlebars_base.specs.Answers.{IsRefusal};
 ghost use Rattle.handlebars_base.specs.Reasons.{decorator_not_found};
 ghost use Rattle.handlebars_base.specs.RenderRefusals.{plain_refusal};
 ghost use Rattle.handlebars_template.specs.TreeView.{decorator_view};
-ghost use Rattle.handlebars_helpers.specs.DecoratorsView.{decoration_of, tag_view};
-ghost use Rattle.handlebars_meaning.specs.Means.{render_decorator};
+ghost use Rattle.handlebars_helpers.specs.Decoration.{kind_inline, kind_own};
+ghost use Rattle.handlebars_helpers.specs.DecoratorsView.{deed_of, tag_view};
+ghost use Rattle.handlebars_meaning.specs.Means.{do_deed, do_deeds, render_decorator, set_partial};
 ghost use Rattle.handlebars_meaning.specs.State.{Kept};
-ghost use Rattle.handlebars_render.specs.Boxed.{answer_of};
-ghost use Rattle.handlebars_render.specs.Silent.{Decorates, Does, decoration_by};
-ghost use Rattle.handlebars_render.specs.View.{IsKept, setting_in, state_of, state_with};
+ghost use Rattle.handlebars_render.specs.Boxed.{answer_of, error_of};
+ghost use Rattle.handlebars_render.specs.Silent.{Does, decorate_as, decorate_by};
+ghost use Rattle.handlebars_render.specs.View.{IsKept, setting_in, state_with};
 
 use crate::boxed::BoxedError;
 use crate::called::view_of_tag;
@@ -18,7 +20,8 @@ use crate::registered::Registered;
 use crate::setting::Setting;
 use handlebars_base::error::{RenderError, RenderErrorReason};
 use handlebars_helpers::decorators::view::Decorator;
-use handlebars_helpers::decorators::{Decoration, decorate};
+use handlebars_helpers::decorators::{DecoratorKind, DecoratorStep, inline};
+use handlebars_helpers::own::LocalHelper;
 use handlebars_template::template::DecoratorTemplate;
 use std::alloc::{AllocError, Global};
 
@@ -33,44 +36,153 @@ pub fn render_decorator<'a, P: Registered>(
     ensures kept { IsKept rc.old rc.new }
 {
     match view_of_tag(setting, rc, tag) {
-        Ok(call) => carry_out(&call.of_tag(tag), setting, rc),
+        Ok(call) => decorate(&call.of_tag(tag), setting, rc),
         Err(e) => Err(BoxedError::new(setting.alloc, e)),
     }
 }
 
-// Asks the decorator of a tag's name what it does, and does it.
-fn carry_out<P: Registered>(
+// Asks the decorator of a tag's name for its deeds, and does them.
+fn decorate<P: Registered>(
     tag: &Decorator,
     setting: &Setting<P>,
     rc: &mut RenderContext,
 ) -> Result<(), BoxedError>
-    ensures does { Decorates (P.parts setting.now.parts.now) (tag_view tag.now) (state_of rc.old) (answer_of result)
-        (state_of rc.new) }
+    ensures does { (kept : Kept) → Does (setting_in P.parts setting.now) (decorate_as (tag_view tag.now))
+        (state_with kept rc.old) (answer_of result) (state_with kept rc.new) }
     ensures kept { IsKept rc.old rc.new }
 {
-    match decoration_by(tag, setting) {
-        Ok(decoration) => {
-            rc.decorate(decoration)?;
-            Ok(())
-        }
+    match setting.parts.decorator(tag.name()) {
+        Some(DecoratorKind::Inline) => decorate_inline(tag, setting, rc),
+        Some(DecoratorKind::Own) => decorate_own(tag, setting, rc),
+        None => Err(unknown_decorator(setting.alloc, tag.name())),
+    }
+}
+
+// `inline`, which has one deed: nothing is made for it.
+fn decorate_inline<P: Registered>(
+    tag: &Decorator,
+    setting: &Setting<P>,
+    rc: &mut RenderContext,
+) -> Result<(), BoxedError>
+    ensures does { (kept : Kept) → Does (setting_in P.parts setting.now) (decorate_by kind_inline (tag_view tag.now))
+        (state_with kept rc.old) (answer_of result) (state_with kept rc.new) }
+    ensures kept { IsKept rc.old rc.new }
+{
+    match inline(tag) {
+        Ok(name) => set_partial(tag, setting, name, rc),
         Err(e) => Err(BoxedError::new(setting.alloc, e)),
     }
 }
 
-// What the decorator of a tag's name does for it.
-fn decoration_by<'d, P: Registered>(
-    tag: &'d Decorator,
+// The decorator of one's own under the name of a tag.
+fn decorate_own<P: Registered>(
+    tag: &Decorator,
     setting: &Setting<P>,
-) -> Result<Decoration<'d>, RenderError>
-    ensures { Answers decoration_of result (decoration_by (P.parts setting.now.parts.now) (tag_view tag.now)) }
+    rc: &mut RenderContext,
+) -> Result<(), BoxedError>
+    ensures does { (kept : Kept) → Does (setting_in P.parts setting.now)
+        (decorate_by (kind_own (tag_view tag.now).call.name) (tag_view tag.now))
+        (state_with kept rc.old) (answer_of result) (state_with kept rc.new) }
+    ensures kept { IsKept rc.old rc.new }
 {
-    match setting.parts.decorator(tag.name()) {
-        Some(entry) => decorate(entry, tag),
-        None => Err(decorator_not_found(setting.alloc, tag.name())),
+    match setting
+        .parts
+        .deeds_of(tag.name(), tag, setting.given, rc.context())
+    {
+        Ok(deeds) => do_deeds(tag, setting, deeds, rc),
+        Err(e) => Err(BoxedError::new(setting.alloc, e)),
+    }
+}
+
+// The deeds, in order.
+fn do_deeds<P: Registered>(
+    tag: &Decorator,
+    setting: &Setting<P>,
+    deeds: Vec<DecoratorStep>,
+    rc: &mut RenderContext,
+) -> Result<(), BoxedError>
+    ensures does { (kept : Kept) → Does (setting_in P.parts setting.now)
+        (do_deeds (tag_view tag.now).body (map deed_of deeds.items))
+        (state_with kept rc.old) (answer_of result) (state_with kept rc.new) }
+    ensures kept { IsKept rc.old rc.new }
+{
+    'deeds: for deed in deeds {
+        if let Err(e) = do_deed(tag, setting, deed, rc) {
+            return Err(e);
+        }
+    }
+    Ok(())
+}
+
+fn do_deed<P: Registered>(
+    tag: &Decorator,
+    setting: &Setting<P>,
+    deed: DecoratorStep,
+    rc: &mut RenderContext,
+) -> Result<(), BoxedError>
+    ensures does { (kept : Kept) → Does (setting_in P.parts setting.now) (do_deed (tag_view tag.now).body (deed_of deed))
+        (state_with kept rc.old) (answer_of result) (state_with kept rc.new) }
+    ensures kept { IsKept rc.old rc.new }
+{
+    match deed {
+        DecoratorStep::SetContext(context) => {
+            rc.set_context(context);
+            Ok(())
+        }
+        DecoratorStep::BindHelper {
+            local,
+            registered,
+            constants,
+        } => {
+            rc.bind_helper(
+                local,
+                LocalHelper {
+                    registered,
+                    constants,
+                },
+            )?;
+            Ok(())
+        }
+        DecoratorStep::UnbindHelper(local) => {
+            rc.unregister_local_helper(local.as_str());
+            Ok(())
+        }
+        DecoratorStep::SetLocalPartial(name) => set_partial(tag, setting, name.as_str(), rc),
+    }
+}
+
+// The body of the tag is a partial of the nearest block from now on. A tag without one is refused.
+fn set_partial<P: Registered>(
+    tag: &Decorator,
+    setting: &Setting<P>,
+    name: &str,
+    rc: &mut RenderContext,
+) -> Result<(), BoxedError>
+    ensures does { (kept : Kept) → Does (setting_in P.parts setting.now) (set_partial name.now (tag_view tag.now).body)
+        (state_with kept rc.old) (answer_of result) (state_with kept rc.new) }
+    ensures kept { IsKept rc.old rc.new }
+{
+    match tag.template() {
+        Some(template) => {
+            rc.set_partial(name, template)?;
+            Ok(())
+        }
+        None => Err(BoxedError::new(
+            setting.alloc,
+            RenderErrorReason::BlockContentRequired.into(),
+        )),
     }
 }
 
 // The refusal of a name that no decorator has.
+#[cold]
+#[inline(never)]
+fn unknown_decorator(alloc: Global, name: &str) -> BoxedError
+    ensures { IsRefusal (plain_refusal (decorator_not_found name.now)) (error_of result) }
+{
+    BoxedError::new(alloc, decorator_not_found(alloc, name))
+}
+
 fn decorator_not_found(alloc: Global, name: &str) -> RenderError
     ensures { IsRefusal (plain_refusal (decorator_not_found name.now)) result }
 {

@@ -25,7 +25,7 @@ use crate::branch::not_an_index;
 use crate::called::Called;
 use crate::context::RenderContext;
 use crate::next::{Next, to_call};
-use crate::registered::{Registered, hook, hooked, named};
+use crate::registered::{Registered, helper_named, hook, hooked};
 use crate::setting::Setting;
 use crate::value::{inner_value, written};
 use crate::write::write_found;
@@ -74,10 +74,10 @@ fn settle_name<'a, P: Registered>(
         → (site : Site) (kept : Kept) → Settles (setting_in P.parts setting.now) site false (call_view helper.now)
         (render_lone site (call_view helper.now)) (state_with kept rc.now) (answer_of result) }
 {
-    match setting.parts.helper(text) {
-        Some(callee) => to_call(
+    match helper_named(setting.parts, rc, text) {
+        Some(target) => to_call(
             setting.alloc,
-            named(callee),
+            target,
             Called::alone(setting.alloc, CowStr::Borrowed(text)),
             true,
         ),
@@ -98,10 +98,10 @@ fn settle_path<'a, O: Output, P: Registered>(
         (render_lone site (call_view helper.now))
         O.may_give (moment kept rc.now (O.held out.old)) (answer_of result) (O.held out.new) }
 {
-    match setting.parts.helper(path.raw()) {
-        Some(callee) => to_call(
+    match helper_named(setting.parts, rc, path.raw()) {
+        Some(target) => to_call(
             setting.alloc,
-            named(callee),
+            target,
             Called::alone(setting.alloc, CowStr::Borrowed(path.raw())),
             true,
         ),
@@ -131,10 +131,10 @@ fn settle_value<'a, O: Output, P: Registered>(
         O.may_give (moment kept rc.now (O.held out.old)) (answer_of result) (O.held out.new) }
 {
     let name = value.render(setting.alloc)?;
-    match setting.parts.helper(name.as_str()) {
-        Some(callee) => to_call(
+    match helper_named(setting.parts, rc, name.as_str()) {
+        Some(target) => to_call(
             setting.alloc,
-            named(callee),
+            target,
             Called::alone(setting.alloc, CowStr::Owned(name)),
             true,
         ),
@@ -158,7 +158,7 @@ fn settle_found<'a, O: Output, P: Registered>(
         → ComesTo (setting_in P.parts setting.now) site false c (render_lone_as site c v None)
         O.may_give (moment kept rc.now (O.held out.old)) (answer_of result) (O.held out.new) }
 {
-    match write_found(setting.alloc, Some(value), setting.parts.escape(), rc, out) {
+    match write_found(setting, Some(value), rc, out) {
         Ok(line) => Ok(Next::Done(line)),
         Err(e) => Err(e),
     }

@@ -13,7 +13,7 @@ ghost use Rattle.handlebars_meaning.specs.Values.{HasName};
 ghost use Rattle.handlebars_meaning.specs.State.{Kept, helper_for};
 ghost use Rattle.handlebars_render.specs.Boxed.{answer_of, error_of};
 ghost use Rattle.handlebars_render.specs.Next.{ComesTo, IsCall, Settles};
-ghost use Rattle.handlebars_render.specs.Targets.{callee_in};
+ghost use Rattle.handlebars_render.specs.Targets.{target_in};
 ghost use Rattle.handlebars_render.specs.View.{setting_in, moment, state_with};
 
 use crate::boxed::BoxedError;
@@ -127,7 +127,7 @@ fn settle_call<'a, P: Registered>(
     }
     match expand_as_name(setting, rc, &helper.name) {
         Ok(name) => {
-            let target = helper_for(setting.parts, block, name.as_str());
+            let target = helper_for(setting.parts, rc, block, name.as_str());
             settle_viewed(helper, setting, block, name, target, rc)
         }
         Err(e) => Err(BoxedError::new(setting.alloc, e)),
@@ -146,7 +146,7 @@ fn settle_named<'a, P: Registered>(
         → Settles (setting_in P.parts setting.now) site block (call_view helper.now)
         (render_call site block (call_view helper.now)) (state_with kept rc.now) (answer_of result) }
 {
-    let target = helper_for(setting.parts, block, name);
+    let target = helper_for(setting.parts, rc, block, name);
     match branching(helper, target) {
         Some((wanted, path)) => match condition(setting, path, rc) {
             Ok(truth) => Ok(Next::Branch(takes(wanted, truth))),
@@ -174,7 +174,7 @@ fn settle_viewed<'a, P: Registered>(
 ) -> Result<Next<'a>, BoxedError>
     ensures { (site : Site) (kept : Kept) → HasName (setting_in P.parts setting.now) (state_with kept rc.now)
         (call_name (call_view helper.now)) (gives (cow_str_bytes name.entry))
-        → option_map (callee_in block (cow_str_bytes name.entry)) target ≡ helper_for (P.parts setting.now.parts.now) (state_with kept rc.now) block (cow_str_bytes name.entry)
+        → option_map (target_in block (cow_str_bytes name.entry)) target ≡ helper_for (P.parts setting.now.parts.now) (state_with kept rc.now) block (cow_str_bytes name.entry)
         → Settles (setting_in P.parts setting.now) site block (call_view helper.now)
         (render_call site block (call_view helper.now)) (state_with kept rc.now) (answer_of result) }
 {

@@ -1,19 +1,20 @@
 //! What helpers of one's own choose, and their values in parentheses.
 
-ghost use Rattle.std.specs.Prelude.{◌≡◌, IfOk, Some, false, map, string_bytes};
+ghost use Rattle.std.specs.Prelude.{◌≡◌, IfOk, false, map, string_bytes};
 ghost use Rattle.serde_json.specs.Data.{string};
 ghost use Rattle.handlebars_base.specs.Answers.{Answers};
 ghost use Rattle.handlebars_base.specs.Scoped.{found_of, is_constant, value};
 ghost use Rattle.handlebars_helpers.specs.Callee.{own};
 ghost use Rattle.handlebars_helpers.specs.OwnView.{offer_of, step_of};
 ghost use Rattle.handlebars_helpers.specs.View.{helper_view};
-ghost use Rattle.handlebars_meaning.specs.Questions.{HasChoice, offered};
-ghost use Rattle.handlebars_meaning.specs.State.{State};
-ghost use Rattle.handlebars_meaning.specs.Values.{HasHelpedValue, step_text, text_of};
+ghost use Rattle.handlebars_meaning.specs.Questions.{HasRegisteredChoice, offered};
+ghost use Rattle.handlebars_meaning.specs.State.{Kept};
+ghost use Rattle.handlebars_meaning.specs.Values.{HasRegisteredValue, step_text, text_of};
 ghost use Rattle.handlebars_render.specs.OwnChoice.{own_choice_of};
-ghost use Rattle.handlebars_render.specs.View.{setting_in, Yields};
+ghost use Rattle.handlebars_render.specs.View.{setting_in, state_with, Yields};
 
 use crate::called::empty_text;
+use crate::context::RenderContext;
 use crate::registered::Registered;
 use crate::setting::Setting;
 use handlebars_base::error::{RenderError, RenderErrorReason};
@@ -33,15 +34,23 @@ pub enum OwnChoice {
 /// What the helper of this name chooses for a call: its steps, or else what it offers.
 pub fn choose_own<P: Registered>(
     setting: &Setting<P>,
+    rc: &RenderContext,
     name: &str,
     view: &Helper,
 ) -> Result<OwnChoice, RenderError>
-    ensures { (s : State) → Yields (HasChoice (setting_in P.parts setting.now) s (own name.now) (helper_view view.now))
+    ensures { (kept : Kept) → Yields
+        (HasRegisteredChoice (setting_in P.parts setting.now) (state_with kept rc.now) (own name.now) (helper_view view.now))
         own_choice_of result }
 {
-    match setting.parts.steps_of(name, view, setting.given) {
+    match setting
+        .parts
+        .steps_of(name, view, setting.given, rc.context())
+    {
         Ok(Some(steps)) => Ok(OwnChoice::Steps(steps)),
-        Ok(None) => match setting.parts.offer_of(name, view, setting.given) {
+        Ok(None) => match setting
+            .parts
+            .offer_of(name, view, setting.given, rc.context())
+        {
             Ok(offer) => choose_offer(setting.parts.strict(), offer),
             Err(e) => Err(e),
         },
@@ -69,21 +78,31 @@ fn choose_offer(strict: bool, offer: HelperValue) -> Result<OwnChoice, RenderErr
 /// The value of a call of the helper of this name in parentheses: what it offers, or else the text that it writes.
 pub fn own_value<'a, P: Registered>(
     setting: &Setting<P>,
+    rc: &RenderContext,
     name: &str,
     view: &Helper,
 ) -> Result<ScopedJson<'a>, RenderError>
-    ensures value { (s : State) → Yields
-        (HasHelpedValue (setting_in P.parts setting.now) s (Some (own name.now)) (helper_view view.now)) found_of result }
+    ensures value { (kept : Kept) → Yields
+        (HasRegisteredValue (setting_in P.parts setting.now) (state_with kept rc.now) (own name.now) (helper_view view.now))
+        found_of result }
     ensures constant { IfOk result (λ found. is_constant found ≡ false) }
 {
-    match setting.parts.offer_of(name, view, setting.given) {
+    match setting
+        .parts
+        .offer_of(name, view, setting.given, rc.context())
+    {
         Ok(HelperValue::Value(value)) => Ok(ScopedJson::Derived(value)),
         Ok(HelperValue::Missing) => Ok(ScopedJson::Missing),
-        Ok(HelperValue::NotOffered) => match setting.parts.steps_of(name, view, setting.given) {
-            Ok(None) => Ok(empty_text(setting.alloc)),
-            Ok(Some(steps)) => Ok(text_value(text_written(setting.alloc, &steps)?)),
-            Err(e) => Err(e),
-        },
+        Ok(HelperValue::NotOffered) => {
+            match setting
+                .parts
+                .steps_of(name, view, setting.given, rc.context())
+            {
+                Ok(None) => Ok(empty_text(setting.alloc)),
+                Ok(Some(steps)) => Ok(text_value(text_written(setting.alloc, &steps)?)),
+                Err(e) => Err(e),
+            }
+        }
         Err(e) => Err(e),
     }
 }

@@ -1,19 +1,22 @@
 //! What a run reads of a registry and of the logger that it is given.
 
-ghost use Rattle.std.specs.Prelude.{◌≡◌, Bool, None, option_map};
-ghost use Rattle.handlebars_helpers.specs.DecoratorsView.{decorator_kind};
+ghost use Rattle.std.specs.Prelude.{◌≡◌, Bool, map, option_map, string_bytes};
 ghost use Rattle.handlebars_base.specs.Bytes.{Text};
-ghost use Rattle.handlebars_scope.specs.Contexts.{data_of};
-ghost use Rattle.handlebars_helpers.specs.Escaping.{escaping_of};
+ghost use Rattle.handlebars_helpers.specs.Callee.{calls_registered};
+ghost use Rattle.handlebars_helpers.specs.DecoratorsView.{decorator_called, deed_of};
+ghost use Rattle.handlebars_helpers.specs.EscapeView.{escaping_of};
 ghost use Rattle.handlebars_helpers.specs.OwnView.{callee_of, offer_of, steps_of, IsOneOf};
-ghost use Rattle.handlebars_helpers.specs.View.{helper_view};
-ghost use Rattle.handlebars_meaning.specs.State.{Parts, State, helper_for, hook};
-ghost use Rattle.handlebars_render.specs.Targets.{callee_in};
+ghost use Rattle.handlebars_meaning.specs.State.{IsLawful, Kept, Parts, helper_for, helper_named, hook};
+ghost use Rattle.handlebars_render.specs.Asking.{asked_with, tag_asked_with};
+ghost use Rattle.handlebars_render.specs.Targets.{target_in};
+ghost use Rattle.handlebars_render.specs.View.{state_with};
 
+use crate::context::RenderContext;
 use handlebars_base::error::RenderError;
 use handlebars_helpers::built_in::BuiltIn;
-use handlebars_helpers::decorators::DecoratorEntry;
-use handlebars_helpers::escape::EscapeKind;
+use handlebars_helpers::decorators::view::Decorator;
+use handlebars_helpers::decorators::{DecoratorKind, DecoratorResult};
+use handlebars_helpers::escape::Escaping;
 use handlebars_helpers::own::{Callee, HelperResult, HelperValue};
 use handlebars_helpers::view::Helper;
 use handlebars_scope::context::Context;
@@ -28,15 +31,17 @@ pub trait Registered {
     fn helper(&self, name: &str) -> Option<Callee>
         ensures { option_map (callee_of name.now) result ≡ (parts self.now).helper name.now };
 
-    /// What the helper of one's own under a name answers when it is called.
-    fn steps_of(&self, name: &str, view: &Helper, given: &Context) -> HelperResult
-        ensures { IsOneOf (((parts self.now).own name.now).has_steps (record {
-          view = helper_view view.now;
-          given = data_of given.now;
-          changed = None;
-          strict = (parts self.now).strict;
-        }))
-            steps_of result };
+    /// What the helper of one's own under a name answers when it is called: with the view of the call, the
+    /// data that was given, and what stands in its place, where it was changed.
+    fn steps_of(
+        &self,
+        name: &str,
+        view: &Helper,
+        given: &Context,
+        changed: Option<&Context>,
+    ) -> HelperResult
+        ensures { IsOneOf (((parts self.now).own name.now).has_steps
+            (asked_with view.now given.now changed.entry (parts self.now).strict)) steps_of result };
 
     /// What it offers when it is asked for a value.
     fn offer_of(
@@ -44,22 +49,33 @@ pub trait Registered {
         name: &str,
         view: &Helper,
         given: &Context,
+        changed: Option<&Context>,
     ) -> Result<HelperValue, RenderError>
-        ensures { IsOneOf (((parts self.now).own name.now).has_offer (record {
-          view = helper_view view.now;
-          given = data_of given.now;
-          changed = None;
-          strict = (parts self.now).strict;
-        }))
-            offer_of result };
+        ensures { IsOneOf (((parts self.now).own name.now).has_offer
+            (asked_with view.now given.now changed.entry (parts self.now).strict)) offer_of result };
 
     /// The decorator under a name, if there is one.
-    fn decorator(&self, name: &str) -> Option<&DecoratorEntry>
-        ensures { option_map (λ d. decorator_kind d.now) result ≡ (parts self.now).decorator name.now };
+    fn decorator(&self, name: &str) -> Option<DecoratorKind>
+        ensures { option_map (decorator_called name.now) result ≡ (parts self.now).decorator name.now };
+
+    /// What the decorator of one's own under a name answers for a tag.
+    fn deeds_of(
+        &self,
+        name: &str,
+        tag: &Decorator,
+        given: &Context,
+        changed: Option<&Context>,
+    ) -> DecoratorResult
+        ensures { IsOneOf ((parts self.now).own_decorator name.now
+            (tag_asked_with tag.now given.now changed.entry (parts self.now).strict)) (λ v. map deed_of v.items) result };
 
     /// How values are escaped.
-    fn escape(&self) -> &EscapeKind
-        ensures { escaping_of result.now ≡ (parts self.now).escape };
+    fn escape(&self) -> Escaping
+        ensures { escaping_of result ≡ (parts self.now).escape };
+
+    /// What an escape function of one's own answers for a text.
+    fn escaped(&self, text: &str) -> Result<String, RenderError>
+        ensures { IsOneOf ((parts self.now).own_escape text.now) string_bytes result };
 
     /// Whether the mode is strict.
     fn strict(&self) -> bool
@@ -67,6 +83,10 @@ pub trait Registered {
 
     /// Gives a line to the logger.
     fn log(&self, level: Level, text: &str);
+
+    /// Nothing of one's own has two answers to one question.
+    fn keeps_law(&self)
+        ensures { IsLawful (parts self.now) };
 }
 
 /// What a call calls.
@@ -77,14 +97,22 @@ pub enum Target {
     Named,
     /// The one under the hook's name.
     Hooked,
+    /// The local helper of the call's name.
+    Local,
 }
 
 /// What a call by a name calls, a block or not: the helper of the name, else the hook.
-pub fn helper_for<P: Registered>(parts: &P, block: bool, name: &str) -> Option<Target>
-    ensures { (s : State) → option_map (callee_in block name.now) result ≡ helper_for (P.parts parts.now) s block name.now }
+pub fn helper_for<P: Registered>(
+    parts: &P,
+    rc: &RenderContext,
+    block: bool,
+    name: &str,
+) -> Option<Target>
+    ensures { (kept : Kept) → option_map (target_in block name.now) result
+        ≡ helper_for (P.parts parts.now) (state_with kept rc.now) block name.now }
 {
-    match parts.helper(name) {
-        Some(callee) => Some(named(callee)),
+    match helper_named(parts, rc, name) {
+        Some(target) => Some(target),
         None => match parts.helper(hook(block)) {
             Some(callee) => Some(hooked(callee)),
             None => None,
@@ -92,9 +120,23 @@ pub fn helper_for<P: Registered>(parts: &P, block: bool, name: &str) -> Option<T
     }
 }
 
+/// The helper of a name: a local one, else a registered one.
+pub fn helper_named<P: Registered>(parts: &P, rc: &RenderContext, name: &str) -> Option<Target>
+    ensures { (kept : Kept) (block : Bool) → option_map (target_in block name.now) result
+        ≡ helper_named (P.parts parts.now) (state_with kept rc.now) name.now }
+{
+    if rc.has_local_helper(name) {
+        return Some(Target::Local);
+    }
+    match parts.helper(name) {
+        Some(callee) => Some(named(callee)),
+        None => None,
+    }
+}
+
 /// What stands under a call's name.
 pub fn named(callee: Callee) -> Target
-    ensures { (block : Bool) (name : Text) → callee_in block name result ≡ callee_of name callee }
+    ensures { (block : Bool) (name : Text) → target_in block name result ≡ calls_registered (callee_of name callee) }
 {
     match callee {
         Callee::Built(kind) => Target::Built(kind),
@@ -104,7 +146,7 @@ pub fn named(callee: Callee) -> Target
 
 /// What stands under the hook's name.
 pub fn hooked(callee: Callee) -> Target
-    ensures { (block : Bool) (name : Text) → callee_in block name result ≡ callee_of (hook block) callee }
+    ensures { (block : Bool) (name : Text) → target_in block name result ≡ calls_registered (callee_of (hook block) callee) }
 {
     match callee {
         Callee::Built(kind) => Target::Built(kind),

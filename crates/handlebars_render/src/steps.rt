@@ -3,6 +3,7 @@
 ghost use Rattle.std.specs.Prelude.{◌≡◌, ℕ, Bool, map};
 ghost use Rattle.handlebars_template.specs.TreeView.{call_view};
 ghost use Rattle.handlebars_scope.specs.ScopeView.{frame_of};
+ghost use Rattle.handlebars_helpers.specs.Callee as callee;
 ghost use Rattle.handlebars_helpers.specs.Callee.{own};
 ghost use Rattle.handlebars_helpers.specs.CallView.{CallView};
 ghost use Rattle.handlebars_helpers.specs.OwnView.{step_of};
@@ -13,7 +14,8 @@ ghost use Rattle.handlebars_meaning.specs.Sites.{Site};
 ghost use Rattle.handlebars_meaning.specs.State.{Kept};
 ghost use Rattle.handlebars_render.specs.Boxed.{answer_of};
 ghost use Rattle.handlebars_render.specs.OwnChoice.{own_choice_of};
-ghost use Rattle.handlebars_render.specs.View.{setting_in, moment, CarriesOn, IsKept};
+ghost use Rattle.handlebars_render.specs.Targets.{ChoosesFor};
+ghost use Rattle.handlebars_render.specs.View.{setting_in, state_with, moment, CarriesOn, IsKept};
 
 use crate::block::{render_body, render_inverse};
 use crate::boxed::BoxedError;
@@ -38,13 +40,14 @@ pub fn render_own<'a, O: Output, P: Registered>(
     rc: &mut RenderContext,
     out: &mut O,
 ) -> Result<(), BoxedError>
-    ensures renders { (site : Site) (kept : Kept) (block : Bool) (v : CallView)
-        → helper_view view.now ≡ helper_call block (call_view helper.now) v → CarriesOn (setting_in P.parts setting.now)
-        (render_chosen site (own name.now) (helper_call block (call_view helper.now) v))
+    ensures renders { (site : Site) (kept : Kept) (target : callee.Target) (block : Bool) (v : CallView)
+        → ChoosesFor (setting_in P.parts setting.now) (state_with kept rc.old) (own name.now) (helper_view view.now)
+        target (helper_call block (call_view helper.now) v) → CarriesOn (setting_in P.parts setting.now)
+        (render_chosen site target (helper_call block (call_view helper.now) v))
         O.may_give (moment kept rc.old (O.held out.old)) (answer_of result) (moment kept rc.new (O.held out.new)) }
     ensures kept { IsKept rc.old rc.new }
 {
-    match choose_own(setting, name, view) {
+    match choose_own(setting, rc, name, view) {
         Ok(choice) => carry_out_own(helper, setting, choice, rc, out),
         Err(e) => Err(BoxedError::new(setting.alloc, e)),
     }
@@ -66,9 +69,7 @@ fn carry_out_own<'a, O: Output, P: Registered>(
 {
     match choice {
         OwnChoice::Steps(steps) => take_steps(helper, setting, steps, rc, out),
-        OwnChoice::Value(value) => {
-            write_chosen(setting.alloc, Some(&value), setting.parts.escape(), rc, out)
-        }
+        OwnChoice::Value(value) => write_chosen(setting, Some(&value), rc, out),
         OwnChoice::Nothing => Ok(()),
     }
 }

@@ -121,7 +121,7 @@ pub fn call_value<'a, P: Registered>(
     ensures constant { IfOk result (λ found. is_constant found ≡ false) }
 {
     match called(setting, rc, helper) {
-        Ok(call) => helped_value(setting, helper, call),
+        Ok(call) => helped_value(setting, rc, helper, call),
         Err(e) => Err(e),
     }
 }

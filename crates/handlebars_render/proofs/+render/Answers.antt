@@ -1,7 +1,5 @@
-use Rattle.std.proofs.Common.{◌∙◌, ◌+◌, true≢false, refl, sym, ap, map, Option, option_map, List, length, arith}
-use Rattle.std.specs.Prelude.{slice_get, unwrap_or}
-use Rattle.serde_json.specs.Data.{null, number, unsigned}
-use Rattle.serde_json.specs.View.{view}
+use Rattle.std.proofs.Common.{◌∙◌, ◌+◌, true≢false, refl, sym, ap, map, Option, List, length, arith, string_bytes}
+use Rattle.std.specs.Prelude.{slice_get}
 use Rattle.handlebars_base.specs.RenderRefusals.{spot_of}
 use Rattle.handlebars_template.specs.Place.{Place}
 use Rattle.handlebars_template.specs.Tree.{Tree, tree_name, CallMarks, call_marks}
@@ -14,7 +12,7 @@ use Rattle.handlebars_meaning.specs.Sites.{body_at, inverse_at, element_in}
 use Rattle.handlebars_helpers.specs.Choice.{body_if}
 use Rattle.handlebars_scope.specs.ScopeView.{frame_of}
 use Rattle.handlebars_helpers.specs.CallView.{HelperView}
-use Rattle.handlebars_helpers.specs.Callee.{built, own}
+use Rattle.handlebars_helpers.specs.Callee.{built, own, calls_local, calls_registered}
 use Rattle.handlebars_helpers.specs.OwnView.{step_of}
 use Rattle.handlebars_helpers.specs.View.{kind_of, base_view, path_view, turn_view}
 use Rattle.handlebars_scope.specs.Scopes.{Frame, empty_frame}
@@ -22,10 +20,12 @@ use Rattle.handlebars_meaning.specs.CarryOut.{helper_call}
 use Rattle.handlebars_meaning.specs.Means.{render_chosen, render_decorator}
 use Rattle.handlebars_meaning.specs.Runs.{named_as, placed_at}
 use Rattle.handlebars_render.specs.Boxed.{answer_of, error_of}
-use Rattle.handlebars_render.specs.Targets.{callee_in}
-use Rattle.handlebars_render.specs.View.{called_view, keeping, state_of, state_with}
+use Rattle.handlebars_render.specs.Targets.{target_in}
+use Rattle.handlebars_render.specs.Bound.{bound_of}
+use Rattle.handlebars_render.specs.View.{called_view, keeping, setting_in, state_of, state_with}
 use Rattle.handlebars_render.proofs.Branches.{carries-branch}
-use Rattle.handlebars_render.proofs.Calls.{branch_none, carry_out_value, choice_err, choice_ok, chosen_by, chosen_ok, chosen_err, entered_as}
+use Rattle.handlebars_render.proofs.Calls.{branch_none, choice_err, choice_ok, chosen_ok, entered_as}
+use Rattle.handlebars_render.proofs.LocalCalls.{chooses-local, chooses-same, refuses-local}
 use Rattle.handlebars_render.proofs.Leaves.{carries_on-leaves}
 use Rattle.handlebars_render.proofs.Carry.{carries-done, carries-no_value, carries-out_of_memory, carries-puts, carries-run, carries-unescaped, carries_on-bracket, carries_on-done, carries_on-handed, carries_on-task, carries_on-task_over, carries_on-step, carries_on-word, restored, carries_on-in_block, carries_on-out_of_memory}
 use Rattle.handlebars_meaning.specs.State.{entered, hook}
@@ -58,7 +58,7 @@ pub block::render_branch-returns-clause-renders : goal.block::render_branch-retu
 block::render_branch-returns-clause-renders g t c = λ site kept block k v chooses.
     let marked = ap (λ (m : CallMarks). m.indent_before_write) (call_marks-view c.args.helper.now) in
     carries_on-bracket _ _ (call_marks (call_view c.args.helper.now)).indent_before_write
-    (render_chosen site (built k) (helper_call block (call_view c.args.helper.now) v))
+    (render_chosen site (calls_registered (built k)) (helper_call block (call_view c.args.helper.now) v))
     (entered_as (state_with kept c.args.rc.now) (state_with kept c.enter_call.new.rc) _ _ marked (ap (keeping kept) c.enter_call.ensures.state))
     (ap (keeping kept) (c.leave_call.ensures.state (state_of c.args.rc.now).line (sym c.get_indent_before_write-before.ensures)
     (sym c.get_content_produced-produced.ensures)))
@@ -78,7 +78,7 @@ pub block::render_next-returns-clause-renders : goal.block::render_next-returns-
 block::render_next-returns-clause-renders g t c = λ site kept.
     let marked = ap (λ (m : CallMarks). m.indent_before_write) (call_marks-view c.args.helper.now) in
     rw c.if-not-bracket.false (carries_on-bracket _ _ (call_marks (call_view c.args.helper.now)).indent_before_write
-    (render_chosen site (callee_in c.args.block (called_view c.args.to_call.call).name c.args.to_call.target)
+    (render_chosen site (target_in c.args.block (called_view c.args.to_call.call).name c.args.to_call.target)
     (helper_call c.args.block (call_view c.args.helper.now) (called_view c.args.to_call.call)))
     (entered_as (state_with kept c.args.rc.now) (state_with kept c.enter_call.new.rc) _ _ marked (ap (keeping kept) c.enter_call.ensures.state))
     (ap (keeping kept) (c.leave_call.ensures.state (state_of c.args.rc.now).line (sym c.get_indent_before_write-before.ensures)
@@ -87,32 +87,64 @@ block::render_next-returns-clause-renders g t c = λ site kept.
 
 pub block::render_chosen-returns-in-Built-clause-renders : goal.block::render_chosen-returns-in-Built-clause-renders
 block::render_chosen-returns-in-Built-clause-renders g t c = λ site kept. rw c.in-Built.is
-    (c.render_built.ensures.renders site kept (called_view c.args.call) c.of_call-view.ensures)
+    (c.render_built.ensures.renders site kept (calls_registered (built (kind_of c.in-Built.kind))) (called_view c.args.call)
+    (chooses-same (setting_in g.P.Registered.parts c.args.setting.now) (state_with kept c.args.rc.now) (built (kind_of c.in-Built.kind)) (built (kind_of c.in-Built.kind)) _ _ refl c.of_call-view.ensures))
 
 pub block::render_chosen-returns-in-Named-clause-renders : goal.block::render_chosen-returns-in-Named-clause-renders
 block::render_chosen-returns-in-Named-clause-renders g t c = λ site kept. rw c.in-Named.is
-    (chosen_by _ _ site _ (own (called_view c.args.call).name)
-    (helper_call c.args.block (call_view c.args.helper.now) (called_view c.args.call))
-    (ap (λ t. own t) (sym (c.name.ensures ∙ ap (λ (h : HelperView). h.call.name) c.of_call-view.ensures)))
-    (c.render_own.ensures.renders site kept c.args.block (called_view c.args.call) c.of_call-view.ensures))
+    (c.render_own.ensures.renders site kept (calls_registered (own (called_view c.args.call).name)) c.args.block
+    (called_view c.args.call)
+    (chooses-same (setting_in g.P.Registered.parts c.args.setting.now) (state_with kept c.args.rc.now) (own c.name.result.now) (own (called_view c.args.call).name) _ _
+    (ap (λ t. own t) (c.name.ensures ∙ ap (λ (h : HelperView). h.call.name) c.of_call-view-in-Named.ensures))
+    c.of_call-view-in-Named.ensures))
 
-pub block::render_chosen-returns-clause-renders : goal.block::render_chosen-returns-clause-renders
-block::render_chosen-returns-clause-renders g t c = λ site kept. rw c.in-Hooked.is
-    (chosen_by _ _ site _ (own (hook c.args.block))
-    (helper_call c.args.block (call_view c.args.helper.now) (called_view c.args.call))
-    (ap (λ t. own t) (sym c.hook.ensures))
-    (c.render_own-in-Hooked.ensures.renders site kept c.args.block (called_view c.args.call) c.of_call-view.ensures))
+pub block::render_chosen-returns-in-Hooked-clause-renders : goal.block::render_chosen-returns-in-Hooked-clause-renders
+block::render_chosen-returns-in-Hooked-clause-renders g t c = λ site kept. rw c.in-Hooked.is
+    (c.render_own-in-Hooked.ensures.renders site kept (calls_registered (own (hook c.args.block))) c.args.block
+    (called_view c.args.call)
+    (chooses-same (setting_in g.P.Registered.parts c.args.setting.now) (state_with kept c.args.rc.now) (own c.hook.result.now) (own (hook c.args.block)) _ _ (ap (λ t. own t) c.hook.ensures)
+    c.of_call-view-in-Hooked.ensures))
+
+pub block::render_chosen-returns-in-Local-clause-renders : goal.block::render_chosen-returns-in-Local-clause-renders
+block::render_chosen-returns-in-Local-clause-renders g t c = λ site kept. rw c.in-Local.is (c.render_local.ensures.renders site kept)
+
+pub block::render_local-returns-in-Ok-clause-renders : goal.block::render_local-returns-in-Ok-clause-renders
+block::render_local-returns-in-Ok-clause-renders g t c = λ site kept.
+    c.render_bound.ensures.renders site kept (calls_local (called_view c.args.call).name) (called_view c.args.call)
+    (chooses-local (setting_in g.P.Registered.parts c.args.setting.now) (state_with kept c.args.rc.now) c.args.block (call_view c.args.helper.now) (called_view c.args.call)
+    (bound_of c.in-Ok.bound) c.in-Ok.ensures)
+
+pub block::render_local-returns-in-Err-clause-renders : goal.block::render_local-returns-in-Err-clause-renders
+block::render_local-returns-in-Err-clause-renders g t c = λ site kept.
+    carries_on-handed _ _ c.in-Err.e (error_of c.new.result) c.new.ensures
+    (choice_err _ _ site (calls_local (called_view c.args.call).name)
+    (helper_call c.args.block (call_view c.args.helper.now) (called_view c.args.call)) c.in-Err.e
+    (λ other. refuses-local (setting_in g.P.Registered.parts c.args.setting.now) (state_with kept c.args.rc.now) c.args.block (call_view c.args.helper.now)
+    (called_view c.args.call) _ (c.in-Err.ensures other)))
+
+pub block::render_bound-returns-in-Built-clause-renders : goal.block::render_bound-returns-in-Built-clause-renders
+block::render_bound-returns-in-Built-clause-renders g t c = λ site kept target v chooses.
+    c.render_built.ensures.renders site kept target v
+    (λ a has. chooses a (rw c.in-Built.is (chooses-same (setting_in g.P.Registered.parts c.args.setting.now) (state_with kept c.args.rc.now)
+    (built (kind_of c.in-Built.kind)) (built (kind_of c.in-Built.kind)) _ _ refl c.of_call-view.ensures a has)))
+
+pub block::render_bound-returns-clause-renders : goal.block::render_bound-returns-clause-renders
+block::render_bound-returns-clause-renders g t c = λ site kept target v chooses.
+    c.render_own.ensures.renders site kept target c.args.block v
+    (λ a has. chooses a (rw c.in-Own.is (chooses-same (setting_in g.P.Registered.parts c.args.setting.now) (state_with kept c.args.rc.now)
+    (own c.as_str.result.now) (own (string_bytes c.args.bound.registered)) _ _ (ap (λ t. own t) c.as_str.ensures.value)
+    c.of_call-view.ensures a has)))
 
 pub block::render_built-returns-in-Ok-clause-renders : goal.block::render_built-returns-in-Ok-clause-renders
-block::render_built-returns-in-Ok-clause-renders g t c = λ site kept v same.
-    chosen_ok _ _ _ site (kind_of c.args.kind) _ (helper_call c.args.block (call_view c.args.helper.now) v) _
-    c.strict.ensures same c.in-Ok.ensures (c.carry_out.ensures.renders site kept v)
+block::render_built-returns-in-Ok-clause-renders g t c = λ site kept target v chooses.
+    choice_ok _ _ site target (helper_call c.args.block (call_view c.args.helper.now) v) _
+    (chooses _ (sym (rw c.strict.ensures at c.in-Ok.ensures))) (c.carry_out.ensures.renders site kept v)
 
 pub block::render_built-returns-in-Err-clause-renders : goal.block::render_built-returns-in-Err-clause-renders
-block::render_built-returns-in-Err-clause-renders g t c = λ site kept v same.
+block::render_built-returns-in-Err-clause-renders g t c = λ site kept target v chooses.
     carries_on-handed _ _ c.in-Err.e (error_of c.new.result) c.new.ensures
-    (chosen_err _ _ _ site (kind_of c.args.kind) _ (helper_call c.args.block (call_view c.args.helper.now) v) c.in-Err.e
-    c.strict.ensures same c.in-Err.ensures)
+    (choice_err _ _ site target (helper_call c.args.block (call_view c.args.helper.now) v) c.in-Err.e
+    (λ other. chooses _ (sym (rw c.strict.ensures at (c.in-Err.ensures other)))))
 
 pub block::carry_out-returns-in-Body-clause-renders : goal.block::carry_out-returns-in-Body-clause-renders
 block::carry_out-returns-in-Body-clause-renders g t c = λ site kept v. rw c.in-Body.is (c.render_body.ensures.renders site kept 0 c.args.block v)
@@ -122,13 +154,11 @@ block::carry_out-returns-in-Inverse-clause-renders g t c = λ site kept v. rw c.
 
 pub block::carry_out-returns-in-Value-clause-renders : goal.block::carry_out-returns-in-Value-clause-renders
 block::carry_out-returns-in-Value-clause-renders g t c = λ site kept v. rw c.in-Value.is
-    (carry_out_value _ _ site (helper_call c.args.block (call_view c.args.helper.now) v) (unwrap_or (option_map (λ x. view x.now) c.in-Value.value) null)
-    (rw c.escape.ensures at (c.write_chosen.ensures.puts kept)))
+    (c.write_chosen.ensures.shows site kept)
 
 pub block::carry_out-returns-in-Count-clause-renders : goal.block::carry_out-returns-in-Count-clause-renders
 block::carry_out-returns-in-Count-clause-renders g t c = λ site kept v. rw c.in-Count.is
-    (carry_out_value _ _ site (helper_call c.args.block (call_view c.args.helper.now) v) (number (unsigned c.in-Count.count))
-    (rw c.escape-in-Count.ensures at (c.write_count.ensures.puts kept)))
+    (c.write_count.ensures.shows site kept)
 
 pub block::carry_out-returns-in-Word-clause-renders : goal.block::carry_out-returns-in-Word-clause-renders
 block::carry_out-returns-in-Word-clause-renders g t c = λ site kept v. rw c.in-Word.is (c.render_word.ensures.renders site kept v)
@@ -264,15 +294,15 @@ tree::render_whole-returns-clause-kept g t c = kept-trans c.in_ok-enter.ensures.
 -- ---- steps of helpers of one's own
 
 pub steps::render_own-returns-in-Ok-clause-renders : goal.steps::render_own-returns-in-Ok-clause-renders
-steps::render_own-returns-in-Ok-clause-renders g t c = λ site kept block v same.
-    choice_ok _ _ site (own c.args.name.now) _ (helper_call block (call_view c.args.helper.now) v) _ same
-    (c.in-Ok.ensures (state_with kept c.args.rc.now)) (c.carry_out_own.ensures.renders site kept block v)
+steps::render_own-returns-in-Ok-clause-renders g t c = λ site kept target block v chooses.
+    choice_ok _ _ site target (helper_call block (call_view c.args.helper.now) v) _
+    (chooses _ (c.in-Ok.ensures kept)) (c.carry_out_own.ensures.renders site kept block v)
 
 pub steps::render_own-returns-in-Err-clause-renders : goal.steps::render_own-returns-in-Err-clause-renders
-steps::render_own-returns-in-Err-clause-renders g t c = λ site kept block v same.
+steps::render_own-returns-in-Err-clause-renders g t c = λ site kept target block v chooses.
     carries_on-handed _ _ c.in-Err.e (error_of c.new.result) c.new.ensures
-    (choice_err _ _ site (own c.args.name.now) _ (helper_call block (call_view c.args.helper.now) v) c.in-Err.e same
-    (c.in-Err.ensures (state_with kept c.args.rc.now)))
+    (choice_err _ _ site target (helper_call block (call_view c.args.helper.now) v) c.in-Err.e
+    (λ other. chooses _ (c.in-Err.ensures kept other)))
 
 pub steps::carry_out_own-returns-in-Steps-clause-renders : goal.steps::carry_out_own-returns-in-Steps-clause-renders
 steps::carry_out_own-returns-in-Steps-clause-renders g t c = λ site kept block v. rw c.in-Steps.is
@@ -280,8 +310,7 @@ steps::carry_out_own-returns-in-Steps-clause-renders g t c = λ site kept block 
 
 pub steps::carry_out_own-returns-in-Value-clause-renders : goal.steps::carry_out_own-returns-in-Value-clause-renders
 steps::carry_out_own-returns-in-Value-clause-renders g t c = λ site kept block v. rw c.in-Value.is
-    (carry_out_value _ _ site (helper_call block (call_view c.args.helper.now) v) (view c.in-Value.value)
-    (rw c.escape.ensures at (c.write_chosen.ensures.puts kept)))
+    (c.write_chosen.ensures.shows site kept)
 
 pub steps::carry_out_own-returns-in-Nothing-clause-renders : goal.steps::carry_out_own-returns-in-Nothing-clause-renders
 steps::carry_out_own-returns-in-Nothing-clause-renders g t c = λ site kept block v. rw c.in-Nothing.is (carries_on-done _ _)

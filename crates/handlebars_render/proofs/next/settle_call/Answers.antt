@@ -4,9 +4,7 @@ use Rattle.handlebars_template.specs.TreeView.{call_view}
 use Rattle.handlebars_template.proofs.Levels.{call_name-view}
 use Rattle.handlebars_meaning.specs.Asks.{is_refused}
 use Rattle.handlebars_meaning.specs.Means.{render_call}
-use Rattle.handlebars_meaning.specs.State.{helper_for}
 use Rattle.handlebars_render.specs.Boxed.{error_of}
-use Rattle.handlebars_render.specs.View.{state_with}
 use Rattle.handlebars_render.proofs.Carry.{refuses-handed}
 use Rattle.handlebars_render.proofs.Leaves.{refuses-view}
 use Rattle.handlebars_render.proofs.next.settle_call.Goals as goal
@@ -18,7 +16,7 @@ returns-in-Some g c = λ site kept.
 pub returns-in-Ok : goal.returns-in-Ok
 returns-in-Ok g c = λ site kept.
     c.settle_viewed.ensures site kept (rw (call_name-view c.args.helper.now) (c.in-Ok.ensures kept))
-    (rw c.as_str.ensures.value at (c.helper_for-target.ensures (state_with kept c.args.rc.now)))
+    (rw c.as_str.ensures.value at (c.helper_for-target.ensures kept))
 
 pub returns-in-Err : goal.returns-in-Err
 returns-in-Err g c = λ site kept.

@@ -3,7 +3,6 @@ use Rattle.handlebars_base.specs.PathView.{reference_of}
 use Rattle.handlebars_template.specs.Tree.{call_name}
 use Rattle.handlebars_template.specs.TreeView.{call_view}
 use Rattle.handlebars_render.specs.Boxed.{error_of}
-use Rattle.handlebars_render.specs.View.{state_with}
 use Rattle.handlebars_render.proofs.Branches.{refuses-path, takes-path}
 use Rattle.handlebars_render.proofs.LoneValues.{named-written}
 use Rattle.handlebars_render.proofs.next.settle_named.Goals as goal
@@ -13,7 +12,7 @@ returns-in-Ok g c = λ named site kept.
     takes-path _ site c.args.block (call_view c.args.helper.now) c.args.name.now (reference_of c.in-Some.path.now)
     (named-written _ _ (call_name (call_view c.args.helper.now)) c.args.name.now named)
     c.in-Some.ensures.path c.in-Some.wanted c.in-Ok.truth c.takes.result
-    (sym (c.in-Some.ensures.kind c.args.block c.args.name.now) ∙ c.helper_for-target.ensures (state_with kept c.args.rc.now))
+    (sym (c.in-Some.ensures.kind c.args.block c.args.name.now) ∙ c.helper_for-target.ensures kept)
     (c.in-Ok.ensures kept) c.takes.ensures
 
 pub returns-in-Err : goal.returns-in-Err
@@ -26,4 +25,4 @@ pub returns-in-None : goal.returns-in-None
 returns-in-None g c = λ named site kept.
     c.settle_viewed.ensures site kept
     (named-written _ _ (call_name (call_view c.args.helper.now)) c.args.name.now named)
-    (c.helper_for-target.ensures (state_with kept c.args.rc.now))
+    (c.helper_for-target.ensures kept)

@@ -6,7 +6,7 @@ use Rattle.handlebars_meaning.specs.Asks.{goes_on, is_refused}
 use Rattle.handlebars_meaning.specs.Means.{render_call}
 use Rattle.handlebars_render.specs.Boxed.{answer_of, error_of}
 use Rattle.handlebars_base.specs.PathAndData.{path_and_data}
-use Rattle.handlebars_render.specs.Targets.{callee_in}
+use Rattle.handlebars_render.specs.Targets.{target_in}
 use Rattle.handlebars_render.specs.View.{pairs_seen}
 use Rattle.handlebars_render.proofs.Carry.{refuses-handed}
 use Rattle.handlebars_render.proofs.Leaves.{leaves-called, refuses-view, refuses-unknown, settles-call}
@@ -30,10 +30,10 @@ returns-in-Some g c = λ site kept named is.
     settles-call _ site c.args.block (call_view c.args.helper.now) _ _ (answer_of c.to_call.result) c.to_call.ensures
     (leaves-called _ site c.args.block (call_view c.args.helper.now)
     (record { name = cow_str_bytes c.args.name; params = map path_and_data c.in-Ok.params.items; pairs = pairs_seen c.in-Ok-pairs_values.hash.entries })
-    (callee_in c.args.block (cow_str_bytes c.args.name) c.in-Some.target)
+    (target_in c.args.block (cow_str_bytes c.args.name) c.in-Some.target)
     (rw (call_params-view c.args.helper.now, call_pairs-view c.args.helper.now)
     (goes_on named (goes_on (c.in-Ok.ensures kept) (goes_on (c.in-Ok-pairs_values.ensures kept) refl))))
-    (sym (ap (option_map (callee_in c.args.block (cow_str_bytes c.args.name))) c.in-Some.is) ∙ is))
+    (sym (ap (option_map (target_in c.args.block (cow_str_bytes c.args.name))) c.in-Some.is) ∙ is))
 
 pub returns : goal.returns
 returns g c = λ site kept named is.
@@ -42,5 +42,5 @@ returns g c = λ site kept named is.
     (error_of c.unknown_helper.result)
     (rw (call_params-view c.args.helper.now, call_pairs-view c.args.helper.now)
     (goes_on named (goes_on (c.in-Ok.ensures kept) (goes_on (c.in-Ok-pairs_values.ensures kept) refl))))
-    (sym (ap (option_map (callee_in c.args.block (cow_str_bytes c.args.name))) c.in-None.is) ∙ is)
+    (sym (ap (option_map (target_in c.args.block (cow_str_bytes c.args.name))) c.in-None.is) ∙ is)
     (rw c.as_str.ensures.value at c.unknown_helper.ensures)

@@ -6,25 +6,25 @@ use Rattle.handlebars_meaning.specs.Asks.{goes_on, is_refused}
 use Rattle.handlebars_render.proofs.own.own_value.Goals as goal
 
 pub returns-in-Ok-Value-clause-value : goal.returns-in-Ok-Value-clause-value
-returns-in-Ok-Value-clause-value g c = λ s. goes_on (rw c.in-Ok-Value.field-0-is at c.in-Ok-Value.ensures) refl
+returns-in-Ok-Value-clause-value g c = λ kept. goes_on (rw c.context.ensures at (rw c.in-Ok-Value.field-0-is at c.in-Ok-Value.ensures)) refl
 
 pub returns-in-Ok-Missing-clause-value : goal.returns-in-Ok-Missing-clause-value
-returns-in-Ok-Missing-clause-value g c = λ s. goes_on (rw c.in-Ok-Missing.field-0-is at c.in-Ok-Missing.ensures) refl
+returns-in-Ok-Missing-clause-value g c = λ kept. goes_on (rw c.context.ensures at (rw c.in-Ok-Missing.field-0-is at c.in-Ok-Missing.ensures)) refl
 
 pub returns-in-Ok-None-clause-value : goal.returns-in-Ok-None-clause-value
-returns-in-Ok-None-clause-value g c = λ s.
-    goes_on (rw c.in-Ok-NotOffered.field-0-is at c.in-Ok-NotOffered.ensures)
-    (goes_on (rw c.in-Ok-None.field-0-is at c.in-Ok-None.ensures) (ap (λ (z : Found). gives z) c.empty_text.ensures.value))
+returns-in-Ok-None-clause-value g c = λ kept.
+    goes_on (rw c.context.ensures at (rw c.in-Ok-NotOffered.field-0-is at c.in-Ok-NotOffered.ensures))
+    (goes_on (rw c.context-in-Ok-NotOffered.ensures at (rw c.in-Ok-None.field-0-is at c.in-Ok-None.ensures)) (ap (λ (z : Found). gives z) c.empty_text.ensures.value))
 
 pub returns-in_ok-text_written-in-Ok-Some-clause-value : goal.returns-in_ok-text_written-in-Ok-Some-clause-value
-returns-in_ok-text_written-in-Ok-Some-clause-value g c = λ s.
-    goes_on (rw c.in-Ok-NotOffered.field-0-is at c.in-Ok-NotOffered.ensures)
-    (goes_on (rw c.in-Ok-Some.field-0-is at c.in-Ok-Some.ensures) (ap (λ (z : Found). gives z)
+returns-in_ok-text_written-in-Ok-Some-clause-value g c = λ kept.
+    goes_on (rw c.context.ensures at (rw c.in-Ok-NotOffered.field-0-is at c.in-Ok-NotOffered.ensures))
+    (goes_on (rw c.context-in-Ok-NotOffered.ensures at (rw c.in-Ok-Some.field-0-is at c.in-Ok-Some.ensures)) (ap (λ (z : Found). gives z)
     (c.text_value.ensures.value ∙ ap (λ t. value (string t)) c.in_ok-text_written-in-Ok-Some.ensures)))
 
 pub returns-in-Err-steps_of-clause-value : goal.returns-in-Err-steps_of-clause-value
-returns-in-Err-steps_of-clause-value g c = λ s other.
-    goes_on (rw c.in-Ok-NotOffered.field-0-is at c.in-Ok-NotOffered.ensures) (is_refused (c.in-Err-steps_of.ensures other))
+returns-in-Err-steps_of-clause-value g c = λ kept other.
+    goes_on (rw c.context.ensures at (rw c.in-Ok-NotOffered.field-0-is at c.in-Ok-NotOffered.ensures)) (is_refused (rw c.context-in-Ok-NotOffered.ensures at (c.in-Err-steps_of.ensures other)))
 
 pub returns-in-Err-clause-value : goal.returns-in-Err-clause-value
-returns-in-Err-clause-value g c = λ s other. is_refused (c.in-Err.ensures other)
+returns-in-Err-clause-value g c = λ kept other. is_refused (rw c.context.ensures at (c.in-Err.ensures other))

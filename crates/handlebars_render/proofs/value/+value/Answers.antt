@@ -6,7 +6,6 @@ use Rattle.handlebars_base.specs.Scoped.{found_of}
 use Rattle.handlebars_template.specs.TreeView.{call_view, pairs_view}
 use Rattle.handlebars_template.proofs.Levels.{call_name-view, call_params-view, call_pairs-view, element_view-Expression, param_view-Path, param_view-Subexpression}
 use Rattle.handlebars_meaning.specs.Asks.{goes_on, is_refused}
-use Rattle.handlebars_render.specs.View.{state_with}
 use Rattle.handlebars_render.proofs.Ordered.{follows-next, inserted-last, map-push, pairs_seen-push}
 use Rattle.handlebars_render.proofs.Values.{pairs-end, pairs-go, pairs-over, params-end, params-go, params-here, params-over, params-past, subexpression_view-out, inner_value-parts, yields-answer, handed_on, yields-inner_value, yields-then, written-as}
 use Rattle.handlebars_render.proofs.value.+value.Goals as goal
@@ -59,7 +58,7 @@ expands-returns-in-Subexpression-clause-value g t c = λ kept. rw (c.in-Subexpre
 
 pub call_value-returns-in-Ok-clause-value : goal.call_value-returns-in-Ok-clause-value
 call_value-returns-in-Ok-clause-value g t c = λ kept. yields-inner_value found_of _ _ (call_view c.args.helper.now) _
-    (yields-then found_of _ _ _ (c.in-Ok.ensures kept) (c.helped_value.ensures.value (state_with kept c.args.rc.now)))
+    (yields-then found_of _ _ _ (c.in-Ok.ensures kept) (c.helped_value.ensures.value kept))
 
 pub call_value-returns-in-Err-clause-value : goal.call_value-returns-in-Err-clause-value
 call_value-returns-in-Err-clause-value g t c = λ kept other.
