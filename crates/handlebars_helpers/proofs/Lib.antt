@@ -1,8 +1,10 @@
 mod Pairs
-mod Entries
+mod TextMaps
 mod Names
 mod Turns
 mod Sizes
 mod Values
 mod Marked
 mod Decorations
+mod Refused
+mod OneAnswer

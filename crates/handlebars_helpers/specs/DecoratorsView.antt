@@ -1,20 +1,20 @@
 -- What the code's values of decorators stand for.
-use Rattle.std.specs.Prelude.{map, Option, option_map, String, string_bytes}
+use Rattle.std.specs.Prelude.{Bool, List, map, Option, option_map, string_bytes, Vec}
+use Rattle.std.specs.Borrow.{Bor}
 use Rattle.std.specs.declared.alloc.Global.{Global}
-use Rattle.std.specs.BTreeMap.{BTreeMap, get_by_text}
 use Rattle.std.specs.Cow.{cow_str_bytes}
 use Rattle.handlebars_base.specs.Bytes.{Text}
 use Rattle.handlebars_base.specs.PathAndData.{path_and_data}
 use Rattle.handlebars_template.specs.TreeView.{tree_view, body_of}
 use Rattle.handlebars_scope.specs.Contexts.{data_of}
+use Rattle.handlebars_scope.specs.declared.context.Context.{Context}
 use Rattle.serde_json.specs.View.{view}
 use Rattle.handlebars_helpers.specs.Decoration.{DecoratorKind, kind_inline, kind_own, DecoratorView, Deed, sets_data, binds, unbinds, sets_partial}
+use Rattle.handlebars_helpers.specs.OwnDecorator.{TagAsked}
 use Rattle.handlebars_helpers.specs.declared.decorators.DecoratorKind as declared
 use Rattle.handlebars_helpers.specs.declared.decorators.DecoratorKind.TheVariants as kind
 use Rattle.handlebars_helpers.specs.declared.decorators.DecoratorStep.{DecoratorStep}
 use Rattle.handlebars_helpers.specs.declared.decorators.DecoratorStep.TheVariants.{SetContext, BindHelper, UnbindHelper, SetLocalPartial}
-use Rattle.handlebars_helpers.specs.declared.decorators.DecoratorEntry.{DecoratorEntry}
-use Rattle.handlebars_helpers.specs.declared.decorators.DecoratorEntry.TheVariants.{Inline}
 use Rattle.handlebars_helpers.specs.declared.decorators.view.Decorator.{Decorator}
 
 -- what a decorator's tag shows
@@ -33,17 +33,21 @@ abbrev pub decorator_called : Text → declared.DecoratorKind → DecoratorKind
 decorator_called name kind.Inline = kind_inline
 decorator_called name kind.Own = kind_own name
 
--- what an entry under a name is
-abbrev pub decorator_kind : Text → DecoratorEntry → DecoratorKind
-decorator_kind name Inline = kind_inline
-
--- the decorator under a name, if one stands there
-abbrev pub decorator_at : Text → BTreeMap (String Global) DecoratorEntry → Option DecoratorKind
-decorator_at name decorators = option_map (decorator_kind name) (get_by_text decorators name)
-
 abbrev pub deed_of : DecoratorStep → Deed
 deed_of (SetContext c) = sets_data (data_of c)
 deed_of (BindHelper local registered constants) =
     binds (string_bytes local) (record { registered = string_bytes registered; constants = map view constants.items })
 deed_of (UnbindHelper local) = unbinds (string_bytes local)
 deed_of (SetLocalPartial name) = sets_partial (string_bytes name)
+
+abbrev pub deeds_of : Vec DecoratorStep Global → List Deed
+deeds_of steps = map deed_of steps.items
+
+-- what a decorator is asked about, by what it is shown
+abbrev pub tag_asked_with : Decorator → Context → Option (Bor Context) → Bool → TagAsked
+tag_asked_with d given changed strict = record {
+  view = tag_view d;
+  given = data_of given;
+  changed = option_map (λ c. data_of c.now) changed;
+  strict = strict;
+}

@@ -1,5 +1,6 @@
 -- What the answers of helpers of one's own stand for.
-use Rattle.std.specs.Prelude.{◌≢◌, List, map, Option, option_map, Result, MatchResult, string_bytes, Vec}
+use Rattle.std.specs.Prelude.{◌≢◌, Bool, List, map, Option, option_map, Result, MatchResult, string_bytes, Vec}
+use Rattle.std.specs.Borrow.{Bor}
 use Rattle.std.specs.declared.alloc.Global.{Global}
 use Rattle.serde_json.specs.View.{view}
 use Rattle.handlebars_base.specs.Answers.{Answer, gives, refuses}
@@ -7,10 +8,12 @@ use Rattle.handlebars_base.specs.Bytes.{Text}
 use Rattle.handlebars_base.specs.Reasons.{out_of_memory}
 use Rattle.handlebars_base.specs.RenderRefusals.{reason_in, refusal_of}
 use Rattle.handlebars_base.specs.declared.error.render_error.RenderError.{RenderError}
+use Rattle.handlebars_scope.specs.Contexts.{data_of}
 use Rattle.handlebars_scope.specs.ScopeView.{frame_of}
+use Rattle.handlebars_scope.specs.declared.context.Context.{Context}
 use Rattle.handlebars_helpers.specs.Callee as plain
-use Rattle.handlebars_helpers.specs.Own.{Step, writes, renders_body, renders_inverse, renders_body_in, Offer, not_offered, offers_missing, offers}
-use Rattle.handlebars_helpers.specs.View.{kind_of}
+use Rattle.handlebars_helpers.specs.Own.{Asked, Step, writes, renders_body, renders_inverse, renders_body_in, Offer, not_offered, offers_missing, offers}
+use Rattle.handlebars_helpers.specs.View.{helper_view, kind_of}
 use Rattle.handlebars_helpers.specs.declared.own.Callee.{Callee}
 use Rattle.handlebars_helpers.specs.declared.own.Callee.TheVariants.{Built, Own}
 use Rattle.handlebars_helpers.specs.declared.own.LocalHelper as declared
@@ -18,6 +21,7 @@ use Rattle.handlebars_helpers.specs.declared.own.HelperStep.{HelperStep}
 use Rattle.handlebars_helpers.specs.declared.own.HelperStep.TheVariants.{Write, Body, Inverse, BodyIn}
 use Rattle.handlebars_helpers.specs.declared.own.HelperValue.{HelperValue}
 use Rattle.handlebars_helpers.specs.declared.own.HelperValue.TheVariants.{NotOffered, Missing, Value}
+use Rattle.handlebars_helpers.specs.declared.view.Helper.{Helper}
 
 -- what stands under this name
 abbrev pub callee_of : Text → Callee → plain.Callee
@@ -45,3 +49,12 @@ offer_of (Value v) = offers (view v)
 abbrev pub IsOneOf : {T A : Type 0} → (Answer A → Type 0) → (T → A) → Result T RenderError → Type 0
 IsOneOf has seen r =
     MatchResult r (λ x. has (gives (seen x))) (λ e. reason_in e ≢ out_of_memory → has (refuses (refusal_of e)))
+
+-- what a helper is asked about, by what it is shown
+abbrev pub asked_with : Helper → Context → Option (Bor Context) → Bool → Asked
+asked_with h given changed strict = record {
+  view = helper_view h;
+  given = data_of given;
+  changed = option_map (λ c. data_of c.now) changed;
+  strict = strict;
+}

@@ -3,13 +3,19 @@
 ghost use Rattle.std.specs.Prelude.{◌≡◌};
 ghost use Rattle.handlebars_helpers.specs.EscapeView.{escaping_of, kind_escaping};
 
+pub mod def;
+
+use crate::escape::def::EscapeFn;
+
 /// How the text of a value is escaped before it is written.
-#[derive(Debug, Drop)]
+#[derive(Drop)]
 pub enum EscapeKind {
     /// By the entities of html, as `escape_html` does.
     Html,
     /// Not at all.
     Plain,
+    /// By an escape function of one's own.
+    Own(Box<dyn EscapeFn>),
 }
 
 /// How texts are escaped: for html, not at all, or by an escape function of one's own, which is to be asked.
@@ -28,6 +34,7 @@ impl EscapeKind {
         match self {
             EscapeKind::Html => Escaping::Html,
             EscapeKind::Plain => Escaping::Plain,
+            EscapeKind::Own(_) => Escaping::Own,
         }
     }
 }

@@ -1,5 +1,9 @@
 //! What stands under the names of helpers, and what helpers of one's own answer.
 
+pub mod def;
+pub mod entry;
+pub mod function;
+
 use crate::built_in::BuiltIn;
 use handlebars_base::error::RenderError;
 use handlebars_base::json::value::Json;

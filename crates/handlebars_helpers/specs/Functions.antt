@@ -1,0 +1,39 @@
+-- What callers' functions answer, which stand for helpers and for decorators.
+use Rattle.std.specs.Prelude.{◌≡◌, ◌≢◌, Bool, Option, Result, MatchResult}
+use Rattle.std.specs.Borrow.{Bor}
+use Rattle.std.specs.Coded.{Π_prop, →_prop}
+use Rattle.std.proofs.Math.Logic.{∥∥₁_prop}
+use Rattle.handlebars_base.specs.Answers.{Answer, gives, refuses_for}
+use Rattle.handlebars_base.specs.Reasons.{out_of_memory}
+use Rattle.handlebars_scope.specs.declared.context.Context.{Context}
+use Rattle.handlebars_helpers.specs.FnRefusals.{refused_for}
+use Rattle.handlebars_helpers.specs.Own.{HasOne}
+use Rattle.handlebars_helpers.specs.declared.refusal.FnRefusal.{FnRefusal}
+
+-- What a call that was made says, which is nothing at want of memory.
+abbrev pub Says : {T A : Type 0} → (T → A) → Result T FnRefusal → Answer A → Type 0
+Says seen r a =
+    MatchResult r (λ x. a ≡ gives (seen x)) (λ e. (refused_for e ≢ out_of_memory) × (a ≡ refuses_for (refused_for e)))
+
+-- the results that a function may have: for a view, the data, the data in its place, and whether the mode is strict
+abbrev pub Results : Type 0 → Type 0 → Type 1
+Results V T = Bor V → Bor Context → Bor (Option (Bor Context)) → Bool → Result T FnRefusal → Type 0
+
+module _ {V Q T A : Type 0} (asked : V → Context → Option (Bor Context) → Bool → Q) (seen : T → A) where
+  -- Some call that asks the question has a result that says this answer.
+  pub record AnswersAt (results : Results V T) (q : Q) (a : Answer A) : Type 0 where
+    pub view : Bor V
+    pub given : Bor Context
+    pub changed : Bor (Option (Bor Context))
+    pub strict : Bool
+    pub result : Result T FnRefusal
+    pub asks : asked view.now given.now changed.now strict ≡ q
+    pub has : results view given changed strict result
+    pub says : Says seen result a
+
+  -- To each question there is at most one answer, whichever call asks it.
+  abbrev pub AnswersOnceAt : Results V T → Type 0
+  AnswersOnceAt results = (q : Q) → HasOne (AnswersAt results q)
+
+  pub AnswersOnceAt_prop : (results : Results V T) → IsProp (AnswersOnceAt results)
+  AnswersOnceAt_prop results = Π_prop (λ q. Π_prop (λ a. Π_prop (λ b. →_prop (→_prop ∥∥₁_prop))))

@@ -1,0 +1,67 @@
+//! Functions that stand for decorators.
+
+ghost use Rattle.std.specs.Prelude.{◌≡◌};
+ghost use Rattle.handlebars_helpers.specs.DecoratorsView.{deeds_of, tag_asked_with};
+ghost use Rattle.handlebars_helpers.specs.Functions.{AnswersAt, AnswersOnceAt, AnswersOnceAt_prop};
+ghost use Rattle.handlebars_helpers.specs.OwnView.{IsOneOf};
+
+use crate::decorators::view::Decorator;
+use crate::decorators::{DecoratorResult, DecoratorStep};
+use crate::refusal::FnRefusal;
+use handlebars_scope::context::Context;
+
+/// What a function answers in the place of `DecoratorDef::call`.
+pub type FnDeeds = Result<Vec<DecoratorStep>, FnRefusal>;
+
+/// A function in the place of `DecoratorDef::call`.
+pub type DecoratorFn = Box<dyn Fn(&Decorator, &Context, &Option<&Context>, bool) -> FnDeeds>;
+
+/// A decorator of one's own that is a function.
+#[derive(Drop)]
+pub struct FnDecorator {
+    f: DecoratorFn,
+    ghost callable: { IsAlwaysCallable f },
+    ghost once: { AnswersOnceAt tag_asked_with deeds_of (post f) } by { AnswersOnceAt_prop _ _ _ },
+}
+
+impl FnDecorator {
+    /// The decorator of a function that may always be called, and that has one answer to each question: to
+    /// two calls that ask the same it answers the same, want of memory aside.
+    pub fn new(f: DecoratorFn) -> FnDecorator
+        requires callable { IsAlwaysCallable f }
+        requires once { AnswersOnceAt tag_asked_with deeds_of (post f) }
+        ensures { result.f ≡ f }
+    {
+        FnDecorator { f }
+    }
+
+    // What the function answers.
+    pub(crate) fn call(
+        &self,
+        d: &Decorator,
+        given: &Context,
+        changed: Option<&Context>,
+        strict: bool,
+    ) -> DecoratorResult
+        ensures { IsOneOf (AnswersAt tag_asked_with deeds_of (post self.now.f)
+            (tag_asked_with d.now given.now changed.entry strict)) deeds_of result }
+    {
+        match ask(&self.f, d, given, &changed, strict) {
+            Ok(deeds) => Ok(deeds),
+            Err(refusal) => Err(refusal.into()),
+        }
+    }
+}
+
+fn ask(
+    f: &DecoratorFn,
+    d: &Decorator,
+    given: &Context,
+    changed: &Option<&Context>,
+    strict: bool,
+) -> FnDeeds
+    requires { IsAlwaysCallable f.now }
+    ensures { post f.now d.entry given.entry changed.entry strict result }
+{
+    f(d, given, changed, strict)
+}

@@ -1,0 +1,66 @@
+//! Functions that stand for helpers.
+
+ghost use Rattle.std.specs.Prelude.{◌≡◌};
+ghost use Rattle.handlebars_helpers.specs.Functions.{AnswersAt, AnswersOnceAt, AnswersOnceAt_prop};
+ghost use Rattle.handlebars_helpers.specs.OwnView.{IsOneOf, asked_with, steps_of};
+
+use crate::own::{HelperResult, HelperStep};
+use crate::refusal::FnRefusal;
+use crate::view::Helper;
+use handlebars_scope::context::Context;
+
+/// What a function answers in the place of `HelperDef::call`.
+pub type FnSteps = Result<Option<Vec<HelperStep>>, FnRefusal>;
+
+/// A function in the place of `HelperDef::call`.
+pub type HelperFn = Box<dyn Fn(&Helper, &Context, &Option<&Context>, bool) -> FnSteps>;
+
+/// A helper of one's own that is a function. It offers no value.
+#[derive(Drop)]
+pub struct FnHelper {
+    f: HelperFn,
+    ghost callable: { IsAlwaysCallable f },
+    ghost once: { AnswersOnceAt asked_with steps_of (post f) } by { AnswersOnceAt_prop _ _ _ },
+}
+
+impl FnHelper {
+    /// The helper of a function that may always be called, and that has one answer to each question: to
+    /// two calls that ask the same it answers the same, want of memory aside.
+    pub fn new(f: HelperFn) -> FnHelper
+        requires callable { IsAlwaysCallable f }
+        requires once { AnswersOnceAt asked_with steps_of (post f) }
+        ensures { result.f ≡ f }
+    {
+        FnHelper { f }
+    }
+
+    // What the function answers.
+    pub(crate) fn call(
+        &self,
+        h: &Helper,
+        given: &Context,
+        changed: Option<&Context>,
+        strict: bool,
+    ) -> HelperResult
+        ensures { IsOneOf (AnswersAt asked_with steps_of (post self.now.f) (asked_with h.now given.now changed.entry strict))
+            steps_of result }
+    {
+        match ask(&self.f, h, given, &changed, strict) {
+            Ok(steps) => Ok(steps),
+            Err(refusal) => Err(refusal.into()),
+        }
+    }
+}
+
+fn ask(
+    f: &HelperFn,
+    h: &Helper,
+    given: &Context,
+    changed: &Option<&Context>,
+    strict: bool,
+) -> FnSteps
+    requires { IsAlwaysCallable f.now }
+    ensures { post f.now h.entry given.entry changed.entry strict result }
+{
+    f(h, given, changed, strict)
+}
