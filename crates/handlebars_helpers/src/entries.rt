@@ -1,6 +1,6 @@
 //! What is registered under names, and what is asked of it.
 
-ghost use Rattle.std.specs.Prelude.{◌≡◌, IfOk, string_bytes};
+ghost use Rattle.std.specs.Prelude.{◌≡◌, IfOk, option_map, string_bytes};
 ghost use Rattle.handlebars_base.specs.Answers.{IsRefusal};
 ghost use Rattle.handlebars_base.specs.Bytes.{Text};
 ghost use Rattle.handlebars_base.specs.Reasons.{decorator_not_found, helper_not_found};
@@ -8,27 +8,27 @@ ghost use Rattle.handlebars_base.specs.RenderRefusals.{plain_refusal};
 ghost use Rattle.handlebars_helpers.specs.Callee.{first_callee};
 ghost use Rattle.handlebars_helpers.specs.Decoration.{built_in_decorator};
 ghost use Rattle.handlebars_helpers.specs.DecoratorEntryView.{decorators_of};
-ghost use Rattle.handlebars_helpers.specs.DecoratorsView.{deeds_of, tag_asked_with};
-ghost use Rattle.handlebars_helpers.specs.EntriesView.{own_answers};
-ghost use Rattle.handlebars_helpers.specs.EscapeView.{kind_escaping};
+ghost use Rattle.handlebars_helpers.specs.DecoratorsView.{decorator_called, deeds_of, tag_asked_with};
+ghost use Rattle.handlebars_helpers.specs.EntriesView.{own_answers, registered_in};
+ghost use Rattle.handlebars_helpers.specs.EscapeView.{escaping_of, kind_escaping};
 ghost use Rattle.handlebars_helpers.specs.Escaping.{for_html};
 ghost use Rattle.handlebars_helpers.specs.HelpersView.{callees_of};
-ghost use Rattle.handlebars_helpers.specs.OwnAnswers.{OwnAnswers, HaveOne};
-ghost use Rattle.handlebars_helpers.specs.OwnView.{IsOneOf, asked_with, offer_of, steps_of};
+ghost use Rattle.handlebars_helpers.specs.OwnAnswers.{HaveOne, OwnAnswers, Registered};
+ghost use Rattle.handlebars_helpers.specs.OwnView.{IsOneOf, asked_with, callee_of, offer_of, steps_of};
 
-use crate::decorators::DecoratorResult;
 use crate::decorators::def::{DecoratorDef, deeds_of};
 use crate::decorators::entry::DecoratorEntry;
 use crate::decorators::function::DecoratorFn;
 use crate::decorators::named::Decorators;
 use crate::decorators::view::Decorator;
-use crate::escape::EscapeKind;
+use crate::decorators::{DecoratorKind, DecoratorResult};
 use crate::escape::def::{EscapeFn, escaped_by};
+use crate::escape::{EscapeKind, Escaping};
 use crate::helpers::Helpers;
 use crate::own::def::{HelperDef, offer_of, steps_of};
 use crate::own::entry::HelperEntry;
 use crate::own::function::HelperFn;
-use crate::own::{HelperResult, HelperValue};
+use crate::own::{Callee, HelperResult, HelperValue};
 use crate::view::Helper;
 use handlebars_base::error::{RenderError, RenderErrorReason};
 use handlebars_base::support::escape_html;
@@ -80,10 +80,24 @@ impl Entries {
     }
 }
 
-/// What has parts of one's own, which are asked by their names.
+/// What is registered, as it is asked for: the parts of one's own answer by their names.
 pub trait OwnParts {
-    // The answers that they have.
+    // What stands under names, and the answers that there are.
+    ghost registered: { Self → Registered };
+
     ghost own: { Self → OwnAnswers };
+
+    /// What stands under a name of helpers, if anything does.
+    fn helper(&self, name: &str) -> Option<Callee>
+        ensures { option_map (callee_of name.now) result ≡ (registered self.now).helper name.now };
+
+    /// The decorator under a name, if there is one.
+    fn decorator(&self, name: &str) -> Option<DecoratorKind>
+        ensures { option_map (decorator_called name.now) result ≡ (registered self.now).decorator name.now };
+
+    /// How values are escaped.
+    fn escape(&self) -> Escaping
+        ensures { escaping_of result ≡ (registered self.now).escape };
 
     /// What the helper of one's own under a name answers when it is called: with the view of the call, the
     /// data that was given, and what stands in its place, where it was changed. `HelperNotFound` where none
@@ -131,9 +145,23 @@ pub trait OwnParts {
 }
 
 impl OwnParts for Entries {
+    ghost registered = { registered_in };
+
     ghost own = { own_answers (λ b. (HelperDef-box b).has_steps b.value) (λ b. (HelperDef-box b).has_offer b.value)
         (λ f. HelperFn.post f) (λ b. (DecoratorDef-box b).has_deeds b.value) (λ f. DecoratorFn.post f)
         (λ b. (EscapeFn-box b).has_escaped b.value) };
+
+    fn helper(&self, name: &str) -> Option<Callee> {
+        self.helpers.get(name)
+    }
+
+    fn decorator(&self, name: &str) -> Option<DecoratorKind> {
+        self.decorators.get(name)
+    }
+
+    fn escape(&self) -> Escaping {
+        self.escape.escaping()
+    }
 
     fn steps_of(
         &self,
