@@ -96,7 +96,7 @@ module _ (p : Setting) (lawful : IsLawful p.parts) (begins : Beginning → Type 
 
   pub has_one_answer : HasOneAnswer p begins
   has_one_answer _ _ _ _ (not_begun {r = r} a) (not_begun {r = q} b) h i =
-      (refl, ap (λ (z : Refusal). Refused z) (no_tree-injective (one (no_tree r) (no_tree q) a b)))
+      ∣ (refl, ap (λ (z : Refusal). Refused z) (no_tree-injective (one (no_tree r) (no_tree q) a b))) ∣₁
   has_one_answer _ _ _ _ (not_begun {r = r} a) (rendered {t = t} b x) h i = absurd (a_tree≢no_tree (one (a_tree t) (no_tree r) b a))
   has_one_answer _ _ _ _ (rendered {t = t} b x) (not_begun {r = r} a) h i = absurd (a_tree≢no_tree (one (a_tree t) (no_tree r) b a))
   has_one_answer _ _ _ _ (rendered {t = t} a x) (rendered {t = u} b y) h i =

@@ -1,7 +1,9 @@
--- The law of helpers of one's own, where there are none.
-use Rattle.std.proofs.Common.{sym, ◌∙◌}
-use Rattle.handlebars_base.specs.Bytes.{Text}
-use Rattle.handlebars_helpers.specs.Own.{AnswersOnce, no_own}
+-- The law of parts of one's own, in what a run reads.
+use Rattle.std.proofs.Common.{Bool}
+use Rattle.handlebars_helpers.specs.OwnAnswers.{HaveOne, OwnAnswers, Registered}
+use Rattle.handlebars_meaning.specs.State.{IsLawful}
+use Rattle.handlebars.specs.View.{parts_with}
 
-pub no_own-lawful : (name : Text) → AnswersOnce (no_own name)
-no_own-lawful name = record { steps = λ q x y a b. a ∙ sym b; offer = λ q x y a b. a ∙ sym b }
+pub lawful : (registered : Registered) (own : OwnAnswers) (strict recursive : Bool) → HaveOne own
+    → IsLawful (parts_with registered own strict recursive)
+lawful registered own strict recursive one = record { helpers = one.helpers; decorators = one.decorators; escape = one.escape }
