@@ -2,7 +2,7 @@
 
 use crate::failure::RowFailure;
 use crate::helpers::helper_named;
-use handlebars_helpers::escape::EscapeKind;
+use crate::rendering::Escape;
 use serde_json::{Map, Value as JsonValue};
 use std::alloc::{AllocError, Global};
 use std::io::ErrorKind;
@@ -129,7 +129,7 @@ fn all_helpers(members: &Map<String, JsonValue>) -> bool {
 
 /// Sets the field to a kind of escape, by its name.
 pub fn set_escape(
-    field: &mut Option<EscapeKind>,
+    field: &mut Option<Escape>,
     name: String,
     value: &JsonValue,
 ) -> Result<(), RowFailure> {
@@ -140,10 +140,10 @@ pub fn set_escape(
     Ok(())
 }
 
-fn escape(value: &JsonValue) -> Option<EscapeKind> {
+fn escape(value: &JsonValue) -> Option<Escape> {
     match value.as_str()? {
-        "html" => Some(EscapeKind::Html),
-        "plain" => Some(EscapeKind::Plain),
+        "html" => Some(Escape::Html),
+        "plain" => Some(Escape::Plain),
         _ => None,
     }
 }

@@ -4,7 +4,6 @@ use crate::failure::RowFailure;
 use crate::fields;
 use crate::outcome::{Outcome, Refusal};
 use crate::told::Wanted;
-use handlebars_helpers::escape::EscapeKind;
 use serde_json::{Map, Value as JsonValue};
 use std::alloc::Global;
 use std::fmt;
@@ -17,7 +16,7 @@ pub struct Rendering {
     /// Names and built-in helpers, which are texts; a name with null has none.
     pub helpers: Option<Map<String, JsonValue>>,
     /// How values are escaped, where it is said.
-    pub escape: Option<EscapeKind>,
+    pub escape: Option<Escape>,
     /// Whether the mode is strict.
     pub strict: bool,
     /// Whether lookup is recursive.
@@ -46,6 +45,13 @@ impl Drop for Rendering {
             wanted: _,
         } = self;
     }
+}
+
+/// How values are escaped.
+#[derive(Clone, Copy)]
+pub enum Escape {
+    Html,
+    Plain,
 }
 
 /// What a row renders.
@@ -81,7 +87,7 @@ impl Rendering {
 struct Fields {
     templates: Option<Map<String, JsonValue>>,
     helpers: Option<Map<String, JsonValue>>,
-    escape: Option<EscapeKind>,
+    escape: Option<Escape>,
     strict: bool,
     recursive: bool,
     source: Option<String>,

@@ -10,7 +10,7 @@ use handlebars::{
 use handlebars_rows::bounded::Bounded;
 use handlebars_rows::helpers::helper_named;
 use handlebars_rows::outcome::{Outcome, Refusal};
-use handlebars_rows::rendering::{Rendered, Rendering};
+use handlebars_rows::rendering::{Escape, Rendered, Rendering};
 use handlebars_rows::told::{Told, Wanted};
 use log::sink::Memory;
 use serde_json::Map;
@@ -141,8 +141,8 @@ fn registry_of(alloc: Global, row: &Rendering) -> Result<Registry, RenderError> 
     if let Some(helpers) = &row.helpers {
         register_helpers(&mut registry, helpers)?;
     }
-    if let Some(kind) = &row.escape {
-        register_escape(&mut registry, kind);
+    if let Some(escape) = row.escape {
+        register_escape(&mut registry, escape);
     }
     registry.set_strict_mode(row.strict);
     registry.set_recursive_lookup(row.recursive);
@@ -169,11 +169,11 @@ fn register_helpers(
 }
 
 // `Html` is registered behind `Plain`, in the place of it.
-fn register_escape(registry: &mut Registry, kind: &EscapeKind) {
+fn register_escape(registry: &mut Registry, escape: Escape) {
     registry.register_escape_fn(EscapeKind::Plain);
-    match kind {
-        EscapeKind::Html => registry.register_escape_fn(EscapeKind::Html),
-        EscapeKind::Plain => {}
+    match escape {
+        Escape::Html => registry.register_escape_fn(EscapeKind::Html),
+        Escape::Plain => {}
     }
 }
 
