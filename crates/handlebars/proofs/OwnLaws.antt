@@ -1,9 +1,14 @@
--- The law of parts of one's own, in what a run reads.
-use Rattle.std.proofs.Common.{Bool}
-use Rattle.handlebars_helpers.specs.OwnAnswers.{HaveOne, OwnAnswers, Registered}
+-- The law of what is of one's own, where there is nothing.
+use Rattle.std.proofs.Common.{sym, ◌∙◌}
+use Rattle.handlebars_helpers.specs.Escaping.{no_own_escape}
+use Rattle.handlebars_helpers.specs.Own.{AnswersOnce, no_own}
 use Rattle.handlebars_meaning.specs.State.{IsLawful}
-use Rattle.handlebars.specs.View.{parts_with}
+use Rattle.handlebars.specs.View.{parts_of}
+use Rattle.handlebars.specs.declared.registry.Registry.{Registry}
 
-pub lawful : (registered : Registered) (own : OwnAnswers) (strict recursive : Bool) → HaveOne own
-    → IsLawful (parts_with registered own strict recursive)
-lawful registered own strict recursive one = record { helpers = one.helpers; decorators = one.decorators; escape = one.escape }
+pub parts-lawful : (r : Registry) → IsLawful (parts_of r)
+parts-lawful r = record {
+  helpers = λ name. record { steps = λ q x y a b. ∣ a ∙ sym b ∣₁; offer = λ q x y a b. ∣ a ∙ sym b ∣₁ };
+  decorators = λ name q x y a b. ∣ a ∙ sym b ∣₁;
+  escape = λ t x y a b. ∣ a ∙ sym b ∣₁;
+}

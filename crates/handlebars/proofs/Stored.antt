@@ -1,21 +1,21 @@
 -- What stands under a name behind a registration.
-use Rattle.std.proofs.Common.{◌≡◌, cond, Bool, true, false, Option, Some, option_map, refl, sym, subst, ap, ◌∙◌, String, Global}
+use Rattle.std.proofs.Common.{◌≡◌, cond, Bool, true, false, Option, Some, Result, Ok, Err, option_map, refl, ap, ◌∙◌, String, Global}
 use Rattle.std.specs.BTreeMap.{BTreeMap, UpdatesBy, get_by_text}
-use Rattle.std.specs.Prelude.{string_bytes}
+use Rattle.std.specs.Prelude.{OnErr, string_bytes}
+use Rattle.std.specs.Map.{lookup}
 use Rattle.std.specs.Str.{bytes_eq}
 use Rattle.std.specs.String.{string_cmp}
 use Rattle.std.proofs.lemmas.Map.Text.{btree_map_updates_text}
-use Rattle.std.proofs.lemmas.Slice.Eq.{bytes_eq-Decides}
 use Rattle.handlebars_base.specs.Bytes.{Text}
 use Rattle.handlebars_base.proofs.OptionBinds.{option_map-cond}
-use Rattle.handlebars_helpers.specs.DecoratorEntryView as decorators
-use Rattle.handlebars_helpers.specs.DecoratorEntryView.{decorator_kind}
-use Rattle.handlebars_helpers.specs.EntryView.{entry_callee}
-use Rattle.handlebars_helpers.specs.HelpersView as helpers
-use Rattle.handlebars_helpers.specs.declared.decorators.entry.DecoratorEntry.{DecoratorEntry}
-use Rattle.handlebars_helpers.specs.declared.own.entry.HelperEntry.{HelperEntry}
-use Rattle.handlebars.specs.Store.{HasDecorator, HasHelper, HasSameDecorators, HasSameHelpers}
-use Rattle.handlebars.specs.View.{modes_of}
+use Rattle.handlebars_helpers.specs.Callee.{built}
+use Rattle.handlebars_helpers.specs.Choice.{Kind}
+use Rattle.handlebars_helpers.specs.DecoratorsView.{decorator_kind}
+use Rattle.handlebars_helpers.specs.HelpersView.{kinds_of}
+use Rattle.handlebars_helpers.specs.declared.decorators.DecoratorEntry.{DecoratorEntry}
+use Rattle.handlebars_helpers.specs.declared.decorators.DecoratorEntry.TheVariants.{Inline}
+use Rattle.handlebars.specs.Store.{HasHelper, HasSameParts}
+use Rattle.handlebars.specs.View.{modes_of, parts_of}
 use Rattle.handlebars.specs.declared.registry.Registry.{Registry}
 
 pub get_by_text-insert : {A B : Type 0} (f : A → B) (m n : BTreeMap (String Global) A) (key : String Global) (value : A) (name : Text) (t : B)
@@ -27,46 +27,36 @@ get_by_text-insert f m n key value name t updates is_name is_tree other =
     ∙ ap (λ z. cond (bytes_eq z other) (Some (f value)) (option_map f (get_by_text m other))) is_name
     ∙ ap (λ z. cond (bytes_eq name other) (Some z) (option_map f (get_by_text m other))) is_tree
 
--- what an entry is under its own name, behind a change of what stands there
-seen-put : {E C : Type 0} (seen : Text → E → C) (name other : Text) (entry old new : Option E)
-    → new ≡ cond (bytes_eq name other) entry old
-    → option_map (seen other) new ≡ cond (bytes_eq name other) (option_map (seen name) entry) (option_map (seen other) old)
-seen-put seen name other entry old new is =
-    let go : (b : Bool) → bytes_eq name other ≡ b
-    → option_map (seen other) (cond b entry old) ≡ cond b (option_map (seen name) entry) (option_map (seen other) old) = elim [
-      | true ↦ λ same. ap (λ n. option_map (seen n) entry) (sym ((bytes_eq-Decides name other).0 same))
-      | false ↦ λ differ. refl
-    ] in ap (option_map (seen other)) is ∙ go (bytes_eq name other) refl
+pub on_err_always : {T E P : Type 0} (r : Result T E) → P → OnErr r P
+on_err_always (Ok x) p = tt
+on_err_always (Err e) p = p
 
-module _ {X Y Z W V : Type 0} {F : X → Type 0} {G : Y → Type 0} {H : Z → Type 0} {I : W → Type 0} {J : V → Type 0} {g h : _} where
-  pub has_helper : (old new : Registry X Y Z W V F G H I J g h) (key name : Text) (entry : Option (HelperEntry X Y F G g))
-      → modes_of new ≡ modes_of old → key ≡ name → HasSameDecorators old new → new.entries.escape ≡ old.entries.escape
-      → helpers.PutsHelper old.entries.helpers new.entries.helpers key entry → HasHelper old new name entry
-  has_helper old new key name entry modes is_name decorators escape puts =
-      let puts_there : helpers.PutsHelper old.entries.helpers new.entries.helpers name entry =
-      subst (λ (n : Text). helpers.PutsHelper old.entries.helpers new.entries.helpers n entry) is_name puts in
-      record {
-        entries = puts_there;
-        helpers = λ other. seen-put entry_callee name other entry (helpers.helper_entry old.entries.helpers other)
-            (helpers.helper_entry new.entries.helpers other) (puts_there other);
-        decorators = decorators;
-        escape = escape;
-        modes = modes;
-      }
+-- a change that was refused
+pub get_by_text-same : {A : Type 0} (m n : BTreeMap (String Global) A) → n.entries ≡ m.entries
+    → (name : Text) → get_by_text n name ≡ get_by_text m name
+get_by_text-same m n same name = ap (lookup _) same
 
-  pub has_decorator : (old new : Registry X Y Z W V F G H I J g h) (key name : Text) (entry : DecoratorEntry Z W H I h)
-      → key ≡ name → HasSameHelpers old new → new.entries.escape ≡ old.entries.escape
-      → (modes_of new).strict ≡ (modes_of old).strict → (modes_of new).recursive ≡ (modes_of old).recursive
-      → decorators.PutsDecorator old.entries.decorators new.entries.decorators key (Some entry) → HasDecorator old new name entry
-  has_decorator old new key name entry is_name helpers escape strict recursive puts =
-      let puts_there : decorators.PutsDecorator old.entries.decorators new.entries.decorators name (Some entry) =
-      subst (λ (n : Text). decorators.PutsDecorator old.entries.decorators new.entries.decorators n (Some entry)) is_name puts in
-      record {
-        entries = puts_there;
-        decorators = λ other. seen-put decorator_kind name other (Some entry) (decorators.decorator_entry old.entries.decorators other)
-            (decorators.decorator_entry new.entries.decorators other) (puts_there other);
-        helpers = helpers;
-        escape = escape;
-        strict = strict;
-        recursive = recursive;
-      }
+-- a choice of two, seen so
+option_map-chosen : {A B : Type 0} (f : A → B) (b : Bool) (x y : Option A)
+    → option_map f (cond b x y) ≡ cond b (option_map f x) (option_map f y)
+option_map-chosen f true x y = refl
+option_map-chosen f false x y = refl
+
+pub has_helper : (old new : Registry) (key name : Text) (kind : Option Kind) → key ≡ name → modes_of new ≡ modes_of old
+    → ((other : Text) → kinds_of new.helpers other ≡ cond (bytes_eq key other) kind (kinds_of old.helpers other))
+    → HasHelper old new name (option_map (λ k. built k) kind)
+has_helper old new key name kind same modes helpers = record {
+  helpers = λ other. ap (option_map (λ (k : Kind). built k)) (helpers other)
+      ∙ option_map-chosen (λ k. built k) (bytes_eq key other) kind (kinds_of old.helpers other)
+      ∙ ap (λ t. cond (bytes_eq t other) (option_map (λ (k : Kind). built k) kind) ((parts_of old).helper other)) same;
+  modes = modes;
+}
+
+pub has_same_parts : (old new : Registry) → modes_of new ≡ modes_of old
+    → ((other : Text) → kinds_of new.helpers other ≡ kinds_of old.helpers other) → HasSameParts old new
+has_same_parts old new modes helpers =
+    record { helpers = λ other. ap (option_map (λ (k : Kind). built k)) (helpers other); modes = modes }
+
+-- no built-in decorator depends on the name that it stands under
+pub decorator_kind-name : (name other : Text) (entry : DecoratorEntry) → decorator_kind name entry ≡ decorator_kind other entry
+decorator_kind-name name other Inline = refl

@@ -1,16 +1,23 @@
 -- What a registry and its contexts stand for.
-use Rattle.std.specs.Prelude.{Bool, Option}
+use Rattle.std.specs.Prelude.{Bool, Option, option_map}
 use Rattle.handlebars_base.specs.Bytes.{Text}
 use Rattle.handlebars_tags.specs.Options.{Options, no_options}
 use Rattle.handlebars_scope.specs.Contexts.{data_of}
 use Rattle.handlebars_scope.specs.declared.context.Context.{Context}
 use Rattle.handlebars_helpers.specs.Decoration.{DecoratorKind}
-use Rattle.handlebars_helpers.specs.EntriesView.{registered_in}
-use Rattle.handlebars_helpers.specs.Escaping.{Escaping}
-use Rattle.handlebars_helpers.specs.OwnAnswers.{OwnAnswers, Registered}
-use Rattle.handlebars_helpers.specs.declared.entries.Entries.{Entries}
+use Rattle.handlebars_helpers.specs.DecoratorsView.{decorator_at}
+use Rattle.handlebars_helpers.specs.Callee.{Callee, built}
+use Rattle.handlebars_helpers.specs.EscapeView.{kind_escaping}
+use Rattle.handlebars_helpers.specs.Escaping.{Escaping, no_own_escape}
+use Rattle.handlebars_helpers.specs.HelpersView.{kinds_of}
+use Rattle.handlebars_helpers.specs.Own.{no_own}
+use Rattle.handlebars_helpers.specs.OwnDecorator.{no_own_decorator}
 use Rattle.handlebars_meaning.specs.State.{Parts, Setting}
 use Rattle.handlebars.specs.declared.registry.Registry.{Registry}
+
+-- what stands under a name of helpers
+abbrev pub callee_at : Registry → Text → Option Callee
+callee_at r name = option_map (λ kind. built kind) (kinds_of r.helpers name)
 
 -- what a run reads of a registry beside its helpers: the decorator under a name, if there is one, how values are escaped,
 -- whether the mode is strict, and whether lookup is recursive
@@ -20,37 +27,31 @@ pub record Modes : Type 0 where
   pub strict : Bool
   pub recursive : Bool
 
--- what a run reads: what stands under names, what all of one's own among it answers, and the modes
-abbrev pub parts_with : Registered → OwnAnswers → Bool → Bool → Parts
-parts_with registered own strict recursive = record {
-  helper = registered.helper;
-  own = own.helper;
-  decorator = registered.decorator;
-  own_decorator = own.decorator;
-  escape = registered.escape;
-  own_escape = own.escape;
-  strict = strict;
-  recursive = recursive;
+abbrev pub modes_of : Registry → Modes
+modes_of r = record {
+  decorator = λ name. decorator_at name r.decorators;
+  escape = kind_escaping r.escape;
+  strict = r.strict_mode;
+  recursive = r.recursive_lookup;
 }
 
-module _ {X Y Z W V : Type 0} {F : X → Type 0} {G : Y → Type 0} {H : Z → Type 0} {I : W → Type 0} {J : V → Type 0} {g h : _} where
-  abbrev pub modes_of : Registry X Y Z W V F G H I J g h → Modes
-  modes_of r = record {
-    decorator = (registered_in r.entries).decorator;
-    escape = (registered_in r.entries).escape;
-    strict = r.strict_mode;
-    recursive = r.recursive_lookup;
-  }
+-- what a run reads of a registry, which has no helpers, decorators and escape functions of one's own yet
+abbrev pub parts_of : Registry → Parts
+parts_of r = record {
+  helper = callee_at r;
+  own = no_own;
+  decorator = (modes_of r).decorator;
+  own_decorator = no_own_decorator;
+  escape = (modes_of r).escape;
+  own_escape = no_own_escape;
+  strict = (modes_of r).strict;
+  recursive = (modes_of r).recursive;
+}
 
-  -- how a registry compiles sources
-  abbrev pub options_of : Registry X Y Z W V F G H I J g h → Options
-  options_of r = no_options
+-- the setting of a run, with a registry and over a context
+abbrev pub setting_of : Registry → Context → Setting
+setting_of r c = record { given = data_of c; parts = parts_of r }
 
-  -- what a run reads of a registry, where `own` is what its entries answer
-  module _ (own : Entries X Y Z W V F G H I J g h → OwnAnswers) where
-    abbrev pub parts_of : Registry X Y Z W V F G H I J g h → Parts
-    parts_of r = parts_with (registered_in r.entries) (own r.entries) r.strict_mode r.recursive_lookup
-
-    -- the setting of a run, with a registry and over a context
-    abbrev pub setting_of : Registry X Y Z W V F G H I J g h → Context → Setting
-    setting_of r c = record { given = data_of c; parts = parts_of r }
+-- how a registry compiles sources
+abbrev pub options_of : Registry → Options
+options_of r = no_options

@@ -8,7 +8,6 @@ use crate::registry::Registry;
 pub use handlebars_base::laws::{
     equality_laws, escape_laws, one_meaning, order_laws, paths_in_front,
 };
-use handlebars_helpers::entries::{Entries, OwnParts};
 pub use handlebars_lines::laws::{
     one_binding, one_line, one_literal, one_parameter, worth_of_literal,
 };
@@ -22,14 +21,12 @@ pub use handlebars_template::laws::{cuts_join, one_compilation, one_cut, one_par
 /// site twice; and all that the run of a tree or of an element alone writes has an origin in it,
 /// where escaping is on at its start.
 pub fn laws_of_runs(registry: &Registry, context: &Context)
-    ensures one { OneRun (setting_of ⟦<Entries as OwnParts>⟧.own registry.now context.now) }
-    ensures beginning { StopsInBeginning (setting_of ⟦<Entries as OwnParts>⟧.own registry.now context.now) }
-    ensures once { ComesOnce (setting_of ⟦<Entries as OwnParts>⟧.own registry.now context.now) }
-    ensures origins { AllHaveOrigins (setting_of ⟦<Entries as OwnParts>⟧.own registry.now context.now) }
-    ensures element { ElementHasOrigins (setting_of ⟦<Entries as OwnParts>⟧.own registry.now context.now) }
-{
-    registry.entries.keeps_law();
-}
+    ensures one { OneRun (setting_of registry.now context.now) }
+    ensures beginning { StopsInBeginning (setting_of registry.now context.now) }
+    ensures once { ComesOnce (setting_of registry.now context.now) }
+    ensures origins { AllHaveOrigins (setting_of registry.now context.now) }
+    ensures element { ElementHasOrigins (setting_of registry.now context.now) }
+{}
 
 /// A number outside the range counts as null wherever it stands: neither the text of a value, its truth, its
 /// equality or order with another one, nor where names lead in it tells it from what it counts as.

@@ -20,7 +20,6 @@ pub use evaluable::Evaluable;
 pub use expand::Expand;
 use handlebars_base::error::RenderError;
 use handlebars_base::output::{Output, StringOutput};
-use handlebars_helpers::entries::{Entries, OwnParts};
 use handlebars_render::context::RenderContext;
 use handlebars_render::element::render_element;
 use handlebars_render::failure::{fail_after, ready};
@@ -48,7 +47,7 @@ pub trait Renderable {
         out: &mut O,
         log: &L,
     ) -> Result<(), RenderError>
-        ensures renders { (kept : Kept) → has_failed rc.old ≡ false → CarriesOut (setting_of ⟦<Entries as OwnParts>⟧.own registry.now «data».now) (steps self.now)
+        ensures renders { (kept : Kept) → has_failed rc.old ≡ false → CarriesOut (setting_of registry.now «data».now) (steps self.now)
             O.may_give (moment kept rc.old (O.held out.old)) result (moment kept rc.new (O.held out.new)) }
         ensures failed { has_failed rc.old ≡ true → IsErrAnd result (λ e. refusal_of e ≡ plain_refusal failed)
             × (rc.new ≡ rc.old) × (O.held out.new ≡ O.held out.old) }
@@ -69,10 +68,10 @@ pub trait Renderable {
         log: &L,
     ) -> Result<String, RenderError>
         ensures ok { IfOk result (λ text. (has_failed rc.old ≡ false)
-            × ((kept : Kept) → GivesString (setting_of ⟦<Entries as OwnParts>⟧.own registry.now «data».now) (steps self.now)
+            × ((kept : Kept) → GivesString (setting_of registry.now «data».now) (steps self.now)
             (state_with kept rc.old) (state_with kept rc.new) (string_bytes text))) }
         ensures err { IfErr result (λ e. has_failed rc.old ≡ false → reason_in e ≢ out_of_memory → (kept : Kept)
-            → RefusesString (setting_of ⟦<Entries as OwnParts>⟧.own registry.now «data».now) (steps self.now) (state_with kept rc.old)
+            → RefusesString (setting_of registry.now «data».now) (steps self.now) (state_with kept rc.old)
             (refusal_of e)) }
         ensures failed { has_failed rc.old ≡ true
             → IsErrAnd result (λ e. refusal_of e ≡ plain_refusal failed) × (rc.new ≡ rc.old) }
@@ -81,7 +80,14 @@ pub trait Renderable {
         ensures recursive { (state_of rc.new).recursive ≡ (state_of rc.old).recursive }
         ensures escapes { (state_of rc.new).escapes ≡ (state_of rc.old).escapes }
         ensures kept { OnOk result (has_failed rc.new ≡ false) }
-        ensures fails { OnErr result (has_failed rc.new ≡ true) };
+        ensures fails { OnErr result (has_failed rc.new ≡ true) }
+    {
+        let mut out = StringOutput::new(alloc);
+        match self.render(alloc, registry, data, rc, &mut out, log) {
+            Ok(()) => Ok(out.into_string()),
+            Err(e) => Err(e),
+        }
+    }
 }
 
 impl Renderable for Template {
@@ -97,12 +103,7 @@ impl Renderable for Template {
         log: &L,
     ) -> Result<(), RenderError> {
         ready(rc)?;
-        let parts = &Logging {
-            entries: &registry.entries,
-            strict: registry.strict_mode,
-            recursive: registry.recursive_lookup,
-            log,
-        };
+        let parts = &Logging { registry, log };
         let setting = Setting {
             alloc,
             parts,
@@ -111,21 +112,6 @@ impl Renderable for Template {
         match render_tree(self, &setting, rc, out) {
             Ok(()) => Ok(()),
             Err(e) => fail_after(rc, Err(e.into_error())),
-        }
-    }
-
-    fn renders<L: Log>(
-        &self,
-        alloc: Global,
-        registry: &Registry,
-        data: &Context,
-        rc: &mut RenderContext,
-        log: &L,
-    ) -> Result<String, RenderError> {
-        let mut out = StringOutput::new(alloc);
-        match self.render(alloc, registry, data, rc, &mut out, log) {
-            Ok(()) => Ok(out.into_string()),
-            Err(e) => Err(e),
         }
     }
 }
@@ -144,12 +130,7 @@ impl Renderable for TemplateElement {
         log: &L,
     ) -> Result<(), RenderError> {
         ready(rc)?;
-        let parts = &Logging {
-            entries: &registry.entries,
-            strict: registry.strict_mode,
-            recursive: registry.recursive_lookup,
-            log,
-        };
+        let parts = &Logging { registry, log };
         let setting = Setting {
             alloc,
             parts,
@@ -158,21 +139,6 @@ impl Renderable for TemplateElement {
         match render_element(self, &setting, rc, out) {
             Ok(()) => Ok(()),
             Err(e) => fail_after(rc, Err(e.into_error())),
-        }
-    }
-
-    fn renders<L: Log>(
-        &self,
-        alloc: Global,
-        registry: &Registry,
-        data: &Context,
-        rc: &mut RenderContext,
-        log: &L,
-    ) -> Result<String, RenderError> {
-        let mut out = StringOutput::new(alloc);
-        match self.render(alloc, registry, data, rc, &mut out, log) {
-            Ok(()) => Ok(out.into_string()),
-            Err(e) => Err(e),
         }
     }
 }

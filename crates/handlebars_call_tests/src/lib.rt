@@ -2,5 +2,6 @@
 #![tactic(auto)]
 
 pub mod caller;
+pub mod parts;
 #[cfg(test)]
 mod tests;

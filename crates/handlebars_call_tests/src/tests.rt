@@ -1,6 +1,7 @@
 //! What no row says: renderings of trees by hand, contexts that are used again, a caller's own readers.
 
 mod blocks_of_scope;
+mod changes;
 mod contexts;
 mod decorators;
 mod helpers;

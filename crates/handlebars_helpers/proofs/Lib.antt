@@ -1,5 +1,5 @@
 mod Pairs
-mod TextMaps
+mod Entries
 mod Names
 mod Turns
 mod Sizes
@@ -7,4 +7,3 @@ mod Values
 mod Marked
 mod Decorations
 mod Refused
-mod OneAnswer

@@ -1,12 +1,6 @@
 -- What the code's ways to escape stand for.
-use Rattle.std.specs.Prelude.{◌≡◌}
-use Rattle.std.specs.declared.alloc.Global.{Global}
-use Rattle.std.specs.declared.dyn_box.DynBox.{DynBox}
-use Rattle.handlebars_base.specs.Answers.{Answer, gives}
-use Rattle.handlebars_base.specs.Bytes.{Text}
-use Rattle.handlebars_base.specs.Escape.{escaped}
 use Rattle.handlebars_helpers.specs.Escaping as plain
-use Rattle.handlebars_helpers.specs.Escaping.{OwnEscape, for_html, for_plain, by_own}
+use Rattle.handlebars_helpers.specs.Escaping.{for_html, for_plain, by_own}
 use Rattle.handlebars_helpers.specs.declared.escape.EscapeKind.{EscapeKind}
 use Rattle.handlebars_helpers.specs.declared.escape.EscapeKind.TheVariants as kind
 use Rattle.handlebars_helpers.specs.declared.escape.Escaping.{Escaping}
@@ -17,16 +11,7 @@ escaping_of Html = for_html
 escaping_of Plain = for_plain
 escaping_of Own = by_own
 
-module _ {X : Type 0} {F : X → Type 0} where
-  -- how what is registered escapes
-  abbrev pub kind_escaping : EscapeKind X F → plain.Escaping
-  kind_escaping kind.Html = for_html
-  kind_escaping kind.Plain = for_plain
-  kind_escaping (kind.Own e) = by_own
-
-  -- What is answered for a text, by what boxes answer. For html and for plain text that is known.
-  module _ (has_escaped : DynBox X Global F → Text → Answer Text → Type 0) where
-    abbrev pub own_escape_of : EscapeKind X F → OwnEscape
-    own_escape_of kind.Html t a = a ≡ gives (escaped t)
-    own_escape_of kind.Plain t a = a ≡ gives t
-    own_escape_of (kind.Own e) t a = has_escaped e t a
+-- how what is registered escapes
+abbrev pub kind_escaping : EscapeKind → plain.Escaping
+kind_escaping kind.Html = for_html
+kind_escaping kind.Plain = for_plain

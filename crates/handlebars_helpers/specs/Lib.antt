@@ -11,14 +11,10 @@ pub mod View
 pub mod Escaping
 pub mod EscapeView
 pub mod Marks
-pub mod OwnView
-pub mod FnRefusals
-pub mod Functions
-pub mod EntryView
 pub mod HelpersView
+pub mod OwnView
 pub mod Decoration
 pub mod OwnDecorator
 pub mod DecoratorsView
-pub mod DecoratorEntryView
-pub mod OwnAnswers
-pub mod EntriesView
+pub mod FnRefusals
+pub mod Functions

@@ -3,12 +3,9 @@
 ghost use Rattle.std.specs.Prelude.{◌≡◌, IfOk, OnOk, Some, bytes_eq, map};
 ghost use Rattle.std.specs.Map.{update};
 ghost use Rattle.handlebars_base.specs.Bytes.{Text};
-ghost use Rattle.handlebars_helpers.specs.Callee.{built, first_callee};
-ghost use Rattle.handlebars_helpers.specs.Choice.{built_ins};
-ghost use Rattle.handlebars_helpers.specs.EntryView.{callee_at};
-ghost use Rattle.handlebars_helpers.specs.View.{kind_of};
+ghost use Rattle.handlebars_helpers.specs.Choice.{built_in, built_ins};
+ghost use Rattle.handlebars_helpers.specs.View.{kind_at, kind_of};
 
-use crate::own::entry::HelperEntry;
 use std::alloc::{AllocError, Global};
 use std::collections::BTreeMap;
 
@@ -51,9 +48,15 @@ pub enum BuiltIn {
     Len,
 }
 
+/// What stands under a helper's name.
+#[derive(Debug, Drop)]
+pub enum HelperEntry {
+    Built(BuiltIn),
+}
+
 /// The built-in helpers under their names.
 pub fn built_ins(alloc: Global) -> Result<BTreeMap<String, HelperEntry>, AllocError>
-    ensures { IfOk result (λ helpers. (name : Text) → callee_at name helpers ≡ first_callee name) }
+    ensures { IfOk result (λ helpers. (name : Text) → kind_at name helpers ≡ built_in name) }
 {
     let mut helpers = BTreeMap::new(alloc);
     'all: for (name, kind) in &table() {
@@ -93,8 +96,8 @@ fn put(
     name: &str,
     kind: BuiltIn,
 ) -> Result<(), AllocError>
-    ensures { OnOk result ((other : Text) → callee_at other helpers.new
-        ≡ update bytes_eq (λ n. callee_at n helpers.old) name.now (Some (built (kind_of kind))) other) }
+    ensures { OnOk result ((other : Text) → kind_at other helpers.new
+        ≡ update bytes_eq (λ n. kind_at n helpers.old) name.now (Some (kind_of kind)) other) }
 {
     helpers.insert(String::from_str(alloc, name)?, HelperEntry::Built(kind))?;
     Ok(())

@@ -5,17 +5,13 @@ ghost use Rattle.handlebars_helpers.specs.EscapeView.{escaping_of, kind_escaping
 
 pub mod def;
 
-use crate::escape::def::EscapeFn;
-
 /// How the text of a value is escaped before it is written.
-#[derive(Drop)]
+#[derive(Debug, Drop)]
 pub enum EscapeKind {
     /// By the entities of html, as `escape_html` does.
     Html,
     /// Not at all.
     Plain,
-    /// By an escape function of one's own.
-    Own(Box<dyn EscapeFn>),
 }
 
 /// How texts are escaped: for html, not at all, or by an escape function of one's own, which is to be asked.
@@ -34,7 +30,6 @@ impl EscapeKind {
         match self {
             EscapeKind::Html => Escaping::Html,
             EscapeKind::Plain => Escaping::Plain,
-            EscapeKind::Own(_) => Escaping::Own,
         }
     }
 }

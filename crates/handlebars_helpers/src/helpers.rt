@@ -1,13 +1,12 @@
 //! Helpers by name.
 
-ghost use Rattle.std.specs.Prelude.{◌≡◌, ◌<◌, IfOk, None, OnErr, OnOk, Some, is_some, length, option_map, string_bytes, true};
-ghost use Rattle.std.specs.BTreeMap.{get_by_text};
+ghost use Rattle.std.specs.Prelude.{◌≡◌, ◌<◌, IfOk, None, OnErr, OnOk, Some, bytes_eq, cond, false, is_some, length, option_map, string_bytes, true};
 ghost use Rattle.handlebars_base.specs.Bytes.{Text};
+ghost use Rattle.handlebars_helpers.specs.Choice.{built_in};
+ghost use Rattle.handlebars_helpers.specs.View.{kind_at, kind_of, kind_of_entry};
 ghost use Rattle.handlebars_helpers.specs.Marks.{is_marked, place_of};
 
-use crate::built_in::built_ins;
-use crate::own::Callee;
-use crate::own::entry::HelperEntry;
+use crate::built_in::{BuiltIn, HelperEntry, built_ins};
 use std::alloc::{AllocError, Global};
 use std::collections::BTreeMap;
 
@@ -18,49 +17,39 @@ pub struct Helpers {
     by_name: BTreeMap<String, HelperEntry>,
     // The places of all names that have a helper, and of some that had one.
     marks: [bool; 256],
-    ghost marked: { (name : Text) → is_some (get_by_text by_name name) ≡ true → is_marked marks name ≡ true },
+    ghost marked: { (name : Text) → is_some (kind_at name by_name) ≡ true → is_marked marks name ≡ true },
 }
 
 impl Helpers {
-    ghost use Rattle.handlebars_helpers.specs.Callee.{first_callee};
-    ghost use Rattle.handlebars_helpers.specs.HelpersView.{HasSameHelpers, PutsHelper, callees_of, helper_entry};
-    ghost use Rattle.handlebars_helpers.specs.OwnView.{callee_of};
+    ghost use Rattle.handlebars_helpers.specs.HelpersView.{kinds_of};
 
     /// The built-in helpers.
     pub fn new(alloc: Global) -> Result<Helpers, AllocError>
-        ensures { IfOk result (λ h. (name : Text) → callees_of h name ≡ first_callee name) }
+        ensures { IfOk result (λ h. (name : Text) → kinds_of h name ≡ built_in name) }
     {
         let by_name = built_ins(alloc)?;
         let marks = marks_of(&by_name);
         Ok(Helpers { by_name, marks })
     }
 
-    /// What stands under a name, if anything does.
-    pub fn get(&self, name: &str) -> Option<Callee>
-        ensures { option_map (callee_of name.now) result ≡ callees_of self.now name.now }
+    /// The helper under a name, if there is one.
+    pub fn get(&self, name: &str) -> Option<BuiltIn>
+        ensures { option_map kind_of result ≡ kinds_of self.now name.now }
     {
         if !self.marks[place_of(name)] {
             return None;
         }
         match self.by_name.get(name) {
-            Some(HelperEntry::Built(kind)) => Some(Callee::Built(*kind)),
-            Some(HelperEntry::Own(_)) => Some(Callee::Own),
-            Some(HelperEntry::Function(_)) => Some(Callee::Own),
+            Some(HelperEntry::Built(kind)) => Some(*kind),
             None => None,
         }
     }
 
-    // The entry under a name, if there is one.
-    pub(crate) fn entry(&self, name: &str) -> Option<&HelperEntry>
-        ensures { option_map (λ entry. entry.now) result ≡ helper_entry self.now name.now }
-    {
-        self.by_name.get(name)
-    }
-
     /// Puts a helper under a name, in place of one that stood there. Where memory is refused, none is changed.
     pub fn insert(&mut self, name: String, def: HelperEntry) -> Result<(), AllocError>
-        ensures ok { OnOk result (PutsHelper self.old self.new (string_bytes name) (Some def)) }
-        ensures err { OnErr result (HasSameHelpers self.old self.new) }
+        ensures ok { OnOk result ((other : Text) → kinds_of self.new other
+            ≡ cond (bytes_eq (string_bytes name) other) (Some (kind_of_entry def)) (kinds_of self.old other)) }
+        ensures err { OnErr result ((other : Text) → kinds_of self.new other ≡ kinds_of self.old other) }
     {
         mark(&mut self.marks, &name);
         self.by_name.insert(name, def)?;
@@ -69,7 +58,8 @@ impl Helpers {
 
     /// Takes the helper under a name away, where one stands there.
     pub fn remove(&mut self, name: &str)
-        ensures { PutsHelper self.old self.new name.now None }
+        ensures { (other : Text) → kinds_of self.new other
+            ≡ cond (bytes_eq name.now other) None (kinds_of self.old other) }
     {
         self.by_name.remove(name);
     }
@@ -77,7 +67,7 @@ impl Helpers {
 
 // The places of all names of a map.
 fn marks_of(helpers: &BTreeMap<String, HelperEntry>) -> [bool; 256]
-    ensures { (name : Text) → is_some (get_by_text helpers.now name) ≡ true → is_marked result name ≡ true }
+    ensures { (name : Text) → is_some (kind_at name helpers.now) ≡ true → is_marked result name ≡ true }
 {
     let mut marks = [false; 256];
     'all: for (name, _entry) in helpers.iter() {

@@ -7,7 +7,6 @@ pub mod built_in;
 pub mod choice;
 pub mod decorators;
 pub mod each_turns;
-pub mod entries;
 pub mod escape;
 pub mod helpers;
 pub mod log_line;

@@ -15,7 +15,6 @@ ghost use Rattle.handlebars.specs.View.{setting_of};
 use crate::registry::Registry;
 use crate::render::logging::Logging;
 use handlebars_base::error::RenderError;
-use handlebars_helpers::entries::{Entries, OwnParts};
 use handlebars_render::context::RenderContext;
 use handlebars_render::evaluate::{eval_element, eval_tree};
 use handlebars_render::failure::{fail_after, ready};
@@ -42,7 +41,7 @@ pub trait Evaluable {
         rc: &mut RenderContext,
         log: &L,
     ) -> Result<(), RenderError>
-        ensures evals { (kept : Kept) → has_failed rc.old ≡ false → Evals (setting_of ⟦<Entries as OwnParts>⟧.own registry.now «data».now) (steps self.now)
+        ensures evals { (kept : Kept) → has_failed rc.old ≡ false → Evals (setting_of registry.now «data».now) (steps self.now)
             (seen self.now) (state_with kept rc.old) result (state_with kept rc.new) }
         ensures failed { has_failed rc.old ≡ true
             → IsErrAnd result (λ e. refusal_of e ≡ plain_refusal failed) × (rc.new ≡ rc.old) }
@@ -68,12 +67,7 @@ impl Evaluable for Template {
         log: &L,
     ) -> Result<(), RenderError> {
         ready(rc)?;
-        let parts = &Logging {
-            entries: &registry.entries,
-            strict: registry.strict_mode,
-            recursive: registry.recursive_lookup,
-            log,
-        };
+        let parts = &Logging { registry, log };
         let setting = Setting {
             alloc,
             parts,
@@ -101,12 +95,7 @@ impl Evaluable for TemplateElement {
         log: &L,
     ) -> Result<(), RenderError> {
         ready(rc)?;
-        let parts = &Logging {
-            entries: &registry.entries,
-            strict: registry.strict_mode,
-            recursive: registry.recursive_lookup,
-            log,
-        };
+        let parts = &Logging { registry, log };
         let setting = Setting {
             alloc,
             parts,

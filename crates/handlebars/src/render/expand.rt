@@ -16,7 +16,6 @@ use crate::registry::Registry;
 use crate::render::logging::Logging;
 use handlebars_base::error::RenderError;
 use handlebars_base::json::value::PathAndJson;
-use handlebars_helpers::entries::{Entries, OwnParts};
 use handlebars_render::context::RenderContext;
 use handlebars_render::failure::{fail_after, ready};
 use handlebars_render::setting::Setting;
@@ -44,7 +43,7 @@ pub trait Expand {
         log: &L,
     ) -> Result<PathAndJson<'rc>, RenderError>
         ensures expands { (kept : Kept) → has_failed rc.old ≡ false → Yields
-            (HasWrittenValue (setting_of ⟦<Entries as OwnParts>⟧.own registry.now «data».now) (state_with kept rc.old) (param self.now))
+            (HasWrittenValue (setting_of registry.now «data».now) (state_with kept rc.old) (param self.now))
             path_and_data result }
         ensures failed { has_failed rc.old ≡ true
             → IsErrAnd result (λ e. refusal_of e ≡ plain_refusal failed) × (rc.new ≡ rc.old) }
@@ -63,7 +62,7 @@ pub trait Expand {
         log: &L,
     ) -> Result<CowStr<'rc>, RenderError>
         ensures expands { (kept : Kept) → has_failed rc.old ≡ false → Yields
-            (HasName (setting_of ⟦<Entries as OwnParts>⟧.own registry.now «data».now) (state_with kept rc.old) (param self.now))
+            (HasName (setting_of registry.now «data».now) (state_with kept rc.old) (param self.now))
             cow_str_bytes result }
         ensures failed { has_failed rc.old ≡ true
             → IsErrAnd result (λ e. refusal_of e ≡ plain_refusal failed) × (rc.new ≡ rc.old) }
@@ -85,12 +84,7 @@ impl Expand for Parameter {
         log: &L,
     ) -> Result<PathAndJson<'rc>, RenderError> {
         ready(rc)?;
-        let parts = &Logging {
-            entries: &registry.entries,
-            strict: registry.strict_mode,
-            recursive: registry.recursive_lookup,
-            log,
-        };
+        let parts = &Logging { registry, log };
         let answer = value::expand(
             &Setting {
                 alloc,
@@ -112,12 +106,7 @@ impl Expand for Parameter {
         log: &L,
     ) -> Result<CowStr<'rc>, RenderError> {
         ready(rc)?;
-        let parts = &Logging {
-            entries: &registry.entries,
-            strict: registry.strict_mode,
-            recursive: registry.recursive_lookup,
-            log,
-        };
+        let parts = &Logging { registry, log };
         let answer = value::expand_as_name(
             &Setting {
                 alloc,

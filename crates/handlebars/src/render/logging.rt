@@ -1,11 +1,11 @@
-//! What a run is given: what is registered, its modes and a logger.
+//! What a run is given: a registry and a logger.
 
-ghost use Rattle.handlebars.specs.View.{parts_with};
+ghost use Rattle.handlebars.specs.View.{parts_of};
 
+use crate::registry::Registry;
 use handlebars_base::error::RenderError;
 use handlebars_helpers::decorators::view::Decorator;
 use handlebars_helpers::decorators::{DecoratorKind, DecoratorResult};
-use handlebars_helpers::entries::OwnParts;
 use handlebars_helpers::escape::Escaping;
 use handlebars_helpers::own::{Callee, HelperResult, HelperValue};
 use handlebars_helpers::view::Helper;
@@ -13,76 +13,72 @@ use handlebars_render::registered::Registered;
 use handlebars_scope::context::Context;
 use log::{Level, Log, log};
 
-/// What is registered, the modes, and the logger of a run.
+/// A registry, and the logger of a run.
 #[derive(Drop)]
-pub struct Logging<'r, E, L> {
-    pub entries: &'r E,
-    pub strict: bool,
-    pub recursive: bool,
+pub struct Logging<'r, L> {
+    pub registry: &'r Registry,
     pub log: &'r L,
 }
 
-impl<E: OwnParts, L: Log> Registered for Logging<'_, E, L> {
-    ghost parts = { λ x. parts_with (E.registered x.entries.now) (E.own x.entries.now) x.strict x.recursive };
+impl<L: Log> Registered for Logging<'_, L> {
+    ghost parts = { λ x. parts_of x.registry.now };
 
     fn helper(&self, name: &str) -> Option<Callee> {
-        self.entries.helper(name)
+        self.registry.helper(name)
     }
 
+    // No helper of one's own is registered.
     fn steps_of(
         &self,
         name: &str,
-        view: &Helper,
-        given: &Context,
-        changed: Option<&Context>,
+        _view: &Helper,
+        _given: &Context,
+        _changed: Option<&Context>,
     ) -> HelperResult {
-        self.entries
-            .steps_of(name, view, given, changed, self.strict)
+        Err(self.registry.no_helper(name))
     }
 
     fn offer_of(
         &self,
         name: &str,
-        view: &Helper,
-        given: &Context,
-        changed: Option<&Context>,
+        _view: &Helper,
+        _given: &Context,
+        _changed: Option<&Context>,
     ) -> Result<HelperValue, RenderError> {
-        self.entries
-            .offer_of(name, view, given, changed, self.strict)
+        Err(self.registry.no_helper(name))
     }
 
     fn decorator(&self, name: &str) -> Option<DecoratorKind> {
-        self.entries.decorator(name)
+        self.registry.decorator(name)
     }
 
+    // No decorator of one's own is registered.
     fn deeds_of(
         &self,
         name: &str,
-        tag: &Decorator,
-        given: &Context,
-        changed: Option<&Context>,
+        _tag: &Decorator,
+        _given: &Context,
+        _changed: Option<&Context>,
     ) -> DecoratorResult {
-        self.entries
-            .deeds_of(name, tag, given, changed, self.strict)
+        Err(self.registry.no_decorator(name))
     }
 
     fn escape(&self) -> Escaping {
-        self.entries.escape()
+        self.registry.get_escape_fn().escaping()
     }
 
+    // No escape function of one's own is registered.
     fn escaped(&self, text: &str) -> Result<String, RenderError> {
-        self.entries.escaped(text)
+        Ok(self.registry.unescaped(text)?)
     }
 
     fn strict(&self) -> bool {
-        self.strict
+        self.registry.strict_mode()
     }
 
     fn log(&self, level: Level, text: &str) {
         log!(self.log; level, "{text}");
     }
 
-    fn keeps_law(&self) {
-        self.entries.keeps_law();
-    }
+    fn keeps_law(&self) {}
 }

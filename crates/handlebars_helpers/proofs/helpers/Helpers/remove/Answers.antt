@@ -1,13 +1,12 @@
-use Rattle.std.proofs.Common.{None}
-use Rattle.std.proofs.lemmas.Map.Text.{btree_map_updates_text}
+use Rattle.handlebars_helpers.proofs.Entries.{kind_at-removed}
 use Rattle.handlebars_helpers.proofs.Marked.{marked-removed}
 use Rattle.handlebars_helpers.proofs.helpers.Helpers.remove.Goals as goal
 
 pub invariant_of-self : goal.invariant_of-self
-invariant_of-self g c = record {
+invariant_of-self c = record {
   marked = marked-removed c.args.self.now.by_name c.remove.new.self c.args.name.now c.args.self.now.marks
       c.remove.ensures.updates c.args.self.now.marked;
 }
 
 pub returns : goal.returns
-returns g c = btree_map_updates_text c.args.name.now c.args.self.now.by_name c.remove.new.self None c.remove.ensures.updates
+returns c = kind_at-removed c.args.self.now.by_name c.remove.new.self c.args.name.now c.remove.ensures.updates

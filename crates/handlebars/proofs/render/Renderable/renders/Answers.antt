@@ -3,7 +3,7 @@ use Rattle.std.proofs.lemmas.Bool.{cases_Bool}
 use Rattle.handlebars_base.specs.Outputs.{Held}
 use Rattle.handlebars_render.specs.View.{has_failed}
 use Rattle.handlebars.proofs.Texts.{gives_string, refuses_string}
-use Rattle.handlebars.proofs.render.TemplateElementRenderable.renders.Goals as goal
+use Rattle.handlebars.proofs.render.Renderable.renders.Goals as goal
 
 pub returns-in-Ok-clause-ok : goal.returns-in-Ok-clause-ok
 returns-in-Ok-clause-ok g c = elim (cases_Bool (has_failed c.args.rc.now)) [

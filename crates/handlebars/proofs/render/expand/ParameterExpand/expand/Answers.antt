@@ -1,4 +1,0 @@
-use Rattle.handlebars.proofs.render.expand.ParameterExpand.expand.Goals as goal
-
-pub returns-clause-expands : goal.returns-clause-expands
-returns-clause-expands g c = λ kept ready. rw c.fail_after.ensures.answer (c.expand-answer.ensures kept)
