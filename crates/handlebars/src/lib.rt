@@ -9,6 +9,7 @@
 //! ```
 #![tactic(auto)]
 
+mod first;
 pub mod laws;
 mod registry;
 mod render;

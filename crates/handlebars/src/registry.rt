@@ -19,6 +19,7 @@ ghost use Rattle.handlebars.specs.Store.{stored, Stores, HasDecorator, HasHelper
 ghost use Rattle.handlebars_render.specs.View.{state_of, root_of, has_failed};
 ghost use Rattle.handlebars.specs.View.{modes_of, parts_of, setting_of, options_of};
 
+use crate::first::first_entries;
 use crate::render::Renderable;
 use crate::sources::TemplateReader;
 use handlebars_base::error::{RenderError, RenderErrorReason, TemplateError};
@@ -57,7 +58,7 @@ impl Registry {
         Ok(Registry {
             alloc,
             templates: BTreeMap::new(alloc),
-            entries: Entries::new(alloc)?,
+            entries: first_entries(alloc)?,
             strict_mode: false,
             recursive_lookup: false,
         })

@@ -1,5 +1,4 @@
 mod Pairs
-mod TextMaps
 mod Names
 mod Turns
 mod Sizes

@@ -1,7 +1,7 @@
 -- Marks of names, beside the helpers that they tell of.
-use Rattle.std.proofs.Common.{◌≡◌, Bool, true, false, cond, is_eq, List, ◌∷◌, Option, Some, None, is_some, Result, Ok, Err, OnOk, OnErr, String, Global, string_bytes, nat_cmp, bytes_eq, refl, sym, ap, ◌∙◌}
+use Rattle.std.proofs.Common.{◌≡◌, Bool, true, false, cond, List, [], Option, Some, None, is_some, Result, Ok, Err, OnOk, OnErr, String, Global, string_bytes, nat_cmp, bytes_eq, refl, sym, ap, ◌∙◌}
 use Rattle.std.proofs.lemmas.Bool.{false≢true}
-use Rattle.std.proofs.lemmas.Map.Text.{btree_map_updates_text, is_eq-slice_cmp}
+use Rattle.std.proofs.lemmas.Map.Text.{btree_map_updates_text}
 use Rattle.std.proofs.lemmas.Slice.Eq.{bytes_eq-Decides}
 use Rattle.std.specs.BTreeMap.{BTreeMap, IsUnchanged, UpdatesBy, get_by_text, is_at}
 use Rattle.std.specs.Cmp.Lexicographic.{slice_cmp}
@@ -15,6 +15,10 @@ abbrev among : {E : Type 0} → Text → List (String Global × E) → Option E
 among name es = lookup (is_at (λ k. slice_cmp nat_cmp name (string_bytes k))) es
 
 -- ---- a map that is changed
+
+-- nothing is in an empty map
+pub empty-none : {E : Type 0} (m : BTreeMap (String Global) E) → m.entries ≡ [] → (name : Text) → get_by_text m name ≡ None
+empty-none m empty name = ap (among name) empty
 
 -- a name beside the one that an entry is put under
 marked-put : {E : Type 0} (name other : Text) (e : E) (o : Option E) (m : Text → Bool) → m name ≡ true
@@ -49,28 +53,3 @@ pub marked-removed : {E : Type 0} (m n : BTreeMap (String Global) E) (name : Tex
 marked-removed m n name marks updates known other there =
     known other (marked-none (bytes_eq name other) (get_by_text m other)
     (ap is_some (sym (btree_map_updates_text name m n None updates other)) ∙ there))
-
--- ---- the marks of a whole map
-
--- Whatever is in the map under a name that has no mark so far is in what is left of it.
-abbrev pub LeavesUnmarked : {E : Type 0} → List Bool → List (String Global × E) → BTreeMap (String Global) E → Type 0
-LeavesUnmarked marks left m =
-    (name : Text) → is_marked marks name ≡ false → is_some (get_by_text m name) ≡ true → is_some (among name left) ≡ true
-
-unmarked-before : (a b : Bool) → (a ≡ true → b ≡ true) → b ≡ false → a ≡ false
-unmarked-before true b kept is = absurd (false≢true (sym is ∙ kept refl))
-unmarked-before false b kept is = refl
-
-pub leaves_rest : {E : Type 0} (old new : List Bool) (e : String Global × E) (all left : List (String Global × E))
-    (m : BTreeMap (String Global) E) → all ≡ e ∷ left → is_marked new (string_bytes e.0) ≡ true
-    → ((name : Text) → is_marked old name ≡ true → is_marked new name ≡ true)
-    → LeavesUnmarked old all m → LeavesUnmarked new left m
-leaves_rest old new e all left m next here kept before name is there =
-    let go : (b : Bool) → is_eq (slice_cmp nat_cmp name (string_bytes e.0)) ≡ b
-    → is_some (cond b (Some e.1) (among name left)) ≡ true → is_some (among name left) ≡ true = elim [
-      | true ↦ λ same found.
-          let name_is = (bytes_eq-Decides name (string_bytes e.0)).0 (sym (is_eq-slice_cmp name (string_bytes e.0)) ∙ same) in
-          absurd (false≢true (sym is ∙ ap (is_marked new) name_is ∙ here))
-      | false ↦ λ differ found. found
-    ] in go (is_eq (slice_cmp nat_cmp name (string_bytes e.0))) refl
-    (ap (λ es. is_some (among name es)) (sym next) ∙ before name (unmarked-before (is_marked old name) (is_marked new name) (kept name) is) there)

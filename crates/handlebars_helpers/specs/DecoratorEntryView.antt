@@ -1,19 +1,18 @@
 -- What the entries under names of decorators stand for.
-use Rattle.std.specs.Prelude.{◌≡◌, List, Option, Some, None, option_map, cond, Vec}
+use Rattle.std.specs.Prelude.{◌≡◌, List, Option, Some, None, option_map, Vec}
 use Rattle.std.specs.declared.alloc.Global.{Global}
 use Rattle.std.specs.declared.dyn_box.DynBox.{DynBox}
-use Rattle.std.specs.BTreeMap.{get_by_text}
-use Rattle.std.specs.Str.{bytes_eq}
 use Rattle.handlebars_base.specs.Answers.{Answer}
 use Rattle.handlebars_base.specs.Bytes.{Text}
+use Rattle.handlebars_helpers.specs.ByNameView.{entry_at}
 use Rattle.handlebars_helpers.specs.Decoration.{Deed, DecoratorKind, kind_inline, kind_own}
 use Rattle.handlebars_helpers.specs.DecoratorsView.{deeds_of, tag_asked_with}
 use Rattle.handlebars_helpers.specs.Functions.{Results, AnswersAt}
 use Rattle.handlebars_helpers.specs.OwnDecorator.{OwnDecorator, TagAsked, no_own_decorator}
+use Rattle.handlebars_helpers.specs.declared.by_name.ByName.{ByName}
 use Rattle.handlebars_helpers.specs.declared.decorators.DecoratorStep.{DecoratorStep}
 use Rattle.handlebars_helpers.specs.declared.decorators.entry.DecoratorEntry.{DecoratorEntry}
 use Rattle.handlebars_helpers.specs.declared.decorators.entry.DecoratorEntry.TheVariants.{Inline, Own, Function}
-use Rattle.handlebars_helpers.specs.declared.decorators.named.Decorators.{Decorators}
 use Rattle.handlebars_helpers.specs.declared.decorators.view.Decorator.{Decorator}
 
 module _ {X Y : Type 0} {F : X → Type 0} {H : Y → Type 0} {g : _} where
@@ -23,22 +22,9 @@ module _ {X Y : Type 0} {F : X → Type 0} {H : Y → Type 0} {g : _} where
   decorator_kind name (Own d) = kind_own name
   decorator_kind name (Function f) = kind_own name
 
-  -- the entry under a name, if there is one
-  abbrev pub decorator_entry : Decorators X Y F H g → Text → Option (DecoratorEntry X Y F H g)
-  decorator_entry decorators name = get_by_text decorators.by_name name
-
   -- the decorator under a name, if one stands there
-  abbrev pub decorators_of : Decorators X Y F H g → Text → Option DecoratorKind
-  decorators_of decorators name = option_map (decorator_kind name) (decorator_entry decorators name)
-
-  -- The entry, or none, stands under the name now, and under each other name what stood there.
-  abbrev pub PutsDecorator : Decorators X Y F H g → Decorators X Y F H g → Text → Option (DecoratorEntry X Y F H g) → Type 0
-  PutsDecorator old new name entry =
-      (other : Text) → decorator_entry new other ≡ cond (bytes_eq name other) entry (decorator_entry old other)
-
-  -- Under each name stands what stood there.
-  abbrev pub HasSameDecorators : Decorators X Y F H g → Decorators X Y F H g → Type 0
-  HasSameDecorators old new = (other : Text) → decorator_entry new other ≡ decorator_entry old other
+  abbrev pub decorators_of : ByName (DecoratorEntry X Y F H g) → Text → Option DecoratorKind
+  decorators_of decorators name = option_map (decorator_kind name) (entry_at decorators name)
 
   -- What an entry under this name answers, by what boxes and functions answer.
   module _ (has_deeds : DynBox X Global F → TagAsked → Answer (List Deed) → Type 0)

@@ -4,12 +4,12 @@ use Rattle.std.specs.declared.alloc.Global.{Global}
 use Rattle.std.specs.declared.dyn_box.DynBox.{DynBox}
 use Rattle.handlebars_base.specs.Answers.{Answer}
 use Rattle.handlebars_base.specs.Bytes.{Text}
+use Rattle.handlebars_helpers.specs.ByNameView.{entry_at}
 use Rattle.handlebars_helpers.specs.Decoration.{Deed}
-use Rattle.handlebars_helpers.specs.DecoratorEntryView.{decorator_entry, decorators_of, own_decorator_at}
-use Rattle.handlebars_helpers.specs.EntryView.{own_at}
+use Rattle.handlebars_helpers.specs.DecoratorEntryView.{decorators_of, own_decorator_at}
+use Rattle.handlebars_helpers.specs.EntryView.{callees_of, own_at}
 use Rattle.handlebars_helpers.specs.EscapeView.{kind_escaping, own_escape_of}
 use Rattle.handlebars_helpers.specs.Functions.{Results}
-use Rattle.handlebars_helpers.specs.HelpersView.{callees_of, helper_entry}
 use Rattle.handlebars_helpers.specs.Own.{Asked, Step, Offer}
 use Rattle.handlebars_helpers.specs.OwnAnswers.{OwnAnswers, Registered}
 use Rattle.handlebars_helpers.specs.OwnDecorator.{TagAsked}
@@ -35,7 +35,7 @@ module _ {X Y Z W V : Type 0} {F : X → Type 0} {G : Y → Type 0} {H : Z → T
       (has_escaped : DynBox V Global J → Text → Answer Text → Type 0) where
     abbrev pub own_answers : Entries X Y Z W V F G H I J g h → OwnAnswers
     own_answers e = record {
-      helper = λ name. own_at has_steps has_offer steps name (helper_entry e.helpers name);
-      decorator = λ name. own_decorator_at has_deeds deeds name (decorator_entry e.decorators name);
+      helper = λ name. own_at has_steps has_offer steps name (entry_at e.helpers name);
+      decorator = λ name. own_decorator_at has_deeds deeds name (entry_at e.decorators name);
       escape = own_escape_of has_escaped e.escape;
     }

@@ -1,15 +1,16 @@
 -- What the entries under names of helpers stand for.
-use Rattle.std.specs.Prelude.{◌≡◌, List, Option, Some, None, option_map, String, Vec}
+use Rattle.std.specs.Prelude.{◌≡◌, List, Option, Some, None, option_map, Vec}
 use Rattle.std.specs.declared.alloc.Global.{Global}
 use Rattle.std.specs.declared.dyn_box.DynBox.{DynBox}
-use Rattle.std.specs.BTreeMap.{BTreeMap, get_by_text}
 use Rattle.handlebars_base.specs.Answers.{Answer, gives}
 use Rattle.handlebars_base.specs.Bytes.{Text}
+use Rattle.handlebars_helpers.specs.ByNameView.{entry_at}
 use Rattle.handlebars_helpers.specs.Callee.{Callee, built, own}
 use Rattle.handlebars_helpers.specs.Functions.{Results, AnswersAt}
 use Rattle.handlebars_helpers.specs.Own.{Asked, Step, Offer, OwnHelper, not_offered, no_own}
 use Rattle.handlebars_helpers.specs.OwnView.{asked_with, steps_of}
 use Rattle.handlebars_helpers.specs.View.{kind_of}
+use Rattle.handlebars_helpers.specs.declared.by_name.ByName.{ByName}
 use Rattle.handlebars_helpers.specs.declared.own.HelperStep.{HelperStep}
 use Rattle.handlebars_helpers.specs.declared.own.entry.HelperEntry.{HelperEntry}
 use Rattle.handlebars_helpers.specs.declared.own.entry.HelperEntry.TheVariants.{Built, Own, Function}
@@ -23,8 +24,8 @@ module _ {X Y : Type 0} {F : X → Type 0} {H : Y → Type 0} {g : _} where
   entry_callee name (Function f) = own name
 
   -- what stands under a name, if anything does
-  abbrev pub callee_at : Text → BTreeMap (String Global) (HelperEntry X Y F H g) → Option Callee
-  callee_at name helpers = option_map (entry_callee name) (get_by_text helpers name)
+  abbrev pub callees_of : ByName (HelperEntry X Y F H g) → Text → Option Callee
+  callees_of helpers name = option_map (entry_callee name) (entry_at helpers name)
 
   -- What an entry under this name answers, by what boxes and functions answer. A function offers no value.
   module _ (has_steps : DynBox X Global F → Asked → Answer (Option (List Step)) → Type 0)

@@ -14,8 +14,8 @@ pub mod Marks
 pub mod OwnView
 pub mod FnRefusals
 pub mod Functions
+pub mod ByNameView
 pub mod EntryView
-pub mod HelpersView
 pub mod Decoration
 pub mod OwnDecorator
 pub mod DecoratorsView

@@ -1,16 +1,8 @@
 //! The built-in helpers, and their names.
 
-ghost use Rattle.std.specs.Prelude.{◌≡◌, IfOk, OnOk, Some, bytes_eq, map};
-ghost use Rattle.std.specs.Map.{update};
-ghost use Rattle.handlebars_base.specs.Bytes.{Text};
-ghost use Rattle.handlebars_helpers.specs.Callee.{built, first_callee};
+ghost use Rattle.std.specs.Prelude.{◌≡◌, map};
 ghost use Rattle.handlebars_helpers.specs.Choice.{built_ins};
-ghost use Rattle.handlebars_helpers.specs.EntryView.{callee_at};
 ghost use Rattle.handlebars_helpers.specs.View.{kind_of};
-
-use crate::own::entry::HelperEntry;
-use std::alloc::{AllocError, Global};
-use std::collections::BTreeMap;
 
 /// A helper that every registry begins with.
 #[derive(Clone, Copy, Debug, PartialEq, Eq)]
@@ -51,18 +43,8 @@ pub enum BuiltIn {
     Len,
 }
 
-/// The built-in helpers under their names.
-pub fn built_ins(alloc: Global) -> Result<BTreeMap<String, HelperEntry>, AllocError>
-    ensures { IfOk result (λ helpers. (name : Text) → callee_at name helpers ≡ first_callee name) }
-{
-    let mut helpers = BTreeMap::new(alloc);
-    'all: for (name, kind) in &table() {
-        put(alloc, &mut helpers, *name, *kind)?;
-    }
-    Ok(helpers)
-}
-
-fn table() -> [(&'static str, BuiltIn); 17]
+/// The built-in helpers and their names.
+pub fn table() -> [(&'static str, BuiltIn); 17]
     ensures { map (λ row. (row.0.now, kind_of row.1)) result ≡ built_ins }
 {
     [
@@ -84,18 +66,4 @@ fn table() -> [(&'static str, BuiltIn); 17]
         ("not", BuiltIn::Not),
         ("len", BuiltIn::Len),
     ]
-}
-
-// Puts a helper under a name, in place of one that stood there.
-fn put(
-    alloc: Global,
-    helpers: &mut BTreeMap<String, HelperEntry>,
-    name: &str,
-    kind: BuiltIn,
-) -> Result<(), AllocError>
-    ensures { OnOk result ((other : Text) → callee_at other helpers.new
-        ≡ update bytes_eq (λ n. callee_at n helpers.old) name.now (Some (built (kind_of kind))) other) }
-{
-    helpers.insert(String::from_str(alloc, name)?, HelperEntry::Built(kind))?;
-    Ok(())
 }

@@ -10,7 +10,6 @@ ghost use Rattle.handlebars_helpers.specs.DecoratorsView.{tag_view};
 pub mod def;
 pub mod entry;
 pub mod function;
-pub mod named;
 pub mod view;
 
 use crate::params::there;

@@ -1,30 +1,23 @@
 //! What is registered under names, and what is asked of it.
 
-ghost use Rattle.std.specs.Prelude.{◌≡◌, IfOk, option_map, string_bytes};
+ghost use Rattle.std.specs.Prelude.{◌≡◌, option_map, string_bytes};
 ghost use Rattle.handlebars_base.specs.Answers.{IsRefusal};
-ghost use Rattle.handlebars_base.specs.Bytes.{Text};
 ghost use Rattle.handlebars_base.specs.Reasons.{decorator_not_found, helper_not_found};
 ghost use Rattle.handlebars_base.specs.RenderRefusals.{plain_refusal};
-ghost use Rattle.handlebars_helpers.specs.Callee.{first_callee};
-ghost use Rattle.handlebars_helpers.specs.Decoration.{built_in_decorator};
-ghost use Rattle.handlebars_helpers.specs.DecoratorEntryView.{decorators_of};
 ghost use Rattle.handlebars_helpers.specs.DecoratorsView.{decorator_called, deeds_of, tag_asked_with};
 ghost use Rattle.handlebars_helpers.specs.EntriesView.{own_answers, registered_in};
-ghost use Rattle.handlebars_helpers.specs.EscapeView.{escaping_of, kind_escaping};
-ghost use Rattle.handlebars_helpers.specs.Escaping.{for_html};
-ghost use Rattle.handlebars_helpers.specs.HelpersView.{callees_of};
+ghost use Rattle.handlebars_helpers.specs.EscapeView.{escaping_of};
 ghost use Rattle.handlebars_helpers.specs.OwnAnswers.{HaveOne, OwnAnswers, Registered};
 ghost use Rattle.handlebars_helpers.specs.OwnView.{IsOneOf, asked_with, callee_of, offer_of, steps_of};
 
+use crate::by_name::ByName;
 use crate::decorators::def::{DecoratorDef, deeds_of};
 use crate::decorators::entry::DecoratorEntry;
 use crate::decorators::function::DecoratorFn;
-use crate::decorators::named::Decorators;
 use crate::decorators::view::Decorator;
 use crate::decorators::{DecoratorKind, DecoratorResult};
 use crate::escape::def::{EscapeFn, escaped_by};
 use crate::escape::{EscapeKind, Escaping};
-use crate::helpers::Helpers;
 use crate::own::def::{HelperDef, offer_of, steps_of};
 use crate::own::entry::HelperEntry;
 use crate::own::function::HelperFn;
@@ -38,27 +31,13 @@ use std::alloc::{AllocError, Global};
 /// Helpers and decorators by name, and how values are escaped.
 #[derive(Drop)]
 pub struct Entries {
-    alloc: Global,
-    pub helpers: Helpers,
-    pub decorators: Decorators,
+    pub alloc: Global,
+    pub helpers: ByName<HelperEntry>,
+    pub decorators: ByName<DecoratorEntry>,
     pub escape: EscapeKind,
 }
 
 impl Entries {
-    /// The built-in helpers and decorators; values are escaped for html.
-    pub fn new(alloc: Global) -> Result<Entries, AllocError>
-        ensures helpers { IfOk result (λ e. (name : Text) → callees_of e.helpers name ≡ first_callee name) }
-        ensures decorators { IfOk result (λ e. (name : Text) → decorators_of e.decorators name ≡ built_in_decorator name) }
-        ensures escape { IfOk result (λ e. kind_escaping e.escape ≡ for_html) }
-    {
-        Ok(Entries {
-            alloc,
-            helpers: Helpers::new(alloc)?,
-            decorators: Decorators::new(alloc)?,
-            escape: EscapeKind::Html,
-        })
-    }
-
     // The refusal of a name that no helper of one's own has.
     fn no_helper(&self, name: &str) -> RenderError
         ensures { IsRefusal (plain_refusal (helper_not_found name.now)) result }
@@ -152,11 +131,21 @@ impl OwnParts for Entries {
         (λ b. (EscapeFn-box b).has_escaped b.value) };
 
     fn helper(&self, name: &str) -> Option<Callee> {
-        self.helpers.get(name)
+        match self.helpers.get(name) {
+            Some(HelperEntry::Built(kind)) => Some(Callee::Built(*kind)),
+            Some(HelperEntry::Own(_)) => Some(Callee::Own),
+            Some(HelperEntry::Function(_)) => Some(Callee::Own),
+            None => None,
+        }
     }
 
     fn decorator(&self, name: &str) -> Option<DecoratorKind> {
-        self.decorators.get(name)
+        match self.decorators.get(name) {
+            Some(DecoratorEntry::Inline) => Some(DecoratorKind::Inline),
+            Some(DecoratorEntry::Own(_)) => Some(DecoratorKind::Own),
+            Some(DecoratorEntry::Function(_)) => Some(DecoratorKind::Own),
+            None => None,
+        }
     }
 
     fn escape(&self) -> Escaping {
@@ -171,7 +160,7 @@ impl OwnParts for Entries {
         changed: Option<&Context>,
         strict: bool,
     ) -> HelperResult {
-        match self.helpers.entry(name) {
+        match self.helpers.get(name) {
             Some(HelperEntry::Own(def)) => steps_of(def, h, given, changed, strict),
             Some(HelperEntry::Function(function)) => function.call(h, given, changed, strict),
             Some(HelperEntry::Built(_)) => Err(self.no_helper(name)),
@@ -187,7 +176,7 @@ impl OwnParts for Entries {
         changed: Option<&Context>,
         strict: bool,
     ) -> Result<HelperValue, RenderError> {
-        match self.helpers.entry(name) {
+        match self.helpers.get(name) {
             Some(HelperEntry::Own(def)) => offer_of(def, h, given, changed, strict),
             Some(HelperEntry::Function(_)) => Ok(HelperValue::NotOffered),
             Some(HelperEntry::Built(_)) => Err(self.no_helper(name)),
@@ -203,7 +192,7 @@ impl OwnParts for Entries {
         changed: Option<&Context>,
         strict: bool,
     ) -> DecoratorResult {
-        match self.decorators.entry(name) {
+        match self.decorators.get(name) {
             Some(DecoratorEntry::Own(def)) => deeds_of(def, d, given, changed, strict),
             Some(DecoratorEntry::Function(function)) => function.call(d, given, changed, strict),
             Some(DecoratorEntry::Inline) => Err(self.no_decorator(name)),

@@ -4,12 +4,12 @@
 
 mod boolean;
 pub mod built_in;
+pub mod by_name;
 pub mod choice;
 pub mod decorators;
 pub mod each_turns;
 pub mod entries;
 pub mod escape;
-pub mod helpers;
 pub mod log_line;
 pub mod own;
 mod params;

@@ -1,7 +1,7 @@
 use Rattle.std.proofs.Common.{None}
 use Rattle.std.proofs.lemmas.Map.Text.{btree_map_updates_text}
 use Rattle.handlebars_helpers.proofs.Marked.{marked-removed}
-use Rattle.handlebars_helpers.proofs.helpers.Helpers.remove.Goals as goal
+use Rattle.handlebars_helpers.proofs.by_name.ByName.remove.Goals as goal
 
 pub invariant_of-self : goal.invariant_of-self
 invariant_of-self g c = record {
