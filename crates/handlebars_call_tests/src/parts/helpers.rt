@@ -1,0 +1,222 @@
+//! Helpers of a caller's own. Each states what it answers, and that this is one answer.
+
+ghost use Rattle.std.specs.Prelude.{◌≡◌, ◌∷◌, [], IfOk, None, Some, string_bytes};
+ghost use Rattle.std.proofs.Common.{sym, ◌∙◌};
+ghost use Rattle.serde_json.specs.Data.{string};
+ghost use Rattle.handlebars_base.specs.Answers.{gives};
+ghost use Rattle.handlebars_helpers.specs.Own.{not_offered, offers, offers_missing, renders_body, renders_inverse, writes};
+ghost use Rattle.handlebars_helpers.specs.View.{helper_view};
+ghost use Rattle.handlebars_call_tests.specs.Parts.{distance, shown_at};
+
+use handlebars::{Context, Helper, JsonValue, RenderError};
+use handlebars_helpers::own::def::HelperDef;
+use handlebars_helpers::own::{HelperResult, HelperStep, HelperValue};
+use std::alloc::{AllocError, Global};
+
+/// Renders its body twice.
+#[derive(Drop)]
+pub struct Twice {
+    pub alloc: Global,
+}
+
+impl HelperDef for Twice {
+    ghost has_steps = { λ h q a. a ≡ gives (Some (renders_body ∷ renders_body ∷ [])) };
+
+    ghost has_offer = { λ h q a. a ≡ gives offers_missing };
+
+    fn call_inner(
+        &self,
+        _h: &Helper,
+        _data: &Context,
+        _changed: Option<&Context>,
+        _strict: bool,
+    ) -> Result<HelperValue, RenderError> {
+        Ok(HelperValue::Missing)
+    }
+
+    fn call(
+        &self,
+        _h: &Helper,
+        _data: &Context,
+        _changed: Option<&Context>,
+        _strict: bool,
+    ) -> HelperResult {
+        Ok(Some(vec![in self.alloc; HelperStep::Body, HelperStep::Body]?))
+    }
+
+    ghost one_steps = { λ h q a b i j. ∣ i ∙ sym j ∣₁ };
+
+    ghost one_offer = { λ h q a b i j. ∣ i ∙ sym j ∣₁ };
+}
+
+/// Writes a text, and renders its inverse.
+#[derive(Drop)]
+pub struct Marked {
+    pub alloc: Global,
+    pub text: String,
+}
+
+impl HelperDef for Marked {
+    ghost has_steps = { λ h q a. a ≡ gives (Some (writes (string_bytes h.text) ∷ renders_inverse ∷ [])) };
+
+    ghost has_offer = { λ h q a. a ≡ gives not_offered };
+
+    fn call_inner(
+        &self,
+        _h: &Helper,
+        _data: &Context,
+        _changed: Option<&Context>,
+        _strict: bool,
+    ) -> Result<HelperValue, RenderError> {
+        Ok(HelperValue::NotOffered)
+    }
+
+    fn call(
+        &self,
+        _h: &Helper,
+        _data: &Context,
+        _changed: Option<&Context>,
+        _strict: bool,
+    ) -> HelperResult {
+        let text = self.text.clone()?;
+        Ok(Some(vec![in self.alloc; HelperStep::Write(text), HelperStep::Inverse]?))
+    }
+
+    ghost one_steps = { λ h q a b i j. ∣ i ∙ sym j ∣₁ };
+
+    ghost one_offer = { λ h q a b i j. ∣ i ∙ sym j ∣₁ };
+}
+
+/// Has no steps, and offers its text as a value.
+#[derive(Drop)]
+pub struct Offered {
+    pub text: String,
+}
+
+impl HelperDef for Offered {
+    ghost has_steps = { λ h q a. a ≡ gives None };
+
+    ghost has_offer = { λ h q a. a ≡ gives (offers (string (string_bytes h.text))) };
+
+    fn call_inner(
+        &self,
+        _h: &Helper,
+        _data: &Context,
+        _changed: Option<&Context>,
+        _strict: bool,
+    ) -> Result<HelperValue, RenderError> {
+        Ok(HelperValue::Value(JsonValue::String(self.text.clone()?)))
+    }
+
+    fn call(
+        &self,
+        _h: &Helper,
+        _data: &Context,
+        _changed: Option<&Context>,
+        _strict: bool,
+    ) -> HelperResult {
+        Ok(None)
+    }
+
+    ghost one_steps = { λ h q a b i j. ∣ i ∙ sym j ∣₁ };
+
+    ghost one_offer = { λ h q a b i j. ∣ i ∙ sym j ∣₁ };
+}
+
+/// Has no steps, and no value.
+#[derive(Drop)]
+pub struct Absent {
+    pub alloc: Global,
+}
+
+impl HelperDef for Absent {
+    ghost has_steps = { λ h q a. a ≡ gives None };
+
+    ghost has_offer = { λ h q a. a ≡ gives offers_missing };
+
+    fn call_inner(
+        &self,
+        _h: &Helper,
+        _data: &Context,
+        _changed: Option<&Context>,
+        _strict: bool,
+    ) -> Result<HelperValue, RenderError> {
+        Ok(HelperValue::Missing)
+    }
+
+    fn call(
+        &self,
+        _h: &Helper,
+        _data: &Context,
+        _changed: Option<&Context>,
+        _strict: bool,
+    ) -> HelperResult {
+        Ok(None)
+    }
+
+    ghost one_steps = { λ h q a b i j. ∣ i ∙ sym j ∣₁ };
+
+    ghost one_offer = { λ h q a b i j. ∣ i ∙ sym j ∣₁ };
+}
+
+/// Writes a number of metres, or of the unit that comes before it.
+#[derive(Drop)]
+pub struct Distance {
+    pub alloc: Global,
+}
+
+impl HelperDef for Distance {
+    ghost has_steps = { λ h q a. a ≡ gives (Some (writes (distance q.view) ∷ [])) };
+
+    ghost has_offer = { λ h q a. a ≡ gives not_offered };
+
+    fn call_inner(
+        &self,
+        _h: &Helper,
+        _data: &Context,
+        _changed: Option<&Context>,
+        _strict: bool,
+    ) -> Result<HelperValue, RenderError> {
+        Ok(HelperValue::NotOffered)
+    }
+
+    fn call(
+        &self,
+        h: &Helper,
+        _data: &Context,
+        _changed: Option<&Context>,
+        _strict: bool,
+    ) -> HelperResult {
+        let text = distance_said(self.alloc, h)?;
+        Ok(Some(vec![in self.alloc; HelperStep::Write(text)]?))
+    }
+
+    ghost one_steps = { λ h q a b i j. ∣ i ∙ sym j ∣₁ };
+
+    ghost one_offer = { λ h q a b i j. ∣ i ∙ sym j ∣₁ };
+}
+
+// The distance that a call says.
+fn distance_said(alloc: Global, h: &Helper) -> Result<String, AllocError>
+    ensures { IfOk result (λ text. string_bytes text ≡ distance (helper_view h.now)) }
+{
+    if h.param(1).is_some() {
+        let mut text = shown(alloc, h, 1)?;
+        text.push_str(shown(alloc, h, 0)?.as_str())?;
+        Ok(text)
+    } else {
+        let mut text = shown(alloc, h, 0)?;
+        text.push_str("m")?;
+        Ok(text)
+    }
+}
+
+// The text of a parameter, and none where it isn't there.
+fn shown(alloc: Global, h: &Helper, index: usize) -> Result<String, AllocError>
+    ensures { IfOk result (λ text. string_bytes text ≡ shown_at index (helper_view h.now)) }
+{
+    match h.param(index) {
+        Some(param) => param.render(alloc),
+        None => Ok(String::new(alloc)),
+    }
+}
