@@ -11,13 +11,13 @@ returns-in_err-template-clause-err g c = compile_refused _ _ _ (template_refusal
     c.in_err-template.ensures.err c.from_residual.ensures.1
 
 pub returns-in_err-template-clause-one : goal.returns-in_err-template-clause-one
-returns-in_err-template-clause-one g c = has_one_answer _ (parts-lawful _) _ (FromSource-one _ _)
+returns-in_err-template-clause-one g c = has_one_answer _ (parts-lawful c.args.self.now) _ (FromSource-one _ _)
 
 pub returns-in_err-template-clause-origins : goal.returns-in_err-template-clause-origins
 returns-in_err-template-clause-origins g c = answer_has_origins _ _
 
 pub returns-in_err-rc-clause-one : goal.returns-in_err-rc-clause-one
-returns-in_err-rc-clause-one g c = has_one_answer _ (parts-lawful _) _ (FromSource-one _ _)
+returns-in_err-rc-clause-one g c = has_one_answer _ (parts-lawful c.args.self.now) _ (FromSource-one _ _)
 
 pub returns-in_err-rc-clause-origins : goal.returns-in_err-rc-clause-origins
 returns-in_err-rc-clause-origins g c = answer_has_origins _ _
@@ -32,7 +32,7 @@ returns-clause-err g c = IfErr-weaker c.renders.result _ _
     c.renders.ensures.err
 
 pub returns-clause-one : goal.returns-clause-one
-returns-clause-one g c = has_one_answer _ (parts-lawful _) _ (FromSource-one _ _)
+returns-clause-one g c = has_one_answer _ (parts-lawful c.args.self.now) _ (FromSource-one _ _)
 
 pub returns-clause-origins : goal.returns-clause-origins
 returns-clause-origins g c = answer_has_origins _ _

@@ -8,10 +8,10 @@ use Rattle.handlebars.proofs.AnswerLaws.{FromName-one, has_one_answer, answer_ha
 use Rattle.handlebars.proofs.registry.Registry.render_with_context.Goals as goal
 
 pub returns-in_err-name-clause-one : goal.returns-in_err-name-clause-one
-returns-in_err-name-clause-one g c = has_one_answer _ (parts-lawful _) _ (FromName-one _ _)
+returns-in_err-name-clause-one g c = has_one_answer _ (parts-lawful c.args.self.now) _ (FromName-one _ _)
 
 pub returns-in_default-clause-one : goal.returns-in_default-clause-one
-returns-in_default-clause-one g c = has_one_answer _ (parts-lawful _) _ (FromName-one _ _)
+returns-in_default-clause-one g c = has_one_answer _ (parts-lawful c.args.self.now) _ (FromName-one _ _)
 
 pub returns-in_default-clause-err : goal.returns-in_default-clause-err
 returns-in_default-clause-err g c = λ _. refuses_before _ _ _ c.into.result
@@ -25,7 +25,7 @@ pub returns-in_default-clause-origins : goal.returns-in_default-clause-origins
 returns-in_default-clause-origins g c = answer_has_origins _ _
 
 pub returns-in_err-rc-clause-one : goal.returns-in_err-rc-clause-one
-returns-in_err-rc-clause-one g c = has_one_answer _ (parts-lawful _) _ (FromName-one _ _)
+returns-in_err-rc-clause-one g c = has_one_answer _ (parts-lawful c.args.self.now) _ (FromName-one _ _)
 
 pub returns-in_err-rc-clause-origins : goal.returns-in_err-rc-clause-origins
 returns-in_err-rc-clause-origins g c = answer_has_origins _ _
@@ -42,7 +42,7 @@ returns-clause-err g c = IfErr-weaker c.renders.result _ _
     c.renders.ensures.err
 
 pub returns-clause-one : goal.returns-clause-one
-returns-clause-one g c = has_one_answer _ (parts-lawful _) _ (FromName-one _ _)
+returns-clause-one g c = has_one_answer _ (parts-lawful c.args.self.now) _ (FromName-one _ _)
 
 pub returns-clause-origins : goal.returns-clause-origins
 returns-clause-origins g c = answer_has_origins _ _
