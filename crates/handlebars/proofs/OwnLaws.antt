@@ -1,14 +1,9 @@
--- The law of what is of one's own, where there is nothing.
-use Rattle.std.proofs.Common.{sym, ◌∙◌}
-use Rattle.handlebars_helpers.specs.Escaping.{no_own_escape}
-use Rattle.handlebars_helpers.specs.Own.{AnswersOnce, no_own}
+-- The law of parts of one's own, in what a run reads.
+use Rattle.handlebars_helpers.specs.OwnAnswers.{HaveOne, OwnAnswers, Registered}
 use Rattle.handlebars_meaning.specs.State.{IsLawful}
 use Rattle.handlebars.specs.View.{parts_of}
-use Rattle.handlebars.specs.declared.registry.Registry.{Registry}
+use Rattle.handlebars.specs.declared.registry.RegistryOf.{RegistryOf}
 
-pub parts-lawful : (r : Registry) → IsLawful (parts_of r)
-parts-lawful r = record {
-  helpers = λ name. record { steps = λ q x y a b. ∣ a ∙ sym b ∣₁; offer = λ q x y a b. ∣ a ∙ sym b ∣₁ };
-  decorators = λ name q x y a b. ∣ a ∙ sym b ∣₁;
-  escape = λ t x y a b. ∣ a ∙ sym b ∣₁;
-}
+pub parts-lawful : {E : Type 0} (registered : E → Registered) (own : E → OwnAnswers) (r : RegistryOf E) → HaveOne (own r.entries)
+    → IsLawful (parts_of registered own r)
+parts-lawful registered own r one = record { helpers = one.helpers; decorators = one.decorators; escape = one.escape }

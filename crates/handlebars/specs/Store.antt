@@ -5,46 +5,56 @@ use Rattle.std.specs.Str.{bytes_eq}
 use Rattle.handlebars_base.specs.Bytes.{Text}
 use Rattle.handlebars_template.specs.Tree.{Tree}
 use Rattle.handlebars_template.specs.TreeView.{tree_view}
-use Rattle.handlebars_helpers.specs.Decoration.{DecoratorKind}
-use Rattle.handlebars_helpers.specs.Callee.{Callee}
-use Rattle.handlebars.specs.View.{modes_of, parts_of}
-use Rattle.handlebars.specs.declared.registry.Registry.{Registry}
+use Rattle.handlebars_helpers.specs.ByNameView.{HasSame, Puts}
+use Rattle.handlebars_helpers.specs.declared.decorators.entry.DecoratorEntryOf.{DecoratorEntryOf}
+use Rattle.handlebars_helpers.specs.declared.entries.Entries.{Entries}
+use Rattle.handlebars_helpers.specs.declared.escape.EscapeKindOf.{EscapeKindOf}
+use Rattle.handlebars_helpers.specs.declared.own.entry.HelperEntryOf.{HelperEntryOf}
+use Rattle.handlebars.specs.View.{modes_of}
+use Rattle.handlebars.specs.declared.registry.RegistryOf.{RegistryOf}
 
--- the tree under a name, if there is one
-abbrev pub stored : Registry → Text → Option Tree
-stored r name = option_map tree_view (get_by_text r.templates name)
+-- ---- templates
 
--- The tree stands under the name now, and under each other name what stood there.
-abbrev pub Stores : Registry → Registry → Text → Tree → Type 0
-Stores old new name t = (other : Text) → stored new other ≡ cond (bytes_eq name other) (Some t) (stored old other)
+module _ {E : Type 0} where
+  -- the tree under a name, if there is one
+  abbrev pub stored : RegistryOf E → Text → Option Tree
+  stored r name = option_map tree_view (get_by_text r.templates name)
 
--- Under each name stands what stood there.
-abbrev pub HasSameTemplates : Registry → Registry → Type 0
-HasSameTemplates old new = (name : Text) → stored new name ≡ stored old name
+  -- The tree stands under the name now, and under each other name what stood there.
+  abbrev pub Stores : RegistryOf E → RegistryOf E → Text → Tree → Type 0
+  Stores old new name t = (other : Text) → stored new other ≡ cond (bytes_eq name other) (Some t) (stored old other)
+
+  -- Under each name stands what stood there.
+  abbrev pub HasSameTemplates : RegistryOf E → RegistryOf E → Type 0
+  HasSameTemplates old new = (name : Text) → stored new name ≡ stored old name
 
 -- ---- helpers, decorators and modes
 
--- Under each name stands the same helper.
-abbrev pub HasSameHelpers : Registry → Registry → Type 0
-HasSameHelpers old new = (name : Text) → (parts_of new).helper name ≡ (parts_of old).helper name
+module _ {B D X : Type 0} (old new : RegistryOf (Entries B D X)) where
+  -- Nothing that a run reads is changed.
+  pub record HasSameParts : Type 0 where
+    pub helpers : HasSame old.entries.helpers new.entries.helpers
+    pub decorators : HasSame old.entries.decorators new.entries.decorators
+    pub escape : new.entries.escape ≡ old.entries.escape
+    pub modes : modes_of new ≡ modes_of old
 
--- Nothing that a run reads is changed.
-pub record HasSameParts (old new : Registry) : Type 0 where
-  pub helpers : HasSameHelpers old new
-  pub modes : modes_of new ≡ modes_of old
+  -- The helper, or none, stands under the name now, and under each other name what stood there; all else is the same.
+  pub record PutsHelper (name : Text) (entry : Option (HelperEntryOf B)) : Type 0 where
+    pub helpers : Puts old.entries.helpers new.entries.helpers name entry
+    pub decorators : HasSame old.entries.decorators new.entries.decorators
+    pub escape : new.entries.escape ≡ old.entries.escape
+    pub modes : modes_of new ≡ modes_of old
 
--- The helper, or none, stands under the name now, and under each other name what stood there; the decorators and the
--- modes are the same.
-pub record HasHelper (old new : Registry) (name : Text) (callee : Option Callee) : Type 0 where
-  pub helpers : (other : Text) → (parts_of new).helper other ≡ cond (bytes_eq name other) callee ((parts_of old).helper other)
-  pub modes : modes_of new ≡ modes_of old
+  -- The decorator, or none, stands under the name now, and under each other name what stood there; all else is the same.
+  pub record PutsDecorator (name : Text) (entry : Option (DecoratorEntryOf D)) : Type 0 where
+    pub helpers : HasSame old.entries.helpers new.entries.helpers
+    pub decorators : Puts old.entries.decorators new.entries.decorators name entry
+    pub escape : new.entries.escape ≡ old.entries.escape
+    pub modes : modes_of new ≡ modes_of old
 
--- The decorator stands under the name now, and under each other name what stood there; the helpers and the modes are the
--- same.
-pub record HasDecorator (old new : Registry) (name : Text) (kind : DecoratorKind) : Type 0 where
-  pub decorators : (other : Text)
-      → (parts_of new).decorator other ≡ cond (bytes_eq name other) (Some kind) ((parts_of old).decorator other)
-  pub helpers : HasSameHelpers old new
-  pub escape : (parts_of new).escape ≡ (parts_of old).escape
-  pub strict : (parts_of new).strict ≡ (parts_of old).strict
-  pub recursive : (parts_of new).recursive ≡ (parts_of old).recursive
+  -- Values are escaped so now; all else is the same.
+  pub record PutsEscape (escape_fn : EscapeKindOf X) : Type 0 where
+    pub helpers : HasSame old.entries.helpers new.entries.helpers
+    pub decorators : HasSame old.entries.decorators new.entries.decorators
+    pub escape : new.entries.escape ≡ escape_fn
+    pub modes : modes_of new ≡ modes_of old

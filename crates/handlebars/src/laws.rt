@@ -4,10 +4,11 @@ ghost use Rattle.handlebars_meaning.specs.Counted.{RendersCounted, JudgesCounted
 ghost use Rattle.handlebars_meaning.specs.Laws.{OneRun, StopsInBeginning, ComesOnce, AllHaveOrigins, ElementHasOrigins};
 ghost use Rattle.handlebars.specs.View.{setting_of};
 
-use crate::registry::Registry;
+use crate::registry::RegistryOf;
 pub use handlebars_base::laws::{
     equality_laws, escape_laws, one_meaning, order_laws, paths_in_front,
 };
+use handlebars_helpers::entries::OwnParts;
 pub use handlebars_lines::laws::{
     one_binding, one_line, one_literal, one_parameter, worth_of_literal,
 };
@@ -20,13 +21,15 @@ pub use handlebars_template::laws::{cuts_join, one_compilation, one_cut, one_par
 /// stops on the way has written a beginning of the whole one's text; a run of a tree comes to no
 /// site twice; and all that the run of a tree or of an element alone writes has an origin in it,
 /// where escaping is on at its start.
-pub fn laws_of_runs(registry: &Registry, context: &Context)
-    ensures one { OneRun (setting_of registry.now context.now) }
-    ensures beginning { StopsInBeginning (setting_of registry.now context.now) }
-    ensures once { ComesOnce (setting_of registry.now context.now) }
-    ensures origins { AllHaveOrigins (setting_of registry.now context.now) }
-    ensures element { ElementHasOrigins (setting_of registry.now context.now) }
-{}
+pub fn laws_of_runs<E: OwnParts>(registry: &RegistryOf<E>, context: &Context)
+    ensures one { OneRun (setting_of E.registered E.own registry.now context.now) }
+    ensures beginning { StopsInBeginning (setting_of E.registered E.own registry.now context.now) }
+    ensures once { ComesOnce (setting_of E.registered E.own registry.now context.now) }
+    ensures origins { AllHaveOrigins (setting_of E.registered E.own registry.now context.now) }
+    ensures element { ElementHasOrigins (setting_of E.registered E.own registry.now context.now) }
+{
+    registry.entries.keeps_law();
+}
 
 /// A number outside the range counts as null wherever it stands: neither the text of a value, its truth, its
 /// equality or order with another one, nor where names lead in it tells it from what it counts as.

@@ -23,12 +23,21 @@ pub use handlebars_base::json::value::{
 };
 pub use handlebars_base::output::{Output, StringOutput};
 pub use handlebars_base::support::{escape_html, html_escape, no_escape};
-pub use handlebars_helpers::built_in::{BuiltIn, HelperEntry};
-pub use handlebars_helpers::decorators::DecoratorEntry;
+pub use handlebars_helpers::built_in::BuiltIn;
+pub use handlebars_helpers::decorators::def::DecoratorDef;
+pub use handlebars_helpers::decorators::entry::DecoratorEntry;
+pub use handlebars_helpers::decorators::function::{DecoratorFn, FnDecorator, FnDeeds};
 pub use handlebars_helpers::decorators::view::Decorator;
+pub use handlebars_helpers::decorators::{DecoratorResult, DecoratorStep};
+pub use handlebars_helpers::entries::{BoxedEntries, OwnParts};
 pub use handlebars_helpers::escape::EscapeKind;
+pub use handlebars_helpers::escape::def::EscapeFn;
 pub use handlebars_helpers::log_line::log_record;
-pub use handlebars_helpers::own::LocalHelper;
+pub use handlebars_helpers::own::def::HelperDef;
+pub use handlebars_helpers::own::entry::HelperEntry;
+pub use handlebars_helpers::own::function::{FnHelper, FnSteps, HelperFn};
+pub use handlebars_helpers::own::{HelperResult, HelperStep, HelperValue, LocalHelper};
+pub use handlebars_helpers::refusal::FnRefusal;
 pub use handlebars_helpers::view::Helper;
 pub use handlebars_render::context::RenderContext;
 pub use handlebars_render::write::indent_aware_write;
@@ -40,7 +49,7 @@ pub use handlebars_template::template::{
     BlockParam, DecoratorTemplate, ExpressionSpec, HelperTemplate, Parameter, Subexpression,
     Template, TemplateElement, TemplateMapping, TemplateOptions,
 };
-pub use registry::{Registry, Registry as Handlebars};
+pub use registry::{Registry, Registry as Handlebars, RegistryOf};
 pub use render::{Evaluable, Expand, Renderable};
 pub use serde_json::Value as JsonValue;
 pub use sources::{EntryKind, NoFiles, TemplateReader};

@@ -2,35 +2,29 @@
 
 ghost use Rattle.std.specs.Prelude.{◌≡◌, ◌≢◌, IfOk, IfErr, OnErr, OnOk, option_map, string_bytes, None, Some, false, is_some};
 ghost use Rattle.handlebars_base.specs.Bytes.{Text};
-ghost use Rattle.handlebars_base.specs.Answers.{IsRefusal};
-ghost use Rattle.handlebars_base.specs.Reasons.{decorator_not_found, helper_not_found, out_of_memory, template_out_of_memory};
-ghost use Rattle.handlebars_base.specs.RenderRefusals.{plain_refusal, refusal_of, reason_in};
+ghost use Rattle.handlebars_base.specs.Reasons.{out_of_memory, template_out_of_memory};
+ghost use Rattle.handlebars_base.specs.RenderRefusals.{refusal_of, reason_in};
 ghost use Rattle.handlebars_base.specs.TemplateRefusals.{template_refusal_of};
 ghost use Rattle.handlebars_tags.specs.Options.{named_options};
 ghost use Rattle.handlebars_template.specs.Compile.{Compiles, compiled, refused};
 ghost use Rattle.handlebars_template.specs.Tree.{Tree};
 ghost use Rattle.handlebars_template.specs.TreeView.{tree_view};
 ghost use Rattle.handlebars_helpers.specs.Decoration.{built_in_decorator};
-ghost use Rattle.handlebars_helpers.specs.DecoratorsView.{decorator_called, decorator_kind};
-ghost use Rattle.handlebars_helpers.specs.Callee.{built, first_callee};
-ghost use Rattle.handlebars_helpers.specs.EscapeView.{kind_escaping};
+ghost use Rattle.handlebars_helpers.specs.Callee.{first_callee};
 ghost use Rattle.handlebars_helpers.specs.Escaping.{for_html};
-ghost use Rattle.handlebars_helpers.specs.OwnView.{callee_of};
-ghost use Rattle.handlebars_helpers.specs.View.{kind_of_entry};
 ghost use Rattle.handlebars_meaning.specs.Answer.{FromSource, FromName, GivesText, RefusesWith, HasOneAnswer, AnswerHasOrigins};
 ghost use Rattle.handlebars_meaning.specs.State.{first_state};
-ghost use Rattle.handlebars.specs.Store.{stored, Stores, HasDecorator, HasHelper, HasSameHelpers, HasSameParts, HasSameTemplates};
+ghost use Rattle.handlebars.specs.Store.{stored, Stores, HasSameParts, HasSameTemplates, PutsDecorator, PutsEscape, PutsHelper};
 ghost use Rattle.handlebars_render.specs.View.{state_of, root_of, has_failed};
-ghost use Rattle.handlebars.specs.View.{modes_of, parts_of, setting_of, options_of};
+ghost use Rattle.handlebars.specs.View.{modes_of, setting_of, options_of};
 
 use crate::render::Renderable;
 use crate::sources::TemplateReader;
 use handlebars_base::error::{RenderError, RenderErrorReason, TemplateError};
-use handlebars_helpers::built_in::HelperEntry;
-use handlebars_helpers::decorators::{DecoratorEntry, DecoratorKind, built_in_decorators};
-use handlebars_helpers::escape::EscapeKind;
-use handlebars_helpers::helpers::Helpers;
-use handlebars_helpers::own::Callee;
+use handlebars_helpers::decorators::entry::DecoratorEntryOf;
+use handlebars_helpers::entries::{BoxedEntries, Entries, OwnParts};
+use handlebars_helpers::escape::EscapeKindOf;
+use handlebars_helpers::own::entry::HelperEntryOf;
 use handlebars_render::context::RenderContext;
 use handlebars_scope::context::Context;
 use handlebars_template::template::Template;
@@ -38,45 +32,26 @@ use log::Log;
 use std::alloc::{AllocError, Global};
 use std::collections::BTreeMap;
 
-/// What templates are rendered with.
+/// What templates are rendered with: templates by name, what is registered beside them, and the modes.
 #[derive(Drop)]
-pub struct Registry {
+pub struct RegistryOf<E> {
     alloc: Global,
     templates: BTreeMap<String, Template>,
-    helpers: Helpers,
-    decorators: BTreeMap<String, DecoratorEntry>,
-    escape: EscapeKind,
+    pub(crate) entries: E,
     strict_mode: bool,
     recursive_lookup: bool,
 }
 
-impl Registry {
-    /// A registry with the built-in helpers and decorators, and nothing else; values are escaped for
-    /// html, the mode isn't strict, and lookup isn't recursive.
-    pub fn new(alloc: Global) -> Result<Registry, AllocError>
-        ensures templates { IfOk result (λ r. (name : Text) → stored r name ≡ None) }
-        ensures helpers { IfOk result (λ r. (name : Text) → (parts_of r).helper name ≡ first_callee name) }
-        ensures decorators { IfOk result (λ r. (name : Text) → (parts_of r).decorator name ≡ built_in_decorator name) }
-        ensures escape { IfOk result (λ r. (parts_of r).escape ≡ for_html) }
-        ensures strict { IfOk result (λ r. (parts_of r).strict ≡ false) }
-        ensures recursive { IfOk result (λ r. (parts_of r).recursive ≡ false) }
-    {
-        Ok(Registry {
-            alloc,
-            templates: BTreeMap::new(alloc),
-            helpers: Helpers::new(alloc)?,
-            decorators: built_in_decorators(alloc)?,
-            escape: EscapeKind::Html,
-            strict_mode: false,
-            recursive_lookup: false,
-        })
-    }
+/// A registry of helpers, decorators and an escape function, built-in ones or one's own.
+pub type Registry = RegistryOf<BoxedEntries>;
 
+// Templates and modes.
+impl<E: Drop> RegistryOf<E> {
     /// From now on, or no more, a value that is missing is refused where it would be written, and so
     /// are values that some helpers can't do without.
     pub fn set_strict_mode(&mut self, enabled: bool)
         ensures modes { modes_of self.new ≡ record (modes_of self.old) { strict = enabled } }
-        ensures helpers { HasSameHelpers self.old self.new }
+        ensures entries { self.new.entries ≡ self.old.entries }
         ensures kept { HasSameTemplates self.old self.new }
     {
         self.strict_mode = enabled;
@@ -84,7 +59,7 @@ impl Registry {
 
     /// Whether the mode is strict.
     pub fn strict_mode(&self) -> bool
-        ensures { result ≡ (parts_of self.now).strict }
+        ensures { result ≡ (modes_of self.now).strict }
     {
         self.strict_mode
     }
@@ -93,7 +68,7 @@ impl Registry {
     /// the data, is sought under the fronts of that path, the longest first.
     pub fn set_recursive_lookup(&mut self, enabled: bool)
         ensures modes { modes_of self.new ≡ record (modes_of self.old) { recursive = enabled } }
-        ensures helpers { HasSameHelpers self.old self.new }
+        ensures entries { self.new.entries ≡ self.old.entries }
         ensures kept { HasSameTemplates self.old self.new }
     {
         self.recursive_lookup = enabled;
@@ -101,112 +76,9 @@ impl Registry {
 
     /// Whether lookup is recursive.
     pub fn recursive_lookup(&self) -> bool
-        ensures { result ≡ (parts_of self.now).recursive }
+        ensures { result ≡ (modes_of self.now).recursive }
     {
         self.recursive_lookup
-    }
-
-    /// Registers a helper under a name, in place of one that stood there. A helper named
-    /// `helperMissing` is called by expressions, and one named `blockHelperMissing` by blocks, whose
-    /// name has no helper.
-    pub fn register_helper(&mut self, name: &str, def: HelperEntry) -> Result<(), AllocError>
-        ensures ok { OnOk result (HasHelper self.old self.new name.now (Some (built (kind_of_entry def)))) }
-        ensures err { OnErr result (HasSameParts self.old self.new) }
-        ensures kept { HasSameTemplates self.old self.new }
-    {
-        let name = String::from_str(self.alloc, name)?;
-        self.helpers.insert(name, def)
-    }
-
-    /// Takes the helper under a name away, where one stands there.
-    pub fn unregister_helper(&mut self, name: &str)
-        ensures helper { HasHelper self.old self.new name.now None }
-        ensures kept { HasSameTemplates self.old self.new }
-    {
-        self.helpers.remove(name);
-    }
-
-    /// Registers a decorator under a name, in place of one that stood there.
-    pub fn register_decorator(&mut self, name: &str, def: DecoratorEntry) -> Result<(), AllocError>
-        ensures ok { OnOk result (HasDecorator self.old self.new name.now (decorator_kind name.now def)) }
-        ensures err { OnErr result (HasSameParts self.old self.new) }
-        ensures kept { HasSameTemplates self.old self.new }
-    {
-        let name = String::from_str(self.alloc, name)?;
-        self.decorators.insert(name, def)?;
-        Ok(())
-    }
-
-    // The decorator under a name, if there is one.
-    pub(crate) fn decorator(&self, name: &str) -> Option<DecoratorKind>
-        ensures { option_map (decorator_called name.now) result ≡ (parts_of self.now).decorator name.now }
-    {
-        match self.decorators.get(name) {
-            Some(DecoratorEntry::Inline) => Some(DecoratorKind::Inline),
-            None => None,
-        }
-    }
-
-    // The refusal of a name that no decorator has.
-    pub(crate) fn no_decorator(&self, name: &str) -> RenderError
-        ensures { IsRefusal (plain_refusal (decorator_not_found name.now)) result }
-    {
-        match String::from_str(self.alloc, name) {
-            Ok(name) => RenderErrorReason::DecoratorNotFound(name).into(),
-            Err(AllocError) => RenderErrorReason::OutOfMemory.into(),
-        }
-    }
-
-    /// From now on the text of a value is escaped so before it is written.
-    pub fn register_escape_fn(&mut self, escape_fn: EscapeKind)
-        ensures modes { modes_of self.new ≡ record (modes_of self.old) { escape = kind_escaping escape_fn } }
-        ensures helpers { HasSameHelpers self.old self.new }
-        ensures kept { HasSameTemplates self.old self.new }
-    {
-        self.escape = escape_fn;
-    }
-
-    /// From now on values are escaped for html, as they are in a new registry.
-    pub fn unregister_escape_fn(&mut self)
-        ensures modes { modes_of self.new ≡ record (modes_of self.old) { escape = for_html } }
-        ensures helpers { HasSameHelpers self.old self.new }
-        ensures kept { HasSameTemplates self.old self.new }
-    {
-        self.escape = EscapeKind::Html;
-    }
-
-    /// How values are escaped.
-    pub fn get_escape_fn(&self) -> &EscapeKind
-        ensures { kind_escaping result.now ≡ (parts_of self.now).escape }
-    {
-        &self.escape
-    }
-
-    // The helper under a name, if there is one.
-    pub(crate) fn helper(&self, name: &str) -> Option<Callee>
-        ensures { option_map (callee_of name.now) result ≡ (parts_of self.now).helper name.now }
-    {
-        match self.helpers.get(name) {
-            Some(kind) => Some(Callee::Built(kind)),
-            None => None,
-        }
-    }
-
-    // A text that no escape function of one's own is asked for, as it is.
-    pub(crate) fn unescaped(&self, text: &str) -> Result<String, AllocError>
-        ensures { IfOk result (λ copy. string_bytes copy ≡ text.now) }
-    {
-        String::from_str(self.alloc, text)
-    }
-
-    // The refusal of a name that no helper has.
-    pub(crate) fn no_helper(&self, name: &str) -> RenderError
-        ensures { IsRefusal (plain_refusal (helper_not_found name.now)) result }
-    {
-        match String::from_str(self.alloc, name) {
-            Ok(name) => RenderErrorReason::HelperNotFound(name).into(),
-            Err(AllocError) => RenderErrorReason::OutOfMemory.into(),
-        }
     }
 
     /// Compiles a source and registers its tree under the name, in place of one that stood there.
@@ -221,7 +93,8 @@ impl Registry {
         ensures err { IfErr result (λ e. (template_refusal_of e).reason ≢ template_out_of_memory
             → Compiles source.now (named_options name.now) (refused (template_refusal_of e))) }
         ensures kept { OnErr result (HasSameTemplates self.old self.new) }
-        ensures parts { HasSameParts self.old self.new }
+        ensures entries { self.new.entries ≡ self.old.entries }
+        ensures modes { modes_of self.new ≡ modes_of self.old }
     {
         let key = String::from_str(self.alloc, name)?;
         let template = Template::compile_with_name(
@@ -248,6 +121,88 @@ impl Registry {
     {
         self.templates.get(name)
     }
+}
+
+// What is registered by name.
+impl<B: Drop, D: Drop, X: Drop> RegistryOf<Entries<B, D, X>> {
+    /// Registers a helper under a name, in place of one that stood there. A helper named
+    /// `helperMissing` is called by expressions, and one named `blockHelperMissing` by blocks, whose
+    /// name has no helper.
+    pub fn register_helper(&mut self, name: &str, def: HelperEntryOf<B>) -> Result<(), AllocError>
+        ensures ok { OnOk result (PutsHelper self.old self.new name.now (Some def)) }
+        ensures err { OnErr result (HasSameParts self.old self.new) }
+        ensures kept { HasSameTemplates self.old self.new }
+    {
+        let name = String::from_str(self.alloc, name)?;
+        self.entries.helpers.insert(name, def)
+    }
+
+    /// Takes the helper under a name away, where one stands there.
+    pub fn unregister_helper(&mut self, name: &str)
+        ensures helper { PutsHelper self.old self.new name.now None }
+        ensures kept { HasSameTemplates self.old self.new }
+    {
+        self.entries.helpers.remove(name);
+    }
+
+    /// Registers a decorator under a name, in place of one that stood there.
+    pub fn register_decorator(
+        &mut self,
+        name: &str,
+        def: DecoratorEntryOf<D>,
+    ) -> Result<(), AllocError>
+        ensures ok { OnOk result (PutsDecorator self.old self.new name.now (Some def)) }
+        ensures err { OnErr result (HasSameParts self.old self.new) }
+        ensures kept { HasSameTemplates self.old self.new }
+    {
+        let name = String::from_str(self.alloc, name)?;
+        self.entries.decorators.insert(name, def)
+    }
+
+    /// From now on the text of a value is escaped so before it is written.
+    pub fn register_escape_fn(&mut self, escape_fn: EscapeKindOf<X>)
+        ensures escape { PutsEscape self.old self.new escape_fn }
+        ensures kept { HasSameTemplates self.old self.new }
+    {
+        self.entries.escape = escape_fn;
+    }
+
+    /// From now on values are escaped for html, as they are in a new registry.
+    pub fn unregister_escape_fn(&mut self)
+        ensures escape { PutsEscape self.old self.new (EscapeKindOf.Html) }
+        ensures kept { HasSameTemplates self.old self.new }
+    {
+        self.entries.escape = EscapeKindOf::Html;
+    }
+
+    /// How values are escaped.
+    pub fn get_escape_fn(&self) -> &EscapeKindOf<X>
+        ensures { result.now ≡ self.now.entries.escape }
+    {
+        &self.entries.escape
+    }
+}
+
+// The calls that render.
+impl<E: OwnParts> RegistryOf<E> {
+    /// A registry with the built-in helpers and decorators, and nothing else; values are escaped for
+    /// html, the mode isn't strict, and lookup isn't recursive.
+    pub fn new(alloc: Global) -> Result<RegistryOf<E>, AllocError>
+        ensures templates { IfOk result (λ r. (name : Text) → stored r name ≡ None) }
+        ensures helpers { IfOk result (λ r. (name : Text) → (E.registered r.entries).helper name ≡ first_callee name) }
+        ensures decorators { IfOk result (λ r. (name : Text) → (E.registered r.entries).decorator name ≡ built_in_decorator name) }
+        ensures escape { IfOk result (λ r. (E.registered r.entries).escape ≡ for_html) }
+        ensures strict { IfOk result (λ r. (modes_of r).strict ≡ false) }
+        ensures recursive { IfOk result (λ r. (modes_of r).recursive ≡ false) }
+    {
+        Ok(RegistryOf {
+            alloc,
+            templates: BTreeMap::new(alloc),
+            entries: E::first(alloc)?,
+            strict_mode: false,
+            recursive_lookup: false,
+        })
+    }
 
     /// Renders the template under the name over a context; `TemplateNotFound` where none stands
     /// there. The logger is given the lines of `log`; the reader isn't asked.
@@ -259,13 +214,14 @@ impl Registry {
         _files: &mut R,
     ) -> Result<String, RenderError>
         ensures ok { IfOk result (λ text.
-            GivesText (setting_of self.now ctx.now) (FromName (stored self.now) name.now) (string_bytes text)) }
+            GivesText (setting_of E.registered E.own self.now ctx.now) (FromName (stored self.now) name.now) (string_bytes text)) }
         ensures err { IfErr result (λ e. reason_in e ≢ out_of_memory
-            → RefusesWith (setting_of self.now ctx.now) (FromName (stored self.now) name.now) (refusal_of e)) }
-        ensures one { HasOneAnswer (setting_of self.now ctx.now) (FromName (stored self.now) name.now) }
-        ensures origins { AnswerHasOrigins (setting_of self.now ctx.now) (FromName (stored self.now) name.now) }
+            → RefusesWith (setting_of E.registered E.own self.now ctx.now) (FromName (stored self.now) name.now) (refusal_of e)) }
+        ensures one { HasOneAnswer (setting_of E.registered E.own self.now ctx.now) (FromName (stored self.now) name.now) }
+        ensures origins { AnswerHasOrigins (setting_of E.registered E.own self.now ctx.now) (FromName (stored self.now) name.now) }
         ensures unread { _files.new ≡ _files.old }
     {
+        self.entries.keeps_law();
         let Some(template) = self.get_template(name) else {
             let name = String::from_str(self.alloc, name)?;
             return Err(RenderErrorReason::TemplateNotFound(name).into());
@@ -285,17 +241,18 @@ impl Registry {
     ) -> Result<String, RenderError>
         // The text is the join of the pieces of the one answer that the language's definition gives.
         ensures ok { IfOk result (λ text.
-            GivesText (setting_of self.now ctx.now) (FromSource (options_of self.now) source.now) (string_bytes text)) }
+            GivesText (setting_of E.registered E.own self.now ctx.now) (FromSource (options_of self.now) source.now) (string_bytes text)) }
 
         // A refusal, but for want of memory, is the definition's: its reason, its position and its name.
         ensures err { IfErr result (λ e. reason_in e ≢ out_of_memory
-            → RefusesWith (setting_of self.now ctx.now) (FromSource (options_of self.now) source.now) (refusal_of e)) }
+            → RefusesWith (setting_of E.registered E.own self.now ctx.now) (FromSource (options_of self.now) source.now) (refusal_of e)) }
 
         // There is at most one such answer, and each of its pieces comes from the source's tree and the data.
-        ensures one { HasOneAnswer (setting_of self.now ctx.now) (FromSource (options_of self.now) source.now) }
-        ensures origins { AnswerHasOrigins (setting_of self.now ctx.now) (FromSource (options_of self.now) source.now) }
+        ensures one { HasOneAnswer (setting_of E.registered E.own self.now ctx.now) (FromSource (options_of self.now) source.now) }
+        ensures origins { AnswerHasOrigins (setting_of E.registered E.own self.now ctx.now) (FromSource (options_of self.now) source.now) }
         ensures unread { _files.new ≡ _files.old }
     {
+        self.entries.keeps_law();
         let template = Template::compile(self.alloc, source)?;
         let mut rc = self.first_context(None)?;
         template.renders(self.alloc, self, ctx, &mut rc, log)
@@ -303,7 +260,7 @@ impl Registry {
 
     // The first state of a run with this registry, which the template of that name begins, if it has one.
     fn first_context(&self, root_template: Option<&String>) -> Result<RenderContext, AllocError>
-        ensures state { IfOk result (λ rc. state_of rc ≡ first_state (parts_of self.now).recursive) }
+        ensures state { IfOk result (λ rc. state_of rc ≡ first_state (modes_of self.now).recursive) }
         ensures root { IfOk result (λ rc. root_of rc ≡ option_map (λ name. string_bytes name.now) root_template.entry) }
         ensures ready { IfOk result (λ rc. has_failed rc ≡ false) }
     {

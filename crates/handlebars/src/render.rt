@@ -14,12 +14,13 @@ mod evaluable;
 mod expand;
 mod logging;
 
-use crate::registry::Registry;
+use crate::registry::RegistryOf;
 use crate::render::logging::Logging;
 pub use evaluable::Evaluable;
 pub use expand::Expand;
 use handlebars_base::error::RenderError;
 use handlebars_base::output::{Output, StringOutput};
+use handlebars_helpers::entries::OwnParts;
 use handlebars_render::context::RenderContext;
 use handlebars_render::element::render_element;
 use handlebars_render::failure::{fail_after, ready};
@@ -38,16 +39,16 @@ pub trait Renderable {
     /// Renders over the data into an output. After a refusal the render context has failed: it
     /// answers `Failed` from then on, and nothing more is written. Nothing is said of its line and of
     /// its current template then.
-    fn render<L: Log, O: Output>(
+    fn render<E: OwnParts, L: Log, O: Output>(
         &self,
         alloc: Global,
-        registry: &Registry,
+        registry: &RegistryOf<E>,
         data: &Context,
         rc: &mut RenderContext,
         out: &mut O,
         log: &L,
     ) -> Result<(), RenderError>
-        ensures renders { (kept : Kept) → has_failed rc.old ≡ false → CarriesOut (setting_of registry.now «data».now) (steps self.now)
+        ensures renders { (kept : Kept) → has_failed rc.old ≡ false → CarriesOut (setting_of E.registered E.own registry.now «data».now) (steps self.now)
             O.may_give (moment kept rc.old (O.held out.old)) result (moment kept rc.new (O.held out.new)) }
         ensures failed { has_failed rc.old ≡ true → IsErrAnd result (λ e. refusal_of e ≡ plain_refusal failed)
             × (rc.new ≡ rc.old) × (O.held out.new ≡ O.held out.old) }
@@ -59,19 +60,19 @@ pub trait Renderable {
         ensures err { OnErr result (has_failed rc.new ≡ true) };
 
     /// Renders over the data into a text.
-    fn renders<L: Log>(
+    fn renders<E: OwnParts, L: Log>(
         &self,
         alloc: Global,
-        registry: &Registry,
+        registry: &RegistryOf<E>,
         data: &Context,
         rc: &mut RenderContext,
         log: &L,
     ) -> Result<String, RenderError>
         ensures ok { IfOk result (λ text. (has_failed rc.old ≡ false)
-            × ((kept : Kept) → GivesString (setting_of registry.now «data».now) (steps self.now)
+            × ((kept : Kept) → GivesString (setting_of E.registered E.own registry.now «data».now) (steps self.now)
             (state_with kept rc.old) (state_with kept rc.new) (string_bytes text))) }
         ensures err { IfErr result (λ e. has_failed rc.old ≡ false → reason_in e ≢ out_of_memory → (kept : Kept)
-            → RefusesString (setting_of registry.now «data».now) (steps self.now) (state_with kept rc.old)
+            → RefusesString (setting_of E.registered E.own registry.now «data».now) (steps self.now) (state_with kept rc.old)
             (refusal_of e)) }
         ensures failed { has_failed rc.old ≡ true
             → IsErrAnd result (λ e. refusal_of e ≡ plain_refusal failed) × (rc.new ≡ rc.old) }
@@ -93,10 +94,10 @@ pub trait Renderable {
 impl Renderable for Template {
     ghost steps = { λ t. render_tree (tree_view t) };
 
-    fn render<L: Log, O: Output>(
+    fn render<E: OwnParts, L: Log, O: Output>(
         &self,
         alloc: Global,
-        registry: &Registry,
+        registry: &RegistryOf<E>,
         data: &Context,
         rc: &mut RenderContext,
         out: &mut O,
@@ -120,10 +121,10 @@ impl Renderable for Template {
 impl Renderable for TemplateElement {
     ghost steps = { λ e. render_alone (element_view e) };
 
-    fn render<L: Log, O: Output>(
+    fn render<E: OwnParts, L: Log, O: Output>(
         &self,
         alloc: Global,
-        registry: &Registry,
+        registry: &RegistryOf<E>,
         data: &Context,
         rc: &mut RenderContext,
         out: &mut O,

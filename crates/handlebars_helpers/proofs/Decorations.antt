@@ -1,9 +1,9 @@
--- The table of decorators, and what `inline` does.
+-- What `inline` does.
 use Rattle.std.proofs.Common.{◌≡◌, cond, [], ◌∷◌, Some, None, option_map, String, Global, codes, string_bytes, bytes_eq, nat_cmp, refl, ap, ◌∙◌}
 use Rattle.std.proofs.lemmas.Cmp.{nat_list_eq_equiv}
 use Rattle.std.proofs.lemmas.Map.Made.{IsDistinct-from_count, update_all_none}
 use Rattle.std.proofs.lemmas.Map.Text.{btree_map_updates_text}
-use Rattle.std.specs.BTreeMap.{BTreeMap, UpdatesBy, is_at}
+use Rattle.std.specs.BTreeMap.{BTreeMap, UpdatesBy, get_by_text, is_at}
 use Rattle.std.specs.Cmp.Lexicographic.{slice_cmp}
 use Rattle.std.specs.Map.{keys_of, lookup}
 use Rattle.std.specs.String.{string_cmp}
@@ -18,27 +18,7 @@ use Rattle.handlebars_base.specs.Scoped.{data_in}
 use Rattle.handlebars_base.proofs.OptionBinds.{option_map-cond}
 use Rattle.handlebars_template.specs.Tree.{Tree, Body, no_body, body}
 use Rattle.handlebars_helpers.specs.CallView.{param_at}
-use Rattle.handlebars_helpers.specs.Decoration.{kind_inline, DecoratorView, sets_partial, built_in_decorators, built_in_decorator, by_text, by_body, inline_deeds}
-use Rattle.handlebars_helpers.specs.DecoratorsView.{decorator_at, decorator_kind}
-use Rattle.handlebars_helpers.specs.declared.decorators.DecoratorEntry.{DecoratorEntry}
-
--- ---- the table
-
--- `inline`, inserted into the empty map
-pub decorator_at-first : (m n : BTreeMap (String Global) DecoratorEntry) (key : String Global) (entry : DecoratorEntry)
-    → m.entries ≡ [] → UpdatesBy string_cmp (string_cmp key) m n (Some entry) → string_bytes key ≡ codes "inline"
-    → ((n : Text) → decorator_kind n entry ≡ kind_inline) → (name : Text) → decorator_at name n ≡ built_in_decorator name
-decorator_at-first m n key entry empty updates is_name is_kind name =
-    ap (option_map (decorator_kind name)) (btree_map_updates_text (string_bytes key) m n (Some entry) updates name)
-    ∙ ap (λ es. option_map (decorator_kind name) (cond (bytes_eq (string_bytes key) name) (Some entry)
-    (lookup (is_at (λ k. slice_cmp nat_cmp name (string_bytes k))) es))) empty
-    ∙ option_map-cond (decorator_kind name) (bytes_eq (string_bytes key) name) entry None
-    ∙ ap (λ z. cond (bytes_eq z name) (Some (decorator_kind name entry)) None) is_name
-    ∙ ap (λ z. cond (bytes_eq (codes "inline") name) (Some z) None) (is_kind name)
-    ∙ update_all_none nat_list_eq_equiv bytes_eq (λ x y. refl) built_in_decorators name
-    (IsDistinct-from_count nat_list_eq_equiv (keys_of built_in_decorators) refl)
-
--- ---- `inline`
+use Rattle.handlebars_helpers.specs.Decoration.{DecoratorKind, kind_inline, DecoratorView, sets_partial, built_in_decorators, built_in_decorator, by_text, by_body, inline_deeds}
 
 text_in : Answer Text → Text
 text_in (gives t) = t

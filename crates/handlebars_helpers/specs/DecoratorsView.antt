@@ -1,8 +1,7 @@
 -- What the code's values of decorators stand for.
-use Rattle.std.specs.Prelude.{Bool, List, map, Option, option_map, String, string_bytes, Vec}
+use Rattle.std.specs.Prelude.{Bool, List, map, Option, option_map, string_bytes, Vec}
 use Rattle.std.specs.Borrow.{Bor}
 use Rattle.std.specs.declared.alloc.Global.{Global}
-use Rattle.std.specs.BTreeMap.{BTreeMap, get_by_text}
 use Rattle.std.specs.Cow.{cow_str_bytes}
 use Rattle.handlebars_base.specs.Bytes.{Text}
 use Rattle.handlebars_base.specs.PathAndData.{path_and_data}
@@ -16,8 +15,6 @@ use Rattle.handlebars_helpers.specs.declared.decorators.DecoratorKind as declare
 use Rattle.handlebars_helpers.specs.declared.decorators.DecoratorKind.TheVariants as kind
 use Rattle.handlebars_helpers.specs.declared.decorators.DecoratorStep.{DecoratorStep}
 use Rattle.handlebars_helpers.specs.declared.decorators.DecoratorStep.TheVariants.{SetContext, BindHelper, UnbindHelper, SetLocalPartial}
-use Rattle.handlebars_helpers.specs.declared.decorators.DecoratorEntry.{DecoratorEntry}
-use Rattle.handlebars_helpers.specs.declared.decorators.DecoratorEntry.TheVariants.{Inline}
 use Rattle.handlebars_helpers.specs.declared.decorators.view.Decorator.{Decorator}
 
 -- what a decorator's tag shows
@@ -35,14 +32,6 @@ tag_view d = record {
 abbrev pub decorator_called : Text → declared.DecoratorKind → DecoratorKind
 decorator_called name kind.Inline = kind_inline
 decorator_called name kind.Own = kind_own name
-
--- what an entry under a name is
-abbrev pub decorator_kind : Text → DecoratorEntry → DecoratorKind
-decorator_kind name Inline = kind_inline
-
--- the decorator under a name, if one stands there
-abbrev pub decorator_at : Text → BTreeMap (String Global) DecoratorEntry → Option DecoratorKind
-decorator_at name decorators = option_map (decorator_kind name) (get_by_text decorators name)
 
 abbrev pub deed_of : DecoratorStep → Deed
 deed_of (SetContext c) = sets_data (data_of c)

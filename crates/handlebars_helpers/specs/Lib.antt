@@ -11,10 +11,14 @@ pub mod View
 pub mod Escaping
 pub mod EscapeView
 pub mod Marks
-pub mod HelpersView
 pub mod OwnView
+pub mod FnRefusals
+pub mod Functions
+pub mod ByNameView
+pub mod EntryView
 pub mod Decoration
 pub mod OwnDecorator
 pub mod DecoratorsView
-pub mod FnRefusals
-pub mod Functions
+pub mod DecoratorEntryView
+pub mod OwnAnswers
+pub mod EntriesView

@@ -2,7 +2,6 @@
 use Rattle.std.specs.Prelude.{Bool, List, map, Option, option_map, unwrap_or, String, string_bytes, Vec}
 use denote.Ref.{Bor}
 use Rattle.std.specs.declared.alloc.Global.{Global}
-use Rattle.std.specs.BTreeMap.{BTreeMap, get_by_text}
 use Rattle.std.specs.Cow.{cow_str_bytes}
 use Rattle.serde_json.specs.Data.{Data, null, number, unsigned, array, object}
 use Rattle.serde_json.specs.View.{view, items_view, members_view}
@@ -24,8 +23,6 @@ use Rattle.handlebars_helpers.specs.declared.built_in.BuiltIn.{BuiltIn}
 use Rattle.handlebars_helpers.specs.declared.built_in.BuiltIn.TheVariants.{If, Unless, Each, With, Lookup, Raw, Log, Eq, Ne, Gt, Gte, Lt, Lte, And, Or, Not, Len}
 use Rattle.handlebars_helpers.specs.declared.choice.Choice.{Choice}
 use Rattle.handlebars_helpers.specs.declared.choice.Choice.TheVariants as choice
-use Rattle.handlebars_helpers.specs.declared.built_in.HelperEntry.{HelperEntry}
-use Rattle.handlebars_helpers.specs.declared.built_in.HelperEntry.TheVariants.{Built}
 use Rattle.handlebars_helpers.specs.declared.turn.Base as declared
 use Rattle.handlebars_helpers.specs.declared.turn.Base.TheVariants as base
 use Rattle.handlebars_helpers.specs.declared.turn.Turn as declared_turn
@@ -72,14 +69,6 @@ test_of test.Greater = greater
 test_of test.GreaterOrEqual = greater_or_equal
 test_of test.Less = less
 test_of test.LessOrEqual = less_or_equal
-
--- the kind of what stands under a name
-abbrev pub kind_of_entry : HelperEntry → Kind
-kind_of_entry (Built b) = kind_of b
-
--- the kind of the helper under a name, if one stands there
-abbrev pub kind_at : Text → BTreeMap (String Global) HelperEntry → Option Kind
-kind_at name helpers = option_map kind_of_entry (get_by_text helpers name)
 
 -- what a block stands at
 abbrev pub base_view : declared.Base → Base

@@ -1,13 +1,8 @@
 //! The built-in helpers, and their names.
 
-ghost use Rattle.std.specs.Prelude.{◌≡◌, IfOk, OnOk, Some, bytes_eq, map};
-ghost use Rattle.std.specs.Map.{update};
-ghost use Rattle.handlebars_base.specs.Bytes.{Text};
-ghost use Rattle.handlebars_helpers.specs.Choice.{built_in, built_ins};
-ghost use Rattle.handlebars_helpers.specs.View.{kind_at, kind_of};
-
-use std::alloc::{AllocError, Global};
-use std::collections::BTreeMap;
+ghost use Rattle.std.specs.Prelude.{◌≡◌, map};
+ghost use Rattle.handlebars_helpers.specs.Choice.{built_ins};
+ghost use Rattle.handlebars_helpers.specs.View.{kind_of};
 
 /// A helper that every registry begins with.
 #[derive(Clone, Copy, Debug, PartialEq, Eq)]
@@ -48,24 +43,8 @@ pub enum BuiltIn {
     Len,
 }
 
-/// What stands under a helper's name.
-#[derive(Debug, Drop)]
-pub enum HelperEntry {
-    Built(BuiltIn),
-}
-
-/// The built-in helpers under their names.
-pub fn built_ins(alloc: Global) -> Result<BTreeMap<String, HelperEntry>, AllocError>
-    ensures { IfOk result (λ helpers. (name : Text) → kind_at name helpers ≡ built_in name) }
-{
-    let mut helpers = BTreeMap::new(alloc);
-    'all: for (name, kind) in &table() {
-        put(alloc, &mut helpers, *name, *kind)?;
-    }
-    Ok(helpers)
-}
-
-fn table() -> [(&'static str, BuiltIn); 17]
+/// The built-in helpers and their names.
+pub fn table() -> [(&'static str, BuiltIn); 17]
     ensures { map (λ row. (row.0.now, kind_of row.1)) result ≡ built_ins }
 {
     [
@@ -87,18 +66,4 @@ fn table() -> [(&'static str, BuiltIn); 17]
         ("not", BuiltIn::Not),
         ("len", BuiltIn::Len),
     ]
-}
-
-// Puts a helper under a name, in place of one that stood there.
-fn put(
-    alloc: Global,
-    helpers: &mut BTreeMap<String, HelperEntry>,
-    name: &str,
-    kind: BuiltIn,
-) -> Result<(), AllocError>
-    ensures { OnOk result ((other : Text) → kind_at other helpers.new
-        ≡ update bytes_eq (λ n. kind_at n helpers.old) name.now (Some (kind_of kind)) other) }
-{
-    helpers.insert(String::from_str(alloc, name)?, HelperEntry::Built(kind))?;
-    Ok(())
 }

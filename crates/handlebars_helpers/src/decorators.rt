@@ -1,14 +1,14 @@
 //! Decorators, which change how the rest is rendered and write nothing themselves.
 
-ghost use Rattle.std.specs.Prelude.{◌≡◌, ◌∷◌, [], IfOk};
+ghost use Rattle.std.specs.Prelude.{◌∷◌, []};
 ghost use Rattle.serde_json.specs.View.{view};
 ghost use Rattle.handlebars_base.specs.Answers.{Answers, gives};
-ghost use Rattle.handlebars_base.specs.Bytes.{Text};
 ghost use Rattle.handlebars_template.specs.TreeView.{tree_view};
-ghost use Rattle.handlebars_helpers.specs.Decoration.{built_in_decorator, by_body, by_text, inline_deeds, sets_partial};
-ghost use Rattle.handlebars_helpers.specs.DecoratorsView.{decorator_at, tag_view};
+ghost use Rattle.handlebars_helpers.specs.Decoration.{by_body, by_text, inline_deeds, sets_partial};
+ghost use Rattle.handlebars_helpers.specs.DecoratorsView.{tag_view};
 
 pub mod def;
+pub mod entry;
 pub mod function;
 pub mod view;
 
@@ -17,25 +17,7 @@ use handlebars_base::error::{RenderError, RenderErrorReason};
 use handlebars_base::json::value::Json;
 use handlebars_scope::context::Context;
 use handlebars_template::template::Template;
-use std::alloc::{AllocError, Global};
-use std::collections::BTreeMap;
 use view::Decorator;
-
-/// What stands under a decorator's name.
-#[derive(Debug, Drop)]
-pub enum DecoratorEntry {
-    /// Makes its body a partial of the nearest block of scope, under the name that its first parameter says.
-    Inline,
-}
-
-/// The built-in decorators under their names.
-pub fn built_in_decorators(alloc: Global) -> Result<BTreeMap<String, DecoratorEntry>, AllocError>
-    ensures { IfOk result (λ decorators. (name : Text) → decorator_at name decorators ≡ built_in_decorator name) }
-{
-    let mut decorators = BTreeMap::new(alloc);
-    decorators.insert(String::from_str(alloc, "inline")?, DecoratorEntry::Inline)?;
-    Ok(decorators)
-}
 
 /// What stands under a name of decorators.
 #[derive(Clone, Copy, Debug, PartialEq, Eq)]

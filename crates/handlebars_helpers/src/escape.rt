@@ -1,18 +1,30 @@
 //! How values are escaped.
 
-ghost use Rattle.std.specs.Prelude.{◌≡◌};
+ghost use Rattle.std.specs.Prelude.{◌≡◌, string_bytes};
+ghost use Rattle.handlebars_base.specs.Answers.{Answer};
+ghost use Rattle.handlebars_base.specs.Bytes.{Text};
 ghost use Rattle.handlebars_helpers.specs.EscapeView.{escaping_of, kind_escaping};
+ghost use Rattle.handlebars_helpers.specs.Own.{HasOne};
+ghost use Rattle.handlebars_helpers.specs.OwnView.{IsOneOf};
 
 pub mod def;
 
-/// How the text of a value is escaped before it is written.
-#[derive(Debug, Drop)]
-pub enum EscapeKind {
+use crate::escape::def::EscapeFn;
+use handlebars_base::error::RenderError;
+
+/// How the text of a value is escaped before it is written, where escape functions of one's own are kept as `X`.
+#[derive(Drop)]
+pub enum EscapeKindOf<X> {
     /// By the entities of html, as `escape_html` does.
     Html,
     /// Not at all.
     Plain,
+    /// By an escape function of one's own.
+    Own(X),
 }
+
+/// How the text of a value is escaped before it is written.
+pub type EscapeKind = EscapeKindOf<Box<dyn EscapeFn>>;
 
 /// How texts are escaped: for html, not at all, or by an escape function of one's own, which is to be asked.
 #[derive(Clone, Copy, Debug, PartialEq, Eq)]
@@ -22,14 +34,38 @@ pub enum Escaping {
     Own,
 }
 
-impl EscapeKind {
+impl<X> EscapeKindOf<X> {
     /// Which of them it is.
     pub fn escaping(&self) -> Escaping
         ensures { escaping_of result ≡ kind_escaping self.now }
     {
         match self {
-            EscapeKind::Html => Escaping::Html,
-            EscapeKind::Plain => Escaping::Plain,
+            EscapeKindOf::Html => Escaping::Html,
+            EscapeKindOf::Plain => Escaping::Plain,
+            EscapeKindOf::Own(_) => Escaping::Own,
         }
     }
+}
+
+/// An escape function of one's own, as it is kept and asked.
+pub trait EscapePart: Drop {
+    ghost has_escaped: { Self → Text → Answer Text → Type 0 };
+
+    /// What is written in the place of a text.
+    fn escaped(&self, text: &str) -> Result<String, RenderError>
+        ensures { IsOneOf (has_escaped self.now text.now) string_bytes result };
+
+    /// No escape function that is kept so has two answers for one text.
+    fn keeps_law(_kind: &EscapeKindOf<Self>)
+        ensures { (e : Self) (t : Text) → HasOne (has_escaped e t) };
+}
+
+impl EscapePart for Box<dyn EscapeFn> {
+    ghost has_escaped = { λ b. (EscapeFn-box b).has_escaped b.value };
+
+    fn escaped(&self, text: &str) -> Result<String, RenderError> {
+        self.escape(text)
+    }
+
+    fn keeps_law(_kind: &EscapeKindOf<Box<dyn EscapeFn>>) {}
 }

@@ -4,11 +4,13 @@
 
 mod boolean;
 pub mod built_in;
+pub mod by_name;
 pub mod choice;
 pub mod decorators;
 pub mod each_turns;
+pub mod entries;
 pub mod escape;
-pub mod helpers;
+mod first;
 pub mod log_line;
 pub mod own;
 mod params;

@@ -1,6 +1,7 @@
 //! What stands under the names of helpers, and what helpers of one's own answer.
 
 pub mod def;
+pub mod entry;
 pub mod function;
 
 use crate::built_in::BuiltIn;

@@ -12,9 +12,10 @@ ghost use Rattle.handlebars_render.specs.Silent.{Evals};
 ghost use Rattle.handlebars_render.specs.View.{state_of, state_with, root_of, has_failed, without_partials};
 ghost use Rattle.handlebars.specs.View.{setting_of};
 
-use crate::registry::Registry;
+use crate::registry::RegistryOf;
 use crate::render::logging::Logging;
 use handlebars_base::error::RenderError;
+use handlebars_helpers::entries::OwnParts;
 use handlebars_render::context::RenderContext;
 use handlebars_render::evaluate::{eval_element, eval_tree};
 use handlebars_render::failure::{fail_after, ready};
@@ -33,15 +34,15 @@ pub trait Evaluable {
 
     /// Carries out the decorators, in order, and writes nothing. After a refusal the render context has failed:
     /// it answers `Failed` from then on. The name of a template, or none, takes the place of the one in its error.
-    fn eval<L: Log>(
+    fn eval<E: OwnParts, L: Log>(
         &self,
         alloc: Global,
-        registry: &Registry,
+        registry: &RegistryOf<E>,
         data: &Context,
         rc: &mut RenderContext,
         log: &L,
     ) -> Result<(), RenderError>
-        ensures evals { (kept : Kept) → has_failed rc.old ≡ false → Evals (setting_of registry.now «data».now) (steps self.now)
+        ensures evals { (kept : Kept) → has_failed rc.old ≡ false → Evals (setting_of E.registered E.own registry.now «data».now) (steps self.now)
             (seen self.now) (state_with kept rc.old) result (state_with kept rc.new) }
         ensures failed { has_failed rc.old ≡ true
             → IsErrAnd result (λ e. refusal_of e ≡ plain_refusal failed) × (rc.new ≡ rc.old) }
@@ -58,10 +59,10 @@ impl Evaluable for Template {
 
     ghost seen = { λ t. renamed (tree_name (tree_view t)) };
 
-    fn eval<L: Log>(
+    fn eval<E: OwnParts, L: Log>(
         &self,
         alloc: Global,
-        registry: &Registry,
+        registry: &RegistryOf<E>,
         data: &Context,
         rc: &mut RenderContext,
         log: &L,
@@ -86,10 +87,10 @@ impl Evaluable for TemplateElement {
 
     ghost seen = { λ e r. r };
 
-    fn eval<L: Log>(
+    fn eval<E: OwnParts, L: Log>(
         &self,
         alloc: Global,
-        registry: &Registry,
+        registry: &RegistryOf<E>,
         data: &Context,
         rc: &mut RenderContext,
         log: &L,

@@ -12,10 +12,11 @@ ghost use Rattle.handlebars_meaning.specs.State.{Kept};
 ghost use Rattle.handlebars_render.specs.View.{state_of, state_with, root_of, has_failed, Yields};
 ghost use Rattle.handlebars.specs.View.{setting_of};
 
-use crate::registry::Registry;
+use crate::registry::RegistryOf;
 use crate::render::logging::Logging;
 use handlebars_base::error::RenderError;
 use handlebars_base::json::value::PathAndJson;
+use handlebars_helpers::entries::OwnParts;
 use handlebars_render::context::RenderContext;
 use handlebars_render::failure::{fail_after, ready};
 use handlebars_render::setting::Setting;
@@ -34,16 +35,16 @@ pub trait Expand {
 
     /// The value, with its path as the template writes it, where it writes one. What the data or the
     /// template owns is borrowed.
-    fn expand<'rc, L: Log>(
+    fn expand<'rc, E: OwnParts, L: Log>(
         &'rc self,
         alloc: Global,
-        registry: &Registry,
+        registry: &RegistryOf<E>,
         data: &'rc Context,
         rc: &mut RenderContext,
         log: &L,
     ) -> Result<PathAndJson<'rc>, RenderError>
         ensures expands { (kept : Kept) → has_failed rc.old ≡ false → Yields
-            (HasWrittenValue (setting_of registry.now «data».now) (state_with kept rc.old) (param self.now))
+            (HasWrittenValue (setting_of E.registered E.own registry.now «data».now) (state_with kept rc.old) (param self.now))
             path_and_data result }
         ensures failed { has_failed rc.old ≡ true
             → IsErrAnd result (λ e. refusal_of e ≡ plain_refusal failed) × (rc.new ≡ rc.old) }
@@ -53,16 +54,16 @@ pub trait Expand {
         ensures err { OnErr result (has_failed rc.new ≡ true) };
 
     /// The text that a helper, a decorator or a partial is called by: as written, or of the value.
-    fn expand_as_name<'rc, L: Log>(
+    fn expand_as_name<'rc, E: OwnParts, L: Log>(
         &'rc self,
         alloc: Global,
-        registry: &Registry,
+        registry: &RegistryOf<E>,
         data: &'rc Context,
         rc: &mut RenderContext,
         log: &L,
     ) -> Result<CowStr<'rc>, RenderError>
         ensures expands { (kept : Kept) → has_failed rc.old ≡ false → Yields
-            (HasName (setting_of registry.now «data».now) (state_with kept rc.old) (param self.now))
+            (HasName (setting_of E.registered E.own registry.now «data».now) (state_with kept rc.old) (param self.now))
             cow_str_bytes result }
         ensures failed { has_failed rc.old ≡ true
             → IsErrAnd result (λ e. refusal_of e ≡ plain_refusal failed) × (rc.new ≡ rc.old) }
@@ -75,10 +76,10 @@ pub trait Expand {
 impl Expand for Parameter {
     ghost param = { param_view };
 
-    fn expand<'rc, L: Log>(
+    fn expand<'rc, E: OwnParts, L: Log>(
         &'rc self,
         alloc: Global,
-        registry: &Registry,
+        registry: &RegistryOf<E>,
         data: &'rc Context,
         rc: &mut RenderContext,
         log: &L,
@@ -97,10 +98,10 @@ impl Expand for Parameter {
         fail_after(rc, answer)
     }
 
-    fn expand_as_name<'rc, L: Log>(
+    fn expand_as_name<'rc, E: OwnParts, L: Log>(
         &'rc self,
         alloc: Global,
-        registry: &Registry,
+        registry: &RegistryOf<E>,
         data: &'rc Context,
         rc: &mut RenderContext,
         log: &L,

@@ -2,10 +2,11 @@
 
 ghost use Rattle.handlebars.specs.View.{parts_of};
 
-use crate::registry::Registry;
+use crate::registry::RegistryOf;
 use handlebars_base::error::RenderError;
 use handlebars_helpers::decorators::view::Decorator;
 use handlebars_helpers::decorators::{DecoratorKind, DecoratorResult};
+use handlebars_helpers::entries::OwnParts;
 use handlebars_helpers::escape::Escaping;
 use handlebars_helpers::own::{Callee, HelperResult, HelperValue};
 use handlebars_helpers::view::Helper;
@@ -15,61 +16,67 @@ use log::{Level, Log, log};
 
 /// A registry, and the logger of a run.
 #[derive(Drop)]
-pub struct Logging<'r, L> {
-    pub registry: &'r Registry,
+pub struct Logging<'r, E, L> {
+    pub registry: &'r RegistryOf<E>,
     pub log: &'r L,
 }
 
-impl<L: Log> Registered for Logging<'_, L> {
-    ghost parts = { λ x. parts_of x.registry.now };
+impl<E: OwnParts, L: Log> Registered for Logging<'_, E, L> {
+    ghost parts = { λ x. parts_of E.registered E.own x.registry.now };
 
     fn helper(&self, name: &str) -> Option<Callee> {
-        self.registry.helper(name)
+        self.registry.entries.helper(name)
     }
 
-    // No helper of one's own is registered.
     fn steps_of(
         &self,
         name: &str,
-        _view: &Helper,
-        _given: &Context,
-        _changed: Option<&Context>,
+        view: &Helper,
+        given: &Context,
+        changed: Option<&Context>,
     ) -> HelperResult {
-        Err(self.registry.no_helper(name))
+        let strict = self.registry.strict_mode();
+        self.registry
+            .entries
+            .steps_of(name, view, given, changed, strict)
     }
 
     fn offer_of(
         &self,
         name: &str,
-        _view: &Helper,
-        _given: &Context,
-        _changed: Option<&Context>,
+        view: &Helper,
+        given: &Context,
+        changed: Option<&Context>,
     ) -> Result<HelperValue, RenderError> {
-        Err(self.registry.no_helper(name))
+        let strict = self.registry.strict_mode();
+        self.registry
+            .entries
+            .offer_of(name, view, given, changed, strict)
     }
 
     fn decorator(&self, name: &str) -> Option<DecoratorKind> {
-        self.registry.decorator(name)
+        self.registry.entries.decorator(name)
     }
 
-    // No decorator of one's own is registered.
     fn deeds_of(
         &self,
         name: &str,
-        _tag: &Decorator,
-        _given: &Context,
-        _changed: Option<&Context>,
+        tag: &Decorator,
+        given: &Context,
+        changed: Option<&Context>,
     ) -> DecoratorResult {
-        Err(self.registry.no_decorator(name))
+        let strict = self.registry.strict_mode();
+        self.registry
+            .entries
+            .deeds_of(name, tag, given, changed, strict)
     }
 
     fn escape(&self) -> Escaping {
-        self.registry.get_escape_fn().escaping()
+        self.registry.entries.escape()
     }
 
-    // No escape function of one's own is registered.
     fn escaped(&self, text: &str) -> Result<String, RenderError> {
-        Ok(self.registry.unescaped(text)?)
+        self.registry.entries.escaped(text)
     }
 
     fn strict(&self) -> bool {
@@ -80,5 +87,7 @@ impl<L: Log> Registered for Logging<'_, L> {
         log!(self.log; level, "{text}");
     }
 
-    fn keeps_law(&self) {}
+    fn keeps_law(&self) {
+        self.registry.entries.keeps_law();
+    }
 }

@@ -31,16 +31,3 @@ pub trait DecoratorDef: Drop {
     // To each question it has one answer.
     ghost one_deeds: { (d : Self) (q : TagAsked) → HasOne (has_deeds d q) };
 }
-
-// What a decorator in a box answers for a tag.
-pub(crate) fn deeds_of(
-    def: &Box<dyn DecoratorDef>,
-    d: &Decorator,
-    given: &Context,
-    changed: Option<&Context>,
-    strict: bool,
-) -> DecoratorResult
-    ensures { IsOneOf (has_deeds def.now (tag_asked_with d.now given.now changed.entry strict)) deeds_of result }
-{
-    def.call(d, given, changed, strict)
-}

@@ -3,8 +3,8 @@
 ghost use Rattle.std.specs.Prelude.{◌≡◌};
 ghost use Rattle.handlebars_helpers.specs.DecoratorsView.{deeds_of, tag_asked_with};
 ghost use Rattle.handlebars_helpers.specs.Functions.{AnswersAt, AnswersOnceAt, AnswersOnceAt_prop};
-ghost use Rattle.handlebars_helpers.specs.OwnView.{IsOneOf};
 
+use crate::decorators::def::DecoratorDef;
 use crate::decorators::view::Decorator;
 use crate::decorators::{DecoratorResult, DecoratorStep};
 use crate::refusal::FnRefusal;
@@ -34,23 +34,26 @@ impl FnDecorator {
     {
         FnDecorator { f }
     }
+}
 
-    // What the function answers.
-    pub(crate) fn call(
+/// A function answers what it answers.
+impl DecoratorDef for FnDecorator {
+    ghost has_deeds = { λ d. AnswersAt tag_asked_with deeds_of (DecoratorFn.post d.f) };
+
+    fn call(
         &self,
         d: &Decorator,
-        given: &Context,
+        data: &Context,
         changed: Option<&Context>,
         strict: bool,
-    ) -> DecoratorResult
-        ensures { IsOneOf (AnswersAt tag_asked_with deeds_of (post self.now.f)
-            (tag_asked_with d.now given.now changed.entry strict)) deeds_of result }
-    {
-        match ask(&self.f, d, given, &changed, strict) {
+    ) -> DecoratorResult {
+        match ask(&self.f, d, data, &changed, strict) {
             Ok(deeds) => Ok(deeds),
             Err(refusal) => Err(refusal.into()),
         }
     }
+
+    ghost one_deeds = { λ d q. d.once q };
 }
 
 fn ask(

@@ -20,10 +20,3 @@ pub trait EscapeFn: Drop {
     // For each text it has one answer.
     ghost one_escaped: { (e : Self) (t : Text) → HasOne (has_escaped e t) };
 }
-
-// What an escape function in a box answers for a text.
-pub(crate) fn escaped_by(def: &Box<dyn EscapeFn>, text: &str) -> Result<String, RenderError>
-    ensures { IsOneOf (has_escaped def.now text.now) string_bytes result }
-{
-    def.escape(text)
-}

@@ -43,29 +43,3 @@ pub trait HelperDef: Drop {
 
     ghost one_offer: { (h : Self) (q : Asked) → HasOne (has_offer h q) };
 }
-
-// What a helper in a box answers when it is called.
-pub(crate) fn steps_of(
-    def: &Box<dyn HelperDef>,
-    h: &Helper,
-    given: &Context,
-    changed: Option<&Context>,
-    strict: bool,
-) -> HelperResult
-    ensures { IsOneOf (has_steps def.now (asked_with h.now given.now changed.entry strict)) steps_of result }
-{
-    def.call(h, given, changed, strict)
-}
-
-// What it offers as its value.
-pub(crate) fn offer_of(
-    def: &Box<dyn HelperDef>,
-    h: &Helper,
-    given: &Context,
-    changed: Option<&Context>,
-    strict: bool,
-) -> Result<HelperValue, RenderError>
-    ensures { IsOneOf (has_offer def.now (asked_with h.now given.now changed.entry strict)) offer_of result }
-{
-    def.call_inner(h, given, changed, strict)
-}

@@ -1,12 +1,17 @@
 //! Functions that stand for helpers.
 
 ghost use Rattle.std.specs.Prelude.{◌≡◌};
+ghost use Rattle.std.proofs.Common.{sym, ◌∙◌};
+ghost use Rattle.handlebars_base.specs.Answers.{gives};
 ghost use Rattle.handlebars_helpers.specs.Functions.{AnswersAt, AnswersOnceAt, AnswersOnceAt_prop};
-ghost use Rattle.handlebars_helpers.specs.OwnView.{IsOneOf, asked_with, steps_of};
+ghost use Rattle.handlebars_helpers.specs.Own.{not_offered};
+ghost use Rattle.handlebars_helpers.specs.OwnView.{asked_with, steps_of};
 
-use crate::own::{HelperResult, HelperStep};
+use crate::own::def::HelperDef;
+use crate::own::{HelperResult, HelperStep, HelperValue};
 use crate::refusal::FnRefusal;
 use crate::view::Helper;
+use handlebars_base::error::RenderError;
 use handlebars_scope::context::Context;
 
 /// What a function answers in the place of `HelperDef::call`.
@@ -33,23 +38,40 @@ impl FnHelper {
     {
         FnHelper { f }
     }
+}
 
-    // What the function answers.
-    pub(crate) fn call(
+/// A function offers no value, and answers what it answers.
+impl HelperDef for FnHelper {
+    ghost has_steps = { λ h. AnswersAt asked_with steps_of (HelperFn.post h.f) };
+
+    ghost has_offer = { λ h q a. a ≡ gives not_offered };
+
+    fn call_inner(
+        &self,
+        _h: &Helper,
+        _data: &Context,
+        _changed: Option<&Context>,
+        _strict: bool,
+    ) -> Result<HelperValue, RenderError> {
+        Ok(HelperValue::NotOffered)
+    }
+
+    fn call(
         &self,
         h: &Helper,
-        given: &Context,
+        data: &Context,
         changed: Option<&Context>,
         strict: bool,
-    ) -> HelperResult
-        ensures { IsOneOf (AnswersAt asked_with steps_of (post self.now.f) (asked_with h.now given.now changed.entry strict))
-            steps_of result }
-    {
-        match ask(&self.f, h, given, &changed, strict) {
+    ) -> HelperResult {
+        match ask(&self.f, h, data, &changed, strict) {
             Ok(steps) => Ok(steps),
             Err(refusal) => Err(refusal.into()),
         }
     }
+
+    ghost one_steps = { λ h q. h.once q };
+
+    ghost one_offer = { λ h q a b i j. ∣ i ∙ sym j ∣₁ };
 }
 
 fn ask(

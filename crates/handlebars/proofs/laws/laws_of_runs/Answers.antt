@@ -6,10 +6,13 @@ use Rattle.handlebars.proofs.OwnLaws.{parts-lawful}
 use Rattle.handlebars.proofs.laws.laws_of_runs.Goals as goal
 
 pub returns : goal.returns
-returns c = record {
-  one = λ k s ps qs o q a b h g. Runs-one (parts-lawful c.args.registry.now) a b h g;
-  beginning = λ k s ps qs o q a b h g. Runs-beginning (parts-lawful c.args.registry.now) a b h g;
-  once = comes_once (setting_of c.args.registry.now c.args.context.now);
-  origins = all_have_origins (setting_of c.args.registry.now c.args.context.now);
-  element = element_has_origins (setting_of c.args.registry.now c.args.context.now);
-}
+returns g c =
+    let p = setting_of g.E.OwnParts.registered g.E.OwnParts.own c.args.registry.now c.args.context.now in
+    let lawful = parts-lawful g.E.OwnParts.registered g.E.OwnParts.own c.args.registry.now c.keeps_law.ensures in
+    record {
+      one = λ k s ps qs o q a b h g. Runs-one lawful a b h g;
+      beginning = λ k s ps qs o q a b h g. Runs-beginning lawful a b h g;
+      once = comes_once p;
+      origins = all_have_origins p;
+      element = element_has_origins p;
+    }

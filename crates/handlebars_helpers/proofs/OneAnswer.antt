@@ -1,0 +1,44 @@
+-- Nothing that is registered has two answers to one question, since nothing that is kept has.
+use Rattle.std.proofs.Common.{◌≡◌, List, Option, Some, None, sym, ◌∙◌}
+use Rattle.handlebars_base.specs.Answers.{Answer}
+use Rattle.handlebars_base.specs.Bytes.{Text}
+use Rattle.handlebars_helpers.specs.Decoration.{Deed}
+use Rattle.handlebars_helpers.specs.DecoratorEntryView.{own_decorator_at}
+use Rattle.handlebars_helpers.specs.EntryView.{own_at}
+use Rattle.handlebars_helpers.specs.EscapeView.{own_escape_of}
+use Rattle.handlebars_helpers.specs.Own.{Asked, AnswersOnce, HasOne, Offer, Step}
+use Rattle.handlebars_helpers.specs.OwnDecorator.{TagAsked}
+use Rattle.handlebars_helpers.specs.declared.decorators.entry.DecoratorEntryOf.{DecoratorEntryOf}
+use Rattle.handlebars_helpers.specs.declared.decorators.entry.DecoratorEntryOf.TheVariants as decorator
+use Rattle.handlebars_helpers.specs.declared.escape.EscapeKindOf.{EscapeKindOf}
+use Rattle.handlebars_helpers.specs.declared.escape.EscapeKindOf.TheVariants as kind
+use Rattle.handlebars_helpers.specs.declared.own.entry.HelperEntryOf.{HelperEntryOf}
+use Rattle.handlebars_helpers.specs.declared.own.entry.HelperEntryOf.TheVariants.{Built, Own}
+
+-- what is known has one answer
+one-known : {A : Type 0} (k : Answer A) → HasOne (λ a. a ≡ k)
+one-known k x y p r = ∣ p ∙ sym r ∣₁
+
+module _ {B : Type 0} (has_steps : B → Asked → Answer (Option (List Step)) → Type 0)
+    (has_offer : B → Asked → Answer Offer → Type 0)
+    (one_steps : (h : B) (q : Asked) → HasOne (has_steps h q))
+    (one_offer : (h : B) (q : Asked) → HasOne (has_offer h q)) where
+  pub own_at-once : (name : Text) (o : Option (HelperEntryOf B)) → AnswersOnce (own_at has_steps has_offer name o)
+  own_at-once name None = record { steps = λ q. one-known _; offer = λ q. one-known _ }
+  own_at-once name (Some (Built b)) = record { steps = λ q. one-known _; offer = λ q. one-known _ }
+  own_at-once name (Some (Own h)) = record { steps = one_steps h; offer = one_offer h }
+
+module _ {D : Type 0} (has_deeds : D → TagAsked → Answer (List Deed) → Type 0)
+    (one_deeds : (d : D) (q : TagAsked) → HasOne (has_deeds d q)) where
+  pub own_decorator_at-once : (name : Text) (o : Option (DecoratorEntryOf D)) (q : TagAsked)
+      → HasOne (own_decorator_at has_deeds name o q)
+  own_decorator_at-once name None q = one-known _
+  own_decorator_at-once name (Some decorator.Inline) q = one-known _
+  own_decorator_at-once name (Some (decorator.Own d)) q = one_deeds d q
+
+module _ {X : Type 0} (has_escaped : X → Text → Answer Text → Type 0)
+    (one_escaped : (e : X) (t : Text) → HasOne (has_escaped e t)) where
+  pub own_escape_of-once : (e : EscapeKindOf X) (t : Text) → HasOne (own_escape_of has_escaped e t)
+  own_escape_of-once kind.Html t = one-known _
+  own_escape_of-once kind.Plain t = one-known _
+  own_escape_of-once (kind.Own e) t = one_escaped e t

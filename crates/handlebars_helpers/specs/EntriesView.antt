@@ -1,0 +1,30 @@
+-- What is registered, and what it answers, by what those of one's own that are kept answer.
+use Rattle.std.specs.Prelude.{List, Option}
+use Rattle.handlebars_base.specs.Answers.{Answer}
+use Rattle.handlebars_base.specs.Bytes.{Text}
+use Rattle.handlebars_helpers.specs.ByNameView.{entry_at}
+use Rattle.handlebars_helpers.specs.Decoration.{Deed}
+use Rattle.handlebars_helpers.specs.DecoratorEntryView.{decorators_of, own_decorator_at}
+use Rattle.handlebars_helpers.specs.EntryView.{callees_of, own_at}
+use Rattle.handlebars_helpers.specs.EscapeView.{kind_escaping, own_escape_of}
+use Rattle.handlebars_helpers.specs.Own.{Asked, Step, Offer}
+use Rattle.handlebars_helpers.specs.OwnAnswers.{OwnAnswers, Registered}
+use Rattle.handlebars_helpers.specs.OwnDecorator.{TagAsked}
+use Rattle.handlebars_helpers.specs.declared.entries.Entries.{Entries}
+
+module _ {B D X : Type 0} where
+  abbrev pub registered_in : Entries B D X → Registered
+  registered_in e = record {
+    helper = callees_of e.helpers;
+    decorator = decorators_of e.decorators;
+    escape = kind_escaping e.escape;
+  }
+
+  module _ (has_steps : B → Asked → Answer (Option (List Step)) → Type 0) (has_offer : B → Asked → Answer Offer → Type 0)
+      (has_deeds : D → TagAsked → Answer (List Deed) → Type 0) (has_escaped : X → Text → Answer Text → Type 0) where
+    abbrev pub own_answers : Entries B D X → OwnAnswers
+    own_answers e = record {
+      helper = λ name. own_at has_steps has_offer name (entry_at e.helpers name);
+      decorator = λ name. own_decorator_at has_deeds name (entry_at e.decorators name);
+      escape = own_escape_of has_escaped e.escape;
+    }

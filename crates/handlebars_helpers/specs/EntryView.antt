@@ -1,0 +1,28 @@
+-- What the entries under names of helpers stand for.
+use Rattle.std.specs.Prelude.{List, Option, Some, None, option_map}
+use Rattle.handlebars_base.specs.Answers.{Answer}
+use Rattle.handlebars_base.specs.Bytes.{Text}
+use Rattle.handlebars_helpers.specs.ByNameView.{entry_at}
+use Rattle.handlebars_helpers.specs.Callee.{Callee, built, own}
+use Rattle.handlebars_helpers.specs.Own.{Asked, Step, Offer, OwnHelper, no_own}
+use Rattle.handlebars_helpers.specs.View.{kind_of}
+use Rattle.handlebars_helpers.specs.declared.by_name.ByName.{ByName}
+use Rattle.handlebars_helpers.specs.declared.own.entry.HelperEntryOf.{HelperEntryOf}
+use Rattle.handlebars_helpers.specs.declared.own.entry.HelperEntryOf.TheVariants.{Built, Own}
+
+module _ {B : Type 0} where
+  -- what an entry under this name is
+  abbrev pub entry_callee : Text → HelperEntryOf B → Callee
+  entry_callee name (Built kind) = built (kind_of kind)
+  entry_callee name (Own h) = own name
+
+  -- what stands under a name, if anything does
+  abbrev pub callees_of : ByName (HelperEntryOf B) → Text → Option Callee
+  callees_of helpers name = option_map (entry_callee name) (entry_at helpers name)
+
+  -- What the helper of one's own under this name answers, by what those that are kept answer.
+  module _ (has_steps : B → Asked → Answer (Option (List Step)) → Type 0) (has_offer : B → Asked → Answer Offer → Type 0) where
+    abbrev pub own_at : Text → Option (HelperEntryOf B) → OwnHelper
+    own_at name None = no_own name
+    own_at name (Some (Built kind)) = no_own name
+    own_at name (Some (Own h)) = record { has_steps = has_steps h; has_offer = has_offer h }

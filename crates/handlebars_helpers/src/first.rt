@@ -1,0 +1,51 @@
+//! What every registry begins with.
+
+ghost use Rattle.std.specs.Prelude.{◌≡◌, IfOk, OnOk, Some, bytes_eq};
+ghost use Rattle.std.specs.Map.{update};
+ghost use Rattle.handlebars_base.specs.Bytes.{Text};
+ghost use Rattle.handlebars_helpers.specs.Callee.{built, first_callee};
+ghost use Rattle.handlebars_helpers.specs.Decoration.{built_in_decorator};
+ghost use Rattle.handlebars_helpers.specs.DecoratorEntryView.{decorators_of};
+ghost use Rattle.handlebars_helpers.specs.EntryView.{callees_of};
+ghost use Rattle.handlebars_helpers.specs.View.{kind_of};
+
+use crate::built_in::{BuiltIn, table};
+use crate::by_name::ByName;
+use crate::decorators::entry::DecoratorEntryOf;
+use crate::own::entry::HelperEntryOf;
+use std::alloc::{AllocError, Global};
+
+/// The built-in helpers under their names.
+pub fn built_in_helpers<B: Drop>(alloc: Global) -> Result<ByName<HelperEntryOf<B>>, AllocError>
+    ensures { IfOk result (λ helpers. (name : Text) → callees_of helpers name ≡ first_callee name) }
+{
+    let mut helpers = ByName::new(alloc);
+    'all: for (name, kind) in &table() {
+        put(alloc, &mut helpers, *name, *kind)?;
+    }
+    Ok(helpers)
+}
+
+// Puts a built-in helper under a name, in place of one that stood there.
+fn put<B: Drop>(
+    alloc: Global,
+    helpers: &mut ByName<HelperEntryOf<B>>,
+    name: &str,
+    kind: BuiltIn,
+) -> Result<(), AllocError>
+    ensures { OnOk result ((other : Text) → callees_of helpers.new other
+        ≡ update bytes_eq (callees_of helpers.old) name.now (Some (built (kind_of kind))) other) }
+{
+    helpers.insert(String::from_str(alloc, name)?, HelperEntryOf::Built(kind))
+}
+
+/// The built-in decorators under their names.
+pub fn built_in_decorators<D: Drop>(
+    alloc: Global,
+) -> Result<ByName<DecoratorEntryOf<D>>, AllocError>
+    ensures { IfOk result (λ decorators. (name : Text) → decorators_of decorators name ≡ built_in_decorator name) }
+{
+    let mut decorators = ByName::new(alloc);
+    decorators.insert(String::from_str(alloc, "inline")?, DecoratorEntryOf::Inline)?;
+    Ok(decorators)
+}

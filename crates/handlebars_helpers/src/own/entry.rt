@@ -1,0 +1,85 @@
+//! What stands under the names of helpers.
+
+ghost use Rattle.std.specs.Prelude.{List, Option};
+ghost use Rattle.handlebars_base.specs.Answers.{Answer};
+ghost use Rattle.handlebars_helpers.specs.Own.{Asked, HasOne, Offer, Step};
+ghost use Rattle.handlebars_helpers.specs.OwnView.{IsOneOf, asked_with, offer_of, steps_of};
+
+use crate::built_in::BuiltIn;
+use crate::by_name::ByName;
+use crate::own::def::HelperDef;
+use crate::own::{HelperResult, HelperValue};
+use crate::view::Helper;
+use handlebars_base::error::RenderError;
+use handlebars_scope::context::Context;
+
+/// What stands under a helper's name, where helpers of one's own are kept as `B`.
+#[derive(Drop)]
+pub enum HelperEntryOf<B> {
+    Built(BuiltIn),
+    /// A helper of one's own.
+    Own(B),
+}
+
+/// What stands under a helper's name.
+pub type HelperEntry = HelperEntryOf<Box<dyn HelperDef>>;
+
+/// A helper of one's own, as it is kept under a name and asked by it.
+pub trait HelperPart: Drop {
+    ghost has_steps: { Self → Asked → Answer (Option (List Step)) → Type 0 };
+
+    ghost has_offer: { Self → Asked → Answer Offer → Type 0 };
+
+    /// What it answers when it is called.
+    fn steps(
+        &self,
+        h: &Helper,
+        given: &Context,
+        changed: Option<&Context>,
+        strict: bool,
+    ) -> HelperResult
+        ensures { IsOneOf (has_steps self.now (asked_with h.now given.now changed.entry strict)) steps_of result };
+
+    /// What it offers as its value.
+    fn offer(
+        &self,
+        h: &Helper,
+        given: &Context,
+        changed: Option<&Context>,
+        strict: bool,
+    ) -> Result<HelperValue, RenderError>
+        ensures { IsOneOf (has_offer self.now (asked_with h.now given.now changed.entry strict)) offer_of result };
+
+    /// No helper that is kept so has two answers to one question.
+    fn keeps_law(_entries: &ByName<HelperEntryOf<Self>>)
+        ensures steps { (h : Self) (q : Asked) → HasOne (has_steps h q) }
+        ensures offer { (h : Self) (q : Asked) → HasOne (has_offer h q) };
+}
+
+impl HelperPart for Box<dyn HelperDef> {
+    ghost has_steps = { λ b. (HelperDef-box b).has_steps b.value };
+
+    ghost has_offer = { λ b. (HelperDef-box b).has_offer b.value };
+
+    fn steps(
+        &self,
+        h: &Helper,
+        given: &Context,
+        changed: Option<&Context>,
+        strict: bool,
+    ) -> HelperResult {
+        self.call(h, given, changed, strict)
+    }
+
+    fn offer(
+        &self,
+        h: &Helper,
+        given: &Context,
+        changed: Option<&Context>,
+        strict: bool,
+    ) -> Result<HelperValue, RenderError> {
+        self.call_inner(h, given, changed, strict)
+    }
+
+    fn keeps_law(_entries: &ByName<HelperEntryOf<Box<dyn HelperDef>>>) {}
+}
