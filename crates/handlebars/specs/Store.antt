@@ -30,7 +30,7 @@ module _ {E : Type 0} where
 
 -- ---- helpers, decorators and modes
 
-module _ {B D X : Type 0} (old new : RegistryOf (Entries B D X)) where
+module _ {B F D G X : Type 0} (old new : RegistryOf (Entries B F D G X)) where
   -- Nothing that a run reads is changed.
   pub record HasSameParts : Type 0 where
     pub helpers : HasSame old.entries.helpers new.entries.helpers
@@ -39,14 +39,14 @@ module _ {B D X : Type 0} (old new : RegistryOf (Entries B D X)) where
     pub modes : modes_of new ≡ modes_of old
 
   -- The helper, or none, stands under the name now, and under each other name what stood there; all else is the same.
-  pub record PutsHelper (name : Text) (entry : Option (HelperEntryOf B)) : Type 0 where
+  pub record PutsHelper (name : Text) (entry : Option (HelperEntryOf B F)) : Type 0 where
     pub helpers : Puts old.entries.helpers new.entries.helpers name entry
     pub decorators : HasSame old.entries.decorators new.entries.decorators
     pub escape : new.entries.escape ≡ old.entries.escape
     pub modes : modes_of new ≡ modes_of old
 
   -- The decorator, or none, stands under the name now, and under each other name what stood there; all else is the same.
-  pub record PutsDecorator (name : Text) (entry : Option (DecoratorEntryOf D)) : Type 0 where
+  pub record PutsDecorator (name : Text) (entry : Option (DecoratorEntryOf D G)) : Type 0 where
     pub helpers : HasSame old.entries.helpers new.entries.helpers
     pub decorators : Puts old.entries.decorators new.entries.decorators name entry
     pub escape : new.entries.escape ≡ old.entries.escape

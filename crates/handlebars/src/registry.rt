@@ -124,11 +124,15 @@ impl<E: Drop> RegistryOf<E> {
 }
 
 // What is registered by name.
-impl<B: Drop, D: Drop, X: Drop> RegistryOf<Entries<B, D, X>> {
+impl<B: Drop, F: Drop, D: Drop, G: Drop, X: Drop> RegistryOf<Entries<B, F, D, G, X>> {
     /// Registers a helper under a name, in place of one that stood there. A helper named
     /// `helperMissing` is called by expressions, and one named `blockHelperMissing` by blocks, whose
     /// name has no helper.
-    pub fn register_helper(&mut self, name: &str, def: HelperEntryOf<B>) -> Result<(), AllocError>
+    pub fn register_helper(
+        &mut self,
+        name: &str,
+        def: HelperEntryOf<B, F>,
+    ) -> Result<(), AllocError>
         ensures ok { OnOk result (PutsHelper self.old self.new name.now (Some def)) }
         ensures err { OnErr result (HasSameParts self.old self.new) }
         ensures kept { HasSameTemplates self.old self.new }
@@ -149,7 +153,7 @@ impl<B: Drop, D: Drop, X: Drop> RegistryOf<Entries<B, D, X>> {
     pub fn register_decorator(
         &mut self,
         name: &str,
-        def: DecoratorEntryOf<D>,
+        def: DecoratorEntryOf<D, G>,
     ) -> Result<(), AllocError>
         ensures ok { OnOk result (PutsDecorator self.old self.new name.now (Some def)) }
         ensures err { OnErr result (HasSameParts self.old self.new) }

@@ -1,5 +1,6 @@
-//! Helpers, decorators and an escape function of a caller's own.
+//! Helpers, decorators, an escape function and functions of a caller's own.
 
 pub mod decorators;
 pub mod escape;
+pub mod functions;
 pub mod helpers;

@@ -6,5 +6,6 @@ mod contexts;
 mod decorators;
 mod helpers;
 mod names;
+mod own_parts;
 mod registries;
 mod trees;

@@ -9,4 +9,3 @@ mod FirstEntries
 mod Decorations
 mod Refused
 mod OneAnswer
-pub mod FunctionAnswers

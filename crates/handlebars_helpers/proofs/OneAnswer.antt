@@ -13,28 +13,37 @@ use Rattle.handlebars_helpers.specs.declared.decorators.entry.DecoratorEntryOf.T
 use Rattle.handlebars_helpers.specs.declared.escape.EscapeKindOf.{EscapeKindOf}
 use Rattle.handlebars_helpers.specs.declared.escape.EscapeKindOf.TheVariants as kind
 use Rattle.handlebars_helpers.specs.declared.own.entry.HelperEntryOf.{HelperEntryOf}
-use Rattle.handlebars_helpers.specs.declared.own.entry.HelperEntryOf.TheVariants.{Built, Own}
+use Rattle.handlebars_helpers.specs.declared.own.entry.HelperEntryOf.TheVariants.{Built, Own, Function}
 
 -- what is known has one answer
 one-known : {A : Type 0} (k : Answer A) → HasOne (λ a. a ≡ k)
 one-known k x y p r = ∣ p ∙ sym r ∣₁
 
-module _ {B : Type 0} (has_steps : B → Asked → Answer (Option (List Step)) → Type 0)
+module _ {B F : Type 0} (has_steps : B → Asked → Answer (Option (List Step)) → Type 0)
     (has_offer : B → Asked → Answer Offer → Type 0)
+    (function_steps : F → Asked → Answer (Option (List Step)) → Type 0)
+    (function_offer : F → Asked → Answer Offer → Type 0)
     (one_steps : (h : B) (q : Asked) → HasOne (has_steps h q))
-    (one_offer : (h : B) (q : Asked) → HasOne (has_offer h q)) where
-  pub own_at-once : (name : Text) (o : Option (HelperEntryOf B)) → AnswersOnce (own_at has_steps has_offer name o)
+    (one_offer : (h : B) (q : Asked) → HasOne (has_offer h q))
+    (one_function_steps : (f : F) (q : Asked) → HasOne (function_steps f q))
+    (one_function_offer : (f : F) (q : Asked) → HasOne (function_offer f q)) where
+  pub own_at-once : (name : Text) (o : Option (HelperEntryOf B F))
+      → AnswersOnce (own_at has_steps has_offer function_steps function_offer name o)
   own_at-once name None = record { steps = λ q. one-known _; offer = λ q. one-known _ }
   own_at-once name (Some (Built b)) = record { steps = λ q. one-known _; offer = λ q. one-known _ }
   own_at-once name (Some (Own h)) = record { steps = one_steps h; offer = one_offer h }
+  own_at-once name (Some (Function f)) = record { steps = one_function_steps f; offer = one_function_offer f }
 
-module _ {D : Type 0} (has_deeds : D → TagAsked → Answer (List Deed) → Type 0)
-    (one_deeds : (d : D) (q : TagAsked) → HasOne (has_deeds d q)) where
-  pub own_decorator_at-once : (name : Text) (o : Option (DecoratorEntryOf D)) (q : TagAsked)
-      → HasOne (own_decorator_at has_deeds name o q)
+module _ {D G : Type 0} (has_deeds : D → TagAsked → Answer (List Deed) → Type 0)
+    (function_deeds : G → TagAsked → Answer (List Deed) → Type 0)
+    (one_deeds : (d : D) (q : TagAsked) → HasOne (has_deeds d q))
+    (one_function_deeds : (f : G) (q : TagAsked) → HasOne (function_deeds f q)) where
+  pub own_decorator_at-once : (name : Text) (o : Option (DecoratorEntryOf D G)) (q : TagAsked)
+      → HasOne (own_decorator_at has_deeds function_deeds name o q)
   own_decorator_at-once name None q = one-known _
   own_decorator_at-once name (Some decorator.Inline) q = one-known _
   own_decorator_at-once name (Some (decorator.Own d)) q = one_deeds d q
+  own_decorator_at-once name (Some (decorator.Function f)) q = one_function_deeds f q
 
 module _ {X : Type 0} (has_escaped : X → Text → Answer Text → Type 0)
     (one_escaped : (e : X) (t : Text) → HasOne (has_escaped e t)) where

@@ -12,8 +12,8 @@ use Rattle.handlebars_helpers.specs.OwnAnswers.{OwnAnswers, Registered}
 use Rattle.handlebars_helpers.specs.OwnDecorator.{TagAsked}
 use Rattle.handlebars_helpers.specs.declared.entries.Entries.{Entries}
 
-module _ {B D X : Type 0} where
-  abbrev pub registered_in : Entries B D X → Registered
+module _ {B F D G X : Type 0} where
+  abbrev pub registered_in : Entries B F D G X → Registered
   registered_in e = record {
     helper = callees_of e.helpers;
     decorator = decorators_of e.decorators;
@@ -21,10 +21,12 @@ module _ {B D X : Type 0} where
   }
 
   module _ (has_steps : B → Asked → Answer (Option (List Step)) → Type 0) (has_offer : B → Asked → Answer Offer → Type 0)
-      (has_deeds : D → TagAsked → Answer (List Deed) → Type 0) (has_escaped : X → Text → Answer Text → Type 0) where
-    abbrev pub own_answers : Entries B D X → OwnAnswers
+      (function_steps : F → Asked → Answer (Option (List Step)) → Type 0) (function_offer : F → Asked → Answer Offer → Type 0)
+      (has_deeds : D → TagAsked → Answer (List Deed) → Type 0) (function_deeds : G → TagAsked → Answer (List Deed) → Type 0)
+      (has_escaped : X → Text → Answer Text → Type 0) where
+    abbrev pub own_answers : Entries B F D G X → OwnAnswers
     own_answers e = record {
-      helper = λ name. own_at has_steps has_offer name (entry_at e.helpers name);
-      decorator = λ name. own_decorator_at has_deeds name (entry_at e.decorators name);
+      helper = λ name. own_at has_steps has_offer function_steps function_offer name (entry_at e.helpers name);
+      decorator = λ name. own_decorator_at has_deeds function_deeds name (entry_at e.decorators name);
       escape = own_escape_of has_escaped e.escape;
     }

@@ -17,6 +17,7 @@ ghost use Rattle.handlebars_helpers.specs.OwnView.{IsOneOf, asked_with, callee_o
 use crate::by_name::ByName;
 use crate::decorators::def::DecoratorDef;
 use crate::decorators::entry::{DecoratorEntryOf, DecoratorPart};
+use crate::decorators::function::FnDecorator;
 use crate::decorators::view::Decorator;
 use crate::decorators::{DecoratorKind, DecoratorResult};
 use crate::escape::def::EscapeFn;
@@ -24,6 +25,7 @@ use crate::escape::{EscapeKindOf, EscapePart, Escaping};
 use crate::first::{built_in_decorators, built_in_helpers};
 use crate::own::def::HelperDef;
 use crate::own::entry::{HelperEntryOf, HelperPart};
+use crate::own::function::FnHelper;
 use crate::own::{Callee, HelperResult, HelperValue};
 use crate::view::Helper;
 use handlebars_base::error::{RenderError, RenderErrorReason};
@@ -33,15 +35,21 @@ use std::alloc::{AllocError, Global};
 
 /// Entries of helpers and of decorators by name, and how values are escaped.
 #[derive(Drop)]
-pub struct Entries<B, D, X> {
+pub struct Entries<B, F, D, G, X> {
     pub alloc: Global,
-    pub helpers: ByName<HelperEntryOf<B>>,
-    pub decorators: ByName<DecoratorEntryOf<D>>,
+    pub helpers: ByName<HelperEntryOf<B, F>>,
+    pub decorators: ByName<DecoratorEntryOf<D, G>>,
     pub escape: EscapeKindOf<X>,
 }
 
 /// Entries whose parts of one's own are boxes.
-pub type BoxedEntries = Entries<Box<dyn HelperDef>, Box<dyn DecoratorDef>, Box<dyn EscapeFn>>;
+pub type BoxedEntries = Entries<
+    Box<dyn HelperDef>,
+    FnHelper,
+    Box<dyn DecoratorDef>,
+    FnDecorator,
+    Box<dyn EscapeFn>,
+>;
 
 // The refusal of a name that no helper of one's own has.
 fn no_helper(alloc: Global, name: &str) -> RenderError
@@ -133,12 +141,13 @@ pub trait OwnParts: Drop {
         ensures { HaveOne (own self.now) };
 }
 
-impl<B: HelperPart, D: DecoratorPart, X: EscapePart> OwnParts for Entries<B, D, X> {
+impl<B: HelperPart, F: HelperPart, D: DecoratorPart, G: DecoratorPart, X: EscapePart> OwnParts
+    for Entries<B, F, D, G, X> {
     ghost registered = { registered_in };
 
-    ghost own = { own_answers B.has_steps B.has_offer D.has_deeds X.has_escaped };
+    ghost own = { own_answers B.has_steps B.has_offer F.has_steps F.has_offer D.has_deeds G.has_deeds X.has_escaped };
 
-    fn first(alloc: Global) -> Result<Entries<B, D, X>, AllocError> {
+    fn first(alloc: Global) -> Result<Entries<B, F, D, G, X>, AllocError> {
         Ok(Entries {
             alloc,
             helpers: built_in_helpers(alloc)?,
@@ -151,6 +160,7 @@ impl<B: HelperPart, D: DecoratorPart, X: EscapePart> OwnParts for Entries<B, D, 
         match self.helpers.get(name) {
             Some(HelperEntryOf::Built(kind)) => Some(Callee::Built(*kind)),
             Some(HelperEntryOf::Own(_)) => Some(Callee::Own),
+            Some(HelperEntryOf::Function(_)) => Some(Callee::Own),
             None => None,
         }
     }
@@ -159,6 +169,7 @@ impl<B: HelperPart, D: DecoratorPart, X: EscapePart> OwnParts for Entries<B, D, 
         match self.decorators.get(name) {
             Some(DecoratorEntryOf::Inline) => Some(DecoratorKind::Inline),
             Some(DecoratorEntryOf::Own(_)) => Some(DecoratorKind::Own),
+            Some(DecoratorEntryOf::Function(_)) => Some(DecoratorKind::Own),
             None => None,
         }
     }
@@ -177,6 +188,7 @@ impl<B: HelperPart, D: DecoratorPart, X: EscapePart> OwnParts for Entries<B, D, 
     ) -> HelperResult {
         match self.helpers.get(name) {
             Some(HelperEntryOf::Own(def)) => def.steps(h, given, changed, strict),
+            Some(HelperEntryOf::Function(f)) => f.steps(h, given, changed, strict),
             Some(HelperEntryOf::Built(_)) => Err(no_helper(self.alloc, name)),
             None => Err(no_helper(self.alloc, name)),
         }
@@ -192,6 +204,7 @@ impl<B: HelperPart, D: DecoratorPart, X: EscapePart> OwnParts for Entries<B, D, 
     ) -> Result<HelperValue, RenderError> {
         match self.helpers.get(name) {
             Some(HelperEntryOf::Own(def)) => def.offer(h, given, changed, strict),
+            Some(HelperEntryOf::Function(f)) => f.offer(h, given, changed, strict),
             Some(HelperEntryOf::Built(_)) => Err(no_helper(self.alloc, name)),
             None => Err(no_helper(self.alloc, name)),
         }
@@ -207,6 +220,7 @@ impl<B: HelperPart, D: DecoratorPart, X: EscapePart> OwnParts for Entries<B, D, 
     ) -> DecoratorResult {
         match self.decorators.get(name) {
             Some(DecoratorEntryOf::Own(def)) => def.deeds(d, given, changed, strict),
+            Some(DecoratorEntryOf::Function(f)) => f.deeds(d, given, changed, strict),
             Some(DecoratorEntryOf::Inline) => Err(no_decorator(self.alloc, name)),
             None => Err(no_decorator(self.alloc, name)),
         }
@@ -221,8 +235,10 @@ impl<B: HelperPart, D: DecoratorPart, X: EscapePart> OwnParts for Entries<B, D, 
     }
 
     fn keeps_law(&self) {
-        B::keeps_law(&self.helpers);
-        D::keeps_law(&self.decorators);
-        X::keeps_law(&self.escape);
+        B::keeps_law(&None);
+        F::keeps_law(&None);
+        D::keeps_law(&None);
+        G::keeps_law(&None);
+        X::keeps_law(&None);
     }
 }

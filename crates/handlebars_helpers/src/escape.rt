@@ -56,7 +56,7 @@ pub trait EscapePart: Drop {
         ensures { IsOneOf (has_escaped self.now text.now) string_bytes result };
 
     /// No escape function that is kept so has two answers for one text.
-    fn keeps_law(_kind: &EscapeKindOf<Self>)
+    fn keeps_law(_kept: &Option<Self>)
         ensures { (e : Self) (t : Text) → HasOne (has_escaped e t) };
 }
 
@@ -67,5 +67,5 @@ impl EscapePart for Box<dyn EscapeFn> {
         self.escape(text)
     }
 
-    fn keeps_law(_kind: &EscapeKindOf<Box<dyn EscapeFn>>) {}
+    fn keeps_law(_kept: &Option<Box<dyn EscapeFn>>) {}
 }

@@ -16,7 +16,9 @@ use crate::own::entry::HelperEntryOf;
 use std::alloc::{AllocError, Global};
 
 /// The built-in helpers under their names.
-pub fn built_in_helpers<B: Drop>(alloc: Global) -> Result<ByName<HelperEntryOf<B>>, AllocError>
+pub fn built_in_helpers<B: Drop, F: Drop>(
+    alloc: Global,
+) -> Result<ByName<HelperEntryOf<B, F>>, AllocError>
     ensures { IfOk result (λ helpers. (name : Text) → callees_of helpers name ≡ first_callee name) }
 {
     let mut helpers = ByName::new(alloc);
@@ -27,9 +29,9 @@ pub fn built_in_helpers<B: Drop>(alloc: Global) -> Result<ByName<HelperEntryOf<B
 }
 
 // Puts a built-in helper under a name, in place of one that stood there.
-fn put<B: Drop>(
+fn put<B: Drop, F: Drop>(
     alloc: Global,
-    helpers: &mut ByName<HelperEntryOf<B>>,
+    helpers: &mut ByName<HelperEntryOf<B, F>>,
     name: &str,
     kind: BuiltIn,
 ) -> Result<(), AllocError>
@@ -40,9 +42,9 @@ fn put<B: Drop>(
 }
 
 /// The built-in decorators under their names.
-pub fn built_in_decorators<D: Drop>(
+pub fn built_in_decorators<D: Drop, G: Drop>(
     alloc: Global,
-) -> Result<ByName<DecoratorEntryOf<D>>, AllocError>
+) -> Result<ByName<DecoratorEntryOf<D, G>>, AllocError>
     ensures { IfOk result (λ decorators. (name : Text) → decorators_of decorators name ≡ built_in_decorator name) }
 {
     let mut decorators = ByName::new(alloc);

@@ -9,9 +9,7 @@ ghost use Rattle.handlebars_helpers.specs.DecoratorsView.{tag_view};
 ghost use Rattle.handlebars_scope.specs.Contexts.{data_of};
 ghost use Rattle.handlebars_call_tests.specs.Parts.{first_values};
 
-use handlebars::{Context, Decorator, JsonValue};
-use handlebars_helpers::decorators::def::DecoratorDef;
-use handlebars_helpers::decorators::{DecoratorResult, DecoratorStep};
+use handlebars::{Context, Decorator, DecoratorDef, DecoratorResult, DecoratorStep, JsonValue};
 use std::alloc::{AllocError, Global};
 
 /// Sets data in the place of what was given.

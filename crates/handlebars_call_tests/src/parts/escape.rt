@@ -4,8 +4,7 @@ ghost use Rattle.std.specs.Prelude.{◌≡◌, ◌++◌};
 ghost use Rattle.std.proofs.Common.{sym, ◌∙◌};
 ghost use Rattle.handlebars_base.specs.Answers.{gives};
 
-use handlebars::RenderError;
-use handlebars_helpers::escape::def::EscapeFn;
+use handlebars::{EscapeFn, RenderError};
 use std::alloc::Global;
 
 /// Writes each text twice.

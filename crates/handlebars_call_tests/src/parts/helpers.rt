@@ -8,9 +8,9 @@ ghost use Rattle.handlebars_helpers.specs.Own.{not_offered, offers, offers_missi
 ghost use Rattle.handlebars_helpers.specs.View.{helper_view};
 ghost use Rattle.handlebars_call_tests.specs.Parts.{distance, shown_at};
 
-use handlebars::{Context, Helper, JsonValue, RenderError};
-use handlebars_helpers::own::def::HelperDef;
-use handlebars_helpers::own::{HelperResult, HelperStep, HelperValue};
+use handlebars::{
+    Context, Helper, HelperDef, HelperResult, HelperStep, HelperValue, JsonValue, RenderError,
+};
 use std::alloc::{AllocError, Global};
 
 /// Renders its body twice.
@@ -211,8 +211,8 @@ fn distance_said(alloc: Global, h: &Helper) -> Result<String, AllocError>
     }
 }
 
-// The text of a parameter, and none where it isn't there.
-fn shown(alloc: Global, h: &Helper, index: usize) -> Result<String, AllocError>
+/// The text of a parameter, and none where it isn't there.
+pub fn shown(alloc: Global, h: &Helper, index: usize) -> Result<String, AllocError>
     ensures { IfOk result (λ text. string_bytes text ≡ shown_at index (helper_view h.now)) }
 {
     match h.param(index) {

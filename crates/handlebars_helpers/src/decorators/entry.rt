@@ -8,23 +8,26 @@ ghost use Rattle.handlebars_helpers.specs.Own.{HasOne};
 ghost use Rattle.handlebars_helpers.specs.OwnDecorator.{TagAsked};
 ghost use Rattle.handlebars_helpers.specs.OwnView.{IsOneOf};
 
-use crate::by_name::ByName;
 use crate::decorators::DecoratorResult;
 use crate::decorators::def::DecoratorDef;
+use crate::decorators::function::FnDecorator;
 use crate::decorators::view::Decorator;
 use handlebars_scope::context::Context;
 
-/// What stands under a decorator's name, where decorators of one's own are kept as `D`.
+/// What stands under a decorator's name, where decorators of one's own are kept as `D`, and functions
+/// that stand for one as `G`.
 #[derive(Drop)]
-pub enum DecoratorEntryOf<D> {
+pub enum DecoratorEntryOf<D, G> {
     /// Makes its body a partial of the nearest block of scope, under the name that its first parameter says.
     Inline,
     /// A decorator of one's own.
     Own(D),
+    /// A function that stands for a decorator.
+    Function(G),
 }
 
 /// What stands under a decorator's name.
-pub type DecoratorEntry = DecoratorEntryOf<Box<dyn DecoratorDef>>;
+pub type DecoratorEntry = DecoratorEntryOf<Box<dyn DecoratorDef>, FnDecorator>;
 
 /// A decorator of one's own, as it is kept under a name and asked by it.
 pub trait DecoratorPart: Drop {
@@ -41,7 +44,7 @@ pub trait DecoratorPart: Drop {
         ensures { IsOneOf (has_deeds self.now (tag_asked_with d.now given.now changed.entry strict)) deeds_of result };
 
     /// No decorator that is kept so has two answers to one question.
-    fn keeps_law(_entries: &ByName<DecoratorEntryOf<Self>>)
+    fn keeps_law(_kept: &Option<Self>)
         ensures { (d : Self) (q : TagAsked) → HasOne (has_deeds d q) };
 }
 
@@ -58,5 +61,5 @@ impl DecoratorPart for Box<dyn DecoratorDef> {
         self.call(d, given, changed, strict)
     }
 
-    fn keeps_law(_entries: &ByName<DecoratorEntryOf<Box<dyn DecoratorDef>>>) {}
+    fn keeps_law(_kept: &Option<Box<dyn DecoratorDef>>) {}
 }

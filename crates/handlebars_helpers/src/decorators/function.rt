@@ -4,7 +4,7 @@ ghost use Rattle.std.specs.Prelude.{◌≡◌};
 ghost use Rattle.handlebars_helpers.specs.DecoratorsView.{deeds_of, tag_asked_with};
 ghost use Rattle.handlebars_helpers.specs.Functions.{AnswersAt, AnswersOnceAt, AnswersOnceAt_prop};
 
-use crate::decorators::def::DecoratorDef;
+use crate::decorators::entry::DecoratorPart;
 use crate::decorators::view::Decorator;
 use crate::decorators::{DecoratorResult, DecoratorStep};
 use crate::refusal::FnRefusal;
@@ -37,23 +37,23 @@ impl FnDecorator {
 }
 
 /// A function answers what it answers.
-impl DecoratorDef for FnDecorator {
+impl DecoratorPart for FnDecorator {
     ghost has_deeds = { λ d. AnswersAt tag_asked_with deeds_of (DecoratorFn.post d.f) };
 
-    fn call(
+    fn deeds(
         &self,
         d: &Decorator,
-        data: &Context,
+        given: &Context,
         changed: Option<&Context>,
         strict: bool,
     ) -> DecoratorResult {
-        match ask(&self.f, d, data, &changed, strict) {
+        match ask(&self.f, d, given, &changed, strict) {
             Ok(deeds) => Ok(deeds),
             Err(refusal) => Err(refusal.into()),
         }
     }
 
-    ghost one_deeds = { λ d q. d.once q };
+    fn keeps_law(_kept: &Option<FnDecorator>) {}
 }
 
 fn ask(

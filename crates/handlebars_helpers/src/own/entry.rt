@@ -6,23 +6,26 @@ ghost use Rattle.handlebars_helpers.specs.Own.{Asked, HasOne, Offer, Step};
 ghost use Rattle.handlebars_helpers.specs.OwnView.{IsOneOf, asked_with, offer_of, steps_of};
 
 use crate::built_in::BuiltIn;
-use crate::by_name::ByName;
 use crate::own::def::HelperDef;
+use crate::own::function::FnHelper;
 use crate::own::{HelperResult, HelperValue};
 use crate::view::Helper;
 use handlebars_base::error::RenderError;
 use handlebars_scope::context::Context;
 
-/// What stands under a helper's name, where helpers of one's own are kept as `B`.
+/// What stands under a helper's name, where helpers of one's own are kept as `B`, and functions that
+/// stand for one as `F`.
 #[derive(Drop)]
-pub enum HelperEntryOf<B> {
+pub enum HelperEntryOf<B, F> {
     Built(BuiltIn),
     /// A helper of one's own.
     Own(B),
+    /// A function that stands for a helper.
+    Function(F),
 }
 
 /// What stands under a helper's name.
-pub type HelperEntry = HelperEntryOf<Box<dyn HelperDef>>;
+pub type HelperEntry = HelperEntryOf<Box<dyn HelperDef>, FnHelper>;
 
 /// A helper of one's own, as it is kept under a name and asked by it.
 pub trait HelperPart: Drop {
@@ -51,7 +54,7 @@ pub trait HelperPart: Drop {
         ensures { IsOneOf (has_offer self.now (asked_with h.now given.now changed.entry strict)) offer_of result };
 
     /// No helper that is kept so has two answers to one question.
-    fn keeps_law(_entries: &ByName<HelperEntryOf<Self>>)
+    fn keeps_law(_kept: &Option<Self>)
         ensures steps { (h : Self) (q : Asked) → HasOne (has_steps h q) }
         ensures offer { (h : Self) (q : Asked) → HasOne (has_offer h q) };
 }
@@ -81,5 +84,5 @@ impl HelperPart for Box<dyn HelperDef> {
         self.call_inner(h, given, changed, strict)
     }
 
-    fn keeps_law(_entries: &ByName<HelperEntryOf<Box<dyn HelperDef>>>) {}
+    fn keeps_law(_kept: &Option<Box<dyn HelperDef>>) {}
 }

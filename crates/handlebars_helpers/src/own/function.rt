@@ -1,13 +1,12 @@
 //! Functions that stand for helpers.
 
 ghost use Rattle.std.specs.Prelude.{◌≡◌};
-ghost use Rattle.std.proofs.Common.{sym, ◌∙◌};
 ghost use Rattle.handlebars_base.specs.Answers.{gives};
 ghost use Rattle.handlebars_helpers.specs.Functions.{AnswersAt, AnswersOnceAt, AnswersOnceAt_prop};
 ghost use Rattle.handlebars_helpers.specs.Own.{not_offered};
 ghost use Rattle.handlebars_helpers.specs.OwnView.{asked_with, steps_of};
 
-use crate::own::def::HelperDef;
+use crate::own::entry::HelperPart;
 use crate::own::{HelperResult, HelperStep, HelperValue};
 use crate::refusal::FnRefusal;
 use crate::view::Helper;
@@ -41,37 +40,35 @@ impl FnHelper {
 }
 
 /// A function offers no value, and answers what it answers.
-impl HelperDef for FnHelper {
+impl HelperPart for FnHelper {
     ghost has_steps = { λ h. AnswersAt asked_with steps_of (HelperFn.post h.f) };
 
     ghost has_offer = { λ h q a. a ≡ gives not_offered };
 
-    fn call_inner(
+    fn steps(
+        &self,
+        h: &Helper,
+        given: &Context,
+        changed: Option<&Context>,
+        strict: bool,
+    ) -> HelperResult {
+        match ask(&self.f, h, given, &changed, strict) {
+            Ok(steps) => Ok(steps),
+            Err(refusal) => Err(refusal.into()),
+        }
+    }
+
+    fn offer(
         &self,
         _h: &Helper,
-        _data: &Context,
+        _given: &Context,
         _changed: Option<&Context>,
         _strict: bool,
     ) -> Result<HelperValue, RenderError> {
         Ok(HelperValue::NotOffered)
     }
 
-    fn call(
-        &self,
-        h: &Helper,
-        data: &Context,
-        changed: Option<&Context>,
-        strict: bool,
-    ) -> HelperResult {
-        match ask(&self.f, h, data, &changed, strict) {
-            Ok(steps) => Ok(steps),
-            Err(refusal) => Err(refusal.into()),
-        }
-    }
-
-    ghost one_steps = { λ h q. h.once q };
-
-    ghost one_offer = { λ h q a b i j. ∣ i ∙ sym j ∣₁ };
+    fn keeps_law(_kept: &Option<FnHelper>) {}
 }
 
 fn ask(

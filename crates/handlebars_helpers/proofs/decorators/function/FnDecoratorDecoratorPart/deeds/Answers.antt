@@ -1,11 +1,11 @@
 use Rattle.std.proofs.Common.{Err, refl}
 use Rattle.handlebars_helpers.proofs.Refused.{refused-says}
-use Rattle.handlebars_helpers.proofs.decorators.function.FnDecoratorDecoratorDef.call.Goals as goal
+use Rattle.handlebars_helpers.proofs.decorators.function.FnDecoratorDecoratorPart.deeds.Goals as goal
 
 pub returns-in-Err : goal.returns-in-Err
 returns-in-Err g c = λ fed. record {
   view = c.args.d;
-  given = c.args.data;
+  given = c.args.given;
   changed = _;
   strict = c.args.strict;
   result = Err c.in-Err.refusal;

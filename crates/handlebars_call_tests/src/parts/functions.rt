@@ -1,0 +1,42 @@
+//! Functions of a caller's own that stand for a helper and for a decorator.
+
+ghost use Rattle.std.specs.Prelude.{◌≡◌, ◌∷◌, [], MatchResult, Some, codes};
+ghost use Rattle.handlebars_base.specs.Reasons.{out_of_memory};
+ghost use Rattle.handlebars_helpers.specs.Decoration.{binds};
+ghost use Rattle.handlebars_helpers.specs.DecoratorsView.{deeds_of};
+ghost use Rattle.handlebars_helpers.specs.FnRefusals.{refused_for};
+ghost use Rattle.handlebars_helpers.specs.Own.{writes};
+ghost use Rattle.handlebars_helpers.specs.OwnView.{steps_of};
+ghost use Rattle.handlebars_helpers.specs.View.{helper_view};
+ghost use Rattle.handlebars_call_tests.specs.Parts.{shown_at};
+
+use crate::parts::helpers::shown;
+use handlebars::{DecoratorStep, FnDeeds, FnSteps, Helper, HelperStep};
+use std::alloc::Global;
+
+/// Writes its parameter.
+pub fn written(alloc: Global, h: &Helper) -> FnSteps
+    ensures { MatchResult result (λ steps. steps_of steps ≡ Some (writes (shown_at 0 (helper_view h.now)) ∷ []))
+        (λ e. refused_for e ≡ out_of_memory) }
+{
+    let text = shown(alloc, h, 0)?;
+    Ok(Some(vec![in alloc; HelperStep::Write(text)]?))
+}
+
+/// Makes `size` a name of `len`.
+pub fn renamed(alloc: Global) -> FnDeeds
+    ensures { MatchResult result
+        (λ deeds. deeds_of deeds ≡ binds (codes "size") (record { registered = codes "len"; constants = [] }) ∷ [])
+        (λ e. refused_for e ≡ out_of_memory) }
+{
+    let local = String::from_str(alloc, "size")?;
+    let registered = String::from_str(alloc, "len")?;
+    let constants = Vec::new(alloc);
+    Ok(vec![in alloc;
+        DecoratorStep::BindHelper {
+            local,
+            registered,
+            constants
+        },
+    ]?)
+}
