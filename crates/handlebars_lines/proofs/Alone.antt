@@ -1,18 +1,21 @@
--- A path alone is a line.
-use Rattle.std.proofs.Common.{◌≡◌, ℕ, ◌<◌, Bool, true, false, List, [], ◌∷◌, length, Some, refl, sym, ap, subst, arith}
+-- A path alone is a line, and so is one path behind a name.
+use Rattle.std.proofs.Common.{◌≡◌, ℕ, ◌<◌, Bool, true, false, List, [], ◌∷◌, ◌++◌, length, Some, None, refl, sym, ap, subst, ◌∙◌, append_assoc, arith}
 use Rattle.std.specs.Prelude.{◌||◌, ◌==◌, not}
 use Rattle.std.specs.List.{prefix_len, list_all}
 use Rattle.std.proofs.lemmas.List.{take-append-drop, append-nil}
-use Rattle.handlebars_base.specs.Bytes.{dot, slash, at_sign, left_bracket, is_symbol}
+use Rattle.handlebars_base.specs.Bytes.{dot, slash, at_sign, left_bracket, is_symbol, is_white, behind_white}
 use Rattle.handlebars_base.specs.Path.{IsIdentifier, IsPath, plain, in_parts, meaning}
 use Rattle.handlebars_base.specs.PathReading.{slice_at, stops}
 use Rattle.handlebars_base.specs.Texts.{starts, symbols_of, behind_symbols}
+use Rattle.handlebars_base.proofs.Fronts.{behind_white-skips, white_some, dark_behind}
 use Rattle.handlebars_base.proofs.Runs.{prefix_pass, behind_symbols-stops}
-use Rattle.handlebars_lines.specs.Alone.{is_path_mark, IsAlone}
-use Rattle.handlebars_lines.specs.Parameter.{path_term, no_terms, path_shape, no_items}
-use Rattle.handlebars_lines.specs.Line.{value_name, term_name, Enclosure, is_end, IsLine}
+use Rattle.handlebars_lines.specs.Alone.{is_path_mark, IsAlone, IsNamed}
+use Rattle.handlebars_lines.specs.LiteralReading.{literal_at}
+use Rattle.handlebars_lines.specs.Parameter.{path_term, name_term, no_terms, term, path_shape, no_items, parameter_item, is_reserved}
+use Rattle.handlebars_lines.specs.Line.{identifier_name, value_name, plain_name, term_name, Enclosure, is_end, IsLine}
 use Rattle.handlebars_lines.specs.LineLaws.{HasLine}
 use Rattle.handlebars_lines.proofs.LineMarks.{slice_at-some, slice_at-stops}
+use Rattle.handlebars_lines.proofs.LinesRead.{path_chosen}
 
 no_marks : (s d l a b : Bool) → s ≡ false → (d || (l || (a || b))) ≡ false → not ((s || (d || (l || a))) || b) ≡ true
 no_marks false false false false false e f = refl
@@ -64,3 +67,43 @@ alone_line around t raw rest h = record {
 
 pub alone_has_line : (around : Enclosure) (t raw rest : List ℕ) → IsAlone around t raw rest → HasLine value_name around t 0 rest
 alone_has_line around t raw rest h = record { line = record { name = path_term h.means; terms = no_terms; depth = 0 }; is = alone_line around t raw rest h; deep = refl }
+
+-- ---- one path behind a name
+
+pub is_named : (around : Enclosure) (t raw rest : List ℕ) → 0 < length (symbols_of t) → starts is_white (behind_symbols t) ≡ true
+    → slice_at (behind_white (behind_symbols t)) ≡ Some (raw, rest) → literal_at (behind_white (behind_symbols t)) ≡ None → is_reserved raw ≡ false
+    → is_end around rest ≡ true → IsNamed around t (symbols_of t) raw rest
+is_named around t raw rest some blank e none free closes =
+    let behind = behind_symbols t in
+    let takes = slice_at-some (behind_white behind) (raw, rest) e in
+    let skips = behind_white-skips behind in
+    record {
+      white = skips.white;
+      means = takes.means;
+      whole =
+          sym (take-append-drop (prefix_len is_symbol t) t)
+          ∙ ap (λ (z : List ℕ). symbols_of t ++ z) (skips.whole ∙ ap (λ (z : List ℕ). skips.white ++ z) takes.whole);
+      is_name = symbols_name t some;
+      is_white = skips.is;
+      some_white = white_some behind skips.white (behind_white behind) blank skips.whole (dark_behind behind);
+      is_free = free;
+      is_chosen = path_chosen raw rest takes.means (ap literal_at (sym takes.whole) ∙ none);
+      is_path = takes.is;
+      closes = closes;
+    }
+
+pub named_line : (around : Enclosure) (t name raw rest : List ℕ) (h : IsNamed around t name raw rest)
+    → IsLine identifier_name around t (record { name = name_term name; terms = term None (path_term h.means) no_terms; depth = 0 }) rest
+named_line around t name raw rest h = record {
+  name = plain_name name;
+  items = parameter_item h.white (path_shape raw h.means) no_items;
+  whole = h.whole ∙ ap (λ (z : List ℕ). name ++ z) (sym (append_assoc h.white (raw ++ []) rest ∙ ap (λ (z : List ℕ). h.white ++ (z ++ rest)) (append-nil raw)));
+  is_name = h.is_name;
+  are_items = (h.is_white, h.some_white, h.is_free, h.is_chosen, h.is_path, tt);
+  closes = h.closes;
+  gives = refl;
+}
+
+pub named_has_line : (around : Enclosure) (t name raw rest : List ℕ) → IsNamed around t name raw rest → HasLine identifier_name around t 0 rest
+named_has_line around t name raw rest h =
+    record { line = record { name = name_term name; terms = term None (path_term h.means) no_terms; depth = 0 }; is = named_line around t name raw rest h; deep = refl }

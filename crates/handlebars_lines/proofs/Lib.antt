@@ -9,6 +9,7 @@ pub mod LiteralsFound
 pub mod JsonOf
 pub mod CommonJson
 pub mod LiteralLoop
+pub mod LiteralNames
 pub mod Endings
 pub mod LineMarks
 pub mod CloseNames

@@ -1,7 +1,9 @@
--- Lines with a path alone.
-use Rattle.std.specs.Prelude.{◌≡◌, ℕ, Bool, ◌||◌, ◌==◌, ◌++◌}
+-- Lines with a path alone, or with one path behind a name.
+use Rattle.std.specs.Prelude.{◌≡◌, ◌≢◌, ℕ, Bool, false, ◌||◌, ◌==◌, [], ◌++◌}
 use Rattle.handlebars_base.specs.Bytes.{Text, dot, slash, at_sign, left_bracket}
-use Rattle.handlebars_base.specs.Path.{Reference, IsPath}
+use Rattle.handlebars_base.specs.Path.{IsIdentifier, Reference, IsPath}
+use Rattle.handlebars_base.specs.Texts.{IsWhite}
+use Rattle.handlebars_lines.specs.Parameter.{path_shape, is_reserved, IsChosen}
 use Rattle.handlebars_lines.specs.Line.{Enclosure, Closes}
 
 -- a mark with which a path may go on behind a name
@@ -12,5 +14,18 @@ is_path_mark b = b == dot || (b == slash || (b == at_sign || b == left_bracket))
 pub record IsAlone (around : Enclosure) (text raw left : Text) : Type 0 where
   pub means : Reference
   pub whole : text ≡ raw ++ left
+  pub is_path : IsPath raw means
+  pub closes : Closes around left
+
+-- In front of the text stand a name, white and a path that is a parameter there, and what is left ends their line.
+pub record IsNamed (around : Enclosure) (text name raw left : Text) : Type 0 where
+  pub white : Text
+  pub means : Reference
+  pub whole : text ≡ name ++ (white ++ (raw ++ left))
+  pub is_name : IsIdentifier name
+  pub is_white : IsWhite white
+  pub some_white : white ≢ []
+  pub is_free : is_reserved raw ≡ false
+  pub is_chosen : IsChosen (path_shape raw means) left
   pub is_path : IsPath raw means
   pub closes : Closes around left

@@ -1,6 +1,6 @@
 -- Reading a literal from left to right, with the kinds of its open brackets, as functions on lists.
 use Rattle.std.specs.Prelude.{ℕ, suc, ◌+◌, ◌-◌, Bool, true, false, not, ◌&&◌, ◌||◌, ◌==◌, if◌then◌else◌, max, List, [], ◌∷◌, length, take, drop, Option, Some, None, is_some}
-use Rattle.std.specs.Char.{is_ascii_digit}
+use Rattle.std.specs.Char.{is_ascii_digit, is_ascii_lowercase}
 use Rattle.std.specs.List.{prefix_len}
 use Rattle.handlebars_base.specs.Bytes.{Text, double_quote, single_quote, hyphen, colon, backslash, left_bracket, left_brace, behind_white}
 use Rattle.handlebars_base.specs.Optional.{◌>>=◌, with_or}
@@ -19,6 +19,10 @@ behind_quote quote false (b ∷ t) = if b == quote then Some t else behind_quote
 -- a byte that a number may begin with
 abbrev pub begins_number : ℕ → Bool
 begins_number b = is_ascii_digit b || (b == hyphen)
+
+-- a small letter with which no literal begins
+abbrev pub begins_name : ℕ → Bool
+begins_name b = is_ascii_lowercase b && not ((b == 110) || ((b == 116) || (b == 102)))
 
 -- the longest front in which each byte goes on
 abbrev pub run_of : Text → Text

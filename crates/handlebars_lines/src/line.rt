@@ -13,7 +13,7 @@ mod close_name;
 mod marks;
 mod step;
 
-pub use alone::{LonePath, path_alone};
+pub use alone::{LonePath, NamedPath, path_alone, path_named};
 pub use close_name::close_name_at;
 pub use step::{Enclosure, Event, LineStand, NameMode, Stand, Step, take_step};
 
@@ -40,7 +40,8 @@ pub fn split_line<'a>(
     }
 }
 
-/// The line, where a path is alone in it and no step is needed. Where it answers none, that says nothing.
+/// The line, where a path is alone in it, or alone behind a name, and no step is needed. Where it answers none, that says nothing.
+#[inline(always)]
 fn split_alone(mode: NameMode, around: Enclosure, text: &str) -> Option<LineSlice<'_>>
     ensures { IfSome result
         (λ slice. HasLine (mode_of mode) (enclosure_of around) text.now slice.depth slice.rest.now) }
@@ -53,7 +54,13 @@ fn split_alone(mode: NameMode, around: Enclosure, text: &str) -> Option<LineSlic
             }),
             None => None,
         },
-        NameMode::Identifier => None,
+        NameMode::Identifier => match path_named(around, text) {
+            Some(found) => Some(LineSlice {
+                depth: 0,
+                rest: found.rest,
+            }),
+            None => None,
+        },
         NameMode::Close => None,
     }
 }

@@ -1,12 +1,12 @@
 //! Literals, without recursion: one token after the other, and the kinds of the open brackets.
 
-ghost use Rattle.std.specs.Prelude.{◌≡◌, ◌<◌, ◌≤◌, ◌++◌, ◌∷◌, [], length, max, IfOk, OnOk, IfSome, MatchOption};
+ghost use Rattle.std.specs.Prelude.{◌≡◌, ◌<◌, ◌≤◌, ◌++◌, ◌∷◌, [], true, None, length, max, IfOk, OnOk, IfSome, MatchOption};
 ghost use Rattle.std.specs.List.{list_all};
 ghost use Rattle.std.specs.Char.{is_ascii_digit};
 ghost use Rattle.std.specs.Option.{option_map};
 ghost use Rattle.handlebars_base.specs.Texts.{IsEnd, starts};
 ghost use Rattle.handlebars_lines.specs.Literal.{is_digits, is_integer, is_decimal, is_number, number_of, is_kept_below, is_kept, is_word, closer};
-ghost use Rattle.handlebars_lines.specs.LiteralReading.{begins_number, plain_at, undoubled_at, unbracketed_at, keeps_at, behind_colon, behind_key, behind_lead, bracket_token, value_token, comma_token, entry_token, token_at, innermost, slice_to, literal_at};
+ghost use Rattle.handlebars_lines.specs.LiteralReading.{begins_number, begins_name, plain_at, undoubled_at, unbracketed_at, keeps_at, behind_colon, behind_key, behind_lead, bracket_token, value_token, comma_token, entry_token, token_at, innermost, slice_to, literal_at};
 ghost use Rattle.handlebars_lines.specs.LiteralView.{bracket_of, stack_of, token_of, literal_slice_of};
 ghost use Rattle.handlebars_lines.specs.Laws.{HasLiteral, NoLiteral};
 
@@ -170,6 +170,7 @@ fn plain_at(text: &str) -> Option<&str>
 }
 
 /// Inside brackets texts stand in double quotes alone.
+#[inline(always)]
 #[tactic(auto, unfolding(crate::specs::LiteralReading::undoubled_at))]
 fn undoubled_at(inside: bool, text: &str) -> Option<&str>
     ensures { option_map (λ rest. rest.now) result ≡ undoubled_at inside text.now }
@@ -183,6 +184,7 @@ fn undoubled_at(inside: bool, text: &str) -> Option<&str>
     }
 }
 
+#[inline(always)]
 #[tactic(auto, unfolding(crate::specs::LiteralReading::unbracketed_at))]
 fn unbracketed_at(inside: bool, text: &str) -> Option<&str>
     ensures { option_map (λ rest. rest.now) result ≡ unbracketed_at inside text.now }
@@ -251,6 +253,7 @@ fn bracket_token(bracket: Bracket, text: &str) -> Token<'_>
 }
 
 /// Where a literal is to stand, inside brackets or not.
+#[inline(always)]
 #[tactic(auto, unfolding(crate::specs::LiteralReading::value_token))]
 fn value_token(inside: bool, text: &str) -> Token<'_>
     ensures { token_of result ≡ value_token inside text.now }
@@ -291,6 +294,7 @@ fn entry_token(bracket: Bracket, text: &str) -> Token<'_>
 }
 
 /// What stands next: ahead of a literal or behind one, inside this bracket.
+#[inline(always)]
 #[tactic(auto, unfolding(crate::specs::LiteralReading::token_at))]
 fn token_at(ahead: bool, innermost: Option<Bracket>, text: &str) -> Token<'_>
     ensures { token_of result ≡ token_at ahead (option_map bracket_of innermost) text.now }
@@ -305,12 +309,14 @@ fn token_at(ahead: bool, innermost: Option<Bracket>, text: &str) -> Token<'_>
 }
 
 /// What stands next inside these brackets, the outermost first.
+#[inline(always)]
 fn token_in<'a>(ahead: bool, around: &Vec<Bracket>, text: &'a str) -> Token<'a>
     ensures { token_of result ≡ token_at ahead (innermost (stack_of around.now.items)) text.now }
 {
     token_at(ahead, around.last().copied(), text)
 }
 
+#[inline(always)]
 pub(crate) fn larger(a: usize, b: usize) -> usize
     ensures { result ≡ max a b }
 {
@@ -348,8 +354,37 @@ fn slice_to<'a>(text: &'a str, rest: &'a str, depth: usize, kept: bool) -> Optio
     })
 }
 
-/// The literal in front, by its tokens.
+/// A small letter with which no literal begins.
+fn begins_name(byte: u8) -> bool
+    ensures { result ≡ begins_name byte }
+{
+    byte.is_ascii_lowercase() && !(byte == b'n' || byte == b't' || byte == b'f')
+}
+
+/// Whether such a letter stands in front, and so no literal.
+pub(crate) fn starts_name(text: &str) -> bool
+    ensures starts { result ≡ starts begins_name text.now }
+    ensures none { result ≡ true → literal_at text.now ≡ None }
+{
+    match text.as_bytes() {
+        [first, ..] => begins_name(*first),
+        [] => false,
+    }
+}
+
+/// The literal in front. Most texts that stand where one may are names, as their first byte tells.
 pub(crate) fn literal_at(alloc: Global, text: &str) -> Result<Option<LiteralSlice<'_>>, AllocError>
+    ensures reads { IfOk result (λ read. option_map literal_slice_of read ≡ literal_at text.now) }
+    ensures depth { IfOk result (λ read. IfSome read (λ slice. slice.depth ≤ length text.now)) }
+{
+    if starts_name(text) {
+        return Ok(None);
+    }
+    literal_throughout(alloc, text)
+}
+
+/// The literal in front, by its tokens.
+fn literal_throughout(alloc: Global, text: &str) -> Result<Option<LiteralSlice<'_>>, AllocError>
     ensures reads { IfOk result (λ read. option_map literal_slice_of read ≡ literal_at text.now) }
     ensures depth { IfOk result (λ read. IfSome read (λ slice. slice.depth ≤ length text.now)) }
 {

@@ -33,8 +33,28 @@ struct Chunk<'a> {
 }
 
 /// The text in front of a source, up to so many braces, in time linear in its slice. Where nothing is escaped, it is
-/// copied once.
+/// one part, and copied once.
 pub fn text<'a>(alloc: Global, until: Braces, source: &'a str) -> Result<TextFront<'a>, AllocError>
+    ensures whole { IfOk result (λ front. source.now ≡ front.slice.now ++ front.rest.now) }
+    ensures reads { IfOk result
+        (λ front. IsText (braces_of until) front.rest.now front.slice.now (string_bytes front.kept)) }
+{
+    let chunk = next_chunk(until, source);
+    if !chunk.is_last {
+        return text_by_chunks(alloc, until, source);
+    }
+    let (slice, rest) = source.split_at(source.len() - chunk.rest.len());
+    let kept = String::from_str(alloc, chunk.kept)?;
+    Ok(TextFront { kept, slice, rest })
+}
+
+// The same, part by part.
+#[inline(never)]
+fn text_by_chunks<'a>(
+    alloc: Global,
+    until: Braces,
+    source: &'a str,
+) -> Result<TextFront<'a>, AllocError>
     ensures whole { IfOk result (λ front. source.now ≡ front.slice.now ++ front.rest.now) }
     ensures reads { IfOk result
         (λ front. IsText (braces_of until) front.rest.now front.slice.now (string_bytes front.kept)) }
@@ -53,6 +73,7 @@ pub fn text<'a>(alloc: Global, until: Braces, source: &'a str) -> Result<TextFro
 }
 
 // The next part of a text.
+#[inline(always)]
 fn next_chunk<'a>(until: Braces, source: &'a str) -> Chunk<'a>
     ensures on { result.is_last ≡ false → GoesOn (braces_of until) source.now result.kept.now result.rest.now }
     ensures shorter { result.is_last ≡ false → length result.rest.now < length source.now }
@@ -79,6 +100,7 @@ fn next_chunk<'a>(until: Braces, source: &'a str) -> Chunk<'a>
 
 // The part that begins with backslashes before braces. One of them is dropped: it makes the braces text, or is the
 // first of several.
+#[inline(never)]
 fn escape<'a>(until: Braces, source: &'a str, run: usize) -> Chunk<'a>
     requires some { run ≢ 0 }
     requires run { run ≡ backslashes source.now }

@@ -14,14 +14,16 @@ use Rattle.handlebars_base.proofs.OptionBinds.{nonempty}
 use Rattle.handlebars_base.specs.PathReading.{path_of}
 use Rattle.handlebars_base.specs.Optional.{◌>>=◌}
 use Rattle.handlebars_lines.specs.Runs.{goes, ends, stuck}
-use Rattle.handlebars_lines.specs.Line.{NameMode, value_name, Enclosure, Line, IsLine}
-use Rattle.handlebars_lines.specs.Parameter.{path_term, no_terms}
-use Rattle.handlebars_lines.specs.Alone.{IsAlone}
-use Rattle.handlebars_lines.proofs.Alone.{name_path, alone_line}
+use Rattle.handlebars_lines.specs.Line.{NameMode, identifier_name, value_name, Enclosure, Line, IsLine}
+use Rattle.handlebars_lines.specs.Parameter.{path_term, name_term, Terms, no_terms, term}
+use Rattle.handlebars_lines.specs.Alone.{IsAlone, IsNamed}
+use Rattle.handlebars_lines.proofs.Alone.{name_path, alone_line, named_line}
 use Rattle.handlebars_lines.specs.LineReading.{Event, at_name, LineStand, line_stand, line_step, OpenLines, first_lines, build, build_all}
 use Rattle.handlebars_lines.proofs.Endings.{Through, through-goes, runs-goes, runs-ends, runs-stuck}
 use Rattle.handlebars_lines.proofs.Lines.{line_found, one_line}
-use Rattle.handlebars_template.specs.LineBuildingView.{OpenCalls, AreCallsOf, IsTaken, whole_line, IsPathAlone}
+use Rattle.handlebars_template.specs.LineBuildingView.{OpenCalls, AreCallsOf, IsTaken, whole_line, IsPathAlone, HasArguments}
+use Rattle.handlebars_template.specs.Tree.{Args, no_arguments, path}
+use Rattle.handlebars_template.specs.Calls.{add_argument, arguments_in, literals_in, first_refused}
 
 -- ---- what the steps so far have built
 
@@ -114,6 +116,17 @@ pub lone-read : {E : Type 0} (around : Enclosure) (t raw rest : Text) → IsAlon
 lone-read around t raw rest h (Ok None) found = tt
 lone-read around t raw rest h (Ok (Some p)) found = lone-path around t raw rest (reference_of p) h found
 lone-read around t raw rest h (Err e) found = tt
+
+-- ---- one path behind a name
+
+pub named-path : (around : Enclosure) (t name raw rest : Text) (means : Reference) → IsNamed around t name raw rest → Some means ≡ path_of raw
+    → (xs : Args) → xs ≡ add_argument None (path means) no_arguments → (line : Line) (left : Text) → IsLine identifier_name around t line left → HasArguments line xs
+named-path around t name raw rest means h found xs is line left l =
+    let one : Line = record { name = name_term name; terms = term None (path_term h.means) no_terms; depth = 0 } in
+    let same : line ≡ one = (one_line identifier_name around t line one left rest l (named_line around t name raw rest h)).0 in
+    let read : means ≡ h.means = same_Some means h.means (found ∙ path_known raw h.means h.is_path) in
+    let terms : line.terms ≡ term None (path_term means) no_terms = ap (λ (z : Line). z.terms) same ∙ ap (λ (z : Reference). term None (path_term z) no_terms) (sym read) in
+    record { arguments = is ∙ ap (arguments_in no_arguments) (sym terms); refused = ap (λ (z : Terms). first_refused (literals_in z)) (sym terms) }
 
 -- a name alone
 pub path_of-name : (raw : Text) → IsIdentifier raw → Some (relative (name_segments raw) raw) ≡ path_of raw

@@ -99,3 +99,8 @@ IsBuilt line read = MatchOption read ⊥ (IsCallOf line)
 pub record IsPathAlone (line : Line) (means : Reference) : Type 0 where
   pub name : line.name ≡ path_term means
   pub terms : line.terms ≡ no_terms
+
+-- these arguments, and no literal that is refused
+pub record HasArguments (line : Line) (xs : Args) : Type 0 where
+  pub arguments : xs ≡ arguments_in no_arguments line.terms
+  pub refused : None ≡ first_refused (literals_in line.terms)

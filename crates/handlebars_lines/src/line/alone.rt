@@ -1,18 +1,21 @@
-//! Lines with a path alone, as most are: they need no steps.
+//! Lines with a path alone, as most are, or with one path behind a name: they need no steps.
 
-ghost use Rattle.std.specs.Prelude.{◌≡◌, true, IfSome, Some};
+ghost use Rattle.std.specs.Prelude.{◌≡◌, true, false, IfSome, Some, None};
 ghost use Rattle.std.specs.Option.{option_map};
 ghost use Rattle.handlebars_base.specs.Bytes.{Text};
 ghost use Rattle.handlebars_base.specs.Path.{IsIdentifier};
 ghost use Rattle.handlebars_base.specs.PathReading.{slice_at};
 ghost use Rattle.handlebars_base.specs.PathView.{slice_of};
 ghost use Rattle.handlebars_base.specs.Texts.{starts};
-ghost use Rattle.handlebars_lines.specs.Alone.{is_path_mark, IsAlone};
+ghost use Rattle.handlebars_lines.specs.Alone.{is_path_mark, IsAlone, IsNamed};
 ghost use Rattle.handlebars_lines.specs.LineView.{enclosure_of};
+ghost use Rattle.handlebars_lines.specs.LiteralReading.{literal_at};
+ghost use Rattle.handlebars_lines.specs.Parameter.{is_reserved};
 
 use super::marks::is_end;
-use super::step::Enclosure;
-use handlebars_base::json::path::marks::symbols;
+use super::step::{Enclosure, is_reserved};
+use crate::literal::starts_name;
+use handlebars_base::json::path::marks::{behind_white, starts_white, symbols};
 use handlebars_base::json::path::{PathSlice, split_path};
 
 /// Whether a path may go on with it behind a name.
@@ -40,6 +43,7 @@ pub struct LonePath<'a> {
 }
 
 /// A name that is the path in front. Where it answers none, that says nothing.
+#[inline(always)]
 fn name_front(text: &str) -> Option<PathSlice<'_>>
     ensures slice { IfSome result (λ slice. slice_at text.now ≡ Some (slice_of slice)) }
     ensures name { IfSome result (λ slice. IsIdentifier slice.raw.now) }
@@ -55,6 +59,7 @@ fn name_front(text: &str) -> Option<PathSlice<'_>>
 }
 
 /// What `split_path` finds, which isn't asked where a name alone is the path.
+#[inline(always)]
 pub fn path_slice(text: &str) -> Option<PathSlice<'_>>
     ensures { option_map slice_of result ≡ slice_at text.now }
 {
@@ -78,7 +83,67 @@ pub fn path_alone(around: Enclosure, text: &str) -> Option<LonePath<'_>>
     }
 }
 
+/// A name with one path behind it, and what follows that.
+#[derive(Clone, Copy)]
+pub struct NamedPath<'a> {
+    pub name: &'a str,
+    pub raw: &'a str,
+    pub rest: &'a str,
+}
+
+/// The path in front, where it begins as no literal does and is no reserved word. Where it answers none, that says
+/// nothing.
+fn free_path(text: &str) -> Option<PathSlice<'_>>
+    ensures slice { IfSome result (λ slice. slice_at text.now ≡ Some (slice_of slice)) }
+    ensures literal { IfSome result (λ slice. literal_at text.now ≡ None) }
+    ensures free { IfSome result (λ slice. is_reserved slice.raw.now ≡ false) }
+{
+    if !starts_name(text) {
+        return None;
+    }
+    match path_slice(text) {
+        Some(slice) => {
+            if is_reserved(slice.raw) {
+                None
+            } else {
+                Some(slice)
+            }
+        }
+        None => None,
+    }
+}
+
+/// The name and the one path behind it that are the line in front, as in most blocks. Where it answers none, that says
+/// nothing.
+pub fn path_named(around: Enclosure, text: &str) -> Option<NamedPath<'_>>
+    ensures { IfSome result
+        (λ found. IsNamed (enclosure_of around) text.now found.name.now found.raw.now found.rest.now) }
+{
+    let (name, behind) = symbols(text);
+    if name.is_empty() {
+        return None;
+    }
+    if !starts_white(behind) {
+        return None;
+    }
+    match free_path(behind_white(behind)) {
+        Some(slice) => {
+            if is_end(around, slice.rest) {
+                Some(NamedPath {
+                    name,
+                    raw: slice.raw,
+                    rest: slice.rest,
+                })
+            } else {
+                None
+            }
+        }
+        None => None,
+    }
+}
+
 /// A path, where the line ends behind it.
+#[inline(always)]
 fn lone<'a>(around: Enclosure, slice: PathSlice<'a>, is_name: bool) -> Option<LonePath<'a>>
     ensures alone { IfSome result (λ path. (text : Text) → slice_at text ≡ Some (slice_of slice.entry)
         → IsAlone (enclosure_of around) text path.raw.now path.rest.now) }

@@ -37,6 +37,7 @@ fn starts_parenthesis(text: &str) -> bool
 }
 
 /// Whether a line ends here, behind white or none.
+#[inline(always)]
 pub fn is_end(around: Enclosure, text: &str) -> bool
     ensures { result ≡ is_end (enclosure_of around) text.now }
 {
@@ -50,6 +51,7 @@ pub fn is_end(around: Enclosure, text: &str) -> bool
 }
 
 /// A key, and what follows its `=` and white.
+#[inline(always)]
 #[tactic(auto, unfolding(crate::specs::LineReading::key_and_equals_at))]
 pub fn key_and_equals_at(text: &str) -> Option<(&str, &str)>
     ensures { option_map texts_of result ≡ key_and_equals_at text.now }

@@ -76,6 +76,7 @@ pub enum Event<'a> {
 
 impl Event<'_> {
     /// How many parentheses and brackets are then open at once.
+    #[inline(always)]
     pub fn height(self) -> usize
         ensures { result ≡ height_of self.entry }
     {
@@ -101,6 +102,7 @@ pub enum Step<'a> {
 }
 
 /// Only an identifier takes items.
+#[inline(always)]
 fn behind_name(raw: &str) -> Stand
     ensures { stand_of result ≡ behind_name raw.now }
 {
@@ -112,6 +114,7 @@ fn behind_name(raw: &str) -> Stand
 }
 
 /// Behind an opening parenthesis.
+#[inline(always)]
 fn open_step<'a>(key: Option<&'a str>, level: usize, rest: &'a str) -> Step<'a>
     requires { level < 2 ^ 63 }
     ensures { step_of result ≡ open_step (key_of key.entry) level rest.now }
@@ -124,6 +127,7 @@ fn open_step<'a>(key: Option<&'a str>, level: usize, rest: &'a str) -> Step<'a>
 }
 
 /// A name by its text, if it isn't empty, and what follows it.
+#[inline(always)]
 fn plain_step<'a>(level: usize, name: &'a str, rest: &'a str) -> Step<'a>
     ensures { step_of result ≡ plain_step level (name.now, rest.now) }
 {
@@ -137,6 +141,7 @@ fn plain_step<'a>(level: usize, name: &'a str, rest: &'a str) -> Step<'a>
     Step::Goes(Event::Name(name), state, rest)
 }
 
+#[inline(always)]
 fn identifier_step(level: usize, text: &str) -> Step<'_>
     ensures { step_of result ≡ plain_step level (symbols_of text.now, behind_symbols text.now) }
 {
@@ -151,6 +156,7 @@ fn close_step(level: usize, text: &str) -> Step<'_>
     plain_step(level, name, rest)
 }
 
+#[inline(always)]
 fn value_step(level: usize, text: &str) -> Step<'_>
     ensures { step_of result ≡ value_step level text.now }
 {
@@ -164,6 +170,7 @@ fn value_step(level: usize, text: &str) -> Step<'_>
     }
 }
 
+#[inline(always)]
 #[tactic(auto, unfolding(crate::specs::LineReading::name_step))]
 fn name_step(mode: NameMode, level: usize, text: &str) -> Step<'_>
     requires { level < 2 ^ 63 }
@@ -182,7 +189,7 @@ fn name_step(mode: NameMode, level: usize, text: &str) -> Step<'_>
     }
 }
 
-fn is_reserved(raw: &str) -> bool
+pub(crate) fn is_reserved(raw: &str) -> bool
     ensures { result ≡ is_reserved raw.now }
 {
     match raw.as_bytes() {
@@ -193,6 +200,7 @@ fn is_reserved(raw: &str) -> bool
 }
 
 /// Behind a key a reserved word is a path.
+#[inline(always)]
 fn is_excluded(key: Option<&str>, raw: &str) -> bool
     ensures { result ≡ is_excluded (key_of key.entry) raw.now }
 {
@@ -202,6 +210,7 @@ fn is_excluded(key: Option<&str>, raw: &str) -> bool
     }
 }
 
+#[inline(always)]
 fn path_step<'a>(key: Option<&'a str>, level: usize, text: &'a str) -> Step<'a>
     ensures { step_of result ≡ path_step (key_of key.entry) level text.now }
 {
@@ -218,6 +227,7 @@ fn path_step<'a>(key: Option<&'a str>, level: usize, text: &'a str) -> Step<'a>
     Step::Goes(Event::Path(key, slice.raw, level), state, slice.rest)
 }
 
+#[inline(always)]
 #[tactic(auto, unfolding(crate::specs::LineReading::parameter_step))]
 fn parameter_step<'a>(
     alloc: Global,
@@ -244,6 +254,7 @@ fn parameter_step<'a>(
     }
 }
 
+#[inline(always)]
 #[tactic(auto, unfolding(crate::specs::LineReading::item_step))]
 fn item_step(alloc: Global, level: usize, text: &str) -> Result<Step<'_>, AllocError>
     requires { level < 2 ^ 63 }
@@ -255,6 +266,7 @@ fn item_step(alloc: Global, level: usize, text: &str) -> Result<Step<'_>, AllocE
     }
 }
 
+#[inline(always)]
 fn may_follow(stand: Stand) -> bool
     ensures { result ≡ may_follow (stand_of stand) }
 {
@@ -265,6 +277,7 @@ fn may_follow(stand: Stand) -> bool
 }
 
 /// An item stands behind white, where items may follow.
+#[inline(always)]
 fn next_step(alloc: Global, stand: Stand, level: usize, text: &str) -> Result<Step<'_>, AllocError>
     requires { level < 2 ^ 63 }
     ensures { IfOk result (λ step. step_of step ≡ next_step (stand_of stand) level text.now) }
@@ -277,6 +290,7 @@ fn next_step(alloc: Global, stand: Stand, level: usize, text: &str) -> Result<St
 }
 
 /// Where no parenthesis is open.
+#[inline(always)]
 fn outer_step(
     alloc: Global,
     around: Enclosure,
@@ -293,6 +307,7 @@ fn outer_step(
 }
 
 /// Where a parenthesis is open.
+#[inline(always)]
 fn inner_step(alloc: Global, stand: Stand, level: usize, text: &str) -> Result<Step<'_>, AllocError>
     requires inside { 0 < level }
     requires bounded { level < 2 ^ 63 }

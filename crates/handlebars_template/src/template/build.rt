@@ -193,16 +193,19 @@ fn is_name(raw: &str) -> bool
     !raw.is_empty() && all_symbols(raw)
 }
 
+#[inline(always)]
 fn name_segments(alloc: Global, name: &str) -> Result<Vec<PathSeg>, AllocError>
     ensures { IfOk result (λ segs. segments_of segs.items ≡ name_segments name.now) }
 {
-    let mut segs = Vec::new(alloc);
-    if name != "this" {
-        segs.push(PathSeg::Named(String::from_str(alloc, name)?))?;
+    if name == "this" {
+        return Ok(Vec::new(alloc));
     }
+    let mut segs = Vec::with_capacity(alloc, 1)?;
+    segs.push(PathSeg::Named(String::from_str(alloc, name)?))?;
     Ok(segs)
 }
 
+#[inline(always)]
 fn name_path(alloc: Global, name: &str) -> Result<Path, AllocError>
     ensures { IfOk result (λ path. reference_of path ≡ relative (name_segments name.now) name.now) }
 {

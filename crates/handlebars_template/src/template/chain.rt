@@ -138,6 +138,7 @@ fn block_param(names: BlockNames) -> Option<BlockParam>
 
 impl BlockOpening {
     /// A block, or a chained inverse.
+    #[inline(always)]
     pub fn block(
         self,
         elements: PlacedElements,
@@ -193,6 +194,7 @@ impl BlockOpening {
 
 impl Branch {
     // As the inverse of what stands before it.
+    #[inline(never)]
     fn inverse(self, alloc: Global, inverse: Option<Template>) -> Result<Template, AllocError>
         ensures { IfOk result (λ t. body (tree_view t) ≡ inverse_of (branch_view self ∷ []) (body_view inverse)) }
     {
@@ -224,6 +226,7 @@ fn nested_inverse(
 }
 
 // A block whose last chained inverse is this one.
+#[inline(never)]
 fn chained_block(
     alloc: Global,
     last: Branch,
@@ -242,6 +245,7 @@ fn chained_block(
 }
 
 // A block whose inverse these elements are.
+#[inline(always)]
 fn inverse_block(
     alloc: Global,
     opening: BlockOpening,
@@ -259,6 +263,7 @@ fn inverse_block(
 }
 
 // The whole block of a helper.
+#[inline(always)]
 fn closed_call(
     alloc: Global,
     stage: Stage,

@@ -1,19 +1,22 @@
 //! The call that a line is.
 
-ghost use Rattle.std.specs.Prelude.{◌≡◌, IfOk, IfSome};
+ghost use Rattle.std.specs.Prelude.{◌≡◌, None, IfOk, IfSome};
 ghost use Rattle.handlebars_base.specs.Bytes.{Text};
-ghost use Rattle.handlebars_lines.specs.Line.{Line, IsLine};
+ghost use Rattle.handlebars_lines.specs.Line.{identifier_name, in_block, Line, IsLine};
 ghost use Rattle.handlebars_lines.specs.LineView.{mode_of, enclosure_of};
 ghost use Rattle.handlebars_base.specs.PathView.{reference_of};
-ghost use Rattle.handlebars_template.specs.LineBuildingView.{built_call, IsBuilt, IsCallOf, IsPathAlone};
-ghost use Rattle.handlebars_template.specs.Tree.{expression};
+ghost use Rattle.handlebars_template.specs.LineBuildingView.{built_call, IsBuilt, IsCallOf, IsPathAlone, HasArguments};
+ghost use Rattle.handlebars_template.specs.Calls.{add_argument};
+ghost use Rattle.handlebars_template.specs.Tree.{expression, no_arguments, path as means};
 ghost use Rattle.handlebars_template.specs.TreeView.{call_view, arguments_view, subexpression_view};
 
 use crate::template::arguments::Arguments;
-use crate::template::build::{first_calls, known_path};
+use crate::template::build::{first_calls, known_path, path_of};
 use crate::template::tree::{HelperTemplate, Parameter, Subexpression};
 use handlebars_base::json::path::Path;
-use handlebars_lines::line::{Enclosure, LineStand, NameMode, Step, path_alone, take_step};
+use handlebars_lines::line::{
+    Enclosure, LineStand, NameMode, Step, path_alone, path_named, take_step,
+};
 use std::alloc::{AllocError, Global};
 
 /// The most blocks, chained inverses, parentheses and brackets of literals that may be open at once.
@@ -38,6 +41,7 @@ impl Drop for BuiltLine<'_> {
 
 impl BuiltLine<'_> {
     /// The call of a value, or of a helper.
+    #[inline(always)]
     pub fn call(self) -> HelperTemplate
         ensures { call_view result ≡ built_call self.entry }
     {
@@ -85,9 +89,10 @@ impl BuiltLine<'_> {
     }
 }
 
-// The path that is alone in the line in front, as in most lines: no call is opened for it. Where it answers none, or no
-// line stands in front, that says nothing.
-fn lone_path(
+/// The path that is alone in the line in front, as in most lines: no call is opened for it. Where it answers none, or no
+/// line stands in front, that says nothing.
+#[inline(always)]
+pub fn lone_path(
     alloc: Global,
     mode: NameMode,
     around: Enclosure,
@@ -106,6 +111,30 @@ fn lone_path(
     }
 }
 
+/// The arguments of a name with one path behind it, as in most blocks: no call is opened for them. Where it answers none,
+/// or no line stands in front, that says nothing.
+pub fn named_arguments(alloc: Global, text: &str) -> Result<Option<Arguments>, AllocError>
+    ensures { IfOk result (λ read. IfSome read (λ arguments. (line : Line) (left : Text)
+        → IsLine identifier_name in_block text.now line left → HasArguments line (arguments_view arguments))) }
+{
+    match path_named(Enclosure::Block, text) {
+        Some(found) => match path_of(alloc, found.raw)? {
+            Some(path) => Ok(Some(path_arguments(alloc, path)?)),
+            None => Ok(None),
+        },
+        None => Ok(None),
+    }
+}
+
+fn path_arguments(alloc: Global, path: Path) -> Result<Arguments, AllocError>
+    ensures { IfOk result (λ arguments. arguments_view arguments
+        ≡ add_argument None (means (reference_of path)) no_arguments) }
+{
+    let mut arguments = Arguments::new(alloc);
+    arguments.add(None, Parameter::Path(path))?;
+    Ok(arguments)
+}
+
 /// The call that the line of this mode in front is. Where no line stands in front, the answer says nothing.
 pub fn build_line<'a>(
     alloc: Global,
@@ -122,7 +151,9 @@ pub fn build_line<'a>(
     }
 }
 
-fn path_line<'a>(alloc: Global, path: Path) -> BuiltLine<'a>
+/// The call of a path that is alone in its line.
+#[inline(always)]
+pub fn path_line<'a>(alloc: Global, path: Path) -> BuiltLine<'a>
     ensures { (line : Line) → IsPathAlone line (reference_of path) → IsCallOf line result }
 {
     BuiltLine {
@@ -132,8 +163,8 @@ fn path_line<'a>(alloc: Global, path: Path) -> BuiltLine<'a>
     }
 }
 
-// The call that the line in front is, term by term.
-fn build_terms<'a>(
+/// The call that the line in front is, term by term.
+pub fn build_terms<'a>(
     alloc: Global,
     mode: NameMode,
     around: Enclosure,

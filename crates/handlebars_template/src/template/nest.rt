@@ -225,7 +225,7 @@ impl OpenBlock {
     {
         let at = self.place;
         let element = self.closed(alloc, elements)?;
-        outside.push(alloc, at, element)
+        outside.push(at, element)
     }
 }
 
@@ -310,6 +310,7 @@ impl Nesting {
     }
 
     // What is refused first of what comes late stays.
+    #[inline(never)]
     fn keep(&mut self, late: Option<Late>)
         ensures late { late_of self.new ≡ option_or (late_of self.old) (late_view late) }
         ensures depth { self.new.depth ≡ self.old.depth }
@@ -340,6 +341,7 @@ impl Nesting {
     }
 
     /// An element with its place stands next.
+    #[inline(always)]
     pub fn add(
         &mut self,
         alloc: Global,
@@ -351,7 +353,7 @@ impl Nesting {
             → Does self.old (leaf (place_of place) (element_view element) n (option_map (λ t. t.now) refused.entry))
             self.new) }
     {
-        self.elements.push(alloc, place, element)?;
+        self.elements.push(place, element)?;
         self.keep_literal(alloc, refused)
     }
 
@@ -377,6 +379,7 @@ impl Nesting {
     }
 
     /// An inverse stands next.
+    #[inline(never)]
     pub fn invert(&mut self, alloc: Global, place: TemplateMapping) -> Result<(), AllocError>
         ensures { OnOk result (Does self.old (inverts (place_of place)) self.new) }
     {

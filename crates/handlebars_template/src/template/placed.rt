@@ -1,11 +1,10 @@
 //! The elements of a body, each with its place.
 
-ghost use Rattle.std.specs.Prelude.{◌≡◌, ◌++◌, ◌∷◌, [], IfOk, OnOk, length};
+ghost use Rattle.std.specs.Prelude.{◌≡◌, ◌++◌, ◌∷◌, [], OnOk, length};
 
 use crate::template::compile::TemplateOptions;
 use crate::template::tree::{Template, TemplateElement, TemplateMapping};
 use std::alloc::{AllocError, Global};
-use std::mem;
 
 /// Elements and as many places, in the same order.
 pub struct PlacedElements {
@@ -41,36 +40,21 @@ impl PlacedElements {
         }
     }
 
-    // With one more at the end.
-    fn with(
-        self,
-        place: TemplateMapping,
-        element: TemplateElement,
-    ) -> Result<PlacedElements, AllocError>
-        ensures { IfOk result (λ more. placed_view more
-            ≡ placed_view self ++ record { place = place_of place; element = element_view element } ∷ []) }
-    {
-        let PlacedElements {
-            mut elements,
-            mut mapping,
-        } = self;
-        elements.push(element)?;
-        mapping.push(place)?;
-        Ok(PlacedElements { elements, mapping })
-    }
-
-    /// One more at the end.
+    /// One more at the end. Where there is no memory for its place, it is taken away again.
+    #[inline(always)]
     pub fn push(
         &mut self,
-        alloc: Global,
         place: TemplateMapping,
         element: TemplateElement,
     ) -> Result<(), AllocError>
         ensures { OnOk result (placed_view self.new
             ≡ placed_view self.old ++ record { place = place_of place; element = element_view element } ∷ []) }
     {
-        let elements = mem::replace(self, PlacedElements::new(alloc));
-        *self = elements.with(place, element)?;
+        self.elements.push(element)?;
+        if self.mapping.push(place).is_err() {
+            self.elements.pop();
+            return Err(AllocError);
+        }
         Ok(())
     }
 

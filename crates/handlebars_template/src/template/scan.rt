@@ -68,6 +68,7 @@ pub fn scan(alloc: Global, source: &str, options: &TemplateOptions) -> Result<Sc
 }
 
 // What is kept of a text between two edges, as a part of it.
+#[inline(never)]
 fn trimmed_text<'a>(
     options: &TemplateOptions,
     before: Edge<'_>,
@@ -81,6 +82,7 @@ fn trimmed_text<'a>(
 }
 
 // Whether these edges take nothing from the text between them.
+#[inline(always)]
 fn keeps_all(before: Edge<'_>, behind: Edge<'_>) -> bool
     ensures { result ≡ keeps_all (edge_view before.entry) (edge_view behind.entry) }
 {
@@ -88,6 +90,7 @@ fn keeps_all(before: Edge<'_>, behind: Edge<'_>) -> bool
 }
 
 // What is kept of a text between two edges, which is copied again only where something of it goes.
+#[inline(always)]
 fn kept_text(
     alloc: Global,
     options: &TemplateOptions,
@@ -110,6 +113,7 @@ fn kept_text(
 }
 
 // A text stands next, where it has an element.
+#[inline(always)]
 fn add_text(
     alloc: Global,
     nesting: &mut Nesting,
@@ -132,5 +136,5 @@ fn add_text(
     let kept = kept_text(alloc, options, before, front.kept, behind)?;
     nesting
         .elements
-        .push(alloc, place, TemplateElement::RawString(kept))
+        .push(place, TemplateElement::RawString(kept))
 }

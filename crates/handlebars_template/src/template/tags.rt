@@ -2,6 +2,7 @@
 
 ghost use Rattle.std.specs.Prelude.{◌≡◌, None, IfOk, OnOk};
 ghost use Rattle.handlebars_base.specs.Bytes.{Text};
+ghost use Rattle.handlebars_base.specs.PathView.{reference_of};
 ghost use Rattle.handlebars_lines.specs.Line.{value_name, Line, in_tag, IsLine};
 ghost use Rattle.handlebars_lines.specs.BindingView.{bound_names_of};
 ghost use Rattle.handlebars_tags.specs.Tag.{Tag, tag_depth, is_raw_close, BlockLine};
@@ -9,6 +10,7 @@ ghost use Rattle.handlebars_tags.specs.Options.{Options};
 ghost use Rattle.handlebars_tags.specs.Trim.{Edge as TextEdge, may_stand_alone, opens_raw, edge_with};
 ghost use Rattle.handlebars_tags.specs.TrimView.{edge_view};
 ghost use Rattle.handlebars_tags.specs.TagView.{Holds, IsBlockSlice};
+ghost use Rattle.handlebars_template.specs.LineBuildingView.{IsPathAlone};
 ghost use Rattle.handlebars_template.specs.OptionsView.{options_view};
 ghost use Rattle.handlebars_template.specs.Place.{Place};
 ghost use Rattle.handlebars_template.specs.TreeView.{call_view, element_view, place_of};
@@ -22,9 +24,10 @@ ghost use Rattle.handlebars_template.specs.Compile.{block_binding, is_indented, 
 use crate::template::arguments::Arguments;
 use crate::template::chain::{BlockKind, BlockNames, BlockOpening};
 use crate::template::compile::TemplateOptions;
-use crate::template::line::build_line;
+use crate::template::line::{build_terms, lone_path, named_arguments, path_line};
 use crate::template::nest::{Nesting, SyntaxFault};
 use crate::template::tree::{HelperTemplate, Parameter, TemplateElement, TemplateMapping};
+use handlebars_base::json::path::Path;
 use handlebars_lines::binding::BoundNames;
 use handlebars_lines::line::{Enclosure, NameMode};
 use handlebars_tags::tag::{BlockSlice, Content, TagSlice};
@@ -198,7 +201,30 @@ fn opening<'a>(
     ensures { IfOk result (λ built. (line : BlockLine) (rest : Text) → IsBlockSlice block.entry line rest
         → IsOpening (options_view options.now) (kind_view kind) (edge_view edge.entry) line built) }
 {
-    let Some(line) = build_line(alloc, NameMode::Identifier, Enclosure::Block, block.line)? else {
+    let Some(arguments) = named_arguments(alloc, block.line)? else {
+        return opening_by_terms(alloc, options, block, kind, edge);
+    };
+    let mut opening = bare_opening(alloc, options, block, kind, edge)?;
+    opening.arguments = arguments;
+    Ok(Some(BuiltOpening {
+        opening,
+        refused: None,
+    }))
+}
+
+// The same, term by term.
+#[inline(never)]
+fn opening_by_terms<'a>(
+    alloc: Global,
+    options: &TemplateOptions,
+    block: BlockSlice<'a>,
+    kind: BlockKind,
+    edge: Edge<'_>,
+) -> Result<Option<BuiltOpening<'a>>, AllocError>
+    ensures { IfOk result (λ built. (line : BlockLine) (rest : Text) → IsBlockSlice block.entry line rest
+        → IsOpening (options_view options.now) (kind_view kind) (edge_view edge.entry) line built) }
+{
+    let Some(line) = build_terms(alloc, NameMode::Identifier, Enclosure::Block, block.line)? else {
         return Ok(None);
     };
     let mut opening = bare_opening(alloc, options, block, kind, edge)?;
@@ -207,6 +233,7 @@ fn opening<'a>(
     Ok(Some(BuiltOpening { opening, refused }))
 }
 
+#[inline(always)]
 fn value_element(is_escaped: bool, call: Box<HelperTemplate>) -> TemplateElement
     ensures { element_view result ≡ value_element is_escaped (call_view call.value) }
 {
@@ -227,7 +254,40 @@ fn add_value(
     ensures { OnOk result ((line : Line) (rest : Text) → IsLine value_name in_tag text.now line rest
         → Does nesting.old (value_piece is_escaped (place_of at) line) nesting.new) }
 {
-    let Some(line) = build_line(alloc, NameMode::Value, Enclosure::Tag, text)? else {
+    match lone_path(alloc, NameMode::Value, Enclosure::Tag, text)? {
+        Some(path) => add_path(alloc, nesting, at, path, is_escaped),
+        None => add_terms(alloc, nesting, at, text, is_escaped),
+    }
+}
+
+// A path that is alone in its tag.
+#[inline(always)]
+fn add_path(
+    alloc: Global,
+    nesting: &mut Nesting,
+    at: TemplateMapping,
+    path: Path,
+    is_escaped: bool,
+) -> Result<(), AllocError>
+    ensures { OnOk result ((line : Line) → IsPathAlone line (reference_of path)
+        → Does nesting.old (value_piece is_escaped (place_of at) line) nesting.new) }
+{
+    let call = Box::new(alloc, path_line(alloc, path).call())?;
+    nesting.add(alloc, at, value_element(is_escaped, call), None)
+}
+
+#[inline(never)]
+fn add_terms(
+    alloc: Global,
+    nesting: &mut Nesting,
+    at: TemplateMapping,
+    text: &str,
+    is_escaped: bool,
+) -> Result<(), AllocError>
+    ensures { OnOk result ((line : Line) (rest : Text) → IsLine value_name in_tag text.now line rest
+        → Does nesting.old (value_piece is_escaped (place_of at) line) nesting.new) }
+{
+    let Some(line) = build_terms(alloc, NameMode::Value, Enclosure::Tag, text)? else {
         return Ok(());
     };
     let refused = line.refused;
@@ -254,6 +314,7 @@ fn begin(
     }
 }
 
+#[inline(never)]
 fn chain(
     alloc: Global,
     nesting: &mut Nesting,
@@ -271,6 +332,7 @@ fn chain(
     }
 }
 
+#[inline(never)]
 fn add_decorator(
     alloc: Global,
     nesting: &mut Nesting,
@@ -295,6 +357,7 @@ fn add_decorator(
     )
 }
 
+#[inline(never)]
 fn add_comment(
     alloc: Global,
     nesting: &mut Nesting,

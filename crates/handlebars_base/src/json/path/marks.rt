@@ -7,10 +7,14 @@ ghost use Rattle.handlebars_base.specs.Bytes.{is_white, behind_white, is_symbol}
 ghost use Rattle.handlebars_base.specs.Texts.{starts, after, symbols_of, behind_symbols};
 ghost use Rattle.handlebars_base.specs.PathReading.{after_up, ups_at};
 
-/// Whether a byte belongs to a symbol.
+/// Whether a byte belongs to a symbol. Most do as small letters.
+#[inline(always)]
 pub fn is_symbol(byte: u8) -> bool
     ensures { result ≡ is_symbol byte }
 {
+    if byte.is_ascii_lowercase() {
+        return true;
+    }
     byte >= 128
         || byte.is_ascii_alphanumeric()
         || byte == b'_'

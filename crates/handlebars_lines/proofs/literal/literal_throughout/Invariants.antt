@@ -5,7 +5,7 @@ use Rattle.handlebars_lines.specs.LiteralReading.{ahead, literal_step}
 use Rattle.handlebars_lines.specs.LiteralView.{place_of}
 use Rattle.handlebars_lines.proofs.Stepping.{Still}
 use Rattle.handlebars_lines.proofs.LiteralLoop.{tally}
-use Rattle.handlebars_lines.proofs.literal.literal_at.Given as goal
+use Rattle.handlebars_lines.proofs.literal.literal_throughout.Given as goal
 
 abbrev pub invariant-reading : goal.invariant-reading
 invariant-reading l = record {
