@@ -6,5 +6,6 @@ pub mod Fronts
 pub mod LineState
 pub mod LineView
 pub mod ScopeView
+pub mod Seeking
 pub mod WayView
 pub mod Lending

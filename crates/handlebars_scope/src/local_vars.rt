@@ -3,6 +3,7 @@
 ghost use Rattle.std.specs.Prelude.{◌≡◌, ◌==◌, IfOk, OnErr, OnOk, Some, codes, option_map};
 ghost use Rattle.serde_json.specs.Data.{boolean, number, unsigned};
 ghost use Rattle.serde_json.specs.View.{view};
+ghost use Rattle.serde_json.specs.declared.value.Value.TheVariants as held;
 ghost use Rattle.handlebars_scope.specs.Scopes.{nothing_at, put_at};
 ghost use Rattle.handlebars_scope.specs.ScopeView.{values_of, variables_of};
 
@@ -84,9 +85,9 @@ impl LocalVars {
         ensures { variables_of self.new ≡ put_at (codes "index") (number (unsigned index))
             (put_at (codes "last") (boolean last) (put_at (codes "first") (boolean (index == 0)) (variables_of self.old))) }
     {
-        set(&mut self.first, Json::Bool(index == 0));
-        set(&mut self.last, Json::Bool(last));
-        set(&mut self.index, Json::Number(Number::from(index)));
+        set_truth(&mut self.first, index == 0);
+        set_truth(&mut self.last, last);
+        set_number(&mut self.index, Number::from(index));
     }
 
     /// Sets `key`, as turns over the members of an object do. Looks no name up.
@@ -114,6 +115,28 @@ fn set(place: &mut Option<Json>, value: Json)
     ensures { place.new ≡ Some value }
 {
     *place = Some(value);
+}
+
+// The same with a boolean, for which there is room where one stands already.
+fn set_truth(place: &mut Option<Json>, truth: bool)
+    ensures { place.new ≡ Some (held.Bool truth) }
+{
+    if let Some(Json::Bool(held)) = place {
+        *held = truth;
+        return;
+    }
+    set(place, Json::Bool(truth));
+}
+
+// The same with a number.
+fn set_number(place: &mut Option<Json>, number: Number)
+    ensures { place.new ≡ Some (held.Number number) }
+{
+    if let Some(Json::Number(held)) = place {
+        *held = number;
+        return;
+    }
+    set(place, Json::Number(number));
 }
 
 // Puts a value under a name that has no place of its own. Where memory is refused, nothing is changed.

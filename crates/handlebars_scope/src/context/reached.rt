@@ -1,10 +1,12 @@
 //! What the names of a path reach, before a refusal is made of it.
 
-ghost use Rattle.std.specs.Prelude.{◌≡◌, option_map};
+ghost use Rattle.std.specs.Prelude.{◌≡◌, ◌≢◌, option_map};
 ghost use Rattle.serde_json.specs.View.{view};
-ghost use Rattle.handlebars_base.specs.Answers.{Answers, IsRefusal, gives};
-ghost use Rattle.handlebars_base.specs.Reasons.{invalid_json_index};
-ghost use Rattle.handlebars_base.specs.RenderRefusals.{plain_refusal};
+ghost use Rattle.handlebars_base.specs.Answers.{Answer, Answers, IsRefusal, gives, refuses};
+ghost use Rattle.handlebars_base.specs.Reasons.{invalid_json_index, out_of_memory};
+ghost use Rattle.handlebars_base.specs.RenderRefusals.{plain_refusal, reason_in, refusal_of};
+ghost use Rattle.handlebars_base.specs.Scoped.{Found};
+ghost use Rattle.handlebars_scope.specs.Seeking.{IsWhy};
 ghost use Rattle.handlebars_scope.specs.WayView.{reached_of};
 
 use handlebars_base::error::{RenderError, RenderErrorReason};
@@ -19,6 +21,40 @@ pub enum Reached<'v, 'n> {
     Nothing,
     /// This name is no index, and an array was come to.
     NoIndex(&'n str),
+}
+
+/// Why the value of a path isn't told. It is handed on as what names reach is, so it is small too.
+#[derive(Clone, Copy)]
+pub enum Unfound<'n> {
+    /// This name is no index, and an array was come to.
+    NoIndex(&'n str),
+    OutOfMemory,
+}
+
+impl<'n> From<AllocError> for Unfound<'n> {
+    ghost use Rattle.std.specs.Prelude.{◌≡◌};
+    ghost use Rattle.handlebars_scope.specs.declared.context.reached.Unfound.{Unfound};
+
+    ghost from_gives = { λ _ why. why ≡ Unfound.OutOfMemory };
+
+    fn from(_e: AllocError) -> Unfound<'n> {
+        Unfound::OutOfMemory
+    }
+}
+
+impl<'n> Unfound<'n> {
+    /// The error of it.
+    #[cold]
+    #[inline(never)]
+    pub fn into_error(self, alloc: Global) -> RenderError
+        ensures { (sought : Answer Found) → IsWhy self.entry sought → reason_in result ≢ out_of_memory
+            → sought ≡ refuses (refusal_of result) }
+    {
+        match self {
+            Unfound::NoIndex(name) => wrong_index(alloc, name),
+            Unfound::OutOfMemory => RenderErrorReason::OutOfMemory.into(),
+        }
+    }
 }
 
 /// What was found, if anything.

@@ -1,18 +1,19 @@
 //! Where paths lead in blocks of scope and data.
 
-ghost use Rattle.std.specs.Prelude.{◌≡◌, ◌≤◌, ◌++◌, ◌∷◌, [], false, length, option_map, string_bytes};
+ghost use Rattle.std.specs.Prelude.{◌≡◌, ◌≤◌, ◌++◌, ◌∷◌, [], Some, false, length, option_map, string_bytes};
 ghost use Rattle.std.specs.Prelude.{IfOk, IfSome, OnOk};
 ghost use Rattle.serde_json.specs.View.{view};
-ghost use Rattle.handlebars_base.specs.Answers.{Answers, answer_map};
+ghost use Rattle.handlebars_base.specs.Answers.{Answers, answer_map, gives};
 ghost use Rattle.handlebars_base.specs.PathView.{reference_of, segments_of};
 ghost use Rattle.handlebars_base.specs.Scoped.{found_of, is_constant, present_in};
 ghost use Rattle.handlebars_scope.specs.Resolve.{along, found_by, found_front, found_within, navigated, resolved, variable_at};
 ghost use Rattle.handlebars_scope.specs.Resolve.{if_any, index_of, longest, member_at, names_of, or_else, value_at};
 ghost use Rattle.handlebars_scope.specs.ScopeView.{frames_of};
+ghost use Rattle.handlebars_scope.specs.Seeking.{Seeks};
 ghost use Rattle.handlebars_scope.specs.WayView.{hit_of, names_in, reached_of, way_view};
 
 use crate::block::BlockContext;
-use crate::context::reached::{Reached, answered, if_found, wrong_index};
+use crate::context::reached::{Reached, Unfound, answered, if_found};
 use crate::context::way::{Way, way_of};
 use handlebars_base::error::RenderError;
 use handlebars_base::json::path::{Path, PathSeg};
@@ -63,8 +64,28 @@ pub fn find<'a>(
         (resolved recursive (frames_of blocks.now.items) (reference_of path.now) (view given.now)) }
     ensures plain { IfOk result (λ found. is_constant found ≡ false) }
 {
+    match seek(alloc, given, path, blocks, recursive) {
+        Ok(found) => Ok(found),
+        Err(why) => Err(why.into_error(alloc)),
+    }
+}
+
+/// The same, before a refusal is made of it.
+pub fn seek<'a, 'n>(
+    alloc: Global,
+    given: &'a Json,
+    path: &'n Path,
+    blocks: &'n VecDeque<BlockContext>,
+    recursive: bool,
+) -> Result<ScopedJson<'a>, Unfound<'n>>
+    ensures found { Seeks result
+        (resolved recursive (frames_of blocks.now.items) (reference_of path.now) (view given.now)) }
+    ensures plain { IfOk result (λ found. is_constant found ≡ false) }
+{
     match path {
-        Path::Relative((segments, _)) => navigate(alloc, given, segments, blocks, recursive),
+        Path::Relative((segments, _)) => {
+            found_by(alloc, given, way_of(blocks, segments, recursive))
+        }
         Path::Local((level, name, _)) => Ok(copied(variable_at(blocks, *level, name.as_str()))?),
     }
 }
@@ -81,45 +102,48 @@ pub(crate) fn navigate<'a>(
         (navigated recursive (frames_of blocks.now.items) (segments_of segments.now) (view given.now)) }
     ensures plain { IfOk result (λ found. is_constant found ≡ false) }
 {
-    found_by(alloc, given, way_of(blocks, segments, recursive))
+    match found_by(alloc, given, way_of(blocks, segments, recursive)) {
+        Ok(found) => Ok(found),
+        Err(why) => Err(why.into_error(alloc)),
+    }
 }
 
 // What stands at the end of a way.
-fn found_by<'a>(
+fn found_by<'a, 'n>(
     alloc: Global,
     given: &'a Json,
-    way: Way<'_, '_>,
-) -> Result<ScopedJson<'a>, RenderError>
-    ensures found { Answers found_of result (found_by (way_view way.entry) (view given.now)) }
+    way: Way<'n, 'n>,
+) -> Result<ScopedJson<'a>, Unfound<'n>>
+    ensures found { Seeks result (found_by (way_view way.entry) (view given.now)) }
     ensures plain { IfOk result (λ found. is_constant found ≡ false) }
 {
     match way {
-        Way::Within(held, rest) => found_within(alloc, held, rest),
+        Way::Within(held, rest) => found_within(held, rest),
         Way::Along { base, bound, rest } => found_along(alloc, given, base, bound, rest),
         Way::UnderFront(base, name) => Ok(found_front(alloc, given, base, name)?),
     }
 }
 
-fn found_within<'a>(
-    alloc: Global,
-    held: &Json,
-    rest: &[PathSeg],
-) -> Result<ScopedJson<'a>, RenderError>
-    ensures found { Answers found_of result
+fn found_within<'a, 'n>(held: &'n Json, rest: &'n [PathSeg]) -> Result<ScopedJson<'a>, Unfound<'n>>
+    ensures found { Seeks result
         (answer_map found_within (value_at (view held.now) (names_of (segments_of rest.now)))) }
     ensures plain { IfOk result (λ found. is_constant found ≡ false) }
 {
-    Ok(copied(answered(alloc, along_segments(held, rest))?)?)
+    match along_segments(held, rest) {
+        Reached::Value(value) => Ok(copied(Some(value))?),
+        Reached::Nothing => Ok(ScopedJson::Missing),
+        Reached::NoIndex(name) => Err(Unfound::NoIndex(name)),
+    }
 }
 
-fn found_along<'a>(
+fn found_along<'a, 'n>(
     alloc: Global,
     given: &'a Json,
-    base: &[String],
-    bound: &[String],
-    rest: &[PathSeg],
-) -> Result<ScopedJson<'a>, RenderError>
-    ensures found { Answers found_of result (found_by
+    base: &'n [String],
+    bound: &'n [String],
+    rest: &'n [PathSeg],
+) -> Result<ScopedJson<'a>, Unfound<'n>>
+    ensures found { Seeks result (found_by
         (along (names_in base.now ++ (names_in bound.now ++ names_of (segments_of rest.now))))
         (view given.now)) }
     ensures plain { IfOk result (λ found. is_constant found ≡ false) }
@@ -127,7 +151,7 @@ fn found_along<'a>(
     match along(given, base, bound, rest) {
         Reached::Value(value) => Ok(ScopedJson::Context(value, joined(alloc, base, bound, rest)?)),
         Reached::Nothing => Ok(ScopedJson::Missing),
-        Reached::NoIndex(name) => Err(wrong_index(alloc, name)),
+        Reached::NoIndex(name) => Err(Unfound::NoIndex(name)),
     }
 }
 
@@ -185,8 +209,26 @@ fn copied<'a>(found: Option<&Json>) -> Result<ScopedJson<'a>, AllocError>
 
 // ---- along names
 
-// Along a base path, what is bound below it, and the names of segments.
+// Along a base path, what is bound below it, and the names of segments. Most names lead somewhere, so their
+// values alone are handed on at first.
 fn along<'v, 'n>(
+    given: &'v Json,
+    base: &'n [String],
+    bound: &'n [String],
+    rest: &'n [PathSeg],
+) -> Reached<'v, 'n>
+    ensures { reached_of result
+        ≡ value_at (view given.now) (names_in base.now ++ (names_in bound.now ++ names_of (segments_of rest.now))) }
+{
+    match along_values(given, base, bound, rest) {
+        Some(value) => Reached::Value(value),
+        None => along_each(given, base, bound, rest),
+    }
+}
+
+// The same, where it isn't known yet what is there.
+#[inline(never)]
+fn along_each<'v, 'n>(
     given: &'v Json,
     base: &'n [String],
     bound: &'n [String],
@@ -246,6 +288,68 @@ fn member<'v, 'n>(value: &'v Json, name: &'n String) -> Reached<'v, 'n>
         },
         Json::Object(_) => if_found(value.get(name.as_str())),
         _ => Reached::Nothing,
+    }
+}
+
+// The same, where all names lead to a value.
+fn along_values<'v>(
+    given: &'v Json,
+    base: &[String],
+    bound: &[String],
+    rest: &[PathSeg],
+) -> Option<&'v Json>
+    ensures { IfSome result (λ v. value_at (view given.now)
+        (names_in base.now ++ (names_in bound.now ++ names_of (segments_of rest.now))) ≡ gives (Some (view v.now))) }
+{
+    let at_base = value_by_names(given, base)?;
+    let at_bound = value_by_names(at_base, bound)?;
+    match value_by_segments(at_bound, rest) {
+        Some(value) => Some(value),
+        None => None,
+    }
+}
+
+fn value_by_names<'v>(given: &'v Json, names: &[String]) -> Option<&'v Json>
+    ensures { IfSome result (λ v. value_at (view given.now) (names_in names.now) ≡ gives (Some (view v.now))) }
+{
+    let mut here = given;
+    for name in names {
+        match value_by_name(here, name) {
+            Some(next) => here = next,
+            None => return None,
+        }
+    }
+    Some(here)
+}
+
+fn value_by_segments<'v>(given: &'v Json, segments: &[PathSeg]) -> Option<&'v Json>
+    ensures { IfSome result (λ v. value_at (view given.now) (names_of (segments_of segments.now))
+        ≡ gives (Some (view v.now))) }
+{
+    let mut here = given;
+    for segment in segments {
+        match segment {
+            PathSeg::Named(name) => match value_by_name(here, name) {
+                Some(next) => here = next,
+                None => return None,
+            },
+            PathSeg::Ruled(_) => {}
+        }
+    }
+    Some(here)
+}
+
+// The value one name further, where there is one.
+fn value_by_name<'v>(value: &'v Json, name: &String) -> Option<&'v Json>
+    ensures { IfSome result (λ v. member_at (view value.now) (string_bytes name.now) ≡ gives (Some (view v.now))) }
+{
+    match value {
+        Json::Array(_) => match index_of(name.as_str()) {
+            Some(index) => value.get(index),
+            None => None,
+        },
+        Json::Object(_) => value.get(name.as_str()),
+        _ => None,
     }
 }
 

@@ -13,5 +13,5 @@ view-Bool b = search (rules, the_lemmas)
 pub returns : goal.returns
 returns c =
     let number = view-Number c.from.result ∙ ap number c.from.ensures in
-    rw (c.set.ensures, c.set-2.ensures, c.set-3.ensures, sym number, sym (view-Bool c.args.last), sym (view-Bool (c.args.index == 0)))
+    rw (c.set_truth.ensures, c.set_truth-2.ensures, c.set_number.ensures, sym number, sym (view-Bool c.args.last), sym (view-Bool (c.args.index == 0)))
     (variables_of-turn c.args.self.now (Bool (c.args.index == 0)) (Bool c.args.last) (Number c.from.result))

@@ -4,7 +4,7 @@ use Rattle.handlebars_base.specs.Answers.{gives}
 use Rattle.handlebars_scope.specs.Resolve.{value_at}
 use Rattle.handlebars_scope.specs.WayView.{names_in}
 use Rattle.handlebars_scope.proofs.Ways.{value_at-append, value_at-on}
-use Rattle.handlebars_scope.proofs.context.walk.along.Goals as goal
+use Rattle.handlebars_scope.proofs.context.walk.along_each.Goals as goal
 
 pub returns-in_default : goal.returns-in_default
 returns-in_default c = rw (value_at-append _ _ _) (search rules)
