@@ -5,6 +5,7 @@
 mod decorators;
 mod deeds;
 mod helpers;
+mod inclusion_sources;
 mod own;
 mod rows;
 mod scopes;
@@ -13,6 +14,7 @@ mod sources;
 pub use decorators::worked_decorators;
 pub use deeds::worked_deeds;
 pub use helpers::worked_helpers;
+pub use inclusion_sources::worked_inclusion_sources;
 pub use own::worked_own_helpers;
 pub use rows::worked_rows;
 pub use scopes::worked_scopes;
