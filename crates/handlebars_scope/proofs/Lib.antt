@@ -3,3 +3,4 @@ mod Indexes
 pub mod Lines
 mod Ways
 mod Fronts
+mod Indents

@@ -11,3 +11,4 @@ pub mod WayView
 pub mod Lending
 pub mod Indentation
 pub mod Merged
+pub mod MergedView
