@@ -4,3 +4,4 @@ pub mod Lines
 mod Ways
 mod Fronts
 mod Indents
+mod Merging

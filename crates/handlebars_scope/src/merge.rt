@@ -1,9 +1,10 @@
 //! What a value becomes with the pairs of an inclusion.
 
-ghost use Rattle.std.specs.Prelude.{◌≡◌, IfOk, OnOk, decimal, map, string_bytes};
+ghost use Rattle.std.specs.Prelude.{◌≡◌, IfOk, OnOk, decimal, is_some, string_bytes, true};
 ghost use Rattle.std.specs.Char.{encode_utf8};
 ghost use Rattle.std.specs.Str.{chars};
-ghost use Rattle.serde_json.specs.Data.{no_members, object, put, string};
+ghost use Rattle.serde_json.specs.Data.{no_members, put, string};
+ghost use Rattle.serde_json.specs.Find.{as_object};
 ghost use Rattle.serde_json.specs.View.{items_view, members_view, view};
 ghost use Rattle.handlebars_scope.specs.Merged.{members_in, merged, with_characters, with_items};
 ghost use Rattle.handlebars_scope.specs.MergedView.{pairs_in};
@@ -44,7 +45,12 @@ fn members_in(alloc: Global, base: &Json) -> Result<BTreeMap<String, Json>, Allo
 }
 
 // Those of an object.
-fn own_members(alloc: Global, base: Json) -> Result<BTreeMap<String, Json>, AllocError>
+fn own_members(
+    alloc: Global,
+    base: Json,
+) -> Result<BTreeMap<String, Json>, AllocError>
+    ensures { IfOk result (λ members. is_some (as_object (view base)) ≡ true
+        → members_view members.entries ≡ members_in (view base)) }
 {
     match base {
         Json::Object(members) => Ok(members),
