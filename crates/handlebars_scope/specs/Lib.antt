@@ -9,3 +9,5 @@ pub mod ScopeView
 pub mod Seeking
 pub mod WayView
 pub mod Lending
+pub mod Indentation
+pub mod Merged
