@@ -18,3 +18,4 @@ mod Changed
 mod Turns
 pub mod Silent
 mod Evaluated
+mod Sinks

@@ -3,5 +3,5 @@ mod Indexes
 pub mod Lines
 mod Ways
 mod Fronts
-mod Indents
+pub mod Indents
 mod Merging

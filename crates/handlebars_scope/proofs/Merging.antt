@@ -1,6 +1,6 @@
 -- What is merged, from one position on.
-use Rattle.std.proofs.Common.{◌≡◌, ℕ, ◌+◌, ◌<◌, ◌≤◌, [], ◌∷◌, ◌++◌, List, drop, get_or, length, map, decimal, refl, sym, ap, ◌∙◌, drop-cons, add-one, arith}
-use Rattle.std.proofs.lemmas.List.{drop_all}
+use Rattle.std.proofs.Common.{◌≡◌, ℕ, ◌+◌, ◌<◌, ◌≤◌, [], ◌∷◌, ◌++◌, List, drop, get_or, length, map, decimal, refl, sym, ap, ◌∙◌, arith}
+use Rattle.std.proofs.lemmas.List.{drop_all, drop_more}
 use Rattle.std.proofs.lemmas.Str.{chars-nil, chars_past_char}
 use Rattle.std.specs.Char.{encode_utf8}
 use Rattle.std.specs.Str.{chars, IsUtf8}
@@ -14,7 +14,7 @@ use Rattle.handlebars_scope.specs.Merged.{with_characters, with_items}
 pub with_items-more : (i : ℕ) (vs : List Value) (v : Value) (ms : Members) → i < length vs → v ≡ get_or vs i v
     → with_items i (items_view (drop i vs)) ms ≡ with_items (i + 1) (items_view (drop (i + 1) vs)) (put (decimal i) (view v) ms)
 with_items-more i vs v ms inside is =
-    ap (λ (zs : List Value). with_items i (items_view zs) ms) (drop-cons vs i v inside)
+    ap (λ (zs : List Value). with_items i (items_view zs) ms) (drop_more vs i v inside)
     ∙ ap (λ (z : Value). with_items (i + 1) (items_view (drop (i + 1) vs)) (put (decimal i) (view z) ms)) (sym is)
 
 -- none is left

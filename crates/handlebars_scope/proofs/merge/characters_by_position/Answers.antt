@@ -10,7 +10,7 @@ characters-preserved c =
     record {
       utf8 = IsUtf8-past_char _ _ c.in-Some.character c.characters.invariant.utf8 step.0.0;
       left = with_characters-more _ _ c.in-Some.index _ _ c.in-Some.character (view c.in_ok-character_alone.field-0) _ _
-          c.characters.invariant.utf8 step.0.0 step.1.0 step.1.1.0 c.in_ok-character_alone.ensures c.in_ok-put_at.ensures
+          c.characters.invariant.utf8 step.0.0 step.1 step.2 c.in_ok-character_alone.ensures c.in_ok-put_at.ensures
           ∙ c.characters.invariant.left;
     }
 
