@@ -1,5 +1,5 @@
 -- Where each piece of a run comes from.
-use Rattle.std.specs.Prelude.{◌≡◌, ℕ, slice_get, zero, suc, Bool, true, false, not, ◌&&◌, ◌||◌, List, ◌++◌, Option, None, Some, option_map}
+use Rattle.std.specs.Prelude.{◌≡◌, ℕ, slice_get, zero, suc, Bool, true, false, not, ◌&&◌, ◌||◌, List, [], ◌++◌, Option, None, Some, option_map}
 use Rattle.std.specs.List.{AllByRecursion, Contains}
 use Rattle.serde_json.specs.Data.{Data}
 use Rattle.handlebars_base.specs.Answers.{gives}
