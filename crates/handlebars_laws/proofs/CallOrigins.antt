@@ -1,12 +1,13 @@
 -- What texts and calls write has an origin.
 use Rattle.std.proofs.Common.{◌≡◌, ℕ, ◌+◌, List, [], ◌∷◌, Bool, true, false, not, ◌||◌, refl, sym, ap, ◌∙◌, subst, Option, Some, None, unwrap_or, option_and_then, if◌then◌else◌}
 use Rattle.std.specs.List.{AllByRecursion, slice_get}
+use Rattle.serde_json.specs.Data.{Data}
 use Rattle.handlebars_base.specs.Answers.{Answer, gives, refuses}
 use Rattle.handlebars_base.specs.Bytes.{Text}
 use Rattle.handlebars_base.specs.Optional.{with_or}
 use Rattle.handlebars_base.specs.Scoped.{Found, walked, value, missing, present_in}
 use Rattle.handlebars_base.specs.Values.{word}
-use Rattle.handlebars_template.specs.Tree.{Tree, element, Element, expression, Call, call_name, call_args, call_body, call_inverse, call_marks, is_value, Binding, Body, no_body, body}
+use Rattle.handlebars_template.specs.Tree.{Tree, Element, Call, call_name, call_args, call_body, call_inverse, call_marks, is_value, Binding, Body, no_body, body}
 use Rattle.handlebars_scope.specs.Indentation.{lines_of, takes_indent}
 use Rattle.handlebars_scope.specs.LineState.{LineState}
 use Rattle.handlebars_scope.specs.Scopes.{Frame, empty_frame, Base, at_path, at_value, based}
@@ -57,6 +58,9 @@ module _ (p : Setting) (s : State) (line : LineState) where
   HasChoice-line (calls_local called) h _ (goes_on {x = c} {a = a} is next) =
       goes_on is (HasRegisteredChoice-line c.0 c.1 a next)
   HasChoice-line (calls_local called) h _ (is_refused is) = is_refused is
+
+none_there : {P : Type 0} {t : Tree} → None ≡ Some t → P
+none_there e = cc
 
 -- a block's partials don't depend on where it stands
 based-partial : (base : Base) (f : Frame) (n : Text) → (based base f).partial n ≡ f.partial n
@@ -166,12 +170,9 @@ module _ (p : Setting) (u : Tree) (blocks : List Frame) (vs : List Visit) where
       → FrameGood p u blocks vs (turned path b t f)
   turned_good path b t f good = λ n x is. good n x (sym (based-partial (turn_base path t) f n) ∙ is)
 
-  with_block_good : (base : Base) (b : Binding) (variables : Text → Option _)
+  with_block_good : (base : Base) (b : Binding) (variables : Text → Option Data)
       → FrameGood p u blocks vs (with_block base b variables)
-  with_block_good base b variables = λ n x is. none_there x (sym (based-partial base empty_frame n) ∙ is)
-    where
-      none_there : (x : Tree) → None ≡ Some x → _
-      none_there x e = cc
+  with_block_good base b variables = λ n x is. none_there (sym (based-partial base empty_frame n) ∙ is)
 
   -- the call of a block or of an expression that stands at the site, with the bodies of the element there, where escaping
   -- is as the state has it
@@ -203,7 +204,7 @@ module _ (p : Setting) (u : Tree) (blocks : List Frame) (vs : List Visit) where
           indents = h.indents;
           frames = nearest_good p u blocks vs (turned at (helper_call block c v).binding t) s.blocks
               (turned_good at (helper_call block c v).binding t) h.frames;
-        }) on next g
+        }) on next (λ n is. g n (after is.escapes is.good))
 
     turns_good : (v : CallView) (i : ℕ) (at : Option (List Text)) (ts : List Turn) (s : State)
         → s.escapes ≡ not (is_raw_site u site) → IsSound s (take_turns site i (helper_call block c v) at ts)
@@ -413,34 +414,34 @@ module _ (p : Setting) (u : Tree) (blocks : List Frame) (vs : List Visit) where
             (λ n is. g _ (after is.escapes is.good))
 
     module _ (s : State) (raw : s.escapes ≡ not (is_raw_site u site)) (reached : IsReached vs site s) (h : IsWell s)
-        where
-      -- what follows the view of the call
-      AfterView : (CallView → Prog (Unit {0})) → Type 0
-      AfterView f = (v : CallView) → IsAnswered p s (view_of (call_name c) (call_args c)) (gives v) → IsSound s (f v)
+      where
+        -- what follows the view of the call
+        AfterView : (CallView → Prog (Unit {0})) → Type 0
+        AfterView f = (v : CallView) → IsAnswered p s (view_of (call_name c) (call_args c)) (gives v) → IsSound s (f v)
 
-      viewed_as : (f : CallView → Prog (Unit {0})) (on : Bool) (next : Unit {0} → Steps) (a : Answer CallView)
-          → AfterView f → ((n : State) → IsAfter s n → AreSound on n (next tt))
-          → IsAnswered p s (view_of (call_name c) (call_args c)) a → AreSound on s (answer a (λ v. f v next))
-      unfolding AfterView
-      viewed_as f on next (gives v) good g viewed = good v viewed h on next g
-      viewed_as f on next (refuses r) good g viewed = tt
+        viewed_as : (f : CallView → Prog (Unit {0})) (on : Bool) (next : Unit {0} → Steps) (a : Answer CallView)
+            → AfterView f → ((n : State) → IsAfter s n → AreSound on n (next tt))
+            → IsAnswered p s (view_of (call_name c) (call_args c)) a → AreSound on s (answer a (λ v. f v next))
+        unfolding AfterView
+        viewed_as f on next (gives v) good g viewed = good v viewed h on next g
+        viewed_as f on next (refuses r) good g viewed = tt
 
-      module _ (not_lone : is_lone block c ≡ false) where
-        called_good : (v : CallView) (on : Bool) (next : Unit {0} → Steps) (a : Answer Target)
-            → IsAnswered p s (view_of (call_name c) (call_args c)) (gives v)
-            → ((n : State) → IsAfter s n → AreSound on n (next tt))
-            → IsAnswered p s (called_as block v.name) a
-            → AreSound on s (answer a (λ k. render_helped site block c k v next))
-        called_good v on next (gives k) viewed g calls =
-            helped_good s reached v viewed k (by_name_or_hook not_lone calls) raw h on next g
-        called_good v on next (refuses r) viewed g calls = tt
+        module _ (not_lone : is_lone block c ≡ false) where
+          called_good : (v : CallView) (on : Bool) (next : Unit {0} → Steps) (a : Answer Target)
+              → IsAnswered p s (view_of (call_name c) (call_args c)) (gives v)
+              → ((n : State) → IsAfter s n → AreSound on n (next tt))
+              → IsAnswered p s (called_as block v.name) a
+              → AreSound on s (answer a (λ k. render_helped site block c k v next))
+          called_good v on next (gives k) viewed g calls =
+              helped_good s reached v viewed k (by_name_or_hook not_lone calls) raw h on next g
+          called_good v on next (refuses r) viewed g calls = tt
 
-        pub call_good : (on : Bool) (next : Unit {0} → Steps) → ((n : State) → IsAfter s n → AreSound on n (next tt))
-            → AreSound on s (render_call site block c next)
-        unfolding ◌>>=◌ AfterView
-        call_good on next g = λ a viewed. viewed_as
-            (λ v. ask (called_as block v.name) >>= (λ k. render_helped site block c k v)) on next a
-            (λ v is i. λ n b j. λ w calls. called_good v n b w is j calls) g viewed
+          pub call_good : (on : Bool) (next : Unit {0} → Steps) → ((n : State) → IsAfter s n → AreSound on n (next tt))
+              → AreSound on s (render_call site block c next)
+          unfolding ◌>>=◌ AfterView
+          call_good on next g = λ a viewed. viewed_as
+              (λ v. ask (called_as block v.name) >>= (λ k. render_helped site block c k v)) on next a
+              (λ v is i. λ n b j. λ w calls. called_good v n b w is j calls) g viewed
 
   -- the call of an expression that stands at the site, with no parameters and no pairs
   module _ (site : Site) (c : Call) (of_run : IsSiteOfRun p u blocks vs site)

@@ -1,6 +1,6 @@
 -- Runs of good steps: all that they write has an origin, and all that they visit stands in a tree of the run.
-use Rattle.std.proofs.Common.{◌≡◌, ◌≢◌, ℕ, ◌+◌, ◌<◌, List, [], ◌∷◌, ◌++◌, Bool, true, false, not, refl, sym, ap, ◌∙◌, Option, Some, None, unwrap_or, cond, arith}
-use Rattle.std.specs.List.{AllByRecursion, Contains}
+use Rattle.std.proofs.Common.{◌≡◌, ℕ, List, [], ◌∷◌, ◌++◌, Bool, true, false, not, refl, sym, ap, Option, Some, None, unwrap_or, cond, arith}
+use Rattle.std.specs.List.{Contains}
 use Rattle.std.specs.Str.{bytes_eq}
 use Rattle.std.proofs.lemmas.List.Elements.{Contains-append_left, Contains-append_right}
 use Rattle.handlebars_base.specs.Answers.{Answer}
@@ -9,17 +9,17 @@ use Rattle.handlebars_base.specs.Outputs.{IsBeginning}
 use Rattle.handlebars_base.specs.Values.{word}
 use Rattle.handlebars_scope.specs.Resolve.{or_else}
 use Rattle.handlebars_scope.specs.Scopes.{Frame}
-use Rattle.handlebars_template.specs.Tree.{Tree, Element, Body, no_body, body, Decorator, decorator_body}
+use Rattle.handlebars_template.specs.Tree.{Tree, Body, no_body, body}
 use Rattle.handlebars_meaning.specs.Inclusion.{newest, Partial, is_local, is_registered, is_own_block, is_nowhere, own_block, registered_or_own, local_or_other, found_by}
 use Rattle.handlebars_meaning.specs.Pieces.{Origin, of_text, of_value, of_raw, of_word, of_step, of_indent, Piece}
 use Rattle.handlebars_meaning.specs.Questions.{Reply, IsAnswered}
-use Rattle.handlebars_meaning.specs.Sites.{TreeSite, body_at, inverse_at, included_at, Site, element_in}
+use Rattle.handlebars_meaning.specs.Sites.{body_at, inverse_at, included_at, Site, element_in}
 use Rattle.handlebars_meaning.specs.State.{Kept, Setting, State, outer, nearest_as, partial_in, with_partial}
 use Rattle.handlebars_meaning.specs.Steps.{Task, One, Whole, Steps, Done, Refuse, Write, Get, Set, Ask, Do, Capture, Find, Room, Prog}
 use Rattle.handlebars_meaning.specs.Means.{todo}
 use Rattle.handlebars_meaning.specs.Runs.{Outcome, Ended, Refused, Faulted, NoMemory, IsOver, Stops, marked, Front, none, cut_off, more, Runs, done, refused, wrote, got, set, asked, did, did_over, captured, captured_over, looked, has_room, has_none, stop, cut}
 use Rattle.handlebars_meaning.specs.Visits.{Visit, arrival, visits}
-use Rattle.handlebars_meaning.specs.Origins.{tree_at, element_at, is_raw_tree, IsVisited, AreIndents, ComesFrom, HaveOrigins, IsLocalOfRun, stood_in, IsTreeOfRun, is_body, is_inverse, is_local_of, is_stored, IsSiteOfRun, StandInTrees}
+use Rattle.handlebars_meaning.specs.Origins.{tree_at, element_at, is_raw_tree, AreIndents, ComesFrom, HaveOrigins, IsLocalOfRun, stood_in, IsTreeOfRun, is_body, is_inverse, is_local_of, is_stored, IsSiteOfRun, StandInTrees}
 use Rattle.handlebars_laws.proofs.Within.{beginning_within, beginning_beginning}
 
 module _ (p : Setting) (u : Tree) (blocks : List Frame) (vs : List Visit) where

@@ -1,25 +1,24 @@
 -- What an inclusion writes has an origin.
-use Rattle.std.proofs.Common.{◌≡◌, ℕ, List, [], ◌∷◌, Bool, true, false, not, refl, sym, ◌∙◌, Option, Some, None, unwrap_or, option_and_then}
+use Rattle.std.proofs.Common.{◌≡◌, List, [], ◌∷◌, Bool, true, false, not, refl, ◌∙◌, Option, Some, None, unwrap_or, option_and_then}
 use Rattle.std.specs.Str.{bytes_eq}
 use Rattle.serde_json.specs.Data.{Data}
 use Rattle.handlebars_base.specs.Answers.{Answer, gives, refuses}
 use Rattle.handlebars_base.specs.Bytes.{Text}
 use Rattle.handlebars_base.specs.PathAndData.{PathAndData}
 use Rattle.handlebars_base.specs.Scoped.{Found, data_in}
-use Rattle.handlebars_template.specs.Tree.{Tree, Element, Decorator, decorator_name, decorator_args, decorator_body, decorator_marks, Body, no_body, body}
+use Rattle.handlebars_template.specs.Tree.{Tree, Decorator, decorator_body, decorator_marks, Body, no_body, body}
 use Rattle.handlebars_scope.specs.Scopes.{Frame}
 use Rattle.handlebars_helpers.specs.CallView.{CallView}
-use Rattle.handlebars_helpers.specs.Decoration.{DecoratorView}
 use Rattle.handlebars_meaning.specs.Inclusion.{Partial, is_local, is_registered, is_own_block, is_nowhere, is_current, newest, pair_values, inclusion_block, joined_indent, begun, named_as_before, over}
-use Rattle.handlebars_meaning.specs.Including.{render_own_block, write_kept, partial_block_name, base_value, enter_block, render_ahead, include_tree, include_partial, include_other, include_named, include}
+use Rattle.handlebars_meaning.specs.Including.{render_own_block, write_kept, partial_block_name, base_value, render_ahead, include_tree, include_partial, include_other, include_named, include}
 use Rattle.handlebars_meaning.specs.Means.{shown_tag, line_at, line_out, include_tag, render_partial}
 use Rattle.handlebars_meaning.specs.Pieces.{Piece}
 use Rattle.handlebars_meaning.specs.Sites.{TreeSite, body_at, included_at, Site}
 use Rattle.handlebars_meaning.specs.State.{Setting, State, entered, nearest_variables}
-use Rattle.handlebars_meaning.specs.Steps.{Whole, Steps, Get, Set, Prog, return, ◌>>=◌, ◌>>◌, answer}
+use Rattle.handlebars_meaning.specs.Steps.{Whole, Steps, Get, Set, Do, Prog, return, ◌>>=◌, ◌>>◌, answer}
 use Rattle.handlebars_meaning.specs.Visits.{Visit}
-use Rattle.handlebars_meaning.specs.Origins.{tree_in, body_of, inclusion_tag, tree_at, element_at, is_raw_tree, is_raw_site, IsVisited, AreIndents, one_indent_more, HaveOrigins, IsTreeOfRun, IsSiteOfRun}
-use Rattle.handlebars_laws.proofs.GoodRuns.{body_of_run, local_of_run, stored_of_run, KeptGood, StateGood, IsNext, newest_good, outer_good, PartialGood, found_good, Stands, Good, IsGoodFrom}
+use Rattle.handlebars_meaning.specs.Origins.{tree_in, body_of, inclusion_tag, tree_at, element_at, is_raw_tree, is_raw_site, IsVisited, AreIndents, one_indent_more, IsTreeOfRun, IsSiteOfRun}
+use Rattle.handlebars_laws.proofs.GoodRuns.{body_of_run, local_of_run, stored_of_run, KeptGood, StateGood, IsNext, newest_good, outer_good, PartialGood, found_good, Good, IsGoodFrom}
 
 tree_in-body : (b : Body) (t : Tree) → b ≡ body t → tree_in b ≡ Some t
 tree_in-body b t is = rw is refl
@@ -77,7 +76,7 @@ module _ (p : Setting) (u : Tree) (blocks : List Frame) (vs : List Visit) where
     kept_good : (s : State) (o : Option (List Piece)) → s.escapes ≡ not (is_raw_site u site) → KeptGood p u blocks vs o
         → IsSound s (write_kept site (decorator_body t) s o)
     kept_good s None raw good = own_block_good (decorator_body t) s refl raw
-    kept_good s (Some ps) raw good h on next g = (good, g s (after refl h))
+    kept_good s (Some ps) raw good = λ h on next g. (good, g s (after refl h))
 
     ahead_good : (b : Body) (s : State) → tree_in (decorator_body t) ≡ tree_in b
         → s.escapes ≡ not (is_raw_site u site) → IsWell s → (on : Bool) (next : Option (List Piece) → Steps)
@@ -98,15 +97,26 @@ module _ (p : Setting) (u : Tree) (blocks : List Frame) (vs : List Visit) where
         → AreSound on s (ahead next)
 
     module _ (i : Option Text) (c : CallView) (indents : AreIndents u vs (unwrap_or (shown_tag i t c).indent [])) where
+      -- what an inclusion does behind its own block, where that was rendered ahead; and behind its value
+      abbrev behind_ahead : TreeSite → Tree → State → (Unit {0} → Steps) → Option (List Piece) → Steps
+      behind_ahead at x s next k = Get (λ z. Set (begun (shown_tag i t c).indent k z)
+          (Do (Whole at x) (Get (λ y. Set (over s y) (next tt)))))
+
+      abbrev within : TreeSite → Tree → Prog (Option (List Piece)) → State → (Unit {0} → Steps) → Data → Steps
+      within at x ahead s next d = Get (λ z.
+          Set (entered (inclusion_block d (pair_values c.pairs) (nearest_variables z.blocks)) z)
+          (ahead (behind_ahead at x s next)))
+
       tree_good : (at : TreeSite) (x : Tree) (ahead : Prog (Option (List Piece))) (s : State)
           → IsTreeOfRun p u blocks vs at → tree_at u at ≡ Some x → is_raw_tree u at ≡ is_raw_site u site
           → s.escapes ≡ not (is_raw_site u site) → IsSoundAhead ahead
           → IsSound s (include_tree (shown_tag i t c) at x ahead)
       unfolding ◌>>=◌ ◌>>◌ IsSoundAhead
       tree_good at x ahead s tree_of_run is same_raw raw told h on next g =
-          base_good s c.params on _ (λ d. told
+          base_good s c.params on (within at x ahead s next) (λ d. told
           (entered (inclusion_block d (pair_values c.pairs) (nearest_variables s.blocks)) s) raw
-          (record { kept = h.kept; indents = h.indents; frames = (λ n y none_there. cc, h.frames) }) on _
+          (record { kept = h.kept; indents = h.indents; frames = (λ n y none_there. cc, h.frames) }) on
+          (behind_ahead at x s next)
           (λ k n good same. (
             (tree_of_run, is),
             rw same_raw (same.escapes ∙ raw),
@@ -130,17 +140,17 @@ module _ (p : Setting) (u : Tree) (blocks : List Frame) (vs : List Visit) where
       include_partial_good (is_own_block x) s good raw =
           tree_good (body_at site 0) x (return None) s (body_of_run p u blocks vs site 0 of_run)
           (has_body ∙ tree_in-body (decorator_body t) x good) refl raw (λ n r h on next g. g None n tt (after refl h))
-      include_partial_good is_nowhere s good raw h on next g = tt
+      include_partial_good is_nowhere s good raw = λ h on next g. tt
 
       include_other_good : (found : Partial) (s : State) (b : Bool) → PartialGood p u blocks vs (decorator_body t) found
           → s.escapes ≡ not (is_raw_site u site) → IsSound s (include_other site (shown_tag i t c) found s b)
-      include_other_good found s true good raw h =
-          kept_good s (newest s.kept) raw (newest_good p u blocks vs s.kept h.kept) h
+      include_other_good found s true good raw =
+          λ h. kept_good s (newest s.kept) raw (newest_good p u blocks vs s.kept h.kept) h
       include_other_good found s false good raw = include_partial_good found s good raw
 
       include_named_good : (found : Partial) (s : State) (b : Bool) → PartialGood p u blocks vs (decorator_body t) found
           → s.escapes ≡ not (is_raw_site u site) → IsSound s (include_named site (shown_tag i t c) found s b)
-      include_named_good found s true good raw h on next g = tt
+      include_named_good found s true good raw = λ h on next g. tt
       include_named_good found s false good raw =
           include_other_good found s (bytes_eq partial_block_name c.name) good raw
 

@@ -7,7 +7,6 @@ use Rattle.handlebars_template.specs.Tree.{Tree, tree, Elements, no_elements, el
 use Rattle.handlebars_scope.specs.Scopes.{Frame}
 use Rattle.handlebars_helpers.specs.CallView.{CallView}
 use Rattle.handlebars_helpers.specs.Decoration.{DecoratorKind, Deed, sets_data, binds, unbinds, sets_partial}
-use Rattle.handlebars_helpers.specs.Own.{writes}
 use Rattle.handlebars_meaning.specs.State.{Setting, State, with_nearest, with_partial, with_data, with_local, without_local}
 use Rattle.handlebars_meaning.specs.Steps.{Task, One, Whole, Steps, Done, Get, Set, Prog, ◌>>=◌, ◌>>◌, answer, ask}
 use Rattle.handlebars_meaning.specs.Pieces.{of_text, Piece}
@@ -20,7 +19,7 @@ use Rattle.handlebars_meaning.specs.Origins.{nth, nth_in, body_of, inverse_of, d
 use Rattle.handlebars_meaning.specs.Laws.{IsPlain, alone}
 use Rattle.handlebars_laws.proofs.GoodRuns.{StateGood, IsNext, nearest_good, partial_good, Stands, is_raw_around, is_raw_before, Good, first_visit, AreVisits, IsGoodFrom, origins_of, begins_good}
 use Rattle.handlebars_laws.proofs.InclusionOrigins.{inclusion_good}
-use Rattle.handlebars_laws.proofs.CallOrigins.{IsWriter, write_text_good, raw_at, call_good, expression_good}
+use Rattle.handlebars_laws.proofs.CallOrigins.{write_text_good, raw_at, call_good, expression_good}
 
 module _ (p : Setting) (u : Tree) (blocks : List Frame) (vs : List Visit) where
   -- short words for what holds of this run: of a state, of a state behind another, of steps, and of programs
@@ -108,7 +107,7 @@ module _ (p : Setting) (u : Tree) (blocks : List Frame) (vs : List Visit) where
     element_good (raw_string t) is raw = write_text_good p u blocks vs s (of_text site) t
         (record { writer = raw_string t; stands = is; visited = visited_first })
         (λ a within. record { all = t; stands = is; state = s; reached = reached_first; is = within })
-    element_good (html_expression c) is raw h on next g =
+    element_good (html_expression c) is raw = λ h on next g.
         expression_good p u blocks vs site c of_run (ap (λ (o : Option Element). option_and_then body_of o) is)
         (ap (λ (o : Option Element). option_and_then inverse_of o) is)
         (ap (λ (o : Option Element). option_and_then shown_call o) is) (record s { escapes = false })
@@ -120,7 +119,7 @@ module _ (p : Setting) (u : Tree) (blocks : List Frame) (vs : List Visit) where
         (ap (λ (o : Option Element). option_and_then inverse_of o) is)
         (ap (λ (o : Option Element). option_and_then shown_call o) is) s
         (raw ∙ ap not (sym (raw_at p u blocks vs site (expression c) is))) reached_first
-    element_good (helper_block c) is raw h on next g =
+    element_good (helper_block c) is raw = λ h on next g.
         call_good p u blocks vs site true c of_run (ap (λ (o : Option Element). option_and_then body_of o) is)
         (ap (λ (o : Option Element). option_and_then inverse_of o) is)
         (ap (λ (o : Option Element). option_and_then shown_call o) is) s
@@ -185,9 +184,13 @@ begins_well p u vs s plain = begins_good p u s.blocks vs s (no_indent s.indent p
 tree_comes : (p : Setting) (t : Tree) (s : State) (ps : List Piece) (o : Outcome) → IsPlain s → (r : Means p t s ps o)
     → HaveOrigins p t (visits r) ps × StandInTrees p t s.blocks (visits r) (visits r)
 tree_comes p t s ps o plain r =
-    let h = origins_of p t s.blocks (visits r) (plan_good p t s.blocks (visits r)) r true
-    ((is_first, refl), plain.escapes, begins_well p t (visits r) s plain, λ n same.
-    (same.escapes ∙ plain.escapes, same.good)) (λ v has. has) in
+    let h = origins_of p t s.blocks (visits r) (plan_good p t s.blocks (visits r)) r true (
+      (is_first, refl),
+      plain.escapes,
+      begins_well p t (visits r) s plain,
+      λ n same.
+          (same.escapes ∙ plain.escapes, same.good),
+    ) (λ v has. has) in
     (h.0, h.2)
 
 pub all_have_origins : (p : Setting) (t : Tree) (s : State) (ps : List Piece) (o : Outcome) → IsPlain s
@@ -201,6 +204,10 @@ comes_in_trees p t s ps o plain r = (tree_comes p t s ps o plain r).1
 pub element_has_origins : (p : Setting) (e : Element) (s : State) (ps : List Piece) (o : Outcome) → IsPlain s
     → (r : Runs p (render_alone e) s ps o) → HaveOrigins p (alone e) (visits r) ps
 element_has_origins p e s ps o plain r =
-    (origins_of p (alone e) s.blocks (visits r) (plan_good p (alone e) s.blocks (visits r)) r true
-    ((is_first, refl), plain.escapes, begins_well p (alone e) (visits r) s plain, λ n same.
-    (same.escapes ∙ plain.escapes, same.good)) (λ v has. has)).0
+    (origins_of p (alone e) s.blocks (visits r) (plan_good p (alone e) s.blocks (visits r)) r true (
+      (is_first, refl),
+      plain.escapes,
+      begins_well p (alone e) (visits r) s plain,
+      λ n same.
+          (same.escapes ∙ plain.escapes, same.good),
+    ) (λ v has. has)).0
