@@ -20,7 +20,7 @@ use Rattle.handlebars_helpers.specs.Own.{Step, writes, renders_body, renders_inv
 use Rattle.handlebars_helpers.specs.Turns.{Turn, with_block}
 use Rattle.handlebars_meaning.specs.State.{Setting, State, nearest_variables, left}
 use Rattle.handlebars_meaning.specs.Steps.{Task, One, Whole, Steps, Done, Refuse, Write, Get, Set, Ask, Do, Capture, Find, Room, Prog, ◌>>=◌, ◌>>◌, answer}
-use Rattle.handlebars_meaning.specs.Inclusion.{Partial, is_local, is_registered, is_own_block, is_nowhere, is_current, newest}
+use Rattle.handlebars_meaning.specs.Inclusion.{Partial, is_local, is_registered, is_own_block, is_nowhere, is_current, newest, begun, over}
 use Rattle.handlebars_meaning.specs.Including.{render_own_block, write_kept, partial_block_name, base_value, enter_block, render_ahead, include_found, include_partial, include_other, include_named, include}
 use Rattle.handlebars_meaning.specs.Pieces.{Origin, of_text, of_value, of_raw, Piece}
 use Rattle.handlebars_meaning.specs.Sites.{TreeSite, first_tree, body_at, inverse_at, included_at, Site, element_in}
@@ -439,18 +439,26 @@ module _ (site : Site) where
   ahead_ordered no_body next h = earlier (address site) 0 1 (next None) (omega arith) (h None)
   ahead_ordered (body t) next h = (0, omega arith, (refl, tt), λ ps. h (Some ps))
 
+  -- what an inclusion does behind its own block, where that was rendered ahead
+  abbrev behind_ahead : DecoratorView → TreeSite → Tree → State → (Unit {0} → Steps) → Option (List Piece) → Steps
+  behind_ahead v at t s next k =
+      Get (λ z. Set (begun v.indent k z) (Do (Whole at t) (Get (λ y. Set (over s y) (next tt)))))
+
   include_found_ordered : (v : DecoratorView) (t : Tree) → IsOrdered (address site) 0 (include_found site v t)
   unfolding IsOrdered ◌>>=◌ ◌>>◌
-  include_found_ordered v t next h = λ s. enter_ordered (address site) 0 v _
-      (ahead_ordered v.body _ (λ k z. (1, omega arith, refl, λ y. h 2 (omega arith))))
+  include_found_ordered v t next h = λ s.
+      enter_ordered (address site) 0 v (λ u. render_ahead site v.body (behind_ahead v (included_at site t) t s next))
+      (ahead_ordered v.body (behind_ahead v (included_at site t) t s next)
+      (λ k z. (1, omega arith, refl, λ y. h 2 (omega arith))))
 
   include_partial_ordered : (v : DecoratorView) (found : Partial)
       → IsOrdered (address site) 0 (include_partial site v found)
   unfolding IsOrdered ◌>>=◌ ◌>>◌
   include_partial_ordered v (is_local t) next h = include_found_ordered v t next h
   include_partial_ordered v (is_registered t) next h = include_found_ordered v t next h
-  include_partial_ordered v (is_own_block t) next h =
-      λ s. enter_ordered (address site) 0 v _ (λ z. (0, omega arith, refl, λ y. h 1 (omega arith)))
+  include_partial_ordered v (is_own_block t) next h = λ s.
+      enter_ordered (address site) 0 v (λ u. behind_ahead v (body_at site 0) t s next None)
+      (λ z. (0, omega arith, refl, λ y. h 1 (omega arith)))
   include_partial_ordered v is_nowhere next h = tt
 
   include_other_ordered : (v : DecoratorView) (found : Partial) (s : State) (b : Bool)

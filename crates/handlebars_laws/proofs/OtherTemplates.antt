@@ -1,9 +1,7 @@
 -- Runs under a larger limit, and with other templates under other names.
-use Rattle.std.proofs.Common.{◌≡◌, ◌≢◌, ◌≤◌, ◌<◌, ℕ, List, [], ◌∷◌, ◌++◌, Option, sym, ap, subst, refl, arith}
+use Rattle.std.proofs.Common.{◌≡◌, ◌≤◌, ℕ, List, [], ◌∷◌, ◌++◌, Option, sym, ap, subst, refl, arith}
 use Rattle.std.specs.List.{AllByRecursion}
-use Rattle.handlebars_base.specs.Answers.{Answer}
 use Rattle.handlebars_base.specs.Bytes.{Text}
-use Rattle.handlebars_base.specs.Reasons.{inclusion_limit}
 use Rattle.handlebars_template.specs.Tree.{Tree, Body}
 use Rattle.handlebars_meaning.specs.Inclusion.{Partial, local_or_other, found_by}
 use Rattle.handlebars_meaning.specs.Pieces.{Piece}
@@ -94,4 +92,5 @@ module _ (p : Setting) (template : Text → Option Tree) where
   Runs-other (cut i f) h = cut i f
 
 pub only_named_count : (p : Setting) → OnlyNamedCount p
+unfolding AreSame
 only_named_count p k s ps o r template h = Runs-other p template r h

@@ -1,7 +1,7 @@
 -- What pieces join to.
-use Rattle.std.proofs.Common.{◌≡◌, ℕ, Bool, true, false, List, [], ◌∷◌, ◌++◌, Option, unwrap_or, refl, sym, ap, ◌∙◌, append_assoc, append-nil, ◌⊎◌, inl, inr, if◌then◌else◌}
+use Rattle.std.proofs.Common.{◌≡◌, ℕ, Bool, true, false, List, [], ◌∷◌, ◌++◌, Option, unwrap_or, refl, sym, ap, ◌∙◌, append-nil, ◌⊎◌, inl, inr, if◌then◌else◌}
 use Rattle.handlebars_base.specs.Bytes.{Text}
-use Rattle.handlebars_scope.specs.Indentation.{lines_of, between, indented, takes_indent, written_in}
+use Rattle.handlebars_scope.specs.Indentation.{lines_of, between, takes_indent, written_in}
 use Rattle.handlebars_scope.specs.LineState.{LineState}
 use Rattle.handlebars_meaning.specs.Pieces.{Origin, of_indent, site_of, Piece, join, pieces_of, indent_pieces, pieces_between, pieces_before, put}
 use Rattle.handlebars_meaning.specs.Runs.{Front, none, cut_off, more}

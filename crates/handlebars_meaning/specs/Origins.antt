@@ -1,5 +1,5 @@
 -- Where each piece of a run comes from.
-use Rattle.std.specs.Prelude.{◌≡◌, ℕ, slice_get, zero, suc, Bool, true, false, not, ◌&&◌, ◌||◌, List, ◌++◌, Option, None, Some, option_map}
+use Rattle.std.specs.Prelude.{◌≡◌, ℕ, slice_get, zero, suc, Bool, true, false, not, ◌&&◌, ◌||◌, List, [], ◌++◌, Option, None, Some, option_map}
 use Rattle.std.specs.List.{AllByRecursion, Contains}
 use Rattle.serde_json.specs.Data.{Data}
 use Rattle.handlebars_base.specs.Answers.{gives}
@@ -52,15 +52,15 @@ tag_of (partial_block t) = Some t
 tag_of e = None
 
 -- the tag of a decorator alone, and that of an inclusion
-abbrev pub decorator_of : Element → Option Decorator
-decorator_of (decorator_expression t) = Some t
-decorator_of (decorator_block t) = Some t
-decorator_of e = None
+abbrev pub decorator_tag : Element → Option Decorator
+decorator_tag (decorator_expression t) = Some t
+decorator_tag (decorator_block t) = Some t
+decorator_tag e = None
 
-abbrev pub inclusion_of : Element → Option Decorator
-inclusion_of (partial_expression t) = Some t
-inclusion_of (partial_block t) = Some t
-inclusion_of e = None
+abbrev pub inclusion_tag : Element → Option Decorator
+inclusion_tag (partial_expression t) = Some t
+inclusion_tag (partial_block t) = Some t
+inclusion_tag e = None
 
 abbrev pub is_block : Element → Bool
 is_block (helper_block c) = true
@@ -215,7 +215,7 @@ pub record IsOfStep (p : Setting) (u : Tree) (vs : List Visit) (site : Site) (i 
 pub data AreIndents (u : Tree) (vs : List Visit) : Text → Type 0 where
   no_indents : AreIndents u vs []
   one_indent_more : {t own : Text} (site : Site) (tag : Decorator) → AreIndents u vs t
-      → (element_at u site >>= inclusion_of) ≡ Some tag → (decorator_marks tag).indent ≡ Some own → IsVisited vs site
+      → (element_at u site >>= inclusion_tag) ≡ Some tag → (decorator_marks tag).indent ≡ Some own → IsVisited vs site
       → AreIndents u vs (t ++ own)
 
 -- indentations that the element at the site writes, to which the run comes, or a beginning of them, where the run stopped
@@ -261,7 +261,7 @@ pub record IsHandedOver (p : Setting) (u : Tree) (vs : List Visit) (f : Frame) :
 -- A local partial of a run: the body of a decorator's tag to which the run comes; or one that stood in a block before, with
 -- which the run began or which a helper of one's own handed over.
 pub data IsLocalOfRun (p : Setting) (u : Tree) (blocks : List Frame) (vs : List Visit) : Tree → Type 0 where
-  set_by : {t : Tree} (site : Site) (tag : Decorator) → (element_at u site >>= decorator_of) ≡ Some tag
+  set_by : {t : Tree} (site : Site) (tag : Decorator) → (element_at u site >>= decorator_tag) ≡ Some tag
       → decorator_body tag ≡ body t → IsVisited vs site → IsLocalOfRun p u blocks vs t
   stood_in : {t : Tree} (f : Frame) (n : Text) → Contains blocks f → f.partial n ≡ Some t → IsLocalOfRun p u blocks vs t
   handed_over : {t : Tree} (f : Frame) (n : Text) → IsHandedOver p u vs f → f.partial n ≡ Some t
