@@ -19,3 +19,4 @@ mod Turns
 pub mod Silent
 mod Evaluated
 mod Sinks
+mod Includes
