@@ -9,7 +9,7 @@ use Rattle.handlebars_template.specs.Compile.{Compiles, compiled, refused}
 use Rattle.handlebars_meaning.specs.Pieces.{Piece, join}
 use Rattle.handlebars_meaning.specs.State.{Setting, State, first_state}
 use Rattle.handlebars_meaning.specs.Runs.{Outcome, Ended, Refused, IsStop, Means}
-use Rattle.handlebars_meaning.specs.Origins.{HaveOrigins}
+use Rattle.handlebars_meaning.specs.Origins.{HaveOrigins, StandInTrees}
 use Rattle.handlebars_meaning.specs.Visits.{visits, ComeOnce}
 
 -- what a rendering begins with: a tree, or a refusal before anything is written
@@ -52,13 +52,15 @@ HasOneAnswer p begins = (ps qs : List Piece) (o q : Outcome)
     → RenderAnswers p begins ps o → RenderAnswers p begins qs q
     → (IsStop o → ⊥) → (IsStop q → ⊥) → ∥ (ps ≡ qs) × (o ≡ q) ∥₁
 
--- The run of an answer comes to no site twice, and each of its pieces comes from the tree that it begins with: it is a
--- part of a text of the tree, or of the value or the boolean helper's word that is written at its site in the state in
--- which the run comes there.
+-- The run of an answer comes to no site twice, all its sites stand in trees of the run, and each of its pieces comes from
+-- its site: it is a part of a text there, or of the value or the boolean helper's word that is written there in the state
+-- in which the run comes there, or an indentation.
 abbrev pub ComeFromTree : {p : Setting} {begins : Beginning → Type 0} {ps : List Piece} {o : Outcome}
     → RenderAnswers p begins ps o → Type 0
 ComeFromTree (not_begun b) = Unit {0}
-ComeFromTree {p = p} {ps = ps} (rendered {t = t} b r) = HaveOrigins p t (visits r) ps × ComeOnce (visits r)
+ComeFromTree {p = p} {ps = ps} (rendered {t = t} b r) =
+    HaveOrigins p t (visits r) ps
+    × (ComeOnce (visits r) × StandInTrees p t (first_state p.parts.recursive).blocks (visits r) (visits r))
 
 abbrev pub AnswerHasOrigins : Setting → (Beginning → Type 0) → Type 0
 AnswerHasOrigins p begins = (ps : List Piece) (o : Outcome) (a : RenderAnswers p begins ps o) → ComeFromTree a

@@ -18,3 +18,5 @@ mod Changed
 mod Turns
 pub mod Silent
 mod Evaluated
+mod Sinks
+mod Includes

@@ -9,3 +9,4 @@ mod HelperRows
 mod OwnRows
 mod DecoratorRows
 mod DeedRows
+mod InclusionRows

@@ -5,3 +5,4 @@ pub mod HelperRows
 pub mod OwnRows
 pub mod DecoratorRows
 pub mod DeedRows
+pub mod InclusionRows

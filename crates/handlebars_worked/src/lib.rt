@@ -5,6 +5,7 @@
 mod decorators;
 mod deeds;
 mod helpers;
+mod inclusions;
 mod own;
 mod rows;
 mod scopes;
@@ -13,6 +14,7 @@ mod sources;
 pub use decorators::worked_decorators;
 pub use deeds::worked_deeds;
 pub use helpers::worked_helpers;
+pub use inclusions::worked_inclusions;
 pub use own::worked_own_helpers;
 pub use rows::worked_rows;
 pub use scopes::worked_scopes;

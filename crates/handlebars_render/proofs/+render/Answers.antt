@@ -20,6 +20,7 @@ use Rattle.handlebars_meaning.specs.CarryOut.{helper_call}
 use Rattle.handlebars_meaning.specs.Means.{render_chosen, render_decorator}
 use Rattle.handlebars_meaning.specs.Runs.{named_as, placed_at}
 use Rattle.handlebars_render.specs.Boxed.{answer_of, error_of}
+use Rattle.handlebars_render.specs.declared.boxed.BoxedError.TheVariants.{OutOfMemory}
 use Rattle.handlebars_render.specs.Targets.{target_in}
 use Rattle.handlebars_render.specs.Bound.{bound_of}
 use Rattle.handlebars_render.specs.View.{called_view, keeping, setting_in, state_of, state_with}
@@ -27,12 +28,13 @@ use Rattle.handlebars_render.proofs.Branches.{carries-branch}
 use Rattle.handlebars_render.proofs.Calls.{branch_none, choice_err, choice_ok, chosen_ok, entered_as}
 use Rattle.handlebars_render.proofs.LocalCalls.{chooses-local, chooses-same, refuses-local}
 use Rattle.handlebars_render.proofs.Leaves.{carries_on-leaves}
-use Rattle.handlebars_render.proofs.Carry.{carries-done, carries-no_value, carries-out_of_memory, carries-puts, carries-run, carries-unescaped, carries_on-bracket, carries_on-done, carries_on-handed, carries_on-task, carries_on-task_over, carries_on-step, carries_on-word, restored, carries_on-in_block, carries_on-out_of_memory}
+use Rattle.handlebars_render.proofs.Carry.{carries-done, carries-no_value, carries-out_of_memory, carries-puts, carries-run, carries-unescaped, carries_on-bracket, carries_on-done, carries_on-handed, carries_on-task, carries_on-task_over, carries_on-step, carries_on-word, restored, carries_on-in_block, carries_on-no_memory, carries_on-out_of_memory}
 use Rattle.handlebars_meaning.specs.State.{entered, hook}
 use Rattle.handlebars_render.proofs.Elements.{left_starts, left_goes, left_over, left_ends, whole_with}
 use Rattle.handlebars_render.proofs.Kept.{kept-refl, kept-trans, outer-kept, outer-trans}
 use Rattle.handlebars_render.proofs.Lists.{get_or-seen, below-seen, over-seen, place_there, looked_up, placed_marks}
 use Rattle.handlebars_render.proofs.Silent.{carries-does}
+use Rattle.handlebars_render.proofs.Sinks.{same-refl, same-trans}
 use Rattle.handlebars_render.proofs.OwnSteps.{nothing_left, steps-end, steps-go, steps-over}
 use Rattle.handlebars_render.proofs.Turns.{below-kept, binding-seen, carries_on-turn, carries_on-with, entered-with, turns-end, turns-go, turns-no_memory, turns-over}
 use Rattle.handlebars_render.proofs.+render.Goals as goal
@@ -41,16 +43,16 @@ use Rattle.handlebars_render.proofs.+render.Goals as goal
 
 pub block::render_tag-returns-in-Ok-Done-clause-renders : goal.block::render_tag-returns-in-Ok-Done-clause-renders
 block::render_tag-returns-in-Ok-Done-clause-renders g t c = λ site kept.
-    rw (ap (keeping kept) c.set_line.ensures.state) (rw c.in-Ok-Done.field-0-is at (c.in-Ok-Done.ensures site kept))
+    rw (ap (keeping kept) c.set_line.ensures.state) (rw c.in-Ok-Done.field-0-is at (c.in-Ok-Done.ensures.comes site kept))
 
 pub block::render_tag-returns-in-Ok-Call-clause-renders : goal.block::render_tag-returns-in-Ok-Call-clause-renders
 block::render_tag-returns-in-Ok-Call-clause-renders g t c = λ site kept.
-    let left = rw c.in-Ok-Call.field-0-is at (c.in-Ok-Call.ensures site kept) in
+    let left = rw c.in-Ok-Call.field-0-is at (c.in-Ok-Call.ensures.comes site kept) in
     carries_on-leaves _ _ _ _ left.0 left.1 (rw c.into_inner.ensures at (c.render_next.ensures.renders site kept))
 
 pub block::render_tag-returns-in-Ok-Branch-clause-renders : goal.block::render_tag-returns-in-Ok-Branch-clause-renders
 block::render_tag-returns-in-Ok-Branch-clause-renders g t c = λ site kept.
-    let left = rw c.in-Ok-Branch.field-0-is at (c.in-Ok-Branch.ensures site kept) in
+    let left = rw c.in-Ok-Branch.field-0-is at (c.in-Ok-Branch.ensures.comes site kept) in
     carries_on-leaves _ _ _ _ left.0.leaves left.1
     (c.render_branch.ensures.renders site kept c.args.block left.0.kind left.0.view left.0.chooses)
 
@@ -68,7 +70,7 @@ block::render_branch-returns-clause-renders g t c = λ site kept block k v choos
     (c.render_word-answer.ensures.renders site kept v)))
 
 pub block::render_tag-returns-in-Err-clause-renders : goal.block::render_tag-returns-in-Err-clause-renders
-block::render_tag-returns-in-Err-clause-renders g t c = λ site kept. c.in-Err.ensures site kept
+block::render_tag-returns-in-Err-clause-renders g t c = λ site kept. c.in-Err.ensures.comes site kept
 
 pub block::render_next-returns-then-not-bracket-clause-renders : goal.block::render_next-returns-then-not-bracket-clause-renders
 block::render_next-returns-then-not-bracket-clause-renders g t c = λ site kept.
@@ -171,7 +173,7 @@ block::carry_out-returns-in-Nothing-clause-renders g t c = λ site kept v. rw c.
 
 pub block::render_word-returns-then-not-block-clause-renders : goal.block::render_word-returns-then-not-block-clause-renders
 block::render_word-returns-then-not-block-clause-renders g t c = λ site kept v. rw c.if-not-block.true
-    (carries_on-word _ _ site c.args.word (c.write_word.ensures (state_with kept c.args.rc.now)))
+    (carries_on-word _ _ site c.args.word (c.write_word.ensures.puts (state_with kept c.args.rc.now)))
 
 pub block::render_word-returns-then-word-clause-renders : goal.block::render_word-returns-then-word-clause-renders
 block::render_word-returns-then-word-clause-renders g t c = λ site kept v. rw (c.if-not-block.false, c.if-word.true)
@@ -218,13 +220,11 @@ element::render_element-returns-in-DecoratorBlock-clause-renders g t c = λ site
 
 pub element::render_element-returns-in-PartialExpression-clause-renders : goal.element::render_element-returns-in-PartialExpression-clause-renders
 element::render_element-returns-in-PartialExpression-clause-renders g t c = λ site kept. rw (c.in-PartialExpression.is, element_view-PartialExpression)
-    (carries-no_value _ _ _ _ (error_of c.refuse_partial.result)
-    (rw c.deref-in-PartialExpression.ensures at (c.refuse_partial.ensures kept)))
+    (carries-run _ _ (rw c.deref-in-PartialExpression.ensures at (c.render_partial.ensures.renders site kept)))
 
 pub element::render_element-returns-in-PartialBlock-clause-renders : goal.element::render_element-returns-in-PartialBlock-clause-renders
 element::render_element-returns-in-PartialBlock-clause-renders g t c = λ site kept. rw (c.in-PartialBlock.is, element_view-PartialBlock)
-    (carries-no_value _ _ _ _ (error_of c.refuse_partial-in-PartialBlock.result)
-    (rw c.deref-in-PartialBlock.ensures at (c.refuse_partial-in-PartialBlock.ensures kept)))
+    (carries-run _ _ (rw c.deref-in-PartialBlock.ensures at (c.render_partial-in-PartialBlock.ensures.renders site kept)))
 
 pub element::render_unescaped-returns-clause-renders : goal.element::render_unescaped-returns-clause-renders
 element::render_unescaped-returns-clause-renders g t c = λ site kept. carries-unescaped _ _ (ap (keeping kept) c.set_disable_escape.ensures.state)
@@ -233,6 +233,9 @@ element::render_unescaped-returns-clause-renders g t c = λ site kept. carries-u
     (c.render_tag-answer.ensures.renders site kept)
 
 -- ---- trees
+
+pub tree::render_tree-returns-in_default-clause-renders : goal.tree::render_tree-returns-in_default-clause-renders
+tree::render_tree-returns-in_default-clause-renders g t c = λ at kept. carries_on-no_memory _ _ (error_of OutOfMemory) refl
 
 pub tree::render_tree-returns-in-Ok-clause-renders : goal.tree::render_tree-returns-in-Ok-clause-renders
 tree::render_tree-returns-in-Ok-clause-renders g t c = λ at kept. carries_on-task _ _ (c.in-Ok.ensures.renders at kept)
@@ -251,7 +254,7 @@ pub tree::render_whole-returns-in_err-enter-clause-renders : goal.tree::render_w
 tree::render_whole-returns-in_err-enter-clause-renders g t c = λ at kept. carries-out_of_memory _ _ c.from_residual.result c.from_residual.ensures.1
 
 pub tree::render_whole-elements-init : goal.tree::render_whole-elements-init
-tree::render_whole-elements-init g t c = record { left = λ at kept. left_starts _ _ at _ _ _; kept = kept-refl _ }
+tree::render_whole-elements-init g t c = record { left = λ at kept. left_starts _ _ at _ _ _; same = same-refl _; kept = kept-refl _ }
 
 pub tree::render_whole-elements-preserved : goal.tree::render_whole-elements-preserved
 tree::render_whole-elements-preserved g t c = record {
@@ -261,6 +264,7 @@ tree::render_whole-elements-preserved g t c = record {
       (get_or-seen element_view c.deref-element-items.result.now c.elements.index c.element-item.result c.element-item.is)
       (c.elements.invariant.left at kept)
       (c.in_default.ensures.renders (element_in at c.elements.index) kept);
+  same = same-trans _ _ _ c.elements.invariant.same c.in_default.ensures.same;
   kept = kept-trans c.elements.invariant.kept c.in_default.ensures.kept;
 }
 
@@ -317,7 +321,7 @@ steps::carry_out_own-returns-in-Nothing-clause-renders g t c = λ site kept bloc
 
 pub steps::take_step-returns-in-Write-clause-renders : goal.steps::take_step-returns-in-Write-clause-renders
 steps::take_step-returns-in-Write-clause-renders g t c = λ site kept i block v. rw c.in-Write.is
-    (carries_on-step _ _ site i _ (rw c.as_str.ensures.value at (c.write_as_is.ensures (state_with kept c.args.rc.now))))
+    (carries_on-step _ _ site i _ (rw c.as_str.ensures.value at (c.write_as_is.ensures.puts (state_with kept c.args.rc.now))))
 
 pub steps::take_step-returns-in-Body-clause-renders : goal.steps::take_step-returns-in-Body-clause-renders
 steps::take_step-returns-in-Body-clause-renders g t c = λ site kept i block v. rw c.in-Body.is
@@ -353,6 +357,7 @@ steps::take_steps-steps-init g t c = record {
   left = λ site kept block v next r last d. d;
   sized = c.into_iter-step-iterator.ensures.into_iter_gives.1 ∙ c.args.steps.ok.0
       ∙ ap length (sym c.into_iter-step-iterator.ensures.into_iter_gives.0);
+  same = same-refl _;
   kept = kept-refl _;
 }
 
@@ -368,6 +373,7 @@ steps::take_steps-steps-preserved g t c =
           (ap (map step_of) c.in-Some.ensures.steps.0) (c.steps.invariant.left site kept block v)
           (c.in_default.ensures.renders site kept c.steps.invariant.number block v);
       sized = omega arith;
+      same = same-trans _ _ _ c.steps.invariant.same c.in_default.ensures.same;
       kept = kept-trans c.steps.invariant.kept c.in_default.ensures.kept;
     }
 
@@ -431,6 +437,7 @@ each::take_turns-turns-init g t c =
     record {
       number = 0;
       left = λ site kept block v next r last d. d;
+      same = same-refl _;
       outer = outer-kept (kept-refl _);
       below = λ is. absurd (true≢false is);
     }
@@ -444,6 +451,7 @@ each::take_turns-turns-preserved g t c = record {
       (carries_on-turn _ _ site c.turns.invariant.number (helper_call block (call_view c.args.helper.now) v) (path_view c.args.path) (turn_view c.in-Some.turn)
       (rw (sym (binding-seen c.args.helper.now c.as_ref.result c.as_ref.ensures.value)) (ap (keeping kept) (c.in_ok-set_up_turn.ensures.ok c.turns.invariant.below)))
       (c.in_default-render_body.ensures.renders site kept c.turns.invariant.number block v));
+  same = same-trans _ _ _ c.turns.invariant.same c.in_default-render_body.ensures.same;
   outer = outer-trans c.turns.invariant.outer
       (outer-trans c.in_ok-set_up_turn.ensures.outer (outer-kept c.in_default-render_body.ensures.kept));
   below = λ is. below-kept (path_view c.args.path) _ (turn_view c.in-Some.turn) _ _ _
