@@ -8,7 +8,7 @@ use Rattle.handlebars_base.proofs.OptionBinds.{bind_some, with_or_is, cond_is}
 use Rattle.handlebars_base.specs.Texts.{IsEnd, after}
 use Rattle.handlebars_base.proofs.Ends.{end-all, end-behind, end-white, end-after_white, length-end}
 use Rattle.handlebars_lines.specs.Line.{tilde}
-use Rattle.handlebars_tags.specs.Kind.{TagKind, expression_kind, html_kind, html_sign_kind, block_kind, close_kind, inverse_kind, else_kind, raw_kind, raw_close_kind, decorator_kind, decorator_block_kind, comment_kind, other_kind, past, TagBeginning, beginning, tilde_at, Tilde, maybe_tilde, a_tilde, no_tilde, Sign, no_sign, mark, word, Row, row, rows, behind_tilde, ends_word, behind_sign, row_at, first_of, beginning_of}
+use Rattle.handlebars_tags.specs.Kind.{TagKind, expression_kind, html_kind, html_sign_kind, block_kind, close_kind, inverse_kind, else_kind, raw_kind, raw_close_kind, decorator_kind, decorator_block_kind, partial_kind, partial_block_kind, comment_kind, past, TagBeginning, beginning, tilde_at, Tilde, maybe_tilde, a_tilde, no_tilde, Sign, no_sign, mark, word, Row, row, rows, behind_tilde, ends_word, behind_sign, row_at, first_of, beginning_of}
 use Rattle.handlebars_tags.proofs.Marks.{past-takes}
 
 -- ---- ends of a text
@@ -113,12 +113,12 @@ begun-rows =
     other _ _ _ html_kind (omega arith) (λ e. cc) &
     other _ _ _ html_sign_kind (omega arith) (λ e. cc) &
     other _ _ _ decorator_block_kind (omega arith) (λ e. cc) &
-    other _ _ _ other_kind (omega arith) (λ e. cc) &
+    other _ _ _ partial_block_kind (omega arith) (λ e. cc) &
     other _ _ _ block_kind (omega arith) (λ e. cc) &
     other _ _ _ close_kind (omega arith) (λ e. cc) &
     other _ _ _ inverse_kind (omega arith) (λ e. cc) &
     other _ _ _ decorator_kind (omega arith) (λ e. cc) &
-    other _ _ _ other_kind (omega arith) (λ e. cc) &
+    other _ _ _ partial_kind (omega arith) (λ e. cc) &
     other _ _ _ else_kind (omega arith) (λ e. cc) &
     other _ _ _ expression_kind (omega arith) (λ e. cc) &
     record {}

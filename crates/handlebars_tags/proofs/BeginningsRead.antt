@@ -6,7 +6,7 @@ use Rattle.handlebars_base.specs.Bytes.{Text, slash, left_brace, behind_white}
 use Rattle.handlebars_base.specs.Texts.{starts, after}
 use Rattle.handlebars_base.specs.Optional.{with_or}
 use Rattle.handlebars_lines.specs.Line.{tilde}
-use Rattle.handlebars_tags.specs.Kind.{beginning, tilde_at, expression_kind, html_kind, html_sign_kind, block_kind, close_kind, inverse_kind, raw_kind, raw_close_kind, decorator_kind, decorator_block_kind, comment_kind, other_kind, first_of, beginning_of}
+use Rattle.handlebars_tags.specs.Kind.{beginning, tilde_at, expression_kind, html_kind, html_sign_kind, block_kind, close_kind, inverse_kind, raw_kind, raw_close_kind, decorator_kind, decorator_block_kind, partial_kind, partial_block_kind, comment_kind, first_of, beginning_of}
 use Rattle.handlebars_tags.specs.KindReading.{two_rows, sign_rows, word_rows, signed_by}
 
 -- ---- bytes
@@ -95,7 +95,7 @@ pub sign-asterisk : (l : Bool) (t : Text) → signed_by sign_rows l (codes "*" +
 unfolding after
 sign-asterisk l t = refl
 
-pub sign-greater : (l : Bool) (t : Text) → signed_by sign_rows l (codes ">" ++ t) ≡ Some (beginning other_kind l (behind_white t))
+pub sign-greater : (l : Bool) (t : Text) → signed_by sign_rows l (codes ">" ++ t) ≡ Some (beginning partial_kind l (behind_white t))
 unfolding after
 sign-greater l t = refl
 
@@ -119,7 +119,7 @@ pub block-asterisk : (l : Bool) (t : Text) → signed_by sign_rows l (codes "#*"
 unfolding after
 block-asterisk l t = refl
 
-pub block-greater : (l : Bool) (t : Text) → signed_by sign_rows l (codes "#>" ++ t) ≡ Some (beginning other_kind l (behind_white t))
+pub block-greater : (l : Bool) (t : Text) → signed_by sign_rows l (codes "#>" ++ t) ≡ Some (beginning partial_block_kind l (behind_white t))
 unfolding after
 block-greater l t = refl
 

@@ -4,13 +4,14 @@ use Rattle.std.specs.Prelude.{IfOk}
 use Rattle.std.specs.Option.{MatchOption}
 use denote.Ref.{Bor}
 use Rattle.handlebars_base.specs.Bytes.{Text}
-use Rattle.handlebars_tags.specs.Kind.{TagKind, expression_kind, html_kind, html_sign_kind, past}
+use Rattle.handlebars_lines.specs.Line.{value_name, close_name}
+use Rattle.handlebars_tags.specs.Kind.{TagKind, expression_kind, html_kind, html_sign_kind, partial_kind, partial_block_kind, past}
 use Rattle.handlebars_tags.specs.TagReading.{NoClosedLine, NoneClosed}
 use Rattle.handlebars_tags.specs.TagView.{HasClosedLine, HasInside}
 use Rattle.handlebars_tags.specs.declared.tag.inside.Inside.{Inside}
-use Rattle.handlebars_tags.specs.declared.tag.inside.Content.TheVariants.{Expression, Html}
+use Rattle.handlebars_tags.specs.declared.tag.inside.Content.TheVariants.{Expression, Html, Partial, PartialBlock}
 use Rattle.handlebars_tags.proofs.Marks.{past-takes}
-use Rattle.handlebars_tags.proofs.InsidesRead.{expression_read, html_read, html_sign_read}
+use Rattle.handlebars_tags.proofs.InsidesRead.{expression_read, html_read, html_sign_read, partial_read, partial_block_read}
 
 abbrev pub Reads : TagKind → Text → Option Inside → Type 0
 Reads k t r = MatchOption r (NoneClosed k t) (λ i. HasInside k t i)
@@ -26,20 +27,30 @@ pub plain_reads-Ok : {E : Type 0} (k : TagKind) (t : Text) (r : Result (Option I
 plain_reads-Ok k t (Ok r) h = plain_reads k t r h
 plain_reads-Ok k t (Err e) h = h
 
-pub expression_reads : {E : Type 0} (t : Bor Text) (r : Result (Option Inside) E) → IfOk r (λ o. MatchOption o (NoClosedLine expression_kind t.now) (λ i. HasClosedLine expression_kind t.now (Expression t) i))
+pub expression_reads : {E : Type 0} (t : Bor Text) (r : Result (Option Inside) E) → IfOk r (λ o. MatchOption o (NoClosedLine expression_kind value_name t.now) (λ i. HasClosedLine expression_kind value_name t.now (Expression t) i))
     → IfOk r (Reads expression_kind t.now)
 expression_reads t (Ok r) h = expression_read t r h
 expression_reads t (Err e) h = h
 
-pub html_reads : {E : Type 0} (t : Bor Text) (r : Result (Option Inside) E) → IfOk r (λ o. MatchOption o (NoClosedLine html_kind t.now) (λ i. HasClosedLine html_kind t.now (Html t) i))
+pub html_reads : {E : Type 0} (t : Bor Text) (r : Result (Option Inside) E) → IfOk r (λ o. MatchOption o (NoClosedLine html_kind value_name t.now) (λ i. HasClosedLine html_kind value_name t.now (Html t) i))
     → IfOk r (Reads html_kind t.now)
 html_reads t (Ok r) h = html_read t r h
 html_reads t (Err e) h = h
 
-pub html_sign_reads : {E : Type 0} (t : Bor Text) (r : Result (Option Inside) E) → IfOk r (λ o. MatchOption o (NoClosedLine html_sign_kind t.now) (λ i. HasClosedLine html_sign_kind t.now (Html t) i))
+pub html_sign_reads : {E : Type 0} (t : Bor Text) (r : Result (Option Inside) E) → IfOk r (λ o. MatchOption o (NoClosedLine html_sign_kind value_name t.now) (λ i. HasClosedLine html_sign_kind value_name t.now (Html t) i))
     → IfOk r (Reads html_sign_kind t.now)
 html_sign_reads t (Ok r) h = html_sign_read t r h
 html_sign_reads t (Err e) h = h
+
+pub partial_reads : {E : Type 0} (t : Bor Text) (r : Result (Option Inside) E) → IfOk r (λ o. MatchOption o (NoClosedLine partial_kind close_name t.now) (λ i. HasClosedLine partial_kind close_name t.now (Partial t) i))
+    → IfOk r (Reads partial_kind t.now)
+partial_reads t (Ok r) h = partial_read t r h
+partial_reads t (Err e) h = h
+
+pub partial_block_reads : {E : Type 0} (t : Bor Text) (r : Result (Option Inside) E) → IfOk r (λ o. MatchOption o (NoClosedLine partial_block_kind close_name t.now) (λ i. HasClosedLine partial_block_kind close_name t.now (PartialBlock t) i))
+    → IfOk r (Reads partial_block_kind t.now)
+partial_block_reads t (Ok r) h = partial_block_read t r h
+partial_block_reads t (Err e) h = h
 
 pub behind_braces : (left inside : Text) → past (codes "{{!") left ≡ Some inside → drop 3 left ≡ inside
 behind_braces left inside e = ap (drop 3) (past-takes (codes "{{!") left inside e)

@@ -3,20 +3,20 @@ use Rattle.std.proofs.Common.{◌≡◌, ◌≢◌, Bool, true, false, [], Some,
 use Rattle.std.proofs.lemmas.Option.{none-some}
 use Rattle.handlebars_base.specs.Bytes.{Text, behind_white, is_white}
 use Rattle.handlebars_base.specs.Texts.{starts, symbols_of, behind_symbols}
-use Rattle.handlebars_lines.specs.Line.{value_name, Line, in_tag, IsLine}
+use Rattle.handlebars_lines.specs.Line.{NameMode, value_name, close_name, Line, in_tag, IsLine}
 use Rattle.handlebars_lines.proofs.Lines.{one_line}
-use Rattle.handlebars_tags.specs.Kind.{TagKind, expression_kind, html_kind, html_sign_kind, block_kind, close_kind, inverse_kind, else_kind, raw_kind, raw_close_kind, decorator_kind, decorator_block_kind, comment_kind, other_kind, closing_of}
+use Rattle.handlebars_tags.specs.Kind.{TagKind, expression_kind, html_kind, html_sign_kind, block_kind, close_kind, inverse_kind, else_kind, raw_kind, raw_close_kind, decorator_kind, decorator_block_kind, partial_kind, partial_block_kind, comment_kind, closing_of}
 use Rattle.handlebars_tags.specs.Comment.{IsComment, NoComment}
 use Rattle.handlebars_lines.specs.CloseName.{close_name_at}
-use Rattle.handlebars_tags.specs.Tag.{Tag, expression_tag, html_tag, block_tag, inverse_tag, chain_tag, close_tag, raw_tag, raw_close_tag, decorator_tag, decorator_block_tag, comment_tag, BlockLine, IsBlockLine, IsDecoratorLine, Says, a_value, a_raw_value, a_signed_value, a_block, a_close, an_inverse, an_else, a_chain, a_raw_block, a_raw_close, a_decorator, a_decorator_block, a_comment}
+use Rattle.handlebars_tags.specs.Tag.{Tag, expression_tag, html_tag, block_tag, inverse_tag, chain_tag, close_tag, raw_tag, raw_close_tag, decorator_tag, decorator_block_tag, partial_tag, partial_block_tag, comment_tag, BlockLine, IsBlockLine, IsDecoratorLine, Says, a_value, a_raw_value, a_signed_value, a_block, a_close, an_inverse, an_else, a_chain, a_raw_block, a_raw_close, a_decorator, a_decorator_block, a_partial, a_partial_block, a_comment}
 use Rattle.handlebars_tags.specs.TagReading.{NoBlockLine, NoDecoratorLine, NoClosedLine, IsClosed, NoneClosed}
 use Rattle.handlebars_tags.proofs.BlockLines.{one_block_line}
 
 -- ---- what is said, kind by kind
 
-pub record ValueSaid (of : Line → Tag) (t : Text) (tag : Tag) (rest : Text) : Type 0 where
+pub record LineSaid (mode : NameMode) (of : Line → Tag) (t : Text) (tag : Tag) (rest : Text) : Type 0 where
   pub line : Line
-  pub is : IsLine value_name in_tag t line rest
+  pub is : IsLine mode in_tag t line rest
   pub gives : tag ≡ of line
 
 pub record BlockSaid (of : BlockLine → Tag) (t : Text) (tag : Tag) (rest : Text) : Type 0 where
@@ -46,9 +46,9 @@ pub record CommentSaid (t : Text) (tag : Tag) (rest : Text) : Type 0 where
   pub gives : tag ≡ comment_tag kept
 
 abbrev pub Said : TagKind → Text → Tag → Text → Type 0
-Said expression_kind t tag rest = ValueSaid expression_tag t tag rest
-Said html_kind t tag rest = ValueSaid html_tag t tag rest
-Said html_sign_kind t tag rest = ValueSaid html_tag t tag rest
+Said expression_kind t tag rest = LineSaid value_name expression_tag t tag rest
+Said html_kind t tag rest = LineSaid value_name html_tag t tag rest
+Said html_sign_kind t tag rest = LineSaid value_name html_tag t tag rest
 Said block_kind t tag rest = BlockSaid block_tag t tag rest
 Said close_kind t tag rest = TextSaid tag (close_tag (close_name_at t).0) rest (close_name_at t).1
 Said inverse_kind t tag rest = TextSaid tag inverse_tag rest t
@@ -57,8 +57,9 @@ Said raw_kind t tag rest = BlockSaid raw_tag t tag rest
 Said raw_close_kind t tag rest = RawCloseSaid t tag rest
 Said decorator_kind t tag rest = DecoratorSaid decorator_tag t tag rest
 Said decorator_block_kind t tag rest = DecoratorSaid decorator_block_tag t tag rest
+Said partial_kind t tag rest = LineSaid close_name partial_tag t tag rest
+Said partial_block_kind t tag rest = LineSaid close_name partial_block_tag t tag rest
 Said comment_kind t tag rest = CommentSaid t tag rest
-Said other_kind t tag rest = ⊥
 
 pub said : (k : TagKind) (t : Text) (tag : Tag) (rest : Text) → Says k t tag rest → Said k t tag rest
 said _ _ _ _ (a_value {line = line} is) = record { line = line; is = is; gives = refl }
@@ -73,6 +74,8 @@ said _ _ _ _ (a_raw_block {line = line} is) = record { line = line; is = is; giv
 said _ _ _ _ (a_raw_close t some) = record { some = some; said = record { gives = refl; rests = refl } }
 said _ _ _ _ (a_decorator {line = line} is) = record { said = record { line = line; is = is.is_line; gives = refl }; is = is }
 said _ _ _ _ (a_decorator_block {line = line} is) = record { said = record { line = line; is = is.is_line; gives = refl }; is = is }
+said _ _ _ _ (a_partial {line = line} is) = record { line = line; is = is; gives = refl }
+said _ _ _ _ (a_partial_block {line = line} is) = record { line = line; is = is; gives = refl }
 said _ _ _ _ (a_comment {kept = kept} is) = record { kept = kept; is = is; gives = refl }
 
 -- ---- the lines of blocks inside tags
@@ -128,29 +131,35 @@ none-decorator t none tag right rest h = let s = said decorator_kind t tag h.beh
 pub none-decorator_block : (t : Text) → NoDecoratorLine t → NoneClosed decorator_block_kind t
 none-decorator_block t none tag right rest h = let s = said decorator_block_kind t tag h.behind h.says in none s.said.line h.behind s.is
 
--- ---- values
+-- ---- values and inclusions
 
-pub record ValueClosed (k : TagKind) (t : Text) (right : Bool) (rest : Text) : Type 0 where
+pub record LineClosed (k : TagKind) (mode : NameMode) (t : Text) (right : Bool) (rest : Text) : Type 0 where
   pub line : Line
   pub behind : Text
-  pub is : IsLine value_name in_tag t line behind
+  pub is : IsLine mode in_tag t line behind
   pub closes : closing_of k behind ≡ Some (right, rest)
 
-none-value : (k : TagKind) (t : Text) → ((tag : Tag) (right : Bool) (rest : Text) → IsClosed k t tag right rest → ValueClosed k t right rest) → NoClosedLine k t → NoneClosed k t
-none-value k t only none tag right rest h = let v = only tag right rest h in none v.line v.behind right rest v.is v.closes
+none-line : (k : TagKind) (mode : NameMode) (t : Text) → ((tag : Tag) (right : Bool) (rest : Text) → IsClosed k t tag right rest → LineClosed k mode t right rest) → NoClosedLine k mode t → NoneClosed k t
+none-line k mode t only none tag right rest h = let v = only tag right rest h in none v.line v.behind right rest v.is v.closes
 
-pub none-expression : (t : Text) → NoClosedLine expression_kind t → NoneClosed expression_kind t
-none-expression t none = none-value expression_kind t (λ tag right rest h. let s = said expression_kind t tag h.behind h.says in record { line = s.line; behind = h.behind; is = s.is; closes = h.closes }) none
+pub none-expression : (t : Text) → NoClosedLine expression_kind value_name t → NoneClosed expression_kind t
+none-expression t none = none-line expression_kind value_name t (λ tag right rest h. let s = said expression_kind t tag h.behind h.says in record { line = s.line; behind = h.behind; is = s.is; closes = h.closes }) none
 
-pub none-html : (t : Text) → NoClosedLine html_kind t → NoneClosed html_kind t
-none-html t none = none-value html_kind t (λ tag right rest h. let s = said html_kind t tag h.behind h.says in record { line = s.line; behind = h.behind; is = s.is; closes = h.closes }) none
+pub none-html : (t : Text) → NoClosedLine html_kind value_name t → NoneClosed html_kind t
+none-html t none = none-line html_kind value_name t (λ tag right rest h. let s = said html_kind t tag h.behind h.says in record { line = s.line; behind = h.behind; is = s.is; closes = h.closes }) none
 
-pub none-html_sign : (t : Text) → NoClosedLine html_sign_kind t → NoneClosed html_sign_kind t
-none-html_sign t none = none-value html_sign_kind t (λ tag right rest h. let s = said html_sign_kind t tag h.behind h.says in record { line = s.line; behind = h.behind; is = s.is; closes = h.closes }) none
+pub none-html_sign : (t : Text) → NoClosedLine html_sign_kind value_name t → NoneClosed html_sign_kind t
+none-html_sign t none = none-line html_sign_kind value_name t (λ tag right rest h. let s = said html_sign_kind t tag h.behind h.says in record { line = s.line; behind = h.behind; is = s.is; closes = h.closes }) none
 
-pub none-closed_line : (k : TagKind) (t left : Text) (line : Line) → IsLine value_name in_tag t line left → closing_of k left ≡ None → NoClosedLine k t
-none-closed_line k t left line is none line' behind right rest is' closes =
-    let one = one_line value_name in_tag t line line' left behind is is' in
+pub none-partial : (t : Text) → NoClosedLine partial_kind close_name t → NoneClosed partial_kind t
+none-partial t none = none-line partial_kind close_name t (λ tag right rest h. let s = said partial_kind t tag h.behind h.says in record { line = s.line; behind = h.behind; is = s.is; closes = h.closes }) none
+
+pub none-partial_block : (t : Text) → NoClosedLine partial_block_kind close_name t → NoneClosed partial_block_kind t
+none-partial_block t none = none-line partial_block_kind close_name t (λ tag right rest h. let s = said partial_block_kind t tag h.behind h.says in record { line = s.line; behind = h.behind; is = s.is; closes = h.closes }) none
+
+pub none-closed_line : (k : TagKind) (mode : NameMode) (t left : Text) (line : Line) → IsLine mode in_tag t line left → closing_of k left ≡ None → NoClosedLine k mode t
+none-closed_line k mode t left line is none line' behind right rest is' closes =
+    let one = one_line mode in_tag t line line' left behind is is' in
     none-some (right, rest) (sym none ∙ ap (closing_of k) one.1 ∙ closes)
 
 -- ---- texts

@@ -3,58 +3,68 @@ use Rattle.std.proofs.Common.{◌≡◌, ◌≢◌, ℕ, Bool, true, false, [], 
 use Rattle.std.specs.Option.{MatchOption}
 use denote.Ref.{Bor}
 use Rattle.handlebars_base.specs.Bytes.{Text}
-use Rattle.handlebars_lines.specs.Line.{value_name, Line, in_tag, IsLine}
-use Rattle.handlebars_tags.specs.Kind.{TagKind, expression_kind, html_kind, html_sign_kind, close_kind, inverse_kind, raw_close_kind, comment_kind, closing_of}
+use Rattle.handlebars_lines.specs.Line.{NameMode, value_name, close_name, Line, in_tag, IsLine}
+use Rattle.handlebars_tags.specs.Kind.{TagKind, expression_kind, html_kind, html_sign_kind, close_kind, inverse_kind, raw_close_kind, partial_kind, partial_block_kind, comment_kind, closing_of}
 use Rattle.handlebars_lines.specs.CloseName.{close_name_at}
-use Rattle.handlebars_tags.specs.Tag.{Tag, tag_depth, expression_tag, html_tag, BlockLine, IsBlockLine, Says, a_value, a_raw_value, a_signed_value, inverse_tag, close_tag, raw_close_tag, a_close, a_raw_close, an_inverse, comment_tag, a_comment}
+use Rattle.handlebars_tags.specs.Tag.{Tag, tag_depth, expression_tag, html_tag, BlockLine, IsBlockLine, Says, a_value, a_raw_value, a_signed_value, inverse_tag, close_tag, raw_close_tag, a_close, a_raw_close, an_inverse, partial_tag, partial_block_tag, a_partial, a_partial_block, comment_tag, a_comment}
 use Rattle.handlebars_tags.specs.Comment.{IsComment}
 use Rattle.handlebars_tags.specs.TagReading.{NoClosedLine, NoneClosed}
 use Rattle.handlebars_tags.specs.TagView.{Holds, HoldsLine, HoldsBlock, HasBlock, HasClosing, HasClosedLine, HasInside}
 use Rattle.handlebars_tags.specs.declared.tag.inside.Inside.{Inside}
 use Rattle.handlebars_tags.specs.declared.tag.inside.Content.{Content}
-use Rattle.handlebars_tags.specs.declared.tag.inside.Content.TheVariants.{Expression, Html, Inverse, Close, RawClose, Comment}
+use Rattle.handlebars_tags.specs.declared.tag.inside.Content.TheVariants.{Expression, Html, Inverse, Close, RawClose, Partial, PartialBlock, Comment}
 use Rattle.handlebars_base.specs.Texts.{symbols_of, behind_symbols}
 use Rattle.handlebars_lines.specs.LineView.{texts_of}
 use Rattle.handlebars_lines.specs.BindingView.{bound_names_of}
 use Rattle.handlebars_tags.specs.declared.tag.inside.BlockRead.{BlockRead}
-use Rattle.handlebars_tags.proofs.Insides.{OnlyBlock, none-closed_line, none-expression, none-html, none-html_sign, none_closing-block, none-close, none-raw_close, none-inverse}
+use Rattle.handlebars_tags.proofs.Insides.{OnlyBlock, none-closed_line, none-expression, none-html, none-html_sign, none-partial, none-partial_block, none_closing-block, none-close, none-raw_close, none-inverse}
 
--- ---- values
+-- ---- values and inclusions
 
-pub value_read : (k : TagKind) (t left : Text) (line : Line) (content : Content) (depth : ℕ) (r : Option Inside) → IsLine value_name in_tag t line left → line.depth ≡ depth
-    → MatchOption r (closing_of k left ≡ None) (λ i. HasClosing k left content depth i) → MatchOption r (NoClosedLine k t) (λ i. HasClosedLine k t content i)
-value_read k t left line content depth None is deep none = none-closed_line k t left line is none
-value_read k t left line content depth (Some i) is deep h = record {
+pub line_read : (k : TagKind) (mode : NameMode) (t left : Text) (line : Line) (content : Content) (depth : ℕ) (r : Option Inside) → IsLine mode in_tag t line left → line.depth ≡ depth
+    → MatchOption r (closing_of k left ≡ None) (λ i. HasClosing k left content depth i) → MatchOption r (NoClosedLine k mode t) (λ i. HasClosedLine k mode t content i)
+line_read k mode t left line content depth None is deep none = none-closed_line k mode t left line is none
+line_read k mode t left line content depth (Some i) is deep h = record {
   line = line;
   behind = left;
   is_line = is;
   closing = record { closes = h.closes; is_content = h.is_content; deep = h.deep ∙ sym deep; ahead = h.ahead };
 }
 
-value_inside : (k : TagKind) (of : Line → Tag) (t : Text) (content : Content) (i : Inside) → ((line : Line) → tag_depth (of line) ≡ line.depth)
-    → ((line : Line) (rest : Text) → IsLine value_name in_tag t line rest → Says k t (of line) rest) → ((tag : Tag) → HoldsLine of t tag → Holds content tag)
-    → HasClosedLine k t content i → HasInside k t i
-value_inside k of t content i deep says holds h = record {
+line_inside : (k : TagKind) (mode : NameMode) (of : Line → Tag) (t : Text) (content : Content) (i : Inside) → ((line : Line) → tag_depth (of line) ≡ line.depth)
+    → ((line : Line) (rest : Text) → IsLine mode in_tag t line rest → Says k t (of line) rest) → ((tag : Tag) → HoldsLine mode of t tag → Holds content tag)
+    → HasClosedLine k mode t content i → HasInside k t i
+line_inside k mode of t content i deep says holds h = record {
   tag = of h.line;
   is = record { behind = h.behind; says = says h.line h.behind h.is_line; closes = h.closing.closes };
   deep = deep h.line ∙ sym h.closing.deep;
   holds = subst (λ (z : Content). Holds z (of h.line)) (sym h.closing.is_content) (holds (of h.line) (record { line = h.line; behind = h.behind; is_line = h.is_line; gives = refl }));
 }
 
-pub expression_read : (t : Bor Text) (r : Option Inside) → MatchOption r (NoClosedLine expression_kind t.now) (λ i. HasClosedLine expression_kind t.now (Expression t) i)
+pub expression_read : (t : Bor Text) (r : Option Inside) → MatchOption r (NoClosedLine expression_kind value_name t.now) (λ i. HasClosedLine expression_kind value_name t.now (Expression t) i)
     → MatchOption r (NoneClosed expression_kind t.now) (λ i. HasInside expression_kind t.now i)
 expression_read t None none = none-expression t.now none
-expression_read t (Some i) h = value_inside expression_kind expression_tag t.now (Expression t) i (λ line. refl) (λ line rest is. a_value is) (λ tag holds. holds) h
+expression_read t (Some i) h = line_inside expression_kind value_name expression_tag t.now (Expression t) i (λ line. refl) (λ line rest is. a_value is) (λ tag holds. holds) h
 
-pub html_read : (t : Bor Text) (r : Option Inside) → MatchOption r (NoClosedLine html_kind t.now) (λ i. HasClosedLine html_kind t.now (Html t) i)
+pub html_read : (t : Bor Text) (r : Option Inside) → MatchOption r (NoClosedLine html_kind value_name t.now) (λ i. HasClosedLine html_kind value_name t.now (Html t) i)
     → MatchOption r (NoneClosed html_kind t.now) (λ i. HasInside html_kind t.now i)
 html_read t None none = none-html t.now none
-html_read t (Some i) h = value_inside html_kind html_tag t.now (Html t) i (λ line. refl) (λ line rest is. a_raw_value is) (λ tag holds. holds) h
+html_read t (Some i) h = line_inside html_kind value_name html_tag t.now (Html t) i (λ line. refl) (λ line rest is. a_raw_value is) (λ tag holds. holds) h
 
-pub html_sign_read : (t : Bor Text) (r : Option Inside) → MatchOption r (NoClosedLine html_sign_kind t.now) (λ i. HasClosedLine html_sign_kind t.now (Html t) i)
+pub html_sign_read : (t : Bor Text) (r : Option Inside) → MatchOption r (NoClosedLine html_sign_kind value_name t.now) (λ i. HasClosedLine html_sign_kind value_name t.now (Html t) i)
     → MatchOption r (NoneClosed html_sign_kind t.now) (λ i. HasInside html_sign_kind t.now i)
 html_sign_read t None none = none-html_sign t.now none
-html_sign_read t (Some i) h = value_inside html_sign_kind html_tag t.now (Html t) i (λ line. refl) (λ line rest is. a_signed_value is) (λ tag holds. holds) h
+html_sign_read t (Some i) h = line_inside html_sign_kind value_name html_tag t.now (Html t) i (λ line. refl) (λ line rest is. a_signed_value is) (λ tag holds. holds) h
+
+pub partial_read : (t : Bor Text) (r : Option Inside) → MatchOption r (NoClosedLine partial_kind close_name t.now) (λ i. HasClosedLine partial_kind close_name t.now (Partial t) i)
+    → MatchOption r (NoneClosed partial_kind t.now) (λ i. HasInside partial_kind t.now i)
+partial_read t None none = none-partial t.now none
+partial_read t (Some i) h = line_inside partial_kind close_name partial_tag t.now (Partial t) i (λ line. refl) (λ line rest is. a_partial is) (λ tag holds. holds) h
+
+pub partial_block_read : (t : Bor Text) (r : Option Inside) → MatchOption r (NoClosedLine partial_block_kind close_name t.now) (λ i. HasClosedLine partial_block_kind close_name t.now (PartialBlock t) i)
+    → MatchOption r (NoneClosed partial_block_kind t.now) (λ i. HasInside partial_block_kind t.now i)
+partial_block_read t None none = none-partial_block t.now none
+partial_block_read t (Some i) h = line_inside partial_block_kind close_name partial_block_tag t.now (PartialBlock t) i (λ line. refl) (λ line rest is. a_partial_block is) (λ tag holds. holds) h
 
 -- ---- blocks
 

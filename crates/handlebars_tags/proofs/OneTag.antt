@@ -7,16 +7,16 @@ use Rattle.handlebars_base.specs.Bytes.{Text, right_brace, behind_white}
 use Rattle.handlebars_base.specs.Texts.{starts, after}
 use Rattle.handlebars_base.proofs.Fronts.{starts-other, after-not}
 use Rattle.handlebars_base.proofs.Bytes.{other_byte}
-use Rattle.handlebars_lines.specs.Line.{value_name, Line, in_tag, tilde}
+use Rattle.handlebars_lines.specs.Line.{NameMode, value_name, close_name, Line, in_tag, tilde}
 use Rattle.handlebars_lines.proofs.LineFronts.{begins}
 use Rattle.handlebars_lines.proofs.Lines.{one_line}
-use Rattle.handlebars_tags.specs.Kind.{TagKind, expression_kind, html_kind, html_sign_kind, block_kind, close_kind, inverse_kind, else_kind, raw_kind, raw_close_kind, decorator_kind, decorator_block_kind, comment_kind, other_kind, beginning_of, closing_of}
+use Rattle.handlebars_tags.specs.Kind.{TagKind, expression_kind, html_kind, html_sign_kind, block_kind, close_kind, inverse_kind, else_kind, raw_kind, raw_close_kind, decorator_kind, decorator_block_kind, partial_kind, partial_block_kind, comment_kind, beginning_of, closing_of}
 use Rattle.handlebars_tags.specs.Tag.{Tag, comment_tag, BlockLine, IsBlockLine, Tildes, OneTag}
 use Rattle.handlebars_tags.specs.TagReading.{IsClosed}
 use Rattle.handlebars_tags.proofs.LineNames.{line_starts}
 use Rattle.handlebars_tags.proofs.BlockLines.{one_block_line}
 use Rattle.handlebars_tags.proofs.Comments.{one_comment}
-use Rattle.handlebars_tags.proofs.Insides.{ValueSaid, BlockSaid, TextSaid, Said, said}
+use Rattle.handlebars_tags.proofs.Insides.{LineSaid, BlockSaid, TextSaid, Said, said}
 use Rattle.handlebars_tags.proofs.Tags.{tag-closed}
 
 -- ---- an `else` with a line isn't closed
@@ -34,9 +34,9 @@ record OneSaid (tag tag' : Tag) (rest rest' : Text) : Type 0 where
   tags : tag ≡ tag'
   rests : rest ≡ rest'
 
-one_value : (of : Line → Tag) (t : Text) (tag tag' : Tag) (rest rest' : Text) → ValueSaid of t tag rest → ValueSaid of t tag' rest' → OneSaid tag tag' rest rest'
-one_value of t tag tag' rest rest' h k =
-    let one = one_line value_name in_tag t h.line k.line rest rest' h.is k.is in
+one_named : (mode : NameMode) (of : Line → Tag) (t : Text) (tag tag' : Tag) (rest rest' : Text) → LineSaid mode of t tag rest → LineSaid mode of t tag' rest' → OneSaid tag tag' rest rest'
+one_named mode of t tag tag' rest rest' h k =
+    let one = one_line mode in_tag t h.line k.line rest rest' h.is k.is in
     record { tags = h.gives ∙ ap of one.0 ∙ sym k.gives; rests = one.1 }
 
 one_block : (of : BlockLine → Tag) (t : Text) (tag tag' : Tag) (rest rest' : Text) → BlockSaid of t tag rest → BlockSaid of t tag' rest' → OneSaid tag tag' rest rest'
@@ -53,9 +53,9 @@ closed_line t rest line p e h = absurd (none-some p (sym (line_open t (line_star
 -- both closed
 one_said : (k : TagKind) (t : Text) (tag tag' : Tag) (rest rest' : Text) (p q : Bool × Text) → closing_of k rest ≡ Some p → closing_of k rest' ≡ Some q → Said k t tag rest → Said k t tag' rest'
     → OneSaid tag tag' rest rest'
-one_said expression_kind t tag tag' rest rest' p q e f h k = one_value _ t tag tag' rest rest' h k
-one_said html_kind t tag tag' rest rest' p q e f h k = one_value _ t tag tag' rest rest' h k
-one_said html_sign_kind t tag tag' rest rest' p q e f h k = one_value _ t tag tag' rest rest' h k
+one_said expression_kind t tag tag' rest rest' p q e f h k = one_named value_name _ t tag tag' rest rest' h k
+one_said html_kind t tag tag' rest rest' p q e f h k = one_named value_name _ t tag tag' rest rest' h k
+one_said html_sign_kind t tag tag' rest rest' p q e f h k = one_named value_name _ t tag tag' rest rest' h k
 one_said block_kind t tag tag' rest rest' p q e f h k = one_block _ t tag tag' rest rest' h k
 one_said close_kind t tag tag' rest rest' p q e f h k = one_text tag tag' _ rest rest' _ h k
 one_said inverse_kind t tag tag' rest rest' p q e f h k = one_text tag tag' _ rest rest' _ h k
@@ -67,10 +67,11 @@ one_said raw_kind t tag tag' rest rest' p q e f h k = one_block _ t tag tag' res
 one_said raw_close_kind t tag tag' rest rest' p q e f h k = one_text tag tag' _ rest rest' _ h.said k.said
 one_said decorator_kind t tag tag' rest rest' p q e f h k = one_block _ t tag tag' rest rest' h.said k.said
 one_said decorator_block_kind t tag tag' rest rest' p q e f h k = one_block _ t tag tag' rest rest' h.said k.said
+one_said partial_kind t tag tag' rest rest' p q e f h k = one_named close_name _ t tag tag' rest rest' h k
+one_said partial_block_kind t tag tag' rest rest' p q e f h k = one_named close_name _ t tag tag' rest rest' h k
 one_said comment_kind t tag tag' rest rest' p q e f h k =
     let one = one_comment t h.kept k.kept rest rest' h.is k.is in
     record { tags = h.gives ∙ ap comment_tag one.0 ∙ sym k.gives; rests = one.1 }
-one_said other_kind t tag tag' rest rest' p q e f h k = absurd h
 
 -- ---- there is one
 

@@ -1,7 +1,7 @@
 -- What follows a tag ends its source.
 use Rattle.std.proofs.Common.{◌≡◌, Bool, true, false, [], ◌∷◌, ◌++◌, Option, Some, sym, subst, ◌∙◌, append_assoc, codes, inl, inr}
 use Rattle.std.specs.List.{prefix_len}
-use Rattle.std.proofs.lemmas.Option.{same_Some, none-some}
+use Rattle.std.proofs.lemmas.Option.{same_Some}
 use Rattle.handlebars_base.specs.Bytes.{Text, right_brace, behind_white, is_symbol}
 use Rattle.handlebars_base.specs.Optional.{◌>>=◌}
 use Rattle.handlebars_base.proofs.OptionBinds.{bind_some, with_or_is}
@@ -11,7 +11,7 @@ use Rattle.handlebars_lines.specs.Parameter.{spelled_items}
 use Rattle.handlebars_lines.specs.Line.{NameMode, spelled_name, Line, Enclosure, IsLine, tilde}
 use Rattle.handlebars_lines.proofs.CloseNames.{close_name-whole}
 use Rattle.handlebars_lines.specs.Binding.{BoundNames, bar, IsBinding, is_unbound, is_bound, spelled_names}
-use Rattle.handlebars_tags.specs.Kind.{TagKind, expression_kind, html_kind, html_sign_kind, block_kind, close_kind, inverse_kind, else_kind, raw_kind, raw_close_kind, decorator_kind, decorator_block_kind, comment_kind, other_kind, past, tilde_at, close_by, brace_tilde_braces, three_close, closing_of}
+use Rattle.handlebars_tags.specs.Kind.{TagKind, expression_kind, html_kind, html_sign_kind, block_kind, close_kind, inverse_kind, else_kind, raw_kind, raw_close_kind, decorator_kind, decorator_block_kind, partial_kind, partial_block_kind, comment_kind, past, tilde_at, close_by, brace_tilde_braces, three_close, closing_of}
 use Rattle.handlebars_tags.specs.Comment.{IsComment, long, compact}
 use Rattle.handlebars_lines.specs.CloseName.{close_name_at}
 use Rattle.handlebars_tags.specs.Tag.{Tag, BlockLine, IsBlockLine, Says}
@@ -57,8 +57,9 @@ end-closing raw_kind t p e = end-close_by (codes "}}}}") t p e
 end-closing raw_close_kind t p e = end-close_by (codes "}}}}") t p e
 end-closing decorator_kind t p e = end-close_by (codes "}}") t p e
 end-closing decorator_block_kind t p e = end-close_by (codes "}}") t p e
+end-closing partial_kind t p e = end-close_by (codes "}}") t p e
+end-closing partial_block_kind t p e = end-close_by (codes "}}") t p e
 end-closing comment_kind t p e = subst (λ (q : Bool × Text). IsEnd t q.1) (same_Some (false, t) p e) (end-all t)
-end-closing other_kind t p e = absurd (none-some p e)
 
 -- ---- what is said
 
@@ -99,8 +100,9 @@ end-says raw_kind t tag rest h = let s = said raw_kind t tag rest h in end-block
 end-says raw_close_kind t tag rest h = let s = said raw_close_kind t tag rest h in subst (IsEnd t) (sym s.said.rests) (end-drop (prefix_len is_symbol t) t)
 end-says decorator_kind t tag rest h = let s = said decorator_kind t tag rest h in end-block t rest s.said.line s.said.is
 end-says decorator_block_kind t tag rest h = let s = said decorator_block_kind t tag rest h in end-block t rest s.said.line s.said.is
+end-says partial_kind t tag rest h = let s = said partial_kind t tag rest h in end-line s.is
+end-says partial_block_kind t tag rest h = let s = said partial_block_kind t tag rest h in end-line s.is
 end-says comment_kind t tag rest h = let s = said comment_kind t tag rest h in end-comment t s.kept rest s.is
-end-says other_kind t tag rest h = absurd (said other_kind t tag rest h)
 
 pub end-closed : (k : TagKind) (t : Text) (tag : Tag) (right : Bool) (rest : Text) → IsClosed k t tag right rest → IsEnd t rest
 end-closed k t tag right rest h = end-behind t h.behind rest (end-says k t tag h.behind h.says) (end-closing k h.behind (right, rest) h.closes)

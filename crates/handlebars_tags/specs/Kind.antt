@@ -12,7 +12,7 @@ past (b ∷ mark) t = after b t >>= past mark
 
 -- a value, escaped, raw by its braces, or raw by a sign; the beginning of a block, its end, its inverse, or `else`,
 -- which is its inverse too or, with the line of a block, a chained one; the beginning of a raw block, or its end; a
--- decorator, or the beginning of its block; a comment; or a tag of a kind that the language doesn't have yet
+-- decorator, or the beginning of its block; an inclusion, or the beginning of its block; or a comment
 pub data TagKind : Type 0 where
   expression_kind : TagKind
   html_kind : TagKind
@@ -25,8 +25,9 @@ pub data TagKind : Type 0 where
   raw_close_kind : TagKind
   decorator_kind : TagKind
   decorator_block_kind : TagKind
+  partial_kind : TagKind
+  partial_block_kind : TagKind
   comment_kind : TagKind
-  other_kind : TagKind
 
 -- the kind of a tag, whether a tilde stands behind its opening braces, and what is inside
 pub record TagBeginning : Type 0 where
@@ -66,7 +67,7 @@ pub record Row : Type 0 where
 abbrev pub row : Text → Tilde → Sign → TagKind → Row
 row braces tilde sign kind = record { braces = braces; tilde = tilde; sign = sign; kind = kind }
 
--- The ordered table: a tag is of the kind of the first row that stands in front. `>` is the sign of inclusions.
+-- The ordered table: a tag is of the kind of the first row that stands in front.
 abbrev pub rows : List Row
 rows =
     row (codes "{{{{") maybe_tilde (mark (codes "/")) raw_close_kind ∷
@@ -76,12 +77,12 @@ rows =
     row (codes "{{") a_tilde (mark (codes "{")) html_kind ∷
     row (codes "{{") maybe_tilde (mark (codes "&")) html_sign_kind ∷
     row (codes "{{") maybe_tilde (mark (codes "#*")) decorator_block_kind ∷
-    row (codes "{{") maybe_tilde (mark (codes "#>")) other_kind ∷
+    row (codes "{{") maybe_tilde (mark (codes "#>")) partial_block_kind ∷
     row (codes "{{") maybe_tilde (mark (codes "#")) block_kind ∷
     row (codes "{{") maybe_tilde (mark (codes "/")) close_kind ∷
     row (codes "{{") maybe_tilde (mark (codes "^")) inverse_kind ∷
     row (codes "{{") maybe_tilde (mark (codes "*")) decorator_kind ∷
-    row (codes "{{") maybe_tilde (mark (codes ">")) other_kind ∷
+    row (codes "{{") maybe_tilde (mark (codes ">")) partial_kind ∷
     row (codes "{{") maybe_tilde (word (codes "else")) else_kind ∷
     row (codes "{{") maybe_tilde no_sign expression_kind ∷ []
 
@@ -139,5 +140,4 @@ closing_of html_kind t = three_close t
 closing_of raw_kind t = close_by (codes "}}}}") t
 closing_of raw_close_kind t = close_by (codes "}}}}") t
 closing_of comment_kind t = Some (false, t)
-closing_of other_kind t = None
 closing_of kind t = close_by (codes "}}") t

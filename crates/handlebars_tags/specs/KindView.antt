@@ -2,7 +2,7 @@
 use Rattle.std.specs.Prelude.{Bool}
 use denote.Ref.{Bor}
 use Rattle.handlebars_base.specs.Bytes.{Text}
-use Rattle.handlebars_tags.specs.Kind.{TagKind, expression_kind, html_kind, html_sign_kind, block_kind, close_kind, inverse_kind, else_kind, raw_kind, raw_close_kind, decorator_kind, decorator_block_kind, comment_kind, other_kind, TagBeginning, beginning}
+use Rattle.handlebars_tags.specs.Kind.{TagKind, expression_kind, html_kind, html_sign_kind, block_kind, close_kind, inverse_kind, else_kind, raw_kind, raw_close_kind, decorator_kind, decorator_block_kind, partial_kind, partial_block_kind, comment_kind, TagBeginning, beginning}
 use Rattle.handlebars_tags.specs.declared.tag.beginning.TagKind.{TagKind as ReadKind}
 use Rattle.handlebars_tags.specs.declared.tag.beginning.TagKind.TheVariants as kind
 use Rattle.handlebars_tags.specs.declared.tag.beginning.TagBeginning.{TagBeginning as ReadBeginning}
@@ -19,8 +19,9 @@ kind_of kind.Raw = raw_kind
 kind_of kind.RawClose = raw_close_kind
 kind_of kind.Decorator = decorator_kind
 kind_of kind.DecoratorBlock = decorator_block_kind
+kind_of kind.Partial = partial_kind
+kind_of kind.PartialBlock = partial_block_kind
 kind_of kind.Comment = comment_kind
-kind_of kind.Other = other_kind
 
 abbrev pub beginning_view : ReadBeginning → TagBeginning
 beginning_view b = beginning (kind_of b.kind) b.tilde b.inside.now

@@ -2,7 +2,7 @@
 use Rattle.std.specs.Prelude.{Bool, false, Option, None, Some}
 use Rattle.handlebars_base.specs.Bytes.{Text}
 
--- the name of the template, if it has one, and whether inclusions add no indentation
+-- the name of the template, if it has one, and whether inclusions have no indentation
 pub record Options : Type 0 where
   pub name : Option Text
   pub prevent_indent : Bool

@@ -4,9 +4,9 @@ use Rattle.handlebars_base.specs.Bytes.{Text, is_white, behind_white}
 use Rattle.handlebars_base.specs.Texts.{starts, symbols_of, behind_symbols}
 use Rattle.handlebars_lines.specs.Parameter.{Terms, name_term}
 use Rattle.handlebars_lines.specs.CloseName.{close_name_at}
-use Rattle.handlebars_lines.specs.Line.{identifier_name, value_name, Line, in_tag, in_block, IsLine}
+use Rattle.handlebars_lines.specs.Line.{identifier_name, value_name, close_name, Line, in_tag, in_block, IsLine}
 use Rattle.handlebars_lines.specs.Binding.{BoundNames, unbound, IsBinding}
-use Rattle.handlebars_tags.specs.Kind.{TagKind, expression_kind, html_kind, html_sign_kind, block_kind, close_kind, inverse_kind, else_kind, raw_kind, raw_close_kind, decorator_kind, decorator_block_kind, comment_kind, TagBeginning, beginning_of, closing_of}
+use Rattle.handlebars_tags.specs.Kind.{TagKind, expression_kind, html_kind, html_sign_kind, block_kind, close_kind, inverse_kind, else_kind, raw_kind, raw_close_kind, decorator_kind, decorator_block_kind, partial_kind, partial_block_kind, comment_kind, TagBeginning, beginning_of, closing_of}
 use Rattle.handlebars_tags.specs.Comment.{IsComment}
 
 -- ---- what tags say
@@ -20,7 +20,8 @@ pub record BlockLine : Type 0 where
   pub depth : ℕ
 
 -- a value or a call, escaped or raw; a block, its inverse, a chained inverse and its end, with the name that closes it,
--- empty or not; a raw block and its end; a decorator, alone or with a block; a comment by its text
+-- empty or not; a raw block and its end; a decorator, alone or with a block; an inclusion, alone or with a block; a
+-- comment by its text
 pub data Tag : Type 0 where
   expression_tag : Line → Tag
   html_tag : Line → Tag
@@ -32,6 +33,8 @@ pub data Tag : Type 0 where
   raw_close_tag : Text → Tag
   decorator_tag : BlockLine → Tag
   decorator_block_tag : BlockLine → Tag
+  partial_tag : Line → Tag
+  partial_block_tag : Line → Tag
   comment_tag : Text → Tag
 
 -- whether a tilde stands behind its opening braces, and before its closing ones
@@ -48,6 +51,8 @@ tag_depth (chain_tag line) = line.depth
 tag_depth (raw_tag line) = line.depth
 tag_depth (decorator_tag line) = line.depth
 tag_depth (decorator_block_tag line) = line.depth
+tag_depth (partial_tag line) = line.depth
+tag_depth (partial_block_tag line) = line.depth
 tag_depth t = 0
 
 -- ---- what stands between the marks
@@ -81,6 +86,10 @@ pub data Says : TagKind → Text → Tag → Text → Type 0 where
   a_decorator : {t rest : Text} {line : BlockLine} → IsDecoratorLine t line rest → Says decorator_kind t (decorator_tag line) rest
   a_decorator_block : {t rest : Text} {line : BlockLine} → IsDecoratorLine t line rest
       → Says decorator_block_kind t (decorator_block_tag line) rest
+  -- The name of an inclusion is written as in a closing tag, or is a line in parentheses.
+  a_partial : {t rest : Text} {line : Line} → IsLine close_name in_tag t line rest → Says partial_kind t (partial_tag line) rest
+  a_partial_block : {t rest : Text} {line : Line} → IsLine close_name in_tag t line rest
+      → Says partial_block_kind t (partial_block_tag line) rest
   a_comment : {t rest kept : Text} → IsComment t kept rest → Says comment_kind t (comment_tag kept) rest
 
 -- ---- tags

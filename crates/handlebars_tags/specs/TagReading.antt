@@ -1,7 +1,7 @@
 -- What stands inside tags, with what closes them. Only the code's own contracts cite this.
 use Rattle.std.specs.Prelude.{◌≡◌, Bool, Some}
 use Rattle.handlebars_base.specs.Bytes.{Text}
-use Rattle.handlebars_lines.specs.Line.{value_name, Line, in_tag, IsLine}
+use Rattle.handlebars_lines.specs.Line.{NameMode, Line, in_tag, IsLine}
 use Rattle.handlebars_tags.specs.Kind.{TagKind, closing_of}
 use Rattle.handlebars_tags.specs.Tag.{Tag, BlockLine, IsBlockLine, IsDecoratorLine, Says}
 
@@ -23,7 +23,7 @@ pub record IsClosed (kind : TagKind) (inside : Text) (tag : Tag) (right : Bool) 
 abbrev pub NoneClosed : TagKind → Text → Type 0
 NoneClosed kind inside = (tag : Tag) (right : Bool) (rest : Text) → IsClosed kind inside tag right rest → ⊥
 
--- no line of a value is there, or it isn't closed
-abbrev pub NoClosedLine : TagKind → Text → Type 0
-NoClosedLine kind t = (line : Line) (behind : Text) (right : Bool) (rest : Text) →
-    IsLine value_name in_tag t line behind → closing_of kind behind ≡ Some (right, rest) → ⊥
+-- no line with a name of this mode is there, or it isn't closed
+abbrev pub NoClosedLine : TagKind → NameMode → Text → Type 0
+NoClosedLine kind mode t = (line : Line) (behind : Text) (right : Bool) (rest : Text) →
+    IsLine mode in_tag t line behind → closing_of kind behind ≡ Some (right, rest) → ⊥

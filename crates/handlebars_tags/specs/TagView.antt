@@ -1,11 +1,11 @@
 -- What the program's tags stand for.
 use Rattle.std.specs.Prelude.{◌≡◌, ℕ, true, ◌++◌, Some}
 use Rattle.handlebars_base.specs.Bytes.{Text}
-use Rattle.handlebars_lines.specs.Line.{value_name, Line, in_tag, IsLine}
+use Rattle.handlebars_lines.specs.Line.{NameMode, value_name, close_name, Line, in_tag, IsLine}
 use Rattle.handlebars_lines.specs.Binding.{unbound}
 use Rattle.handlebars_lines.specs.BindingView.{bound_names_of}
 use Rattle.handlebars_tags.specs.Kind.{TagKind, closing_of}
-use Rattle.handlebars_tags.specs.Tag.{BlockLine, IsBlockLine, Tag, expression_tag, html_tag, block_tag, inverse_tag, chain_tag, close_tag, raw_tag, raw_close_tag, decorator_tag, decorator_block_tag, comment_tag, tag_depth, IsTag}
+use Rattle.handlebars_tags.specs.Tag.{BlockLine, IsBlockLine, Tag, expression_tag, html_tag, block_tag, inverse_tag, chain_tag, close_tag, raw_tag, raw_close_tag, decorator_tag, decorator_block_tag, partial_tag, partial_block_tag, comment_tag, tag_depth, IsTag}
 use Rattle.handlebars_tags.specs.TagReading.{IsClosed}
 use Rattle.handlebars_tags.specs.declared.tag.inside.BlockSlice.{BlockSlice}
 use Rattle.handlebars_tags.specs.declared.tag.inside.Content.{Content}
@@ -14,11 +14,11 @@ use Rattle.handlebars_tags.specs.declared.tag.inside.BlockRead.{BlockRead}
 use Rattle.handlebars_tags.specs.declared.tag.inside.Inside.{Inside}
 use Rattle.handlebars_tags.specs.declared.tag.TagSlice.{TagSlice}
 
--- A text, which begins with a line of a tag, is that of the tag.
-pub record HoldsLine (of : Line → Tag) (text : Text) (tag : Tag) : Type 0 where
+-- A text, which begins with a line of a tag, with a name of this mode, is that of the tag.
+pub record HoldsLine (mode : NameMode) (of : Line → Tag) (text : Text) (tag : Tag) : Type 0 where
   pub line : Line
   pub behind : Text
-  pub is_line : IsLine value_name in_tag text line behind
+  pub is_line : IsLine mode in_tag text line behind
   pub gives : tag ≡ of line
 
 -- A text, which begins with a line of a block or of a decorator, a name and what it binds are those of the line.
@@ -35,8 +35,8 @@ pub record HoldsBlock (of : BlockLine → Tag) (slice : BlockSlice) (tag : Tag) 
 
 -- by its parts of the source, this is what the tag says
 abbrev pub Holds : Content → Tag → Type 0
-Holds (content.Expression text) tag = HoldsLine expression_tag text.now tag
-Holds (content.Html text) tag = HoldsLine html_tag text.now tag
+Holds (content.Expression text) tag = HoldsLine value_name expression_tag text.now tag
+Holds (content.Html text) tag = HoldsLine value_name html_tag text.now tag
 Holds (content.Block slice) tag = HoldsBlock block_tag slice tag
 Holds content.Inverse tag = tag ≡ inverse_tag
 Holds (content.Chain slice) tag = HoldsBlock chain_tag slice tag
@@ -45,6 +45,8 @@ Holds (content.RawBlock slice) tag = HoldsBlock raw_tag slice tag
 Holds (content.RawClose name) tag = tag ≡ raw_close_tag name.now
 Holds (content.Decorator slice) tag = HoldsBlock decorator_tag slice tag
 Holds (content.DecoratorBlock slice) tag = HoldsBlock decorator_block_tag slice tag
+Holds (content.Partial text) tag = HoldsLine close_name partial_tag text.now tag
+Holds (content.PartialBlock text) tag = HoldsLine close_name partial_block_tag text.now tag
 Holds (content.Comment text) tag = tag ≡ comment_tag text.now
 
 -- The line of a block was read so.
@@ -61,11 +63,11 @@ pub record HasClosing (kind : TagKind) (behind : Text) (content : Content) (dept
   pub deep : read.depth ≡ depth
   pub ahead : read.long_ahead ≡ true
 
--- A line of a tag stands in front, and is closed.
-pub record HasClosedLine (kind : TagKind) (text : Text) (content : Content) (read : Inside) : Type 0 where
+-- A line of a tag with a name of this mode stands in front, and is closed.
+pub record HasClosedLine (kind : TagKind) (mode : NameMode) (text : Text) (content : Content) (read : Inside) : Type 0 where
   pub line : Line
   pub behind : Text
-  pub is_line : IsLine value_name in_tag text line behind
+  pub is_line : IsLine mode in_tag text line behind
   pub closing : HasClosing kind behind content line.depth read
 
 -- The line of a decorator was read so.

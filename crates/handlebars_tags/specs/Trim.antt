@@ -6,7 +6,7 @@ use Rattle.handlebars_base.specs.Optional.{◌>>=◌, with_or}
 use Rattle.handlebars_base.specs.Texts.{after}
 use Rattle.handlebars_tags.specs.Options.{Options}
 use Rattle.handlebars_tags.specs.Text.{Braces, two_braces, four_braces}
-use Rattle.handlebars_tags.specs.Tag.{Tag, expression_tag, html_tag, raw_tag, Tildes}
+use Rattle.handlebars_tags.specs.Tag.{Tag, expression_tag, html_tag, raw_tag, partial_tag, Tildes}
 use Rattle.std.specs.Str.{trim_start, trim_end}
 
 -- ---- lines
@@ -60,17 +60,25 @@ LastBlanks = (t : Text) → BlanksEnd t
 -- ---- the edges of texts
 
 -- what a tag does to the texts beside it: it may stand alone on its line, it stands directly behind these spaces and
--- tabs, or none, it has tildes, and a raw block's text may follow it
+-- tabs, or none, it has tildes, a raw block's text may follow it, and these blanks may be its indentation
 pub record Edge : Type 0 where
   pub standalone : Bool
   pub blanks : Text
   pub left : Bool
   pub right : Bool
   pub is_raw : Bool
+  pub takes_blanks : Bool
 
 -- at the start and at the end of a source
 abbrev pub no_edge : Edge
-no_edge = record { standalone = false; blanks = []; left = false; right = false; is_raw = false }
+no_edge = record {
+  standalone = false;
+  blanks = [];
+  left = false;
+  right = false;
+  is_raw = false;
+  takes_blanks = false;
+}
 
 -- values never stand alone
 abbrev pub may_stand_alone : Tag → Bool
@@ -82,6 +90,11 @@ abbrev pub opens_raw : Tag → Bool
 opens_raw (raw_tag line) = true
 opens_raw t = false
 
+-- an inclusion without a block may have the blanks before it as its indentation
+abbrev pub takes_blanks : Tag → Bool
+takes_blanks (partial_tag line) = true
+takes_blanks t = false
+
 -- Behind a line that is fresh or not, and before the rest, a tag that may stand alone does so if nothing else is on its
 -- line.
 abbrev pub edge_at : Bool → Edge → Text → Edge
@@ -91,6 +104,7 @@ edge_at fresh tag rest = record {
   left = tag.left;
   right = tag.right;
   is_raw = tag.is_raw;
+  takes_blanks = tag.takes_blanks;
 }
 
 -- what a tag behind these blanks does, whatever else is on its line
@@ -101,6 +115,7 @@ sides_of blanks t tildes = record {
   left = tildes.left;
   right = tildes.right;
   is_raw = opens_raw t;
+  takes_blanks = takes_blanks t;
 }
 
 -- a tag behind a line that is fresh or not and ends with these blanks, and before the rest
@@ -131,13 +146,19 @@ behind_break t = with_or (after newline t) (λ r. r) (with_or (after carriage_re
 abbrev pub trimmed_start : Edge → Text → Text
 trimmed_start e t = if e.right then trim_start t else (if e.standalone then behind_break (behind_blanks t) else t)
 
--- Before a tilde all white goes; before a tag that stands alone spaces and tabs.
-abbrev pub trimmed_end : Text → Edge → Text
-trimmed_end t e = if e.left then trim_end t else (if e.standalone then before_blanks t else t)
+-- Before a tag that stands alone spaces and tabs go, unless they would be the indentation of an inclusion and inclusions
+-- have none.
+abbrev pub drops_blanks : Bool → Edge → Bool
+drops_blanks prevent_indent e = e.standalone && not (prevent_indent && e.takes_blanks)
 
--- what is kept of a text between two tags, which is its slice less its dropped backslashes; no option changes it yet
+-- Before a tilde all white goes.
+abbrev pub trimmed_end : Bool → Text → Edge → Text
+trimmed_end prevent_indent t e =
+    if e.left then trim_end t else (if drops_blanks prevent_indent e then before_blanks t else t)
+
+-- what is kept of a text between two tags, which is its slice less its dropped backslashes
 abbrev pub trimmed : Options → Edge → Text → Edge → Text
-trimmed options before t behind = trimmed_end (trimmed_start before t) behind
+trimmed options before t behind = trimmed_end options.prevent_indent (trimmed_start before t) behind
 
 -- An empty slice has no element, nor has one of white alone behind a tilde. A raw block's text always has one.
 abbrev pub has_element : Edge → Text → Bool

@@ -9,4 +9,5 @@ edge_view e = record {
   left = e.left;
   right = e.right;
   is_raw = e.is_raw;
+  takes_blanks = e.takes_blanks;
 }

@@ -6,14 +6,15 @@ ghost use Rattle.handlebars_base.specs.Bytes.{newline, is_white};
 ghost use Rattle.handlebars_base.specs.Texts.{starts, after};
 ghost use Rattle.handlebars_tags.specs.TextView.{braces_of};
 ghost use Rattle.handlebars_tags.specs.Options.{Options};
-ghost use Rattle.handlebars_tags.specs.Trim.{is_blank, is_break, is_fresh_behind, breaks, is_ended, dark_len, before_blanks, last_blanks, no_edge, edge_at, braces_behind, behind_blanks, behind_break, trimmed_start, trimmed_end, trimmed, has_element};
+ghost use Rattle.handlebars_tags.specs.Trim.{is_blank, is_break, is_fresh_behind, breaks, is_ended, dark_len, before_blanks, last_blanks, no_edge, edge_at, braces_behind, behind_blanks, behind_break, trimmed_start, drops_blanks, trimmed_end, trimmed, has_element};
 ghost use Rattle.handlebars_tags.specs.TrimView.{edge_view};
 
 use crate::text::Braces;
 use handlebars_base::json::path::marks::{after, is_white};
 
 /// What a tag does to the texts beside it: whether it stands alone on its line, or may do so; the blanks directly
-/// before it; whether it has a tilde on its left and on its right; and whether a raw block's text follows it.
+/// before it; whether it has a tilde on its left and on its right; whether a raw block's text follows it; and whether
+/// the blanks may be its indentation.
 #[derive(Clone, Copy)]
 pub struct Edge<'s> {
     pub standalone: bool,
@@ -21,6 +22,7 @@ pub struct Edge<'s> {
     pub left: bool,
     pub right: bool,
     pub is_raw: bool,
+    pub takes_blanks: bool,
 }
 
 /// At the start and at the end of a source.
@@ -33,11 +35,12 @@ pub fn no_edge() -> Edge<'static>
         left: false,
         right: false,
         is_raw: false,
+        takes_blanks: false,
     }
 }
 
 /// The edge of a tag where it stands, of which so much is known whatever else is on its line: whether it may stand
-/// alone, the blanks before it, its tildes, and whether it opens a raw block.
+/// alone, the blanks before it, its tildes, whether it opens a raw block, and whether the blanks may be its indentation.
 pub fn edge_at<'s>(fresh: bool, tag: Edge<'s>, rest: &str) -> Edge<'s>
     ensures { edge_view result ≡ edge_at fresh (edge_view tag.entry) rest.now }
 {
@@ -47,6 +50,7 @@ pub fn edge_at<'s>(fresh: bool, tag: Edge<'s>, rest: &str) -> Edge<'s>
         left: tag.left,
         right: tag.right,
         is_raw: tag.is_raw,
+        takes_blanks: tag.takes_blanks,
     }
 }
 
@@ -177,12 +181,19 @@ fn trimmed_start<'s>(edge: Edge<'_>, text: &'s str) -> &'s str
     }
 }
 
-fn trimmed_end<'s>(text: &'s str, edge: Edge<'_>) -> &'s str
-    ensures { result.now ≡ trimmed_end text.now (edge_view edge.entry) }
+// Whether the blanks before a tag go. Where inclusions have no indentation, those of one stay.
+fn drops_blanks(prevent_indent: bool, edge: Edge<'_>) -> bool
+    ensures { result ≡ drops_blanks prevent_indent (edge_view edge.entry) }
+{
+    edge.standalone && !(prevent_indent && edge.takes_blanks)
+}
+
+fn trimmed_end<'s>(prevent_indent: bool, text: &'s str, edge: Edge<'_>) -> &'s str
+    ensures { result.now ≡ trimmed_end prevent_indent text.now (edge_view edge.entry) }
 {
     if edge.left {
         text.trim_end()
-    } else if edge.standalone {
+    } else if drops_blanks(prevent_indent, edge) {
         split_blanks(text).0
     } else {
         text
@@ -190,11 +201,16 @@ fn trimmed_end<'s>(text: &'s str, edge: Edge<'_>) -> &'s str
 }
 
 /// What is kept of a text between two tags, or a tag and an end of the source, less its dropped backslashes.
-pub fn trimmed<'s>(before: Edge<'_>, text: &'s str, behind: Edge<'_>) -> &'s str
-    ensures { (options : Options) → result.now
-        ≡ trimmed options (edge_view before.entry) text.now (edge_view behind.entry) }
+pub fn trimmed<'s>(
+    prevent_indent: bool,
+    before: Edge<'_>,
+    text: &'s str,
+    behind: Edge<'_>,
+) -> &'s str
+    ensures { (options : Options) → options.prevent_indent ≡ prevent_indent
+        → result.now ≡ trimmed options (edge_view before.entry) text.now (edge_view behind.entry) }
 {
-    trimmed_end(trimmed_start(before, text), behind)
+    trimmed_end(prevent_indent, trimmed_start(before, text), behind)
 }
 
 /// Whether a text makes an element, by what stands before it and its slice. A text that trimming leaves empty may make

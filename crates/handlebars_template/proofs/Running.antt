@@ -8,7 +8,7 @@ use Rattle.handlebars_base.specs.Texts.{starts, symbols_of, behind_symbols}
 use Rattle.handlebars_lines.specs.Runs.{run as steps}
 use Rattle.handlebars_lines.specs.Parameter.{Term, literal_term, path_term, name_term, call_term}
 use Rattle.handlebars_lines.specs.CloseName.{close_name_at}
-use Rattle.handlebars_lines.specs.Line.{NameMode, identifier_name, value_name, Enclosure, in_tag, in_block, Line, IsLine, NoLine}
+use Rattle.handlebars_lines.specs.Line.{NameMode, identifier_name, value_name, close_name, Enclosure, in_tag, in_block, Line, IsLine, NoLine}
 use Rattle.handlebars_lines.specs.LineReading.{line_stand, at_name, line_step, line_from}
 use Rattle.handlebars_lines.specs.Binding.{BoundNames, unbound, bound, both_bound}
 use Rattle.handlebars_lines.specs.BindingReading.{binding_at}
@@ -17,8 +17,8 @@ use Rattle.handlebars_lines.proofs.Lines.{line_made, line_found}
 use Rattle.handlebars_lines.proofs.LineBounds.{line_shortens}
 use Rattle.handlebars_lines.proofs.Bindings.{binding_at-takes}
 use Rattle.handlebars_tags.specs.Text.{Braces, IsText, at_end, at_tag, a_byte, braces, before_braces}
-use Rattle.handlebars_tags.specs.Kind.{TagKind, expression_kind, html_kind, html_sign_kind, block_kind, close_kind, inverse_kind, else_kind, raw_kind, raw_close_kind, decorator_kind, decorator_block_kind, comment_kind, other_kind, TagBeginning, beginning, beginning_of, closing_of}
-use Rattle.handlebars_tags.specs.Tag.{BlockLine, Tag, expression_tag, html_tag, block_tag, inverse_tag, chain_tag, close_tag, raw_tag, raw_close_tag, decorator_tag, decorator_block_tag, Tildes, IsBlockLine, IsDecoratorLine, Says, a_value, a_raw_value, a_signed_value, a_block, a_close, an_inverse, an_else, a_chain, a_raw_block, a_raw_close, a_decorator, a_decorator_block, IsTag, NoTag}
+use Rattle.handlebars_tags.specs.Kind.{TagKind, expression_kind, html_kind, html_sign_kind, block_kind, close_kind, inverse_kind, else_kind, raw_kind, raw_close_kind, decorator_kind, decorator_block_kind, partial_kind, partial_block_kind, comment_kind, TagBeginning, beginning, beginning_of, closing_of}
+use Rattle.handlebars_tags.specs.Tag.{BlockLine, Tag, expression_tag, html_tag, block_tag, inverse_tag, chain_tag, close_tag, raw_tag, raw_close_tag, decorator_tag, decorator_block_tag, partial_tag, partial_block_tag, Tildes, IsBlockLine, IsDecoratorLine, Says, a_value, a_raw_value, a_signed_value, a_block, a_close, an_inverse, an_else, a_chain, a_raw_block, a_raw_close, a_decorator, a_decorator_block, a_partial, a_partial_block, IsTag, NoTag}
 
 -- a value where a test holds
 abbrev pub guarded : {A : Type 0} → Bool → A → Option A
@@ -120,17 +120,18 @@ says_at raw_kind t = block_tagged raw_tag (block_line_at t)
 says_at raw_close_kind t = raw_close_at (symbols_of t) (behind_symbols t)
 says_at decorator_kind t = block_tagged decorator_tag (decorator_line_at t)
 says_at decorator_block_kind t = block_tagged decorator_block_tag (decorator_line_at t)
+says_at partial_kind t = tagged partial_tag (line_at close_name in_tag t)
+says_at partial_block_kind t = tagged partial_block_tag (line_at close_name in_tag t)
 says_at comment_kind t = None
-says_at other_kind t = None
 
 abbrev SaysSo : TagKind → Text → Tag × Text → Type 0
 SaysSo k t q = Says k t q.0 q.1
 
-tagged-is : (k : TagKind) (f : Line → Tag) (t : Text) (q : Tag × Text) → tagged f (line_at value_name in_tag t) ≡ Some q
-    → ((line : Line) (rest : Text) → IsLine value_name in_tag t line rest → Says k t (f line) rest) → Says k t q.0 q.1
-tagged-is k f t q e says =
-    let l = bind_some (line_at value_name in_tag t) _ q e in
-    subst (SaysSo k t) (same_Some (f l.0.0, l.0.1) q l.2) (says l.0.0 l.0.1 (line_at-is value_name in_tag t l.0 l.1))
+tagged-is : (k : TagKind) (mode : NameMode) (f : Line → Tag) (t : Text) (q : Tag × Text) → tagged f (line_at mode in_tag t) ≡ Some q
+    → ((line : Line) (rest : Text) → IsLine mode in_tag t line rest → Says k t (f line) rest) → Says k t q.0 q.1
+tagged-is k mode f t q e says =
+    let l = bind_some (line_at mode in_tag t) _ q e in
+    subst (SaysSo k t) (same_Some (f l.0.0, l.0.1) q l.2) (says l.0.0 l.0.1 (line_at-is mode in_tag t l.0 l.1))
 
 block_tagged-is : (k : TagKind) (f : BlockLine → Tag) (t inside : Text) (q : Tag × Text) → block_tagged f (block_line_at t) ≡ Some q
     → ((line : BlockLine) (rest : Text) → IsBlockLine t line rest → Says k inside (f line) rest) → Says k inside q.0 q.1
@@ -161,9 +162,9 @@ raw_close_at-is (b ∷ n) t q is e =
     cons-nil b n same = absurd cc
 
 says_at-is : (k : TagKind) (t : Text) (q : Tag × Text) → says_at k t ≡ Some q → Says k t q.0 q.1
-says_at-is expression_kind t q e = tagged-is expression_kind expression_tag t q e (λ line rest is. a_value is)
-says_at-is html_kind t q e = tagged-is html_kind html_tag t q e (λ line rest is. a_raw_value is)
-says_at-is html_sign_kind t q e = tagged-is html_sign_kind html_tag t q e (λ line rest is. a_signed_value is)
+says_at-is expression_kind t q e = tagged-is expression_kind value_name expression_tag t q e (λ line rest is. a_value is)
+says_at-is html_kind t q e = tagged-is html_kind value_name html_tag t q e (λ line rest is. a_raw_value is)
+says_at-is html_sign_kind t q e = tagged-is html_sign_kind value_name html_tag t q e (λ line rest is. a_signed_value is)
 says_at-is block_kind t q e = block_tagged-is block_kind block_tag t t q e (λ line rest is. a_block is)
 says_at-is close_kind t q e = subst (SaysSo close_kind t) (same_Some (close_tag (close_name_at t).0, (close_name_at t).1) q e) (a_close t)
 says_at-is inverse_kind t q e = subst (SaysSo inverse_kind t) (same_Some (inverse_tag, t) q e) (an_inverse t)
@@ -172,8 +173,9 @@ says_at-is raw_kind t q e = block_tagged-is raw_kind raw_tag t t q e (λ line re
 says_at-is raw_close_kind t q e = raw_close_at-is (symbols_of t) t q refl e
 says_at-is decorator_kind t q e = decorator_tagged-is decorator_kind decorator_tag t q e (λ line rest is. a_decorator is)
 says_at-is decorator_block_kind t q e = decorator_tagged-is decorator_block_kind decorator_block_tag t q e (λ line rest is. a_decorator_block is)
+says_at-is partial_kind t q e = tagged-is partial_kind close_name partial_tag t q e (λ line rest is. a_partial is)
+says_at-is partial_block_kind t q e = tagged-is partial_block_kind close_name partial_block_tag t q e (λ line rest is. a_partial_block is)
 says_at-is comment_kind t q e = absurd (none-some q e)
-says_at-is other_kind t q e = absurd (none-some q e)
 
 pub record TagFound : Type 0 where
   pub tag : Tag

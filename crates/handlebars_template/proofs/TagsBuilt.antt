@@ -1,23 +1,27 @@
 -- What is built of tags, and what it stands for.
-use Rattle.std.proofs.Common.{◌≡◌, ℕ, Bool, refl, sym, ap, subst, ◌∙◌, rules, Option, option_map}
+use Rattle.std.proofs.Common.{◌≡◌, ℕ, Bool, true, false, cond, refl, sym, ap, subst, ◌∙◌, rules, Option, option_map}
 use Rattle.std.specs.Prelude.{String}
 use Rattle.std.specs.declared.alloc.Global.{Global}
 use Rattle.handlebars_base.specs.Bytes.{Text}
 use Rattle.handlebars_lines.specs.Binding as means
-use Rattle.handlebars_lines.specs.Line.{value_name, Line, in_tag, IsLine}
+use Rattle.handlebars_lines.specs.Parameter.{TermShape, literal_shape, path_shape, nested_shape, Items, term_of}
+use Rattle.handlebars_lines.specs.Line.{NameMode, close_name, Line, in_tag, IsLine, NameShape, plain_name, term_name, is_nested, IsName, term_of_name}
+use Rattle.handlebars_lines.specs.LineView.{key_of}
 use Rattle.handlebars_tags.specs.Tag.{Tag, tag_depth, BlockLine}
 use Rattle.handlebars_tags.specs.Options.{Options}
 use Rattle.handlebars_tags.specs.Trim.{Edge}
 use Rattle.handlebars_tags.specs.TagView.{HoldsLine, HoldsBlock, IsBlockSlice}
 use Rattle.handlebars_tags.specs.declared.tag.inside.BlockSlice.{BlockSlice}
 use Rattle.handlebars_template.specs.Place.{Place}
-use Rattle.handlebars_template.specs.Tree.{Element, Args, no_arguments, name, both}
-use Rattle.handlebars_template.specs.TreeView.{text, binding_view}
-use Rattle.handlebars_template.specs.Calls.{call_of, first_refused, literals_in, line_literals}
-use Rattle.handlebars_template.specs.Nest.{BlockKind, helper_opening, Opening as Said, SourcePiece, leaf, opens, chains}
+use Rattle.handlebars_template.specs.Tree.{Element, decorator, Args, no_arguments, lacks_arguments, Param, name, no_binding, both, no_body, call_name, call_args}
+use Rattle.handlebars_template.specs.TreeView.{text, binding_view, param_view, arguments_view}
+use Rattle.handlebars_template.specs.Calls.{named, name_before, param_of, arguments_in, first_refused, line_literals}
+use Rattle.handlebars_template.specs.Nest.{BlockKind, helper_opening, partial_opening, Opening as Said, SourcePiece, leaf, opens, chains}
 use Rattle.handlebars_template.specs.NestView.{opening_view, early, Looks, Does}
-use Rattle.handlebars_template.specs.Compile.{block_binding, opening_of, tag_piece}
-use Rattle.handlebars_template.specs.ScanView.{value_element, value_piece, block_piece, chain_piece, decorator_element, decorator_piece, HasOpening}
+use Rattle.handlebars_template.specs.Compile.{block_binding, is_indented, opening_of, closing_name, partial_opening_of, indentation, partial_of, tag_piece}
+use Rattle.handlebars_template.specs.ScanView.{block_piece, chain_piece, HasOpening}
+use Rattle.handlebars_template.specs.LineBuildingView.{IsCallOf}
+use Rattle.handlebars_template.specs.declared.template.line.BuiltLine.{BuiltLine}
 use Rattle.handlebars_template.specs.declared.template.nest.Nesting.{Nesting}
 use Rattle.handlebars_template.specs.declared.template.nest.SyntaxFault.{SyntaxFault}
 use Rattle.handlebars_template.specs.declared.template.tags.BuiltOpening.{BuiltOpening}
@@ -41,37 +45,79 @@ pub said-along : {k : BlockKind} {n m : Text} {xs ys : Args} {b c : means.BoundN
     → with_arguments xs o ≡ said k m ys c i
 said-along {k} {n} {m} {xs} {ys} {b} {c} {i} {o} is args names bindings = ap (with_arguments xs) is ∙ rw (args, names, bindings) refl
 
+-- ---- the name of an inclusion
+
+-- It is a text or a call, and stands so with arguments behind it or none.
+kept_shape : (p : TermShape) → is_nested p ≡ true → named (param_of (term_of p)) ≡ param_of (term_of p)
+kept_shape (literal_shape l) is = absurd cc
+kept_shape (path_shape t means) is = absurd cc
+kept_shape (nested_shape w head items v) is = refl
+
+kept_name : (x : NameShape) (items : Items) (rest : Text) → IsName close_name x items rest → named (param_of (term_of_name x)) ≡ param_of (term_of_name x)
+kept_name (plain_name t) items rest is = refl
+kept_name (term_name p) items rest is = kept_shape p is.0
+
+name_before-kept : (xs : Args) (p : Param) → named p ≡ p → name_before xs p ≡ p
+name_before-kept xs p is = on (lacks_arguments xs)
+  where
+    on : (b : Bool) → cond b p (named p) ≡ p
+    on true = refl
+    on false = is
+
+-- what was built of the line of an inclusion
+pub record IsInclusionOf (line : Line) (built : BuiltLine) : Type 0 where
+  pub name : param_view built.name ≡ param_of line.name
+  pub arguments : arguments_view built.arguments ≡ arguments_in no_arguments line.terms
+  pub refused : key_of built.refused ≡ first_refused (line_literals line)
+
+pub inclusion_built : (t rest : Text) (line : Line) (built : BuiltLine) → IsLine close_name in_tag t line rest → IsCallOf line built → IsInclusionOf line built
+inclusion_built t rest line built is call =
+    let xs : Args = arguments_in no_arguments line.terms in
+    let same : param_of line.name ≡ param_of (term_of_name is.name) = ap (λ (z : Line). param_of z.name) is.gives in
+    let kept : named (param_of line.name) ≡ param_of line.name = ap named same ∙ kept_name is.name is.items _ is.is_name ∙ sym same in
+    record {
+      name = ap call_name call.call ∙ name_before-kept xs (param_of line.name) kept;
+      arguments = ap call_args call.call;
+      refused = call.refused;
+    }
+
+pub inclusion_along : (options : Options) (e : Edge) (line : Line) (n : Param) (xs : Args) (indent : Option Text) (i : Bool) → n ≡ param_of line.name → xs ≡ arguments_in no_arguments line.terms
+    → indent ≡ indentation options e → i ≡ is_indented e → decorator n xs no_body (record { indent = indent; indent_before_write = i }) ≡ partial_of options e line
+inclusion_along options e line n xs indent i names arguments blanks indented = rw (names, arguments, blanks, indented) refl
+
+abbrev partial_said : Param → Text → Args → Bool → Said
+partial_said n closing xs i =
+    record { kind = partial_opening; name = n; closing = closing; arguments = xs; binding = no_binding; indent = i }
+
+pub opening_along : (e : Edge) (line : Line) (n : Param) (closing : Text) (xs : Args) (i : Bool) → n ≡ param_of line.name → closing ≡ closing_name n → xs ≡ arguments_in no_arguments line.terms → i ≡ is_indented e
+    → partial_said n closing xs i ≡ partial_opening_of e line
+opening_along e line n closing xs i names closes arguments indented = rw (closes, names, arguments, indented) refl
+
 -- ---- a tag does what its line does
 
-pub Does-value : (old new : Nesting) (p : Place) (is_escaped : Bool) (line : Line) (e : Element) (refused : Option Text)
-    → e ≡ value_element is_escaped (call_of line.name line.terms) → refused ≡ first_refused (line_literals line)
-    → ((n : ℕ) → Does old (leaf p e n refused) new) → Does old (value_piece is_escaped p line) new
-Does-value old new p is_escaped line e refused one two does =
-    subst (λ (r : Option Text). Does old (leaf p (value_element is_escaped (call_of line.name line.terms)) line.depth r) new) two
-    (subst (λ (x : Element). Does old (leaf p x line.depth refused) new) one (does line.depth))
+pub Does-leaf : (old new : Nesting) (p : Place) (n : ℕ) (x y : Element) (refused r : Option Text) → x ≡ y → refused ≡ r → ((n : ℕ) → Does old (leaf p x n refused) new)
+    → Does old (leaf p y n r) new
+Does-leaf old new p n x y refused r one two does =
+    subst (λ (z : Option Text). Does old (leaf p y n z) new) two (subst (λ (z : Element). Does old (leaf p z n refused) new) one (does n))
 
-pub Does-opens : (options : Options) (old new : Nesting) (p : Place) (e : Edge) (line : BlockLine) (kind : BlockKind) (built : BuiltOpening) → HasOpening options kind e line built
-    → ((n : ℕ) → Does old (opens p (opening_view built.opening) n (option_map (λ t. t.now) built.refused)) new) → Does old (block_piece options kind p e line) new
-Does-opens options old new p e line kind built o does =
-    subst (λ (r : Option Text). Does old (opens p (opening_of options kind e line) line.depth r) new) o.refused
-    (subst (λ (x : Said). Does old (opens p x line.depth (option_map (λ t. t.now) built.refused)) new) o.opening (does line.depth))
+pub Does-opening : (old new : Nesting) (p : Place) (n : ℕ) (x y : Said) (refused r : Option Text) → x ≡ y → refused ≡ r → ((n : ℕ) → Does old (opens p x n refused) new)
+    → Does old (opens p y n r) new
+Does-opening old new p n x y refused r one two does =
+    subst (λ (z : Option Text). Does old (opens p y n z) new) two (subst (λ (z : Said). Does old (opens p z n refused) new) one (does n))
 
-pub Does-chains : (options : Options) (old new : Nesting) (p : Place) (e : Edge) (line : BlockLine) (built : BuiltOpening) → HasOpening options helper_opening e line built
-    → ((n : ℕ) → Does old (chains p (opening_view built.opening) n (option_map (λ t. t.now) built.refused)) new) → Does old (chain_piece options p e line) new
-Does-chains options old new p e line built o does =
-    subst (λ (r : Option Text). Does old (chains p (opening_of options helper_opening e line) line.depth r) new) o.refused
+pub Does-opens : (old new : Nesting) (p : Place) (e : Edge) (line : BlockLine) (kind : BlockKind) (built : BuiltOpening) → HasOpening kind e line built
+    → ((n : ℕ) → Does old (opens p (opening_view built.opening) n (option_map (λ t. t.now) built.refused)) new) → Does old (block_piece kind p e line) new
+Does-opens old new p e line kind built o does = Does-opening old new p line.depth (opening_view built.opening) (opening_of kind e line) _ _ o.opening o.refused does
+
+pub Does-chains : (old new : Nesting) (p : Place) (e : Edge) (line : BlockLine) (built : BuiltOpening) → HasOpening helper_opening e line built
+    → ((n : ℕ) → Does old (chains p (opening_view built.opening) n (option_map (λ t. t.now) built.refused)) new) → Does old (chain_piece p e line) new
+Does-chains old new p e line built o does =
+    subst (λ (r : Option Text). Does old (chains p (opening_of helper_opening e line) line.depth r) new) o.refused
     (subst (λ (x : Said). Does old (chains p x line.depth (option_map (λ t. t.now) built.refused)) new) o.opening (does line.depth))
 
-pub Does-decorator : (options : Options) (old new : Nesting) (p : Place) (e : Edge) (line : BlockLine) (x : Element) (refused : Option Text)
-    → x ≡ decorator_element options e line → refused ≡ first_refused (literals_in line.terms)
-    → ((n : ℕ) → Does old (leaf p x n refused) new) → Does old (decorator_piece options p e line) new
-Does-decorator options old new p e line x refused one two does =
-    subst (λ (r : Option Text). Does old (leaf p (decorator_element options e line) line.depth r) new) two
-    (subst (λ (y : Element). Does old (leaf p y line.depth refused) new) one (does line.depth))
-
-pub Does-line : (options : Options) (old new : Nesting) (p : Place) (e : Edge) (of : Line → Tag) (t : Text) (tag : Tag) → HoldsLine of t tag
-    → ((line : Line) (rest : Text) → IsLine value_name in_tag t line rest → Does old (tag_piece options p e (of line)) new) → Does old (tag_piece options p e tag) new
-Does-line options old new p e of t tag h does = subst (λ (z : Tag). Does old (tag_piece options p e z) new) (sym h.gives) (does h.line h.behind h.is_line)
+pub Does-line : (options : Options) (old new : Nesting) (p : Place) (e : Edge) (mode : NameMode) (of : Line → Tag) (t : Text) (tag : Tag) → HoldsLine mode of t tag
+    → ((line : Line) (rest : Text) → IsLine mode in_tag t line rest → Does old (tag_piece options p e (of line)) new) → Does old (tag_piece options p e tag) new
+Does-line options old new p e mode of t tag h does = subst (λ (z : Tag). Does old (tag_piece options p e z) new) (sym h.gives) (does h.line h.behind h.is_line)
 
 pub Does-block : (options : Options) (old new : Nesting) (p : Place) (e : Edge) (of : BlockLine → Tag) (slice : BlockSlice) (tag : Tag) → HoldsBlock of slice tag
     → ((line : BlockLine) (rest : Text) → IsBlockSlice slice line rest → Does old (tag_piece options p e (of line)) new) → Does old (tag_piece options p e tag) new

@@ -1,16 +1,17 @@
 -- What compiling a source answers: its tree, or the first refusal.
-use Rattle.std.specs.Prelude.{◌≡◌, ℕ, Bool, true, false, not, ◌&&◌, if◌then◌else◌, List, [], ◌∷◌, ◌++◌, map, None, Some, unwrap_or, codes}
+use Rattle.std.specs.Prelude.{◌≡◌, ℕ, Bool, true, false, not, ◌&&◌, ◌||◌, ◌==◌, length, if◌then◌else◌, List, [], ◌∷◌, ◌++◌, map, Option, None, Some, unwrap_or, codes}
 use Rattle.handlebars_base.specs.Bytes.{Text}
 use Rattle.handlebars_base.specs.Reasons.{TemplateReason, TemplateRefusal, invalid_syntax, mismatching_closed_helper, mismatching_closed_decorator}
 use Rattle.handlebars_lines.specs.Binding.{BoundNames, unbound, bound, both_bound}
+use Rattle.handlebars_lines.specs.Line.{Line}
 use Rattle.handlebars_tags.specs.Text.{IsText, braces}
-use Rattle.handlebars_tags.specs.Tag.{Tag, expression_tag, html_tag, block_tag, inverse_tag, chain_tag, close_tag, raw_tag, raw_close_tag, decorator_tag, decorator_block_tag, comment_tag, BlockLine, Tildes, IsTag}
+use Rattle.handlebars_tags.specs.Tag.{Tag, expression_tag, html_tag, block_tag, inverse_tag, chain_tag, close_tag, raw_tag, raw_close_tag, decorator_tag, decorator_block_tag, partial_tag, partial_block_tag, comment_tag, BlockLine, Tildes, IsTag}
 use Rattle.handlebars_tags.specs.Trim.{Edge, braces_behind, trimmed, has_element}
 use Rattle.handlebars_tags.specs.Options.{Options}
 use Rattle.handlebars_template.specs.Place.{Place, place}
-use Rattle.handlebars_template.specs.Tree.{Tree, tree, elements_of, raw_string, html_expression, expression, decorator_expression, comment, no_body, no_arguments, name, no_binding, single, both}
+use Rattle.handlebars_template.specs.Tree.{Tree, tree, elements_of, raw_string, html_expression, expression, decorator_expression, partial_expression, comment, Decorator, decorator, no_body, no_arguments, Param, as_name, name, no_binding, single, both}
 use Rattle.handlebars_template.specs.Tree as tree
-use Rattle.handlebars_template.specs.Calls.{call_of, arguments_in, line_literals, literals_in, first_refused, invalid}
+use Rattle.handlebars_template.specs.Calls.{param_of, call_of, arguments_in, line_literals, literals_in, first_refused, invalid}
 use Rattle.handlebars_template.specs.Nest.{BlockKind, helper_opening, raw_opening, decorator_opening, partial_opening, Opening, SourcePiece, leaf, opens, inverts, chains, closes, NestFault, unexpected, too_deep, not_closed, mismatched, no_value, Placed, decorator_with, syntax_alone, names_and_literals, Nests, OpenBlock, Opens, Refuses, LeavesOpen}
 use Rattle.handlebars_template.specs.Cut.{Slice, text_slice, tag_slice, may_follow, Reads, IsCut}
 
@@ -21,21 +22,47 @@ block_binding unbound = no_binding
 block_binding (bound x) = single (name x)
 block_binding (both_bound x y) = both (name x) (name y)
 
--- Indentation goes before what a block writes where its tag stands alone on its line, without a tilde in front; no
--- option changes that yet.
-abbrev pub is_indented : Options → Edge → Bool
-is_indented options e = e.standalone && not e.left
+-- Indentation goes before what a tag writes where it stands alone on its line, without a tilde in front.
+abbrev pub is_indented : Edge → Bool
+is_indented e = e.standalone && not e.left
 
 -- what the opening tag of a block says, and that of a decorator
-abbrev pub opening_of : Options → BlockKind → Edge → BlockLine → Opening
-opening_of options kind e line = record {
+abbrev pub opening_of : BlockKind → Edge → BlockLine → Opening
+opening_of kind e line = record {
   kind = kind;
   name = name line.name;
   closing = line.name;
   arguments = arguments_in no_arguments line.terms;
   binding = block_binding line.binding;
-  indent = is_indented options e;
+  indent = is_indented e;
 }
+
+-- The block of an inclusion is closed by its name as it is written, brackets and quotes included, and that of a call by no
+-- name.
+abbrev pub closing_name : Param → Text
+closing_name p = unwrap_or (as_name p) (codes "(subexpression)")
+
+-- what the opening tag of an inclusion's block says, which binds no names
+abbrev pub partial_opening_of : Edge → Line → Opening
+partial_opening_of e line = record {
+  kind = partial_opening;
+  name = param_of line.name;
+  closing = closing_name (param_of line.name);
+  arguments = arguments_in no_arguments line.terms;
+  binding = no_binding;
+  indent = is_indented e;
+}
+
+-- The indentation of an inclusion without a block is the blanks before it, if there are any, no tilde stands in front, and
+-- the options don't prevent it.
+abbrev pub indentation : Options → Edge → Option Text
+indentation options e =
+    if options.prevent_indent || (e.left || (length e.blanks == 0)) then None else Some e.blanks
+
+abbrev pub partial_of : Options → Edge → Line → Decorator
+partial_of options e line =
+    decorator (param_of line.name) (arguments_in no_arguments line.terms) no_body
+    (record { indent = indentation options e; indent_before_write = is_indented e })
 
 abbrev pub tag_piece : Options → Place → Edge → Tag → SourcePiece
 tag_piece options p e (expression_tag line) =
@@ -43,19 +70,23 @@ tag_piece options p e (expression_tag line) =
 tag_piece options p e (html_tag line) =
     leaf p (html_expression (call_of line.name line.terms)) line.depth (first_refused (line_literals line))
 tag_piece options p e (block_tag line) =
-    opens p (opening_of options helper_opening e line) line.depth (first_refused (literals_in line.terms))
+    opens p (opening_of helper_opening e line) line.depth (first_refused (literals_in line.terms))
 tag_piece options p e inverse_tag = inverts p
 tag_piece options p e (chain_tag line) =
-    chains p (opening_of options helper_opening e line) line.depth (first_refused (literals_in line.terms))
+    chains p (opening_of helper_opening e line) line.depth (first_refused (literals_in line.terms))
 tag_piece options p e (close_tag n) = closes p false n
 tag_piece options p e (raw_tag line) =
-    opens p (opening_of options raw_opening e line) line.depth (first_refused (literals_in line.terms))
+    opens p (opening_of raw_opening e line) line.depth (first_refused (literals_in line.terms))
 tag_piece options p e (raw_close_tag n) = closes p true n
 tag_piece options p e (decorator_tag line) =
-    leaf p (decorator_expression (decorator_with (opening_of options decorator_opening e line) no_body)) line.depth
+    leaf p (decorator_expression (decorator_with (opening_of decorator_opening e line) no_body)) line.depth
     (first_refused (literals_in line.terms))
 tag_piece options p e (decorator_block_tag line) =
-    opens p (opening_of options decorator_opening e line) line.depth (first_refused (literals_in line.terms))
+    opens p (opening_of decorator_opening e line) line.depth (first_refused (literals_in line.terms))
+tag_piece options p e (partial_tag line) =
+    leaf p (partial_expression (partial_of options e line)) line.depth (first_refused (line_literals line))
+tag_piece options p e (partial_block_tag line) =
+    opens p (partial_opening_of e line) line.depth (first_refused (line_literals line))
 tag_piece options p e (comment_tag t) = leaf p (comment t) 0 None
 
 -- a text between two tags, where it has an element

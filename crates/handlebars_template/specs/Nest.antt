@@ -8,8 +8,7 @@ use Rattle.handlebars_template.specs.Calls.{max_nesting}
 
 -- ---- what stands along a source
 
--- What a tag opens: the block of a helper, a raw block, or the block of a decorator or of an inclusion. No tag of an
--- inclusion is readable yet.
+-- What a tag opens: the block of a helper, a raw block, or the block of a decorator or of an inclusion.
 pub data BlockKind : Type 0 where
   helper_opening : BlockKind
   raw_opening : BlockKind
@@ -119,8 +118,8 @@ is_chain (b ∷ bs) = true
 abbrev pub helper_call : Opening → List Placed → List Branch → Body → Call
 helper_call o first branches last = block_call o first (inverse_of branches last) (is_chain branches)
 
--- A decorator or an inclusion, from what its tag says, and its body. The indentation of a line is that of an inclusion
--- without a block alone.
+-- A decorator, or an inclusion with a block, from what its tag says, and its body. Only an inclusion without a block has
+-- an indentation.
 abbrev pub decorator_with : Opening → Body → Decorator
 decorator_with o b = decorator o.name o.arguments b (record { indent = None; indent_before_write = o.indent })
 

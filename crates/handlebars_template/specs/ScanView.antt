@@ -6,13 +6,13 @@ use Rattle.handlebars_tags.specs.Tag.{BlockLine}
 use Rattle.handlebars_tags.specs.Trim.{Edge, trimmed, has_element}
 use Rattle.handlebars_tags.specs.Options.{Options}
 use Rattle.handlebars_template.specs.Place.{Place}
-use Rattle.handlebars_template.specs.Tree.{Element, raw_string, html_expression, expression, decorator_expression, Call, no_body}
+use Rattle.handlebars_template.specs.Tree.{Element, raw_string, html_expression, expression, decorator_expression, partial_expression, Call, no_body}
 use Rattle.handlebars_template.specs.TreeView.{place_of}
 use Rattle.handlebars_template.specs.Calls.{call_of, first_refused, literals_in, line_literals}
 use Rattle.handlebars_template.specs.Nest.{BlockKind, helper_opening, decorator_opening, SourcePiece, leaf, opens, chains, not_closed, Placed, decorator_with}
 use Rattle.handlebars_template.specs.Machine.{End, complete, unclosed, refused as refused_end}
 use Rattle.handlebars_template.specs.NestView.{opening_view, syntax_fault, end_view}
-use Rattle.handlebars_template.specs.Compile.{opening_of, tree_of, unreadable_tag, refusal_for, Compiles, compiled, refused}
+use Rattle.handlebars_template.specs.Compile.{opening_of, partial_opening_of, partial_of, tree_of, unreadable_tag, refusal_for, Compiles, compiled, refused}
 use Rattle.handlebars_template.specs.declared.template.tags.BuiltOpening.{BuiltOpening}
 use Rattle.handlebars_template.specs.declared.template.scan.Scanned.{Scanned}
 use Rattle.handlebars_template.specs.declared.template.scan.Scanned.TheVariants as scanned
@@ -29,28 +29,32 @@ value_piece is_escaped p line =
     leaf p (value_element is_escaped (call_of line.name line.terms)) line.depth (first_refused (line_literals line))
 
 -- the opening tag of a block of this kind
-abbrev pub block_piece : Options → BlockKind → Place → Edge → BlockLine → SourcePiece
-block_piece options kind p e line =
-    opens p (opening_of options kind e line) line.depth (first_refused (literals_in line.terms))
+abbrev pub block_piece : BlockKind → Place → Edge → BlockLine → SourcePiece
+block_piece kind p e line = opens p (opening_of kind e line) line.depth (first_refused (literals_in line.terms))
 
-abbrev pub chain_piece : Options → Place → Edge → BlockLine → SourcePiece
-chain_piece options p e line = chains p (opening_of options helper_opening e line) line.depth (first_refused (literals_in line.terms))
+abbrev pub chain_piece : Place → Edge → BlockLine → SourcePiece
+chain_piece p e line = chains p (opening_of helper_opening e line) line.depth (first_refused (literals_in line.terms))
 
-abbrev pub decorator_element : Options → Edge → BlockLine → Element
-decorator_element options e line =
-    decorator_expression (decorator_with (opening_of options decorator_opening e line) no_body)
+abbrev pub decorator_element : Edge → BlockLine → Element
+decorator_element e line = decorator_expression (decorator_with (opening_of decorator_opening e line) no_body)
 
-abbrev pub decorator_piece : Options → Place → Edge → BlockLine → SourcePiece
-decorator_piece options p e line =
-    leaf p (decorator_element options e line) line.depth (first_refused (literals_in line.terms))
+abbrev pub decorator_piece : Place → Edge → BlockLine → SourcePiece
+decorator_piece p e line = leaf p (decorator_element e line) line.depth (first_refused (literals_in line.terms))
+
+abbrev pub partial_piece : Options → Place → Edge → Line → SourcePiece
+partial_piece options p e line =
+    leaf p (partial_expression (partial_of options e line)) line.depth (first_refused (line_literals line))
+
+abbrev pub partial_block_piece : Place → Edge → Line → SourcePiece
+partial_block_piece p e line = opens p (partial_opening_of e line) line.depth (first_refused (line_literals line))
 
 -- the opening that this line of a block says, and its first refused literal
-pub record HasOpening (options : Options) (kind : BlockKind) (e : Edge) (line : BlockLine) (built : BuiltOpening) : Type 0 where
-  pub opening : opening_view built.opening ≡ opening_of options kind e line
+pub record HasOpening (kind : BlockKind) (e : Edge) (line : BlockLine) (built : BuiltOpening) : Type 0 where
+  pub opening : opening_view built.opening ≡ opening_of kind e line
   pub refused : option_map (λ t. t.now) built.refused ≡ first_refused (literals_in line.terms)
 
-abbrev pub IsOpening : Options → BlockKind → Edge → BlockLine → Option BuiltOpening → Type 0
-IsOpening options kind e line read = MatchOption read ⊥ (HasOpening options kind e line)
+abbrev pub IsOpening : BlockKind → Edge → BlockLine → Option BuiltOpening → Type 0
+IsOpening kind e line read = MatchOption read ⊥ (HasOpening kind e line)
 
 -- ---- texts
 

@@ -26,8 +26,9 @@ pub enum TagKind {
     RawClose,
     Decorator,
     DecoratorBlock,
+    Partial,
+    PartialBlock,
     Comment,
-    Other,
 }
 
 /// The kind of a tag, whether a tilde stands behind its opening braces, and what is inside.
@@ -120,7 +121,7 @@ fn signed_at(tilde: bool, text: &str) -> TagBeginning<'_>
         b'/' => marked(TagKind::Close, tilde, behind),
         b'^' => marked(TagKind::Inverse, tilde, behind),
         b'*' => marked(TagKind::Decorator, tilde, behind),
-        b'>' => marked(TagKind::Other, tilde, behind),
+        b'>' => marked(TagKind::Partial, tilde, behind),
         b'e' => worded_at(tilde, text),
         _ => unsigned(tilde, text),
     }
@@ -135,7 +136,7 @@ fn block_at(tilde: bool, text: &str) -> TagBeginning<'_>
     };
     match sign {
         b'*' => marked(TagKind::DecoratorBlock, tilde, inside),
-        b'>' => marked(TagKind::Other, tilde, inside),
+        b'>' => marked(TagKind::PartialBlock, tilde, inside),
         _ => marked(TagKind::Block, tilde, text),
     }
 }

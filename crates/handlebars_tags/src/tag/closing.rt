@@ -27,8 +27,9 @@ pub fn closing_of(kind: TagKind, text: &str) -> Option<(bool, &str)>
         TagKind::RawClose => close_by("}}}}", text),
         TagKind::Decorator => close_by("}}", text),
         TagKind::DecoratorBlock => close_by("}}", text),
+        TagKind::Partial => close_by("}}", text),
+        TagKind::PartialBlock => close_by("}}", text),
         TagKind::Comment => Some((false, text)),
-        TagKind::Other => None,
     }
 }
 

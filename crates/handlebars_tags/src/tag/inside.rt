@@ -1,6 +1,8 @@
 //! What stands inside tags, with what closes it.
 
 ghost use Rattle.std.specs.Prelude.{◌≡◌, true, IfOk, IfSome, MatchOption, Some, None, codes, drop};
+ghost use Rattle.handlebars_lines.specs.Line.{value_name, close_name};
+ghost use Rattle.handlebars_lines.specs.LineView.{mode_of};
 ghost use Rattle.handlebars_tags.specs.Comment.{HasNoLong};
 ghost use Rattle.handlebars_tags.specs.Kind.{past, closing_of, comment_kind, else_kind, block_kind, raw_kind, raw_close_kind, close_kind, decorator_kind, decorator_block_kind};
 ghost use Rattle.handlebars_tags.specs.KindView.{kind_of};
@@ -32,6 +34,10 @@ pub enum Content<'a> {
     RawClose(&'a str),
     Decorator(BlockSlice<'a>),
     DecoratorBlock(BlockSlice<'a>),
+    /// An inclusion, by the text that begins with its line.
+    Partial(&'a str),
+    /// One with a block.
+    PartialBlock(&'a str),
     /// A comment's text.
     Comment(&'a str),
 }
@@ -82,8 +88,14 @@ pub fn inside_at<'a>(
         TagKind::RawClose => Ok(raw_close(text)),
         TagKind::Decorator => decorator(alloc, text),
         TagKind::DecoratorBlock => decorator_block(alloc, text),
+        TagKind::Partial => inclusion(alloc, TagKind::Partial, Content::Partial(text), text),
+        TagKind::PartialBlock => inclusion(
+            alloc,
+            TagKind::PartialBlock,
+            Content::PartialBlock(text),
+            text,
+        ),
         TagKind::Comment => Ok(comment(left, long_ahead)),
-        TagKind::Other => Ok(None),
     }
 }
 
@@ -109,6 +121,23 @@ fn closed<'a>(
     }
 }
 
+/// A line with a name of this mode, and what closes it.
+fn line<'a>(
+    alloc: Global,
+    kind: TagKind,
+    mode: NameMode,
+    content: Content<'a>,
+    text: &'a str,
+) -> Result<Option<Inside<'a>>, AllocError>
+    ensures { IfOk result (λ read. MatchOption read (NoClosedLine (kind_of kind) (mode_of mode) text.now)
+        (λ inside. HasClosedLine (kind_of kind) (mode_of mode) text.now content.entry inside)) }
+{
+    match split_line(alloc, mode, Enclosure::Tag, text)? {
+        Some(line) => Ok(closed(kind, content, line.depth, line.rest)),
+        None => Ok(None),
+    }
+}
+
 /// The line of a value, and what closes it.
 fn value<'a>(
     alloc: Global,
@@ -116,13 +145,23 @@ fn value<'a>(
     content: Content<'a>,
     text: &'a str,
 ) -> Result<Option<Inside<'a>>, AllocError>
-    ensures { IfOk result (λ read. MatchOption read (NoClosedLine (kind_of kind) text.now)
-        (λ inside. HasClosedLine (kind_of kind) text.now content.entry inside)) }
+    ensures { IfOk result (λ read. MatchOption read (NoClosedLine (kind_of kind) value_name text.now)
+        (λ inside. HasClosedLine (kind_of kind) value_name text.now content.entry inside)) }
 {
-    match split_line(alloc, NameMode::Value, Enclosure::Tag, text)? {
-        Some(line) => Ok(closed(kind, content, line.depth, line.rest)),
-        None => Ok(None),
-    }
+    line(alloc, kind, NameMode::Value, content, text)
+}
+
+/// The line of an inclusion, and what closes it.
+fn inclusion<'a>(
+    alloc: Global,
+    kind: TagKind,
+    content: Content<'a>,
+    text: &'a str,
+) -> Result<Option<Inside<'a>>, AllocError>
+    ensures { IfOk result (λ read. MatchOption read (NoClosedLine (kind_of kind) close_name text.now)
+        (λ inside. HasClosedLine (kind_of kind) close_name text.now content.entry inside)) }
+{
+    line(alloc, kind, NameMode::Close, content, text)
 }
 
 fn block(alloc: Global, text: &str) -> Result<Option<Inside<'_>>, AllocError>

@@ -22,8 +22,7 @@ pub enum BlockNames {
     BothBound(String, String),
 }
 
-/// What a tag opens: the block of a helper, a raw block, or the block of a decorator or of an inclusion. No tag of an
-/// inclusion is read yet.
+/// What a tag opens: the block of a helper, a raw block, or the block of a decorator or of an inclusion.
 #[derive(Clone, Copy)]
 pub enum BlockKind {
     Helper,
@@ -169,7 +168,7 @@ impl BlockOpening {
         }
     }
 
-    /// A decorator or an inclusion, with this body.
+    /// A decorator, or an inclusion with a block, with this body.
     pub fn decorator(self, body: Option<Template>) -> DecoratorTemplate
         ensures { decorator_view result ≡ decorator_with (opening_view self) (body_view body) }
     {

@@ -18,8 +18,8 @@ use crate::template::tree::{Template, TemplateMapping};
 use handlebars_base::error::{TemplateError, TemplateErrorReason};
 use std::alloc::{AllocError, Global};
 
-/// How a source is compiled: the name of its template, and whether its inclusions add no indentation. No source has
-/// inclusions yet, so the second changes nothing.
+/// How a source is compiled: the name of its template, and whether its inclusions have no indentation. Where they have
+/// none, the blanks before an inclusion that stands alone on its line stay.
 #[derive(Debug, Default, PartialEq, Drop)]
 pub struct TemplateOptions {
     pub name: Option<String>,
@@ -62,9 +62,10 @@ impl Template {
     /// block, more than 200 blocks, chained inverses, parentheses and brackets of literals are open at once,
     /// `InvalidSyntax("nesting too deep")`; and at the end of the source, at the place of the innermost open block,
     /// `InvalidSyntax("block not closed")`. Where there is none, the first of these: a name that closes the block of
-    /// another, `MismatchingClosedHelper` of both, or a literal with no value, `InvalidParam` of its text alone. But for
-    /// the last, each has its position, in the template of the name that is given, or `Unnamed`. In time linear in the
-    /// source, but for the order of keys and the values of literals, and without recursion.
+    /// another, `MismatchingClosedHelper` of both, or `MismatchingClosedDecorator` where the block is a decorator's or an
+    /// inclusion's; or a literal with no value, `InvalidParam` of its text alone. But for the last, each has its position,
+    /// in the template of the name that is given, or `Unnamed`. In time linear in the source, but for the order of keys
+    /// and the values of literals, and without recursion.
     pub fn compile2(
         alloc: Global,
         source: &str,

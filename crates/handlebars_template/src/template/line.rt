@@ -1,18 +1,21 @@
 //! The call that a line is.
 
-ghost use Rattle.std.specs.Prelude.{◌≡◌, None, IfOk, IfSome};
+ghost use Rattle.std.specs.Prelude.{◌≡◌, None, IfOk, IfSome, option_map, string_bytes};
 ghost use Rattle.handlebars_base.specs.Bytes.{Text};
 ghost use Rattle.handlebars_lines.specs.Line.{identifier_name, in_block, Line, IsLine};
 ghost use Rattle.handlebars_lines.specs.LineView.{mode_of, enclosure_of};
 ghost use Rattle.handlebars_base.specs.PathView.{reference_of};
 ghost use Rattle.handlebars_template.specs.LineBuildingView.{built_call, IsBuilt, IsCallOf, IsPathAlone, HasArguments};
 ghost use Rattle.handlebars_template.specs.Calls.{add_argument};
-ghost use Rattle.handlebars_template.specs.Tree.{expression, no_arguments, path as means};
-ghost use Rattle.handlebars_template.specs.TreeView.{call_view, arguments_view, subexpression_view};
+ghost use Rattle.handlebars_template.specs.Tree.{expression, decorator, no_arguments, no_binding, no_body, path as means};
+ghost use Rattle.handlebars_template.specs.TreeView.{call_view, decorator_view, param_view, arguments_view, subexpression_view};
+ghost use Rattle.handlebars_template.specs.Nest.{partial_opening};
+ghost use Rattle.handlebars_template.specs.NestView.{opening_view};
 
 use crate::template::arguments::Arguments;
 use crate::template::build::{first_calls, known_path, path_of};
-use crate::template::tree::{HelperTemplate, Parameter, Subexpression};
+use crate::template::chain::{BlockKind, BlockNames, BlockOpening};
+use crate::template::tree::{DecoratorTemplate, HelperTemplate, Parameter, Subexpression};
 use handlebars_base::json::path::Path;
 use handlebars_lines::line::{
     Enclosure, LineStand, NameMode, Step, path_alone, path_named, take_step,
@@ -74,6 +77,54 @@ impl BuiltLine<'_> {
             refused: _,
         } = self;
         Subexpression::new(alloc, name, params, hash)
+    }
+
+    /// An inclusion without a block, with this indentation.
+    pub fn inclusion(self, indent: Option<String>, indent_before_write: bool) -> DecoratorTemplate
+        ensures { decorator_view result
+            ≡ decorator (param_view self.entry.name) (arguments_view self.entry.arguments) no_body
+            (record { indent = option_map string_bytes indent; indent_before_write = indent_before_write }) }
+    {
+        let BuiltLine {
+            name,
+            arguments: Arguments { params, hash },
+            refused: _,
+        } = self;
+        DecoratorTemplate {
+            name,
+            params,
+            hash,
+            template: None,
+            indent,
+            indent_before_write,
+        }
+    }
+
+    /// What the opening tag of an inclusion's block says, which this text closes.
+    pub fn opening(self, closing: String, indent_before_write: bool) -> BlockOpening
+        ensures { opening_view result
+            ≡ record {
+              kind = partial_opening;
+              name = param_view self.entry.name;
+              closing = string_bytes closing;
+              arguments = arguments_view self.entry.arguments;
+              binding = no_binding;
+              indent = indent_before_write;
+            } }
+    {
+        let BuiltLine {
+            name,
+            arguments,
+            refused: _,
+        } = self;
+        BlockOpening {
+            kind: BlockKind::Partial,
+            name,
+            closing,
+            arguments,
+            names: BlockNames::Unbound,
+            indent_before_write,
+        }
     }
 
     /// The arguments alone.

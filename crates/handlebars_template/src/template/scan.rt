@@ -78,7 +78,7 @@ fn trimmed_text<'a>(
     ensures { result.now
         ≡ trimmed (options_view options.now) (edge_view before.entry) kept.now (edge_view behind.entry) }
 {
-    trimmed(before, kept, behind)
+    trimmed(options.prevent_indent, before, kept, behind)
 }
 
 // Whether these edges take nothing from the text between them.

@@ -1,25 +1,25 @@
 //! What is built of tags, and how they stand in the nesting.
 
-ghost use Rattle.std.specs.Prelude.{◌≡◌, None, IfOk, OnOk};
+ghost use Rattle.std.specs.Prelude.{◌≡◌, None, IfOk, OnOk, option_map, string_bytes};
 ghost use Rattle.handlebars_base.specs.Bytes.{Text};
 ghost use Rattle.handlebars_base.specs.PathView.{reference_of};
-ghost use Rattle.handlebars_lines.specs.Line.{value_name, Line, in_tag, IsLine};
+ghost use Rattle.handlebars_lines.specs.Line.{value_name, close_name, Line, in_tag, IsLine};
 ghost use Rattle.handlebars_lines.specs.BindingView.{bound_names_of};
 ghost use Rattle.handlebars_tags.specs.Tag.{Tag, tag_depth, is_raw_close, BlockLine};
 ghost use Rattle.handlebars_tags.specs.Options.{Options};
-ghost use Rattle.handlebars_tags.specs.Trim.{Edge as TextEdge, may_stand_alone, opens_raw, edge_with};
+ghost use Rattle.handlebars_tags.specs.Trim.{Edge as TextEdge, may_stand_alone, opens_raw, takes_blanks, edge_with};
 ghost use Rattle.handlebars_tags.specs.TrimView.{edge_view};
 ghost use Rattle.handlebars_tags.specs.TagView.{Holds, IsBlockSlice};
 ghost use Rattle.handlebars_template.specs.LineBuildingView.{IsPathAlone};
 ghost use Rattle.handlebars_template.specs.OptionsView.{options_view};
 ghost use Rattle.handlebars_template.specs.Place.{Place};
-ghost use Rattle.handlebars_template.specs.TreeView.{call_view, element_view, place_of};
+ghost use Rattle.handlebars_template.specs.TreeView.{call_view, element_view, param_view, place_of};
 ghost use Rattle.handlebars_template.specs.Tree.{comment, name, no_arguments};
 ghost use Rattle.handlebars_template.specs.Nest.{leaf};
 ghost use Rattle.handlebars_template.specs.NestView.{names_view, kind_view, opening_view, early, Looks, Does};
 ghost use Rattle.handlebars_template.specs.Cut.{may_follow};
-ghost use Rattle.handlebars_template.specs.ScanView.{value_element, value_piece, block_piece, chain_piece, decorator_piece, IsOpening};
-ghost use Rattle.handlebars_template.specs.Compile.{block_binding, is_indented, tag_piece};
+ghost use Rattle.handlebars_template.specs.ScanView.{value_element, value_piece, block_piece, chain_piece, decorator_piece, partial_piece, partial_block_piece, IsOpening};
+ghost use Rattle.handlebars_template.specs.Compile.{block_binding, is_indented, closing_name, indentation, tag_piece};
 
 use crate::template::arguments::Arguments;
 use crate::template::chain::{BlockKind, BlockNames, BlockOpening};
@@ -49,6 +49,8 @@ fn may_stand_alone(content: Content<'_>) -> bool
         Content::RawClose(_) => true,
         Content::Decorator(_) => true,
         Content::DecoratorBlock(_) => true,
+        Content::Partial(_) => true,
+        Content::PartialBlock(_) => true,
         Content::Comment(_) => true,
     }
 }
@@ -67,6 +69,29 @@ fn opens_raw(content: Content<'_>) -> bool
         Content::RawClose(_) => false,
         Content::Decorator(_) => false,
         Content::DecoratorBlock(_) => false,
+        Content::Partial(_) => false,
+        Content::PartialBlock(_) => false,
+        Content::Comment(_) => false,
+    }
+}
+
+// An inclusion without a block may have the blanks before it as its indentation.
+fn takes_blanks(content: Content<'_>) -> bool
+    ensures { (tag : Tag) → Holds content.entry tag → result ≡ takes_blanks tag }
+{
+    match content {
+        Content::Partial(_) => true,
+        Content::Expression(_) => false,
+        Content::Html(_) => false,
+        Content::Block(_) => false,
+        Content::Inverse => false,
+        Content::Chain(_) => false,
+        Content::Close(_) => false,
+        Content::RawBlock(_) => false,
+        Content::RawClose(_) => false,
+        Content::Decorator(_) => false,
+        Content::DecoratorBlock(_) => false,
+        Content::PartialBlock(_) => false,
         Content::Comment(_) => false,
     }
 }
@@ -85,6 +110,8 @@ fn closes_raw(content: Content<'_>) -> bool
         Content::RawBlock(_) => false,
         Content::Decorator(_) => false,
         Content::DecoratorBlock(_) => false,
+        Content::Partial(_) => false,
+        Content::PartialBlock(_) => false,
         Content::Comment(_) => false,
     }
 }
@@ -107,6 +134,7 @@ pub fn edge_behind<'s>(fresh: bool, blanks: &'s str, tag: TagSlice<'_>) -> Edge<
         left: tag.left,
         right: tag.right,
         is_raw: opens_raw(tag.content),
+        takes_blanks: takes_blanks(tag.content),
     };
     edge_at(fresh, sides, tag.rest)
 }
@@ -127,6 +155,8 @@ pub fn look(nesting: &Nesting, content: Content<'_>, depth: usize) -> Option<Syn
         Content::RawClose(name) => nesting.look_at_close(true, name),
         Content::Decorator(_) => nesting.look_at_leaf(depth),
         Content::DecoratorBlock(_) => nesting.look_at_opening(depth),
+        Content::Partial(_) => nesting.look_at_leaf(depth),
+        Content::PartialBlock(_) => nesting.look_at_opening(depth),
         Content::Comment(_) => nesting.look_at_leaf(0),
     }
 }
@@ -145,9 +175,9 @@ fn block_names(alloc: Global, binding: BoundNames<'_>) -> Result<BlockNames, All
     }
 }
 
-// Indentation goes before what a block writes where its tag stands alone, without a tilde in front.
-fn is_indented(options: &TemplateOptions, edge: Edge<'_>) -> bool
-    ensures { result ≡ is_indented (options_view options.now) (edge_view edge.entry) }
+// Indentation goes before what a tag writes where it stands alone, without a tilde in front.
+fn is_indented(edge: Edge<'_>) -> bool
+    ensures { result ≡ is_indented (edge_view edge.entry) }
 {
     edge.standalone && !edge.left
 }
@@ -162,7 +192,6 @@ struct BuiltOpening<'a> {
 // With no arguments yet.
 fn bare_opening(
     alloc: Global,
-    options: &TemplateOptions,
     block: BlockSlice<'_>,
     kind: BlockKind,
     edge: Edge<'_>,
@@ -174,7 +203,7 @@ fn bare_opening(
           closing = block.entry.name.now;
           arguments = no_arguments;
           binding = block_binding (bound_names_of block.entry.binding);
-          indent = is_indented (options_view options.now) (edge_view edge.entry);
+          indent = is_indented (edge_view edge.entry);
         }) }
 {
     let name = String::from_str(alloc, block.name)?;
@@ -186,25 +215,24 @@ fn bare_opening(
         closing,
         arguments: Arguments::new(alloc),
         names,
-        indent_before_write: is_indented(options, edge),
+        indent_before_write: is_indented(edge),
     })
 }
 
 // Where no line of a block stands there, the answer says nothing.
 fn opening<'a>(
     alloc: Global,
-    options: &TemplateOptions,
     block: BlockSlice<'a>,
     kind: BlockKind,
     edge: Edge<'_>,
 ) -> Result<Option<BuiltOpening<'a>>, AllocError>
     ensures { IfOk result (λ built. (line : BlockLine) (rest : Text) → IsBlockSlice block.entry line rest
-        → IsOpening (options_view options.now) (kind_view kind) (edge_view edge.entry) line built) }
+        → IsOpening (kind_view kind) (edge_view edge.entry) line built) }
 {
     let Some(arguments) = named_arguments(alloc, block.line)? else {
-        return opening_by_terms(alloc, options, block, kind, edge);
+        return opening_by_terms(alloc, block, kind, edge);
     };
-    let mut opening = bare_opening(alloc, options, block, kind, edge)?;
+    let mut opening = bare_opening(alloc, block, kind, edge)?;
     opening.arguments = arguments;
     Ok(Some(BuiltOpening {
         opening,
@@ -216,18 +244,17 @@ fn opening<'a>(
 #[inline(never)]
 fn opening_by_terms<'a>(
     alloc: Global,
-    options: &TemplateOptions,
     block: BlockSlice<'a>,
     kind: BlockKind,
     edge: Edge<'_>,
 ) -> Result<Option<BuiltOpening<'a>>, AllocError>
     ensures { IfOk result (λ built. (line : BlockLine) (rest : Text) → IsBlockSlice block.entry line rest
-        → IsOpening (options_view options.now) (kind_view kind) (edge_view edge.entry) line built) }
+        → IsOpening (kind_view kind) (edge_view edge.entry) line built) }
 {
     let Some(line) = build_terms(alloc, NameMode::Identifier, Enclosure::Block, block.line)? else {
         return Ok(None);
     };
-    let mut opening = bare_opening(alloc, options, block, kind, edge)?;
+    let mut opening = bare_opening(alloc, block, kind, edge)?;
     let refused = line.refused;
     opening.arguments = line.into_arguments();
     Ok(Some(BuiltOpening { opening, refused }))
@@ -298,17 +325,15 @@ fn add_terms(
 fn begin(
     alloc: Global,
     nesting: &mut Nesting,
-    options: &TemplateOptions,
     at: TemplateMapping,
     block: BlockSlice<'_>,
     kind: BlockKind,
     edge: Edge<'_>,
 ) -> Result<(), AllocError>
     ensures { OnOk result ((line : BlockLine) (rest : Text) → IsBlockSlice block.entry line rest
-        → Does nesting.old (block_piece (options_view options.now) (kind_view kind) (place_of at) (edge_view edge.entry) line)
-        nesting.new) }
+        → Does nesting.old (block_piece (kind_view kind) (place_of at) (edge_view edge.entry) line) nesting.new) }
 {
-    match opening(alloc, options, block, kind, edge)? {
+    match opening(alloc, block, kind, edge)? {
         Some(built) => nesting.begin(alloc, at, built.opening, built.refused),
         None => Ok(()),
     }
@@ -318,15 +343,14 @@ fn begin(
 fn chain(
     alloc: Global,
     nesting: &mut Nesting,
-    options: &TemplateOptions,
     at: TemplateMapping,
     block: BlockSlice<'_>,
     edge: Edge<'_>,
 ) -> Result<(), AllocError>
     ensures { OnOk result ((line : BlockLine) (rest : Text) → IsBlockSlice block.entry line rest
-        → Does nesting.old (chain_piece (options_view options.now) (place_of at) (edge_view edge.entry) line) nesting.new) }
+        → Does nesting.old (chain_piece (place_of at) (edge_view edge.entry) line) nesting.new) }
 {
-    match opening(alloc, options, block, BlockKind::Helper, edge)? {
+    match opening(alloc, block, BlockKind::Helper, edge)? {
         Some(built) => nesting.chain(alloc, at, built.opening, built.refused),
         None => Ok(()),
     }
@@ -336,15 +360,14 @@ fn chain(
 fn add_decorator(
     alloc: Global,
     nesting: &mut Nesting,
-    options: &TemplateOptions,
     at: TemplateMapping,
     block: BlockSlice<'_>,
     edge: Edge<'_>,
 ) -> Result<(), AllocError>
     ensures { OnOk result ((line : BlockLine) (rest : Text) → IsBlockSlice block.entry line rest
-        → Does nesting.old (decorator_piece (options_view options.now) (place_of at) (edge_view edge.entry) line) nesting.new) }
+        → Does nesting.old (decorator_piece (place_of at) (edge_view edge.entry) line) nesting.new) }
 {
-    let Some(built) = opening(alloc, options, block, BlockKind::Decorator, edge)? else {
+    let Some(built) = opening(alloc, block, BlockKind::Decorator, edge)? else {
         return Ok(());
     };
     let refused = built.refused;
@@ -355,6 +378,70 @@ fn add_decorator(
         TemplateElement::DecoratorExpression(tag),
         refused,
     )
+}
+
+// The blanks before an inclusion without a block, where they are its indentation.
+fn indentation(
+    alloc: Global,
+    options: &TemplateOptions,
+    edge: Edge<'_>,
+) -> Result<Option<String>, AllocError>
+    ensures { IfOk result (λ indent. option_map string_bytes indent
+        ≡ indentation (options_view options.now) (edge_view edge.entry)) }
+{
+    if options.prevent_indent || edge.left || edge.blanks.is_empty() {
+        return Ok(None);
+    }
+    Ok(Some(String::from_str(alloc, edge.blanks)?))
+}
+
+#[inline(never)]
+fn add_partial(
+    alloc: Global,
+    nesting: &mut Nesting,
+    options: &TemplateOptions,
+    at: TemplateMapping,
+    text: &str,
+    edge: Edge<'_>,
+) -> Result<(), AllocError>
+    ensures { OnOk result ((line : Line) (rest : Text) → IsLine close_name in_tag text.now line rest
+        → Does nesting.old (partial_piece (options_view options.now) (place_of at) (edge_view edge.entry) line) nesting.new) }
+{
+    let Some(line) = build_terms(alloc, NameMode::Close, Enclosure::Tag, text)? else {
+        return Ok(());
+    };
+    let refused = line.refused;
+    let indent = indentation(alloc, options, edge)?;
+    let tag = Box::new(alloc, line.inclusion(indent, is_indented(edge)))?;
+    nesting.add(alloc, at, TemplateElement::PartialExpression(tag), refused)
+}
+
+// The name that closes the block of an inclusion.
+fn closing_name(alloc: Global, name: &Parameter) -> Result<String, AllocError>
+    ensures { IfOk result (λ closing. string_bytes closing ≡ closing_name (param_view name.now)) }
+{
+    let closing = name.as_name().unwrap_or("(subexpression)");
+    Ok(String::from_str(alloc, closing)?)
+}
+
+#[inline(never)]
+fn begin_partial(
+    alloc: Global,
+    nesting: &mut Nesting,
+    at: TemplateMapping,
+    text: &str,
+    edge: Edge<'_>,
+) -> Result<(), AllocError>
+    ensures { OnOk result ((line : Line) (rest : Text) → IsLine close_name in_tag text.now line rest
+        → Does nesting.old (partial_block_piece (place_of at) (edge_view edge.entry) line) nesting.new) }
+{
+    let Some(line) = build_terms(alloc, NameMode::Close, Enclosure::Tag, text)? else {
+        return Ok(());
+    };
+    let refused = line.refused;
+    let closing = closing_name(alloc, &line.name)?;
+    let opening = line.opening(closing, is_indented(edge));
+    nesting.begin(alloc, at, opening, refused)
 }
 
 #[inline(never)]
@@ -385,24 +472,18 @@ pub fn take_tag(
     match content {
         Content::Expression(text) => add_value(alloc, nesting, at, text, true),
         Content::Html(text) => add_value(alloc, nesting, at, text, false),
-        Content::Block(block) => begin(alloc, nesting, options, at, block, BlockKind::Helper, edge),
+        Content::Block(block) => begin(alloc, nesting, at, block, BlockKind::Helper, edge),
         Content::Inverse => nesting.invert(alloc, at),
-        Content::Chain(block) => chain(alloc, nesting, options, at, block, edge),
+        Content::Chain(block) => chain(alloc, nesting, at, block, edge),
         Content::Close(name) => nesting.close(alloc, at, false, name),
-        Content::RawBlock(block) => begin(alloc, nesting, options, at, block, BlockKind::Raw, edge),
+        Content::RawBlock(block) => begin(alloc, nesting, at, block, BlockKind::Raw, edge),
         Content::RawClose(name) => nesting.close(alloc, at, true, name),
-        Content::Decorator(block) => add_decorator(alloc, nesting, options, at, block, edge),
+        Content::Decorator(block) => add_decorator(alloc, nesting, at, block, edge),
         Content::DecoratorBlock(block) => {
-            begin(
-                alloc,
-                nesting,
-                options,
-                at,
-                block,
-                BlockKind::Decorator,
-                edge,
-            )
+            begin(alloc, nesting, at, block, BlockKind::Decorator, edge)
         }
+        Content::Partial(text) => add_partial(alloc, nesting, options, at, text, edge),
+        Content::PartialBlock(text) => begin_partial(alloc, nesting, at, text, edge),
         Content::Comment(text) => add_comment(alloc, nesting, at, text),
     }
 }

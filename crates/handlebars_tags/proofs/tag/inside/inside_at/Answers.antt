@@ -2,7 +2,7 @@ use Rattle.std.proofs.Common.{Some, sym, ap, ◌∙◌}
 use Rattle.handlebars_tags.specs.Kind.{block_kind, close_kind, else_kind, raw_kind, raw_close_kind, decorator_kind, decorator_block_kind}
 use Rattle.handlebars_tags.specs.KindView.{kind_of}
 use Rattle.handlebars_tags.proofs.InsidesRead.{inverse_read}
-use Rattle.handlebars_tags.proofs.InsideAt.{plain_reads, plain_reads-Ok, expression_reads, html_reads, html_sign_reads, behind_braces}
+use Rattle.handlebars_tags.proofs.InsideAt.{plain_reads, plain_reads-Ok, expression_reads, html_reads, html_sign_reads, partial_reads, partial_block_reads, behind_braces}
 use Rattle.handlebars_tags.proofs.tag.inside.inside_at.Goals as goal
 
 pub comment-requires-clause-begins : goal.comment-requires-clause-begins
@@ -42,6 +42,12 @@ returns-in-Decorator-clause-reads c = rw (c.in-Decorator.is) (plain_reads-Ok dec
 
 pub returns-in-DecoratorBlock-clause-reads : goal.returns-in-DecoratorBlock-clause-reads
 returns-in-DecoratorBlock-clause-reads c = rw (c.in-DecoratorBlock.is) (plain_reads-Ok decorator_block_kind c.args.begins.inside.now c.decorator_block.result c.decorator_block.ensures)
+
+pub returns-in-Partial-clause-reads : goal.returns-in-Partial-clause-reads
+returns-in-Partial-clause-reads c = rw (c.in-Partial.is) (partial_reads c.args.begins.inside c.inclusion.result c.inclusion.ensures)
+
+pub returns-in-PartialBlock-clause-reads : goal.returns-in-PartialBlock-clause-reads
+returns-in-PartialBlock-clause-reads c = rw (c.in-PartialBlock.is) (partial_block_reads c.args.begins.inside c.inclusion-in-PartialBlock.result c.inclusion-in-PartialBlock.ensures)
 
 pub returns-in-Comment-clause-reads : goal.returns-in-Comment-clause-reads
 returns-in-Comment-clause-reads c =

@@ -1,11 +1,9 @@
 use Rattle.std.proofs.Common.{◌∙◌, ap}
 use Rattle.std.proofs.lemmas.Result.{on_ok_weaker}
-use Rattle.handlebars_tags.specs.TrimView.{edge_view}
-use Rattle.handlebars_template.specs.OptionsView.{options_view}
 use Rattle.handlebars_template.specs.Tree.{decorator_expression, no_body}
 use Rattle.handlebars_template.specs.TreeView.{decorator_view, place_of}
 use Rattle.handlebars_template.specs.Nest.{decorator_with}
-use Rattle.handlebars_template.proofs.TagsBuilt.{Does-decorator}
+use Rattle.handlebars_template.proofs.TagsBuilt.{Does-leaf}
 use Rattle.handlebars_template.proofs.Levels.{element_view-DecoratorExpression}
 use Rattle.handlebars_template.proofs.template.tags.add_decorator.Goals as goal
 
@@ -17,7 +15,7 @@ pub returns : goal.returns
 returns c = on_ok_weaker c.add.result
     (λ does line rest is.
     let built = rw c.in-Some.is at c.in_ok-built.ensures line rest is in
-    Does-decorator (options_view c.args.options.now) c.args.nesting.now c.add.new.self (place_of c.args.at) (edge_view c.args.edge) line _ _
+    Does-leaf c.args.nesting.now c.add.new.self (place_of c.args.at) line.depth _ _ _ _
     (element_view-DecoratorExpression c.in_ok-tag.tag ∙ ap decorator_expression (ap decorator_view c.in_ok-tag.ensures.ok ∙ c.decorator.ensures ∙ ap (λ o. decorator_with o no_body) built.opening))
     built.refused does)
     c.add.ensures

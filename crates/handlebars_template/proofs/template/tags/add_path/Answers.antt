@@ -4,7 +4,7 @@ use Rattle.handlebars_lines.specs.Parameter.{Term, Terms}
 use Rattle.handlebars_template.specs.Calls.{first_refused, literals_of, literals_in, line_literals}
 use Rattle.handlebars_template.specs.TreeView.{call_view, place_of}
 use Rattle.handlebars_template.specs.ScanView.{value_element}
-use Rattle.handlebars_template.proofs.TagsBuilt.{Does-value}
+use Rattle.handlebars_template.proofs.TagsBuilt.{Does-leaf}
 use Rattle.handlebars_template.proofs.template.tags.add_path.Goals as goal
 
 -- A path has no literals.
@@ -14,5 +14,5 @@ returns c = on_ok_weaker c.add.result
     let built = c.path_line.ensures line alone in
     let none : first_refused (line_literals line) ≡ None =
     ap (λ (t : Term). first_refused (literals_of t ++ literals_in line.terms)) alone.name ∙ ap (λ (ts : Terms). first_refused (literals_in ts)) alone.terms in
-    Does-value c.args.nesting.now c.add.new.self (place_of c.args.at) c.args.is_escaped line _ None (c.value_element.ensures ∙ ap (value_element c.args.is_escaped) (ap call_view c.in_ok-call.ensures.ok ∙ c.call.ensures ∙ built.call)) (sym none) does)
+    Does-leaf c.args.nesting.now c.add.new.self (place_of c.args.at) line.depth _ _ None _ (c.value_element.ensures ∙ ap (value_element c.args.is_escaped) (ap call_view c.in_ok-call.ensures.ok ∙ c.call.ensures ∙ built.call)) (sym none) does)
     c.add.ensures

@@ -2,7 +2,7 @@ use Rattle.std.proofs.Common.{◌∙◌, ap}
 use Rattle.std.proofs.lemmas.Result.{on_ok_weaker}
 use Rattle.handlebars_template.specs.TreeView.{call_view, place_of}
 use Rattle.handlebars_template.specs.ScanView.{value_element}
-use Rattle.handlebars_template.proofs.TagsBuilt.{Does-value}
+use Rattle.handlebars_template.proofs.TagsBuilt.{Does-leaf}
 use Rattle.handlebars_template.proofs.template.tags.add_terms.Goals as goal
 
 -- A line stands there, so it was built.
@@ -13,5 +13,5 @@ pub returns : goal.returns
 returns c = on_ok_weaker c.add.result
     (λ does line rest is.
     let built = rw c.in-Some.is at c.in_ok-line.ensures line rest is in
-    Does-value c.args.nesting.now c.add.new.self (place_of c.args.at) c.args.is_escaped line _ _ (c.value_element.ensures ∙ ap (value_element c.args.is_escaped) (ap call_view c.in_ok-call.ensures.ok ∙ c.call.ensures ∙ built.call)) built.refused does)
+    Does-leaf c.args.nesting.now c.add.new.self (place_of c.args.at) line.depth _ _ _ _ (c.value_element.ensures ∙ ap (value_element c.args.is_escaped) (ap call_view c.in_ok-call.ensures.ok ∙ c.call.ensures ∙ built.call)) built.refused does)
     c.add.ensures

@@ -1,6 +1,5 @@
 use Rattle.std.proofs.lemmas.Result.{on_ok_weaker}
 use Rattle.handlebars_tags.specs.TrimView.{edge_view}
-use Rattle.handlebars_template.specs.OptionsView.{options_view}
 use Rattle.handlebars_template.specs.TreeView.{place_of}
 use Rattle.handlebars_template.specs.NestView.{kind_view}
 use Rattle.handlebars_template.proofs.TagsBuilt.{Does-opens}
@@ -11,4 +10,4 @@ pub returns-in-None : goal.returns-in-None
 returns-in-None c line rest is may = absurd (rw c.in-None.is at c.in_ok-built.ensures line rest is)
 
 pub returns-in-Some : goal.returns-in-Some
-returns-in-Some c = on_ok_weaker c.begin.result (λ does line rest is. Does-opens (options_view c.args.options.now) c.args.nesting.now c.begin.new.self (place_of c.args.at) (edge_view c.args.edge) line (kind_view c.args.kind) c.in-Some.built (rw c.in-Some.is at c.in_ok-built.ensures line rest is) does) c.begin.ensures
+returns-in-Some c = on_ok_weaker c.begin.result (λ does line rest is. Does-opens c.args.nesting.now c.begin.new.self (place_of c.args.at) (edge_view c.args.edge) line (kind_view c.args.kind) c.in-Some.built (rw c.in-Some.is at c.in_ok-built.ensures line rest is) does) c.begin.ensures

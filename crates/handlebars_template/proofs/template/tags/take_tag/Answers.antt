@@ -1,5 +1,6 @@
 use Rattle.std.proofs.lemmas.Result.{on_ok_weaker}
-use Rattle.handlebars_tags.specs.Tag.{expression_tag, html_tag, block_tag, chain_tag, raw_tag, decorator_tag, decorator_block_tag}
+use Rattle.handlebars_lines.specs.Line.{value_name, close_name}
+use Rattle.handlebars_tags.specs.Tag.{expression_tag, html_tag, block_tag, chain_tag, raw_tag, decorator_tag, decorator_block_tag, partial_tag, partial_block_tag}
 use Rattle.handlebars_tags.specs.TrimView.{edge_view}
 use Rattle.handlebars_template.specs.OptionsView.{options_view}
 use Rattle.handlebars_template.specs.TreeView.{place_of}
@@ -7,10 +8,10 @@ use Rattle.handlebars_template.proofs.TagsBuilt.{Does-line, Does-block}
 use Rattle.handlebars_template.proofs.template.tags.take_tag.Goals as goal
 
 pub returns-in-Expression : goal.returns-in-Expression
-returns-in-Expression c = on_ok_weaker c.add_value.result (λ does tag holds. Does-line (options_view c.args.options.now) c.args.nesting.now c.add_value.new.nesting (place_of c.args.at) (edge_view c.args.edge) expression_tag _ tag (rw c.in-Expression.is at holds) does) c.add_value.ensures
+returns-in-Expression c = on_ok_weaker c.add_value.result (λ does tag holds. Does-line (options_view c.args.options.now) c.args.nesting.now c.add_value.new.nesting (place_of c.args.at) (edge_view c.args.edge) value_name expression_tag _ tag (rw c.in-Expression.is at holds) does) c.add_value.ensures
 
 pub returns-in-Html : goal.returns-in-Html
-returns-in-Html c = on_ok_weaker c.add_value-in-Html.result (λ does tag holds. Does-line (options_view c.args.options.now) c.args.nesting.now c.add_value-in-Html.new.nesting (place_of c.args.at) (edge_view c.args.edge) html_tag _ tag (rw c.in-Html.is at holds) does) c.add_value-in-Html.ensures
+returns-in-Html c = on_ok_weaker c.add_value-in-Html.result (λ does tag holds. Does-line (options_view c.args.options.now) c.args.nesting.now c.add_value-in-Html.new.nesting (place_of c.args.at) (edge_view c.args.edge) value_name html_tag _ tag (rw c.in-Html.is at holds) does) c.add_value-in-Html.ensures
 
 pub returns-in-Block : goal.returns-in-Block
 returns-in-Block c = on_ok_weaker c.begin.result (λ does tag holds. Does-block (options_view c.args.options.now) c.args.nesting.now c.begin.new.nesting (place_of c.args.at) (edge_view c.args.edge) block_tag _ tag (rw c.in-Block.is at holds) does) c.begin.ensures
@@ -26,3 +27,9 @@ returns-in-Decorator c = on_ok_weaker c.add_decorator.result (λ does tag holds.
 
 pub returns-in-DecoratorBlock : goal.returns-in-DecoratorBlock
 returns-in-DecoratorBlock c = on_ok_weaker c.begin-in-DecoratorBlock.result (λ does tag holds. Does-block (options_view c.args.options.now) c.args.nesting.now c.begin-in-DecoratorBlock.new.nesting (place_of c.args.at) (edge_view c.args.edge) decorator_block_tag _ tag (rw c.in-DecoratorBlock.is at holds) does) c.begin-in-DecoratorBlock.ensures
+
+pub returns-in-Partial : goal.returns-in-Partial
+returns-in-Partial c = on_ok_weaker c.add_partial.result (λ does tag holds. Does-line (options_view c.args.options.now) c.args.nesting.now c.add_partial.new.nesting (place_of c.args.at) (edge_view c.args.edge) close_name partial_tag _ tag (rw c.in-Partial.is at holds) does) c.add_partial.ensures
+
+pub returns-in-PartialBlock : goal.returns-in-PartialBlock
+returns-in-PartialBlock c = on_ok_weaker c.begin_partial.result (λ does tag holds. Does-line (options_view c.args.options.now) c.args.nesting.now c.begin_partial.new.nesting (place_of c.args.at) (edge_view c.args.edge) close_name partial_block_tag _ tag (rw c.in-PartialBlock.is at holds) does) c.begin_partial.ensures
