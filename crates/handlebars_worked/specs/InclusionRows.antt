@@ -108,8 +108,11 @@ NotIndentedRow = Includes x_and_y null (unnamed (raw_string (codes "a\n  ") ∷ 
 -- too.
 abbrev pub NestedIndentRow : Type 0
 NestedIndentRow = Includes
-    ((codes "p", called (codes "p") (raw_string (codes "(\n") ∷ includes_at (indented_by (codes "  ")) (codes "q")
-    ∷ raw_string (codes ")\n") ∷ []))
+    ((
+      codes "p",
+      called (codes "p") (raw_string (codes "(\n") ∷ includes_at (indented_by (codes "  ")) (codes "q")
+          ∷ raw_string (codes ")\n") ∷ []),
+    )
     ∷ (codes "q", called (codes "q") (raw_string (codes "x\n\ny\n") ∷ [])) ∷ [])
     null (unnamed (includes_at (indented_by (codes " ")) (codes "p") ∷ raw_string (codes "b") ∷ []))
     (codes " (\n   x\n   \n   y\n )\nb")
@@ -158,8 +161,10 @@ MergedRow = Includes ((codes "p", called (codes "p") (show (codes "1") ∷ show 
 -- ---- blocks that are rendered ahead
 
 abbrev pub layout : Named
-layout = (codes "layout",
-    called (codes "layout") (raw_string (codes "<b>") ∷ kept_block ∷ raw_string (codes "</b>") ∷ [])) ∷ []
+layout = (
+  codes "layout",
+  called (codes "layout") (raw_string (codes "<b>") ∷ kept_block ∷ raw_string (codes "</b>") ∷ []),
+) ∷ []
 
 -- The block of a tag is rendered, and its text stands where the partial asks for it.
 abbrev pub LayoutRow : Type 0
@@ -193,7 +198,7 @@ SelfRow = IsRefusedWith 64 [] (called (codes "t") (includes (codes "t") ∷ []))
 -- With a limit of 0 nothing is included.
 abbrev pub NoRoomRow : Type 0
 NoRoomRow = IsRefusedWith 0 ((codes "p", called (codes "p") (raw_string (codes "x") ∷ [])) ∷ [])
-    (unnamed (includes (codes "p") ∷ [])) [] (plain_refusal (inclusion_limit 0))
+    (unnamed (includes (codes "p") ∷ [])) (plain_refusal (inclusion_limit 0))
 
 -- Behind a block no name is current, so a template may include itself there, up to the limit.
 abbrev pub self_behind_block : Tree
