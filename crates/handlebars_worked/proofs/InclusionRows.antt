@@ -43,7 +43,7 @@ unfolding ◌>>=◌ ◌>>◌ digits
 next_turn_row = gives_text (is_stored refl) (tree_run _ none_own _) refl
 
 pub merged_row : MergedRow
-unfolding ◌>>=◌ ◌>>◌ digits escaped chars
+unfolding ◌>>=◌ ◌>>◌ digits escaped chars encode_utf8
 merged_row = gives_text (is_stored refl) (tree_run _ none_own _) refl
 
 pub layout_row : LayoutRow

@@ -10,3 +10,4 @@ mod OwnRows
 mod DecoratorRows
 mod DeedRows
 mod InclusionRows
+mod KeptRows

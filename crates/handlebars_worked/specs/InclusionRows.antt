@@ -1,21 +1,20 @@
 -- Worked inclusions, in trees by hand, each with what it writes or why it is refused.
-use Rattle.std.specs.Prelude.{◌≡◌, ℕ, List, [], ◌∷◌, ◌++◌, None, Some, Option, codes, Bool, true, false}
+use Rattle.std.specs.Prelude.{◌≡◌, ℕ, List, [], ◌∷◌, None, Some, Option, codes, true, false}
 use Rattle.std.specs.Map.{lookup}
 use Rattle.std.specs.Str.{bytes_eq}
-use Rattle.serde_json.specs.Data.{Data, null, number, unsigned, string, no_members, member}
-use Rattle.handlebars_base.specs.Bytes.{Text, newline}
-use Rattle.handlebars_base.specs.Path.{named, relative, variable}
-use Rattle.handlebars_base.specs.Reasons.{Reason, Refusal, cannot_include_self, inclusion_limit, param_not_found_for_name, partial_block_not_found, partial_not_found}
+use Rattle.serde_json.specs.Data.{Data, null, number, unsigned, string}
+use Rattle.handlebars_base.specs.Bytes.{Text}
+use Rattle.handlebars_base.specs.Path.{relative, variable}
+use Rattle.handlebars_base.specs.Reasons.{Refusal, cannot_include_self, inclusion_limit, param_not_found_for_name, partial_block_not_found, partial_not_found}
 use Rattle.handlebars_base.specs.RenderRefusals.{plain_refusal}
-use Rattle.handlebars_template.specs.Place.{Place}
-use Rattle.handlebars_template.specs.Tree.{Tree, tree, elements_of, Element, raw_string, expression, partial_expression, partial_block, decorator_block, decorator, DecoratorMarks, args, no_arguments, Body, no_body, body, no_pairs, pair, no_params, param, params_of, Param, name, path, literal, subexpression}
+use Rattle.handlebars_template.specs.Tree.{Tree, tree, elements_of, Element, raw_string, expression, partial_expression, partial_block, decorator_block, decorator, DecoratorMarks, args, no_arguments, no_body, body, no_pairs, pair, no_params, name, path, literal, subexpression}
 use Rattle.handlebars_meaning.specs.Answer.{FromName, GivesText, RenderAnswers}
 use Rattle.handlebars_meaning.specs.Pieces.{Piece, join}
 use Rattle.handlebars_meaning.specs.Runs.{Refused}
 use Rattle.handlebars_meaning.specs.State.{Setting}
 use Rattle.handlebars_worked.specs.DecoratorRows.{inline_p}
 use Rattle.handlebars_worked.specs.Rows.{block, call_of, first_parts, path_of, with}
-use Rattle.handlebars_worked.specs.ScopeRows.{array_of, natural, with_two}
+use Rattle.handlebars_worked.specs.ScopeRows.{array_of, natural}
 
 -- ---- registries
 
@@ -108,8 +107,11 @@ NotIndentedRow = Includes x_and_y null (unnamed (raw_string (codes "a\n  ") ∷ 
 -- too.
 abbrev pub NestedIndentRow : Type 0
 NestedIndentRow = Includes
-    ((codes "p", called (codes "p") (raw_string (codes "(\n") ∷ includes_at (indented_by (codes "  ")) (codes "q")
-    ∷ raw_string (codes ")\n") ∷ []))
+    ((
+      codes "p",
+      called (codes "p") (raw_string (codes "(\n") ∷ includes_at (indented_by (codes "  ")) (codes "q")
+          ∷ raw_string (codes ")\n") ∷ []),
+    )
     ∷ (codes "q", called (codes "q") (raw_string (codes "x\n\ny\n") ∷ [])) ∷ [])
     null (unnamed (includes_at (indented_by (codes " ")) (codes "p") ∷ raw_string (codes "b") ∷ []))
     (codes " (\n   x\n   \n   y\n )\nb")
@@ -158,8 +160,10 @@ MergedRow = Includes ((codes "p", called (codes "p") (show (codes "1") ∷ show 
 -- ---- blocks that are rendered ahead
 
 abbrev pub layout : Named
-layout = (codes "layout",
-    called (codes "layout") (raw_string (codes "<b>") ∷ kept_block ∷ raw_string (codes "</b>") ∷ [])) ∷ []
+layout = (
+  codes "layout",
+  called (codes "layout") (raw_string (codes "<b>") ∷ kept_block ∷ raw_string (codes "</b>") ∷ []),
+) ∷ []
 
 -- The block of a tag is rendered, and its text stands where the partial asks for it.
 abbrev pub LayoutRow : Type 0
@@ -193,7 +197,7 @@ SelfRow = IsRefusedWith 64 [] (called (codes "t") (includes (codes "t") ∷ []))
 -- With a limit of 0 nothing is included.
 abbrev pub NoRoomRow : Type 0
 NoRoomRow = IsRefusedWith 0 ((codes "p", called (codes "p") (raw_string (codes "x") ∷ [])) ∷ [])
-    (unnamed (includes (codes "p") ∷ [])) [] (plain_refusal (inclusion_limit 0))
+    (unnamed (includes (codes "p") ∷ [])) (plain_refusal (inclusion_limit 0))
 
 -- Behind a block no name is current, so a template may include itself there, up to the limit.
 abbrev pub self_behind_block : Tree

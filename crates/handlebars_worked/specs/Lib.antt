@@ -6,3 +6,4 @@ pub mod OwnRows
 pub mod DecoratorRows
 pub mod DeedRows
 pub mod InclusionRows
+pub mod KeptRows

@@ -14,7 +14,7 @@ mod sources;
 pub use decorators::worked_decorators;
 pub use deeds::worked_deeds;
 pub use helpers::worked_helpers;
-pub use inclusions::worked_inclusions;
+pub use inclusions::{worked_inclusions, worked_kept_texts};
 pub use own::worked_own_helpers;
 pub use rows::worked_rows;
 pub use scopes::worked_scopes;
