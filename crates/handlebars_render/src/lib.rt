@@ -18,7 +18,7 @@ mod lone;
 mod next;
 mod null;
 mod own;
-mod partial;
+pub mod partial;
 pub mod registered;
 pub mod setting;
 pub mod sink;

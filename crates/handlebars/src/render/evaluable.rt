@@ -6,20 +6,19 @@ ghost use Rattle.handlebars_base.specs.RenderRefusals.{refusal_of, plain_refusal
 ghost use Rattle.handlebars_template.specs.Tree.{tree_name};
 ghost use Rattle.handlebars_template.specs.TreeView.{tree_view, element_view};
 ghost use Rattle.handlebars_meaning.specs.Evaluation.{eval_alone, eval_tree, renamed};
-ghost use Rattle.handlebars_meaning.specs.State.{Kept};
 ghost use Rattle.handlebars_meaning.specs.Steps.{Steps};
 ghost use Rattle.handlebars_render.specs.Silent.{Evals};
-ghost use Rattle.handlebars_render.specs.View.{state_of, state_with, root_of, has_failed, without_partials};
+ghost use Rattle.handlebars_render.specs.View.{state_of, root_of, has_failed, without_partials};
 ghost use Rattle.handlebars.specs.View.{setting_of};
 
 use crate::registry::RegistryOf;
+use crate::render::call::{first_setting, settled};
 use crate::render::logging::Logging;
 use handlebars_base::error::RenderError;
 use handlebars_helpers::entries::OwnParts;
 use handlebars_render::context::RenderContext;
 use handlebars_render::evaluate::{eval_element, eval_tree};
-use handlebars_render::failure::{fail_after, ready};
-use handlebars_render::setting::Setting;
+use handlebars_render::failure::ready;
 use handlebars_scope::context::Context;
 use handlebars_template::template::{Template, TemplateElement};
 use log::Log;
@@ -42,8 +41,8 @@ pub trait Evaluable {
         rc: &mut RenderContext,
         log: &L,
     ) -> Result<(), RenderError>
-        ensures evals { (kept : Kept) → has_failed rc.old ≡ false → Evals (setting_of E.registered E.own registry.now «data».now) (steps self.now)
-            (seen self.now) (state_with kept rc.old) result (state_with kept rc.new) }
+        ensures evals { has_failed rc.old ≡ false → Evals (setting_of E.registered E.own registry.now «data».now) (steps self.now)
+            (seen self.now) (state_of rc.old) result (state_of rc.new) }
         ensures failed { has_failed rc.old ≡ true
             → IsErrAnd result (λ e. refusal_of e ≡ plain_refusal failed) × (rc.new ≡ rc.old) }
         ensures root { root_of rc.new ≡ root_of rc.old }
@@ -69,15 +68,9 @@ impl Evaluable for Template {
     ) -> Result<(), RenderError> {
         ready(rc)?;
         let parts = &Logging { registry, log };
-        let setting = Setting {
-            alloc,
-            parts,
-            given: data,
-        };
-        match eval_tree(self, &setting, rc) {
-            Ok(()) => Ok(()),
-            Err(e) => fail_after(rc, Err(e.into_error())),
-        }
+        let setting = first_setting(alloc, parts, data);
+        let answer = eval_tree(self, &setting, rc);
+        settled(rc, answer)
     }
 }
 
@@ -97,14 +90,8 @@ impl Evaluable for TemplateElement {
     ) -> Result<(), RenderError> {
         ready(rc)?;
         let parts = &Logging { registry, log };
-        let setting = Setting {
-            alloc,
-            parts,
-            given: data,
-        };
-        match eval_element(self, &setting, rc) {
-            Ok(()) => Ok(()),
-            Err(e) => fail_after(rc, Err(e.into_error())),
-        }
+        let setting = first_setting(alloc, parts, data);
+        let answer = eval_element(self, &setting, rc);
+        settled(rc, answer)
     }
 }

@@ -8,18 +8,17 @@ ghost use Rattle.handlebars_base.specs.RenderRefusals.{refusal_of, plain_refusal
 ghost use Rattle.handlebars_template.specs.Tree.{Param};
 ghost use Rattle.handlebars_template.specs.TreeView.{param_view};
 ghost use Rattle.handlebars_meaning.specs.Values.{HasName, HasWrittenValue};
-ghost use Rattle.handlebars_meaning.specs.State.{Kept};
-ghost use Rattle.handlebars_render.specs.View.{state_of, state_with, root_of, has_failed, Yields};
+ghost use Rattle.handlebars_render.specs.View.{state_of, root_of, has_failed, Yields};
 ghost use Rattle.handlebars.specs.View.{setting_of};
 
 use crate::registry::RegistryOf;
+use crate::render::call::first_setting;
 use crate::render::logging::Logging;
 use handlebars_base::error::RenderError;
 use handlebars_base::json::value::PathAndJson;
 use handlebars_helpers::entries::OwnParts;
 use handlebars_render::context::RenderContext;
 use handlebars_render::failure::{fail_after, ready};
-use handlebars_render::setting::Setting;
 use handlebars_render::value;
 use handlebars_scope::context::Context;
 use handlebars_template::template::Parameter;
@@ -43,8 +42,8 @@ pub trait Expand {
         rc: &mut RenderContext,
         log: &L,
     ) -> Result<PathAndJson<'rc>, RenderError>
-        ensures expands { (kept : Kept) → has_failed rc.old ≡ false → Yields
-            (HasWrittenValue (setting_of E.registered E.own registry.now «data».now) (state_with kept rc.old) (param self.now))
+        ensures expands { has_failed rc.old ≡ false → Yields
+            (HasWrittenValue (setting_of E.registered E.own registry.now «data».now) (state_of rc.old) (param self.now))
             path_and_data result }
         ensures failed { has_failed rc.old ≡ true
             → IsErrAnd result (λ e. refusal_of e ≡ plain_refusal failed) × (rc.new ≡ rc.old) }
@@ -62,8 +61,8 @@ pub trait Expand {
         rc: &mut RenderContext,
         log: &L,
     ) -> Result<CowStr<'rc>, RenderError>
-        ensures expands { (kept : Kept) → has_failed rc.old ≡ false → Yields
-            (HasName (setting_of E.registered E.own registry.now «data».now) (state_with kept rc.old) (param self.now))
+        ensures expands { has_failed rc.old ≡ false → Yields
+            (HasName (setting_of E.registered E.own registry.now «data».now) (state_of rc.old) (param self.now))
             cow_str_bytes result }
         ensures failed { has_failed rc.old ≡ true
             → IsErrAnd result (λ e. refusal_of e ≡ plain_refusal failed) × (rc.new ≡ rc.old) }
@@ -87,11 +86,7 @@ impl Expand for Parameter {
         ready(rc)?;
         let parts = &Logging { registry, log };
         let answer = value::expand(
-            &Setting {
-                alloc,
-                parts,
-                given: data,
-            },
+            &first_setting(alloc, parts, data),
             rc,
             self,
         );
@@ -109,11 +104,7 @@ impl Expand for Parameter {
         ready(rc)?;
         let parts = &Logging { registry, log };
         let answer = value::expand_as_name(
-            &Setting {
-                alloc,
-                parts,
-                given: data,
-            },
+            &first_setting(alloc, parts, data),
             rc,
             self,
         );
