@@ -10,6 +10,7 @@ pub mod context;
 pub mod decorator;
 mod each;
 pub mod element;
+pub mod entry;
 pub mod evaluate;
 pub mod failure;
 mod inclusion;

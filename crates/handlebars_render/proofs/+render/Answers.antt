@@ -1,4 +1,4 @@
-use Rattle.std.proofs.Common.{◌∙◌, ◌+◌, true≢false, refl, sym, ap, map, Option, List, length, arith, string_bytes}
+use Rattle.std.proofs.Common.{rules, ◌∙◌, ◌+◌, true≢false, refl, sym, ap, map, option_map, Option, List, length, arith, string_bytes}
 use Rattle.std.specs.Prelude.{slice_get}
 use Rattle.handlebars_base.specs.RenderRefusals.{spot_of}
 use Rattle.handlebars_template.specs.Place.{Place}
@@ -28,7 +28,7 @@ use Rattle.handlebars_render.proofs.Branches.{carries-branch}
 use Rattle.handlebars_render.proofs.Calls.{branch_none, choice_err, choice_ok, chosen_ok, entered_as}
 use Rattle.handlebars_render.proofs.LocalCalls.{chooses-local, chooses-same, refuses-local}
 use Rattle.handlebars_render.proofs.Leaves.{carries_on-leaves}
-use Rattle.handlebars_render.proofs.Carry.{carries-done, carries-no_value, carries-out_of_memory, carries-puts, carries-run, carries-unescaped, carries_on-bracket, carries_on-done, carries_on-handed, carries_on-task, carries_on-task_over, carries_on-step, carries_on-word, restored, carries_on-in_block, carries_on-no_memory, carries_on-out_of_memory}
+use Rattle.handlebars_render.proofs.Carry.{carries-done, carries-no_value, carries-out_of_memory, carries-puts, carries-run, carries-unescaped, carries_on-bracket, carries_on-done, carries_on-handed, carries_on-task, carries_on-task_over, carries_on-step, carries_on-word, restored, carries_on-in_block, carries_on-no_memory, carries_on-no_value, carries_on-out_of_memory}
 use Rattle.handlebars_meaning.specs.State.{entered, hook}
 use Rattle.handlebars_render.proofs.Elements.{left_starts, left_goes, left_over, left_ends, whole_with}
 use Rattle.handlebars_render.proofs.Kept.{kept-refl, kept-trans, outer-kept, outer-trans}
@@ -37,6 +37,17 @@ use Rattle.handlebars_render.proofs.Silent.{carries-does}
 use Rattle.handlebars_render.proofs.Sinks.{same-refl, same-trans}
 use Rattle.handlebars_render.proofs.OwnSteps.{nothing_left, steps-end, steps-go, steps-over}
 use Rattle.handlebars_render.proofs.Turns.{below-kept, binding-seen, carries_on-turn, carries_on-with, entered-with, turns-end, turns-go, turns-no_memory, turns-over}
+use Rattle.handlebars_helpers.specs.DecoratorsView.{tag_view}
+use Rattle.handlebars_template.specs.Tree.{decorator_args, decorator_marks, decorator_name}
+use Rattle.handlebars_template.specs.TreeView.{tree_view}
+use Rattle.handlebars_meaning.specs.Inclusion.{newest}
+use Rattle.handlebars_meaning.specs.Including.{render_ahead}
+use Rattle.handlebars_meaning.specs.Means.{include_tag, line_at, on_line}
+use Rattle.handlebars_meaning.specs.Questions.{view_of}
+use Rattle.handlebars_meaning.specs.Sites.{included_at}
+use Rattle.handlebars_meaning.specs.Steps.{Whole, ask, perform}
+use Rattle.handlebars_render.proofs.Asked.{refuses-ask}
+use Rattle.handlebars_render.proofs.Includes.{begins-empty, carries_ahead-over, carries_ahead-text, includes-kept, includes-local, includes-own, includes-registered, includes-self, inclusion-ahead, inclusion-ahead_over, inclusion-no_room, inclusion-no_value, inclusion-plain, kept-none, kept-own, kept-text, tag-includes, under-same}
 use Rattle.handlebars_render.proofs.+render.Goals as goal
 
 -- ---- calls
@@ -462,3 +473,96 @@ pub each::take_turns-returns-clause-renders : goal.each::take_turns-returns-clau
 each::take_turns-returns-clause-renders g t c = λ site kept block v.
     turns-end _ _ site c.turns.invariant.number (helper_call block (call_view c.args.helper.now) v) (path_view c.args.path) _
     c.in_default.ensures (c.turns.invariant.left site kept block v)
+
+-- ---- inclusions
+
+pub partial::render_partial-returns-in-Err-clause-renders : goal.partial::render_partial-returns-in-Err-clause-renders
+partial::render_partial-returns-in-Err-clause-renders g t c = λ site kept.
+    let tag = decorator_view c.args.tag.now in
+    carries_on-handed _ _ c.in-Err.e (error_of c.new.result) c.new.ensures
+    (carries_on-no_value _ _ (ask (view_of (decorator_name tag) (decorator_args tag)))
+    (λ v. on_line (line_at (decorator_marks tag)) (include_tag site tag v)) c.in-Err.e
+    (λ other. refuses-ask _ (view_of (decorator_name tag) (decorator_args tag)) (c.in-Err.ensures kept other)))
+
+pub partial::render_partial-returns-in_err-view-clause-renders : goal.partial::render_partial-returns-in_err-view-clause-renders
+partial::render_partial-returns-in_err-view-clause-renders g t c = λ site kept.
+    carries_on-out_of_memory _ _ c.from_residual.result c.from_residual.ensures.1
+
+pub partial::render_partial-returns-clause-renders : goal.partial::render_partial-returns-clause-renders
+partial::render_partial-returns-clause-renders g t c = λ site kept.
+    let tag = decorator_view c.args.tag.now in
+    let p = setting_in g.P.Registered.parts c.args.setting.now in
+    tag-includes p g.O.Output.may_give site tag (called_view c.in-Ok.call) (tag_view c.in_ok-view.view) (c.in-Ok.ensures kept)
+    c.in_ok-view.ensures (ap (keeping kept) c.enter_partial.ensures.state)
+    (ap (keeping kept) (c.leave_call.ensures.state (state_of c.args.rc.now).line (sym c.get_indent_before_write-before.ensures)
+    (sym c.get_content_produced-produced.ensures)))
+    (c.include-answer.ensures.renders site kept)
+
+pub partial::include-returns-then-is_current_template-clause-renders : goal.partial::include-returns-then-is_current_template-clause-renders
+partial::include-returns-then-is_current_template-clause-renders g t c = λ site kept.
+    includes-self _ _ (tag_view c.args.view.now) site (error_of c.refused.result)
+    (rw c.name.ensures at (sym c.is_current_template.ensures ∙ c.if-is_current_template.true)) c.refused.ensures
+
+pub partial::include-returns-then-is_partial_block-clause-renders : goal.partial::include-returns-then-is_partial_block-clause-renders
+partial::include-returns-then-is_partial_block-clause-renders g t c = λ site kept.
+    includes-kept _ _ (tag_view c.args.view.now) site
+    (rw c.name.ensures at (sym c.is_current_template.ensures ∙ c.if-is_current_template.false))
+    (rw c.name-2.ensures at (sym c.is_partial_block.ensures ∙ c.if-is_partial_block.true))
+    (c.render_kept.ensures.renders site kept)
+
+pub partial::include-returns-in_err-found-clause-renders : goal.partial::include-returns-in_err-found-clause-renders
+partial::include-returns-in_err-found-clause-renders g t c = λ site kept.
+    carries_on-out_of_memory _ _ c.from_residual.result c.from_residual.ensures.1
+
+pub partial::include-returns-in-Some-clause-renders : goal.partial::include-returns-in-Some-clause-renders
+partial::include-returns-in-Some-clause-renders g t c = λ site kept.
+    includes-local _ _ (tag_view c.args.view.now) site (tree_view c.in-Some.tree.value)
+    (rw c.name.ensures at (sym c.is_current_template.ensures ∙ c.if-is_current_template.false))
+    (rw c.name-2.ensures at (sym c.is_partial_block.ensures ∙ c.if-is_partial_block.false))
+    (rw c.name-3.ensures at (rw c.in-Some.is at c.in_ok-found.ensures))
+    (rw c.deref.ensures at (c.include_found.ensures.renders site kept))
+
+pub partial::include-returns-in-Some-template-clause-renders : goal.partial::include-returns-in-Some-template-clause-renders
+partial::include-returns-in-Some-template-clause-renders g t c = λ site kept.
+    includes-registered _ _ (tag_view c.args.view.now) site (tree_view c.in-Some-template.tree.now)
+    (rw c.name.ensures at (sym c.is_current_template.ensures ∙ c.if-is_current_template.false))
+    (rw c.name-2.ensures at (sym c.is_partial_block.ensures ∙ c.if-is_partial_block.false))
+    (rw c.name-3.ensures at (rw c.in-None.is at c.in_ok-found.ensures))
+    (rw c.name-in-None.ensures at c.in-Some-template.ensures)
+    (c.include_found-in-Some-template.ensures.renders site kept)
+
+pub partial::include-returns-clause-renders : goal.partial::include-returns-clause-renders
+partial::include-returns-clause-renders g t c = λ site kept.
+    includes-own _ _ (tag_view c.args.view.now) site
+    (rw c.name.ensures at (sym c.is_current_template.ensures ∙ c.if-is_current_template.false))
+    (rw c.name-2.ensures at (sym c.is_partial_block.ensures ∙ c.if-is_partial_block.false))
+    (rw c.name-3.ensures at (rw c.in-None.is at c.in_ok-found.ensures))
+    (rw c.name-in-None.ensures at c.in-None-template.ensures)
+    (c.include_own.ensures.renders site kept)
+
+pub partial::include_tree-returns-clause-renders : goal.partial::include_tree-returns-clause-renders
+partial::include_tree-returns-clause-renders g t c = λ at kept.
+    under-same _ _ (option_map (λ t. t.now) c.args.text) c.args.count (perform (Whole at (tree_view c.args.tree.now)))
+    (state_of c.args.rc.now) (state_of c.render_tree.new.rc) c.indent.ensures (λ k. c.render_tree.ensures.renders at k) kept
+
+pub partial::render_ahead-returns-in-Ok-clause-ahead : goal.partial::render_ahead-returns-in-Ok-clause-ahead
+partial::render_ahead-returns-in-Ok-clause-ahead g t c = λ at kept held.
+    let z = rw c.in-Ahead.is at (c.in-Ok.ensures.renders at kept) in
+    carries_ahead-text _ _ (begins-empty c.new-text.result c.new-text.ensures)
+    (let same = rw c.in-Ahead.is at c.render_tree-answer.ensures.same in let text = c.into_string.ensures in search rules) z
+
+pub partial::render_ahead-returns-in-Err-clause-ahead : goal.partial::render_ahead-returns-in-Err-clause-ahead
+partial::render_ahead-returns-in-Err-clause-ahead g t c = λ at kept held.
+    carries_ahead-over _ _ _ (begins-empty c.new-text.result c.new-text.ensures)
+    (rw c.in-Ahead.is at (c.in-Err.ensures.renders at kept))
+
+pub partial::render_kept-returns-in-Some-clause-renders : goal.partial::render_kept-returns-in-Some-clause-renders
+partial::render_kept-returns-in-Some-clause-renders g t c = λ site kept.
+    kept-text _ _ (tag_view c.args.view.now) site (tag_view c.args.view.now).body (newest kept.pieces) _
+    (kept.holds ∙ ap (option_map (λ t. t.now)) c.in-Some.is) (c.write_as_is.ensures.puts (state_with kept c.args.rc.now))
+
+pub partial::include_found-returns-in-Err-clause-renders : goal.partial::include_found-returns-in-Err-clause-renders
+partial::include_found-returns-in-Err-clause-renders g t c = λ site kept.
+    let v = tag_view c.args.view.now in
+    let u = tree_view c.args.tree.now in
+    inclusion-no_room _ _ v (included_at site u) u (render_ahead site v.body) (error_of c.in-Err.e) c.in-Err.ensures.err.0 c.in-Err.ensures.err.1
