@@ -9,7 +9,7 @@ use Rattle.handlebars_base.specs.Bytes.{Text}
 use Rattle.handlebars_base.specs.Outputs.{Held, held_of, nothing}
 use Rattle.handlebars_base.specs.declared.output.StringOutput.{StringOutput}
 use Rattle.handlebars_base.specs.PathAndData.{PathAndData}
-use Rattle.handlebars_base.specs.Reasons.{Refusal, cannot_include_self, inclusion_limit, out_of_memory, partial_block_not_found}
+use Rattle.handlebars_base.specs.Reasons.{Refusal, cannot_include_self, inclusion_limit, out_of_memory, partial_block_not_found, partial_not_found}
 use Rattle.handlebars_base.specs.RenderRefusals.{plain_refusal, reason_in, refusal_of}
 use Rattle.handlebars_base.specs.declared.error.render_error.RenderError.{RenderError}
 use Rattle.handlebars_template.specs.Tree.{Tree, tree, Body, body, no_body, Decorator, decorator_args, decorator_marks, decorator_name}
@@ -23,12 +23,27 @@ use Rattle.handlebars_meaning.specs.Pieces.{Piece, join}
 use Rattle.handlebars_meaning.specs.Questions.{view_of}
 use Rattle.handlebars_meaning.specs.Runs.{Outcome, Ended, Refused, Faulted, NoMemory, IsOver, Runs, refused, got, set, did, did_over, captured, captured_over, looked, has_room, has_none, stop}
 use Rattle.handlebars_meaning.specs.Sites.{Site, TreeSite, body_at, included_at}
-use Rattle.handlebars_meaning.specs.State.{Setting, State, entered, nearest_variables, partial_in}
+use Rattle.handlebars_meaning.specs.State.{Kept, Setting, State, entered, nearest_variables, partial_in}
 use Rattle.handlebars_meaning.specs.Steps.{Whole, Steps, Done, Do, Room, Get, Set, Prog, return, run, ask, refuse_for, state, become, perform, capture, find, room, ◌>>=◌, ◌>>◌}
 use Rattle.handlebars_meaning.specs.Values.{HasView}
 use Rattle.handlebars_render.specs.View.{Answered, KeptIn, keeping, CarriesAhead, has_text, no_text, CarriesOn, CarriesOut, goes_on, is_over, GivesValue, Moment, PutsStep, RefusesValue, Tells, ended, refusal, fault, no_memory, called}
 use Rattle.handlebars_render.proofs.Asked.{gives-ask}
 use Rattle.handlebars_render.proofs.Carry.{at, ends, memory_or, carries-elsewhere, carries-get, carries-run, carries-set, carries_on-change, carries_on-changed, carries_on-elsewhere, carries_on-get, carries_on-no_memory, carries_on-no_value, carries_on-over, carries_on-pieces, carries_on-refuse, carries_on-then, carries_on-value}
+
+-- a state, with what holds within an inclusion
+abbrev pub placed : Option Text → Kept → ℕ → State → State
+placed i ks n s = record s { indent = i; kept = ks; inclusions = n }
+
+-- an inclusion that is begun
+pub begun-so : (i j : Option Text) (k : Option (List Piece)) (ks : Kept) (m n : ℕ) {c : Option Text} {s b : State}
+    → n ≡ m + 1 → b ≡ called c s → placed i (k ∷ ks) n b ≡ called c (begun i k (placed j ks m s))
+begun-so i j k ks m n {c = c} {s = s} more is =
+    ap (placed i (k ∷ ks) n) is ∙ ap (λ z. placed i (k ∷ ks) z (called c s)) more
+
+-- and what is kept for it
+pub kept-more : (i j : Option Text) (k : Option (List Piece)) (ks : Kept) (m n : ℕ) (s : State) → n ≡ m + 1
+    → placed i (k ∷ ks) n s ≡ begun i k (placed j ks m s)
+kept-more i j k ks m n s more = ap (λ z. placed i (k ∷ ks) z s) more
 
 -- nothing is written ahead yet
 pub begins-empty : (fresh : StringOutput) → held_of fresh ≡ nothing
@@ -365,6 +380,32 @@ module _ (p : Setting) (may : Error → Type 0) where
       includes-own {s = s} not_self other none is x = partial-so _ not_self other
           (ap (λ (o : Option Tree). registered_or_own o v.body) is
           ∙ ap (λ (o : Option Tree). local_or_other o (p.parts.template v.call.name) v.body) none) x
+
+      -- the block of the tag
+      pub own-none : (b : Body) {s next : State} {h : Held} (e : RenderError) → no_body ≡ b
+          → IsRefusal (plain_refusal (partial_not_found v.call.name)) e
+          → CarriesOn p (include_partial site v (own_block b)) may (at s h) (Err e) (at next h)
+      own-none b {s = s} {next = next} {h = h} e is why =
+          subst (λ (z : Body). CarriesOn p (include_partial site v (own_block z)) may (at s h) (Err e) (at next h)) is
+          (carries_on-refuse p may e why)
+
+      pub own-some : (b : Body) (t : Tree) {before after : Moment} {r : Answered} → body t ≡ b
+          → CarriesOn p (include_tree v (body_at site 0) t (return None)) may before r after
+          → CarriesOn p (include_partial site v (own_block b)) may before r after
+      own-some b t {before = before} {after = after} {r = r} is x =
+          subst (λ (z : Body). CarriesOn p (include_partial site v (own_block z)) may before r after) is x
+
+      pub found-some : (t b : Tree) {before after : Moment} {r : Answered} → body b ≡ v.body
+          → CarriesOn p (include_tree v (included_at site t) t (render_ahead site (body b))) may before r after
+          → CarriesOn p (include_found site v t) may before r after
+      found-some t b {before = before} {after = after} {r = r} is x =
+          subst (λ (z : Body). CarriesOn p (include_tree v (included_at site t) t (render_ahead site z)) may before r after) is x
+
+      pub found-none : (t : Tree) {before after : Moment} {r : Answered} → no_body ≡ v.body
+          → CarriesOn p (include_tree v (included_at site t) t (return None)) may before r after
+          → CarriesOn p (include_found site v t) may before r after
+      found-none t {before = before} {after = after} {r = r} is x =
+          subst (λ (z : Body). CarriesOn p (include_tree v (included_at site t) t (render_ahead site z)) may before r after) is x
 
       -- ---- the kept text
 

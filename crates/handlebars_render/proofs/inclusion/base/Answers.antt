@@ -1,4 +1,3 @@
-use Rattle.std.proofs.Common.{sym, ◌∙◌}
 use Rattle.handlebars_base.specs.PathAndData.{path_and_data}
 use Rattle.handlebars_base.specs.Scoped.{data_in}
 use Rattle.handlebars_helpers.specs.DecoratorsView.{tag_view}
