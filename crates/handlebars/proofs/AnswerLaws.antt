@@ -1,5 +1,5 @@
 -- A rendering has one answer, whose pieces have their origins.
-use Rattle.std.proofs.Common.{◌≡◌, ◌≢◌, Bool, List, [], Option, None, Some, Result, Ok, Err, refl, sym, ap, ◌∙◌, subst}
+use Rattle.std.proofs.Common.{◌≡◌, ◌≢◌, List, [], Option, None, Some, Result, Ok, Err, refl, sym, ap, ◌∙◌, subst}
 use Rattle.std.specs.Prelude.{IfErr, IsErrAnd, String}
 use Rattle.std.specs.Global.{Global}
 use Rattle.handlebars_base.specs.Answers.{IsRefusal}
@@ -11,7 +11,6 @@ use Rattle.handlebars_template.specs.Tree.{Tree}
 use Rattle.handlebars_tags.specs.Options.{Options}
 use Rattle.handlebars_template.specs.Compile.{Compilation, Compiles, compiled, refused}
 use Rattle.handlebars_template.proofs.One.{one_compilation}
-use Rattle.handlebars_meaning.specs.Laws.{IsPlain}
 use Rattle.handlebars_meaning.specs.Pieces.{Piece}
 use Rattle.handlebars_meaning.specs.State.{IsLawful, Setting, State, first_state}
 use Rattle.handlebars_meaning.specs.Means.{render_tree}
@@ -21,6 +20,7 @@ use Rattle.handlebars_meaning.specs.Answer.{Beginning, a_tree, no_tree, FromSour
 use Rattle.handlebars_laws.proofs.Once.{comes_once}
 use Rattle.handlebars_laws.proofs.RunLaws.{Runs-one}
 use Rattle.handlebars_laws.proofs.RunOrigins.{all_have_origins, comes_in_trees}
+use Rattle.handlebars_meaning.specs.Laws.{IsPlain}
 
 -- ---- at most one beginning
 
@@ -105,17 +105,12 @@ module _ (p : Setting) (lawful : IsLawful p.parts) (begins : Beginning → Type 
 
 -- ---- origins
 
--- a run begins plainly
-first_plain : {recursive : Bool} → IsPlain (first_state recursive)
-first_plain = record { escapes = refl; indent = refl; kept = refl }
-
 pub answer_has_origins : (p : Setting) (begins : Beginning → Type 0) → AnswerHasOrigins p begins
 answer_has_origins p begins ps o (not_begun a) = tt
-answer_has_origins p begins ps o (rendered {t = t} a r) = (
-  all_have_origins p t (first_state p.parts.recursive) ps o first_plain r,
-  comes_once p t (first_state p.parts.recursive) ps o r,
-  comes_in_trees p t (first_state p.parts.recursive) ps o first_plain r,
-)
+answer_has_origins p begins ps o (rendered {t = t} a r) =
+    let plain : IsPlain (first_state p.parts.recursive) = record { escapes = refl; indent = refl; kept = refl } in
+    (all_have_origins p t (first_state p.parts.recursive) ps o plain r,
+    (comes_once p t (first_state p.parts.recursive) ps o r, comes_in_trees p t (first_state p.parts.recursive) ps o plain r))
 
 -- ---- what calls answer
 

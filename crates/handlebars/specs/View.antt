@@ -1,6 +1,6 @@
 -- What a registry and its contexts stand for.
-use Rattle.std.specs.Prelude.{ℕ, Bool, false, Option, None, Some, option_map}
 use Rattle.std.specs.BTreeMap.{get_by_text}
+use Rattle.std.specs.Prelude.{ℕ, Bool, Option, None, Some, option_map}
 use Rattle.handlebars_base.specs.Bytes.{Text}
 use Rattle.handlebars_tags.specs.Options.{Options}
 use Rattle.handlebars_template.specs.Tree.{Tree}
@@ -11,17 +11,13 @@ use Rattle.handlebars_helpers.specs.OwnAnswers.{OwnAnswers, Registered}
 use Rattle.handlebars_meaning.specs.State.{Parts, Setting}
 use Rattle.handlebars.specs.declared.registry.RegistryOf.{RegistryOf}
 
--- The modes of a registry: whether it is strict, whether lookup is recursive, whether inclusions have no indentation in what
--- it compiles, and how many inclusions may be rendered one within another.
+-- the modes of a registry: whether it is strict, whether lookup is recursive, whether inclusions add no indentation, and
+-- how many of them may be rendered one within another
 pub record Modes : Type 0 where
   pub strict : Bool
   pub recursive : Bool
   pub prevent_indent : Bool
   pub limit : ℕ
-
--- those of a new registry
-abbrev pub first_modes : Modes
-first_modes = record { strict = false; recursive = false; prevent_indent = false; limit = 64 }
 
 module _ {E : Type 0} where
   abbrev pub modes_of : RegistryOf E → Modes
@@ -36,13 +32,12 @@ module _ {E : Type 0} where
   abbrev pub stored : RegistryOf E → Text → Option Tree
   stored r name = option_map tree_view (get_by_text r.templates name)
 
-  -- how a registry compiles sources that have no name
+  -- how a registry compiles sources, without a name and with one
   abbrev pub options_of : RegistryOf E → Options
   options_of r = record { name = None; prevent_indent = r.prevent_indent }
 
-  -- and how it compiles one that is registered under a name
-  abbrev pub options_for : RegistryOf E → Text → Options
-  options_for r name = record { name = Some name; prevent_indent = r.prevent_indent }
+  abbrev pub named_by : RegistryOf E → Text → Options
+  named_by r name = record { name = Some name; prevent_indent = r.prevent_indent }
 
   -- What a run reads, by what stands under the names of a registry's entries and what those of one's own answer.
   module _ (registered : E → Registered) (own : E → OwnAnswers) where

@@ -51,6 +51,7 @@ pub use handlebars_template::template::{
     Template, TemplateElement, TemplateMapping, TemplateOptions,
 };
 pub use registry::{Registry, Registry as Handlebars, RegistryOf};
-pub use render::{Evaluable, Expand, Renderable, expand_partial};
+pub use render::partial::expand_partial;
+pub use render::{Evaluable, Expand, Renderable};
 pub use serde_json::Value as JsonValue;
 pub use sources::{EntryKind, NoFiles, TemplateReader};

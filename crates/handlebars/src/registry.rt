@@ -6,7 +6,6 @@ ghost use Rattle.handlebars_base.specs.Reasons.{out_of_memory, template_out_of_m
 ghost use Rattle.handlebars_base.specs.RenderRefusals.{refusal_of, reason_in};
 ghost use Rattle.handlebars_base.specs.TemplateRefusals.{template_refusal_of};
 ghost use Rattle.handlebars_template.specs.Compile.{Compiles, compiled, refused};
-ghost use Rattle.handlebars_template.specs.OptionsView.{options_view};
 ghost use Rattle.handlebars_template.specs.Tree.{Tree};
 ghost use Rattle.handlebars_template.specs.TreeView.{tree_view};
 ghost use Rattle.handlebars_helpers.specs.Decoration.{built_in_decorator};
@@ -16,7 +15,7 @@ ghost use Rattle.handlebars_meaning.specs.Answer.{FromSource, FromName, GivesTex
 ghost use Rattle.handlebars_meaning.specs.State.{first_state};
 ghost use Rattle.handlebars.specs.Store.{Stores, HasSameParts, HasSameTemplates, PutsDecorator, PutsEscape, PutsHelper};
 ghost use Rattle.handlebars_render.specs.View.{state_of, root_of, has_failed};
-ghost use Rattle.handlebars.specs.View.{first_modes, modes_of, setting_of, stored, options_of, options_for};
+ghost use Rattle.handlebars.specs.View.{modes_of, named_by, setting_of, options_of, stored};
 
 use crate::render::Renderable;
 use crate::sources::TemplateReader;
@@ -83,8 +82,8 @@ impl<E: Drop> RegistryOf<E> {
         self.recursive_lookup
     }
 
-    /// From now on, or no more, inclusions have no indentation in what is compiled here, and the blanks
-    /// before one that stands alone on its line stay. What is registered already stays as it is.
+    /// From now on, or no more, an inclusion that stands alone on its line adds no indentation, in sources that are
+    /// compiled from then on.
     pub fn set_prevent_indent(&mut self, enabled: bool)
         ensures modes { modes_of self.new ≡ record (modes_of self.old) { prevent_indent = enabled } }
         ensures entries { self.new.entries ≡ self.old.entries }
@@ -93,14 +92,14 @@ impl<E: Drop> RegistryOf<E> {
         self.prevent_indent = enabled;
     }
 
-    /// Whether inclusions have no indentation in what is compiled here.
+    /// Whether inclusions add no indentation.
     pub fn prevent_indent(&self) -> bool
         ensures { result ≡ (modes_of self.now).prevent_indent }
     {
         self.prevent_indent
     }
 
-    /// From now on this many inclusions may be rendered one within another.
+    /// From now on so many inclusions may be rendered one within another, and one more is refused.
     pub fn set_inclusion_limit(&mut self, limit: u16)
         ensures modes { modes_of self.new ≡ record (modes_of self.old) { limit = limit } }
         ensures entries { self.new.entries ≡ self.old.entries }
@@ -116,19 +115,16 @@ impl<E: Drop> RegistryOf<E> {
         self.inclusion_limit
     }
 
-    /// Registers a tree under the name, in place of one that stood there. The name of the tree stays as
-    /// it is. Where memory is refused, nothing is changed.
+    /// Registers a tree under the name, in place of one that stood there. Where memory is refused, nothing is changed.
     pub fn register_template(&mut self, name: &str, template: Template) -> Result<(), AllocError>
         ensures ok { OnOk result (Stores self.old self.new name.now (tree_view template)) }
-        ensures err { OnErr result (HasSameTemplates self.old self.new) }
+        ensures kept { OnErr result (HasSameTemplates self.old self.new) }
         ensures entries { self.new.entries ≡ self.old.entries }
         ensures modes { modes_of self.new ≡ modes_of self.old }
     {
         let key = String::from_str(self.alloc, name)?;
-        match self.templates.insert(key, template) {
-            Ok(_) => Ok(()),
-            Err(_) => Err(AllocError),
-        }
+        self.templates.insert(key, template)?;
+        Ok(())
     }
 
     /// Compiles a source and registers its tree under the name, in place of one that stood there.
@@ -138,34 +134,43 @@ impl<E: Drop> RegistryOf<E> {
         name: &str,
         source: &str,
     ) -> Result<(), TemplateError>
-        ensures ok { OnOk result ((t : Tree) × Compiles source.now (options_for self.old name.now) (compiled t)
+        ensures ok { OnOk result ((t : Tree) × Compiles source.now (named_by self.old name.now) (compiled t)
             × Stores self.old self.new name.now t) }
         ensures err { IfErr result (λ e. (template_refusal_of e).reason ≢ template_out_of_memory
-            → Compiles source.now (options_for self.old name.now) (refused (template_refusal_of e))) }
+            → Compiles source.now (named_by self.old name.now) (refused (template_refusal_of e))) }
         ensures kept { OnErr result (HasSameTemplates self.old self.new) }
         ensures entries { self.new.entries ≡ self.old.entries }
         ensures modes { modes_of self.new ≡ modes_of self.old }
     {
-        let options = TemplateOptions {
-            name: Some(String::from_str(self.alloc, name)?),
-            prevent_indent: self.prevent_indent,
-        };
-        let template = Template::compile2(self.alloc, source, options)?;
+        let template = self.compiled_as(name, source)?;
         self.register_template(name, template)?;
         Ok(())
     }
 
-    /// The same: a partial is a template that others include.
+    /// The same: a partial is a template.
     pub fn register_partial(&mut self, name: &str, source: &str) -> Result<(), TemplateError>
-        ensures ok { OnOk result ((t : Tree) × Compiles source.now (options_for self.old name.now) (compiled t)
+        ensures ok { OnOk result ((t : Tree) × Compiles source.now (named_by self.old name.now) (compiled t)
             × Stores self.old self.new name.now t) }
         ensures err { IfErr result (λ e. (template_refusal_of e).reason ≢ template_out_of_memory
-            → Compiles source.now (options_for self.old name.now) (refused (template_refusal_of e))) }
+            → Compiles source.now (named_by self.old name.now) (refused (template_refusal_of e))) }
         ensures kept { OnErr result (HasSameTemplates self.old self.new) }
         ensures entries { self.new.entries ≡ self.old.entries }
         ensures modes { modes_of self.new ≡ modes_of self.old }
     {
         self.register_template_string(name, source)
+    }
+
+    // The tree of a source, for this name.
+    fn compiled_as(&self, name: &str, source: &str) -> Result<Template, TemplateError>
+        ensures ok { IfOk result (λ t. Compiles source.now (named_by self.now name.now) (compiled (tree_view t))) }
+        ensures err { IfErr result (λ e. (template_refusal_of e).reason ≢ template_out_of_memory
+            → Compiles source.now (named_by self.now name.now) (refused (template_refusal_of e))) }
+    {
+        let options = TemplateOptions {
+            name: Some(String::from_str(self.alloc, name)?),
+            prevent_indent: self.prevent_indent,
+        };
+        Template::compile2(self.alloc, source, options)
     }
 
     /// Whether a template stands under the name.
@@ -250,14 +255,17 @@ impl<B: Drop, F: Drop, D: Drop, G: Drop, X: Drop> RegistryOf<Entries<B, F, D, G,
 // The calls that render.
 impl<E: OwnParts> RegistryOf<E> {
     /// A registry with the built-in helpers and decorators, and nothing else; values are escaped for
-    /// html, the mode isn't strict, lookup isn't recursive, inclusions have their indentation, and 64 of
-    /// them may be rendered one within another.
+    /// html, the mode isn't strict, lookup isn't recursive, inclusions add their indentation, and 64 of them may be rendered
+    /// one within another.
     pub fn new(alloc: Global) -> Result<RegistryOf<E>, AllocError>
         ensures templates { IfOk result (λ r. (name : Text) → stored r name ≡ None) }
         ensures helpers { IfOk result (λ r. (name : Text) → (E.registered r.entries).helper name ≡ first_callee name) }
         ensures decorators { IfOk result (λ r. (name : Text) → (E.registered r.entries).decorator name ≡ built_in_decorator name) }
         ensures escape { IfOk result (λ r. (E.registered r.entries).escape ≡ for_html) }
-        ensures modes { IfOk result (λ r. modes_of r ≡ first_modes) }
+        ensures strict { IfOk result (λ r. (modes_of r).strict ≡ false) }
+        ensures recursive { IfOk result (λ r. (modes_of r).recursive ≡ false) }
+        ensures prevents { IfOk result (λ r. (modes_of r).prevent_indent ≡ false) }
+        ensures limit { IfOk result (λ r. (modes_of r).limit ≡ 64) }
     {
         Ok(RegistryOf {
             alloc,
@@ -319,19 +327,13 @@ impl<E: OwnParts> RegistryOf<E> {
         ensures unread { _files.new ≡ _files.old }
     {
         self.entries.keeps_law();
-        let template = Template::compile2(self.alloc, source, self.options())?;
-        let mut rc = self.first_context(None)?;
-        template.renders(self.alloc, self, ctx, &mut rc, log)
-    }
-
-    // How a source that has no name is compiled.
-    fn options(&self) -> TemplateOptions
-        ensures { options_view result ≡ options_of self.now }
-    {
-        TemplateOptions {
+        let options = TemplateOptions {
             name: None,
             prevent_indent: self.prevent_indent,
-        }
+        };
+        let template = Template::compile2(self.alloc, source, options)?;
+        let mut rc = self.first_context(None)?;
+        template.renders(self.alloc, self, ctx, &mut rc, log)
     }
 
     // The first state of a run with this registry, which the template of that name begins, if it has one.

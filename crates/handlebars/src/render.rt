@@ -9,26 +9,22 @@ ghost use Rattle.handlebars_meaning.specs.Means.{render_tree, render_alone};
 ghost use Rattle.handlebars_render.specs.View.{state_of, root_of, has_failed, first_moment, without_partials, CarriesOut, GivesString, RefusesString};
 ghost use Rattle.handlebars.specs.View.{setting_of};
 
-mod call;
 mod evaluable;
 mod expand;
 mod logging;
-mod partial;
+pub mod partial;
 
 use crate::registry::RegistryOf;
-use crate::render::call::{first_setting, settled};
 use crate::render::logging::Logging;
 pub use evaluable::Evaluable;
 pub use expand::Expand;
-pub use partial::expand_partial;
 use handlebars_base::error::RenderError;
 use handlebars_base::output::{Output, StringOutput};
 use handlebars_helpers::entries::OwnParts;
 use handlebars_render::context::RenderContext;
-use handlebars_render::element::render_element;
-use handlebars_render::failure::ready;
-use handlebars_render::sink::Sink;
-use handlebars_render::tree::render_tree;
+use handlebars_render::entry::{render_element_into, render_into};
+use handlebars_render::failure::{fail_after, ready};
+use handlebars_render::setting::Setting;
 use handlebars_scope::context::Context;
 use handlebars_template::template::{Template, TemplateElement};
 use log::Log;
@@ -108,12 +104,18 @@ impl Renderable for Template {
     ) -> Result<(), RenderError> {
         ready(rc)?;
         let parts = &Logging { registry, log };
-        let setting = first_setting(alloc, parts, data);
-        let mut sink = Sink::Out(out);
-        let answer = render_tree(self, &setting, rc, &mut sink);
-        match sink {
-            Sink::Out(_out) => settled(rc, answer),
-            Sink::Ahead(_text) => settled(rc, answer),
+        let setting = Setting {
+            alloc,
+            parts,
+            given: data,
+            room: u64::MAX,
+            inclusions: 0,
+            kept: None,
+            indent: None,
+        };
+        match render_into(self, &setting, rc, out) {
+            Ok(()) => Ok(()),
+            Err(e) => fail_after(rc, Err(e.into_error())),
         }
     }
 }
@@ -133,12 +135,18 @@ impl Renderable for TemplateElement {
     ) -> Result<(), RenderError> {
         ready(rc)?;
         let parts = &Logging { registry, log };
-        let setting = first_setting(alloc, parts, data);
-        let mut sink = Sink::Out(out);
-        let answer = render_element(self, &setting, rc, &mut sink);
-        match sink {
-            Sink::Out(_out) => settled(rc, answer),
-            Sink::Ahead(_text) => settled(rc, answer),
+        let setting = Setting {
+            alloc,
+            parts,
+            given: data,
+            room: u64::MAX,
+            inclusions: 0,
+            kept: None,
+            indent: None,
+        };
+        match render_element_into(self, &setting, rc, out) {
+            Ok(()) => Ok(()),
+            Err(e) => fail_after(rc, Err(e.into_error())),
         }
     }
 }

@@ -4,27 +4,51 @@ use Rattle.std.specs.Prelude.{unwrap_or}
 use Rattle.std.specs.Str.{bytes_eq}
 use Rattle.std.specs.declared.io.Error.{Error}
 use Rattle.serde_json.specs.Data.{Data}
-use Rattle.handlebars_base.specs.Answers.{IsRefusal}
+use Rattle.handlebars_base.specs.Answers.{IsRefusal, gives}
 use Rattle.handlebars_base.specs.Bytes.{Text}
-use Rattle.handlebars_base.specs.Outputs.{Held, nothing}
+use Rattle.handlebars_base.specs.Outputs.{Held, held_of, nothing}
+use Rattle.handlebars_base.specs.declared.output.StringOutput.{StringOutput}
 use Rattle.handlebars_base.specs.PathAndData.{PathAndData}
-use Rattle.handlebars_base.specs.Reasons.{Refusal, cannot_include_self, inclusion_limit, out_of_memory, partial_block_not_found}
+use Rattle.handlebars_base.specs.Reasons.{Refusal, cannot_include_self, inclusion_limit, out_of_memory, partial_block_not_found, partial_not_found}
 use Rattle.handlebars_base.specs.RenderRefusals.{plain_refusal, reason_in, refusal_of}
 use Rattle.handlebars_base.specs.declared.error.render_error.RenderError.{RenderError}
-use Rattle.handlebars_template.specs.Tree.{Tree, tree, Body, body, no_body, Decorator, DecoratorMarks, decorator_marks}
+use Rattle.handlebars_template.specs.Tree.{Tree, tree, Body, body, no_body, Decorator, decorator_args, decorator_marks, decorator_name}
 use Rattle.handlebars_helpers.specs.CallView.{CallView}
 use Rattle.handlebars_helpers.specs.Decoration.{DecoratorView}
 use Rattle.handlebars_meaning.specs.CarryOut.{change}
 use Rattle.handlebars_meaning.specs.Inclusion.{Partial, found_by, local_or_other, registered_or_own, is_current, newest, own_block, pair_values, inclusion_block, begun, named_as_before, over}
 use Rattle.handlebars_meaning.specs.Including.{base_value, enter_block, include, include_found, include_named, include_other, include_partial, include_tree, partial_block_name, render_ahead, render_own_block, write_kept}
-use Rattle.handlebars_meaning.specs.Means.{line_at, line_out, on_line, todo}
+use Rattle.handlebars_meaning.specs.Means.{include_tag, line_at, line_out, on_line, render_partial, shown_tag, todo}
 use Rattle.handlebars_meaning.specs.Pieces.{Piece, join}
+use Rattle.handlebars_meaning.specs.Questions.{view_of}
 use Rattle.handlebars_meaning.specs.Runs.{Outcome, Ended, Refused, Faulted, NoMemory, IsOver, Runs, refused, got, set, did, did_over, captured, captured_over, looked, has_room, has_none, stop}
 use Rattle.handlebars_meaning.specs.Sites.{Site, TreeSite, body_at, included_at}
-use Rattle.handlebars_meaning.specs.State.{Setting, State, entered, nearest_variables, partial_in}
-use Rattle.handlebars_meaning.specs.Steps.{Whole, Steps, Done, Do, Room, Get, Set, Prog, return, run, refuse_for, state, become, perform, capture, find, room, ◌>>=◌, ◌>>◌}
-use Rattle.handlebars_render.specs.View.{Answered, CarriesAhead, has_text, no_text, CarriesOn, CarriesOut, goes_on, is_over, GivesValue, Moment, PutsStep, RefusesValue, Tells, ended, refusal, fault, no_memory, called}
+use Rattle.handlebars_meaning.specs.State.{Kept, Setting, State, entered, nearest_variables, partial_in}
+use Rattle.handlebars_meaning.specs.Steps.{Whole, Steps, Done, Do, Room, Get, Set, Prog, return, run, ask, refuse_for, state, become, perform, capture, find, room, ◌>>=◌, ◌>>◌}
+use Rattle.handlebars_meaning.specs.Values.{HasView}
+use Rattle.handlebars_render.specs.View.{Answered, KeptIn, keeping, CarriesAhead, has_text, no_text, CarriesOn, CarriesOut, goes_on, is_over, GivesValue, Moment, PutsStep, RefusesValue, Tells, ended, refusal, fault, no_memory, called}
+use Rattle.handlebars_render.proofs.Asked.{gives-ask}
 use Rattle.handlebars_render.proofs.Carry.{at, ends, memory_or, carries-elsewhere, carries-get, carries-run, carries-set, carries_on-change, carries_on-changed, carries_on-elsewhere, carries_on-get, carries_on-no_memory, carries_on-no_value, carries_on-over, carries_on-pieces, carries_on-refuse, carries_on-then, carries_on-value}
+
+-- a state, with what holds within an inclusion
+abbrev pub placed : Option Text → Kept → ℕ → State → State
+placed i ks n s = record s { indent = i; kept = ks; inclusions = n }
+
+-- an inclusion that is begun
+pub begun-so : (i j : Option Text) (k : Option (List Piece)) (ks : Kept) (m n : ℕ) {c : Option Text} {s b : State}
+    → n ≡ m + 1 → b ≡ called c s → placed i (k ∷ ks) n b ≡ called c (begun i k (placed j ks m s))
+begun-so i j k ks m n {c = c} {s = s} more is =
+    ap (placed i (k ∷ ks) n) is ∙ ap (λ z. placed i (k ∷ ks) z (called c s)) more
+
+-- and what is kept for it
+pub kept-more : (i j : Option Text) (k : Option (List Piece)) (ks : Kept) (m n : ℕ) (s : State) → n ≡ m + 1
+    → placed i (k ∷ ks) n s ≡ begun i k (placed j ks m s)
+kept-more i j k ks m n s more = ap (λ z. placed i (k ∷ ks) z s) more
+
+-- nothing is written ahead yet
+pub begins-empty : (fresh : StringOutput) → held_of fresh ≡ nothing
+    → record { text = (held_of fresh).text; faults = 0 } ≡ nothing
+begins-empty fresh is = ap (λ (h : Held). record { text = h.text; faults = 0 }) is
 
 module _ (p : Setting) where
   -- ---- a tree makes its own name the current one, whatever was current before
@@ -140,12 +164,12 @@ module _ (p : Setting) (may : Error → Type 0) where
       })
 
   -- what comes behind it
-  ahead-then : {A : Type 0} (m : Prog (List Piece)) (f : List Piece → Prog (Unit {0})) {text : String Global} {before mid : Moment} {after : Moment} {r : Answered}
+  ahead-then : (m : Prog (List Piece)) (f : List Piece → Prog (Unit {0})) {text : String Global} {before mid : Moment} {after : Moment} {r : Answered}
       → CarriesAhead p m may before (Ok text) mid
       → ((ps : List Piece) → string_bytes text ≡ join ps → CarriesOn p (f ps) may mid r after)
       → CarriesOn p (m >>= f) may before r after
   unfolding ◌>>=◌
-  ahead-then {A = A} m f (has_text ps is c) d = behind ps c (d ps is)
+  ahead-then m f (has_text ps is c) d = behind ps c (d ps is)
     where
       behind : {before mid after : Moment} {r : Answered} (ps : List Piece)
           → ((next : List Piece → Steps) (r : Answered) (last : Moment)
@@ -180,6 +204,28 @@ module _ (p : Setting) (may : Error → Type 0) where
       let back : Unit {0} → Steps = λ v. Get (λ z. Set (record z { line = line_out s.line z.line }) (k tt)) in
       carries-get p may (carries-set p may (subst (λ (z : State). CarriesOut p (m back) may (at z h) (Err e) (at last new)) starts
       (carries-elsewhere p may (c back)))))
+
+  -- what is carried out under an indentation that is said otherwise
+  pub under-same : (text : Option Text) (n : ℕ) {i j : Option Text} (m : Prog (Unit {0})) (s next : State) {h new : Held} {r : Answered}
+      → i ≡ j
+      → ((k : KeptIn (record { text = text; inclusions = n; indent = i })) → CarriesOn p m may (at (keeping k s) h) r (at (keeping k next) new))
+      → (k : KeptIn (record { text = text; inclusions = n; indent = j })) → CarriesOn p m may (at (keeping k s) h) r (at (keeping k next) new)
+  under-same text n m s next {h = h} {new = new} {r = r} is x =
+      subst (λ (z : Option Text). (k : KeptIn (record { text = text; inclusions = n; indent = z }))
+      → CarriesOn p m may (at (keeping k s) h) r (at (keeping k next) new)) is x
+
+  -- the tag of an inclusion, once its view is known
+  pub tag-includes : (site : Site) (t : Decorator) (v : CallView) (w : DecoratorView) {s mid next last : State} {h new : Held} {r : Answered}
+      → HasView p s (decorator_name t) (decorator_args t) (gives v) → w ≡ shown_tag s.indent t v
+      → mid ≡ record s { line = line_at (decorator_marks t) s.line } → last ≡ record next { line = line_out s.line next.line }
+      → CarriesOn p (include site w) may (at mid h) r (at next new)
+      → CarriesOn p (render_partial site t) may (at s h) r (at last new)
+  tag-includes site t v w {s = s} {mid = mid} {next = next} {last = last} {h = h} {new = new} {r = r} has same starts ends x =
+      carries_on-value p may (ask (view_of (decorator_name t) (decorator_args t))) (λ y. on_line (line_at (decorator_marks t)) (include_tag site t y))
+      (gives-ask p (view_of (decorator_name t) (decorator_args t)) v has)
+      (carries_on-line (line_at (decorator_marks t)) (include_tag site t v) {next = next} starts ends
+      (carries_on-get p may (λ z. include site (shown_tag z.indent t v))
+      (subst (λ (z : DecoratorView). CarriesOn p (include site z) may (at mid h) r (at next new)) (same ∙ ap (λ (z : State). shown_tag z.indent t v) (sym starts)) x)))
 
   -- ---- an inclusion
 
@@ -240,7 +286,7 @@ module _ (p : Setting) (may : Error → Type 0) where
         carries_on-room (state >>= inside (included_at site t) t (render_ahead site (body b))) lt
         (carries_on-get p may (inside (included_at site t) t (render_ahead site (body b)))
         (carries_on-then p may (enter_block v) (m >>= f) (enters d {u = tt} gives)
-        (ahead-then {A = Unit {0}} m f (ahead-renamed (body_at site 0) b
+        (ahead-then m f (ahead-renamed (body_at site 0) b
         (subst (λ (z : State). CarriesAhead p m may (at z h) (Ok text) (at behind between)) starts ahead))
         (λ ps is. rest-carries (included_at site t) t s (Some ps) (counts ps) (ends ps) (x ps is)))))
 
@@ -335,6 +381,32 @@ module _ (p : Setting) (may : Error → Type 0) where
           (ap (λ (o : Option Tree). registered_or_own o v.body) is
           ∙ ap (λ (o : Option Tree). local_or_other o (p.parts.template v.call.name) v.body) none) x
 
+      -- the block of the tag
+      pub own-none : (b : Body) {s next : State} {h : Held} (e : RenderError) → no_body ≡ b
+          → IsRefusal (plain_refusal (partial_not_found v.call.name)) e
+          → CarriesOn p (include_partial site v (own_block b)) may (at s h) (Err e) (at next h)
+      own-none b {s = s} {next = next} {h = h} e is why =
+          subst (λ (z : Body). CarriesOn p (include_partial site v (own_block z)) may (at s h) (Err e) (at next h)) is
+          (carries_on-refuse p may e why)
+
+      pub own-some : (b : Body) (t : Tree) {before after : Moment} {r : Answered} → body t ≡ b
+          → CarriesOn p (include_tree v (body_at site 0) t (return None)) may before r after
+          → CarriesOn p (include_partial site v (own_block b)) may before r after
+      own-some b t {before = before} {after = after} {r = r} is x =
+          subst (λ (z : Body). CarriesOn p (include_partial site v (own_block z)) may before r after) is x
+
+      pub found-some : (t b : Tree) {before after : Moment} {r : Answered} → body b ≡ v.body
+          → CarriesOn p (include_tree v (included_at site t) t (render_ahead site (body b))) may before r after
+          → CarriesOn p (include_found site v t) may before r after
+      found-some t b {before = before} {after = after} {r = r} is x =
+          subst (λ (z : Body). CarriesOn p (include_tree v (included_at site t) t (render_ahead site z)) may before r after) is x
+
+      pub found-none : (t : Tree) {before after : Moment} {r : Answered} → no_body ≡ v.body
+          → CarriesOn p (include_tree v (included_at site t) t (return None)) may before r after
+          → CarriesOn p (include_found site v t) may before r after
+      found-none t {before = before} {after = after} {r = r} is x =
+          subst (λ (z : Body). CarriesOn p (include_tree v (included_at site t) t (render_ahead site z)) may before r after) is x
+
       -- ---- the kept text
 
       pub kept-text : (b : Body) (k : Option (List Piece)) (t : Text) {s next : State} {h new : Held} {r : Answered}
@@ -363,3 +435,12 @@ module _ (p : Setting) (may : Error → Type 0) where
       kept-none b None {s = s} {next = next} {h = h} e is same why =
           subst (λ (z : Body). CarriesOn p (render_own_block site z s) may (at s h) (Err e) (at next h)) same
           (carries_on-refuse p may e why)
+
+-- the same output, said otherwise
+pub behind-same : (p : Setting) (may : Error → Type 0) {m : Prog (Unit {0})} {before : Moment} {next : State} {r : Answered} {new last : Held}
+    → new ≡ last → CarriesOn p m may before r (at next new) → CarriesOn p m may before r (at next last)
+behind-same p may {m = m} {before = before} {next = next} {r = r} is c = subst (λ (z : Held). CarriesOn p m may before r (at next z)) is c
+
+pub behind-same_out : (p : Setting) (may : Error → Type 0) {k : Steps} {before : Moment} {next : State} {r : Answered} {new last : Held}
+    → new ≡ last → CarriesOut p k may before r (at next new) → CarriesOut p k may before r (at next last)
+behind-same_out p may {k = k} {before = before} {next = next} {r = r} is c = subst (λ (z : Held). CarriesOut p k may before r (at next z)) is c

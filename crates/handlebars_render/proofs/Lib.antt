@@ -20,3 +20,5 @@ pub mod Silent
 mod Evaluated
 mod Sinks
 mod Includes
+mod Bases
+mod Tags

@@ -2,6 +2,8 @@
 
 ghost use Rattle.std.specs.Prelude.{◌≡◌, [], IfOk};
 ghost use Rattle.serde_json.specs.View.{view};
+ghost use Rattle.handlebars_base.specs.Path.{relative};
+ghost use Rattle.handlebars_base.specs.PathView.{reference_of};
 ghost use Rattle.handlebars_scope.specs.MergedView.{pairs_in};
 ghost use Rattle.handlebars_scope.specs.Scopes.{nothing_at};
 ghost use Rattle.handlebars_scope.specs.ScopeView.{bounds_of, frame_of};
@@ -68,12 +70,19 @@ fn current<P: Registered>(
     ensures { (kept : KeptIn (within setting.now)) → (tag_view tag.now).call.params ≡ []
         → HasBase (setting_in P.parts setting.now) (tag_view tag.now) (state_with kept rc.now) view result }
 {
-    let here = Path::Relative((Vec::new(setting.alloc), String::new(setting.alloc)));
+    let here = here(setting.alloc);
     match rc.reach(setting.given.data(), &here) {
         Reached::Value(value) => Ok(merge(setting.alloc, value, tag.hash())?),
         Reached::Nothing => Ok(merge(setting.alloc, &Json::Null, tag.hash())?),
         Reached::NoIndex(name) => Err(wrong_index(setting.alloc, name)),
     }
+}
+
+// The path of the current value.
+fn here(alloc: Global) -> Path
+    ensures { reference_of result ≡ relative [] [] }
+{
+    Path::Relative((Vec::new(alloc), String::new(alloc)))
 }
 
 // Each pair, bound to its key.

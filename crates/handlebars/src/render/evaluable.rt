@@ -12,13 +12,13 @@ ghost use Rattle.handlebars_render.specs.View.{state_of, root_of, has_failed, wi
 ghost use Rattle.handlebars.specs.View.{setting_of};
 
 use crate::registry::RegistryOf;
-use crate::render::call::{first_setting, settled};
 use crate::render::logging::Logging;
 use handlebars_base::error::RenderError;
 use handlebars_helpers::entries::OwnParts;
 use handlebars_render::context::RenderContext;
 use handlebars_render::evaluate::{eval_element, eval_tree};
-use handlebars_render::failure::ready;
+use handlebars_render::failure::{fail_after, ready};
+use handlebars_render::setting::Setting;
 use handlebars_scope::context::Context;
 use handlebars_template::template::{Template, TemplateElement};
 use log::Log;
@@ -68,9 +68,19 @@ impl Evaluable for Template {
     ) -> Result<(), RenderError> {
         ready(rc)?;
         let parts = &Logging { registry, log };
-        let setting = first_setting(alloc, parts, data);
-        let answer = eval_tree(self, &setting, rc);
-        settled(rc, answer)
+        let setting = Setting {
+            alloc,
+            parts,
+            given: data,
+            room: u64::MAX,
+            inclusions: 0,
+            kept: None,
+            indent: None,
+        };
+        match eval_tree(self, &setting, rc) {
+            Ok(()) => Ok(()),
+            Err(e) => fail_after(rc, Err(e.into_error())),
+        }
     }
 }
 
@@ -90,8 +100,18 @@ impl Evaluable for TemplateElement {
     ) -> Result<(), RenderError> {
         ready(rc)?;
         let parts = &Logging { registry, log };
-        let setting = first_setting(alloc, parts, data);
-        let answer = eval_element(self, &setting, rc);
-        settled(rc, answer)
+        let setting = Setting {
+            alloc,
+            parts,
+            given: data,
+            room: u64::MAX,
+            inclusions: 0,
+            kept: None,
+            indent: None,
+        };
+        match eval_element(self, &setting, rc) {
+            Ok(()) => Ok(()),
+            Err(e) => fail_after(rc, Err(e.into_error())),
+        }
     }
 }

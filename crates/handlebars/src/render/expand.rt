@@ -12,13 +12,13 @@ ghost use Rattle.handlebars_render.specs.View.{state_of, root_of, has_failed, Yi
 ghost use Rattle.handlebars.specs.View.{setting_of};
 
 use crate::registry::RegistryOf;
-use crate::render::call::first_setting;
 use crate::render::logging::Logging;
 use handlebars_base::error::RenderError;
 use handlebars_base::json::value::PathAndJson;
 use handlebars_helpers::entries::OwnParts;
 use handlebars_render::context::RenderContext;
 use handlebars_render::failure::{fail_after, ready};
+use handlebars_render::setting::Setting;
 use handlebars_render::value;
 use handlebars_scope::context::Context;
 use handlebars_template::template::Parameter;
@@ -86,7 +86,15 @@ impl Expand for Parameter {
         ready(rc)?;
         let parts = &Logging { registry, log };
         let answer = value::expand(
-            &first_setting(alloc, parts, data),
+            &Setting {
+                alloc,
+                parts,
+                given: data,
+                room: u64::MAX,
+                inclusions: 0,
+                kept: None,
+                indent: None,
+            },
             rc,
             self,
         );
@@ -104,7 +112,15 @@ impl Expand for Parameter {
         ready(rc)?;
         let parts = &Logging { registry, log };
         let answer = value::expand_as_name(
-            &first_setting(alloc, parts, data),
+            &Setting {
+                alloc,
+                parts,
+                given: data,
+                room: u64::MAX,
+                inclusions: 0,
+                kept: None,
+                indent: None,
+            },
             rc,
             self,
         );

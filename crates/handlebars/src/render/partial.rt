@@ -1,4 +1,4 @@
-//! Including with a registry, for callers.
+//! Inclusions, for callers.
 
 ghost use Rattle.std.specs.Prelude.{◌≡◌, IsErrAnd, OnErr, OnOk, true, false};
 ghost use Rattle.handlebars_base.specs.Reasons.{failed};
@@ -11,23 +11,21 @@ ghost use Rattle.handlebars_render.specs.View.{state_of, root_of, has_failed, fi
 ghost use Rattle.handlebars.specs.View.{setting_of};
 
 use crate::registry::RegistryOf;
-use crate::render::call::{first_setting, settled};
 use crate::render::logging::Logging;
 use handlebars_base::error::RenderError;
 use handlebars_base::output::Output;
 use handlebars_helpers::decorators::view::Decorator;
 use handlebars_helpers::entries::OwnParts;
 use handlebars_render::context::RenderContext;
-use handlebars_render::failure::ready;
-use handlebars_render::partial::include;
-use handlebars_render::sink::Sink;
+use handlebars_render::entry::include_into;
+use handlebars_render::failure::{fail_after, ready};
+use handlebars_render::setting::Setting;
 use handlebars_scope::context::Context;
 use log::Log;
 use std::alloc::Global;
 
-/// Includes what is found by the name of a tag that shows this, as an inclusion's tag does that was evaluated: the partial
-/// of a block of scope, the registered template, or the tag's own block. After a refusal the render context has failed: it
-/// answers `Failed` from then on, and nothing more is written.
+/// Renders what a tag of this view includes into an output: what is found by its name, under the view's indentation.
+/// After a refusal the render context has failed: it answers `Failed` from then on, and nothing more is written.
 pub fn expand_partial<E: OwnParts, L: Log, O: Output>(
     alloc: Global,
     d: &Decorator,
@@ -37,9 +35,9 @@ pub fn expand_partial<E: OwnParts, L: Log, O: Output>(
     out: &mut O,
     log: &L,
 ) -> Result<(), RenderError>
-    ensures includes { (site : Site) → has_failed rc.old ≡ false → CarriesOut (setting_of E.registered E.own registry.now «data».now)
-        (run (include site (tag_view d.now))) O.may_give (first_moment rc.old (O.held out.old)) result
-        (first_moment rc.new (O.held out.new)) }
+    ensures includes { (site : Site) → has_failed rc.old ≡ false
+        → CarriesOut (setting_of E.registered E.own registry.now «data».now) (run (include site (tag_view d.now)))
+        O.may_give (first_moment rc.old (O.held out.old)) result (first_moment rc.new (O.held out.new)) }
     ensures failed { has_failed rc.old ≡ true → IsErrAnd result (λ e. refusal_of e ≡ plain_refusal failed)
         × (rc.new ≡ rc.old) × (O.held out.new ≡ O.held out.old) }
     ensures root { root_of rc.new ≡ root_of rc.old }
@@ -51,11 +49,17 @@ pub fn expand_partial<E: OwnParts, L: Log, O: Output>(
 {
     ready(rc)?;
     let parts = &Logging { registry, log };
-    let setting = first_setting(alloc, parts, data);
-    let mut sink = Sink::Out(out);
-    let answer = include(d, &setting, rc, &mut sink);
-    match sink {
-        Sink::Out(_out) => settled(rc, answer),
-        Sink::Ahead(_text) => settled(rc, answer),
+    let setting = Setting {
+        alloc,
+        parts,
+        given: data,
+        room: u64::MAX,
+        inclusions: 0,
+        kept: None,
+        indent: None,
+    };
+    match include_into(d, &setting, rc, out) {
+        Ok(()) => Ok(()),
+        Err(e) => fail_after(rc, Err(e.into_error())),
     }
 }

@@ -1,4 +1,4 @@
-use Rattle.std.proofs.Common.{◌∙◌, ◌+◌, true≢false, refl, sym, ap, map, Option, List, length, arith, string_bytes}
+use Rattle.std.proofs.Common.{rules, None, Some, ◌∷◌, ◌∙◌, ◌+◌, true≢false, refl, sym, ap, map, option_map, Option, List, length, arith, string_bytes}
 use Rattle.std.specs.Prelude.{slice_get}
 use Rattle.handlebars_base.specs.RenderRefusals.{spot_of}
 use Rattle.handlebars_template.specs.Place.{Place}
@@ -23,13 +23,14 @@ use Rattle.handlebars_render.specs.Boxed.{answer_of, error_of}
 use Rattle.handlebars_render.specs.declared.boxed.BoxedError.TheVariants.{OutOfMemory}
 use Rattle.handlebars_render.specs.Targets.{target_in}
 use Rattle.handlebars_render.specs.Bound.{bound_of}
-use Rattle.handlebars_render.specs.View.{called_view, keeping, setting_in, state_of, state_with}
+use Rattle.handlebars_base.specs.Bytes.{Text}
+use Rattle.handlebars_render.specs.View.{called, called_view, keeping, setting_in, state_of, state_with}
 use Rattle.handlebars_render.proofs.Branches.{carries-branch}
 use Rattle.handlebars_render.proofs.Calls.{branch_none, choice_err, choice_ok, chosen_ok, entered_as}
 use Rattle.handlebars_render.proofs.LocalCalls.{chooses-local, chooses-same, refuses-local}
 use Rattle.handlebars_render.proofs.Leaves.{carries_on-leaves}
-use Rattle.handlebars_render.proofs.Carry.{carries-done, carries-no_value, carries-out_of_memory, carries-puts, carries-run, carries-unescaped, carries_on-bracket, carries_on-done, carries_on-handed, carries_on-task, carries_on-task_over, carries_on-step, carries_on-word, restored, carries_on-in_block, carries_on-no_memory, carries_on-out_of_memory}
-use Rattle.handlebars_meaning.specs.State.{entered, hook}
+use Rattle.handlebars_render.proofs.Carry.{carries-done, carries-no_value, carries-out_of_memory, carries-puts, carries-run, carries-unescaped, carries_on-bracket, carries_on-done, carries_on-handed, carries_on-task, carries_on-task_over, carries_on-step, carries_on-word, restored, carries_on-in_block, carries_on-no_memory, carries_on-no_value, carries_on-out_of_memory}
+use Rattle.handlebars_meaning.specs.State.{entered, hook, left}
 use Rattle.handlebars_render.proofs.Elements.{left_starts, left_goes, left_over, left_ends, whole_with}
 use Rattle.handlebars_render.proofs.Kept.{kept-refl, kept-trans, outer-kept, outer-trans}
 use Rattle.handlebars_render.proofs.Lists.{get_or-seen, below-seen, over-seen, place_there, looked_up, placed_marks}
@@ -37,6 +38,18 @@ use Rattle.handlebars_render.proofs.Silent.{carries-does}
 use Rattle.handlebars_render.proofs.Sinks.{same-refl, same-trans}
 use Rattle.handlebars_render.proofs.OwnSteps.{nothing_left, steps-end, steps-go, steps-over}
 use Rattle.handlebars_render.proofs.Turns.{below-kept, binding-seen, carries_on-turn, carries_on-with, entered-with, turns-end, turns-go, turns-no_memory, turns-over}
+use Rattle.handlebars_helpers.specs.DecoratorsView.{tag_view}
+use Rattle.handlebars_template.specs.Tree.{decorator_args, decorator_marks, decorator_name}
+use Rattle.handlebars_template.specs.TreeView.{tree_view}
+use Rattle.handlebars_meaning.specs.Inclusion.{newest}
+use Rattle.handlebars_meaning.specs.Including.{render_ahead}
+use Rattle.handlebars_meaning.specs.Means.{include_tag, line_at, on_line}
+use Rattle.handlebars_meaning.specs.Questions.{view_of}
+use Rattle.handlebars_meaning.specs.Sites.{included_at}
+use Rattle.handlebars_meaning.specs.Steps.{Whole, ask, perform, return}
+use Rattle.handlebars_render.proofs.Asked.{refuses-ask}
+use Rattle.handlebars_render.proofs.Includes.{begins-empty, begun-so, found-none, found-some, kept-more, own-none, own-some, placed, carries_ahead-over, carries_ahead-text, includes-kept, includes-local, includes-own, includes-registered, includes-self, inclusion-ahead, inclusion-ahead_over, inclusion-no_room, inclusion-no_value, inclusion-plain, kept-none, kept-own, kept-text, tag-includes, under-same}
+use Rattle.handlebars_render.proofs.+render.Goals.{partial::include_found-in-Some+in-Ok-render_ahead, partial::include_found-in-Some+in-Err-render_ahead, partial::include_found-in-None}
 use Rattle.handlebars_render.proofs.+render.Goals as goal
 
 -- ---- calls
@@ -462,3 +475,201 @@ pub each::take_turns-returns-clause-renders : goal.each::take_turns-returns-clau
 each::take_turns-returns-clause-renders g t c = λ site kept block v.
     turns-end _ _ site c.turns.invariant.number (helper_call block (call_view c.args.helper.now) v) (path_view c.args.path) _
     c.in_default.ensures (c.turns.invariant.left site kept block v)
+
+-- ---- inclusions
+
+pub partial::render_partial-returns-in-Err-clause-renders : goal.partial::render_partial-returns-in-Err-clause-renders
+partial::render_partial-returns-in-Err-clause-renders g t c = λ site kept.
+    let tag = decorator_view c.args.tag.now in
+    carries_on-handed _ _ c.in-Err.e (error_of c.new.result) c.new.ensures
+    (carries_on-no_value _ _ (ask (view_of (decorator_name tag) (decorator_args tag)))
+    (λ v. on_line (line_at (decorator_marks tag)) (include_tag site tag v)) c.in-Err.e
+    (λ other. refuses-ask _ (view_of (decorator_name tag) (decorator_args tag)) (c.in-Err.ensures kept other)))
+
+pub partial::render_partial-returns-in_err-view-clause-renders : goal.partial::render_partial-returns-in_err-view-clause-renders
+partial::render_partial-returns-in_err-view-clause-renders g t c = λ site kept.
+    carries_on-out_of_memory _ _ c.from_residual.result c.from_residual.ensures.1
+
+pub partial::render_partial-returns-clause-renders : goal.partial::render_partial-returns-clause-renders
+partial::render_partial-returns-clause-renders g t c = λ site kept.
+    let tag = decorator_view c.args.tag.now in
+    let p = setting_in g.P.Registered.parts c.args.setting.now in
+    tag-includes p g.O.Output.may_give site tag (called_view c.in-Ok.call) (tag_view c.in_ok-view.view) (c.in-Ok.ensures kept)
+    c.in_ok-view.ensures (ap (keeping kept) c.enter_partial.ensures.state)
+    (ap (keeping kept) (c.leave_call.ensures.state (state_of c.args.rc.now).line (sym c.get_indent_before_write-before.ensures)
+    (sym c.get_content_produced-produced.ensures)))
+    (c.include-answer.ensures.renders site kept)
+
+pub partial::include-returns-then-is_current_template-clause-renders : goal.partial::include-returns-then-is_current_template-clause-renders
+partial::include-returns-then-is_current_template-clause-renders g t c = λ site kept.
+    includes-self _ _ (tag_view c.args.view.now) site (error_of c.refused.result)
+    (rw c.name.ensures at (sym c.is_current_template.ensures ∙ c.if-is_current_template.true)) c.refused.ensures
+
+pub partial::include-returns-then-is_partial_block-clause-renders : goal.partial::include-returns-then-is_partial_block-clause-renders
+partial::include-returns-then-is_partial_block-clause-renders g t c = λ site kept.
+    includes-kept _ _ (tag_view c.args.view.now) site
+    (rw c.name.ensures at (sym c.is_current_template.ensures ∙ c.if-is_current_template.false))
+    (rw c.name-2.ensures at (sym c.is_partial_block.ensures ∙ c.if-is_partial_block.true))
+    (c.render_kept.ensures.renders site kept)
+
+pub partial::include-returns-in_err-found-clause-renders : goal.partial::include-returns-in_err-found-clause-renders
+partial::include-returns-in_err-found-clause-renders g t c = λ site kept.
+    carries_on-out_of_memory _ _ c.from_residual.result c.from_residual.ensures.1
+
+pub partial::include-returns-in-Some-clause-renders : goal.partial::include-returns-in-Some-clause-renders
+partial::include-returns-in-Some-clause-renders g t c = λ site kept.
+    includes-local _ _ (tag_view c.args.view.now) site (tree_view c.in-Some.tree.value)
+    (rw c.name.ensures at (sym c.is_current_template.ensures ∙ c.if-is_current_template.false))
+    (rw c.name-2.ensures at (sym c.is_partial_block.ensures ∙ c.if-is_partial_block.false))
+    (rw c.name-3.ensures at (rw c.in-Some.is at c.in_ok-found.ensures))
+    (rw c.deref.ensures at (c.include_found.ensures.renders site kept))
+
+pub partial::include-returns-in-Some-template-clause-renders : goal.partial::include-returns-in-Some-template-clause-renders
+partial::include-returns-in-Some-template-clause-renders g t c = λ site kept.
+    includes-registered _ _ (tag_view c.args.view.now) site (tree_view c.in-Some-template.tree.now)
+    (rw c.name.ensures at (sym c.is_current_template.ensures ∙ c.if-is_current_template.false))
+    (rw c.name-2.ensures at (sym c.is_partial_block.ensures ∙ c.if-is_partial_block.false))
+    (rw c.name-3.ensures at (rw c.in-None.is at c.in_ok-found.ensures))
+    (rw c.name-in-None.ensures at c.in-Some-template.ensures)
+    (c.include_found-in-Some-template.ensures.renders site kept)
+
+pub partial::include-returns-clause-renders : goal.partial::include-returns-clause-renders
+partial::include-returns-clause-renders g t c = λ site kept.
+    includes-own _ _ (tag_view c.args.view.now) site
+    (rw c.name.ensures at (sym c.is_current_template.ensures ∙ c.if-is_current_template.false))
+    (rw c.name-2.ensures at (sym c.is_partial_block.ensures ∙ c.if-is_partial_block.false))
+    (rw c.name-3.ensures at (rw c.in-None.is at c.in_ok-found.ensures))
+    (rw c.name-in-None.ensures at c.in-None-template.ensures)
+    (c.include_own.ensures.renders site kept)
+
+pub partial::include_tree-returns-clause-renders : goal.partial::include_tree-returns-clause-renders
+partial::include_tree-returns-clause-renders g t c = λ at kept.
+    under-same _ _ (option_map (λ t. t.now) c.args.text) c.args.count (perform (Whole at (tree_view c.args.tree.now)))
+    (state_of c.args.rc.now) (state_of c.render_tree.new.rc) c.indent.ensures (λ k. c.render_tree.ensures.renders at k) kept
+
+pub partial::render_ahead-returns-in-Ok-clause-ahead : goal.partial::render_ahead-returns-in-Ok-clause-ahead
+partial::render_ahead-returns-in-Ok-clause-ahead g t c = λ at kept held.
+    let z = rw c.in-Ahead.is at (c.in-Ok.ensures.renders at kept) in
+    carries_ahead-text _ _ (begins-empty c.new-text.result c.new-text.ensures)
+    (let same = rw c.in-Ahead.is at c.render_tree-answer.ensures.same in let text = c.into_string.ensures in search rules) z
+
+pub partial::render_ahead-returns-in-Err-clause-ahead : goal.partial::render_ahead-returns-in-Err-clause-ahead
+partial::render_ahead-returns-in-Err-clause-ahead g t c = λ at kept held.
+    carries_ahead-over _ _ _ (begins-empty c.new-text.result c.new-text.ensures)
+    (rw c.in-Ahead.is at (c.in-Err.ensures.renders at kept))
+
+pub partial::render_kept-returns-in-Some-clause-renders : goal.partial::render_kept-returns-in-Some-clause-renders
+partial::render_kept-returns-in-Some-clause-renders g t c = λ site kept.
+    kept-text _ _ (tag_view c.args.view.now) site (tag_view c.args.view.now).body (newest kept.pieces) _
+    (kept.holds ∙ ap (option_map (λ t. t.now)) c.in-Some.is) (c.write_as_is.ensures.puts (state_with kept c.args.rc.now))
+
+pub partial::include_found-returns-in-Err-clause-renders : goal.partial::include_found-returns-in-Err-clause-renders
+partial::include_found-returns-in-Err-clause-renders g t c = λ site kept.
+    let v = tag_view c.args.view.now in
+    let u = tree_view c.args.tree.now in
+    inclusion-no_room _ _ v (included_at site u) u (render_ahead site v.body) (error_of c.in-Err.e) c.in-Err.ensures.err.0 c.in-Err.ensures.err.1
+
+pub partial::include_found-returns-in-Err-inclusion_block-clause-renders : goal.partial::include_found-returns-in-Err-inclusion_block-clause-renders
+partial::include_found-returns-in-Err-inclusion_block-clause-renders g t c = λ site kept.
+    let v = tag_view c.args.view.now in
+    let u = tree_view c.args.tree.now in
+    carries_on-handed _ _ c.in-Err-inclusion_block.e (error_of c.new.result) c.new.ensures
+    (inclusion-no_value _ _ v (included_at site u) u (render_ahead site v.body) c.in-Err-inclusion_block.e c.in-Ok.ensures.ok.0
+    (c.in-Err-inclusion_block.ensures kept))
+
+pub partial::include_found-returns-in_err-name-clause-renders : goal.partial::include_found-returns-in_err-name-clause-renders
+partial::include_found-returns-in_err-name-clause-renders g t c = λ site kept.
+    carries_on-out_of_memory _ _ c.from_residual.result c.from_residual.ensures.1
+
+pub partial::include_found-returns-clause-renders : goal.partial::include_found-returns-clause-renders
+partial::include_found-returns-clause-renders g t c = λ site kept.
+    let v = tag_view c.args.view.now in
+    let u = tree_view c.args.tree.now in
+    let s = state_of c.args.rc.now in
+    let stands = c.in-Ok-inclusion_block.ensures kept in
+    let begins = c.in_ok-name.ensures.ok ∙ ap (λ (f : Frame). called None (entered f s)) stands.2 in
+    elim c.match-template.branch [
+  | partial::include_found-in-Some+in-Ok-render_ahead w ↦
+      rw (w.answer-is, w.sink-is)
+      (found-some _ _ v site u (tree_view w.in-Some.body.now) (rw w.in-Some.is at c.template.ensures)
+      (inclusion-ahead _ _ v site u (tree_view w.in-Some.body.now) stands.0
+      (λ ps. placed v.indent (Some ps ∷ kept.pieces) c.in-Ok.count (state_of w.render_ahead.new.rc))
+      (λ ps. placed v.indent (Some ps ∷ kept.pieces) c.in-Ok.count (state_of w.include_tree.new.rc))
+      c.in-Ok.ensures.ok.0 stands.1 (ap (keeping kept) begins)
+      (w.render_ahead.ensures.ahead (body_at site 0) kept _)
+      (λ ps. kept-more v.indent _ (Some ps) kept.pieces _ c.in-Ok.count (state_of w.render_ahead.new.rc) c.in-Ok.ensures.ok.1)
+      (λ ps. ap (keeping kept) (rw w.rc-is at c.end.ensures.state ∙ ap (λ (n : Option Text). called n (left (state_of w.include_tree.new.rc))) c.in_ok-name.ensures.name))
+      (λ ps is. w.include_tree.ensures.renders (included_at site u)
+      (record { pieces = Some ps ∷ kept.pieces; holds = ap Some (sym is ∙ sym w.as_str.ensures.value) }))))
+  | partial::include_found-in-Some+in-Err-render_ahead w ↦
+      rw (w.answer-is, w.sink-is)
+      (found-some _ _ v site u (tree_view w.in-Some.body.now) (rw w.in-Some.is at c.template.ensures)
+      (inclusion-ahead_over _ _ v site u (tree_view w.in-Some.body.now) stands.0 c.in-Ok.ensures.ok.0 stands.1
+      (ap (keeping kept) begins) (w.render_ahead.ensures.ahead (body_at site 0) kept _)))
+  | partial::include_found-in-None w ↦
+      rw (w.answer-is, w.sink-is)
+      (found-none _ _ v site u (rw w.in-None.is at c.template.ensures)
+      (inclusion-plain _ _ v (included_at site u) u stands.0 c.in-Ok.ensures.ok.0 stands.1
+      (begun-so v.indent _ None kept.pieces _ c.in-Ok.count c.in-Ok.ensures.ok.1 begins)
+      (ap (keeping kept) (rw w.rc-is at c.end.ensures.state ∙ ap (λ (n : Option Text). called n (left (state_of w.include_tree-in-None.new.rc))) c.in_ok-name.ensures.name))
+      (w.include_tree-in-None.ensures.renders (included_at site u) (record { pieces = None ∷ kept.pieces; holds = refl }))))
+]
+
+-- ---- the tag's own block
+
+pub partial::include_own-returns-in_default-clause-renders : goal.partial::include_own-returns-in_default-clause-renders
+partial::include_own-returns-in_default-clause-renders g t c = λ site kept.
+    let v = tag_view c.args.view.now in
+    own-none _ _ v site v.body (error_of c.no_partial.result) (rw c.in_default.is at c.template.ensures)
+    (rw c.name.ensures at c.no_partial.ensures)
+
+pub partial::include_own-returns-in-Err-clause-renders : goal.partial::include_own-returns-in-Err-clause-renders
+partial::include_own-returns-in-Err-clause-renders g t c = λ site kept.
+    let v = tag_view c.args.view.now in
+    let u = tree_view c.in-Some.body.now in
+    own-some _ _ v site v.body u (rw c.in-Some.is at c.template.ensures)
+    (inclusion-no_room _ _ v (body_at site 0) u (return None) (error_of c.in-Err.e) c.in-Err.ensures.err.0 c.in-Err.ensures.err.1)
+
+pub partial::include_own-returns-in-Err-inclusion_block-clause-renders : goal.partial::include_own-returns-in-Err-inclusion_block-clause-renders
+partial::include_own-returns-in-Err-inclusion_block-clause-renders g t c = λ site kept.
+    let v = tag_view c.args.view.now in
+    let u = tree_view c.in-Some.body.now in
+    own-some _ _ v site v.body u (rw c.in-Some.is at c.template.ensures)
+    (carries_on-handed _ _ c.in-Err-inclusion_block.e (error_of c.new.result) c.new.ensures
+    (inclusion-no_value _ _ v (body_at site 0) u (return None) c.in-Err-inclusion_block.e c.in-Ok.ensures.ok.0
+    (c.in-Err-inclusion_block.ensures kept)))
+
+pub partial::include_own-returns-in_err-name-clause-renders : goal.partial::include_own-returns-in_err-name-clause-renders
+partial::include_own-returns-in_err-name-clause-renders g t c = λ site kept.
+    carries_on-out_of_memory _ _ c.from_residual.result c.from_residual.ensures.1
+
+pub partial::include_own-returns-clause-renders : goal.partial::include_own-returns-clause-renders
+partial::include_own-returns-clause-renders g t c = λ site kept.
+    let v = tag_view c.args.view.now in
+    let u = tree_view c.in-Some.body.now in
+    let s = state_of c.args.rc.now in
+    let stands = c.in-Ok-inclusion_block.ensures kept in
+    let begins = c.in_ok-name.ensures.ok ∙ ap (λ (f : Frame). called None (entered f s)) stands.2 in
+    own-some _ _ v site v.body u (rw c.in-Some.is at c.template.ensures)
+    (inclusion-plain _ _ v (body_at site 0) u stands.0 c.in-Ok.ensures.ok.0 stands.1
+    (begun-so v.indent _ None kept.pieces _ c.in-Ok.count c.in-Ok.ensures.ok.1 begins)
+    (ap (keeping kept) (c.end.ensures.state ∙ ap (λ (n : Option Text). called n (left (state_of c.include_tree-answer.new.rc))) c.in_ok-name.ensures.name))
+    (rw c.deref.ensures at (c.include_tree-answer.ensures.renders (body_at site 0) (record { pieces = None ∷ kept.pieces; holds = refl }))))
+
+-- ---- the kept text
+
+pub partial::render_kept-returns-in_default-clause-renders : goal.partial::render_kept-returns-in_default-clause-renders
+partial::render_kept-returns-in_default-clause-renders g t c = λ site kept.
+    let v = tag_view c.args.view.now in
+    kept-none _ _ v site v.body (newest kept.pieces) (error_of c.refused.result)
+    (kept.holds ∙ ap (option_map (λ t. t.now)) c.in-None.is) (rw c.in_default.is at c.template.ensures) c.refused.ensures
+
+pub partial::render_kept-returns-clause-renders : goal.partial::render_kept-returns-clause-renders
+partial::render_kept-returns-clause-renders g t c = λ site kept.
+    let v = tag_view c.args.view.now in
+    let s = state_of c.args.rc.now in
+    kept-own _ _ v site v.body (tree_view c.in-Some.body.now) (newest kept.pieces)
+    (kept.holds ∙ ap (option_map (λ t. t.now)) c.in-None.is) (rw c.in-Some.is at c.template.ensures)
+    (ap (keeping kept) c.take_name-name.ensures.state)
+    (ap (keeping kept) (c.set_current_template_name.ensures.state ∙ ap (λ (n : Option Text). called n (state_of c.render_tree-answer.new.rc)) c.take_name-name.ensures.name))
+    (rw c.deref.ensures at (c.render_tree-answer.ensures.renders (body_at site 0) kept))
