@@ -321,7 +321,7 @@ impl<E: OwnParts> RegistryOf<E> {
         ensures err { IfErr result (λ e. reason_in e ≢ out_of_memory
             → RefusesWith (setting_of E.registered E.own self.now ctx.now) (FromSource (options_of self.now) source.now) (refusal_of e)) }
 
-        // There is at most one such answer, and each of its pieces comes from the source's tree and the data.
+        // There is at most one such answer, and each of its pieces comes from a tree of the run and the data.
         ensures one { HasOneAnswer (setting_of E.registered E.own self.now ctx.now) (FromSource (options_of self.now) source.now) }
         ensures origins { AnswerHasOrigins (setting_of E.registered E.own self.now ctx.now) (FromSource (options_of self.now) source.now) }
         ensures unread { _files.new ≡ _files.old }
