@@ -45,15 +45,17 @@ data-none (walked e p) is = cc
 data-none (value e) is = cc
 data-none missing is = refl
 
+first : (v q : PathAndData) → Some q ≡ Some v → v ≡ q
+first v q is = cc
+
 module _ (p : Setting) (s : State) where
   -- the value of the first parameter
   pub base-param : (vs : List PathAndData) (q : PathAndData) → Some q ≡ slice_get vs 0
       → GivesValue p (base_value vs) s (data_in q.found)
   base-param [] q is = cc
-  base-param (v ∷ vs) q is = λ k ps o r. subst (λ (z : PathAndData). _) (first q v is) r
-    where
-      first : (q v : PathAndData) → Some q ≡ slice_get (v ∷ vs) 0 → q ≡ v
-      first q v is = cc
+  base-param (v ∷ vs) q is =
+      let same : v ≡ q = first v q is in
+      subst (λ (z : PathAndData). GivesValue p (base_value (v ∷ vs)) s (data_in z.found)) same (λ k ps o r. r)
 
   -- the current value
   here-gives : (found : Found) → HasValue p s here (gives found) → GivesValue p (base_value []) s (data_in found)

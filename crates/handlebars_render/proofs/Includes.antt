@@ -12,13 +12,14 @@ use Rattle.handlebars_base.specs.PathAndData.{PathAndData}
 use Rattle.handlebars_base.specs.Reasons.{Refusal, cannot_include_self, inclusion_limit, out_of_memory, partial_block_not_found, partial_not_found}
 use Rattle.handlebars_base.specs.RenderRefusals.{plain_refusal, reason_in, refusal_of}
 use Rattle.handlebars_base.specs.declared.error.render_error.RenderError.{RenderError}
+use Rattle.handlebars_scope.specs.LineState.{LineState}
 use Rattle.handlebars_template.specs.Tree.{Tree, tree, Body, body, no_body, Decorator, decorator_args, decorator_marks, decorator_name}
 use Rattle.handlebars_helpers.specs.CallView.{CallView}
 use Rattle.handlebars_helpers.specs.Decoration.{DecoratorView}
 use Rattle.handlebars_meaning.specs.CarryOut.{change}
 use Rattle.handlebars_meaning.specs.Inclusion.{Partial, found_by, local_or_other, registered_or_own, is_current, newest, own_block, pair_values, inclusion_block, begun, named_as_before, over}
 use Rattle.handlebars_meaning.specs.Including.{base_value, enter_block, include, include_found, include_named, include_other, include_partial, include_tree, partial_block_name, render_ahead, render_own_block, write_kept}
-use Rattle.handlebars_meaning.specs.Means.{include_tag, line_at, line_out, on_line, render_partial, shown_tag, todo}
+use Rattle.handlebars_meaning.specs.Means.{include_tag, line_at, line_out, on_line, render_elements, render_partial, shown_tag, todo}
 use Rattle.handlebars_meaning.specs.Pieces.{Piece, join}
 use Rattle.handlebars_meaning.specs.Questions.{view_of}
 use Rattle.handlebars_meaning.specs.Runs.{Outcome, Ended, Refused, Faulted, NoMemory, IsOver, Runs, refused, got, set, did, did_over, captured, captured_over, looked, has_room, has_none, stop}
@@ -53,12 +54,20 @@ begins-empty fresh is = ap (λ (h : Held). record { text = h.text; faults = 0 })
 module _ (p : Setting) where
   -- ---- a tree makes its own name the current one, whatever was current before
 
+  set-anywhere : {s other next : State} {k : Steps} {ps : List Piece} {o : Outcome} → Runs p (Set next k) s ps o
+      → Runs p (Set next k) other ps o
+  set-anywhere (set r) = set r
+  set-anywhere stop = stop
+
+  named-anyhow : {c : Option Text} (n : Option Text) (k : Steps) {s : State} {ps : List Piece} {o : Outcome}
+      → Runs p (Get (λ z. Set (called n z) k)) (called c s) ps o → Runs p (Get (λ z. Set (called n z) k)) s ps o
+  named-anyhow n k (got r) = got (set-anywhere r)
+  named-anyhow n k stop = stop
+
   whole-renamed : {c : Option Text} {s : State} {ps : List Piece} {o : Outcome} (site : TreeSite) (t : Tree)
       → Runs p (todo (Whole site t)) (called c s) ps o → Runs p (todo (Whole site t)) s ps o
   unfolding ◌>>=◌ ◌>>◌
-  whole-renamed site (tree n es places) (got (set r)) = got (set r)
-  whole-renamed site (tree n es places) (got stop) = stop
-  whole-renamed site (tree n es places) stop = stop
+  whole-renamed site (tree n es places) r = named-anyhow n (render_elements site 0 es places (λ u. Done)) r
 
   do-renamed : {c : Option Text} {s : State} {k : Steps} {ps : List Piece} {o : Outcome} (site : TreeSite) (t : Tree)
       → Runs p (Do (Whole site t) k) (called c s) ps o → Runs p (Do (Whole site t) k) s ps o
@@ -192,7 +201,7 @@ module _ (p : Setting) (may : Error → Type 0) where
   then_change m f is (is_over c) = carries_on-over p may m (change f) (carries_on-elsewhere p may (is_over c))
 
   -- the line around an inclusion
-  pub carries_on-line : (enter : _) (m : Prog (Unit {0})) {s mid next last : State} {h new : Held} {r : Answered}
+  pub carries_on-line : (enter : LineState → LineState) (m : Prog (Unit {0})) {s mid next last : State} {h new : Held} {r : Answered}
       → mid ≡ record s { line = enter s.line } → last ≡ record next { line = line_out s.line next.line }
       → CarriesOn p m may (at mid h) r (at next new) → CarriesOn p (on_line enter m) may (at s h) r (at last new)
   unfolding ◌>>=◌ ◌>>◌
