@@ -59,9 +59,7 @@ pub fn render_tag<'a, O: Output, P: Registered>(
             Ok(())
         }
         Ok(Next::Branch(truth)) => render_branch(helper, setting, truth, rc, sink),
-        Ok(Next::Call(to_call)) => {
-            render_next(helper, setting, block, Box::into_inner(to_call), rc, sink)
-        }
+        Ok(Next::Call(to_call)) => render_boxed(helper, setting, block, to_call, rc, sink),
         Err(e) => Err(e),
     }
 }
@@ -88,6 +86,27 @@ fn render_branch<'a, O: Output, P: Registered>(
     let answer = render_word(helper, setting, true, truth, rc, sink);
     leave_call(rc, before, produced);
     answer
+}
+
+// Calls a helper that stands in a box. It stands outside of its caller, which takes little of the stack where no helper has to
+// be called.
+#[inline(never)]
+#[cycle(render)]
+fn render_boxed<'a, O: Output, P: Registered>(
+    helper: &'a HelperTemplate,
+    setting: &Setting<'_, 'a, P>,
+    block: bool,
+    to_call: Box<ToCall<'a>>,
+    rc: &mut RenderContext,
+    sink: &mut Sink<'_, O>,
+) -> Result<(), BoxedError>
+    ensures renders { (site : Site) (kept : KeptIn (within setting.now)) → CarriesOn (setting_in P.parts setting.now)
+        (render_next site block (call_view helper.now) to_call.entry.value)
+        O.may_give (moment kept rc.old (held_in O.held sink.old)) (answer_of result) (moment kept rc.new (held_in O.held sink.new)) }
+    ensures kept { IsKept rc.old rc.new }
+    ensures same { IsSame sink.old sink.new }
+{
+    render_next(helper, setting, block, Box::into_inner(to_call), rc, sink)
 }
 
 // Calls a helper. In the bracket the line takes note of what is written.

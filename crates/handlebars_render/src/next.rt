@@ -75,7 +75,9 @@ impl<'a> ToCall<'a> {
     }
 }
 
-/// Writes a value, or finds the helper that is to be called for a block or an expression.
+/// Writes a value, or finds the helper that is to be called for a block or an expression. Its caller recurses, and has no room
+/// for what it needs.
+#[inline(never)]
 pub fn settle_tag<'a, O: Output, P: Registered>(
     helper: &'a HelperTemplate,
     setting: &Setting<'_, 'a, P>,

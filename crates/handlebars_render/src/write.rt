@@ -65,7 +65,9 @@ pub fn indent_aware_write<O: Output>(
 
 // ---- texts
 
-/// Writes a text, and takes note of the line behind it.
+/// Writes a text, and takes note of the line behind it. Its callers recurse, and have no room for
+/// what it needs.
+#[inline(never)]
 pub(super) fn write_text<O: Output, P>(
     setting: &Setting<P>,
     text: &str,
@@ -383,7 +385,9 @@ fn write_as_is_to<O: Output>(alloc: Global, text: &str, out: &mut O) -> Result<(
     }
 }
 
-/// Writes the word of a boolean helper, as it is, whatever the line.
+/// Writes the word of a boolean helper, as it is, whatever the line. Its callers recurse, and have no room for
+/// what it needs.
+#[inline(never)]
 pub(super) fn write_word<O: Output>(
     alloc: Global,
     word: bool,

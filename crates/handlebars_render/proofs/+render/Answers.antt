@@ -61,7 +61,11 @@ block::render_tag-returns-in-Ok-Done-clause-renders g t c = λ site kept.
 pub block::render_tag-returns-in-Ok-Call-clause-renders : goal.block::render_tag-returns-in-Ok-Call-clause-renders
 block::render_tag-returns-in-Ok-Call-clause-renders g t c = λ site kept.
     let left = rw c.in-Ok-Call.field-0-is at (c.in-Ok-Call.ensures.comes site kept) in
-    carries_on-leaves _ _ _ _ left.0 left.1 (rw c.into_inner.ensures at (c.render_next.ensures.renders site kept))
+    carries_on-leaves _ _ _ _ left.0 left.1 (c.render_boxed.ensures.renders site kept)
+
+pub block::render_boxed-returns-clause-renders : goal.block::render_boxed-returns-clause-renders
+block::render_boxed-returns-clause-renders g t c = λ site kept.
+    rw c.into_inner.ensures at (c.render_next.ensures.renders site kept)
 
 pub block::render_tag-returns-in-Ok-Branch-clause-renders : goal.block::render_tag-returns-in-Ok-Branch-clause-renders
 block::render_tag-returns-in-Ok-Branch-clause-renders g t c = λ site kept.

@@ -18,16 +18,19 @@ abbrev pub decreases-tree::render_tree : goal.decreases-tree::render_tree
 decreases-tree::render_tree g l = 16 * l.setting.room
 
 abbrev pub decreases-tree::render_whole : goal.decreases-tree::render_whole
-decreases-tree::render_whole g l = 16 * l.setting.room + 14
+decreases-tree::render_whole g l = 16 * l.setting.room + 15
 
 abbrev pub decreases-element::render_element : goal.decreases-element::render_element
-decreases-element::render_element g l = 16 * l.setting.room + 13
+decreases-element::render_element g l = 16 * l.setting.room + 14
 
 abbrev pub decreases-element::render_unescaped : goal.decreases-element::render_unescaped
-decreases-element::render_unescaped g l = 16 * l.setting.room + 12
+decreases-element::render_unescaped g l = 16 * l.setting.room + 13
 
 abbrev pub decreases-block::render_tag : goal.decreases-block::render_tag
-decreases-block::render_tag g l = 16 * l.setting.room + 11
+decreases-block::render_tag g l = 16 * l.setting.room + 12
+
+abbrev pub decreases-block::render_boxed : goal.decreases-block::render_boxed
+decreases-block::render_boxed g l = 16 * l.setting.room + 11
 
 abbrev pub decreases-block::render_next : goal.decreases-block::render_next
 decreases-block::render_next g l = 16 * l.setting.room + 10
