@@ -573,6 +573,7 @@ impl RenderContext {
         }
     }
 
+    #[inline(never)]
     fn enter_name(&mut self, name: &String) -> Result<(), AllocError>
         ensures ok { OnOk result (state_of self.new
             ≡ record (state_of self.old) { current = Some (string_bytes name.now) }) }

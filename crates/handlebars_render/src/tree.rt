@@ -78,6 +78,8 @@ fn render_whole<'a, O: Output, P: Registered>(
 }
 
 /// With the position of an element, where it has one and none is known yet.
+#[cold]
+#[inline(never)]
 pub fn placed(error: BoxedError, place: Option<&TemplateMapping>) -> BoxedError
     ensures spot { reason_in (error_of result) ≢ out_of_memory
         → spot_of (error_of result) ≡ placed_at (option_map (λ m. place_of m.now) place.entry) (spot_of (error_of error)) }
@@ -90,6 +92,8 @@ pub fn placed(error: BoxedError, place: Option<&TemplateMapping>) -> BoxedError
 }
 
 // With the name of a template, where it has one and none is known yet.
+#[cold]
+#[inline(never)]
 fn named(alloc: Global, error: BoxedError, name: &Option<String>) -> BoxedError
     ensures spot { reason_in (error_of result) ≢ out_of_memory
         → spot_of (error_of result) ≡ named_as (option_map string_bytes name.now) (spot_of (error_of error)) }
