@@ -1,8 +1,11 @@
 -- The block of an inclusion.
-use Rattle.std.proofs.Common.{◌≡◌, ◌≢◌, List, [], ◌∷◌, map, Option, Some, None, refl, sym, ap, ◌∙◌, subst}
+use Rattle.std.proofs.Common.{rules, ◌≡◌, ◌≢◌, List, [], ◌∷◌, map, Option, Some, None, refl, sym, ap, ◌∙◌, subst}
 use Rattle.std.specs.Prelude.{slice_get}
 use denote.Ref.{Bor}
 use Rattle.serde_json.specs.Data.{Data, null}
+use Rattle.serde_json.specs.View.{view}
+use Rattle.serde_json.specs.declared.value.Value as json
+use Rattle.serde_json.specs.declared.value.Value.{the_lemmas}
 use Rattle.handlebars_base.specs.Answers.{gives, refuses, answer_map}
 use Rattle.handlebars_base.specs.Bytes.{Text}
 use Rattle.handlebars_base.specs.Path.{Reference, relative}
@@ -27,7 +30,10 @@ use Rattle.handlebars_render.proofs.LoneValues.{reached-value, reached-none-as}
 -- the pairs of a view, by their values
 pub pairs-seen : (hs : List (Bor Text × PathAndJson)) → pair_values (map (λ e. (e.0.now, path_and_data e.1)) hs) ≡ pairs_in hs
 pairs-seen [] = refl
-pairs-seen (h ∷ hs) = ap (λ ps. (h.0.now, _) ∷ ps) (pairs-seen hs)
+pairs-seen (h ∷ hs) = ap (λ (ps : List (Text × Data)). (h.0.now, data_in (path_and_data h.1).found) ∷ ps) (pairs-seen hs)
+
+pub view-null : view json.Null ≡ null
+view-null = search (rules, the_lemmas)
 
 -- a value merged with pairs that are seen otherwise
 pub merged-seen : (d e : Data) (hs : List (Bor Text × PathAndJson)) {vs : List (Text × PathAndData)} {x : Data}

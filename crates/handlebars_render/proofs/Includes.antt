@@ -205,11 +205,11 @@ module _ (p : Setting) (may : Error → Type 0) where
       → mid ≡ record s { line = enter s.line } → last ≡ record next { line = line_out s.line next.line }
       → CarriesOn p m may (at mid h) r (at next new) → CarriesOn p (on_line enter m) may (at s h) r (at last new)
   unfolding ◌>>=◌ ◌>>◌
-  carries_on-line enter m {s = s} {h = h} {new = new} starts ends (goes_on c) = goes_on (λ k r last d.
+  carries_on-line enter m {s = s} {h = h} {new = new} starts behind_it (goes_on c) = goes_on (λ k r last d.
       let back : Unit {0} → Steps = λ v. Get (λ z. Set (record z { line = line_out s.line z.line }) (k tt)) in
-      let behind = carries-get p may (carries-set p may (subst (λ (z : State). CarriesOut p (k tt) may (at z new) r last) ends d)) in
+      let behind = carries-get p may (carries-set p may (subst (λ (z : State). CarriesOut p (k tt) may (at z new) r last) behind_it d)) in
       carries-get p may (carries-set p may (subst (λ (z : State). CarriesOut p (m back) may (at z h) r last) starts (c back r last behind))))
-  carries_on-line enter m {s = s} {last = last} {h = h} {new = new} starts ends (is_over {e = e} c) = is_over (λ k.
+  carries_on-line enter m {s = s} {last = last} {h = h} {new = new} starts behind_it (is_over {e = e} c) = is_over (λ k.
       let back : Unit {0} → Steps = λ v. Get (λ z. Set (record z { line = line_out s.line z.line }) (k tt)) in
       carries-get p may (carries-set p may (subst (λ (z : State). CarriesOut p (m back) may (at z h) (Err e) (at last new)) starts
       (carries-elsewhere p may (c back)))))
@@ -245,7 +245,7 @@ module _ (p : Setting) (may : Error → Type 0) where
 
     enters : (d : Data) {s : State} {h : Held} {u : Unit {0}} → GivesValue p (base_value v.call.params) s d
         → CarriesOn p (enter_block v) may (at s h) (Ok u) (at (in_block_of d s) h)
-    enters d {u = u} gives = carries_on-value p may (base_value v.call.params) (λ e. change (in_block_of e)) gives
+    enters d {u = u} valued = carries_on-value p may (base_value v.call.params) (λ e. change (in_block_of e)) valued
         (carries_on-change p may (in_block_of d) {u = u} refl)
 
     -- what is left of an inclusion once it is known what is kept
@@ -271,10 +271,10 @@ module _ (p : Setting) (may : Error → Type 0) where
         → CarriesOn p (perform (Whole site t)) may (at mid h) r (at next new)
         → CarriesOn p (include_tree v site t (return None)) may (at s h) r (at last new)
     unfolding ◌>>=◌
-    inclusion-plain site t d {c = c} {s = s} {next = next} {h = h} {new = new} {r = r} lt gives starts ends x =
+    inclusion-plain site t d {c = c} {s = s} {next = next} {h = h} {new = new} {r = r} lt valued starts ends x =
         carries_on-room (state >>= inside site t (return None)) lt
         (carries_on-get p may (inside site t (return None))
-        (carries_on-then p may (enter_block v) (rest site t s None) (enters d {u = tt} gives)
+        (carries_on-then p may (enter_block v) (rest site t s None) (enters d {u = tt} valued)
         (rest-carries site t s None refl ends (renamed site t
         (subst (λ (z : State). CarriesOn p (perform (Whole site t)) may (at z h) r (at next new)) starts x)))))
 
@@ -289,12 +289,12 @@ module _ (p : Setting) (may : Error → Type 0) where
         → CarriesOn p (perform (Whole (included_at site t) t)) may (at (began ps) between) r (at (next ps) new))
         → CarriesOn p (include_tree v (included_at site t) t (render_ahead site (body b))) may (at s h) r (at last new)
     unfolding ◌>>=◌
-    inclusion-ahead site t b d {text = text} {c = c} {s = s} {behind = behind} began next {h = h} {between = between} lt gives starts ahead counts ends x =
+    inclusion-ahead site t b d {text = text} {c = c} {s = s} {behind = behind} began next {h = h} {between = between} lt valued starts ahead counts ends x =
         let m : Prog (List Piece) = capture (perform (Whole (body_at site 0) b)) in
         let f : List Piece → Prog (Unit {0}) = λ ps. rest (included_at site t) t s (Some ps) in
         carries_on-room (state >>= inside (included_at site t) t (render_ahead site (body b))) lt
         (carries_on-get p may (inside (included_at site t) t (render_ahead site (body b)))
-        (carries_on-then p may (enter_block v) (m >>= f) (enters d {u = tt} gives)
+        (carries_on-then p may (enter_block v) (m >>= f) (enters d {u = tt} valued)
         (ahead-then m f (ahead-renamed (body_at site 0) b
         (subst (λ (z : State). CarriesAhead p m may (at z h) (Ok text) (at behind between)) starts ahead))
         (λ ps is. rest-carries (included_at site t) t s (Some ps) (counts ps) (ends ps) (x ps is)))))
@@ -306,12 +306,12 @@ module _ (p : Setting) (may : Error → Type 0) where
         → CarriesAhead p (capture (perform (Whole (body_at site 0) b))) may (at mid h) (Err e) (at behind new)
         → CarriesOn p (include_tree v (included_at site t) t (render_ahead site (body b))) may (at s h) (Err e) (at last new)
     unfolding ◌>>=◌
-    inclusion-ahead_over site t b d {e = e} {c = c} {s = s} {behind = behind} {h = h} {new = new} lt gives starts ahead =
+    inclusion-ahead_over site t b d {e = e} {c = c} {s = s} {behind = behind} {h = h} {new = new} lt valued starts ahead =
         let m : Prog (List Piece) = capture (perform (Whole (body_at site 0) b)) in
         let f : List Piece → Prog (Unit {0}) = λ ps. rest (included_at site t) t s (Some ps) in
         carries_on-room (state >>= inside (included_at site t) t (render_ahead site (body b))) lt
         (carries_on-get p may (inside (included_at site t) t (render_ahead site (body b)))
-        (carries_on-then p may (enter_block v) (m >>= f) (enters d {u = tt} gives)
+        (carries_on-then p may (enter_block v) (m >>= f) (enters d {u = tt} valued)
         (carries_on-elsewhere p may (ahead-over m f (ahead-renamed (body_at site 0) b
         (subst (λ (z : State). CarriesAhead p m may (at z h) (Err e) (at behind new)) starts ahead))))))
 

@@ -104,10 +104,10 @@ module _ (may : Error → Type 0) where
     memory = memory;
   }
 
-  pub puts_to-no_memory : (t : Text) {s : State} {h : Held} (r : Result CodeLine BoxedError)
+  pub puts_to-no_memory : (t : Text) (s : State) (h : Held) (r : Result CodeLine BoxedError)
       → IsErrAnd r (λ e. reason_in (error_of e) ≡ out_of_memory) → PutsTo t may (at s h) (answer_of r) h
-  puts_to-no_memory t (Ok line) is = absurd is
-  puts_to-no_memory t (Err e) is = puts_nothing t (error_of e) is
+  puts_to-no_memory t s h (Ok line) is = absurd is
+  puts_to-no_memory t s h (Err e) is = puts_nothing t (error_of e) is
 
   -- ---- words
 

@@ -63,10 +63,10 @@ module _ (p : Setting) where
       (subst (λ (z : DecoratorView). Does p (decorate_as z) s r next) same d))
 
   -- an error that says that memory ran out, as `?` hands it on
-  pub does-no_memory : (m : Prog (Unit {0})) {s next : State} (r : Result (Unit {0}) BoxedError)
+  pub does-no_memory : (m : Prog (Unit {0})) (s next : State) (r : Result (Unit {0}) BoxedError)
       → IsErrAnd r (λ e. reason_in (error_of e) ≡ out_of_memory) → Does p m s (answer_of r) next
-  does-no_memory m (Ok u) is = absurd is
-  does-no_memory m (Err e) is = λ other. absurd (other is)
+  does-no_memory m s next (Ok u) is = absurd is
+  does-no_memory m s next (Err e) is = λ other. absurd (other is)
 
   -- ---- deeds
 

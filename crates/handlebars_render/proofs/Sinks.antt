@@ -68,7 +68,7 @@ uncounted-part t h new e part =
 uncounted-whole : (t : Text) (h new : Held) → IsWhole t h new → IsWhole t (uncounted h) (uncounted new)
 uncounted-whole t h new whole = record { text = whole.text; faults = refl }
 
-module _ {may : Error → Type 0} where
+module _ (may : Error → Type 0) where
   pub ahead-puts : (t : Text) {s next : State} {h new : Held} {r : Answered}
       → Puts t (λ e. error_kind e ≡ OutOfMemory) (at s h) r (at next new)
       → Puts t may (at s (uncounted h)) r (at next (uncounted new))

@@ -615,8 +615,8 @@ partial::include_found-returns-clause-renders g t c = λ site kept.
       (found-none _ _ v site u (rw w.in-None.is at c.template.ensures)
       (inclusion-plain _ _ v (included_at site u) u stands.0 c.in-Ok.ensures.ok.0 stands.1
       (begun-so v.indent _ None kept.pieces _ c.in-Ok.count c.in-Ok.ensures.ok.1 begins)
-      (ap (keeping kept) (rw w.rc-is at c.end.ensures.state ∙ ap (λ (n : Option Text). called n (left (state_of w.include_tree-in-None.new.rc))) c.in_ok-name.ensures.name))
-      (w.include_tree-in-None.ensures.renders (included_at site u) (record { pieces = None ∷ kept.pieces; holds = refl }))))
+      (ap (keeping kept) (rw w.rc-is at c.end.ensures.state ∙ ap (λ (n : Option Text). called n (left (state_of w.include_tree-answer.new.rc))) c.in_ok-name.ensures.name))
+      (w.include_tree-answer.ensures.renders (included_at site u) (record { pieces = None ∷ kept.pieces; holds = refl }))))
 ]
 
 -- ---- the tag's own block
@@ -658,22 +658,22 @@ partial::include_own-returns-clause-renders g t c = λ site kept.
     (inclusion-plain _ _ v (body_at site 0) u stands.0 c.in-Ok.ensures.ok.0 stands.1
     (begun-so v.indent _ None kept.pieces _ c.in-Ok.count c.in-Ok.ensures.ok.1 begins)
     (ap (keeping kept) (c.end.ensures.state ∙ ap (λ (n : Option Text). called n (left (state_of c.include_tree-answer.new.rc))) c.in_ok-name.ensures.name))
-    (rw c.deref.ensures at (c.include_tree-answer.ensures.renders (body_at site 0) (record { pieces = None ∷ kept.pieces; holds = refl }))))
+    (c.include_tree-answer.ensures.renders (body_at site 0) (record { pieces = None ∷ kept.pieces; holds = refl })))
 
 -- ---- the kept text
 
-pub partial::render_kept-returns-in_default-clause-renders : goal.partial::render_kept-returns-in_default-clause-renders
-partial::render_kept-returns-in_default-clause-renders g t c = λ site kept.
+pub partial::render_kept-returns-in_default-template-clause-renders : goal.partial::render_kept-returns-in_default-template-clause-renders
+partial::render_kept-returns-in_default-template-clause-renders g t c = λ site kept.
     let v = tag_view c.args.view.now in
     kept-none _ _ v site v.body (newest kept.pieces) (error_of c.refused.result)
-    (kept.holds ∙ ap (option_map (λ t. t.now)) c.in-None.is) (rw c.in_default.is at c.template.ensures) c.refused.ensures
+    (kept.holds ∙ ap (option_map (λ t. t.now)) c.in_default.is) (rw c.in_default-template.is at c.template.ensures) c.refused.ensures
 
 pub partial::render_kept-returns-clause-renders : goal.partial::render_kept-returns-clause-renders
 partial::render_kept-returns-clause-renders g t c = λ site kept.
     let v = tag_view c.args.view.now in
     let s = state_of c.args.rc.now in
-    kept-own _ _ v site v.body (tree_view c.in-Some.body.now) (newest kept.pieces)
-    (kept.holds ∙ ap (option_map (λ t. t.now)) c.in-None.is) (rw c.in-Some.is at c.template.ensures)
+    kept-own _ _ v site v.body (tree_view c.in-Some-template.body.now) (newest kept.pieces)
+    (kept.holds ∙ ap (option_map (λ t. t.now)) c.in_default.is) (rw c.in-Some-template.is at c.template.ensures)
     (ap (keeping kept) c.take_name-name.ensures.state)
     (ap (keeping kept) (c.set_current_template_name.ensures.state ∙ ap (λ (n : Option Text). called n (state_of c.render_tree-answer.new.rc)) c.take_name-name.ensures.name))
-    (rw c.deref.ensures at (c.render_tree-answer.ensures.renders (body_at site 0) kept))
+    (c.render_tree-answer.ensures.renders (body_at site 0) kept)

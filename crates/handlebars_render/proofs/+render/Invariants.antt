@@ -15,97 +15,97 @@ use Rattle.handlebars_render.proofs.+render.Given as goal
 
 -- Each tree within another leaves room for one less; from one tree to the next the functions follow in this order.
 abbrev pub decreases-tree::render_tree : goal.decreases-tree::render_tree
-decreases-tree::render_tree g l = 16 * l.setting.room
+decreases-tree::render_tree g l = 16 * l.setting.now.room
 
 abbrev pub decreases-tree::render_whole : goal.decreases-tree::render_whole
-decreases-tree::render_whole g l = 16 * l.setting.room + 15
+decreases-tree::render_whole g l = 16 * l.setting.now.room + 15
 
 abbrev pub decreases-element::render_element : goal.decreases-element::render_element
-decreases-element::render_element g l = 16 * l.setting.room + 14
+decreases-element::render_element g l = 16 * l.setting.now.room + 14
 
 abbrev pub decreases-element::render_unescaped : goal.decreases-element::render_unescaped
-decreases-element::render_unescaped g l = 16 * l.setting.room + 13
+decreases-element::render_unescaped g l = 16 * l.setting.now.room + 13
 
 abbrev pub decreases-block::render_tag : goal.decreases-block::render_tag
-decreases-block::render_tag g l = 16 * l.setting.room + 12
+decreases-block::render_tag g l = 16 * l.setting.now.room + 12
 
 abbrev pub decreases-block::render_boxed : goal.decreases-block::render_boxed
-decreases-block::render_boxed g l = 16 * l.setting.room + 11
+decreases-block::render_boxed g l = 16 * l.setting.now.room + 11
 
 abbrev pub decreases-block::render_next : goal.decreases-block::render_next
-decreases-block::render_next g l = 16 * l.setting.room + 10
+decreases-block::render_next g l = 16 * l.setting.now.room + 10
 
 abbrev pub decreases-block::render_chosen : goal.decreases-block::render_chosen
-decreases-block::render_chosen g l = 16 * l.setting.room + 9
+decreases-block::render_chosen g l = 16 * l.setting.now.room + 9
 
 abbrev pub decreases-block::render_local : goal.decreases-block::render_local
-decreases-block::render_local g l = 16 * l.setting.room + 8
+decreases-block::render_local g l = 16 * l.setting.now.room + 8
 
 abbrev pub decreases-block::render_bound : goal.decreases-block::render_bound
-decreases-block::render_bound g l = 16 * l.setting.room + 7
+decreases-block::render_bound g l = 16 * l.setting.now.room + 7
 
 abbrev pub decreases-steps::render_own : goal.decreases-steps::render_own
-decreases-steps::render_own g l = 16 * l.setting.room + 6
+decreases-steps::render_own g l = 16 * l.setting.now.room + 6
 
 abbrev pub decreases-steps::carry_out_own : goal.decreases-steps::carry_out_own
-decreases-steps::carry_out_own g l = 16 * l.setting.room + 5
+decreases-steps::carry_out_own g l = 16 * l.setting.now.room + 5
 
 abbrev pub decreases-steps::take_steps : goal.decreases-steps::take_steps
-decreases-steps::take_steps g l = 16 * l.setting.room + 4
+decreases-steps::take_steps g l = 16 * l.setting.now.room + 4
 
 abbrev pub decreases-steps::take_step : goal.decreases-steps::take_step
-decreases-steps::take_step g l = 16 * l.setting.room + 3
+decreases-steps::take_step g l = 16 * l.setting.now.room + 3
 
 abbrev pub decreases-steps::render_in : goal.decreases-steps::render_in
-decreases-steps::render_in g l = 16 * l.setting.room + 2
+decreases-steps::render_in g l = 16 * l.setting.now.room + 2
 
 abbrev pub decreases-block::render_built : goal.decreases-block::render_built
-decreases-block::render_built g l = 16 * l.setting.room + 5
+decreases-block::render_built g l = 16 * l.setting.now.room + 5
 
 abbrev pub decreases-block::carry_out : goal.decreases-block::carry_out
-decreases-block::carry_out g l = 16 * l.setting.room + 4
+decreases-block::carry_out g l = 16 * l.setting.now.room + 4
 
 abbrev pub decreases-block::render_branch : goal.decreases-block::render_branch
-decreases-block::render_branch g l = 16 * l.setting.room + 3
+decreases-block::render_branch g l = 16 * l.setting.now.room + 3
 
 abbrev pub decreases-block::render_word : goal.decreases-block::render_word
-decreases-block::render_word g l = 16 * l.setting.room + 2
+decreases-block::render_word g l = 16 * l.setting.now.room + 2
 
 abbrev pub decreases-block::render_body : goal.decreases-block::render_body
-decreases-block::render_body g l = 16 * l.setting.room + 1
+decreases-block::render_body g l = 16 * l.setting.now.room + 1
 
 abbrev pub decreases-block::render_inverse : goal.decreases-block::render_inverse
-decreases-block::render_inverse g l = 16 * l.setting.room + 1
+decreases-block::render_inverse g l = 16 * l.setting.now.room + 1
 
 abbrev pub decreases-each::render_with : goal.decreases-each::render_with
-decreases-each::render_with g l = 16 * l.setting.room + 2
+decreases-each::render_with g l = 16 * l.setting.now.room + 2
 
 abbrev pub decreases-each::render_each : goal.decreases-each::render_each
-decreases-each::render_each g l = 16 * l.setting.room + 3
+decreases-each::render_each g l = 16 * l.setting.now.room + 3
 
 abbrev pub decreases-each::take_turns : goal.decreases-each::take_turns
-decreases-each::take_turns g l = 16 * l.setting.room + 2
+decreases-each::take_turns g l = 16 * l.setting.now.room + 2
 
 abbrev pub decreases-partial::render_partial : goal.decreases-partial::render_partial
-decreases-partial::render_partial g l = 16 * l.setting.room + 4
+decreases-partial::render_partial g l = 16 * l.setting.now.room + 4
 
 abbrev pub decreases-partial::include : goal.decreases-partial::include
-decreases-partial::include g l = 16 * l.setting.room + 3
+decreases-partial::include g l = 16 * l.setting.now.room + 3
 
 abbrev pub decreases-partial::include_found : goal.decreases-partial::include_found
-decreases-partial::include_found g l = 16 * l.setting.room + 2
+decreases-partial::include_found g l = 16 * l.setting.now.room + 2
 
 abbrev pub decreases-partial::include_own : goal.decreases-partial::include_own
-decreases-partial::include_own g l = 16 * l.setting.room + 2
+decreases-partial::include_own g l = 16 * l.setting.now.room + 2
 
 abbrev pub decreases-partial::render_kept : goal.decreases-partial::render_kept
-decreases-partial::render_kept g l = 16 * l.setting.room + 1
+decreases-partial::render_kept g l = 16 * l.setting.now.room + 1
 
 abbrev pub decreases-partial::include_tree : goal.decreases-partial::include_tree
-decreases-partial::include_tree g l = 16 * l.setting.room + 1
+decreases-partial::include_tree g l = 16 * l.setting.now.room + 1
 
 abbrev pub decreases-partial::render_ahead : goal.decreases-partial::render_ahead
-decreases-partial::render_ahead g l = 16 * l.setting.room + 1
+decreases-partial::render_ahead g l = 16 * l.setting.now.room + 1
 
 abbrev pub invariant-tree::render_whole-elements : goal.invariant-tree::render_whole-elements
 invariant-tree::render_whole-elements g l = record {

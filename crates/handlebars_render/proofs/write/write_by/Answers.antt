@@ -18,5 +18,5 @@ returns-in-Out-clause-puts g c = λ kept. rw (c.in-Some.is, c.in-Out.is) (c.writ
 
 pub returns-in-Ahead-clause-puts : goal.returns-in-Ahead-clause-puts
 returns-in-Ahead-clause-puts g c = λ kept. rw (c.in-Some.is, c.in-Ahead.is)
-    (ahead-puts_to (shown c.args.entities (view c.in-Some.value.now)) (state_with kept c.args.rc.now) (held_of c.in-Ahead.ahead.now)
+    (ahead-puts_to _ (shown c.args.entities (view c.in-Some.value.now)) (state_with kept c.args.rc.now) (held_of c.in-Ahead.ahead.now)
     (held_of c.write_value_to-in-Ahead.new.out) (answer_of c.write_value_to-in-Ahead.result) (c.write_value_to-in-Ahead.ensures.puts kept))

@@ -8,13 +8,13 @@ returns-in-String g c = record {
       (rw c.as_str.ensures.value at (c.write_text_under.ensures.puts a kept is));
 }
 
-pub returns-in_err-text : goal.returns-in_err-text
-returns-in_err-text g c = record {
-  puts = λ a kept is. puts_to-no_memory _ _ c.from_residual.result c.from_residual.ensures.1;
+pub returns-in_err-text-in_default : goal.returns-in_err-text-in_default
+returns-in_err-text-in_default g c = record {
+  puts = λ a kept is. puts_to-no_memory _ _ _ _ c.from_residual.result c.from_residual.ensures.1;
 }
 
-pub returns-in_ok-text : goal.returns-in_ok-text
-returns-in_ok-text g c = record {
-  puts = λ a kept is. rw (c.as_str-in_ok-text.ensures.value, c.in_ok-text.ensures) at
-      (c.write_text_under-in_ok-text.ensures.puts a kept is);
+pub returns-in_ok-text-in_default : goal.returns-in_ok-text-in_default
+returns-in_ok-text-in_default g c = record {
+  puts = λ a kept is. rw (c.as_str-in_default.ensures.value, c.in_ok-text-in_default.ensures) at
+      (c.write_text_under-in_default.ensures.puts a kept is);
 }
