@@ -36,9 +36,9 @@ abbrev pub placed : Option Text → Kept → ℕ → State → State
 placed i ks n s = record s { indent = i; kept = ks; inclusions = n }
 
 -- an inclusion that is begun
-pub begun-so : (i j : Option Text) (k : Option (List Piece)) (ks : Kept) (m n : ℕ) {c : Option Text} {s b : State}
+pub begun-so : (i j : Option Text) (k : Option (List Piece)) (ks : Kept) (m n : ℕ) (s : State) {c : Option Text} {b : State}
     → n ≡ m + 1 → b ≡ called c s → placed i (k ∷ ks) n b ≡ called c (begun i k (placed j ks m s))
-begun-so i j k ks m n {c = c} {s = s} more is =
+begun-so i j k ks m n s {c = c} more is =
     ap (placed i (k ∷ ks) n) is ∙ ap (λ z. placed i (k ∷ ks) z (called c s)) more
 
 -- and what is kept for it

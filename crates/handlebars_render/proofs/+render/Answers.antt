@@ -24,13 +24,13 @@ use Rattle.handlebars_render.specs.declared.boxed.BoxedError.TheVariants.{OutOfM
 use Rattle.handlebars_render.specs.Targets.{target_in}
 use Rattle.handlebars_render.specs.Bound.{bound_of}
 use Rattle.handlebars_base.specs.Bytes.{Text}
-use Rattle.handlebars_render.specs.View.{called, called_view, keeping, setting_in, state_of, state_with}
+use Rattle.handlebars_render.specs.View.{called, called_view, keeping, setting_in, state_of, state_with, within}
 use Rattle.handlebars_render.proofs.Branches.{carries-branch}
 use Rattle.handlebars_render.proofs.Calls.{branch_none, choice_err, choice_ok, chosen_ok, entered_as}
 use Rattle.handlebars_render.proofs.LocalCalls.{chooses-local, chooses-same, refuses-local}
 use Rattle.handlebars_render.proofs.Leaves.{carries_on-leaves}
 use Rattle.handlebars_render.proofs.Carry.{carries-done, carries-no_value, carries-out_of_memory, carries-puts, carries-run, carries-unescaped, carries_on-bracket, carries_on-done, carries_on-handed, carries_on-task, carries_on-task_over, carries_on-step, carries_on-word, restored, carries_on-in_block, carries_on-no_memory, carries_on-no_value, carries_on-out_of_memory}
-use Rattle.handlebars_meaning.specs.State.{entered, hook, left}
+use Rattle.handlebars_meaning.specs.State.{entered, hook, left, nearest_variables}
 use Rattle.handlebars_render.proofs.Elements.{left_starts, left_goes, left_over, left_ends, whole_with}
 use Rattle.handlebars_render.proofs.Kept.{kept-refl, kept-trans, outer-kept, outer-trans}
 use Rattle.handlebars_render.proofs.Lists.{get_or-seen, below-seen, over-seen, place_there, looked_up, placed_marks}
@@ -41,7 +41,7 @@ use Rattle.handlebars_render.proofs.Turns.{below-kept, binding-seen, carries_on-
 use Rattle.handlebars_helpers.specs.DecoratorsView.{tag_view}
 use Rattle.handlebars_template.specs.Tree.{decorator_args, decorator_marks, decorator_name}
 use Rattle.handlebars_template.specs.TreeView.{tree_view}
-use Rattle.handlebars_meaning.specs.Inclusion.{newest}
+use Rattle.handlebars_meaning.specs.Inclusion.{inclusion_block, newest, pair_values}
 use Rattle.handlebars_meaning.specs.Including.{render_ahead}
 use Rattle.handlebars_meaning.specs.Means.{include_tag, line_at, on_line}
 use Rattle.handlebars_meaning.specs.Questions.{view_of}
@@ -589,33 +589,35 @@ pub partial::include_found-returns-clause-renders : goal.partial::include_found-
 partial::include_found-returns-clause-renders g t c = λ site kept.
     let v = tag_view c.args.view.now in
     let u = tree_view c.args.tree.now in
+    let w0 = within c.args.setting.now in
     let s = state_of c.args.rc.now in
     let stands = c.in-Ok-inclusion_block.ensures kept in
+    let inner = entered (inclusion_block stands.0 (pair_values v.call.pairs) (nearest_variables s.blocks)) s in
     let begins = c.in_ok-name.ensures.ok ∙ ap (λ (f : Frame). called None (entered f s)) stands.2 in
     elim c.match-template.branch [
   | partial::include_found-in-Some+in-Ok-render_ahead w ↦
       rw (w.answer-is, w.sink-is)
       (found-some _ _ v site u (tree_view w.in-Some.body.now) (rw w.in-Some.is at c.template.ensures)
-      (inclusion-ahead _ _ v site u (tree_view w.in-Some.body.now) stands.0
+      (inclusion-ahead _ _ v site u (tree_view w.in-Some.body.now) stands.0 {c = None}
       (λ ps. placed v.indent (Some ps ∷ kept.pieces) c.in-Ok.count (state_of w.render_ahead.new.rc))
       (λ ps. placed v.indent (Some ps ∷ kept.pieces) c.in-Ok.count (state_of w.include_tree.new.rc))
       c.in-Ok.ensures.ok.0 stands.1 (ap (keeping kept) begins)
-      (w.render_ahead.ensures.ahead (body_at site 0) kept _)
-      (λ ps. kept-more v.indent _ (Some ps) kept.pieces _ c.in-Ok.count (state_of w.render_ahead.new.rc) c.in-Ok.ensures.ok.1)
-      (λ ps. ap (keeping kept) (rw w.rc-is at c.end.ensures.state ∙ ap (λ (n : Option Text). called n (left (state_of w.include_tree.new.rc))) c.in_ok-name.ensures.name))
+      (w.in-Ok-render_ahead.ensures.ahead (body_at site 0) kept _)
+      (λ ps. kept-more v.indent w0.indent (Some ps) kept.pieces w0.inclusions c.in-Ok.count (state_of w.render_ahead.new.rc) c.in-Ok.ensures.ok.1)
+      (λ ps. ap (keeping kept) ((rw w.rc-is at c.end.ensures.state) ∙ ap (λ (n : Option Text). called n (left (state_of w.include_tree.new.rc))) c.in_ok-name.ensures.name))
       (λ ps is. w.include_tree.ensures.renders (included_at site u)
-      (record { pieces = Some ps ∷ kept.pieces; holds = ap Some (sym is ∙ sym w.as_str.ensures.value) }))))
+      (record { pieces = Some ps ∷ kept.pieces; holds = ap (λ (t : Text). Some t) (sym is ∙ sym w.as_str.ensures.value) }))))
   | partial::include_found-in-Some+in-Err-render_ahead w ↦
       rw (w.answer-is, w.sink-is)
       (found-some _ _ v site u (tree_view w.in-Some.body.now) (rw w.in-Some.is at c.template.ensures)
-      (inclusion-ahead_over _ _ v site u (tree_view w.in-Some.body.now) stands.0 c.in-Ok.ensures.ok.0 stands.1
-      (ap (keeping kept) begins) (w.render_ahead.ensures.ahead (body_at site 0) kept _)))
+      (inclusion-ahead_over _ _ v site u (tree_view w.in-Some.body.now) stands.0 {c = None} c.in-Ok.ensures.ok.0 stands.1
+      (ap (keeping kept) begins) (w.in-Err-render_ahead.ensures.ahead (body_at site 0) kept _)))
   | partial::include_found-in-None w ↦
       rw (w.answer-is, w.sink-is)
       (found-none _ _ v site u (rw w.in-None.is at c.template.ensures)
-      (inclusion-plain _ _ v (included_at site u) u stands.0 c.in-Ok.ensures.ok.0 stands.1
-      (begun-so v.indent _ None kept.pieces _ c.in-Ok.count c.in-Ok.ensures.ok.1 begins)
-      (ap (keeping kept) (rw w.rc-is at c.end.ensures.state ∙ ap (λ (n : Option Text). called n (left (state_of w.include_tree-answer.new.rc))) c.in_ok-name.ensures.name))
+      (inclusion-plain _ _ v (included_at site u) u stands.0 {c = None} c.in-Ok.ensures.ok.0 stands.1
+      (begun-so v.indent w0.indent None kept.pieces w0.inclusions c.in-Ok.count inner c.in-Ok.ensures.ok.1 begins)
+      (ap (keeping kept) ((rw w.rc-is at c.end.ensures.state) ∙ ap (λ (n : Option Text). called n (left (state_of w.include_tree-answer.new.rc))) c.in_ok-name.ensures.name))
       (w.include_tree-answer.ensures.renders (included_at site u) (record { pieces = None ∷ kept.pieces; holds = refl }))))
 ]
 
@@ -651,12 +653,14 @@ pub partial::include_own-returns-clause-renders : goal.partial::include_own-retu
 partial::include_own-returns-clause-renders g t c = λ site kept.
     let v = tag_view c.args.view.now in
     let u = tree_view c.in-Some.body.now in
+    let w0 = within c.args.setting.now in
     let s = state_of c.args.rc.now in
     let stands = c.in-Ok-inclusion_block.ensures kept in
+    let inner = entered (inclusion_block stands.0 (pair_values v.call.pairs) (nearest_variables s.blocks)) s in
     let begins = c.in_ok-name.ensures.ok ∙ ap (λ (f : Frame). called None (entered f s)) stands.2 in
     own-some _ _ v site v.body u (rw c.in-Some.is at c.template.ensures)
-    (inclusion-plain _ _ v (body_at site 0) u stands.0 c.in-Ok.ensures.ok.0 stands.1
-    (begun-so v.indent _ None kept.pieces _ c.in-Ok.count c.in-Ok.ensures.ok.1 begins)
+    (inclusion-plain _ _ v (body_at site 0) u stands.0 {c = None} c.in-Ok.ensures.ok.0 stands.1
+    (begun-so v.indent w0.indent None kept.pieces w0.inclusions c.in-Ok.count inner c.in-Ok.ensures.ok.1 begins)
     (ap (keeping kept) (c.end.ensures.state ∙ ap (λ (n : Option Text). called n (left (state_of c.include_tree-answer.new.rc))) c.in_ok-name.ensures.name))
     (c.include_tree-answer.ensures.renders (body_at site 0) (record { pieces = None ∷ kept.pieces; holds = refl })))
 
