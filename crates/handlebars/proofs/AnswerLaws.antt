@@ -108,9 +108,10 @@ module _ (p : Setting) (lawful : IsLawful p.parts) (begins : Beginning → Type 
 pub answer_has_origins : (p : Setting) (begins : Beginning → Type 0) → AnswerHasOrigins p begins
 answer_has_origins p begins ps o (not_begun a) = tt
 answer_has_origins p begins ps o (rendered {t = t} a r) =
-    let plain : IsPlain (first_state p.parts.recursive) = record { escapes = refl; indent = refl; kept = refl } in
-    (all_have_origins p t (first_state p.parts.recursive) ps o plain r,
-    (comes_once p t (first_state p.parts.recursive) ps o r, comes_in_trees p t (first_state p.parts.recursive) ps o plain r))
+    let plain : IsPlain (first_state p.parts.recursive) = record { escapes = refl; indent = refl; kept = refl } in (
+      all_have_origins p t (first_state p.parts.recursive) ps o plain r,
+      (comes_once p t (first_state p.parts.recursive) ps o r, comes_in_trees p t (first_state p.parts.recursive) ps o plain r),
+    )
 
 -- ---- what calls answer
 
