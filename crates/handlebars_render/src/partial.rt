@@ -88,10 +88,7 @@ pub fn include<O: Output, P: Registered>(
     ensures kept { IsKept rc.old rc.new }
 {
     if rc.is_current_template(view.name()) {
-        return Err(refused(
-            setting.alloc,
-            RenderErrorReason::CannotIncludeSelf,
-        ));
+        return Err(refused(setting.alloc, RenderErrorReason::CannotIncludeSelf));
     }
     if is_partial_block(view.name()) {
         return render_kept(view, setting, rc, sink);
@@ -141,10 +138,7 @@ fn render_kept<O: Output, P: Registered>(
         return write_as_is(setting.alloc, text, sink);
     }
     let Some(body) = view.template() else {
-        return Err(refused(
-            setting.alloc,
-            RenderErrorReason::PartialBlockNotFound,
-        ));
+        return Err(refused(setting.alloc, RenderErrorReason::PartialBlockNotFound));
     };
     let nearer = Setting {
         alloc: setting.alloc,
@@ -312,10 +306,7 @@ fn one_more<P: Registered>(setting: &Setting<'_, '_, P>) -> Result<u16, BoxedErr
     if setting.inclusions < limit {
         Ok(setting.inclusions + 1)
     } else {
-        Err(refused(
-            setting.alloc,
-            RenderErrorReason::InclusionLimit(limit),
-        ))
+        Err(refused(setting.alloc, RenderErrorReason::InclusionLimit(limit)))
     }
 }
 

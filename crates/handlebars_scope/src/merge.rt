@@ -27,7 +27,11 @@ pub fn merge(
     }
     let mut members = members_in(alloc, base)?;
     'pairs: for (key, value) in pairs.iter() {
-        put(&mut members, String::from_str(alloc, *key)?, value.value().clone()?)?;
+        put(
+            &mut members,
+            String::from_str(alloc, *key)?,
+            value.value().clone()?,
+        )?;
     }
     Ok(Json::Object(members))
 }
@@ -45,10 +49,7 @@ fn members_in(alloc: Global, base: &Json) -> Result<BTreeMap<String, Json>, Allo
 }
 
 // Those of an object.
-fn own_members(
-    alloc: Global,
-    base: Json,
-) -> Result<BTreeMap<String, Json>, AllocError>
+fn own_members(alloc: Global, base: Json) -> Result<BTreeMap<String, Json>, AllocError>
     ensures { IfOk result (λ members. is_some (as_object (view base)) ≡ true
         → members_view members.entries ≡ members_in (view base)) }
 {
@@ -58,10 +59,7 @@ fn own_members(
     }
 }
 
-fn items_by_position(
-    alloc: Global,
-    items: &Vec<Json>,
-) -> Result<BTreeMap<String, Json>, AllocError>
+fn items_by_position(alloc: Global, items: &Vec<Json>) -> Result<BTreeMap<String, Json>, AllocError>
     ensures { IfOk result (λ members. members_view members.entries
         ≡ with_items 0 (items_view items.now.items) no_members) }
 {
@@ -72,16 +70,18 @@ fn items_by_position(
     Ok(members)
 }
 
-fn characters_by_position(
-    alloc: Global,
-    text: &str,
-) -> Result<BTreeMap<String, Json>, AllocError>
+fn characters_by_position(alloc: Global, text: &str) -> Result<BTreeMap<String, Json>, AllocError>
     ensures { IfOk result (λ members. members_view members.entries
         ≡ with_characters 0 (chars text.now) no_members) }
 {
     let mut members = BTreeMap::new(alloc);
     'characters: for (index, character) in text.chars().enumerate() {
-        put_at(alloc, &mut members, index, character_alone(alloc, character)?)?;
+        put_at(
+            alloc,
+            &mut members,
+            index,
+            character_alone(alloc, character)?,
+        )?;
     }
     Ok(members)
 }
@@ -109,11 +109,7 @@ fn put_at(
     put(members, key, value)
 }
 
-fn put(
-    members: &mut BTreeMap<String, Json>,
-    key: String,
-    value: Json,
-) -> Result<(), AllocError>
+fn put(members: &mut BTreeMap<String, Json>, key: String, value: Json) -> Result<(), AllocError>
     ensures { OnOk result (members_view members.new.entries
         ≡ put (string_bytes key) (view value) (members_view members.old.entries)) }
 {

@@ -595,31 +595,31 @@ partial::include_found-returns-clause-renders g t c = λ site kept.
     let inner = entered (inclusion_block stands.0 (pair_values v.call.pairs) (nearest_variables s.blocks)) s in
     let begins = c.in_ok-name.ensures.ok ∙ ap (λ (f : Frame). called None (entered f s)) stands.2 in
     elim c.match-template.branch [
-  | partial::include_found-in-Some+in-Ok-render_ahead w ↦
-      rw (w.answer-is, w.sink-is)
-      (found-some _ _ v site u (tree_view w.in-Some.body.now) (rw w.in-Some.is at c.template.ensures)
-      (inclusion-ahead _ _ v site u (tree_view w.in-Some.body.now) stands.0 {c = None}
-      (λ ps. placed v.indent (Some ps ∷ kept.pieces) c.in-Ok.count (state_of w.render_ahead.new.rc))
-      (λ ps. placed v.indent (Some ps ∷ kept.pieces) c.in-Ok.count (state_of w.include_tree.new.rc))
-      c.in-Ok.ensures.ok.0 stands.1 (ap (keeping kept) begins)
-      (w.in-Ok-render_ahead.ensures.ahead (body_at site 0) kept _)
-      (λ ps. kept-more v.indent w0.indent (Some ps) kept.pieces w0.inclusions c.in-Ok.count (state_of w.render_ahead.new.rc) c.in-Ok.ensures.ok.1)
-      (λ ps. ap (keeping kept) ((rw w.rc-is at c.end.ensures.state) ∙ ap (λ (n : Option Text). called n (left (state_of w.include_tree.new.rc))) c.in_ok-name.ensures.name))
-      (λ ps is. w.include_tree.ensures.renders (included_at site u)
-      (record { pieces = Some ps ∷ kept.pieces; holds = ap (λ (t : Text). Some t) (sym is ∙ sym w.as_str.ensures.value) }))))
-  | partial::include_found-in-Some+in-Err-render_ahead w ↦
-      rw (w.answer-is, w.sink-is)
-      (found-some _ _ v site u (tree_view w.in-Some.body.now) (rw w.in-Some.is at c.template.ensures)
-      (inclusion-ahead_over _ _ v site u (tree_view w.in-Some.body.now) stands.0 {c = None} c.in-Ok.ensures.ok.0 stands.1
-      (ap (keeping kept) begins) (w.in-Err-render_ahead.ensures.ahead (body_at site 0) kept _)))
-  | partial::include_found-in-None w ↦
-      rw (w.answer-is, w.sink-is)
-      (found-none _ _ v site u (rw w.in-None.is at c.template.ensures)
-      (inclusion-plain _ _ v (included_at site u) u stands.0 {c = None} c.in-Ok.ensures.ok.0 stands.1
-      (begun-so v.indent w0.indent None kept.pieces w0.inclusions c.in-Ok.count inner c.in-Ok.ensures.ok.1 begins)
-      (ap (keeping kept) ((rw w.rc-is at c.end.ensures.state) ∙ ap (λ (n : Option Text). called n (left (state_of w.include_tree-answer.new.rc))) c.in_ok-name.ensures.name))
-      (w.include_tree-answer.ensures.renders (included_at site u) (record { pieces = None ∷ kept.pieces; holds = refl }))))
-]
+      | partial::include_found-in-Some+in-Ok-render_ahead w ↦
+          rw (w.answer-is, w.sink-is)
+          (found-some _ _ v site u (tree_view w.in-Some.body.now) (rw w.in-Some.is at c.template.ensures)
+          (inclusion-ahead _ _ v site u (tree_view w.in-Some.body.now) stands.0 {c = None}
+          (λ ps. placed v.indent (Some ps ∷ kept.pieces) c.in-Ok.count (state_of w.render_ahead.new.rc))
+          (λ ps. placed v.indent (Some ps ∷ kept.pieces) c.in-Ok.count (state_of w.include_tree.new.rc))
+          c.in-Ok.ensures.ok.0 stands.1 (ap (keeping kept) begins)
+          (w.in-Ok-render_ahead.ensures.ahead (body_at site 0) kept _)
+          (λ ps. kept-more v.indent w0.indent (Some ps) kept.pieces w0.inclusions c.in-Ok.count (state_of w.render_ahead.new.rc) c.in-Ok.ensures.ok.1)
+          (λ ps. ap (keeping kept) ((rw w.rc-is at c.end.ensures.state) ∙ ap (λ (n : Option Text). called n (left (state_of w.include_tree.new.rc))) c.in_ok-name.ensures.name))
+          (λ ps is. w.include_tree.ensures.renders (included_at site u)
+          (record { pieces = Some ps ∷ kept.pieces; holds = ap (λ (t : Text). Some t) (sym is ∙ sym w.as_str.ensures.value) }))))
+      | partial::include_found-in-Some+in-Err-render_ahead w ↦
+          rw (w.answer-is, w.sink-is)
+          (found-some _ _ v site u (tree_view w.in-Some.body.now) (rw w.in-Some.is at c.template.ensures)
+          (inclusion-ahead_over _ _ v site u (tree_view w.in-Some.body.now) stands.0 {c = None} c.in-Ok.ensures.ok.0 stands.1
+          (ap (keeping kept) begins) (w.in-Err-render_ahead.ensures.ahead (body_at site 0) kept _)))
+      | partial::include_found-in-None w ↦
+          rw (w.answer-is, w.sink-is)
+          (found-none _ _ v site u (rw w.in-None.is at c.template.ensures)
+          (inclusion-plain _ _ v (included_at site u) u stands.0 {c = None} c.in-Ok.ensures.ok.0 stands.1
+          (begun-so v.indent w0.indent None kept.pieces w0.inclusions c.in-Ok.count inner c.in-Ok.ensures.ok.1 begins)
+          (ap (keeping kept) ((rw w.rc-is at c.end.ensures.state) ∙ ap (λ (n : Option Text). called n (left (state_of w.include_tree-answer.new.rc))) c.in_ok-name.ensures.name))
+          (w.include_tree-answer.ensures.renders (included_at site u) (record { pieces = None ∷ kept.pieces; holds = refl }))))
+    ]
 
 -- ---- the tag's own block
 

@@ -12,18 +12,22 @@ pub returns-in-Value : goal.returns-in-Value
 returns-in-Value g c = λ kept none.
     let p = setting_in g.P.Registered.parts c.args.setting.now in
     let s = state_with kept c.args.rc.now in
-    let d = view c.in-Value.value.now in
-    (d, of-none p s (tag_view c.args.tag.now).call.params none
-    (base-value p s d _ c.here-here.ensures (rw c.data.ensures.value at c.in-Value.ensures)),
-    merged-seen d d _ c.in_ok-merge-in-Value.ensures refl c.hash.ensures)
+    let d = view c.in-Value.value.now in (
+      d,
+      of-none p s (tag_view c.args.tag.now).call.params none
+          (base-value p s d _ c.here-here.ensures (rw c.data.ensures.value at c.in-Value.ensures)),
+      merged-seen d d _ c.in_ok-merge-in-Value.ensures refl c.hash.ensures,
+    )
 
 pub returns-in-Nothing : goal.returns-in-Nothing
 returns-in-Nothing g c = λ kept none.
     let p = setting_in g.P.Registered.parts c.args.setting.now in
-    let s = state_with kept c.args.rc.now in
-    (null, of-none p s (tag_view c.args.tag.now).call.params none
-    (base-nothing p s _ c.here-here.ensures (rw c.data.ensures.value at c.in-Nothing.ensures)),
-    merged-seen _ null _ c.in_ok-merge-in-Nothing.ensures view-null c.hash-in-Nothing.ensures)
+    let s = state_with kept c.args.rc.now in (
+      null,
+      of-none p s (tag_view c.args.tag.now).call.params none
+          (base-nothing p s _ c.here-here.ensures (rw c.data.ensures.value at c.in-Nothing.ensures)),
+      merged-seen _ null _ c.in_ok-merge-in-Nothing.ensures view-null c.hash-in-Nothing.ensures,
+    )
 
 pub returns : goal.returns
 returns g c = λ kept none other.
