@@ -1,5 +1,5 @@
 -- What inclusions carry out.
-use Rattle.std.proofs.Common.{◌≡◌, ◌≢◌, ◌<◌, ◌≤◌, ◌+◌, ℕ, Bool, true, false, List, [], ◌∷◌, Option, Some, None, option_map, Result, Ok, Err, refl, sym, ap, ◌∙◌, subst, append-nil, String, Global, string_bytes, ◌⊎◌, inl, inr, arith}
+use Rattle.std.proofs.Common.{◌≡◌, ◌≢◌, ◌<◌, ◌≤◌, ◌+◌, ℕ, Bool, true, false, List, [], ◌∷◌, Option, Some, None, option_map, Result, Ok, Err, refl, sym, ap, ◌∙◌, subst, append-nil, String, Global, string_bytes, inl, inr, arith}
 use Rattle.std.specs.Prelude.{unwrap_or}
 use Rattle.std.specs.Str.{bytes_eq}
 use Rattle.std.specs.declared.io.Error.{Error}
@@ -8,7 +8,6 @@ use Rattle.handlebars_base.specs.Answers.{IsRefusal, gives}
 use Rattle.handlebars_base.specs.Bytes.{Text}
 use Rattle.handlebars_base.specs.Outputs.{Held, held_of, nothing}
 use Rattle.handlebars_base.specs.declared.output.StringOutput.{StringOutput}
-use Rattle.handlebars_base.specs.PathAndData.{PathAndData}
 use Rattle.handlebars_base.specs.Reasons.{Refusal, cannot_include_self, inclusion_limit, out_of_memory, partial_block_not_found, partial_not_found}
 use Rattle.handlebars_base.specs.RenderRefusals.{plain_refusal, reason_in, refusal_of}
 use Rattle.handlebars_base.specs.declared.error.render_error.RenderError.{RenderError}
@@ -22,12 +21,12 @@ use Rattle.handlebars_meaning.specs.Including.{base_value, enter_block, include,
 use Rattle.handlebars_meaning.specs.Means.{include_tag, line_at, line_out, on_line, render_elements, render_partial, shown_tag, todo}
 use Rattle.handlebars_meaning.specs.Pieces.{Piece, join}
 use Rattle.handlebars_meaning.specs.Questions.{view_of}
-use Rattle.handlebars_meaning.specs.Runs.{Outcome, Ended, Refused, Faulted, NoMemory, IsOver, Runs, refused, got, set, did, did_over, captured, captured_over, looked, has_room, has_none, stop}
+use Rattle.handlebars_meaning.specs.Runs.{Outcome, Refused, IsOver, Runs, got, set, did, did_over, captured, captured_over, looked, has_room, has_none, stop}
 use Rattle.handlebars_meaning.specs.Sites.{Site, TreeSite, body_at, included_at}
 use Rattle.handlebars_meaning.specs.State.{Kept, Setting, State, entered, nearest_variables, partial_in}
-use Rattle.handlebars_meaning.specs.Steps.{Whole, Steps, Done, Do, Room, Get, Set, Prog, return, run, ask, refuse_for, state, become, perform, capture, find, room, ◌>>=◌, ◌>>◌}
+use Rattle.handlebars_meaning.specs.Steps.{Whole, Steps, Done, Do, Room, Get, Set, Prog, return, ask, state, perform, capture, find, room, ◌>>=◌, ◌>>◌}
 use Rattle.handlebars_meaning.specs.Values.{HasView}
-use Rattle.handlebars_render.specs.View.{Answered, KeptIn, keeping, CarriesAhead, has_text, no_text, CarriesOn, CarriesOut, goes_on, is_over, GivesValue, Moment, PutsStep, RefusesValue, Tells, ended, refusal, fault, no_memory, called}
+use Rattle.handlebars_render.specs.View.{Answered, KeptIn, keeping, CarriesAhead, has_text, no_text, CarriesOn, CarriesOut, goes_on, is_over, GivesValue, Moment, PutsStep, RefusesValue, Tells, refusal, fault, no_memory, called}
 use Rattle.handlebars_render.proofs.Asked.{gives-ask}
 use Rattle.handlebars_render.proofs.Carry.{at, ends, memory_or, carries-elsewhere, carries-get, carries-run, carries-set, carries_on-change, carries_on-changed, carries_on-elsewhere, carries_on-get, carries_on-no_memory, carries_on-no_value, carries_on-over, carries_on-pieces, carries_on-refuse, carries_on-then, carries_on-value}
 

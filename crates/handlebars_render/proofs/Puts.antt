@@ -18,7 +18,7 @@ use Rattle.handlebars_base.specs.Shown.{escaped_if}
 use Rattle.handlebars_meaning.specs.Runs.{plain_fault}
 use Rattle.handlebars_meaning.specs.State.{State}
 use Rattle.handlebars_meaning.specs.Writing.{rendered_if_any}
-use Rattle.handlebars_render.specs.View.{Moment, Answered, Puts, all_put, front_put, part_put, TellsFault, PutsWord, word_put, word_cut, word_part, word_reason, IsPart, behind, with_line, written_at}
+use Rattle.handlebars_render.specs.View.{Moment, Answered, Puts, all_put, front_put, part_put, TellsFault, PutsWord, word_put, word_cut, word_part, word_reason, behind, with_line, written_at}
 use Rattle.handlebars_scope.specs.Indentation.{written_in}
 use Rattle.handlebars_scope.specs.declared.line.LineState.{LineState as CodeLine}
 use Rattle.handlebars_scope.proofs.Indents.{written_in-none}

@@ -1,19 +1,17 @@
 -- Where a rendering writes: what stays the same, and what was written ahead.
-use Rattle.std.proofs.Common.{◌≡◌, ◌≢◌, Bool, true, false, List, Option, Ok, Err, refl, ◌∙◌, ap, ◌⊎◌, inl, inr}
+use Rattle.std.proofs.Common.{◌≡◌, Bool, true, false, Ok, Err, refl, ◌∙◌, ap, inl, inr}
 use Rattle.std.specs.declared.io.Error.{Error}
 use Rattle.std.specs.declared.io.ErrorKind.TheVariants.{OutOfMemory}
 use Rattle.std.specs.IoError.{error_kind}
 use Rattle.handlebars_base.specs.Bytes.{Text}
-use Rattle.handlebars_base.specs.Outputs.{Held, IsWhole, IsCutOff, held_of, write_reason}
+use Rattle.handlebars_base.specs.Outputs.{Held, IsWhole, IsCutOff, write_reason}
 use Rattle.handlebars_base.specs.Reasons.{out_of_memory}
 use Rattle.handlebars_base.specs.RenderRefusals.{reason_in}
 use Rattle.handlebars_base.specs.declared.error.render_error.RenderError.{RenderError}
-use Rattle.handlebars_base.specs.declared.output.StringOutput.{StringOutput}
-use Rattle.handlebars_scope.specs.LineView.{line_of}
-use Rattle.handlebars_meaning.specs.Runs.{Fault, plain_fault}
+use Rattle.handlebars_meaning.specs.Runs.{plain_fault}
 use Rattle.handlebars_meaning.specs.State.{State}
 use Rattle.handlebars_render.specs.Shows.{PutsTo, Told}
-use Rattle.handlebars_render.specs.View.{Answered, IsSame, Moment, IsPart, Puts, all_put, front_put, part_put, PutsStep, step_put, step_cut, step_part, PutsWord, word_put, word_cut, word_part, TellsFault, word_reason}
+use Rattle.handlebars_render.specs.View.{Answered, IsSame, IsPart, Puts, all_put, front_put, part_put, PutsStep, step_put, step_cut, step_part, PutsWord, word_put, word_cut, word_part, TellsFault, word_reason}
 use Rattle.handlebars_render.specs.declared.sink.Sink.{Sink}
 use Rattle.handlebars_render.specs.declared.sink.Sink.TheVariants.{Out, Ahead}
 use Rattle.handlebars_render.proofs.Carry.{at, memory_or}

@@ -29,7 +29,7 @@ use Rattle.handlebars_render.proofs.Branches.{carries-branch}
 use Rattle.handlebars_render.proofs.Calls.{branch_none, choice_err, choice_ok, chosen_ok, entered_as}
 use Rattle.handlebars_render.proofs.LocalCalls.{chooses-local, chooses-same, refuses-local}
 use Rattle.handlebars_render.proofs.Leaves.{carries_on-leaves}
-use Rattle.handlebars_render.proofs.Carry.{carries-done, carries-no_value, carries-out_of_memory, carries-puts, carries-run, carries-unescaped, carries_on-bracket, carries_on-done, carries_on-handed, carries_on-task, carries_on-task_over, carries_on-step, carries_on-word, restored, carries_on-in_block, carries_on-no_memory, carries_on-no_value, carries_on-out_of_memory}
+use Rattle.handlebars_render.proofs.Carry.{carries-done, carries-out_of_memory, carries-puts, carries-run, carries-unescaped, carries_on-bracket, carries_on-done, carries_on-handed, carries_on-task, carries_on-task_over, carries_on-step, carries_on-word, restored, carries_on-in_block, carries_on-no_memory, carries_on-no_value, carries_on-out_of_memory}
 use Rattle.handlebars_meaning.specs.State.{entered, hook, left, nearest_variables}
 use Rattle.handlebars_render.proofs.Elements.{left_starts, left_goes, left_over, left_ends, whole_with}
 use Rattle.handlebars_render.proofs.Kept.{kept-refl, kept-trans, outer-kept, outer-trans}

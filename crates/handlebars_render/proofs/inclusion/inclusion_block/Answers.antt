@@ -1,8 +1,5 @@
 use Rattle.std.proofs.Common.{sym, ap, ◌∙◌}
-use Rattle.serde_json.specs.View.{view}
-use Rattle.handlebars_helpers.specs.DecoratorsView.{tag_view}
 use Rattle.handlebars_scope.specs.Scopes.{nothing_at}
-use Rattle.handlebars_scope.specs.ScopeView.{frame_of}
 use Rattle.handlebars_meaning.specs.Inclusion.{pair_values, with_bound}
 use Rattle.handlebars_render.proofs.Bases.{block-seen, pairs-seen}
 use Rattle.handlebars_render.proofs.inclusion.inclusion_block.Goals as goal

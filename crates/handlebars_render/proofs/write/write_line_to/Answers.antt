@@ -1,4 +1,4 @@
-use Rattle.std.proofs.Common.{refl, ap, sym, ◌∙◌}
+use Rattle.std.proofs.Common.{refl, ap, ◌∙◌}
 use Rattle.handlebars_scope.specs.LineView.{line_of}
 use Rattle.handlebars_scope.specs.LineState.{LineState, line_behind}
 use Rattle.handlebars_render.proofs.Puts.{puts_line, puts_front}
