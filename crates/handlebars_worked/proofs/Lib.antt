@@ -11,3 +11,4 @@ mod DecoratorRows
 mod DeedRows
 mod InclusionRows
 mod KeptRows
+mod InclusionSources

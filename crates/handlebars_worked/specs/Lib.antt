@@ -7,3 +7,4 @@ pub mod DecoratorRows
 pub mod DeedRows
 pub mod InclusionRows
 pub mod KeptRows
+pub mod InclusionSources
