@@ -149,6 +149,7 @@ fn settle_value<'a, O: Output, P: Registered>(
 }
 
 // Writes the value of an expression that no helper has the name of.
+#[inline(always)]
 fn settle_found<'a, O: Output, P: Registered>(
     setting: &Setting<'_, 'a, P>,
     value: &Json,

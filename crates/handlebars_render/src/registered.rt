@@ -131,6 +131,7 @@ pub fn helper_for<P: Registered>(
 }
 
 /// The helper of a name: a local one, else a registered one.
+#[inline(always)]
 pub fn helper_named<P: Registered>(parts: &P, rc: &RenderContext, name: &str) -> Option<Target>
     ensures { (block : Bool) → option_map (target_in block name.now) result
         ≡ helper_named (P.parts parts.now) (state_of rc.now) name.now }

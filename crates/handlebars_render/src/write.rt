@@ -151,6 +151,7 @@ fn write_fault(alloc: Global, fault: io::Error) -> BoxedError
 
 /// Writes a value, rendered, and escaped as the registry has it where escaping is on, and answers the line behind
 /// it. The value may be one of a block, so the context is left to the caller.
+#[inline(always)]
 pub(super) fn write_found<O: Output, P: Registered>(
     setting: &Setting<P>,
     value: Option<&Json>,
@@ -170,6 +171,7 @@ pub(super) fn write_found<O: Output, P: Registered>(
 }
 
 // Whether entities are written, where no escape function has to be asked.
+#[inline(always)]
 fn entities_by(escaping: Escaping, escapes: bool) -> Option<bool>
     ensures { result ≡ entities_by (escaping_of escaping) escapes }
 {
@@ -181,6 +183,7 @@ fn entities_by(escaping: Escaping, escapes: bool) -> Option<bool>
 }
 
 // Writes a value, with entities or without; nothing where there is none.
+#[inline(always)]
 fn write_by<O: Output, P>(
     setting: &Setting<P>,
     entities: bool,
