@@ -4,6 +4,9 @@ use Rattle.handlebars_render.specs.View.{state_of}
 use Rattle.handlebars.proofs.Evaluated.{evals-failed}
 use Rattle.handlebars.proofs.render.evaluable.TemplateEvaluable.eval.Goals as goal
 
+pub returns-in-Ok-clause-evals : goal.returns-in-Ok-clause-evals
+returns-in-Ok-clause-evals g c = λ ready. c.in-Ok.ensures.evals (record { pieces = []; holds = refl })
+
 pub returns-in-Err-clause-evals : goal.returns-in-Err-clause-evals
 returns-in-Err-clause-evals g c = λ ready.
     evals-failed _ _ _ _ _ (state_of c.eval_tree.new.rc) _ (error_of c.in-Err.e) c.into_error.result
