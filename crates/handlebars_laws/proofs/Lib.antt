@@ -9,3 +9,4 @@ pub mod RunOrigins
 pub mod Counted
 pub mod SameAnswers
 pub mod OtherTemplates
+pub mod LeftAround
