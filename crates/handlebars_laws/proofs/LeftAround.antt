@@ -26,7 +26,8 @@ use Rattle.handlebars_meaning.specs.Sites.{TreeSite, body_at, inverse_at, includ
 use Rattle.handlebars_meaning.specs.Writing.{rendered_if_any, write_text, write_rendered, write_value}
 use Rattle.handlebars_meaning.specs.CarryOut.{in_block, render_branch, render_body, render_word, take_turns, take_step, take_steps, carry_out}
 use Rattle.handlebars_meaning.specs.Means.{unescaped, on_line, line_in, line_at, render_chosen, render_helped, render_call, render_hook, render_found, render_lone_as, render_lone, render_expression, shown_tag, set_partial, do_deed, do_deeds, render_decorator, include_tag, render_partial, render_element, render_elements, todo}
-use Rattle.handlebars_meaning.specs.Runs.{Outcome, Ended, Refused, Faulted, NoMemory, IsOver, Stops, marked, Runs, done, refused, wrote, got, set, asked, did, did_over, captured, captured_over, looked, has_room, has_none, stop, cut}
+use Rattle.handlebars_meaning.specs.Runs.{Outcome, Ended, Refused, Faulted, NoMemory, IsOver, marked, Runs, done, refused, wrote, got, set, asked, did, did_over, captured, captured_over, looked, has_room, has_none, stop, cut}
+use Rattle.handlebars_laws.proofs.Outcomes.{over_marked, stop_over}
 use Rattle.handlebars_meaning.specs.Laws.{Around, around, LeavesAround}
 
 -- ---- steps that lead to this from a state
@@ -55,18 +56,6 @@ over_ends a (Ended s) over = absurd over
 over_ends a (Refused r) over = tt
 over_ends a (Faulted f) over = tt
 over_ends a NoMemory over = tt
-
-over_marked : (t : Task) (o : Outcome) → IsOver o → IsOver (marked t o)
-over_marked t (Ended s) over = over
-over_marked t (Refused r) over = tt
-over_marked t (Faulted f) over = tt
-over_marked t NoMemory over = tt
-
-stop_over : (at_word : Bool) (o : Outcome) → Stops at_word o → IsOver o
-stop_over w (Ended s) h = absurd h
-stop_over w (Refused r) h = absurd h
-stop_over w (Faulted f) h = tt
-stop_over w NoMemory h = tt
 
 module _ (p : Setting) (plan : (t : Task) (s : State) → Keeps (around s) s (todo t)) where
   keeps_of : {k : Steps} {s : State} {ps : List Piece} {o : Outcome} → Runs p k s ps o → (a : Around) → Keeps a s k

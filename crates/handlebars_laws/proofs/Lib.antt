@@ -1,6 +1,7 @@
 pub mod OneAnswer
 pub mod Once
 pub mod RunLaws
+pub mod Outcomes
 pub mod Within
 pub mod GoodRuns
 pub mod InclusionOrigins
