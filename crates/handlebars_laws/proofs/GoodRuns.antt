@@ -17,9 +17,10 @@ use Rattle.handlebars_meaning.specs.Sites.{body_at, inverse_at, included_at, Sit
 use Rattle.handlebars_meaning.specs.State.{Kept, Setting, State, outer, nearest_as, partial_in, with_partial}
 use Rattle.handlebars_meaning.specs.Steps.{Task, One, Whole, Steps, Done, Refuse, Write, Get, Set, Ask, Do, Capture, Find, Room, Prog}
 use Rattle.handlebars_meaning.specs.Means.{todo}
-use Rattle.handlebars_meaning.specs.Runs.{Outcome, Ended, Refused, Faulted, NoMemory, IsOver, Stops, marked, Front, none, cut_off, more, Runs, done, refused, wrote, got, set, asked, did, did_over, captured, captured_over, looked, has_room, has_none, stop, cut}
+use Rattle.handlebars_meaning.specs.Runs.{Outcome, Ended, Refused, Faulted, NoMemory, IsOver, marked, Front, none, cut_off, more, Runs, done, refused, wrote, got, set, asked, did, did_over, captured, captured_over, looked, has_room, has_none, stop, cut}
 use Rattle.handlebars_meaning.specs.Visits.{Visit, arrival, visits}
 use Rattle.handlebars_meaning.specs.Origins.{tree_at, element_at, is_raw_tree, AreIndents, ComesFrom, HaveOrigins, IsLocalOfRun, stood_in, IsTreeOfRun, is_body, is_inverse, is_local_of, is_stored, IsSiteOfRun, StandInTrees}
+use Rattle.handlebars_laws.proofs.Outcomes.{over_marked, stop_over}
 use Rattle.handlebars_laws.proofs.Within.{beginning_within, beginning_beginning}
 
 module _ (p : Setting) (u : Tree) (blocks : List Frame) (vs : List Visit) where
@@ -254,18 +255,6 @@ module _ (p : Setting) (u : Tree) (blocks : List Frame) (vs : List Visit) where
   over_ends on (Refused r) over = tt
   over_ends on (Faulted f) over = tt
   over_ends on NoMemory over = tt
-
-  over_marked : (t : Task) (o : Outcome) → IsOver o → IsOver (marked t o)
-  over_marked t (Ended s) over = over
-  over_marked t (Refused r) over = tt
-  over_marked t (Faulted f) over = tt
-  over_marked t NoMemory over = tt
-
-  stop_over : (at_word : Bool) (o : Outcome) → Stops at_word o → IsOver o
-  stop_over w (Ended s) h = absurd h
-  stop_over w (Refused r) h = absurd h
-  stop_over w (Faulted f) h = tt
-  stop_over w NoMemory h = tt
 
   pub first_visit : (v : Visit) → Contains (v ∷ []) v
   first_visit v = (0, omega arith, refl)

@@ -1,6 +1,7 @@
 pub mod OneAnswer
 pub mod Once
 pub mod RunLaws
+pub mod Outcomes
 pub mod Within
 pub mod GoodRuns
 pub mod InclusionOrigins
@@ -9,3 +10,4 @@ pub mod RunOrigins
 pub mod Counted
 pub mod SameAnswers
 pub mod OtherTemplates
+pub mod LeftAround

@@ -1,5 +1,6 @@
 -- What a rendering answers, at a setting, from a source or from a registered template.
-use Rattle.std.specs.Prelude.{◌≡◌, List, [], Option, None, Some}
+use Rattle.std.specs.Prelude.{◌≡◌, ◌≤◌, ℕ, List, [], Option, None, Some}
+use Rattle.std.specs.List.{AllByRecursion}
 use Rattle.handlebars_base.specs.Bytes.{Text}
 use Rattle.handlebars_base.specs.Reasons.{Refusal, TemplateRefusal, of_template, template_not_found}
 use Rattle.handlebars_base.specs.RenderRefusals.{plain_refusal}
@@ -11,6 +12,8 @@ use Rattle.handlebars_meaning.specs.State.{Setting, State, first_state}
 use Rattle.handlebars_meaning.specs.Runs.{Outcome, Ended, Refused, IsStop, Means}
 use Rattle.handlebars_meaning.specs.Origins.{HaveOrigins, StandInTrees}
 use Rattle.handlebars_meaning.specs.Visits.{visits, ComeOnce}
+use Rattle.handlebars_meaning.specs.Names.{included_names}
+use Rattle.handlebars_meaning.specs.Laws.{IsNotForLimit, with_limit, with_templates}
 
 -- what a rendering begins with: a tree, or a refusal before anything is written
 pub data Beginning : Type 0 where
@@ -64,3 +67,21 @@ ComeFromTree {p = p} {ps = ps} (rendered {t = t} b r) =
 
 abbrev pub AnswerHasOrigins : Setting → (Beginning → Type 0) → Type 0
 AnswerHasOrigins p begins = (ps : List Piece) (o : Outcome) (a : RenderAnswers p begins ps o) → ComeFromTree a
+
+-- An answer that is no refusal for the limit is the same under a larger one.
+abbrev pub SameAnswerUnderLarger : Setting → (Beginning → Type 0) → Type 0
+SameAnswerUnderLarger p begins = (n : ℕ) (ps : List Piece) (o : Outcome) → p.parts.limit ≤ n
+    → RenderAnswers p begins ps o → IsNotForLimit p.parts.limit o → RenderAnswers (with_limit n p) begins ps o
+
+-- the names of an answer's inclusions
+abbrev pub answer_names : {p : Setting} {begins : Beginning → Type 0} {ps : List Piece} {o : Outcome}
+    → RenderAnswers p begins ps o → List Text
+answer_names (not_begun b) = []
+answer_names (rendered b r) = included_names r
+
+-- An answer is the same whatever is registered under other names than those of its inclusions, where it begins alike.
+abbrev pub AnswerOnlyByNames : Setting → (Beginning → Type 0) → Type 0
+AnswerOnlyByNames p begins = (ps : List Piece) (o : Outcome) (a : RenderAnswers p begins ps o)
+    (template : Text → Option Tree)
+    → AllByRecursion (λ n. template n ≡ p.parts.template n) (answer_names a)
+    → RenderAnswers (with_templates template p) begins ps o

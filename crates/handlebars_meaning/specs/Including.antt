@@ -96,7 +96,8 @@ abbrev pub include_named : Site → DecoratorView → Partial → State → Bool
 include_named site v found s true = refuse_for cannot_include_self
 include_named site v found s false = include_other site v found s (bytes_eq partial_block_name v.call.name)
 
--- What a tag of this view includes: what is found by its name.
+-- What a tag of this view includes. What its name finds is looked up first, whatever comes of it: so a run tells the names
+-- of all its inclusions.
 abbrev pub include : Site → DecoratorView → Prog (Unit {0})
 include site v = do
   found ← find v.call.name v.body

@@ -1,12 +1,12 @@
 -- Laws of every run at one setting.
-use Rattle.std.specs.Prelude.{◌≡◌, ◌≢◌, ◌≤◌, ℕ, true, List, [], Option, None}
+use Rattle.std.specs.Prelude.{◌≡◌, ◌≢◌, ◌≤◌, ℕ, Bool, true, List, [], length, Option, None}
 use Rattle.std.specs.List.{AllByRecursion}
 use Rattle.handlebars_template.specs.Tree.{Tree, tree, no_elements, element, Element}
 use Rattle.handlebars_base.specs.Bytes.{Text}
 use Rattle.handlebars_base.specs.Outputs.{IsBeginning}
 use Rattle.handlebars_base.specs.Reasons.{inclusion_limit}
 use Rattle.handlebars_meaning.specs.Pieces.{Piece, join}
-use Rattle.handlebars_meaning.specs.State.{Setting, State}
+use Rattle.handlebars_meaning.specs.State.{Kept, Setting, State}
 use Rattle.handlebars_meaning.specs.Steps.{Steps}
 use Rattle.handlebars_meaning.specs.Means.{render_alone}
 use Rattle.handlebars_meaning.specs.Names.{included_names}
@@ -54,6 +54,32 @@ alone e = tree None (element e no_elements) []
 abbrev pub ElementHasOrigins : Setting → Type 0
 ElementHasOrigins p = (e : Element) (s : State) (ps : List Piece) (o : Outcome)
     → IsPlain s → (r : Runs p (render_alone e) s ps o) → HaveOrigins p (alone e) (visits r) ps
+
+-- ---- what is as before
+
+-- What stands around all that is rendered: how many blocks of scope there are, whether lookup is recursive and escaping is
+-- on, the indentation in force, what is kept, and how many inclusions are being rendered.
+pub record Around : Type 0 where
+  pub blocks : ℕ
+  pub recursive : Bool
+  pub escapes : Bool
+  pub indent : Option Text
+  pub kept : Kept
+  pub inclusions : ℕ
+
+abbrev pub around : State → Around
+around s = record {
+  blocks = length s.blocks;
+  recursive = s.recursive;
+  escapes = s.escapes;
+  indent = s.indent;
+  kept = s.kept;
+  inclusions = s.inclusions;
+}
+
+-- A tree's run that ends well leaves it as it was.
+abbrev pub LeavesAround : Setting → Type 0
+LeavesAround p = (t : Tree) (s n : State) (ps : List Piece) → Means p t s ps (Ended n) → around n ≡ around s
 
 -- ---- other limits and other templates
 
