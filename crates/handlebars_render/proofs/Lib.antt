@@ -18,3 +18,8 @@ mod Changed
 mod Turns
 pub mod Silent
 mod Evaluated
+mod Sinks
+mod Includes
+mod Bases
+mod Tags
+pub mod Lent

@@ -1,16 +1,17 @@
 //! The state of a rendering.
 
-ghost use Rattle.std.specs.Prelude.{◌≡◌, ◌≢◌, not, IfOk, IfErr, OnOk, OnErr, true, false, is_some, map, option_map, slice_get, string_bytes};
+ghost use Rattle.std.specs.Prelude.{◌≡◌, ◌≢◌, [], not, IfOk, IfErr, IfSome, OnOk, OnErr, None, Some, true, false, is_some, map, option_map, slice_get, string_bytes};
 ghost use Rattle.std.specs.Borrow.{sem};
 ghost use Rattle.serde_json.specs.View.{view};
 ghost use Rattle.handlebars_base.specs.Answers.{Answers, answer_map, gives, refuses};
+ghost use Rattle.handlebars_base.specs.Path.{relative};
 ghost use Rattle.handlebars_base.specs.PathView.{reference_of};
 ghost use Rattle.handlebars_base.specs.Reasons.{out_of_memory};
 ghost use Rattle.handlebars_base.specs.RenderRefusals.{reason_in, refusal_of};
 ghost use Rattle.handlebars_base.specs.Scoped.{found_of, is_constant, present_in};
 ghost use Rattle.handlebars_template.specs.TreeView.{binding_of, binding_view, tree_view};
+ghost use Rattle.handlebars_scope.specs.Bases.{bases_of, lend};
 ghost use Rattle.handlebars_scope.specs.Contexts.{data_of};
-ghost use Rattle.handlebars_scope.specs.LineView.{line_of};
 ghost use Rattle.handlebars_scope.specs.Resolve.{resolved};
 ghost use Rattle.handlebars_scope.specs.ScopeView.{frame_of, frames_of, variables_of};
 ghost use Rattle.handlebars_scope.specs.WayView.{reached_of};
@@ -21,7 +22,10 @@ ghost use Rattle.handlebars_meaning.specs.Values as values;
 ghost use Rattle.handlebars_meaning.specs.Values.{Evaluates};
 ghost use Rattle.handlebars_render.specs.Lending.{LendsBlock};
 ghost use Rattle.handlebars_meaning.specs.State.{entered, first_state, left, nearest_variables, partial_in, with_data, with_local, with_nearest, with_partial, without_local};
-ghost use Rattle.handlebars_render.specs.View.{state_of, read_in, root_of, has_failed, behind, with_line, HasOuter, IsKept, NearestBelow};
+ghost use Rattle.handlebars_render.specs.View.{lending, state_of, read_in, root_of, has_failed, HasOuter, IsKept, NearestBelow};
+
+mod lines;
+mod names;
 
 use crate::null::Null;
 use handlebars_base::error::RenderError;
@@ -30,6 +34,7 @@ use handlebars_base::json::value::{Json, ScopedJson};
 use handlebars_helpers::own::LocalHelper;
 use handlebars_helpers::turn::{Turn, set_up_next_turn, set_up_turn};
 use handlebars_scope::block::BlockContext;
+use handlebars_scope::context::bases::Bases;
 use handlebars_scope::context::reached::Reached;
 use handlebars_scope::context::{Context, walk};
 use handlebars_scope::line::LineState;
@@ -211,9 +216,29 @@ impl RenderContext {
     pub fn get_partial(&self, name: &str) -> Option<&Template>
         ensures { option_map (λ t. tree_view t.now) result ≡ partial_in (state_of self.now).blocks name.now }
     {
+        match self.local_partial(name) {
+            Some(template) => Some(&**template),
+            None => None,
+        }
+    }
+
+    // The same, shared with the block that has it, which may be given another one while this is rendered.
+    pub(super) fn shared_partial(&self, name: &str) -> Result<Option<Rc<Template>>, AllocError>
+        ensures { IfOk result (λ shared. option_map (λ t. tree_view t.value) shared
+            ≡ partial_in (state_of self.now).blocks name.now) }
+    {
+        match self.local_partial(name) {
+            Some(template) => Ok(Some(template.clone()?)),
+            None => Ok(None),
+        }
+    }
+
+    fn local_partial(&self, name: &str) -> Option<&Rc<Template>>
+        ensures { option_map (λ t. tree_view t.now.value) result ≡ partial_in (state_of self.now).blocks name.now }
+    {
         for block in self.blocks.iter() {
             if let Some(template) = block.get_local_partial(name) {
-                return Some(&**template);
+                return Some(template);
             }
         }
         None
@@ -309,42 +334,82 @@ impl RenderContext {
         !self.local_helpers.is_empty() && self.local_helpers.contains_key(name)
     }
 
-    // What a path leads to in these blocks, and in this data where it wasn't changed; nothing is copied.
-    pub(super) fn reach<'v: 'n, 'n>(&'v self, given: &'v Json, path: &'n Path) -> Reached<'v, 'n>
-        ensures { reached_of result
-            ≡ answer_map present_in (read_in (state_of self.now) (view given.now) (reference_of path.now)) }
+    // What a path leads to in these blocks, of which some are lent their bases, and in this data where it wasn't
+    // changed; nothing is copied.
+    pub(super) fn reach<'v: 'n, 'n>(
+        &'v self,
+        given: &'v Json,
+        path: &'n Path,
+        bases: &'v Bases<'v>,
+    ) -> Reached<'v, 'n>
+        ensures { reached_of result ≡ answer_map present_in
+            (read_in (lending (bases_of bases.now) (state_of self.now)) (view given.now) (reference_of path.now)) }
     {
         match &self.changed {
-            None => walk::reach(given, path, &self.blocks, self.recursive_lookup),
-            Some(context) => self.reach_changed(context, path),
+            None => walk::reach(given, path, &self.blocks, bases, self.recursive_lookup),
+            Some(context) => self.reach_changed(context, path, bases),
         }
     }
 
     // The same where the data was changed: a missing value is null.
-    fn reach_changed<'v: 'n, 'n>(&'v self, context: &'v Context, path: &'n Path) -> Reached<'v, 'n>
+    fn reach_changed<'v: 'n, 'n>(
+        &'v self,
+        context: &'v Context,
+        path: &'n Path,
+        bases: &'v Bases<'v>,
+    ) -> Reached<'v, 'n>
         ensures { reached_of result ≡ answer_map present_in (answer_map values.plain (resolved
-            (state_of self.now).recursive (state_of self.now).blocks (reference_of path.now) (data_of context.now))) }
+            (state_of self.now).recursive (lend (bases_of bases.now) (state_of self.now).blocks) (reference_of path.now)
+            (data_of context.now))) }
     {
-        match walk::reach(context.data(), path, &self.blocks, self.recursive_lookup) {
+        match walk::reach(
+            context.data(),
+            path,
+            &self.blocks,
+            bases,
+            self.recursive_lookup,
+        ) {
             Reached::Value(value) => Reached::Value(value),
             Reached::Nothing => Reached::Value(self.null.value()),
             Reached::NoIndex(name) => Reached::NoIndex(name),
         }
     }
 
-    // The same, with the full path of a value of the data, where it wasn't changed. A value that a block
+    // The value that the empty path leads to, where neither a block of this context nor changed data holds it, so that
+    // the context may change while it is lent.
+    pub(super) fn lent_current<'v>(&self, given: &'v Json, bases: &'v Bases<'v>) -> Option<&'v Json>
+        ensures { IfSome result (λ v. answer_map present_in
+            (read_in (lending (bases_of bases.now) (state_of self.now)) (view given.now) (relative [] []))
+            ≡ gives (Some (view v.now))) }
+    {
+        match &self.changed {
+            None => walk::current(given, &self.blocks, bases),
+            Some(_context) => walk::lent(&self.blocks, bases),
+        }
+    }
+
+    // What a path leads to, with the full path of a value of the data, where it wasn't changed. A value that a block
     // holds is copied, and so is one of changed data.
     pub(super) fn find<'a>(
         &self,
         given: &'a Json,
         path: &Path,
+        bases: &Bases<'_>,
     ) -> Result<ScopedJson<'a>, RenderError>
-        ensures found { Answers found_of result (read_in (state_of self.now) (view given.now) (reference_of path.now)) }
+        ensures found { Answers found_of result
+            (read_in (lending (bases_of bases.now) (state_of self.now)) (view given.now) (reference_of path.now)) }
         ensures plain { IfOk result (λ found. is_constant found ≡ false) }
     {
         match &self.changed {
-            None => walk::find(self.alloc, given, path, &self.blocks, self.recursive_lookup),
-            Some(context) => self.find_changed(context, path),
+            None => walk::find(
+                self.alloc,
+                given,
+                path,
+                &self.blocks,
+                bases,
+                self.recursive_lookup,
+            ),
+            Some(context) => self.find_changed(context, path, bases),
         }
     }
 
@@ -353,9 +418,11 @@ impl RenderContext {
         &self,
         context: &Context,
         path: &Path,
+        bases: &Bases<'_>,
     ) -> Result<ScopedJson<'a>, RenderError>
         ensures found { Answers found_of result (answer_map values.plain (resolved
-            (state_of self.now).recursive (state_of self.now).blocks (reference_of path.now) (data_of context.now))) }
+            (state_of self.now).recursive (lend (bases_of bases.now) (state_of self.now).blocks) (reference_of path.now)
+            (data_of context.now))) }
         ensures plain { IfOk result (λ found. is_constant found ≡ false) }
     {
         match walk::resolve(
@@ -363,6 +430,7 @@ impl RenderContext {
             context.data(),
             path,
             &self.blocks,
+            bases,
             self.recursive_lookup,
         ) {
             Ok(Some(found)) => Ok(ScopedJson::Derived(found.clone()?)),
@@ -387,54 +455,6 @@ impl RenderContext {
         self.escapes = !disable;
     }
 
-    /// Whether indentation goes before the next text.
-    pub fn get_indent_before_write(&self) -> bool
-        ensures { result ≡ (state_of self.now).line.before }
-    {
-        self.line.before
-    }
-
-    /// From now on indentation goes before the next text, or doesn't.
-    pub fn set_indent_before_write(&mut self, indent: bool)
-        ensures state { state_of self.new
-            ≡ with_line (record (state_of self.old).line { before = indent }) (state_of self.old) }
-        ensures kept { IsKept self.old self.new }
-    {
-        self.line.before = indent;
-    }
-
-    /// Whether the last text ended a line.
-    pub fn get_trailine_newline(&self) -> bool
-        ensures { result ≡ (state_of self.now).line.trailing }
-    {
-        self.line.trailing
-    }
-
-    /// From now on the last text counts as one that ended a line, or didn't.
-    pub fn set_trailing_newline(&mut self, trailing: bool)
-        ensures state { state_of self.new
-            ≡ with_line (record (state_of self.old).line { trailing = trailing }) (state_of self.old) }
-        ensures kept { IsKept self.old self.new }
-    {
-        self.line.trailing = trailing;
-    }
-
-    /// Whether a text was written.
-    pub fn get_content_produced(&self) -> bool
-        ensures { result ≡ (state_of self.now).line.produced }
-    {
-        self.line.produced
-    }
-
-    /// From now on a text counts as written, or as not written yet.
-    pub fn set_content_produced(&mut self, produced: bool)
-        ensures state { state_of self.new
-            ≡ with_line (record (state_of self.old).line { produced = produced }) (state_of self.old) }
-        ensures kept { IsKept self.old self.new }
-    {
-        self.line.produced = produced;
-    }
-
     // Whether values are escaped.
     pub(super) fn escapes(&self) -> bool
         ensures { result ≡ (state_of self.now).escapes }
@@ -457,11 +477,13 @@ impl RenderContext {
         ensures plain { IfOk result (λ found. is_constant found ≡ false) }
     {
         let reference = Path::parse(self.alloc, path)?;
+        let bases = Bases::outside();
         walk::find(
             self.alloc,
             context.data(),
             &reference,
             &self.blocks,
+            &bases,
             self.recursive_lookup,
         )
     }
@@ -471,61 +493,6 @@ impl RenderContext {
         ensures { self.new ≡ record self.old { failed = true } }
     {
         self.failed = true;
-    }
-
-    // Makes a name the current one, or none. A name that is the current one isn't copied again.
-    pub(super) fn enter(&mut self, name: &Option<String>) -> Result<(), AllocError>
-        ensures ok { OnOk result (state_of self.new
-            ≡ record (state_of self.old) { current = option_map string_bytes name.now }) }
-        ensures err { OnErr result (state_of self.new ≡ state_of self.old) }
-        ensures kept { IsKept self.old self.new }
-    {
-        match name {
-            Some(name) => self.enter_name(name),
-            None => {
-                self.current_template = None;
-                Ok(())
-            }
-        }
-    }
-
-    fn enter_name(&mut self, name: &String) -> Result<(), AllocError>
-        ensures ok { OnOk result (state_of self.new
-            ≡ record (state_of self.old) { current = Some (string_bytes name.now) }) }
-        ensures err { OnErr result (state_of self.new ≡ state_of self.old) }
-        ensures kept { IsKept self.old self.new }
-    {
-        let is_current = match &self.current_template {
-            Some(current) => current.as_str() == name.as_str(),
-            None => false,
-        };
-        if !is_current {
-            self.current_template = Some(name.clone()?);
-        }
-        Ok(())
-    }
-
-    // A text was written.
-    pub(super) fn pass_text(&mut self, text: &str)
-        ensures state { state_of self.new ≡ behind text.now (state_of self.old) }
-        ensures kept { IsKept self.old self.new }
-    {
-        self.line = self.line.behind(text);
-    }
-
-    // The line that is being written.
-    pub(super) fn line(&self) -> LineState
-        ensures { line_of result ≡ (state_of self.now).line }
-    {
-        self.line
-    }
-
-    // From now on this is the line that is being written.
-    pub(super) fn set_line(&mut self, line: LineState)
-        ensures state { state_of self.new ≡ with_line (line_of line) (state_of self.old) }
-        ensures kept { IsKept self.old self.new }
-    {
-        self.line = line;
     }
 }
 

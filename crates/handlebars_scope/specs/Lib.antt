@@ -1,6 +1,7 @@
 pub mod Contexts
 pub mod Wraps
 pub mod Scopes
+pub mod Bases
 pub mod Resolve
 pub mod Fronts
 pub mod LineState
@@ -9,3 +10,6 @@ pub mod ScopeView
 pub mod Seeking
 pub mod WayView
 pub mod Lending
+pub mod Indentation
+pub mod Merged
+pub mod MergedView
