@@ -19,7 +19,8 @@ use Rattle.handlebars_render.specs.View.{GivesString, RefusesString}
 use Rattle.handlebars_meaning.specs.Answer.{Beginning, a_tree, no_tree, FromSource, compiles, does_not, FromName, is_stored, is_not, not_begun, rendered, GivesText, RefusesWith, HasOneAnswer, AnswerHasOrigins}
 use Rattle.handlebars_laws.proofs.Once.{comes_once}
 use Rattle.handlebars_laws.proofs.RunLaws.{Runs-one}
-use Rattle.handlebars_laws.proofs.RunOrigins.{all_have_origins}
+use Rattle.handlebars_laws.proofs.RunOrigins.{all_have_origins, comes_in_trees}
+use Rattle.handlebars_meaning.specs.Laws.{IsPlain}
 
 -- ---- at most one beginning
 
@@ -107,7 +108,10 @@ module _ (p : Setting) (lawful : IsLawful p.parts) (begins : Beginning → Type 
 pub answer_has_origins : (p : Setting) (begins : Beginning → Type 0) → AnswerHasOrigins p begins
 answer_has_origins p begins ps o (not_begun a) = tt
 answer_has_origins p begins ps o (rendered {t = t} a r) =
-    (all_have_origins p t (first_state p.parts.recursive) ps o refl r, comes_once p t (first_state p.parts.recursive) ps o r)
+    let plain : IsPlain (first_state p.parts.recursive) = record { escapes = refl; indent = refl; kept = refl } in (
+      all_have_origins p t (first_state p.parts.recursive) ps o plain r,
+      (comes_once p t (first_state p.parts.recursive) ps o r, comes_in_trees p t (first_state p.parts.recursive) ps o plain r),
+    )
 
 -- ---- what calls answer
 

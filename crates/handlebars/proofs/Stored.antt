@@ -1,5 +1,5 @@
 -- What stands under a name behind a registration.
-use Rattle.std.proofs.Common.{◌≡◌, cond, Some, option_map, subst, ap, ◌∙◌, String, Global}
+use Rattle.std.proofs.Common.{◌≡◌, cond, Some, option_map, ap, ◌∙◌, String, Global}
 use Rattle.std.specs.BTreeMap.{BTreeMap, UpdatesBy, get_by_text}
 use Rattle.std.specs.Prelude.{string_bytes}
 use Rattle.std.specs.Str.{bytes_eq}

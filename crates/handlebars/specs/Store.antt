@@ -1,25 +1,19 @@
 -- What a registry keeps under names.
-use Rattle.std.specs.Prelude.{◌≡◌, Option, Some, option_map, cond}
-use Rattle.std.specs.BTreeMap.{get_by_text}
+use Rattle.std.specs.Prelude.{◌≡◌, Option, Some, cond}
 use Rattle.std.specs.Str.{bytes_eq}
 use Rattle.handlebars_base.specs.Bytes.{Text}
 use Rattle.handlebars_template.specs.Tree.{Tree}
-use Rattle.handlebars_template.specs.TreeView.{tree_view}
 use Rattle.handlebars_helpers.specs.ByNameView.{HasSame, Puts}
 use Rattle.handlebars_helpers.specs.declared.decorators.entry.DecoratorEntryOf.{DecoratorEntryOf}
 use Rattle.handlebars_helpers.specs.declared.entries.Entries.{Entries}
 use Rattle.handlebars_helpers.specs.declared.escape.EscapeKindOf.{EscapeKindOf}
 use Rattle.handlebars_helpers.specs.declared.own.entry.HelperEntryOf.{HelperEntryOf}
-use Rattle.handlebars.specs.View.{modes_of}
+use Rattle.handlebars.specs.View.{modes_of, stored}
 use Rattle.handlebars.specs.declared.registry.RegistryOf.{RegistryOf}
 
 -- ---- templates
 
 module _ {E : Type 0} where
-  -- the tree under a name, if there is one
-  abbrev pub stored : RegistryOf E → Text → Option Tree
-  stored r name = option_map tree_view (get_by_text r.templates name)
-
   -- The tree stands under the name now, and under each other name what stood there.
   abbrev pub Stores : RegistryOf E → RegistryOf E → Text → Tree → Type 0
   Stores old new name t = (other : Text) → stored new other ≡ cond (bytes_eq name other) (Some t) (stored old other)

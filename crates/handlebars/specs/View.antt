@@ -1,24 +1,43 @@
 -- What a registry and its contexts stand for.
-use Rattle.std.specs.Prelude.{Bool}
-use Rattle.handlebars_tags.specs.Options.{Options, no_options}
+use Rattle.std.specs.BTreeMap.{get_by_text}
+use Rattle.std.specs.Prelude.{ℕ, Bool, Option, None, Some, option_map}
+use Rattle.handlebars_base.specs.Bytes.{Text}
+use Rattle.handlebars_tags.specs.Options.{Options}
+use Rattle.handlebars_template.specs.Tree.{Tree}
+use Rattle.handlebars_template.specs.TreeView.{tree_view}
 use Rattle.handlebars_scope.specs.Contexts.{data_of}
 use Rattle.handlebars_scope.specs.declared.context.Context.{Context}
 use Rattle.handlebars_helpers.specs.OwnAnswers.{OwnAnswers, Registered}
 use Rattle.handlebars_meaning.specs.State.{Parts, Setting}
 use Rattle.handlebars.specs.declared.registry.RegistryOf.{RegistryOf}
 
--- the modes of a registry: whether it is strict, and whether lookup is recursive
+-- the modes of a registry: whether it is strict, whether lookup is recursive, whether inclusions add no indentation, and
+-- how many of them may be rendered one within another
 pub record Modes : Type 0 where
   pub strict : Bool
   pub recursive : Bool
+  pub prevent_indent : Bool
+  pub limit : ℕ
 
 module _ {E : Type 0} where
   abbrev pub modes_of : RegistryOf E → Modes
-  modes_of r = record { strict = r.strict_mode; recursive = r.recursive_lookup }
+  modes_of r = record {
+    strict = r.strict_mode;
+    recursive = r.recursive_lookup;
+    prevent_indent = r.prevent_indent;
+    limit = r.inclusion_limit;
+  }
 
-  -- how a registry compiles sources
+  -- the tree under a name, if there is one
+  abbrev pub stored : RegistryOf E → Text → Option Tree
+  stored r name = option_map tree_view (get_by_text r.templates name)
+
+  -- how a registry compiles sources, without a name and with one
   abbrev pub options_of : RegistryOf E → Options
-  options_of r = no_options
+  options_of r = record { name = None; prevent_indent = r.prevent_indent }
+
+  abbrev pub named_by : RegistryOf E → Text → Options
+  named_by r name = record { name = Some name; prevent_indent = r.prevent_indent }
 
   -- What a run reads, by what stands under the names of a registry's entries and what those of one's own answer.
   module _ (registered : E → Registered) (own : E → OwnAnswers) where
@@ -32,6 +51,8 @@ module _ {E : Type 0} where
       own_escape = (own r.entries).escape;
       strict = r.strict_mode;
       recursive = r.recursive_lookup;
+      template = stored r;
+      limit = r.inclusion_limit;
     }
 
     -- the setting of a run, with a registry and over a context

@@ -43,6 +43,7 @@ pub use handlebars_render::context::RenderContext;
 pub use handlebars_render::write::indent_aware_write;
 pub use handlebars_scope::block::{BlockContext, BlockParamHolder, BlockParams};
 pub use handlebars_scope::context::Context;
+pub use handlebars_scope::indentation::{with_indent, write_indented};
 pub use handlebars_scope::local_vars::LocalVars;
 pub use handlebars_template::template;
 pub use handlebars_template::template::{
@@ -50,6 +51,7 @@ pub use handlebars_template::template::{
     Template, TemplateElement, TemplateMapping, TemplateOptions,
 };
 pub use registry::{Registry, Registry as Handlebars, RegistryOf};
+pub use render::partial::expand_partial;
 pub use render::{Evaluable, Expand, Renderable};
 pub use serde_json::Value as JsonValue;
 pub use sources::{EntryKind, NoFiles, TemplateReader};

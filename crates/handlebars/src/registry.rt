@@ -5,7 +5,6 @@ ghost use Rattle.handlebars_base.specs.Bytes.{Text};
 ghost use Rattle.handlebars_base.specs.Reasons.{out_of_memory, template_out_of_memory};
 ghost use Rattle.handlebars_base.specs.RenderRefusals.{refusal_of, reason_in};
 ghost use Rattle.handlebars_base.specs.TemplateRefusals.{template_refusal_of};
-ghost use Rattle.handlebars_tags.specs.Options.{named_options};
 ghost use Rattle.handlebars_template.specs.Compile.{Compiles, compiled, refused};
 ghost use Rattle.handlebars_template.specs.Tree.{Tree};
 ghost use Rattle.handlebars_template.specs.TreeView.{tree_view};
@@ -14,9 +13,9 @@ ghost use Rattle.handlebars_helpers.specs.Callee.{first_callee};
 ghost use Rattle.handlebars_helpers.specs.Escaping.{for_html};
 ghost use Rattle.handlebars_meaning.specs.Answer.{FromSource, FromName, GivesText, RefusesWith, HasOneAnswer, AnswerHasOrigins};
 ghost use Rattle.handlebars_meaning.specs.State.{first_state};
-ghost use Rattle.handlebars.specs.Store.{stored, Stores, HasSameParts, HasSameTemplates, PutsDecorator, PutsEscape, PutsHelper};
+ghost use Rattle.handlebars.specs.Store.{Stores, HasSameParts, HasSameTemplates, PutsDecorator, PutsEscape, PutsHelper};
 ghost use Rattle.handlebars_render.specs.View.{state_of, root_of, has_failed};
-ghost use Rattle.handlebars.specs.View.{modes_of, setting_of, options_of};
+ghost use Rattle.handlebars.specs.View.{modes_of, named_by, setting_of, options_of, stored};
 
 use crate::render::Renderable;
 use crate::sources::TemplateReader;
@@ -27,7 +26,7 @@ use handlebars_helpers::escape::EscapeKindOf;
 use handlebars_helpers::own::entry::HelperEntryOf;
 use handlebars_render::context::RenderContext;
 use handlebars_scope::context::Context;
-use handlebars_template::template::Template;
+use handlebars_template::template::{Template, TemplateOptions};
 use log::Log;
 use std::alloc::{AllocError, Global};
 use std::collections::BTreeMap;
@@ -40,6 +39,8 @@ pub struct RegistryOf<E> {
     pub(crate) entries: E,
     strict_mode: bool,
     recursive_lookup: bool,
+    prevent_indent: bool,
+    inclusion_limit: u16,
 }
 
 /// A registry of helpers, decorators and an escape function, built-in ones or one's own.
@@ -81,6 +82,51 @@ impl<E: Drop> RegistryOf<E> {
         self.recursive_lookup
     }
 
+    /// From now on, or no more, an inclusion that stands alone on its line adds no indentation, in sources that are
+    /// compiled from then on.
+    pub fn set_prevent_indent(&mut self, enabled: bool)
+        ensures modes { modes_of self.new ≡ record (modes_of self.old) { prevent_indent = enabled } }
+        ensures entries { self.new.entries ≡ self.old.entries }
+        ensures kept { HasSameTemplates self.old self.new }
+    {
+        self.prevent_indent = enabled;
+    }
+
+    /// Whether inclusions add no indentation.
+    pub fn prevent_indent(&self) -> bool
+        ensures { result ≡ (modes_of self.now).prevent_indent }
+    {
+        self.prevent_indent
+    }
+
+    /// From now on so many inclusions may be rendered one within another, and one more is refused.
+    pub fn set_inclusion_limit(&mut self, limit: u16)
+        ensures modes { modes_of self.new ≡ record (modes_of self.old) { limit = limit } }
+        ensures entries { self.new.entries ≡ self.old.entries }
+        ensures kept { HasSameTemplates self.old self.new }
+    {
+        self.inclusion_limit = limit;
+    }
+
+    /// How many inclusions may be rendered one within another.
+    pub fn inclusion_limit(&self) -> u16
+        ensures { result ≡ (modes_of self.now).limit }
+    {
+        self.inclusion_limit
+    }
+
+    /// Registers a tree under the name, in place of one that stood there. Where memory is refused, nothing is changed.
+    pub fn register_template(&mut self, name: &str, template: Template) -> Result<(), AllocError>
+        ensures ok { OnOk result (Stores self.old self.new name.now (tree_view template)) }
+        ensures kept { OnErr result (HasSameTemplates self.old self.new) }
+        ensures entries { self.new.entries ≡ self.old.entries }
+        ensures modes { modes_of self.new ≡ modes_of self.old }
+    {
+        let key = String::from_str(self.alloc, name)?;
+        self.templates.insert(key, template)?;
+        Ok(())
+    }
+
     /// Compiles a source and registers its tree under the name, in place of one that stood there.
     /// Where it is refused, nothing is changed.
     pub fn register_template_string(
@@ -88,24 +134,43 @@ impl<E: Drop> RegistryOf<E> {
         name: &str,
         source: &str,
     ) -> Result<(), TemplateError>
-        ensures ok { OnOk result ((t : Tree) × Compiles source.now (named_options name.now) (compiled t)
+        ensures ok { OnOk result ((t : Tree) × Compiles source.now (named_by self.old name.now) (compiled t)
             × Stores self.old self.new name.now t) }
         ensures err { IfErr result (λ e. (template_refusal_of e).reason ≢ template_out_of_memory
-            → Compiles source.now (named_options name.now) (refused (template_refusal_of e))) }
+            → Compiles source.now (named_by self.old name.now) (refused (template_refusal_of e))) }
         ensures kept { OnErr result (HasSameTemplates self.old self.new) }
         ensures entries { self.new.entries ≡ self.old.entries }
         ensures modes { modes_of self.new ≡ modes_of self.old }
     {
-        let key = String::from_str(self.alloc, name)?;
-        let template = Template::compile_with_name(
-            self.alloc,
-            source,
-            String::from_str(self.alloc, name)?,
-        )?;
-        match self.templates.insert(key, template) {
-            Ok(_) => Ok(()),
-            Err(_) => Err(AllocError.into()),
-        }
+        let template = self.compiled_as(name, source)?;
+        self.register_template(name, template)?;
+        Ok(())
+    }
+
+    /// The same: a partial is a template.
+    pub fn register_partial(&mut self, name: &str, source: &str) -> Result<(), TemplateError>
+        ensures ok { OnOk result ((t : Tree) × Compiles source.now (named_by self.old name.now) (compiled t)
+            × Stores self.old self.new name.now t) }
+        ensures err { IfErr result (λ e. (template_refusal_of e).reason ≢ template_out_of_memory
+            → Compiles source.now (named_by self.old name.now) (refused (template_refusal_of e))) }
+        ensures kept { OnErr result (HasSameTemplates self.old self.new) }
+        ensures entries { self.new.entries ≡ self.old.entries }
+        ensures modes { modes_of self.new ≡ modes_of self.old }
+    {
+        self.register_template_string(name, source)
+    }
+
+    // The tree of a source, for this name.
+    fn compiled_as(&self, name: &str, source: &str) -> Result<Template, TemplateError>
+        ensures ok { IfOk result (λ t. Compiles source.now (named_by self.now name.now) (compiled (tree_view t))) }
+        ensures err { IfErr result (λ e. (template_refusal_of e).reason ≢ template_out_of_memory
+            → Compiles source.now (named_by self.now name.now) (refused (template_refusal_of e))) }
+    {
+        let options = TemplateOptions {
+            name: Some(String::from_str(self.alloc, name)?),
+            prevent_indent: self.prevent_indent,
+        };
+        Template::compile2(self.alloc, source, options)
     }
 
     /// Whether a template stands under the name.
@@ -190,7 +255,8 @@ impl<B: Drop, F: Drop, D: Drop, G: Drop, X: Drop> RegistryOf<Entries<B, F, D, G,
 // The calls that render.
 impl<E: OwnParts> RegistryOf<E> {
     /// A registry with the built-in helpers and decorators, and nothing else; values are escaped for
-    /// html, the mode isn't strict, and lookup isn't recursive.
+    /// html, the mode isn't strict, lookup isn't recursive, inclusions add their indentation, and 64 of them may be rendered
+    /// one within another.
     pub fn new(alloc: Global) -> Result<RegistryOf<E>, AllocError>
         ensures templates { IfOk result (λ r. (name : Text) → stored r name ≡ None) }
         ensures helpers { IfOk result (λ r. (name : Text) → (E.registered r.entries).helper name ≡ first_callee name) }
@@ -198,6 +264,8 @@ impl<E: OwnParts> RegistryOf<E> {
         ensures escape { IfOk result (λ r. (E.registered r.entries).escape ≡ for_html) }
         ensures strict { IfOk result (λ r. (modes_of r).strict ≡ false) }
         ensures recursive { IfOk result (λ r. (modes_of r).recursive ≡ false) }
+        ensures prevents { IfOk result (λ r. (modes_of r).prevent_indent ≡ false) }
+        ensures limit { IfOk result (λ r. (modes_of r).limit ≡ 64) }
     {
         Ok(RegistryOf {
             alloc,
@@ -205,6 +273,8 @@ impl<E: OwnParts> RegistryOf<E> {
             entries: E::first(alloc)?,
             strict_mode: false,
             recursive_lookup: false,
+            prevent_indent: false,
+            inclusion_limit: 64,
         })
     }
 
@@ -251,13 +321,17 @@ impl<E: OwnParts> RegistryOf<E> {
         ensures err { IfErr result (λ e. reason_in e ≢ out_of_memory
             → RefusesWith (setting_of E.registered E.own self.now ctx.now) (FromSource (options_of self.now) source.now) (refusal_of e)) }
 
-        // There is at most one such answer, and each of its pieces comes from the source's tree and the data.
+        // There is at most one such answer, and each of its pieces comes from a tree of the run and the data.
         ensures one { HasOneAnswer (setting_of E.registered E.own self.now ctx.now) (FromSource (options_of self.now) source.now) }
         ensures origins { AnswerHasOrigins (setting_of E.registered E.own self.now ctx.now) (FromSource (options_of self.now) source.now) }
         ensures unread { _files.new ≡ _files.old }
     {
         self.entries.keeps_law();
-        let template = Template::compile(self.alloc, source)?;
+        let options = TemplateOptions {
+            name: None,
+            prevent_indent: self.prevent_indent,
+        };
+        let template = Template::compile2(self.alloc, source, options)?;
         let mut rc = self.first_context(None)?;
         template.renders(self.alloc, self, ctx, &mut rc, log)
     }

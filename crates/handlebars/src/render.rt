@@ -6,13 +6,13 @@ ghost use Rattle.handlebars_base.specs.RenderRefusals.{refusal_of, plain_refusal
 ghost use Rattle.handlebars_template.specs.TreeView.{tree_view, element_view};
 ghost use Rattle.handlebars_meaning.specs.Steps.{Steps};
 ghost use Rattle.handlebars_meaning.specs.Means.{render_tree, render_alone};
-ghost use Rattle.handlebars_meaning.specs.State.{Kept};
-ghost use Rattle.handlebars_render.specs.View.{state_of, state_with, root_of, has_failed, moment, without_partials, CarriesOut, GivesString, RefusesString};
+ghost use Rattle.handlebars_render.specs.View.{state_of, root_of, has_failed, first_moment, without_partials, CarriesOut, GivesString, RefusesString};
 ghost use Rattle.handlebars.specs.View.{setting_of};
 
 mod evaluable;
 mod expand;
 mod logging;
+pub mod partial;
 
 use crate::registry::RegistryOf;
 use crate::render::logging::Logging;
@@ -22,10 +22,9 @@ use handlebars_base::error::RenderError;
 use handlebars_base::output::{Output, StringOutput};
 use handlebars_helpers::entries::OwnParts;
 use handlebars_render::context::RenderContext;
-use handlebars_render::element::render_element;
+use handlebars_render::entry::{render_element_into, render_into};
 use handlebars_render::failure::{fail_after, ready};
 use handlebars_render::setting::Setting;
-use handlebars_render::tree::render_tree;
 use handlebars_scope::context::Context;
 use handlebars_template::template::{Template, TemplateElement};
 use log::Log;
@@ -48,8 +47,8 @@ pub trait Renderable {
         out: &mut O,
         log: &L,
     ) -> Result<(), RenderError>
-        ensures renders { (kept : Kept) → has_failed rc.old ≡ false → CarriesOut (setting_of E.registered E.own registry.now «data».now) (steps self.now)
-            O.may_give (moment kept rc.old (O.held out.old)) result (moment kept rc.new (O.held out.new)) }
+        ensures renders { has_failed rc.old ≡ false → CarriesOut (setting_of E.registered E.own registry.now «data».now) (steps self.now)
+            O.may_give (first_moment rc.old (O.held out.old)) result (first_moment rc.new (O.held out.new)) }
         ensures failed { has_failed rc.old ≡ true → IsErrAnd result (λ e. refusal_of e ≡ plain_refusal failed)
             × (rc.new ≡ rc.old) × (O.held out.new ≡ O.held out.old) }
         ensures root { root_of rc.new ≡ root_of rc.old }
@@ -69,10 +68,10 @@ pub trait Renderable {
         log: &L,
     ) -> Result<String, RenderError>
         ensures ok { IfOk result (λ text. (has_failed rc.old ≡ false)
-            × ((kept : Kept) → GivesString (setting_of E.registered E.own registry.now «data».now) (steps self.now)
-            (state_with kept rc.old) (state_with kept rc.new) (string_bytes text))) }
-        ensures err { IfErr result (λ e. has_failed rc.old ≡ false → reason_in e ≢ out_of_memory → (kept : Kept)
-            → RefusesString (setting_of E.registered E.own registry.now «data».now) (steps self.now) (state_with kept rc.old)
+            × GivesString (setting_of E.registered E.own registry.now «data».now) (steps self.now)
+            (state_of rc.old) (state_of rc.new) (string_bytes text)) }
+        ensures err { IfErr result (λ e. has_failed rc.old ≡ false → reason_in e ≢ out_of_memory
+            → RefusesString (setting_of E.registered E.own registry.now «data».now) (steps self.now) (state_of rc.old)
             (refusal_of e)) }
         ensures failed { has_failed rc.old ≡ true
             → IsErrAnd result (λ e. refusal_of e ≡ plain_refusal failed) × (rc.new ≡ rc.old) }
@@ -109,8 +108,12 @@ impl Renderable for Template {
             alloc,
             parts,
             given: data,
+            room: u64::MAX,
+            inclusions: 0,
+            kept: None,
+            indent: None,
         };
-        match render_tree(self, &setting, rc, out) {
+        match render_into(self, &setting, rc, out) {
             Ok(()) => Ok(()),
             Err(e) => fail_after(rc, Err(e.into_error())),
         }
@@ -136,8 +139,12 @@ impl Renderable for TemplateElement {
             alloc,
             parts,
             given: data,
+            room: u64::MAX,
+            inclusions: 0,
+            kept: None,
+            indent: None,
         };
-        match render_element(self, &setting, rc, out) {
+        match render_element_into(self, &setting, rc, out) {
             Ok(()) => Ok(()),
             Err(e) => fail_after(rc, Err(e.into_error())),
         }

@@ -5,6 +5,7 @@ mod changes;
 mod contexts;
 mod decorators;
 mod helpers;
+mod inclusions;
 mod names;
 mod own_parts;
 mod registries;

@@ -25,10 +25,12 @@ built_in_decorators = (codes "inline", kind_inline) ∷ []
 abbrev pub built_in_decorator : Text → Option DecoratorKind
 built_in_decorator name = lookup (bytes_eq name) built_in_decorators
 
--- The view of a decorator's tag: its name and its values, and its body.
+-- The view of a tag, of a decorator or of an inclusion: its name and its values, its body, and its indentation, which is the
+-- one in force followed by the tag's own.
 pub record DecoratorView : Type 0 where
   pub call : CallView
   pub body : Body
+  pub indent : Option Text
 
 -- A deed of a decorator: the data is changed; a name has a local helper; it has none any more; or the body of the tag is a
 -- partial of the nearest block of scope, under a name.

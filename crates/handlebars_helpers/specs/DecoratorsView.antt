@@ -26,6 +26,7 @@ tag_view d = record {
     pairs = map (λ e. (e.0.now, path_and_data e.1)) d.hash.entries;
   };
   body = body_of (option_map (λ t. tree_view t.now) d.template);
+  indent = option_map cow_str_bytes d.indent;
 }
 
 -- what stands under this name

@@ -1,5 +1,13 @@
 pub mod OneAnswer
 pub mod Once
 pub mod RunLaws
+pub mod Outcomes
+pub mod Within
+pub mod GoodRuns
+pub mod InclusionOrigins
+pub mod CallOrigins
 pub mod RunOrigins
 pub mod Counted
+pub mod SameAnswers
+pub mod OtherTemplates
+pub mod LeftAround

@@ -2,28 +2,33 @@
 use Rattle.std.proofs.Common.{◌≡◌, ◌≢◌, ℕ, ◌+◌, ◌≤◌, List, [], ◌∷◌, ◌++◌, Bool, true, false, Option, Some, None, refl, sym, ap, ◌∙◌, subst, append_assoc, append-nil, arith}
 use Rattle.std.specs.List.{AllByRecursion}
 use Rattle.std.proofs.lemmas.List.{append_cancel_left}
+use Rattle.std.specs.Str.{bytes_eq}
+use Rattle.serde_json.specs.Data.{Data}
 use Rattle.handlebars_base.specs.Answers.{Answer, gives, refuses}
 use Rattle.handlebars_base.specs.Bytes.{Text}
-use Rattle.handlebars_base.specs.Reasons.{Reason, partial_not_found}
-use Rattle.handlebars_base.specs.Scoped.{Found, walked, value, missing, present_in}
+use Rattle.handlebars_base.specs.PathAndData.{PathAndData}
+use Rattle.handlebars_base.specs.Scoped.{Found, walked, value, missing, present_in, data_in}
 use Rattle.handlebars_template.specs.Place.{Place}
-use Rattle.handlebars_template.specs.Tree.{Tree, tree, Elements, no_elements, element, Element, raw_string, html_expression, expression, helper_block, decorator_expression, decorator_block, partial_expression, partial_block, comment, Call, is_value, Decorator, decorator_body, Body, no_body, body}
+use Rattle.handlebars_template.specs.Tree.{Tree, tree, Elements, no_elements, element, Element, raw_string, html_expression, expression, helper_block, decorator_expression, decorator_block, partial_expression, partial_block, comment, Call, is_value, Decorator, decorator_body, decorator_marks, Body, no_body, body}
+use Rattle.handlebars_scope.specs.LineState.{LineState}
 use Rattle.handlebars_scope.specs.Scopes.{Frame, empty_frame}
 use Rattle.handlebars_helpers.specs.CallView.{CallView, HelperView}
 use Rattle.handlebars_helpers.specs.Callee.{Target}
-use Rattle.handlebars_helpers.specs.Decoration.{Deed, sets_data, binds, unbinds, sets_partial}
+use Rattle.handlebars_helpers.specs.Decoration.{DecoratorView, Deed, sets_data, binds, unbinds, sets_partial}
 use Rattle.handlebars_helpers.specs.Choice.{Choice, the_body, the_inverse, body_in_block, body_in_turns, the_value, the_word, the_line, the_steps, nothing}
 use Rattle.handlebars_helpers.specs.Own.{Step, writes, renders_body, renders_inverse, renders_body_in}
 use Rattle.handlebars_helpers.specs.Turns.{Turn, with_block}
 use Rattle.handlebars_meaning.specs.State.{Setting, State, nearest_variables, left}
-use Rattle.handlebars_meaning.specs.Steps.{Task, One, Whole, Steps, Done, Refuse, Write, Get, Set, Ask, Do, Capture, Prog, ◌>>=◌, ◌>>◌, answer, refuse_for}
+use Rattle.handlebars_meaning.specs.Steps.{Task, One, Whole, Steps, Done, Refuse, Write, Get, Set, Ask, Do, Capture, Find, Room, Prog, ◌>>=◌, ◌>>◌, answer}
+use Rattle.handlebars_meaning.specs.Inclusion.{Partial, is_local, is_registered, is_own_block, is_nowhere, is_current, newest, begun, over}
+use Rattle.handlebars_meaning.specs.Including.{render_own_block, write_kept, partial_block_name, base_value, enter_block, render_ahead, include_found, include_partial, include_other, include_named, include}
 use Rattle.handlebars_meaning.specs.Pieces.{Origin, of_text, of_value, of_raw, Piece}
 use Rattle.handlebars_meaning.specs.Sites.{TreeSite, first_tree, body_at, inverse_at, included_at, Site, element_in}
 use Rattle.handlebars_meaning.specs.Visits.{Visit, arrival, visits, ComeOnce}
 use Rattle.handlebars_meaning.specs.Writing.{rendered_if_any, write_text, write_rendered, write_value}
 use Rattle.handlebars_meaning.specs.CarryOut.{in_block, render_branch, render_body, render_word, take_turns, take_step, take_steps, carry_out}
-use Rattle.handlebars_meaning.specs.Means.{unescaped, in_bracket, render_chosen, render_helped, render_call, render_hook, render_found, render_lone_as, render_lone, render_expression, set_partial, do_deed, do_deeds, render_decorator, render_element, render_elements, render_whole, todo}
-use Rattle.handlebars_meaning.specs.Runs.{Outcome, Runs, done, refused, wrote, got, set, asked, did, did_over, captured, captured_over, stop, cut, Means}
+use Rattle.handlebars_meaning.specs.Means.{unescaped, in_bracket, render_chosen, render_helped, render_call, render_hook, render_found, render_lone_as, render_lone, render_expression, set_partial, do_deed, do_deeds, render_decorator, on_line, shown_tag, line_at, include_tag, render_partial, render_element, render_elements, render_whole, todo}
+use Rattle.handlebars_meaning.specs.Runs.{Outcome, Runs, done, refused, wrote, got, set, asked, did, did_over, captured, captured_over, looked, has_room, has_none, stop, cut, Means}
 
 -- ---- addresses
 
@@ -33,7 +38,7 @@ abbrev mutual
   tree_address first_tree = []
   tree_address (body_at site i) = address site ++ (i ∷ [])
   tree_address (inverse_at site i) = address site ++ (i ∷ [])
-  tree_address (included_at site) = address site ++ (0 ∷ [])
+  tree_address (included_at site t) = address site ++ (1 ∷ [])
 
   address : Site → List ℕ
   address (element_in at i) = tree_address at ++ (i ∷ [])
@@ -90,6 +95,32 @@ once_join (x ∷ xs) ys a b apart = (all_join _ xs ys a.0 apart.0, once_join xs 
 
 -- ---- steps whose parts are numbered in order, from n on
 
+abbrev IsDone : Steps → Type 0
+IsDone Done = Unit {0}
+IsDone (Refuse r) = ⊥
+IsDone (Write w ps k) = ⊥
+IsDone (Get f) = ⊥
+IsDone (Set s k) = ⊥
+IsDone (Ask q f) = ⊥
+IsDone (Do t k) = ⊥
+IsDone (Capture m f) = ⊥
+IsDone (Find name b f) = ⊥
+IsDone (Room k) = ⊥
+
+-- the part of this number alone
+abbrev IsPart : List ℕ → ℕ → Steps → Type 0
+IsPart pre n Done = ⊥
+IsPart pre n (Refuse r) = ⊥
+IsPart pre n (Write w ps k) = ⊥
+IsPart pre n (Get f) = ⊥
+IsPart pre n (Set s k) = ⊥
+IsPart pre n (Ask q f) = ⊥
+IsPart pre n (Do t k) = (task_address t ≡ pre ++ (n ∷ [])) × IsDone k
+IsPart pre n (Capture m f) = ⊥
+IsPart pre n (Find name b f) = ⊥
+IsPart pre n (Room k) = ⊥
+
+-- What is captured is one part.
 abbrev Ordered : List ℕ → ℕ → Steps → Type 0
 Ordered pre n Done = Unit {0}
 Ordered pre n (Refuse r) = Unit {0}
@@ -98,7 +129,10 @@ Ordered pre n (Get f) = (s : State) → Ordered pre n (f s)
 Ordered pre n (Set s k) = Ordered pre n k
 Ordered pre n (Ask q f) = (a : Answer _) → Ordered pre n (f a)
 Ordered pre n (Do t k) = (m : ℕ) × (n ≤ m) × (task_address t ≡ pre ++ (m ∷ [])) × Ordered pre (m + 1) k
-Ordered pre n (Capture m f) = ⊥
+Ordered pre n (Capture m f) =
+    (j : ℕ) × (n ≤ j) × IsPart pre j m × ((ps : List Piece) → Ordered pre (j + 1) (f ps))
+Ordered pre n (Find name b f) = (found : Partial) → Ordered pre n (f found)
+Ordered pre n (Room k) = Ordered pre n k
 
 earlier : (pre : List ℕ) (n m : ℕ) (k : Steps) → n ≤ m → Ordered pre m k → Ordered pre n k
 earlier pre n m Done le h = tt
@@ -108,7 +142,9 @@ earlier pre n m (Get f) le h = λ s. earlier pre n m (f s) le (h s)
 earlier pre n m (Set s k) le h = earlier pre n m k le h
 earlier pre n m (Ask q f) le h = λ a. earlier pre n m (f a) le (h a)
 earlier pre n m (Do t k) le h = let x : m ≤ h.0 = h.1 in (h.0, omega (arith, le, x), h.2, h.3)
-earlier pre n m (Capture c f) le h = h
+earlier pre n m (Capture c f) le h = let x : m ≤ h.0 = h.1 in (h.0, omega (arith, le, x), h.2, h.3)
+earlier pre n m (Find name b f) le h = λ found. earlier pre n m (f found) le (h found)
+earlier pre n m (Room k) le h = earlier pre n m k le h
 
 module _ (p : Setting) (ordered : (t : Task) → Ordered (task_address t) 0 (todo t)) where
   -- what a part visits is within its number
@@ -142,40 +178,98 @@ module _ (p : Setting) (ordered : (t : Task) → Ordered (task_address t) 0 (tod
       → AllByRecursion (IsFrom pre (m + 1)) ys → AreApart xs ys
   are_apart pre m xs ys a b = all_map xs (λ v x. all_map ys (λ w y. not-both pre m v w x y) b) a
 
-  once_of : {k : Steps} {s : State} {ps : List Piece} {o : Outcome} (r : Runs p k s ps o) (pre : List ℕ) (n : ℕ)
-      → Ordered pre n k → AllByRecursion (IsFrom pre n) (visits r) × ComeOnce (visits r)
-  once_of done pre n h = (tt, tt)
-  once_of refused pre n h = (tt, tt)
-  once_of (wrote r) pre n h = once_of r pre n h
-  once_of (got {s = s} r) pre n h = once_of r pre n (h s)
-  once_of (set r) pre n h = once_of r pre n h
-  once_of (asked a i r) pre n h = once_of r pre n (h a)
-  once_of (did {s = s} {t = t} a b) pre n h =
-      let m : ℕ = h.0 in
-      let x = once_of a (task_address t) 0 (ordered t) in
-      let y = once_of b pre (m + 1) h.3 in
-      let inner = part_in pre m t s (visits a) h.2 x.0 in
-      let all = once_join (arrival t s ++ visits a) (visits b) (part_once t s (visits a) x.0 x.1) y.1
-      (are_apart pre m (arrival t s ++ visits a) (visits b) inner y.0) in (
-        all_regroup (arrival t s) (visits a) (visits b)
-            (all_join _ (arrival t s ++ visits a) (visits b) (in_from pre n m (arrival t s ++ visits a) h.1 inner)
-            (from_later pre n m (visits b) h.1 y.0)),
-        once_regroup (arrival t s) (visits a) (visits b) all,
-      )
-    where
-      all_regroup : (xs ys zs : List Visit) → AllByRecursion (IsFrom pre n) ((xs ++ ys) ++ zs)
-          → AllByRecursion (IsFrom pre n) (xs ++ (ys ++ zs))
-      all_regroup xs ys zs = subst (AllByRecursion (IsFrom pre n)) (append_assoc xs ys zs)
+  all_regroup : (pre : List ℕ) (n : ℕ) (xs ys zs : List Visit) → AllByRecursion (IsFrom pre n) ((xs ++ ys) ++ zs)
+      → AllByRecursion (IsFrom pre n) (xs ++ (ys ++ zs))
+  all_regroup pre n xs ys zs = subst (AllByRecursion (IsFrom pre n)) (append_assoc xs ys zs)
 
-      once_regroup : (xs ys zs : List Visit) → ComeOnce ((xs ++ ys) ++ zs) → ComeOnce (xs ++ (ys ++ zs))
-      once_regroup xs ys zs = subst ComeOnce (append_assoc xs ys zs)
-  once_of (did_over {s = s} {t = t} a over) pre n h =
-      let x = once_of a (task_address t) 0 (ordered t) in
-      (in_from pre n h.0 (arrival t s ++ visits a) h.1 (part_in pre h.0 t s (visits a) h.2 x.0), part_once t s (visits a) x.0 x.1)
-  once_of (captured a b) pre n h = absurd h
-  once_of (captured_over a over) pre n h = absurd h
-  once_of stop pre n h = (tt, tt)
-  once_of (cut i f) pre n h = (tt, tt)
+  once_regroup : (xs ys zs : List Visit) → ComeOnce ((xs ++ ys) ++ zs) → ComeOnce (xs ++ (ys ++ zs))
+  once_regroup xs ys zs = subst ComeOnce (append_assoc xs ys zs)
+
+  -- nothing is visited by no steps
+  done_visits : {k : Steps} {s : State} {ps : List Piece} {o : Outcome} (r : Runs p k s ps o) → IsDone k → visits r ≡ []
+  done_visits done h = refl
+  done_visits refused h = absurd h
+  done_visits (wrote r) h = absurd h
+  done_visits (got r) h = absurd h
+  done_visits (set r) h = absurd h
+  done_visits (asked a i r) h = absurd h
+  done_visits (did a b) h = absurd h
+  done_visits (did_over a over) h = absurd h
+  done_visits (captured a b) h = absurd h
+  done_visits (captured_over a over) h = absurd h
+  done_visits (looked r) h = absurd h
+  done_visits (has_room lt r) h = absurd h
+  done_visits (has_none le) h = absurd h
+  done_visits stop h = refl
+  done_visits (cut i f) h = absurd h
+
+  behind_none : (P : List Visit → Type 0) (xs ys zs : List Visit) → zs ≡ [] → P (xs ++ ys) → P (xs ++ (ys ++ zs))
+  behind_none P xs ys zs is h =
+      subst (λ (ws : List Visit). P (xs ++ ws)) (sym (ap (λ (ws : List Visit). ys ++ ws) is ∙ append-nil ys)) h
+
+  mutual
+    once_of : {k : Steps} {s : State} {ps : List Piece} {o : Outcome} (r : Runs p k s ps o) (pre : List ℕ) (n : ℕ)
+        → Ordered pre n k → AllByRecursion (IsFrom pre n) (visits r) × ComeOnce (visits r)
+    once_of done pre n h = (tt, tt)
+    once_of refused pre n h = (tt, tt)
+    once_of (wrote r) pre n h = once_of r pre n h
+    once_of (got {s = s} r) pre n h = once_of r pre n (h s)
+    once_of (set r) pre n h = once_of r pre n h
+    once_of (asked a i r) pre n h = once_of r pre n (h a)
+    once_of (did {s = s} {t = t} a b) pre n h =
+        let m : ℕ = h.0 in
+        let x = once_of a (task_address t) 0 (ordered t) in
+        let y = once_of b pre (m + 1) h.3 in
+        let inner = part_in pre m t s (visits a) h.2 x.0 in
+        let all = once_join (arrival t s ++ visits a) (visits b) (part_once t s (visits a) x.0 x.1) y.1
+        (are_apart pre m (arrival t s ++ visits a) (visits b) inner y.0) in (
+          all_regroup pre n (arrival t s) (visits a) (visits b)
+              (all_join _ (arrival t s ++ visits a) (visits b) (in_from pre n m (arrival t s ++ visits a) h.1 inner)
+              (from_later pre n m (visits b) h.1 y.0)),
+          once_regroup (arrival t s) (visits a) (visits b) all,
+        )
+    once_of (did_over {s = s} {t = t} a over) pre n h =
+        let x = once_of a (task_address t) 0 (ordered t) in
+        (in_from pre n h.0 (arrival t s ++ visits a) h.1 (part_in pre h.0 t s (visits a) h.2 x.0), part_once t s (visits a) x.0 x.1)
+    once_of (captured {ps = ps} a b) pre n h =
+        let x = once_in a pre h.0 h.2 in
+        let y = once_of b pre (h.0 + 1) (h.3 ps) in (
+          all_join _ (visits a) (visits b) (in_from pre n h.0 (visits a) h.1 x.0) (from_later pre n h.0 (visits b) h.1 y.0),
+          once_join (visits a) (visits b) x.1 y.1 (are_apart pre h.0 (visits a) (visits b) x.0 y.0),
+        )
+    once_of (captured_over a over) pre n h =
+        let x = once_in a pre h.0 h.2 in (in_from pre n h.0 (visits a) h.1 x.0, x.1)
+    once_of (looked {f = f} r) pre n h = once_of r pre n (h _)
+    once_of (has_room lt r) pre n h = once_of r pre n h
+    once_of (has_none le) pre n h = (tt, tt)
+    once_of stop pre n h = (tt, tt)
+    once_of (cut i f) pre n h = (tt, tt)
+
+    -- what is captured visits its part alone
+    once_in : {m : Steps} {s : State} {ps : List Piece} {o : Outcome} (r : Runs p m s ps o) (pre : List ℕ) (j : ℕ)
+        → IsPart pre j m → AllByRecursion (IsIn pre j) (visits r) × ComeOnce (visits r)
+    once_in done pre j h = absurd h
+    once_in refused pre j h = absurd h
+    once_in (wrote r) pre j h = absurd h
+    once_in (got r) pre j h = absurd h
+    once_in (set r) pre j h = absurd h
+    once_in (asked a i r) pre j h = absurd h
+    once_in (did {s = s} {t = t} a b) pre j h =
+        let x = once_of a (task_address t) 0 (ordered t) in (
+          behind_none (AllByRecursion (IsIn pre j)) (arrival t s) (visits a) (visits b) (done_visits b h.1)
+              (part_in pre j t s (visits a) h.0 x.0),
+          behind_none ComeOnce (arrival t s) (visits a) (visits b) (done_visits b h.1) (part_once t s (visits a) x.0 x.1),
+        )
+    once_in (did_over {s = s} {t = t} a over) pre j h =
+        let x = once_of a (task_address t) 0 (ordered t) in
+        (part_in pre j t s (visits a) h.0 x.0, part_once t s (visits a) x.0 x.1)
+    once_in (captured a b) pre j h = absurd h
+    once_in (captured_over a over) pre j h = absurd h
+    once_in (looked r) pre j h = absurd h
+    once_in (has_room lt r) pre j h = absurd h
+    once_in (has_none le) pre j h = absurd h
+    once_in stop pre j h = (tt, tt)
+    once_in (cut i f) pre j h = absurd h
 
 -- ---- programs whose parts are in order, where those of what comes next are, from any number on
 
@@ -211,6 +305,22 @@ module _ (pre : List ℕ) where
   bracket_ordered : (n : ℕ) (marked : Bool) (m : Prog (Unit {0})) → IsOrdered pre n m → IsOrdered pre n (in_bracket marked m)
   unfolding IsOrdered ◌>>=◌ ◌>>◌
   bracket_ordered n marked m is next h = λ s. is _ (λ j le z. h j le)
+
+  line_ordered : (n : ℕ) (enter : LineState → LineState) (m : Prog (Unit {0})) → IsOrdered pre n m
+      → IsOrdered pre n (on_line enter m)
+  unfolding IsOrdered ◌>>=◌ ◌>>◌
+  line_ordered n enter m is next h = λ s. is _ (λ j le z. h j le)
+
+  base_ordered : (n : ℕ) (xs : List PathAndData) (next : Data → Steps) → ((d : Data) → Ordered pre n (next d))
+      → Ordered pre n (base_value xs next)
+  unfolding ◌>>=◌
+  base_ordered n [] next h = λ a. answer_ordered n a _ (λ found. h (data_in found))
+  base_ordered n (x ∷ xs) next h = h (data_in x.found)
+
+  enter_ordered : (n : ℕ) (v : DecoratorView) (next : Unit {0} → Steps) → Ordered pre n (next tt)
+      → Ordered pre n (enter_block v next)
+  unfolding ◌>>=◌
+  enter_ordered n v next h = base_ordered n v.call.params _ (λ d s. h)
 
   unescaped_ordered : (n : ℕ) (m : Prog (Unit {0})) → IsOrdered pre n m → IsOrdered pre n (unescaped m)
   unfolding IsOrdered ◌>>=◌ ◌>>◌
@@ -310,9 +420,71 @@ module _ (site : Site) where
   expression_as true c is = rw is (lone_ordered c)
   expression_as false c is = rw is (call_ordered false c)
 
-  tag_ordered : (t : Decorator) (why : Text → Reason) (a : Answer CallView) (next : Unit {0} → Steps)
-      → Ordered (address site) 0 (answer a (λ v. refuse_for (why v.name) next))
-  tag_ordered t why a next = answer_ordered (address site) 0 a _ (λ v. tt)
+  -- ---- inclusions: the block of a tag is its part 0, and the tree that is found its part 1
+
+  own_block_ordered : (b : Body) (s : State) → IsOrdered (address site) 0 (render_own_block site b s)
+  unfolding IsOrdered ◌>>=◌ ◌>>◌
+  own_block_ordered no_body s next h = tt
+  own_block_ordered (body t) s next h = (0, omega arith, refl, λ z. h 1 (omega arith))
+
+  kept_ordered : (b : Body) (s : State) (o : Option (List Piece)) → IsOrdered (address site) 0 (write_kept site b s o)
+  unfolding IsOrdered
+  kept_ordered b s None next h = own_block_ordered b s next h
+  kept_ordered b s (Some ps) next h = h 0 (omega arith)
+
+  ahead_ordered : (b : Body) (next : Option (List Piece) → Steps)
+      → ((k : Option (List Piece)) → Ordered (address site) 1 (next k))
+      → Ordered (address site) 0 (render_ahead site b next)
+  unfolding ◌>>=◌
+  ahead_ordered no_body next h = earlier (address site) 0 1 (next None) (omega arith) (h None)
+  ahead_ordered (body t) next h = (0, omega arith, (refl, tt), λ ps. h (Some ps))
+
+  -- what an inclusion does behind its own block, where that was rendered ahead
+  abbrev behind_ahead : DecoratorView → TreeSite → Tree → State → (Unit {0} → Steps) → Option (List Piece) → Steps
+  behind_ahead v at t s next k =
+      Get (λ z. Set (begun v.indent k z) (Do (Whole at t) (Get (λ y. Set (over s y) (next tt)))))
+
+  include_found_ordered : (v : DecoratorView) (t : Tree) → IsOrdered (address site) 0 (include_found site v t)
+  unfolding IsOrdered ◌>>=◌ ◌>>◌
+  include_found_ordered v t next h = λ s.
+      enter_ordered (address site) 0 v (λ u. render_ahead site v.body (behind_ahead v (included_at site t) t s next))
+      (ahead_ordered v.body (behind_ahead v (included_at site t) t s next)
+      (λ k z. (1, omega arith, refl, λ y. h 2 (omega arith))))
+
+  include_partial_ordered : (v : DecoratorView) (found : Partial)
+      → IsOrdered (address site) 0 (include_partial site v found)
+  unfolding IsOrdered ◌>>=◌ ◌>>◌
+  include_partial_ordered v (is_local t) next h = include_found_ordered v t next h
+  include_partial_ordered v (is_registered t) next h = include_found_ordered v t next h
+  include_partial_ordered v (is_own_block t) next h = λ s.
+      enter_ordered (address site) 0 v (λ u. behind_ahead v (body_at site 0) t s next None)
+      (λ z. (0, omega arith, refl, λ y. h 1 (omega arith)))
+  include_partial_ordered v is_nowhere next h = tt
+
+  include_other_ordered : (v : DecoratorView) (found : Partial) (s : State) (b : Bool)
+      → IsOrdered (address site) 0 (include_other site v found s b)
+  include_other_ordered v found s true = kept_ordered v.body s (newest s.kept)
+  include_other_ordered v found s false = include_partial_ordered v found
+
+  include_named_ordered : (v : DecoratorView) (found : Partial) (s : State) (b : Bool)
+      → IsOrdered (address site) 0 (include_named site v found s b)
+  unfolding IsOrdered
+  include_named_ordered v found s true next h = tt
+  include_named_ordered v found s false next h =
+      include_other_ordered v found s (bytes_eq partial_block_name v.call.name) next h
+
+  include_ordered : (v : DecoratorView) → IsOrdered (address site) 0 (include site v)
+  unfolding IsOrdered ◌>>=◌
+  include_ordered v next h = λ found s. include_named_ordered v found s (is_current v.call.name s.current) next h
+
+  include_tag_ordered : (t : Decorator) (v : CallView) → IsOrdered (address site) 0 (include_tag site t v)
+  unfolding IsOrdered ◌>>=◌
+  include_tag_ordered t v next h = λ s. include_ordered (shown_tag s.indent t v) next h
+
+  inclusion_ordered : (t : Decorator) → IsOrdered (address site) 0 (render_partial site t)
+  unfolding IsOrdered ◌>>=◌
+  inclusion_ordered t next h = λ a. answer_ordered (address site) 0 a _ (λ v.
+      line_ordered (address site) 0 (line_at (decorator_marks t)) (include_tag site t v) (include_tag_ordered t v) next h)
 
   partial_ordered : (n : ℕ) (name : Text) (b : Body) → IsOrdered (address site) n (set_partial name b)
   unfolding IsOrdered ◌>>=◌
@@ -334,7 +506,7 @@ module _ (site : Site) where
 
   decorator_ordered : (t : Decorator) → IsOrdered (address site) 0 (render_decorator t)
   unfolding IsOrdered ◌>>=◌
-  decorator_ordered t next h = λ a. answer_ordered (address site) 0 a _ (λ v b.
+  decorator_ordered t next h = λ a. answer_ordered (address site) 0 a _ (λ v s b.
       answer_ordered (address site) 0 b _ (λ k c.
       answer_ordered (address site) 0 c _ (λ deeds. deeds_ordered 0 (decorator_body t) deeds next h)))
 
@@ -347,8 +519,8 @@ module _ (site : Site) where
   element_ordered (helper_block c) next h = call_ordered true c next h
   element_ordered (decorator_expression t) next h = decorator_ordered t next h
   element_ordered (decorator_block t) next h = decorator_ordered t next h
-  element_ordered (partial_expression t) next h = λ a. tag_ordered t (λ n. partial_not_found n) a next
-  element_ordered (partial_block t) next h = λ a. tag_ordered t (λ n. partial_not_found n) a next
+  element_ordered (partial_expression t) next h = inclusion_ordered t next h
+  element_ordered (partial_block t) next h = inclusion_ordered t next h
   element_ordered (comment t) next h = h 0 (omega arith)
 
 elements_ordered : (at : TreeSite) (i : ℕ) (es : Elements) (places : List Place)

@@ -1,5 +1,5 @@
 -- What is written is determined: two whole runs are one, and a run that stopped wrote a beginning of the whole one.
-use Rattle.std.proofs.Common.{◌≡◌, Bool, List, [], ◌∷◌, ◌++◌, refl, sym, ap, ◌∙◌, subst, append_assoc, append-nil}
+use Rattle.std.proofs.Common.{◌≡◌, Bool, List, [], ◌∷◌, ◌++◌, refl, sym, ap, ◌∙◌, subst, append_assoc, append-nil, arith}
 use Rattle.std.proofs.Math.Logic.{∥∥₁_elim, ∥∥₁_map, ∥∥₁_prop}
 use Rattle.handlebars_base.specs.Answers.{Answer}
 use Rattle.handlebars_base.specs.Outputs.{IsBeginning}
@@ -7,7 +7,7 @@ use Rattle.handlebars_meaning.specs.Pieces.{Piece, join}
 use Rattle.handlebars_meaning.specs.Questions.{Question, Reply}
 use Rattle.handlebars_meaning.specs.State.{IsLawful, Setting, State}
 use Rattle.handlebars_meaning.specs.Steps.{Task, Steps}
-use Rattle.handlebars_meaning.specs.Runs.{Outcome, Ended, Refused, Faulted, NoMemory, IsOver, IsStop, Stops, Front, none, cut_off, more, marked, Runs, done, refused, wrote, got, set, asked, did, did_over, captured, captured_over, stop, cut}
+use Rattle.handlebars_meaning.specs.Runs.{Outcome, Ended, Refused, Faulted, NoMemory, IsOver, IsStop, Stops, Front, none, cut_off, more, marked, Runs, done, refused, wrote, got, set, asked, did, did_over, captured, captured_over, looked, has_room, has_none, stop, cut}
 use Rattle.handlebars_meaning.proofs.Runs.{join-append}
 use Rattle.handlebars_laws.proofs.OneAnswer.{IsAnswered-one}
 
@@ -102,6 +102,14 @@ Runs-one lawful (captured_over a over) (captured c d) h g =
     ∥∥₁_elim (Runs-one lawful a c h (λ x. x)) ∥∥₁_prop (λ e. absurd (subst IsOver e.1 over))
 Runs-one lawful (captured_over a over) (captured_over c over') h g = ∥∥₁_map (Runs-one lawful a c h g) (λ e. (refl, e.1))
 Runs-one lawful (captured_over a over) stop h g = absurd (g tt)
+Runs-one lawful (looked r) (looked q) h g = Runs-one lawful r q h g
+Runs-one lawful (looked r) stop h g = absurd (g tt)
+Runs-one lawful (has_room lt r) (has_room lt' q) h g = Runs-one lawful r q h g
+Runs-one lawful (has_room lt r) (has_none le) h g = absurd (omega (arith, lt, le))
+Runs-one lawful (has_room lt r) stop h g = absurd (g tt)
+Runs-one lawful (has_none le) (has_room lt q) h g = absurd (omega (arith, lt, le))
+Runs-one lawful (has_none le) (has_none le') h g = ∣ (refl, refl) ∣₁
+Runs-one lawful (has_none le) stop h g = absurd (g tt)
 
 IsBeginning-join : (xs ys zs : List Piece) → IsBeginning (join ys) (join zs)
     → IsBeginning (join (xs ++ ys)) (join (xs ++ zs))
@@ -157,3 +165,9 @@ Runs-beginning lawful (captured a b) (captured_over c over) h g =
     ∥∥₁_elim (Runs-one lawful a c (λ x. x) g) ∥∥₁_prop (λ e. absurd (subst IsOver (sym e.1) over))
 Runs-beginning lawful (captured a b) stop h g = absurd (g tt)
 Runs-beginning {qs = qs} lawful (captured_over a over) q h g = ∣ (join qs, refl) ∣₁
+Runs-beginning lawful (looked r) (looked q) h g = Runs-beginning lawful r q h g
+Runs-beginning lawful (looked r) stop h g = absurd (g tt)
+Runs-beginning lawful (has_room lt r) (has_room lt' q) h g = Runs-beginning lawful r q h g
+Runs-beginning lawful (has_room lt r) (has_none le) h g = absurd (omega (arith, lt, le))
+Runs-beginning lawful (has_room lt r) stop h g = absurd (g tt)
+Runs-beginning lawful (has_none le) q h g = absurd h

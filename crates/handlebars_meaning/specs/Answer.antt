@@ -1,5 +1,6 @@
 -- What a rendering answers, at a setting, from a source or from a registered template.
-use Rattle.std.specs.Prelude.{◌≡◌, List, [], Option, None, Some}
+use Rattle.std.specs.Prelude.{◌≡◌, ◌≤◌, ℕ, List, [], Option, None, Some}
+use Rattle.std.specs.List.{AllByRecursion}
 use Rattle.handlebars_base.specs.Bytes.{Text}
 use Rattle.handlebars_base.specs.Reasons.{Refusal, TemplateRefusal, of_template, template_not_found}
 use Rattle.handlebars_base.specs.RenderRefusals.{plain_refusal}
@@ -9,8 +10,10 @@ use Rattle.handlebars_template.specs.Compile.{Compiles, compiled, refused}
 use Rattle.handlebars_meaning.specs.Pieces.{Piece, join}
 use Rattle.handlebars_meaning.specs.State.{Setting, State, first_state}
 use Rattle.handlebars_meaning.specs.Runs.{Outcome, Ended, Refused, IsStop, Means}
-use Rattle.handlebars_meaning.specs.Origins.{HaveOrigins}
+use Rattle.handlebars_meaning.specs.Origins.{HaveOrigins, StandInTrees}
 use Rattle.handlebars_meaning.specs.Visits.{visits, ComeOnce}
+use Rattle.handlebars_meaning.specs.Names.{included_names}
+use Rattle.handlebars_meaning.specs.Laws.{IsNotForLimit, with_limit, with_templates}
 
 -- what a rendering begins with: a tree, or a refusal before anything is written
 pub data Beginning : Type 0 where
@@ -52,13 +55,33 @@ HasOneAnswer p begins = (ps qs : List Piece) (o q : Outcome)
     → RenderAnswers p begins ps o → RenderAnswers p begins qs q
     → (IsStop o → ⊥) → (IsStop q → ⊥) → ∥ (ps ≡ qs) × (o ≡ q) ∥₁
 
--- The run of an answer comes to no site twice, and each of its pieces comes from the tree that it begins with: it is a
--- part of a text of the tree, or of the value or the boolean helper's word that is written at its site in the state in
--- which the run comes there.
+-- The run of an answer comes to no site twice, all its sites stand in trees of the run, and each of its pieces comes from
+-- its site: it is a part of a text there, or of the value or the boolean helper's word that is written there in the state
+-- in which the run comes there, or an indentation.
 abbrev pub ComeFromTree : {p : Setting} {begins : Beginning → Type 0} {ps : List Piece} {o : Outcome}
     → RenderAnswers p begins ps o → Type 0
 ComeFromTree (not_begun b) = Unit {0}
-ComeFromTree {p = p} {ps = ps} (rendered {t = t} b r) = HaveOrigins p t (visits r) ps × ComeOnce (visits r)
+ComeFromTree {p = p} {ps = ps} (rendered {t = t} b r) =
+    HaveOrigins p t (visits r) ps
+    × (ComeOnce (visits r) × StandInTrees p t (first_state p.parts.recursive).blocks (visits r) (visits r))
 
 abbrev pub AnswerHasOrigins : Setting → (Beginning → Type 0) → Type 0
 AnswerHasOrigins p begins = (ps : List Piece) (o : Outcome) (a : RenderAnswers p begins ps o) → ComeFromTree a
+
+-- An answer that is no refusal for the limit is the same under a larger one.
+abbrev pub SameAnswerUnderLarger : Setting → (Beginning → Type 0) → Type 0
+SameAnswerUnderLarger p begins = (n : ℕ) (ps : List Piece) (o : Outcome) → p.parts.limit ≤ n
+    → RenderAnswers p begins ps o → IsNotForLimit p.parts.limit o → RenderAnswers (with_limit n p) begins ps o
+
+-- the names of an answer's inclusions
+abbrev pub answer_names : {p : Setting} {begins : Beginning → Type 0} {ps : List Piece} {o : Outcome}
+    → RenderAnswers p begins ps o → List Text
+answer_names (not_begun b) = []
+answer_names (rendered b r) = included_names r
+
+-- An answer is the same whatever is registered under other names than those of its inclusions, where it begins alike.
+abbrev pub AnswerOnlyByNames : Setting → (Beginning → Type 0) → Type 0
+AnswerOnlyByNames p begins = (ps : List Piece) (o : Outcome) (a : RenderAnswers p begins ps o)
+    (template : Text → Option Tree)
+    → AllByRecursion (λ n. template n ≡ p.parts.template n) (answer_names a)
+    → RenderAnswers (with_templates template p) begins ps o

@@ -4,13 +4,16 @@ pub mod Values
 pub mod Questions
 pub mod Sites
 pub mod Pieces
+pub mod Inclusion
 pub mod Steps
 pub mod Writing
 pub mod CarryOut
+pub mod Including
 pub mod Means
 pub mod Evaluation
 pub mod Runs
 pub mod Visits
+pub mod Names
 pub mod Origins
 pub mod Laws
 pub mod Counted

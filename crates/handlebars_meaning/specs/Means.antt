@@ -1,15 +1,18 @@
 -- What a template means: what each of its elements does, step by step.
+use Rattle.std.specs.Option.{is_some}
 use Rattle.std.specs.Prelude.{ℕ, ◌+◌, Bool, true, false, ◌&&◌, ◌||◌, if◌then◌else◌, List, [], ◌∷◌, Option, None, Some, slice_get}
 use Rattle.handlebars_base.specs.Bytes.{Text}
-use Rattle.handlebars_base.specs.Reasons.{block_content_required, partial_not_found}
+use Rattle.handlebars_base.specs.Reasons.{block_content_required}
 use Rattle.handlebars_base.specs.Scoped.{Found, walked, value, missing}
 use Rattle.handlebars_template.specs.Place.{Place}
-use Rattle.handlebars_template.specs.Tree.{Tree, tree, Elements, no_elements, element, Element, raw_string, html_expression, expression, helper_block, decorator_expression, decorator_block, partial_expression, partial_block, comment, Call, call_name, call_args, call_marks, is_value, Decorator, decorator_name, decorator_args, decorator_body, Body, no_body, body}
+use Rattle.handlebars_template.specs.Tree.{Tree, tree, Elements, no_elements, element, Element, raw_string, html_expression, expression, helper_block, decorator_expression, decorator_block, partial_expression, partial_block, comment, Call, call_name, call_args, call_marks, is_value, DecoratorMarks, Decorator, decorator_name, decorator_args, decorator_body, decorator_marks, Body, no_body, body}
 use Rattle.handlebars_scope.specs.LineState.{LineState}
 use Rattle.handlebars_helpers.specs.CallView.{CallView, HelperView}
 use Rattle.handlebars_helpers.specs.Callee.{Target}
 use Rattle.handlebars_helpers.specs.Decoration.{DecoratorView, Deed, sets_data, binds, unbinds, sets_partial}
 use Rattle.handlebars_meaning.specs.CarryOut.{helper_call, carry_out, change}
+use Rattle.handlebars_meaning.specs.Inclusion.{joined_indent}
+use Rattle.handlebars_meaning.specs.Including.{include}
 use Rattle.handlebars_meaning.specs.Pieces.{of_text}
 use Rattle.handlebars_meaning.specs.Questions.{value_of, view_of, helper_of, called_as, hook_for, choice_of, decorator_of, deeds_of}
 use Rattle.handlebars_meaning.specs.Sites.{TreeSite, first_tree, Site, element_in}
@@ -40,13 +43,17 @@ line_out old new =
     if new.produced then record new { before = new.trailing }
     else record new { before = old.before; produced = old.produced }
 
-abbrev pub in_bracket : Bool → Prog (Unit {0}) → Prog (Unit {0})
-in_bracket marked steps = do
+-- on the line that this makes of the one before
+abbrev pub on_line : (LineState → LineState) → Prog (Unit {0}) → Prog (Unit {0})
+on_line enter steps = do
   old ← state
-  become (record old { line = line_in marked old.line })
+  become (record old { line = enter old.line })
   steps
   new ← state
   become (record new { line = line_out old.line new.line })
+
+abbrev pub in_bracket : Bool → Prog (Unit {0}) → Prog (Unit {0})
+in_bracket marked steps = on_line (line_in marked) steps
 
 -- ---- calls
 
@@ -92,9 +99,13 @@ render_lone site c = do
 
 -- ---- decorators
 
--- the view of a tag with its body, as its decorator sees it
-abbrev pub shown_tag : Decorator → CallView → DecoratorView
-shown_tag t v = record { call = v; body = decorator_body t }
+-- the view of a tag, as its decorator sees it, under an indentation: with its body, and with its own indentation behind that
+abbrev pub shown_tag : Option Text → Decorator → CallView → DecoratorView
+shown_tag indent t v = record {
+  call = v;
+  body = decorator_body t;
+  indent = joined_indent indent (decorator_marks t).indent;
+}
 
 -- The body of the tag is a partial of the nearest block from now on; without any block nothing is set.
 abbrev pub set_partial : Text → Body → Prog (Unit {0})
@@ -116,9 +127,32 @@ do_deeds b (deed ∷ deeds) = do_deed b deed >> do_deeds b deeds
 abbrev pub render_decorator : Decorator → Prog (Unit {0})
 render_decorator t = do
   v ← ask (view_of (decorator_name t) (decorator_args t))
+  s ← state
   k ← ask (decorator_of v.name)
-  deeds ← ask (deeds_of k (shown_tag t v))
+  deeds ← ask (deeds_of k (shown_tag s.indent t v))
   do_deeds (decorator_body t) deeds
+
+-- ---- inclusions
+
+-- Around an inclusion indentation goes before the next text where the tag's mark is set, and the last text ended a line or
+-- the tag has an indentation; and nothing counts as written yet.
+abbrev pub line_at : DecoratorMarks → LineState → LineState
+line_at marks line = record line {
+  before = marks.indent_before_write && (line.trailing || is_some marks.indent);
+  produced = false;
+}
+
+-- what a tag of these values includes, under the indentation in force
+abbrev pub include_tag : Site → Decorator → CallView → Prog (Unit {0})
+include_tag site t v = do
+  s ← state
+  include site (shown_tag s.indent t v)
+
+-- The view is made first; behind the inclusion the line is as behind a call.
+abbrev pub render_partial : Site → Decorator → Prog (Unit {0})
+render_partial site t = do
+  v ← ask (view_of (decorator_name t) (decorator_args t))
+  on_line (line_at (decorator_marks t)) (include_tag site t v)
 
 -- ---- elements
 
@@ -130,13 +164,8 @@ abbrev pub render_tag : Site → Bool → Call → Prog (Unit {0})
 render_tag site true c = render_call site true c
 render_tag site false c = render_expression site c
 
-abbrev pub render_partial : Decorator → Prog (Unit {0})
-render_partial t = do
-  v ← ask (view_of (decorator_name t) (decorator_args t))
-  refuse_for (partial_not_found v.name)
-
--- A text and an expression write, a block does what its helper chooses, a decorator changes the state, and a comment does
--- nothing. No template to be included is registered.
+-- A text and an expression write, a block does what its helper chooses, a decorator changes the state, an inclusion renders
+-- what it finds, and a comment does nothing.
 abbrev pub render_element : Site → Element → Prog (Unit {0})
 render_element site (raw_string t) = write_text (of_text site) t
 render_element site (html_expression c) = unescaped (render_expression site c)
@@ -144,8 +173,8 @@ render_element site (expression c) = render_expression site c
 render_element site (helper_block c) = render_call site true c
 render_element site (decorator_expression t) = render_decorator t
 render_element site (decorator_block t) = render_decorator t
-render_element site (partial_expression t) = render_partial t
-render_element site (partial_block t) = render_partial t
+render_element site (partial_expression t) = render_partial site t
+render_element site (partial_block t) = render_partial site t
 render_element site (comment t) = return tt
 
 -- elements in order, from an index on; some have a place

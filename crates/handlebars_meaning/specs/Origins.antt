@@ -1,5 +1,5 @@
 -- Where each piece of a run comes from.
-use Rattle.std.specs.Prelude.{◌≡◌, ℕ, slice_get, zero, suc, Bool, true, false, not, ◌&&◌, ◌||◌, List, ◌++◌, Option, None, Some, option_map}
+use Rattle.std.specs.Prelude.{◌≡◌, ℕ, slice_get, zero, suc, Bool, true, false, not, ◌&&◌, ◌||◌, List, [], ◌++◌, Option, None, Some, option_map}
 use Rattle.std.specs.List.{AllByRecursion, Contains}
 use Rattle.serde_json.specs.Data.{Data}
 use Rattle.handlebars_base.specs.Answers.{gives}
@@ -7,14 +7,15 @@ use Rattle.handlebars_base.specs.Bytes.{Text}
 use Rattle.handlebars_base.specs.Optional.{◌>>=◌, with_or}
 use Rattle.handlebars_base.specs.Scoped.{Found, value, missing, present_in}
 use Rattle.handlebars_base.specs.Values.{word}
-use Rattle.handlebars_template.specs.Tree.{Tree, tree_elements, Elements, no_elements, element, Element, raw_string, html_expression, expression, helper_block, decorator_expression, decorator_block, partial_expression, partial_block, Call, call_name, call_args, call_body, call_inverse, is_value, Decorator, decorator_body, Body, no_body, body}
+use Rattle.handlebars_template.specs.Tree.{Tree, tree_elements, Elements, no_elements, element, Element, raw_string, html_expression, expression, helper_block, decorator_expression, decorator_block, partial_expression, partial_block, Call, call_name, call_args, call_body, call_inverse, is_value, Decorator, decorator_body, decorator_marks, Body, no_body, body}
 use Rattle.handlebars_base.specs.Outputs.{IsBeginning}
 use Rattle.handlebars_helpers.specs.CallView.{CallView}
 use Rattle.handlebars_helpers.specs.Callee.{Target}
 use Rattle.handlebars_helpers.specs.Choice.{Choice, the_value, the_word, the_steps}
-use Rattle.handlebars_helpers.specs.Own.{Step, writes}
+use Rattle.handlebars_helpers.specs.Own.{Step, writes, renders_body_in}
+use Rattle.handlebars_scope.specs.Scopes.{Frame}
 use Rattle.handlebars_meaning.specs.CarryOut.{helper_call}
-use Rattle.handlebars_meaning.specs.Pieces.{Origin, of_text, of_value, of_raw, of_word, of_step, Piece}
+use Rattle.handlebars_meaning.specs.Pieces.{Origin, of_text, of_value, of_raw, of_word, of_step, of_indent, Piece}
 use Rattle.handlebars_meaning.specs.Questions.{value_of, view_of, helper_of, called_as, hook_for, choice_of, escape_of, IsAnswered}
 use Rattle.handlebars_meaning.specs.Sites.{TreeSite, first_tree, body_at, inverse_at, included_at, Site, element_in}
 use Rattle.handlebars_meaning.specs.State.{Setting, State}
@@ -50,6 +51,17 @@ tag_of (partial_expression t) = Some t
 tag_of (partial_block t) = Some t
 tag_of e = None
 
+-- the tag of a decorator alone, and that of an inclusion
+abbrev pub decorator_tag : Element → Option Decorator
+decorator_tag (decorator_expression t) = Some t
+decorator_tag (decorator_block t) = Some t
+decorator_tag e = None
+
+abbrev pub inclusion_tag : Element → Option Decorator
+inclusion_tag (partial_expression t) = Some t
+inclusion_tag (partial_block t) = Some t
+inclusion_tag e = None
+
 abbrev pub is_block : Element → Bool
 is_block (helper_block c) = true
 is_block e = false
@@ -71,7 +83,7 @@ abbrev mutual
   tree_at u first_tree = Some u
   tree_at u (body_at site i) = element_at u site >>= body_of
   tree_at u (inverse_at site i) = element_at u site >>= inverse_of
-  tree_at u (included_at site) = None
+  tree_at u (included_at site t) = Some t
 
   pub element_at : Tree → Site → Option Element
   element_at u (element_in at i) = nth_in (tree_at u at) i
@@ -86,7 +98,7 @@ abbrev mutual
   is_raw_tree u first_tree = false
   is_raw_tree u (body_at site i) = is_raw_site u site
   is_raw_tree u (inverse_at site i) = is_raw_site u site
-  is_raw_tree u (included_at site) = is_raw_site u site
+  is_raw_tree u (included_at site t) = is_raw_site u site
 
   pub is_raw_site : Tree → Site → Bool
   is_raw_site u (element_in at i) = with_or (nth_in (tree_at u at) i) is_html false || is_raw_tree u at
@@ -104,6 +116,11 @@ pub record IsReached (vs : List Visit) (site : Site) (s : State) : Type 0 where
   pub first : State
   pub comes : Contains vs (record { site = site; state = first })
   pub is : s ≡ record first { escapes = s.escapes }
+
+-- a visit of the site, in some state
+pub record IsVisited (vs : List Visit) (site : Site) : Type 0 where
+  pub state : State
+  pub comes : Contains vs (record { site = site; state = state })
 
 -- a part of the text element at the site, to which the run comes
 pub record IsOfText (u : Tree) (vs : List Visit) (site : Site) (t : Text) : Type 0 where
@@ -194,6 +211,23 @@ pub record IsOfStep (p : Setting) (u : Tree) (vs : List Visit) (site : Site) (i 
   pub step : slice_get steps i ≡ Some (writes all)
   pub is : IsBeginning t all
 
+-- the indentations of inclusions to which the run comes, joined, those of the outer ones first
+pub data AreIndents (u : Tree) (vs : List Visit) : Text → Type 0 where
+  no_indents : AreIndents u vs []
+  one_indent_more : {t own : Text} (site : Site) (tag : Decorator) → AreIndents u vs t
+      → (element_at u site >>= inclusion_tag) ≡ Some tag → (decorator_marks tag).indent ≡ Some own → IsVisited vs site
+      → AreIndents u vs (t ++ own)
+
+-- indentations that the element at the site writes, to which the run comes, or a beginning of them, where the run stopped
+-- within
+pub record IsOfIndent (u : Tree) (vs : List Visit) (site : Site) (t : Text) : Type 0 where
+  pub writer : Element
+  pub stands : element_at u site ≡ Some writer
+  pub visited : IsVisited vs site
+  pub all : Text
+  pub indents : AreIndents u vs all
+  pub is : IsBeginning t all
+
 -- Of a run over the tree u that comes to these sites.
 abbrev pub ComesFrom : Setting → Tree → List Visit → Origin → Text → Type 0
 ComesFrom p u vs (of_text site) t = IsOfText u vs site t
@@ -201,9 +235,55 @@ ComesFrom p u vs (of_value site found) t = IsOfShown p u vs true site found t
 ComesFrom p u vs (of_raw site found) t = IsOfShown p u vs false site found t
 ComesFrom p u vs (of_word site b) t = IsOfWord p u vs site b t
 ComesFrom p u vs (of_step site i) t = IsOfStep p u vs site i t
+ComesFrom p u vs (of_indent site) t = IsOfIndent u vs site t
 
 abbrev pub HasOrigin : Setting → Tree → List Visit → Piece → Type 0
 HasOrigin p u vs piece = ComesFrom p u vs piece.origin piece.text
 
 abbrev pub HaveOrigins : Setting → Tree → List Visit → List Piece → Type 0
 HaveOrigins p u vs ps = AllByRecursion (HasOrigin p u vs) ps
+
+-- ---- the trees of a run
+
+-- a block that the helper of one's own of the call at the site hands over, in a state in which the run comes there
+pub record IsHandedOver (p : Setting) (u : Tree) (vs : List Visit) (f : Frame) : Type 0 where
+  pub site : Site
+  pub block : Bool
+  pub helper : Call
+  pub state : State
+  pub view : CallView
+  pub called : IsCalled p u vs site block helper state view
+  pub steps : List Step
+  pub answers : Chooses p block helper state view (the_steps steps)
+  pub index : ℕ
+  pub step : slice_get steps index ≡ Some (renders_body_in f)
+
+-- A local partial of a run: the body of a decorator's tag to which the run comes; or one that stood in a block before, with
+-- which the run began or which a helper of one's own handed over.
+pub data IsLocalOfRun (p : Setting) (u : Tree) (blocks : List Frame) (vs : List Visit) : Tree → Type 0 where
+  set_by : {t : Tree} (site : Site) (tag : Decorator) → (element_at u site >>= decorator_tag) ≡ Some tag
+      → decorator_body tag ≡ body t → IsVisited vs site → IsLocalOfRun p u blocks vs t
+  stood_in : {t : Tree} (f : Frame) (n : Text) → Contains blocks f → f.partial n ≡ Some t → IsLocalOfRun p u blocks vs t
+  handed_over : {t : Tree} (f : Frame) (n : Text) → IsHandedOver p u vs f → f.partial n ≡ Some t
+      → IsLocalOfRun p u blocks vs t
+
+-- A tree of a run that begins with the tree u in these blocks: that one; a body or an inverse in one of the run; or a local
+-- partial or a registered tree that an inclusion in one of the run found.
+pub data IsTreeOfRun (p : Setting) (u : Tree) (blocks : List Frame) (vs : List Visit) : TreeSite → Type 0 where
+  is_first : IsTreeOfRun p u blocks vs first_tree
+  is_body : {at : TreeSite} {i j : ℕ} → IsTreeOfRun p u blocks vs at
+      → IsTreeOfRun p u blocks vs (body_at (element_in at i) j)
+  is_inverse : {at : TreeSite} {i j : ℕ} → IsTreeOfRun p u blocks vs at
+      → IsTreeOfRun p u blocks vs (inverse_at (element_in at i) j)
+  is_local_of : {at : TreeSite} {i : ℕ} {t : Tree} → IsTreeOfRun p u blocks vs at → IsLocalOfRun p u blocks vs t
+      → IsTreeOfRun p u blocks vs (included_at (element_in at i) t)
+  is_stored : {at : TreeSite} {i : ℕ} {n : Text} {t : Tree} → IsTreeOfRun p u blocks vs at → p.parts.template n ≡ Some t
+      → IsTreeOfRun p u blocks vs (included_at (element_in at i) t)
+
+-- a site in a tree of a run
+abbrev pub IsSiteOfRun : Setting → Tree → List Frame → List Visit → Site → Type 0
+IsSiteOfRun p u blocks vs (element_in at i) = IsTreeOfRun p u blocks vs at
+
+-- All that is visited stands in trees of the run.
+abbrev pub StandInTrees : Setting → Tree → List Frame → List Visit → List Visit → Type 0
+StandInTrees p u blocks vs xs = AllByRecursion (λ v. IsSiteOfRun p u blocks vs v.site) xs

@@ -1,16 +1,17 @@
 -- How steps are carried out: the pieces that are written, and the outcome.
-use Rattle.std.specs.Prelude.{◌≡◌, Bool, List, [], ◌∷◌, ◌++◌, Option, None, Some}
+use Rattle.std.specs.Prelude.{◌≡◌, ◌<◌, ◌≤◌, Bool, List, [], ◌∷◌, ◌++◌, Option, None, Some}
 use Rattle.handlebars_base.specs.Answers.{Answer}
 use Rattle.handlebars_base.specs.Bytes.{Text}
-use Rattle.handlebars_base.specs.Reasons.{Spot, nowhere, Refusal}
-use Rattle.handlebars_base.specs.RenderRefusals.{name_if_none, place_if_none}
+use Rattle.handlebars_base.specs.Reasons.{Spot, nowhere, Refusal, inclusion_limit}
+use Rattle.handlebars_base.specs.RenderRefusals.{name_if_none, place_if_none, plain_refusal}
 use Rattle.handlebars_template.specs.Place.{Place}
-use Rattle.handlebars_template.specs.Tree.{Tree, tree_name}
+use Rattle.handlebars_template.specs.Tree.{Tree, tree_name, Body}
 use Rattle.handlebars_base.specs.Outputs.{IsBeginning}
+use Rattle.handlebars_meaning.specs.Inclusion.{Partial, found_by}
 use Rattle.handlebars_meaning.specs.Pieces.{Piece}
 use Rattle.handlebars_meaning.specs.Questions.{Question, Reply, IsAnswered}
 use Rattle.handlebars_meaning.specs.State.{Setting, State}
-use Rattle.handlebars_meaning.specs.Steps.{Task, One, Whole, Steps, Done, Refuse, Write, Get, Set, Ask, Do, Capture}
+use Rattle.handlebars_meaning.specs.Steps.{Task, One, Whole, Steps, Done, Refuse, Write, Get, Set, Ask, Do, Capture, Find, Room}
 use Rattle.handlebars_meaning.specs.Means.{todo, render_tree}
 
 -- a write that failed: whether it was of a boolean helper's word, and where, as far as it is known
@@ -95,6 +96,14 @@ pub data Runs (p : Setting) : Steps → State → List Piece → Outcome → Typ
       → Runs p m s ps (Ended next) → Runs p (f ps) next qs o → Runs p (Capture m f) s qs o
   captured_over : {s : State} {m : Steps} {f : List Piece → Steps} {ps : List Piece} {o : Outcome}
       → Runs p m s ps o → IsOver o → Runs p (Capture m f) s [] o
+  -- what is found by a name
+  looked : {s : State} {n : Text} {b : Body} {f : Partial → Steps} {ps : List Piece} {o : Outcome}
+      → Runs p (f (found_by p.parts s n b)) s ps o → Runs p (Find n b f) s ps o
+  -- there is room for one more inclusion, or else that is refused
+  has_room : {s : State} {k : Steps} {ps : List Piece} {o : Outcome}
+      → s.inclusions < p.parts.limit → Runs p k s ps o → Runs p (Room k) s ps o
+  has_none : {s : State} {k : Steps} → p.parts.limit ≤ s.inclusions
+      → Runs p (Room k) s [] (Refused (plain_refusal (inclusion_limit p.parts.limit)))
   -- want of memory between two steps
   stop : {s : State} {k : Steps} → Runs p k s [] NoMemory
   -- a stop within a write that isn't empty

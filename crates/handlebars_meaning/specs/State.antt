@@ -1,5 +1,5 @@
 -- What a run reads and what it changes.
-use Rattle.std.specs.Prelude.{Bool, true, false, List, [], ◌∷◌, Option, None, Some, codes, cond, option_map, unwrap_or}
+use Rattle.std.specs.Prelude.{ℕ, Bool, true, false, List, [], ◌∷◌, Option, None, Some, codes, cond, option_map, unwrap_or}
 use Rattle.std.specs.Str.{bytes_eq}
 use Rattle.serde_json.specs.Data.{Data}
 use Rattle.handlebars_base.specs.Answers.{Answer, gives, refuses_for}
@@ -20,7 +20,8 @@ use Rattle.handlebars_meaning.specs.Pieces.{Piece}
 -- What a registry has for a run: what stands under a name of helpers, if anything does, and what a helper of one's own of
 -- that name answers; the decorator under a name, if there is one, and what one of one's own answers; how values are escaped,
 -- and what an escape function of one's own answers; whether its mode is strict, and whether lookup is recursive in the runs
--- that it begins.
+-- that it begins; the tree under a name of templates, if there is one, and how many inclusions may be rendered one within
+-- another.
 pub record Parts : Type 1 where
   pub helper : Text → Option Callee
   pub own : Text → OwnHelper
@@ -30,6 +31,8 @@ pub record Parts : Type 1 where
   pub own_escape : OwnEscape
   pub strict : Bool
   pub recursive : Bool
+  pub template : Text → Option Tree
+  pub limit : ℕ
 
 -- nothing of one's own has two answers to one question
 pub record IsLawful (parts : Parts) : Type 0 where
@@ -51,17 +54,19 @@ pub record Setting : Type 1 where
 abbrev pub Kept : Type 0
 Kept = List (Option (List Piece))
 
--- What a run changes: the name of the template that is being rendered, if it has one, the blocks of scope, nearest first,
--- the line that is written, whether escaping is on, what is kept, the data that stands in the place of the given one, if it
--- was changed, and the local helpers by their names. Whether lookup is recursive stays as it is when the run begins. No step
--- keeps anything yet.
+-- What a run changes: the name of the template whose elements are being rendered, if it has one, the blocks of scope,
+-- nearest first, the line that is written, whether escaping is on, the indentation in force, if there is any, what is kept,
+-- how many inclusions are being rendered, the data that stands in the place of the given one, if it was changed, and the
+-- local helpers by their names. Whether lookup is recursive stays as it is when the run begins.
 pub record State : Type 0 where
   pub current : Option Text
   pub blocks : List Frame
   pub recursive : Bool
   pub line : LineState
   pub escapes : Bool
+  pub indent : Option Text
   pub kept : Kept
+  pub inclusions : ℕ
   pub changed : Option Data
   pub local : Text → Option LocalHelper
 
@@ -73,7 +78,9 @@ first_state recursive = record {
   recursive = recursive;
   line = first_line;
   escapes = true;
+  indent = None;
   kept = [];
+  inclusions = 0;
   changed = None;
   local = nothing_at;
 }

@@ -4,7 +4,9 @@ use Rattle.handlebars_base.specs.Reasons.{Reason, Refusal}
 use Rattle.handlebars_base.specs.RenderRefusals.{plain_refusal}
 use Rattle.handlebars_base.specs.Answers.{Answer, gives, refuses}
 use Rattle.handlebars_template.specs.Place.{Place}
-use Rattle.handlebars_template.specs.Tree.{Tree, Element}
+use Rattle.handlebars_base.specs.Bytes.{Text}
+use Rattle.handlebars_template.specs.Tree.{Tree, Element, Body}
+use Rattle.handlebars_meaning.specs.Inclusion.{Partial}
 use Rattle.handlebars_meaning.specs.Pieces.{Piece}
 use Rattle.handlebars_meaning.specs.Questions.{Question, Reply}
 use Rattle.handlebars_meaning.specs.Sites.{TreeSite, Site}
@@ -16,7 +18,9 @@ pub data Task : Type 0 where
   Whole : TreeSite → Tree → Task
 
 -- Steps to be carried out one after the other. A write is one of a boolean helper's word, or not. What steps that are
--- captured write is no output, but told to what comes next, which goes on from the state behind them.
+-- captured write is no output, but told to what comes next, which goes on from the state behind them. What is found is
+-- told for an inclusion of a name, by a tag with a body. Room for one more inclusion is asked for, and it is refused where
+-- there is none.
 pub data Steps : Type 0 where
   Done : Steps
   Refuse : Refusal → Steps
@@ -26,6 +30,8 @@ pub data Steps : Type 0 where
   Ask : (q : Question) → (Answer (Reply q) → Steps) → Steps
   Do : Task → Steps → Steps
   Capture : Steps → (List Piece → Steps) → Steps
+  Find : Text → Body → (Partial → Steps) → Steps
+  Room : Steps → Steps
 
 -- steps that have a value, which is told to what comes next
 abbrev pub Prog : Type 0 → Type 0
@@ -75,3 +81,9 @@ perform t = λ k. Do t (k tt)
 -- the pieces that the steps write
 abbrev pub capture : Prog (Unit {0}) → Prog (List Piece)
 capture m = λ k. Capture (run m) k
+
+abbrev pub find : Text → Body → Prog Partial
+find name b = λ k. Find name b k
+
+abbrev pub room : Prog (Unit {0})
+room = λ k. Room (k tt)

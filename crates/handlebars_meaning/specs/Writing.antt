@@ -9,12 +9,12 @@ use Rattle.handlebars_meaning.specs.Questions.{escape_of}
 use Rattle.handlebars_meaning.specs.Sites.{Site}
 use Rattle.handlebars_meaning.specs.Steps.{Prog, ◌>>=◌, ◌>>◌, ask, write, state, become}
 
--- A text is written, and the line is then the one behind it.
+-- A text is put with the indentation in force, and the line is then the one behind it.
 abbrev pub write_text : Origin → Text → Prog (Unit {0})
 write_text o t = do
   s ← state
-  write false (put o t s.line).0
-  become (record s { line = (put o t s.line).1 })
+  write false (put o s.indent t s.line).0
+  become (record s { line = (put o s.indent t s.line).1 })
 
 -- the text of a value, and none where there is none
 abbrev pub rendered_if_any : Option Data → Text

@@ -1,5 +1,5 @@
 -- How the answers of calls compose, for the proofs of the rendering functions.
-use Rattle.std.proofs.Common.{◌≡◌, ◌≢◌, ℕ, Bool, true, false, not, List, [], ◌∷◌, ◌++◌, Result, Ok, Err, refl, sym, ap, ◌∙◌, subst, append_assoc, append-nil, ◌⊎◌, inl, inr, arith}
+use Rattle.std.proofs.Common.{◌≡◌, ◌≢◌, ℕ, Bool, true, false, not, List, [], ◌∷◌, ◌++◌, ◌<◌, length, Result, Ok, Err, refl, sym, ap, ◌∙◌, subst, append_assoc, append-nil, ◌⊎◌, inl, inr, arith}
 use Rattle.std.specs.declared.io.Error.{Error}
 use Rattle.std.specs.Result.{IsErrAnd}
 use Rattle.handlebars_base.specs.Answers.{IsRefusal}
@@ -8,19 +8,20 @@ use Rattle.handlebars_base.specs.Reasons.{Reason, Spot, Refusal, out_of_memory}
 use Rattle.handlebars_base.specs.RenderRefusals.{reason_in, reason_of, spot_of, cause_of, refusal_of, plain_refusal}
 use Rattle.handlebars_base.specs.Values.{word}
 use Rattle.handlebars_base.specs.declared.error.render_error.RenderError.{RenderError}
-use Rattle.handlebars_base.specs.Outputs.{Held}
-use Rattle.handlebars_meaning.specs.Pieces.{Origin, of_step, of_word, Piece, join, pieces_of}
+use Rattle.handlebars_base.specs.Outputs.{Held, IsWhole, IsCutOff}
+use Rattle.handlebars_meaning.specs.Pieces.{Origin, of_step, of_word, Piece, join, pieces_of, put}
 use Rattle.handlebars_scope.specs.Scopes.{Frame}
 use Rattle.handlebars_meaning.specs.Sites.{Site}
 use Rattle.handlebars_meaning.specs.State.{Setting, State, entered, left}
-use Rattle.handlebars_meaning.specs.Steps.{Task, Steps, Done, Refuse, Get, Set, Do, Prog, return, run, refuse_for, state, perform, ◌>>=◌, ◌>>◌}
+use Rattle.handlebars_meaning.specs.Steps.{Task, Steps, Done, Refuse, Write, Get, Set, Do, Prog, return, run, refuse_for, state, write, perform, ◌>>=◌, ◌>>◌}
 use Rattle.handlebars_meaning.specs.Writing.{write_text, write_step, write_word}
 use Rattle.handlebars_meaning.specs.CarryOut.{change, in_block}
 use Rattle.handlebars_meaning.specs.Means.{unescaped, line_in, line_out, in_bracket, todo}
-use Rattle.handlebars_meaning.specs.Runs.{Fault, plain_fault, Outcome, Ended, Refused, Faulted, NoMemory, mark, cut_off, Runs, done, refused, wrote, got, set, did, did_over, stop, cut}
-use Rattle.handlebars_render.specs.View.{Moment, GivesValue, RefusesValue, TellsCause, TellsFault, Answered, Tells, ended, refusal, fault, no_memory, CarriesOut, CarriesOn, goes_on, is_over, Puts, all_put, front_put, PutsStep, step_put, step_cut, PutsWord, word_put, word_cut}
+use Rattle.handlebars_meaning.specs.Runs.{Fault, plain_fault, Outcome, Ended, Refused, Faulted, NoMemory, Stops, Front, none, mark, Runs, done, refused, wrote, got, set, did, did_over, stop, cut}
+use Rattle.handlebars_render.specs.View.{Moment, GivesValue, RefusesValue, TellsCause, TellsFault, Answered, Tells, ended, refusal, fault, no_memory, CarriesOut, CarriesOn, goes_on, is_over, IsPart, Puts, all_put, front_put, part_put, PutsStep, step_put, step_cut, step_part, PutsWord, word_put, word_cut, word_part}
 use Rattle.handlebars_render.specs.Boxed.{IsHandedOn, answer_of, error_of}
 use Rattle.handlebars_render.specs.declared.boxed.BoxedError.{BoxedError}
+use Rattle.handlebars_meaning.proofs.Pieces.{join-pieces_of, join-put, Front-of}
 use Rattle.handlebars_meaning.proofs.Runs.{join-append, Runs-short}
 
 -- want of memory, or another reason
@@ -104,10 +105,6 @@ refuses-handed p m {s = s} e d h is other = subst (λ (r : Refusal). RefusesValu
 pub refusal-handed : (r : Refusal) (e d : RenderError) → IsHandedOn e d → IsRefusal r e → IsRefusal r d
 refusal-handed r e d h is other = handed-refusal e d h other ∙ is (λ memory. other (h.memory memory))
 
-join-pieces_of : (o : Origin) (t : Text) → join (pieces_of o t) ≡ t
-join-pieces_of o [] = refl
-join-pieces_of o (b ∷ t) = append-nil (b ∷ t)
-
 not-not : (b : Bool) → not (not b) ≡ b
 not-not true = refl
 not-not false = refl
@@ -171,25 +168,68 @@ module _ (p : Setting) (may : Error → Type 0) where
   carries_on-get f (goes_on c) = goes_on (λ next r last d. carries-get (c next r last d))
   carries_on-get f (is_over c) = is_over (λ next. carries-get (c next))
 
+  -- ---- pieces of which a text is written
+
+  -- all of them
+  pub wrote-all : (at_word : Bool) (xs : List Piece) (t : Text) {k : Steps} {s : State} {h new : Held} {last : Moment} {r : Answered}
+      → join xs ≡ t → IsWhole t h new → CarriesOut p k may (at s new) r last
+      → CarriesOut p (Write at_word xs k) may (at s h) r last
+  wrote-all at_word xs t {h = h} {new = new} {last = last} is whole c = record {
+    pieces = xs ++ c.pieces;
+    outcome = c.outcome;
+    runs = wrote c.runs;
+    text = text-append h.text new.text last.held.text xs c.pieces
+        (whole.text ∙ ap (λ (z : Text). h.text ++ z) (sym is)) c.text;
+    tells = Tells-before whole.faults c.tells;
+  }
+
+  -- a beginning of them
+  wrote-front : (at_word : Bool) (xs ys : List Piece) {k : Steps} {s : State} {o : Outcome} → 0 < length (join xs)
+      → Stops at_word o → Front ys xs → Runs p (Write at_word xs k) s ys o
+  wrote-front at_word [] ys some stops front = absurd (omega (arith, some))
+  wrote-front at_word (x ∷ xs) ys some stops front = cut stops front
+
+  pub wrote-cut : (at_word : Bool) (xs : List Piece) (t : Text) {k : Steps} {s next : State} {h new : Held} {e : RenderError}
+      → join xs ≡ t → (cause : Error) → may cause → IsCutOff t h new → TellsFault cause (plain_fault at_word) e
+      → CarriesOut p (Write at_word xs k) may (at s h) (Err e) (at next new)
+  wrote-cut at_word xs t {h = h} is cause given cut_short tells =
+      let f = Front-of xs cut_short.front cut_short.is_front.0 (is ∙ cut_short.is_front.1) in
+      record {
+        pieces = f.0;
+        outcome = Faulted (plain_fault at_word);
+        runs = wrote-front at_word xs f.0 (subst (λ (z : Text). 0 < length z) (sym is) cut_short.some) refl f.1;
+        text = cut_short.text ∙ ap (λ (z : Text). h.text ++ z) (sym f.2);
+        tells = fault cause (plain_fault at_word) given cut_short.faults tells;
+      }
+
+  -- and then no memory
+  part-run : (at_word : Bool) (xs ys : List Piece) {k : Steps} {s : State} → Front ys xs
+      → Runs p (Write at_word xs k) s ys NoMemory
+  part-run at_word [] _ none = stop
+  part-run at_word (x ∷ xs) ys front = cut tt front
+
+  pub wrote-part : (at_word : Bool) (xs : List Piece) (t : Text) {k : Steps} {s next : State} {h new : Held} {e : RenderError}
+      → join xs ≡ t → IsPart t h new e → CarriesOut p (Write at_word xs k) may (at s h) (Err e) (at next new)
+  wrote-part at_word xs t {h = h} is part =
+      let f = Front-of xs part.front part.is_front.0 (is ∙ part.is_front.1) in
+      record {
+        pieces = f.0;
+        outcome = NoMemory;
+        runs = part-run at_word xs f.0 f.1;
+        text = part.text ∙ ap (λ (z : Text). h.text ++ z) (sym f.2);
+        tells = no_memory part.faults part.memory;
+      }
+
   pub carries_on-puts : (o : Origin) (t : Text) {s next : State} {h new : Held} {r : Answered}
       → Puts t may (at s h) r (at next new) → CarriesOn p (write_text o t) may (at s h) r (at next new)
   unfolding ◌>>=◌ ◌>>◌
-  carries_on-puts o t {s = s} {h = h} {new = new} (all_put is whole) = goes_on (λ k r last c. record {
-    pieces = pieces_of o t ++ c.pieces;
-    outcome = c.outcome;
-    runs = got (wrote (set (subst (λ (z : State). Runs p (k tt) z c.pieces c.outcome) is c.runs)));
-    text = text-append h.text new.text last.held.text (pieces_of o t) c.pieces
-        (whole.text ∙ ap (λ (z : Text). h.text ++ z) (sym (join-pieces_of o t))) c.text;
-    tells = Tells-before whole.faults c.tells;
-  })
-  carries_on-puts o [] (front_put cause given cut_short tells) = absurd (omega (arith, cut_short.some))
-  carries_on-puts o (b ∷ t) {h = h} (front_put cause given cut_short tells) = is_over (λ k. record {
-    pieces = record { origin = o; text = cut_short.front } ∷ [];
-    outcome = Faulted (plain_fault false);
-    runs = got (cut refl (cut_off cut_short.is_front));
-    text = cut_short.text ∙ ap (λ (z : Text). h.text ++ z) (sym (append-nil cut_short.front));
-    tells = fault cause (plain_fault false) given cut_short.faults tells;
-  })
+  carries_on-puts o t {s = s} {h = h} {new = new} (all_put is whole) = goes_on (λ k r last c.
+      carries-get (wrote-all false (put o s.indent t s.line).0 _ (join-put o s.indent t s.line) whole
+      (carries-set (subst (λ (z : State). CarriesOut p (k tt) may (at z new) r last) is c))))
+  carries_on-puts o t {s = s} (front_put cause given cut_short tells) = is_over (λ k.
+      carries-get (wrote-cut false (put o s.indent t s.line).0 _ (join-put o s.indent t s.line) cause given cut_short tells))
+  carries_on-puts o t {s = s} (part_put part) = is_over (λ k.
+      carries-get (wrote-part false (put o s.indent t s.line).0 _ (join-put o s.indent t s.line) part))
 
   pub carries-puts : (o : Origin) (t : Text) {s next : State} {h new : Held} {r : Answered}
       → Puts t may (at s h) r (at next new) → CarriesOut p (run (write_text o t)) may (at s h) r (at next new)
@@ -198,41 +238,28 @@ module _ (p : Setting) (may : Error → Type 0) where
   -- the word of a boolean helper, which the state takes no note of
   pub carries_on-word : (site : Site) (b : Bool) {s next : State} {h new : Held} {r : Answered}
       → PutsWord b may (at s h) r (at next new) → CarriesOn p (write_word site b) may (at s h) r (at next new)
-  carries_on-word site b {h = h} {new = new} (word_put is whole) = goes_on (λ k r last c. record {
-    pieces = record { origin = of_word site b; text = word b } ∷ c.pieces;
-    outcome = c.outcome;
-    runs = wrote (subst (λ (z : State). Runs p (k tt) z c.pieces c.outcome) is c.runs);
-    text = text-append h.text new.text last.held.text (record { origin = of_word site b; text = word b } ∷ []) c.pieces
-        (whole.text ∙ ap (λ (z : Text). h.text ++ z) (sym (append-nil (word b)))) c.text;
-    tells = Tells-before whole.faults c.tells;
-  })
-  carries_on-word site b {h = h} (word_cut cause given cut_short tells) = is_over (λ k. record {
-    pieces = record { origin = of_word site b; text = cut_short.front } ∷ [];
-    outcome = Faulted (plain_fault true);
-    runs = cut refl (cut_off cut_short.is_front);
-    text = cut_short.text ∙ ap (λ (z : Text). h.text ++ z) (sym (append-nil cut_short.front));
-    tells = fault cause (plain_fault true) given cut_short.faults tells;
-  })
+  carries_on-word site b {h = h} {new = new} (word_put is whole) = goes_on (λ k r last c.
+      wrote-all true (record { origin = of_word site b; text = word b } ∷ []) (word b) (append-nil (word b)) whole
+      (subst (λ (z : State). CarriesOut p (k tt) may (at z new) r last) is c))
+  carries_on-word site b (word_cut cause given cut_short tells) = is_over (λ k.
+      wrote-cut true (record { origin = of_word site b; text = word b } ∷ []) (word b) (append-nil (word b)) cause given cut_short tells)
+  carries_on-word site b (word_part part) = is_over (λ k.
+      wrote-part true (record { origin = of_word site b; text = word b } ∷ []) (word b) (append-nil (word b)) part)
 
-  -- the text of a step, which the state takes no note of
+  -- pieces whose text the state takes no note of
+  pub carries_on-pieces : (xs : List Piece) (t : Text) {s next : State} {h new : Held} {r : Answered} → join xs ≡ t
+      → PutsStep t may (at s h) r (at next new) → CarriesOn p (write false xs) may (at s h) r (at next new)
+  carries_on-pieces xs t {h = h} {new = new} same (step_put is whole) = goes_on (λ k r last c.
+      wrote-all false xs t same whole (subst (λ (z : State). CarriesOut p (k tt) may (at z new) r last) is c))
+  carries_on-pieces xs t same (step_cut cause given cut_short tells) = is_over (λ k.
+      wrote-cut false xs t same cause given cut_short tells)
+  carries_on-pieces xs t same (step_part part) = is_over (λ k. wrote-part false xs t same part)
+
+  -- the text of a step
   pub carries_on-step : (site : Site) (i : ℕ) (t : Text) {s next : State} {h new : Held} {r : Answered}
       → PutsStep t may (at s h) r (at next new) → CarriesOn p (write_step site i t) may (at s h) r (at next new)
-  carries_on-step site i t {h = h} {new = new} (step_put is whole) = goes_on (λ k r last c. record {
-    pieces = pieces_of (of_step site i) t ++ c.pieces;
-    outcome = c.outcome;
-    runs = wrote (subst (λ (z : State). Runs p (k tt) z c.pieces c.outcome) is c.runs);
-    text = text-append h.text new.text last.held.text (pieces_of (of_step site i) t) c.pieces
-        (whole.text ∙ ap (λ (z : Text). h.text ++ z) (sym (join-pieces_of (of_step site i) t))) c.text;
-    tells = Tells-before whole.faults c.tells;
-  })
-  carries_on-step site i [] (step_cut cause given cut_short tells) = absurd (omega (arith, cut_short.some))
-  carries_on-step site i (b ∷ t) {h = h} (step_cut cause given cut_short tells) = is_over (λ k. record {
-    pieces = record { origin = of_step site i; text = cut_short.front } ∷ [];
-    outcome = Faulted (plain_fault false);
-    runs = cut refl (cut_off cut_short.is_front);
-    text = cut_short.text ∙ ap (λ (z : Text). h.text ++ z) (sym (append-nil cut_short.front));
-    tells = fault cause (plain_fault false) given cut_short.faults tells;
-  })
+  carries_on-step site i t puts =
+      carries_on-pieces (pieces_of (of_step site i) t) t (join-pieces_of (of_step site i) t) puts
 
   -- ---- values, and what is done with them
 

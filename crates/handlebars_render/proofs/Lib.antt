@@ -18,3 +18,7 @@ mod Changed
 mod Turns
 pub mod Silent
 mod Evaluated
+mod Sinks
+mod Includes
+mod Bases
+mod Tags

@@ -1,5 +1,5 @@
 -- What is done with nothing written.
-use Rattle.std.proofs.Common.{◌≡◌, ◌≢◌, List, [], ◌∷◌, None, Ok, Err, refl, sym, ◌∙◌, subst, append-nil}
+use Rattle.std.proofs.Common.{◌≡◌, ◌≢◌, List, [], ◌∷◌, None, Result, Ok, Err, refl, sym, ◌∙◌, subst, append-nil}
 use Rattle.std.specs.declared.io.Error.{Error}
 use Rattle.handlebars_base.specs.Answers.{gives, refuses, IsRefusal}
 use Rattle.handlebars_base.specs.Bytes.{Text}
@@ -16,10 +16,12 @@ use Rattle.handlebars_meaning.specs.Questions.{IsAnswered, Question, Reply, view
 use Rattle.handlebars_meaning.specs.Runs.{Ended, Refused, Runs, done, refused, got, set, asked, did, did_over}
 use Rattle.handlebars_meaning.specs.Sites.{Site}
 use Rattle.handlebars_meaning.specs.State.{Setting, State, with_nearest, with_partial}
-use Rattle.handlebars_meaning.specs.Steps.{One, Steps, Done, Do, Prog, ask, return, run, ◌>>=◌, ◌>>◌}
+use Rattle.handlebars_meaning.specs.Steps.{One, Steps, Done, Do, Prog, ask, return, run, state, ◌>>=◌, ◌>>◌}
 use Rattle.handlebars_meaning.specs.Values.{HasView}
-use Rattle.handlebars_render.specs.Boxed.{IsHandedOn}
-use Rattle.handlebars_render.specs.Silent.{Does, Evals, decorate_as}
+use Rattle.std.specs.Result.{IsErrAnd}
+use Rattle.handlebars_render.specs.Boxed.{IsHandedOn, answer_of, error_of}
+use Rattle.handlebars_render.specs.declared.boxed.BoxedError.{BoxedError}
+use Rattle.handlebars_render.specs.Silent.{Does, Evals, decorate_as, decorate_tag}
 use Rattle.handlebars_render.specs.View.{Answered, CarriesOut, ended}
 use Rattle.handlebars_render.proofs.Asked.{refuses-ask, refuses-bind}
 use Rattle.handlebars_render.proofs.Carry.{at, carries-no_value, handed-refusal, refuses-handed}
@@ -46,12 +48,25 @@ module _ (p : Setting) where
   does-refused_as q f {s = s} r e why is = λ other. refuses-bind p (ask q) f
       (refuses-ask p q (subst (λ (z : Refusal). IsAnswered p s q (refuses z)) (sym (why other)) is))
 
+  -- what reads the state
+  does-get : (f : State → Prog (Unit {0})) (s next : State) (r : Answered) → Does p (f s) s r next → Does p (state >>= f) s r next
+  unfolding ◌>>=◌
+  does-get f s next (Ok u) d = λ k ps o r. got (d k ps o r)
+  does-get f s next (Err e) d = λ other k. got (d other k)
+
   -- a tag, as its decorator sees it
-  pub does-tag : (t : Decorator) (v : CallView) (w : DecoratorView) (s next : State) (r : Answered) → w ≡ shown_tag t v
+  pub does-tag : (t : Decorator) (v : CallView) (w : DecoratorView) (s next : State) (r : Answered) → w ≡ shown_tag s.indent t v
       → HasView p s (decorator_name t) (decorator_args t) (gives v) → Does p (decorate_as w) s r next
       → Does p (render_decorator t) s r next
-  does-tag t v w s next r same has d = does-asked (view_of (decorator_name t) (decorator_args t)) v
-      (λ x. decorate_as (shown_tag t x)) s next r has (subst (λ (z : DecoratorView). Does p (decorate_as z) s r next) same d)
+  does-tag t v w s next r same has d = does-asked (view_of (decorator_name t) (decorator_args t)) v (decorate_tag t)
+      s next r has (does-get (λ z. decorate_as (shown_tag z.indent t v)) s next r
+      (subst (λ (z : DecoratorView). Does p (decorate_as z) s r next) same d))
+
+  -- an error that says that memory ran out, as `?` hands it on
+  pub does-no_memory : (m : Prog (Unit {0})) (s next : State) (r : Result (Unit {0}) BoxedError)
+      → IsErrAnd r (λ e. reason_in (error_of e) ≡ out_of_memory) → Does p m s (answer_of r) next
+  does-no_memory m s next (Ok u) is = absurd is
+  does-no_memory m s next (Err e) is = λ other. absurd (other is)
 
   -- ---- deeds
 

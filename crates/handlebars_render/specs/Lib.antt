@@ -8,3 +8,4 @@ pub mod OwnChoice
 pub mod Lending
 pub mod Next
 pub mod Silent
+pub mod Inclusions

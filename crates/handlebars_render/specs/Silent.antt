@@ -2,12 +2,14 @@
 use Rattle.std.specs.Prelude.{◌≡◌, ◌≢◌, List, [], Ok, Err}
 use Rattle.handlebars_base.specs.Reasons.{Refusal, out_of_memory}
 use Rattle.handlebars_base.specs.RenderRefusals.{reason_in, refusal_of}
+use Rattle.handlebars_template.specs.Tree.{Decorator}
+use Rattle.handlebars_helpers.specs.CallView.{CallView}
 use Rattle.handlebars_helpers.specs.Decoration.{DecoratorKind, DecoratorView}
-use Rattle.handlebars_meaning.specs.Means.{do_deeds}
+use Rattle.handlebars_meaning.specs.Means.{do_deeds, shown_tag}
 use Rattle.handlebars_meaning.specs.Questions.{decorator_of, deeds_of}
 use Rattle.handlebars_meaning.specs.Runs.{Ended, Refused, Runs}
 use Rattle.handlebars_meaning.specs.State.{Setting, State}
-use Rattle.handlebars_meaning.specs.Steps.{Steps, Prog, ask, ◌>>=◌}
+use Rattle.handlebars_meaning.specs.Steps.{Steps, Prog, ask, state, ◌>>=◌}
 use Rattle.handlebars_render.specs.View.{Answered, RefusesValue}
 
 -- From this state the program comes to the next one, or is refused, with nothing written.
@@ -28,3 +30,7 @@ decorate_by kind v = ask (deeds_of kind v) >>= do_deeds v.body
 -- the same for the decorator of the tag's name
 abbrev pub decorate_as : DecoratorView → Prog (Unit {0})
 decorate_as v = ask (decorator_of v.call.name) >>= (λ kind. decorate_by kind v)
+
+-- the same for a tag whose values are known
+abbrev pub decorate_tag : Decorator → CallView → Prog (Unit {0})
+decorate_tag t v = state >>= (λ s. decorate_as (shown_tag s.indent t v))

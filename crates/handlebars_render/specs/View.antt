@@ -1,7 +1,8 @@
 -- What the code's values stand for, and what a call of it says of a run.
-use Rattle.std.specs.Prelude.{◌≡◌, ◌≢◌, ℕ, Option, ◌+◌, ◌^◌, ◌<◌, List, [], ◌∷◌, ◌++◌, option_map, unwrap_or, Result, Ok, Err, MatchResult, string_bytes, map, Bool, true, false}
+use Rattle.std.specs.Prelude.{◌≡◌, ◌≢◌, ℕ, Option, None, ◌+◌, ◌^◌, ◌<◌, List, [], ◌∷◌, ◌++◌, option_map, unwrap_or, Result, Ok, Err, MatchResult, string_bytes, map, String, Bool, true, false}
 use Rattle.std.specs.BTreeMap.{get_by_text}
 use Rattle.std.specs.Cow.{cow_str_bytes}
+use Rattle.std.specs.declared.alloc.Global.{Global}
 use denote.Ref.{Bor}
 use Rattle.std.specs.declared.io.Error.{Error}
 use Rattle.std.specs.declared.io.ErrorKind.{ErrorKind}
@@ -24,12 +25,14 @@ use Rattle.handlebars_scope.specs.Contexts.{data_of}
 use Rattle.handlebars_scope.specs.Resolve.{resolved}
 use Rattle.handlebars_scope.specs.Scopes.{Frame, nothing_at}
 use Rattle.handlebars_scope.specs.ScopeView.{frames_of}
-use Rattle.handlebars_base.specs.Outputs.{Held, IsWhole, IsCutOff, write_reason}
+use Rattle.handlebars_base.specs.Outputs.{Held, held_of, IsBeginning, IsWhole, IsCutOff, write_reason}
+use Rattle.handlebars_scope.specs.Indentation.{written_in}
 use Rattle.handlebars_scope.specs.LineState.{LineState, line_behind}
 use Rattle.handlebars_meaning.specs.Pieces.{Piece, join}
 use Rattle.handlebars_helpers.specs.CallView.{CallView}
 use Rattle.handlebars_helpers.specs.OwnView.{local_of}
 use Rattle.handlebars_helpers.specs.Turns.{StandsBelow}
+use Rattle.handlebars_meaning.specs.Inclusion.{newest}
 use Rattle.handlebars_meaning.specs.State.{Kept, Parts, Setting, State, outer}
 use Rattle.handlebars_meaning.specs.Steps.{Steps, Prog}
 use Rattle.handlebars_meaning.specs.Asks.{Asks}
@@ -38,6 +41,8 @@ use Rattle.handlebars_meaning.specs.Runs.{Fault, plain_fault, Outcome, Ended, Re
 use Rattle.handlebars_render.specs.declared.context.RenderContext.{RenderContext}
 use Rattle.handlebars_render.specs.declared.called.Called.{Called}
 use Rattle.handlebars_render.specs.declared.setting.Setting as declared
+use Rattle.handlebars_render.specs.declared.sink.Sink.{Sink}
+use Rattle.handlebars_render.specs.declared.sink.Sink.TheVariants.{Out, Ahead}
 
 -- ---- what a run reads and changes
 
@@ -60,8 +65,32 @@ called_view c = record {
 abbrev pub name_alone : Text → CallView
 name_alone name = record { name = name; params = []; pairs = [] }
 
--- The code keeps the texts of what is kept, and a state its pieces; so a context tells all of a state but these. This is
--- the one in which nothing is kept.
+-- ---- what holds within an inclusion
+
+-- what the code has of it: the text that is kept for partial blocks, if there is one; how many inclusions are being
+-- rendered; and the indentation in force, if there is one
+pub record Within : Type 0 where
+  pub text : Option Text
+  pub inclusions : ℕ
+  pub indent : Option Text
+
+abbrev pub within : {P : Type 0} → declared.Setting P → Within
+within x = record {
+  text = option_map (λ t. t.now) x.kept;
+  inclusions = x.inclusions;
+  indent = option_map (λ t. t.now) x.indent;
+}
+
+-- outside of every inclusion
+abbrev pub outside : Within
+outside = record { text = None; inclusions = 0; indent = None }
+
+-- The code has the newest text that is kept, and a state the pieces of all: these, whose newest text is that.
+pub record KeptIn (w : Within) : Type 0 where
+  pub pieces : Kept
+  pub holds : option_map join (newest pieces) ≡ w.text
+
+-- A context tells all of a state but what holds within an inclusion. This is its state outside of every one.
 abbrev pub state_of : RenderContext → State
 state_of rc = record {
   current = option_map string_bytes rc.current_template;
@@ -69,16 +98,18 @@ state_of rc = record {
   recursive = rc.recursive_lookup;
   line = line_of rc.line;
   escapes = rc.escapes;
+  indent = None;
   kept = [];
+  inclusions = 0;
   changed = option_map data_of rc.changed;
   local = λ name. option_map local_of (get_by_text rc.local_helpers name);
 }
 
-abbrev pub keeping : Kept → State → State
-keeping kept s = record s { kept = kept }
+abbrev pub keeping : {w : Within} → KeptIn w → State → State
+keeping {w = w} kept s = record s { indent = w.indent; kept = kept.pieces; inclusions = w.inclusions }
 
--- the state of a context with these pieces kept
-abbrev pub state_with : Kept → RenderContext → State
+-- the state of a context within it, with these pieces kept
+abbrev pub state_with : {w : Within} → KeptIn w → RenderContext → State
 state_with kept rc = keeping kept (state_of rc)
 
 -- what a path leads to in a state, where this is the given data
@@ -126,8 +157,26 @@ pub record Moment : Type 0 where
   pub state : State
   pub held : Held
 
-abbrev pub moment : Kept → RenderContext → Held → Moment
+abbrev pub moment : {w : Within} → KeptIn w → RenderContext → Held → Moment
 moment kept rc held = record { state = state_with kept rc; held = held }
+
+-- a moment outside of every inclusion
+abbrev pub first_moment : RenderContext → Held → Moment
+first_moment rc held = record { state = state_of rc; held = held }
+
+-- ---- outputs
+
+-- What stands where is written now. A text that is rendered ahead counts no faults.
+abbrev pub held_in : {O : Type 0} → (O → Held) → Sink O → Held
+held_in held (Out o) = held o.now
+held_in held (Ahead t) = record { text = (held_of t.now).text; faults = 0 }
+
+-- It is the same output, or the same text that is rendered ahead.
+abbrev pub IsSame : {O : Type 0} → Sink O → Sink O → Type 0
+IsSame (Out a) (Out b) = b.ghost_name ≡ a.ghost_name
+IsSame (Out a) (Ahead b) = ⊥
+IsSame (Ahead a) (Out b) = ⊥
+IsSame (Ahead a) (Ahead b) = b.ghost_name ≡ a.ghost_name
 
 -- ---- what calls say
 
@@ -182,6 +231,17 @@ pub data CarriesOn (p : Setting) (m : Prog (Unit {0})) (may : Error → Type 0) 
       → ((next : Unit {0} → Steps) → CarriesOut p (m next) may before (Err e) after)
       → CarriesOn p m may before (Err e) after
 
+-- The program was carried out that has pieces for its value, of which the code has the text.
+pub data CarriesAhead (p : Setting) (m : Prog (List Piece)) (may : Error → Type 0) (before : Moment)
+    : Result (String Global) RenderError → Moment → Type 0 where
+  has_text : {text : String Global} {after : Moment} (ps : List Piece) → string_bytes text ≡ join ps
+      → ((next : List Piece → Steps) (r : Answered) (last : Moment)
+      → CarriesOut p (next ps) may after r last → CarriesOut p (m next) may before r last)
+      → CarriesAhead p m may before (Ok text) after
+  no_text : {e : RenderError} {after : Moment}
+      → ((next : List Piece → Steps) → CarriesOut p (m next) may before (Err e) after)
+      → CarriesAhead p m may before (Err e) after
+
 -- What a call that is asked something says: its value is the answer, or it is refused as that is, or for want of memory.
 abbrev pub Yields : {T A : Type 0} → Asks A → (T → A) → Result T RenderError → Type 0
 Yields m seen r =
@@ -201,30 +261,53 @@ RefusesValue p m s r = (k : _) → Runs p (m k) s [] (Refused r)
 abbrev pub with_line : LineState → State → State
 with_line line s = record s { line = line }
 
+-- the state with another name as the current one, or none
+abbrev pub called : Option Text → State → State
+called name s = record s { current = name }
+
 -- the state behind a text
 abbrev pub behind : Text → State → State
 behind t s = record s { line = line_behind t s.line }
 
--- A text was written, whatever the setting, or a beginning of it, and the output failed.
-pub data Puts (t : Text) (may : Error → Type 0) (before : Moment) : Answered → Moment → Type 0 where
-  all_put : {after : Moment} {u : Unit {0}} → after.state ≡ behind t before.state → IsWhole t before.held after.held
-      → Puts t may before (Ok u) after
-  front_put : {after : Moment} {e : RenderError} (cause : Error) → may cause → IsCutOff t before.held after.held
-      → TellsFault cause (plain_fault false) e → Puts t may before (Err e) after
+-- what is written for a text in a state
+abbrev pub written_at : State → Text → Text
+written_at s t = written_in (unwrap_or s.indent []) s.line t
 
--- The text of a step was written, or a beginning of it, and the output failed. The state is as it was.
+-- A beginning of a text was written, and then there was no memory.
+pub record IsPart (t : Text) (before after : Held) (e : RenderError) : Type 0 where
+  pub front : Text
+  pub is_front : IsBeginning front t
+  pub text : after.text ≡ before.text ++ front
+  pub faults : after.faults ≡ before.faults
+  pub memory : reason_in e ≡ out_of_memory
+
+-- A text was written, whatever the setting, or a beginning of it, and the output failed, or memory.
+pub data Puts (t : Text) (may : Error → Type 0) (before : Moment) : Answered → Moment → Type 0 where
+  all_put : {after : Moment} {u : Unit {0}} → after.state ≡ behind t before.state
+      → IsWhole (written_at before.state t) before.held after.held → Puts t may before (Ok u) after
+  front_put : {after : Moment} {e : RenderError} (cause : Error) → may cause
+      → IsCutOff (written_at before.state t) before.held after.held
+      → TellsFault cause (plain_fault false) e → Puts t may before (Err e) after
+  part_put : {after : Moment} {e : RenderError} → IsPart (written_at before.state t) before.held after.held e
+      → Puts t may before (Err e) after
+
+-- A text that the line takes no note of was written, or a beginning of it, and the output failed, or memory. The state is
+-- as it was.
 pub data PutsStep (t : Text) (may : Error → Type 0) (before : Moment) : Answered → Moment → Type 0 where
   step_put : {after : Moment} {u : Unit {0}} → after.state ≡ before.state → IsWhole t before.held after.held
       → PutsStep t may before (Ok u) after
   step_cut : {after : Moment} {e : RenderError} (cause : Error) → may cause → IsCutOff t before.held after.held
       → TellsFault cause (plain_fault false) e → PutsStep t may before (Err e) after
+  step_part : {after : Moment} {e : RenderError} → IsPart t before.held after.held e → PutsStep t may before (Err e) after
 
--- A boolean helper's word was written, or a beginning of it, and the output failed. The state is as it was.
+-- The same of a boolean helper's word.
 pub data PutsWord (b : Bool) (may : Error → Type 0) (before : Moment) : Answered → Moment → Type 0 where
   word_put : {after : Moment} {u : Unit {0}} → after.state ≡ before.state → IsWhole (word b) before.held after.held
       → PutsWord b may before (Ok u) after
   word_cut : {after : Moment} {e : RenderError} (cause : Error) → may cause → IsCutOff (word b) before.held after.held
       → TellsFault cause (plain_fault true) e → PutsWord b may before (Err e) after
+  word_part : {after : Moment} {e : RenderError} → IsPart (word b) before.held after.held e
+      → PutsWord b may before (Err e) after
 
 -- The steps end well from this state, and the text is that of their pieces.
 pub record GivesString (p : Setting) (k : Steps) (s next : State) (text : Text) : Type 0 where

@@ -9,11 +9,10 @@ ghost use Rattle.handlebars_template.specs.Tree.{call_args};
 ghost use Rattle.handlebars_template.specs.TreeView.{call_view};
 ghost use Rattle.handlebars_base.specs.Bytes.{Text};
 ghost use Rattle.handlebars_helpers.specs.Callee.{built, calls_registered};
-ghost use Rattle.handlebars_meaning.specs.State.{Kept};
 ghost use Rattle.handlebars_render.specs.Boxed.{answer_of, error_of};
 ghost use Rattle.handlebars_render.specs.Next.{Judges, path_alone, wanting};
 ghost use Rattle.handlebars_render.specs.Targets.{target_in};
-ghost use Rattle.handlebars_render.specs.View.{setting_in, state_with};
+ghost use Rattle.handlebars_render.specs.View.{setting_in, state_with, KeptIn, within};
 
 use crate::boxed::BoxedError;
 use crate::context::RenderContext;
@@ -71,7 +70,7 @@ pub fn condition<P: Registered>(
     path: &Path,
     rc: &RenderContext,
 ) -> Result<bool, BoxedError>
-    ensures { (kept : Kept) → Judges (setting_in P.parts setting.now) (state_with kept rc.now) (reference_of path.now) (answer_of result) }
+    ensures { (kept : KeptIn (within setting.now)) → Judges (setting_in P.parts setting.now) (state_with kept rc.now) (reference_of path.now) (answer_of result) }
 {
     match rc.reach(setting.given.data(), path) {
         Reached::Value(value) => Ok(value.is_truthy(false)),

@@ -1,6 +1,6 @@
 //! What a call or another tag shows of itself, and what a call in parentheses comes to.
 
-ghost use Rattle.std.specs.Prelude.{◌≡◌, ◌++◌, [], IfErr, IfOk, Some, false, map};
+ghost use Rattle.std.specs.Prelude.{◌≡◌, ◌++◌, [], IfErr, IfOk, Some, false, map, option_map, string_bytes};
 ghost use Rattle.std.specs.Cow.{cow_str_bytes};
 ghost use Rattle.serde_json.specs.Data.{string};
 ghost use Rattle.handlebars_base.specs.Answers.{IsRefusal};
@@ -8,18 +8,19 @@ ghost use Rattle.handlebars_base.specs.Reasons.{helper_not_found, out_of_memory}
 ghost use Rattle.handlebars_base.specs.RenderRefusals.{plain_refusal, reason_in};
 ghost use Rattle.handlebars_base.specs.PathAndData.{path_and_data};
 ghost use Rattle.handlebars_base.specs.Scoped.{found_of, is_constant, value};
-ghost use Rattle.handlebars_template.specs.Tree.{call_binding, decorator_args, decorator_name};
+ghost use Rattle.handlebars_template.specs.Tree.{call_binding, decorator_args, decorator_body, decorator_name};
 ghost use Rattle.handlebars_template.specs.TreeView.{call_view, decorator_view};
 ghost use Rattle.handlebars_helpers.specs.DecoratorsView.{tag_view};
 ghost use Rattle.handlebars_helpers.specs.Callee.{built, calls_local, own};
 ghost use Rattle.handlebars_helpers.specs.View.{choice_of, helper_view, kind_of};
 ghost use Rattle.handlebars_meaning.specs.CarryOut.{helper_call};
+ghost use Rattle.handlebars_meaning.specs.Inclusion.{joined_indent};
 ghost use Rattle.handlebars_meaning.specs.Means.{shown_tag};
-ghost use Rattle.handlebars_meaning.specs.State.{Kept, State, helper_for};
+ghost use Rattle.handlebars_meaning.specs.State.{State, helper_for};
 ghost use Rattle.handlebars_meaning.specs.Values.{HasHelpedValue, HasRegisteredValue, HasView, choice_value, inner_call};
 ghost use Rattle.handlebars_render.specs.Bound.{bound_of};
 ghost use Rattle.handlebars_render.specs.Targets.{target_in};
-ghost use Rattle.handlebars_render.specs.View.{setting_in, called_view, name_alone, Yields, state_with};
+ghost use Rattle.handlebars_render.specs.View.{setting_in, called_view, name_alone, Yields, state_with, KeptIn, within};
 
 use crate::context::RenderContext;
 use crate::local::{BoundCall, bind_call};
@@ -102,12 +103,31 @@ impl<'a> Called<'a> {
         )
     }
 
-    /// What a decorator sees of a tag: beside its values its body.
-    pub fn of_tag(self, tag: &'a DecoratorTemplate) -> Decorator<'a>
-        ensures { tag_view result ≡ shown_tag (decorator_view tag.now) (called_view self.entry) }
+    /// What a decorator or an inclusion sees of a tag: beside its values its body, and its indentation, which is the one in
+    /// force followed by the tag's own.
+    pub fn of_tag(
+        self,
+        alloc: Global,
+        in_force: Option<&str>,
+        tag: &'a DecoratorTemplate,
+    ) -> Result<Decorator<'a>, AllocError>
+        ensures { IfOk result (λ view. tag_view view
+            ≡ shown_tag (option_map (λ t. t.now) in_force.entry) (decorator_view tag.now) (called_view self.entry)) }
+    {
+        let indent = joined_indent(alloc, in_force, tag.indent.as_ref())?;
+        Ok(self.with_indent(tag, indent))
+    }
+
+    // The same under this indentation.
+    fn with_indent(self, tag: &'a DecoratorTemplate, indent: Option<CowStr<'a>>) -> Decorator<'a>
+        ensures { tag_view result ≡ record {
+          call = called_view self.entry;
+          body = decorator_body (decorator_view tag.now);
+          indent = option_map cow_str_bytes indent.entry;
+        } }
     {
         let Called { name, params, hash } = self;
-        Decorator::new(name, params, hash, tag.template.as_ref())
+        Decorator::new(name, params, hash, tag.template.as_ref(), indent)
     }
 
     /// The call with these values before its parameters.
@@ -129,18 +149,35 @@ impl<'a> Called<'a> {
             hash,
         })
     }
+}
 
-    /// The name alone.
-    pub fn into_name(self) -> CowStr<'a>
-        ensures { result ≡ self.entry.name }
-    {
-        let Called {
-            name,
-            params: _,
-            hash: _,
-        } = self;
-        name
+// An indentation, followed by a tag's own, where there is one. The tag's own alone is borrowed.
+fn joined_indent<'a>(
+    alloc: Global,
+    in_force: Option<&str>,
+    own: Option<&'a String>,
+) -> Result<Option<CowStr<'a>>, AllocError>
+    ensures { IfOk result (λ indent. option_map cow_str_bytes indent
+        ≡ joined_indent (option_map (λ t. t.now) in_force.entry) (option_map (λ t. string_bytes t.now) own.entry)) }
+{
+    match in_force {
+        Some(outer) => Ok(Some(CowStr::Owned(behind(alloc, outer, own)?))),
+        None => match own {
+            Some(own) => Ok(Some(CowStr::Borrowed(own.as_str()))),
+            None => Ok(None),
+        },
     }
+}
+
+fn behind(alloc: Global, outer: &str, own: Option<&String>) -> Result<String, AllocError>
+    ensures { IfOk result (λ s. Some (string_bytes s)
+        ≡ joined_indent (Some outer.now) (option_map (λ t. string_bytes t.now) own.entry)) }
+{
+    let mut all = String::from_str(alloc, outer)?;
+    if let Some(own) = own {
+        all.push_str(own.as_str())?;
+    }
+    Ok(all)
 }
 
 /// The view of a decorator or an inclusion.
@@ -149,7 +186,7 @@ pub fn view_of_tag<'a, P: Registered>(
     rc: &RenderContext,
     tag: &'a DecoratorTemplate,
 ) -> Result<Called<'a>, RenderError>
-    ensures { (kept : Kept) → Yields (HasView (setting_in P.parts setting.now) (state_with kept rc.now) (decorator_name (decorator_view tag.now))
+    ensures { (kept : KeptIn (within setting.now)) → Yields (HasView (setting_in P.parts setting.now) (state_with kept rc.now) (decorator_name (decorator_view tag.now))
         (decorator_args (decorator_view tag.now))) called_view result }
 {
     let name = expand_as_name(setting, rc, &tag.name)?;
@@ -166,7 +203,7 @@ pub fn helped_value<'a, 'c, P: Registered>(
     helper: &'c HelperTemplate,
     call: Called<'c>,
 ) -> Result<ScopedJson<'a>, RenderError>
-    ensures value { (kept : Kept) → Yields (HasHelpedValue (setting_in P.parts setting.now) (state_with kept rc.now)
+    ensures value { (kept : KeptIn (within setting.now)) → Yields (HasHelpedValue (setting_in P.parts setting.now) (state_with kept rc.now)
         (helper_for (P.parts setting.now.parts.now) (state_with kept rc.now) false (called_view call.entry).name)
         (inner_call (call_binding (call_view helper.now)) (called_view call.entry))) found_of result }
     ensures constant { IfOk result (λ found. is_constant found ≡ false) }
@@ -185,7 +222,7 @@ fn target_value<'a, 'c, P: Registered>(
     helper: &'c HelperTemplate,
     call: Called<'c>,
 ) -> Result<ScopedJson<'a>, RenderError>
-    ensures value { (kept : Kept) → Yields (HasHelpedValue (setting_in P.parts setting.now) (state_with kept rc.now)
+    ensures value { (kept : KeptIn (within setting.now)) → Yields (HasHelpedValue (setting_in P.parts setting.now) (state_with kept rc.now)
         (Some (target_in false (called_view call.entry).name target))
         (inner_call (call_binding (call_view helper.now)) (called_view call.entry))) found_of result }
     ensures constant { IfOk result (λ found. is_constant found ≡ false) }
@@ -204,7 +241,7 @@ fn named_value<'a, P: Registered>(
     rc: &RenderContext,
     view: &Helper,
 ) -> Result<ScopedJson<'a>, RenderError>
-    ensures value { (kept : Kept) → Yields (HasRegisteredValue (setting_in P.parts setting.now) (state_with kept rc.now)
+    ensures value { (kept : KeptIn (within setting.now)) → Yields (HasRegisteredValue (setting_in P.parts setting.now) (state_with kept rc.now)
         (own (helper_view view.now).call.name) (helper_view view.now)) found_of result }
     ensures constant { IfOk result (λ found. is_constant found ≡ false) }
 {
@@ -218,7 +255,7 @@ fn local_value<'a, 'c, P: Registered>(
     helper: &'c HelperTemplate,
     call: Called<'c>,
 ) -> Result<ScopedJson<'a>, RenderError>
-    ensures value { (kept : Kept) → Yields (HasHelpedValue (setting_in P.parts setting.now) (state_with kept rc.now)
+    ensures value { (kept : KeptIn (within setting.now)) → Yields (HasHelpedValue (setting_in P.parts setting.now) (state_with kept rc.now)
         (Some (calls_local (called_view call.entry).name))
         (inner_call (call_binding (call_view helper.now)) (called_view call.entry))) found_of result }
     ensures constant { IfOk result (λ found. is_constant found ≡ false) }
@@ -236,7 +273,7 @@ fn bound_value<'a, 'c, P: Registered>(
     helper: &'c HelperTemplate,
     bound: BoundCall<'c>,
 ) -> Result<ScopedJson<'a>, RenderError>
-    ensures value { (kept : Kept) → Yields (HasRegisteredValue (setting_in P.parts setting.now) (state_with kept rc.now)
+    ensures value { (kept : KeptIn (within setting.now)) → Yields (HasRegisteredValue (setting_in P.parts setting.now) (state_with kept rc.now)
         (bound_of bound.entry).0 (inner_call (call_binding (call_view helper.now)) (bound_of bound.entry).1))
         found_of result }
     ensures constant { IfOk result (λ found. is_constant found ≡ false) }

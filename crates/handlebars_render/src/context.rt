@@ -1,6 +1,6 @@
 //! The state of a rendering.
 
-ghost use Rattle.std.specs.Prelude.{◌≡◌, ◌≢◌, not, IfOk, IfErr, OnOk, OnErr, true, false, is_some, map, option_map, slice_get, string_bytes};
+ghost use Rattle.std.specs.Prelude.{◌≡◌, ◌≢◌, not, IfOk, IfErr, OnOk, OnErr, None, true, false, is_some, map, option_map, slice_get, string_bytes};
 ghost use Rattle.std.specs.Borrow.{sem};
 ghost use Rattle.serde_json.specs.View.{view};
 ghost use Rattle.handlebars_base.specs.Answers.{Answers, answer_map, gives, refuses};
@@ -20,8 +20,9 @@ ghost use Rattle.handlebars_helpers.specs.View.{path_view, turn_view};
 ghost use Rattle.handlebars_meaning.specs.Values as values;
 ghost use Rattle.handlebars_meaning.specs.Values.{Evaluates};
 ghost use Rattle.handlebars_render.specs.Lending.{LendsBlock};
+ghost use Rattle.handlebars_meaning.specs.Inclusion.{is_current};
 ghost use Rattle.handlebars_meaning.specs.State.{entered, first_state, left, nearest_variables, partial_in, with_data, with_local, with_nearest, with_partial, without_local};
-ghost use Rattle.handlebars_render.specs.View.{state_of, read_in, root_of, has_failed, behind, with_line, HasOuter, IsKept, NearestBelow};
+ghost use Rattle.handlebars_render.specs.View.{called, state_of, read_in, root_of, has_failed, behind, with_line, HasOuter, IsKept, NearestBelow};
 
 use crate::null::Null;
 use handlebars_base::error::RenderError;
@@ -211,9 +212,29 @@ impl RenderContext {
     pub fn get_partial(&self, name: &str) -> Option<&Template>
         ensures { option_map (λ t. tree_view t.now) result ≡ partial_in (state_of self.now).blocks name.now }
     {
+        match self.local_partial(name) {
+            Some(template) => Some(&**template),
+            None => None,
+        }
+    }
+
+    // The same, shared with the block that has it, which may be given another one while this is rendered.
+    pub(super) fn shared_partial(&self, name: &str) -> Result<Option<Rc<Template>>, AllocError>
+        ensures { IfOk result (λ shared. option_map (λ t. tree_view t.value) shared
+            ≡ partial_in (state_of self.now).blocks name.now) }
+    {
+        match self.local_partial(name) {
+            Some(template) => Ok(Some(template.clone()?)),
+            None => Ok(None),
+        }
+    }
+
+    fn local_partial(&self, name: &str) -> Option<&Rc<Template>>
+        ensures { option_map (λ t. tree_view t.now.value) result ≡ partial_in (state_of self.now).blocks name.now }
+    {
         for block in self.blocks.iter() {
             if let Some(template) = block.get_local_partial(name) {
-                return Some(&**template);
+                return Some(template);
             }
         }
         None
@@ -466,6 +487,69 @@ impl RenderContext {
         )
     }
 
+    /// The name of the template that the run began with, if it has one.
+    pub fn get_root_template_name(&self) -> Option<&String>
+        ensures { option_map (λ name. string_bytes name.now) result ≡ root_of self.now }
+    {
+        self.root_template.as_ref()
+    }
+
+    /// The name of the template whose elements are being rendered, if it has one.
+    pub fn get_current_template_name(&self) -> Option<&String>
+        ensures { option_map (λ name. string_bytes name.now) result ≡ (state_of self.now).current }
+    {
+        self.current_template.as_ref()
+    }
+
+    /// From now on this is the name of the template whose elements are being rendered, or it has none.
+    pub fn set_current_template_name(&mut self, name: Option<String>)
+        ensures state { state_of self.new ≡ called (option_map string_bytes name) (state_of self.old) }
+        ensures kept { IsKept self.old self.new }
+    {
+        self.current_template = name;
+    }
+
+    /// Whether a name is that of the template whose elements are being rendered.
+    pub fn is_current_template(&self, name: &str) -> bool
+        ensures { result ≡ is_current name.now (state_of self.now).current }
+    {
+        match &self.current_template {
+            Some(current) => current.as_str() == name,
+            None => false,
+        }
+    }
+
+    // Takes the current name away, and gives it.
+    pub(super) fn take_name(&mut self) -> Option<String>
+        ensures name { option_map string_bytes result ≡ (state_of self.old).current }
+        ensures state { state_of self.new ≡ called None (state_of self.old) }
+        ensures kept { IsKept self.old self.new }
+    {
+        self.current_template.take()
+    }
+
+    // An inclusion begins, in this block. The name that was the current one is given.
+    pub(super) fn begin(&mut self, block: BlockContext) -> Result<Option<String>, AllocError>
+        ensures name { IfOk result (λ name. option_map string_bytes name ≡ (state_of self.old).current) }
+        ensures ok { OnOk result (state_of self.new ≡ called None (entered (frame_of block) (state_of self.old))) }
+        ensures err { OnErr result (state_of self.new ≡ state_of self.old) }
+        ensures root { root_of self.new ≡ root_of self.old }
+        ensures failed { has_failed self.new ≡ has_failed self.old }
+    {
+        self.blocks.push_front(block)?;
+        Ok(self.current_template.take())
+    }
+
+    // An inclusion is over: its block is left, and this name is the current one again.
+    pub(super) fn end(&mut self, name: Option<String>)
+        ensures state { state_of self.new ≡ called (option_map string_bytes name) (left (state_of self.old)) }
+        ensures root { root_of self.new ≡ root_of self.old }
+        ensures failed { has_failed self.new ≡ has_failed self.old }
+    {
+        self.blocks.pop_front();
+        self.current_template = name;
+    }
+
     // From now on renderings are refused.
     pub(super) fn fail(&mut self)
         ensures { self.new ≡ record self.old { failed = true } }
@@ -489,6 +573,7 @@ impl RenderContext {
         }
     }
 
+    #[inline(never)]
     fn enter_name(&mut self, name: &String) -> Result<(), AllocError>
         ensures ok { OnOk result (state_of self.new
             ≡ record (state_of self.old) { current = Some (string_bytes name.now) }) }

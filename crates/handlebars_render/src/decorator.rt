@@ -8,10 +8,9 @@ ghost use Rattle.handlebars_template.specs.TreeView.{decorator_view};
 ghost use Rattle.handlebars_helpers.specs.Decoration.{kind_inline, kind_own};
 ghost use Rattle.handlebars_helpers.specs.DecoratorsView.{deed_of, tag_view};
 ghost use Rattle.handlebars_meaning.specs.Means.{do_deed, do_deeds, render_decorator, set_partial};
-ghost use Rattle.handlebars_meaning.specs.State.{Kept};
 ghost use Rattle.handlebars_render.specs.Boxed.{answer_of, error_of};
 ghost use Rattle.handlebars_render.specs.Silent.{Does, decorate_as, decorate_by};
-ghost use Rattle.handlebars_render.specs.View.{IsKept, setting_in, state_with};
+ghost use Rattle.handlebars_render.specs.View.{IsKept, setting_in, state_with, KeptIn, within};
 
 use crate::boxed::BoxedError;
 use crate::called::view_of_tag;
@@ -31,12 +30,15 @@ pub fn render_decorator<'a, P: Registered>(
     setting: &Setting<'_, 'a, P>,
     rc: &mut RenderContext,
 ) -> Result<(), BoxedError>
-    ensures does { (kept : Kept) → Does (setting_in P.parts setting.now) (render_decorator (decorator_view tag.now))
+    ensures does { (kept : KeptIn (within setting.now)) → Does (setting_in P.parts setting.now) (render_decorator (decorator_view tag.now))
         (state_with kept rc.old) (answer_of result) (state_with kept rc.new) }
     ensures kept { IsKept rc.old rc.new }
 {
     match view_of_tag(setting, rc, tag) {
-        Ok(call) => decorate(&call.of_tag(tag), setting, rc),
+        Ok(call) => {
+            let view = call.of_tag(setting.alloc, setting.indent, tag)?;
+            decorate(&view, setting, rc)
+        }
         Err(e) => Err(BoxedError::new(setting.alloc, e)),
     }
 }
@@ -47,7 +49,7 @@ fn decorate<P: Registered>(
     setting: &Setting<P>,
     rc: &mut RenderContext,
 ) -> Result<(), BoxedError>
-    ensures does { (kept : Kept) → Does (setting_in P.parts setting.now) (decorate_as (tag_view tag.now))
+    ensures does { (kept : KeptIn (within setting.now)) → Does (setting_in P.parts setting.now) (decorate_as (tag_view tag.now))
         (state_with kept rc.old) (answer_of result) (state_with kept rc.new) }
     ensures kept { IsKept rc.old rc.new }
 {
@@ -64,7 +66,7 @@ fn decorate_inline<P: Registered>(
     setting: &Setting<P>,
     rc: &mut RenderContext,
 ) -> Result<(), BoxedError>
-    ensures does { (kept : Kept) → Does (setting_in P.parts setting.now) (decorate_by kind_inline (tag_view tag.now))
+    ensures does { (kept : KeptIn (within setting.now)) → Does (setting_in P.parts setting.now) (decorate_by kind_inline (tag_view tag.now))
         (state_with kept rc.old) (answer_of result) (state_with kept rc.new) }
     ensures kept { IsKept rc.old rc.new }
 {
@@ -80,7 +82,7 @@ fn decorate_own<P: Registered>(
     setting: &Setting<P>,
     rc: &mut RenderContext,
 ) -> Result<(), BoxedError>
-    ensures does { (kept : Kept) → Does (setting_in P.parts setting.now)
+    ensures does { (kept : KeptIn (within setting.now)) → Does (setting_in P.parts setting.now)
         (decorate_by (kind_own (tag_view tag.now).call.name) (tag_view tag.now))
         (state_with kept rc.old) (answer_of result) (state_with kept rc.new) }
     ensures kept { IsKept rc.old rc.new }
@@ -101,7 +103,7 @@ fn do_deeds<P: Registered>(
     deeds: Vec<DecoratorStep>,
     rc: &mut RenderContext,
 ) -> Result<(), BoxedError>
-    ensures does { (kept : Kept) → Does (setting_in P.parts setting.now)
+    ensures does { (kept : KeptIn (within setting.now)) → Does (setting_in P.parts setting.now)
         (do_deeds (tag_view tag.now).body (map deed_of deeds.items))
         (state_with kept rc.old) (answer_of result) (state_with kept rc.new) }
     ensures kept { IsKept rc.old rc.new }
@@ -120,7 +122,7 @@ fn do_deed<P: Registered>(
     deed: DecoratorStep,
     rc: &mut RenderContext,
 ) -> Result<(), BoxedError>
-    ensures does { (kept : Kept) → Does (setting_in P.parts setting.now) (do_deed (tag_view tag.now).body (deed_of deed))
+    ensures does { (kept : KeptIn (within setting.now)) → Does (setting_in P.parts setting.now) (do_deed (tag_view tag.now).body (deed_of deed))
         (state_with kept rc.old) (answer_of result) (state_with kept rc.new) }
     ensures kept { IsKept rc.old rc.new }
 {
@@ -158,7 +160,7 @@ fn set_partial<P: Registered>(
     name: &str,
     rc: &mut RenderContext,
 ) -> Result<(), BoxedError>
-    ensures does { (kept : Kept) → Does (setting_in P.parts setting.now) (set_partial name.now (tag_view tag.now).body)
+    ensures does { (kept : KeptIn (within setting.now)) → Does (setting_in P.parts setting.now) (set_partial name.now (tag_view tag.now).body)
         (state_with kept rc.old) (answer_of result) (state_with kept rc.new) }
     ensures kept { IsKept rc.old rc.new }
 {

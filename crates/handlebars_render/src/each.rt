@@ -7,15 +7,15 @@ ghost use Rattle.handlebars_meaning.specs.Sites.{Site};
 ghost use Rattle.handlebars_helpers.specs.CallView.{CallView};
 ghost use Rattle.handlebars_helpers.specs.View.{base_view, path_view, turns_left};
 ghost use Rattle.handlebars_meaning.specs.CarryOut.{helper_call, in_block, render_with, take_turns};
-ghost use Rattle.handlebars_meaning.specs.State.{Kept};
 ghost use Rattle.handlebars_render.specs.Boxed.{answer_of};
-ghost use Rattle.handlebars_render.specs.View.{setting_in, moment, CarriesOn, HasOuter, IsKept};
+ghost use Rattle.handlebars_render.specs.View.{setting_in, moment, CarriesOn, HasOuter, IsKept, KeptIn, within, held_in, IsSame};
 
 use crate::block::render_body;
 use crate::boxed::BoxedError;
 use crate::context::RenderContext;
 use crate::registered::Registered;
 use crate::setting::Setting;
+use crate::sink::Sink;
 use handlebars_base::output::Output;
 use handlebars_helpers::each_turns::Turns;
 use handlebars_helpers::turn::{Base, with_block};
@@ -29,17 +29,18 @@ pub fn render_with<'a, O: Output, P: Registered>(
     setting: &Setting<'_, 'a, P>,
     base: Base,
     rc: &mut RenderContext,
-    out: &mut O,
+    sink: &mut Sink<'_, O>,
 ) -> Result<(), BoxedError>
-    ensures renders { (site : Site) (kept : Kept) (block : Bool) (v : CallView) → CarriesOn (setting_in P.parts setting.now)
+    ensures renders { (site : Site) (kept : KeptIn (within setting.now)) (block : Bool) (v : CallView) → CarriesOn (setting_in P.parts setting.now)
         (render_with site (helper_call block (call_view helper.now) v) (base_view base.entry))
-        O.may_give (moment kept rc.old (O.held out.old)) (answer_of result) (moment kept rc.new (O.held out.new)) }
+        O.may_give (moment kept rc.old (held_in O.held sink.old)) (answer_of result) (moment kept rc.new (held_in O.held sink.new)) }
     ensures kept { IsKept rc.old rc.new }
+    ensures same { IsSame sink.old sink.new }
 {
     let variables = rc.nearest_variables()?;
     let block = with_block(setting.alloc, helper.block_param.as_ref(), base, variables)?;
     rc.push_block(block)?;
-    let answer = render_body(helper, setting, rc, out);
+    let answer = render_body(helper, setting, rc, sink);
     rc.pop_block();
     answer
 }
@@ -52,16 +53,17 @@ pub fn render_each<'a, O: Output, P: Registered>(
     path: Option<&Vec<String>>,
     turns: Turns,
     rc: &mut RenderContext,
-    out: &mut O,
+    sink: &mut Sink<'_, O>,
 ) -> Result<(), BoxedError>
-    ensures renders { (site : Site) (kept : Kept) (block : Bool) (v : CallView) → CarriesOn (setting_in P.parts setting.now)
+    ensures renders { (site : Site) (kept : KeptIn (within setting.now)) (block : Bool) (v : CallView) → CarriesOn (setting_in P.parts setting.now)
         (in_block empty_frame (take_turns site 0 (helper_call block (call_view helper.now) v) (path_view path.entry)
         (turns_left turns.entry)))
-        O.may_give (moment kept rc.old (O.held out.old)) (answer_of result) (moment kept rc.new (O.held out.new)) }
+        O.may_give (moment kept rc.old (held_in O.held sink.old)) (answer_of result) (moment kept rc.new (held_in O.held sink.new)) }
     ensures kept { IsKept rc.old rc.new }
+    ensures same { IsSame sink.old sink.new }
 {
     rc.push_block(BlockContext::new(setting.alloc))?;
-    let answer = take_turns(helper, setting, path, turns, rc, out);
+    let answer = take_turns(helper, setting, path, turns, rc, sink);
     rc.pop_block();
     answer
 }
@@ -74,19 +76,20 @@ fn take_turns<'a, O: Output, P: Registered>(
     path: Option<&Vec<String>>,
     turns: Turns,
     rc: &mut RenderContext,
-    out: &mut O,
+    sink: &mut Sink<'_, O>,
 ) -> Result<(), BoxedError>
-    ensures renders { (site : Site) (kept : Kept) (block : Bool) (v : CallView) → CarriesOn (setting_in P.parts setting.now)
+    ensures renders { (site : Site) (kept : KeptIn (within setting.now)) (block : Bool) (v : CallView) → CarriesOn (setting_in P.parts setting.now)
         (take_turns site 0 (helper_call block (call_view helper.now) v) (path_view path.entry) (turns_left turns.entry))
-        O.may_give (moment kept rc.old (O.held out.old)) (answer_of result) (moment kept rc.new (O.held out.new)) }
+        O.may_give (moment kept rc.old (held_in O.held sink.old)) (answer_of result) (moment kept rc.new (held_in O.held sink.new)) }
     ensures outer { HasOuter rc.old rc.new }
+    ensures same { IsSame sink.old sink.new }
 {
     let mut left = turns;
     let mut first = true;
     'turns: while let Some(turn) = left.next() {
         rc.set_up_turn(first, helper.block_param.as_ref(), path, turn)?;
         first = false;
-        if let Err(e) = render_body(helper, setting, rc, out) {
+        if let Err(e) = render_body(helper, setting, rc, sink) {
             return Err(e);
         }
     }

@@ -5,10 +5,9 @@ ghost use Rattle.handlebars_template.specs.TreeView.{element_view, tree_view};
 ghost use Rattle.handlebars_meaning.specs.Evaluation.{decorator_alone, eval_tree, renamed};
 ghost use Rattle.handlebars_meaning.specs.Means.{render_element};
 ghost use Rattle.handlebars_meaning.specs.Sites.{Site};
-ghost use Rattle.handlebars_meaning.specs.State.{Kept};
 ghost use Rattle.handlebars_render.specs.Boxed.{answer_of};
 ghost use Rattle.handlebars_render.specs.Silent.{Does, Evals};
-ghost use Rattle.handlebars_render.specs.View.{IsKept, setting_in, state_with};
+ghost use Rattle.handlebars_render.specs.View.{IsKept, setting_in, state_with, KeptIn, within};
 
 use crate::boxed::BoxedError;
 use crate::context::RenderContext;
@@ -24,7 +23,7 @@ pub fn eval_tree<'a, P: Registered>(
     setting: &Setting<'_, 'a, P>,
     rc: &mut RenderContext,
 ) -> Result<(), BoxedError>
-    ensures evals { (kept : Kept) → Evals (setting_in P.parts setting.now) (eval_tree (tree_view template.now))
+    ensures evals { (kept : KeptIn (within setting.now)) → Evals (setting_in P.parts setting.now) (eval_tree (tree_view template.now))
         (renamed (tree_name (tree_view template.now))) (state_with kept rc.old) (answer_of result)
         (state_with kept rc.new) }
     ensures kept { IsKept rc.old rc.new }
@@ -43,7 +42,7 @@ pub fn eval_element<'a, P: Registered>(
     setting: &Setting<'_, 'a, P>,
     rc: &mut RenderContext,
 ) -> Result<(), BoxedError>
-    ensures does { (site : Site) (kept : Kept) → Does (setting_in P.parts setting.now)
+    ensures does { (site : Site) (kept : KeptIn (within setting.now)) → Does (setting_in P.parts setting.now)
         (render_element site (decorator_alone (element_view element.now)))
         (state_with kept rc.old) (answer_of result) (state_with kept rc.new) }
     ensures kept { IsKept rc.old rc.new }

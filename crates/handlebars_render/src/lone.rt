@@ -15,10 +15,9 @@ ghost use Rattle.handlebars_helpers.specs.CallView.{CallView};
 ghost use Rattle.handlebars_meaning.specs.Sites.{Site};
 ghost use Rattle.handlebars_meaning.specs.Means.{render_found, render_lone, render_lone_as};
 ghost use Rattle.handlebars_meaning.specs.Values.{HasName, HasValue, called_by};
-ghost use Rattle.handlebars_meaning.specs.State.{Kept};
 ghost use Rattle.handlebars_render.specs.Boxed.{answer_of, error_of};
 ghost use Rattle.handlebars_render.specs.Next.{ComesTo, Settles};
-ghost use Rattle.handlebars_render.specs.View.{name_alone, setting_in, moment, state_with};
+ghost use Rattle.handlebars_render.specs.View.{name_alone, setting_in, moment, state_with, KeptIn, within, held_in, IsSame};
 
 use crate::boxed::BoxedError;
 use crate::branch::not_an_index;
@@ -27,6 +26,7 @@ use crate::context::RenderContext;
 use crate::next::{Next, to_call};
 use crate::registered::{Registered, helper_named, hook, hooked};
 use crate::setting::Setting;
+use crate::sink::Sink;
 use crate::value::{inner_value, written};
 use crate::write::write_found;
 use handlebars_base::error::RenderErrorReason;
@@ -43,21 +43,22 @@ pub fn settle_lone<'a, O: Output, P: Registered>(
     helper: &'a HelperTemplate,
     setting: &Setting<'_, 'a, P>,
     rc: &RenderContext,
-    out: &mut O,
+    sink: &mut Sink<'_, O>,
 ) -> Result<Next<'a>, BoxedError>
-    ensures { is_value (call_view helper.now) ≡ true → (site : Site) (kept : Kept)
+    ensures comes { is_value (call_view helper.now) ≡ true → (site : Site) (kept : KeptIn (within setting.now))
         → ComesTo (setting_in P.parts setting.now) site false (call_view helper.now)
         (render_lone site (call_view helper.now))
-        O.may_give (moment kept rc.now (O.held out.old)) (answer_of result) (O.held out.new) }
+        O.may_give (moment kept rc.now (held_in O.held sink.old)) (answer_of result) (held_in O.held sink.new) }
+    ensures same { IsSame sink.old sink.new }
 {
     match &helper.name {
         Parameter::Name(name) => settle_name(helper, setting, name.as_str(), rc),
-        Parameter::Path(path) => settle_path(helper, setting, path, rc, out),
+        Parameter::Path(path) => settle_path(helper, setting, path, rc, sink),
         Parameter::Literal(value) => {
-            settle_value(helper, setting, ScopedJson::Constant(value), rc, out)
+            settle_value(helper, setting, ScopedJson::Constant(value), rc, sink)
         }
         Parameter::Subexpression(inner) => match inner_value(setting, rc, inner) {
-            Ok(value) => settle_value(helper, setting, value, rc, out),
+            Ok(value) => settle_value(helper, setting, value, rc, sink),
             Err(e) => Err(BoxedError::new(setting.alloc, e)),
         },
     }
@@ -71,7 +72,7 @@ fn settle_name<'a, P: Registered>(
     rc: &RenderContext,
 ) -> Result<Next<'a>, BoxedError>
     ensures { is_value (call_view helper.now) ≡ true → call_name (call_view helper.now) ≡ tree.name text.now
-        → (site : Site) (kept : Kept) → Settles (setting_in P.parts setting.now) site false (call_view helper.now)
+        → (site : Site) (kept : KeptIn (within setting.now)) → Settles (setting_in P.parts setting.now) site false (call_view helper.now)
         (render_lone site (call_view helper.now)) (state_with kept rc.now) (answer_of result) }
 {
     match helper_named(setting.parts, rc, text) {
@@ -91,12 +92,13 @@ fn settle_path<'a, O: Output, P: Registered>(
     setting: &Setting<'_, 'a, P>,
     path: &'a Path,
     rc: &RenderContext,
-    out: &mut O,
+    sink: &mut Sink<'_, O>,
 ) -> Result<Next<'a>, BoxedError>
-    ensures { is_value (call_view helper.now) ≡ true → call_name (call_view helper.now) ≡ tree.path (reference_of path.now)
-        → (site : Site) (kept : Kept) → ComesTo (setting_in P.parts setting.now) site false (call_view helper.now)
+    ensures comes { is_value (call_view helper.now) ≡ true → call_name (call_view helper.now) ≡ tree.path (reference_of path.now)
+        → (site : Site) (kept : KeptIn (within setting.now)) → ComesTo (setting_in P.parts setting.now) site false (call_view helper.now)
         (render_lone site (call_view helper.now))
-        O.may_give (moment kept rc.now (O.held out.old)) (answer_of result) (O.held out.new) }
+        O.may_give (moment kept rc.now (held_in O.held sink.old)) (answer_of result) (held_in O.held sink.new) }
+    ensures same { IsSame sink.old sink.new }
 {
     match helper_named(setting.parts, rc, path.raw()) {
         Some(target) => to_call(
@@ -106,7 +108,7 @@ fn settle_path<'a, O: Output, P: Registered>(
             true,
         ),
         None => match rc.reach(setting.given.data(), path) {
-            Reached::Value(value) => settle_found(setting, value, rc, out),
+            Reached::Value(value) => settle_found(setting, value, rc, sink),
             Reached::Nothing => settle_missing(helper, setting, CowStr::Borrowed(path.raw()), rc),
             Reached::NoIndex(name) => Err(not_an_index(setting.alloc, name)),
         },
@@ -119,16 +121,17 @@ fn settle_value<'a, O: Output, P: Registered>(
     setting: &Setting<'_, 'a, P>,
     value: ScopedJson<'a>,
     rc: &RenderContext,
-    out: &mut O,
+    sink: &mut Sink<'_, O>,
 ) -> Result<Next<'a>, BoxedError>
-    ensures { is_value (call_view helper.now) ≡ true → (site : Site) (kept : Kept)
+    ensures comes { is_value (call_view helper.now) ≡ true → (site : Site) (kept : KeptIn (within setting.now))
         → HasName (setting_in P.parts setting.now) (state_with kept rc.now) (call_name (call_view helper.now))
         (gives (called_by (found_of value.entry)))
         → HasValue (setting_in P.parts setting.now) (state_with kept rc.now) (call_name (call_view helper.now))
         (gives (found_of value.entry))
         → ComesTo (setting_in P.parts setting.now) site false (call_view helper.now)
         (render_lone site (call_view helper.now))
-        O.may_give (moment kept rc.now (O.held out.old)) (answer_of result) (O.held out.new) }
+        O.may_give (moment kept rc.now (held_in O.held sink.old)) (answer_of result) (held_in O.held sink.new) }
+    ensures same { IsSame sink.old sink.new }
 {
     let name = value.render(setting.alloc)?;
     match helper_named(setting.parts, rc, name.as_str()) {
@@ -139,7 +142,7 @@ fn settle_value<'a, O: Output, P: Registered>(
             true,
         ),
         None => match value.as_json() {
-            Some(value) => settle_found(setting, value, rc, out),
+            Some(value) => settle_found(setting, value, rc, sink),
             None => settle_missing(helper, setting, CowStr::Owned(name), rc),
         },
     }
@@ -151,15 +154,16 @@ fn settle_found<'a, O: Output, P: Registered>(
     setting: &Setting<'_, 'a, P>,
     value: &Json,
     rc: &RenderContext,
-    out: &mut O,
+    sink: &mut Sink<'_, O>,
 ) -> Result<Next<'a>, BoxedError>
-    ensures { (c : Call) (v : CallView) (found : Found) (site : Site) (kept : Kept)
+    ensures comes { (c : Call) (v : CallView) (found : Found) (site : Site) (kept : KeptIn (within setting.now))
         → HasValue (setting_in P.parts setting.now) (state_with kept rc.now) (call_name c) (gives found)
         → present_in found ≡ Some (view value.now)
         → ComesTo (setting_in P.parts setting.now) site false c (render_lone_as site c v None)
-        O.may_give (moment kept rc.now (O.held out.old)) (answer_of result) (O.held out.new) }
+        O.may_give (moment kept rc.now (held_in O.held sink.old)) (answer_of result) (held_in O.held sink.new) }
+    ensures same { IsSame sink.old sink.new }
 {
-    match write_found(setting, Some(value), rc, out) {
+    match write_found(setting, Some(value), rc, sink) {
         Ok(line) => Ok(Next::Done(line)),
         Err(e) => Err(e),
     }
@@ -172,7 +176,7 @@ fn settle_missing<'a, P: Registered>(
     name: CowStr<'a>,
     rc: &RenderContext,
 ) -> Result<Next<'a>, BoxedError>
-    ensures { (site : Site) (kept : Kept) → Settles (setting_in P.parts setting.now) site false (call_view helper.now)
+    ensures { (site : Site) (kept : KeptIn (within setting.now)) → Settles (setting_in P.parts setting.now) site false (call_view helper.now)
         (render_found site (call_view helper.now) (name_alone (cow_str_bytes name.entry)) missing)
         (state_with kept rc.now) (answer_of result) }
 {

@@ -10,11 +10,11 @@ ghost use Rattle.handlebars_template.specs.TreeView.{call_view};
 ghost use Rattle.handlebars_meaning.specs.Sites.{Site};
 ghost use Rattle.handlebars_meaning.specs.Means.{render_call, render_expression, render_tag};
 ghost use Rattle.handlebars_meaning.specs.Values.{HasName};
-ghost use Rattle.handlebars_meaning.specs.State.{Kept, helper_for};
+ghost use Rattle.handlebars_meaning.specs.State.{helper_for};
 ghost use Rattle.handlebars_render.specs.Boxed.{answer_of, error_of};
 ghost use Rattle.handlebars_render.specs.Next.{ComesTo, IsCall, Settles};
 ghost use Rattle.handlebars_render.specs.Targets.{target_in};
-ghost use Rattle.handlebars_render.specs.View.{setting_in, moment, state_with};
+ghost use Rattle.handlebars_render.specs.View.{setting_in, moment, state_with, KeptIn, within, held_in, IsSame};
 
 use crate::boxed::BoxedError;
 use crate::branch::{branching, condition};
@@ -23,6 +23,7 @@ use crate::context::RenderContext;
 use crate::lone::settle_lone;
 use crate::registered::{Registered, Target, helper_for};
 use crate::setting::Setting;
+use crate::sink::Sink;
 use crate::value::{expand_as_name, pairs_values, params_values};
 use handlebars_base::output::Output;
 use handlebars_scope::line::LineState;
@@ -74,22 +75,25 @@ impl<'a> ToCall<'a> {
     }
 }
 
-/// Writes a value, or finds the helper that is to be called for a block or an expression.
+/// Writes a value, or finds the helper that is to be called for a block or an expression. Its caller recurses, and has no room
+/// for what it needs.
+#[inline(never)]
 pub fn settle_tag<'a, O: Output, P: Registered>(
     helper: &'a HelperTemplate,
     setting: &Setting<'_, 'a, P>,
     block: bool,
     rc: &RenderContext,
-    out: &mut O,
+    sink: &mut Sink<'_, O>,
 ) -> Result<Next<'a>, BoxedError>
-    ensures { (site : Site) (kept : Kept) → ComesTo (setting_in P.parts setting.now) site block (call_view helper.now)
+    ensures comes { (site : Site) (kept : KeptIn (within setting.now)) → ComesTo (setting_in P.parts setting.now) site block (call_view helper.now)
         (render_tag site block (call_view helper.now))
-        O.may_give (moment kept rc.now (O.held out.old)) (answer_of result) (O.held out.new) }
+        O.may_give (moment kept rc.now (held_in O.held sink.old)) (answer_of result) (held_in O.held sink.new) }
+    ensures same { IsSame sink.old sink.new }
 {
     if block {
         settle_call(helper, setting, true, rc)
     } else {
-        settle_expression(helper, setting, rc, out)
+        settle_expression(helper, setting, rc, sink)
     }
 }
 
@@ -97,14 +101,15 @@ fn settle_expression<'a, O: Output, P: Registered>(
     helper: &'a HelperTemplate,
     setting: &Setting<'_, 'a, P>,
     rc: &RenderContext,
-    out: &mut O,
+    sink: &mut Sink<'_, O>,
 ) -> Result<Next<'a>, BoxedError>
-    ensures { (site : Site) (kept : Kept) → ComesTo (setting_in P.parts setting.now) site false (call_view helper.now)
+    ensures comes { (site : Site) (kept : KeptIn (within setting.now)) → ComesTo (setting_in P.parts setting.now) site false (call_view helper.now)
         (render_expression site (call_view helper.now))
-        O.may_give (moment kept rc.now (O.held out.old)) (answer_of result) (O.held out.new) }
+        O.may_give (moment kept rc.now (held_in O.held sink.old)) (answer_of result) (held_in O.held sink.new) }
+    ensures same { IsSame sink.old sink.new }
 {
     if helper.is_value() {
-        settle_lone(helper, setting, rc, out)
+        settle_lone(helper, setting, rc, sink)
     } else {
         settle_call(helper, setting, false, rc)
     }
@@ -119,7 +124,7 @@ fn settle_call<'a, P: Registered>(
     block: bool,
     rc: &RenderContext,
 ) -> Result<Next<'a>, BoxedError>
-    ensures { (site : Site) (kept : Kept) → Settles (setting_in P.parts setting.now) site block (call_view helper.now)
+    ensures { (site : Site) (kept : KeptIn (within setting.now)) → Settles (setting_in P.parts setting.now) site block (call_view helper.now)
         (render_call site block (call_view helper.now)) (state_with kept rc.now) (answer_of result) }
 {
     if let Some(name) = helper.name.as_name() {
@@ -142,7 +147,7 @@ fn settle_named<'a, P: Registered>(
     name: &'a str,
     rc: &RenderContext,
 ) -> Result<Next<'a>, BoxedError>
-    ensures { as_name (call_name (call_view helper.now)) ≡ Some name.now → (site : Site) (kept : Kept)
+    ensures { as_name (call_name (call_view helper.now)) ≡ Some name.now → (site : Site) (kept : KeptIn (within setting.now))
         → Settles (setting_in P.parts setting.now) site block (call_view helper.now)
         (render_call site block (call_view helper.now)) (state_with kept rc.now) (answer_of result) }
 {
@@ -172,7 +177,7 @@ fn settle_viewed<'a, P: Registered>(
     target: Option<Target>,
     rc: &RenderContext,
 ) -> Result<Next<'a>, BoxedError>
-    ensures { (site : Site) (kept : Kept) → HasName (setting_in P.parts setting.now) (state_with kept rc.now)
+    ensures { (site : Site) (kept : KeptIn (within setting.now)) → HasName (setting_in P.parts setting.now) (state_with kept rc.now)
         (call_name (call_view helper.now)) (gives (cow_str_bytes name.entry))
         → option_map (target_in block (cow_str_bytes name.entry)) target ≡ helper_for (P.parts setting.now.parts.now) (state_with kept rc.now) block (cow_str_bytes name.entry)
         → Settles (setting_in P.parts setting.now) site block (call_view helper.now)

@@ -8,10 +8,9 @@ ghost use Rattle.handlebars_helpers.specs.Callee.{own};
 ghost use Rattle.handlebars_helpers.specs.OwnView.{offer_of, step_of};
 ghost use Rattle.handlebars_helpers.specs.View.{helper_view};
 ghost use Rattle.handlebars_meaning.specs.Questions.{HasRegisteredChoice, offered};
-ghost use Rattle.handlebars_meaning.specs.State.{Kept};
 ghost use Rattle.handlebars_meaning.specs.Values.{HasRegisteredValue, step_text, text_of};
 ghost use Rattle.handlebars_render.specs.OwnChoice.{own_choice_of};
-ghost use Rattle.handlebars_render.specs.View.{setting_in, state_with, Yields};
+ghost use Rattle.handlebars_render.specs.View.{setting_in, state_with, Yields, KeptIn, within};
 
 use crate::called::empty_text;
 use crate::context::RenderContext;
@@ -38,7 +37,7 @@ pub fn choose_own<P: Registered>(
     name: &str,
     view: &Helper,
 ) -> Result<OwnChoice, RenderError>
-    ensures { (kept : Kept) → Yields
+    ensures { (kept : KeptIn (within setting.now)) → Yields
         (HasRegisteredChoice (setting_in P.parts setting.now) (state_with kept rc.now) (own name.now) (helper_view view.now))
         own_choice_of result }
 {
@@ -82,7 +81,7 @@ pub fn own_value<'a, P: Registered>(
     name: &str,
     view: &Helper,
 ) -> Result<ScopedJson<'a>, RenderError>
-    ensures value { (kept : Kept) → Yields
+    ensures value { (kept : KeptIn (within setting.now)) → Yields
         (HasRegisteredValue (setting_in P.parts setting.now) (state_with kept rc.now) (own name.now) (helper_view view.now))
         found_of result }
     ensures constant { IfOk result (λ found. is_constant found ≡ false) }

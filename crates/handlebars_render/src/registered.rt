@@ -2,14 +2,15 @@
 
 ghost use Rattle.std.specs.Prelude.{◌≡◌, Bool, map, option_map, string_bytes};
 ghost use Rattle.handlebars_base.specs.Bytes.{Text};
+ghost use Rattle.handlebars_template.specs.TreeView.{tree_view};
 ghost use Rattle.handlebars_helpers.specs.Callee.{calls_registered};
 ghost use Rattle.handlebars_helpers.specs.DecoratorsView.{decorator_called, deed_of};
 ghost use Rattle.handlebars_helpers.specs.EscapeView.{escaping_of};
 ghost use Rattle.handlebars_helpers.specs.OwnView.{callee_of, offer_of, steps_of, IsOneOf};
-ghost use Rattle.handlebars_meaning.specs.State.{IsLawful, Kept, Parts, helper_for, helper_named, hook};
+ghost use Rattle.handlebars_meaning.specs.State.{IsLawful, Parts, helper_for, helper_named, hook};
 ghost use Rattle.handlebars_render.specs.Asking.{asked_with, tag_asked_with};
 ghost use Rattle.handlebars_render.specs.Targets.{target_in};
-ghost use Rattle.handlebars_render.specs.View.{state_with};
+ghost use Rattle.handlebars_render.specs.View.{state_of};
 
 use crate::context::RenderContext;
 use handlebars_base::error::RenderError;
@@ -20,6 +21,7 @@ use handlebars_helpers::escape::Escaping;
 use handlebars_helpers::own::{Callee, HelperResult, HelperValue};
 use handlebars_helpers::view::Helper;
 use handlebars_scope::context::Context;
+use handlebars_template::template::Template;
 use log::Level;
 
 /// What is registered under names.
@@ -77,6 +79,14 @@ pub trait Registered {
     fn escaped(&self, text: &str) -> Result<String, RenderError>
         ensures { IsOneOf ((parts self.now).own_escape text.now) string_bytes result };
 
+    /// The template under a name, if there is one.
+    fn template(&self, name: &str) -> Option<&Template>
+        ensures { option_map (λ t. tree_view t.now) result ≡ (parts self.now).template name.now };
+
+    /// How many inclusions may be rendered one within another.
+    fn limit(&self) -> u16
+        ensures { result ≡ (parts self.now).limit };
+
     /// Whether the mode is strict.
     fn strict(&self) -> bool
         ensures { result ≡ (parts self.now).strict };
@@ -108,8 +118,8 @@ pub fn helper_for<P: Registered>(
     block: bool,
     name: &str,
 ) -> Option<Target>
-    ensures { (kept : Kept) → option_map (target_in block name.now) result
-        ≡ helper_for (P.parts parts.now) (state_with kept rc.now) block name.now }
+    ensures { option_map (target_in block name.now) result
+        ≡ helper_for (P.parts parts.now) (state_of rc.now) block name.now }
 {
     match helper_named(parts, rc, name) {
         Some(target) => Some(target),
@@ -123,8 +133,8 @@ pub fn helper_for<P: Registered>(
 /// The helper of a name: a local one, else a registered one.
 #[inline(always)]
 pub fn helper_named<P: Registered>(parts: &P, rc: &RenderContext, name: &str) -> Option<Target>
-    ensures { (kept : Kept) (block : Bool) → option_map (target_in block name.now) result
-        ≡ helper_named (P.parts parts.now) (state_with kept rc.now) name.now }
+    ensures { (block : Bool) → option_map (target_in block name.now) result
+        ≡ helper_named (P.parts parts.now) (state_of rc.now) name.now }
 {
     if rc.has_local_helper(name) {
         return Some(Target::Local);

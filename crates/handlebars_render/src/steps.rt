@@ -11,11 +11,10 @@ ghost use Rattle.handlebars_helpers.specs.View.{helper_view};
 ghost use Rattle.handlebars_meaning.specs.CarryOut.{carry_out, helper_call, in_block, render_body, take_step, take_steps};
 ghost use Rattle.handlebars_meaning.specs.Means.{render_chosen};
 ghost use Rattle.handlebars_meaning.specs.Sites.{Site};
-ghost use Rattle.handlebars_meaning.specs.State.{Kept};
 ghost use Rattle.handlebars_render.specs.Boxed.{answer_of};
 ghost use Rattle.handlebars_render.specs.OwnChoice.{own_choice_of};
 ghost use Rattle.handlebars_render.specs.Targets.{ChoosesFor};
-ghost use Rattle.handlebars_render.specs.View.{setting_in, state_with, moment, CarriesOn, IsKept};
+ghost use Rattle.handlebars_render.specs.View.{setting_in, state_with, moment, CarriesOn, IsKept, KeptIn, within, held_in, IsSame};
 
 use crate::block::{render_body, render_inverse};
 use crate::boxed::BoxedError;
@@ -23,6 +22,7 @@ use crate::context::RenderContext;
 use crate::own::{OwnChoice, choose_own};
 use crate::registered::Registered;
 use crate::setting::Setting;
+use crate::sink::Sink;
 use crate::write::{write_as_is, write_chosen};
 use handlebars_base::output::Output;
 use handlebars_helpers::own::HelperStep;
@@ -38,17 +38,18 @@ pub fn render_own<'a, O: Output, P: Registered>(
     name: &str,
     view: &Helper,
     rc: &mut RenderContext,
-    out: &mut O,
+    sink: &mut Sink<'_, O>,
 ) -> Result<(), BoxedError>
-    ensures renders { (site : Site) (kept : Kept) (target : callee.Target) (block : Bool) (v : CallView)
+    ensures renders { (site : Site) (kept : KeptIn (within setting.now)) (target : callee.Target) (block : Bool) (v : CallView)
         → ChoosesFor (setting_in P.parts setting.now) (state_with kept rc.old) (own name.now) (helper_view view.now)
         target (helper_call block (call_view helper.now) v) → CarriesOn (setting_in P.parts setting.now)
         (render_chosen site target (helper_call block (call_view helper.now) v))
-        O.may_give (moment kept rc.old (O.held out.old)) (answer_of result) (moment kept rc.new (O.held out.new)) }
+        O.may_give (moment kept rc.old (held_in O.held sink.old)) (answer_of result) (moment kept rc.new (held_in O.held sink.new)) }
     ensures kept { IsKept rc.old rc.new }
+    ensures same { IsSame sink.old sink.new }
 {
     match choose_own(setting, rc, name, view) {
-        Ok(choice) => carry_out_own(helper, setting, choice, rc, out),
+        Ok(choice) => carry_out_own(helper, setting, choice, rc, sink),
         Err(e) => Err(BoxedError::new(setting.alloc, e)),
     }
 }
@@ -60,16 +61,17 @@ fn carry_out_own<'a, O: Output, P: Registered>(
     setting: &Setting<'_, 'a, P>,
     choice: OwnChoice,
     rc: &mut RenderContext,
-    out: &mut O,
+    sink: &mut Sink<'_, O>,
 ) -> Result<(), BoxedError>
-    ensures renders { (site : Site) (kept : Kept) (block : Bool) (v : CallView) → CarriesOn (setting_in P.parts setting.now)
+    ensures renders { (site : Site) (kept : KeptIn (within setting.now)) (block : Bool) (v : CallView) → CarriesOn (setting_in P.parts setting.now)
         (carry_out site (helper_call block (call_view helper.now) v) (own_choice_of choice))
-        O.may_give (moment kept rc.old (O.held out.old)) (answer_of result) (moment kept rc.new (O.held out.new)) }
+        O.may_give (moment kept rc.old (held_in O.held sink.old)) (answer_of result) (moment kept rc.new (held_in O.held sink.new)) }
     ensures kept { IsKept rc.old rc.new }
+    ensures same { IsSame sink.old sink.new }
 {
     match choice {
-        OwnChoice::Steps(steps) => take_steps(helper, setting, steps, rc, out),
-        OwnChoice::Value(value) => write_chosen(setting, Some(&value), rc, out),
+        OwnChoice::Steps(steps) => take_steps(helper, setting, steps, rc, sink),
+        OwnChoice::Value(value) => write_chosen(setting, Some(&value), rc, sink),
         OwnChoice::Nothing => Ok(()),
     }
 }
@@ -81,15 +83,16 @@ fn take_steps<'a, O: Output, P: Registered>(
     setting: &Setting<'_, 'a, P>,
     steps: Vec<HelperStep>,
     rc: &mut RenderContext,
-    out: &mut O,
+    sink: &mut Sink<'_, O>,
 ) -> Result<(), BoxedError>
-    ensures renders { (site : Site) (kept : Kept) (block : Bool) (v : CallView) → CarriesOn (setting_in P.parts setting.now)
+    ensures renders { (site : Site) (kept : KeptIn (within setting.now)) (block : Bool) (v : CallView) → CarriesOn (setting_in P.parts setting.now)
         (take_steps site (helper_call block (call_view helper.now) v) 0 (map step_of steps.items))
-        O.may_give (moment kept rc.old (O.held out.old)) (answer_of result) (moment kept rc.new (O.held out.new)) }
+        O.may_give (moment kept rc.old (held_in O.held sink.old)) (answer_of result) (moment kept rc.new (held_in O.held sink.new)) }
     ensures kept { IsKept rc.old rc.new }
+    ensures same { IsSame sink.old sink.new }
 {
     'steps: for step in steps {
-        if let Err(e) = take_step(helper, setting, step, rc, out) {
+        if let Err(e) = take_step(helper, setting, step, rc, sink) {
             return Err(e);
         }
     }
@@ -102,18 +105,19 @@ fn take_step<'a, O: Output, P: Registered>(
     setting: &Setting<'_, 'a, P>,
     step: HelperStep,
     rc: &mut RenderContext,
-    out: &mut O,
+    sink: &mut Sink<'_, O>,
 ) -> Result<(), BoxedError>
-    ensures renders { (site : Site) (kept : Kept) (i : ℕ) (block : Bool) (v : CallView) → CarriesOn (setting_in P.parts setting.now)
+    ensures renders { (site : Site) (kept : KeptIn (within setting.now)) (i : ℕ) (block : Bool) (v : CallView) → CarriesOn (setting_in P.parts setting.now)
         (take_step site (helper_call block (call_view helper.now) v) i (step_of step))
-        O.may_give (moment kept rc.old (O.held out.old)) (answer_of result) (moment kept rc.new (O.held out.new)) }
+        O.may_give (moment kept rc.old (held_in O.held sink.old)) (answer_of result) (moment kept rc.new (held_in O.held sink.new)) }
     ensures kept { IsKept rc.old rc.new }
+    ensures same { IsSame sink.old sink.new }
 {
     match step {
-        HelperStep::Write(text) => write_as_is(setting.alloc, text.as_str(), out),
-        HelperStep::Body => render_body(helper, setting, rc, out),
-        HelperStep::Inverse => render_inverse(helper, setting, rc, out),
-        HelperStep::BodyIn(block) => render_in(helper, setting, block, rc, out),
+        HelperStep::Write(text) => write_as_is(setting.alloc, text.as_str(), sink),
+        HelperStep::Body => render_body(helper, setting, rc, sink),
+        HelperStep::Inverse => render_inverse(helper, setting, rc, sink),
+        HelperStep::BodyIn(block) => render_in(helper, setting, block, rc, sink),
     }
 }
 
@@ -124,15 +128,16 @@ fn render_in<'a, O: Output, P: Registered>(
     setting: &Setting<'_, 'a, P>,
     scope: BlockContext,
     rc: &mut RenderContext,
-    out: &mut O,
+    sink: &mut Sink<'_, O>,
 ) -> Result<(), BoxedError>
-    ensures renders { (site : Site) (kept : Kept) (i : ℕ) (block : Bool) (v : CallView) → CarriesOn (setting_in P.parts setting.now)
+    ensures renders { (site : Site) (kept : KeptIn (within setting.now)) (i : ℕ) (block : Bool) (v : CallView) → CarriesOn (setting_in P.parts setting.now)
         (in_block (frame_of scope) (render_body site i (helper_call block (call_view helper.now) v)))
-        O.may_give (moment kept rc.old (O.held out.old)) (answer_of result) (moment kept rc.new (O.held out.new)) }
+        O.may_give (moment kept rc.old (held_in O.held sink.old)) (answer_of result) (moment kept rc.new (held_in O.held sink.new)) }
     ensures kept { IsKept rc.old rc.new }
+    ensures same { IsSame sink.old sink.new }
 {
     rc.push_block(scope)?;
-    let answer = render_body(helper, setting, rc, out);
+    let answer = render_body(helper, setting, rc, sink);
     rc.pop_block();
     answer
 }

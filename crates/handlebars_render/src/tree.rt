@@ -8,33 +8,47 @@ ghost use Rattle.handlebars_meaning.specs.Sites.{TreeSite};
 ghost use Rattle.handlebars_meaning.specs.Means.{render_whole};
 ghost use Rattle.handlebars_meaning.specs.Runs.{placed_at, named_as};
 ghost use Rattle.handlebars_meaning.specs.Steps.{Whole, perform, run};
-ghost use Rattle.handlebars_meaning.specs.State.{Kept};
 ghost use Rattle.handlebars_render.specs.Boxed.{answer_of, error_of};
-ghost use Rattle.handlebars_render.specs.View.{setting_in, moment, CarriesOn, CarriesOut, IsKept};
+ghost use Rattle.handlebars_render.specs.View.{setting_in, moment, CarriesOn, CarriesOut, IsKept, KeptIn, within, held_in, IsSame};
 
 use crate::boxed::BoxedError;
 use crate::context::RenderContext;
 use crate::element::render_element;
 use crate::registered::Registered;
 use crate::setting::Setting;
+use crate::sink::Sink;
 use handlebars_base::output::Output;
 use handlebars_template::template::{Template, TemplateMapping};
 use std::alloc::Global;
 
-/// Renders a tree, the first of a run, a body or an inverse; a refusal takes its name, where none is known yet.
+/// Renders a tree, the first of a run, a body, an inverse or one that is included; a refusal takes its name, where none is
+/// known yet. Where 2^64 trees are rendered one within another, memory counts as gone: so a run ends.
 #[cycle(render)]
 pub fn render_tree<'a, O: Output, P: Registered>(
     template: &'a Template,
     setting: &Setting<'_, 'a, P>,
     rc: &mut RenderContext,
-    out: &mut O,
+    sink: &mut Sink<'_, O>,
 ) -> Result<(), BoxedError>
-    ensures renders { (at : TreeSite) (kept : Kept) → CarriesOn (setting_in P.parts setting.now)
+    ensures renders { (at : TreeSite) (kept : KeptIn (within setting.now)) → CarriesOn (setting_in P.parts setting.now)
         (perform (Whole at (tree_view template.now)))
-        O.may_give (moment kept rc.old (O.held out.old)) (answer_of result) (moment kept rc.new (O.held out.new)) }
+        O.may_give (moment kept rc.old (held_in O.held sink.old)) (answer_of result) (moment kept rc.new (held_in O.held sink.new)) }
     ensures kept { IsKept rc.old rc.new }
+    ensures same { IsSame sink.old sink.new }
 {
-    match render_whole(template, setting, rc, out) {
+    let Some(room) = setting.room.checked_sub(1) else {
+        return Err(BoxedError::OutOfMemory);
+    };
+    let nearer = Setting {
+        alloc: setting.alloc,
+        parts: &*setting.parts,
+        given: setting.given,
+        room,
+        inclusions: setting.inclusions,
+        kept: setting.kept,
+        indent: setting.indent,
+    };
+    match render_whole(template, &nearer, rc, sink) {
         Ok(()) => Ok(()),
         Err(e) => Err(named(setting.alloc, e, &template.name)),
     }
@@ -46,16 +60,17 @@ fn render_whole<'a, O: Output, P: Registered>(
     template: &'a Template,
     setting: &Setting<'_, 'a, P>,
     rc: &mut RenderContext,
-    out: &mut O,
+    sink: &mut Sink<'_, O>,
 ) -> Result<(), BoxedError>
-    ensures renders { (at : TreeSite) (kept : Kept) → CarriesOut (setting_in P.parts setting.now)
+    ensures renders { (at : TreeSite) (kept : KeptIn (within setting.now)) → CarriesOut (setting_in P.parts setting.now)
         (run (render_whole at (tree_view template.now)))
-        O.may_give (moment kept rc.old (O.held out.old)) (answer_of result) (moment kept rc.new (O.held out.new)) }
+        O.may_give (moment kept rc.old (held_in O.held sink.old)) (answer_of result) (moment kept rc.new (held_in O.held sink.new)) }
     ensures kept { IsKept rc.old rc.new }
+    ensures same { IsSame sink.old sink.new }
 {
     rc.enter(&template.name)?;
     'elements: for (index, element) in template.elements.iter().enumerate() {
-        if let Err(e) = render_element(element, setting, rc, out) {
+        if let Err(e) = render_element(element, setting, rc, sink) {
             return Err(placed(e, template.mapping.get(index)));
         }
     }
@@ -63,6 +78,8 @@ fn render_whole<'a, O: Output, P: Registered>(
 }
 
 /// With the position of an element, where it has one and none is known yet.
+#[cold]
+#[inline(never)]
 pub fn placed(error: BoxedError, place: Option<&TemplateMapping>) -> BoxedError
     ensures spot { reason_in (error_of result) ≢ out_of_memory
         → spot_of (error_of result) ≡ placed_at (option_map (λ m. place_of m.now) place.entry) (spot_of (error_of error)) }
@@ -75,6 +92,8 @@ pub fn placed(error: BoxedError, place: Option<&TemplateMapping>) -> BoxedError
 }
 
 // With the name of a template, where it has one and none is known yet.
+#[cold]
+#[inline(never)]
 fn named(alloc: Global, error: BoxedError, name: &Option<String>) -> BoxedError
     ensures spot { reason_in (error_of result) ≢ out_of_memory
         → spot_of (error_of result) ≡ named_as (option_map string_bytes name.now) (spot_of (error_of error)) }

@@ -10,8 +10,7 @@ ghost use Rattle.handlebars_base.specs.Scoped.{found_of, is_constant};
 ghost use Rattle.handlebars_template.specs.Tree.{as_name, call_args, call_name, expression};
 ghost use Rattle.handlebars_template.specs.TreeView.{call_view, param_view, params_view, pairs_view, subexpression_view};
 ghost use Rattle.handlebars_meaning.specs.Values.{HasValue, HasWrittenValue, HasName, HasInnerValue, HaveValues, PairsHaveValues, HasView, is_literal};
-ghost use Rattle.handlebars_meaning.specs.State.{Kept};
-ghost use Rattle.handlebars_render.specs.View.{setting_in, called_view, pairs_seen, Yields, state_with};
+ghost use Rattle.handlebars_render.specs.View.{setting_in, called_view, pairs_seen, Yields, state_with, KeptIn, within};
 
 use crate::called::{Called, helped_value};
 use crate::context::RenderContext;
@@ -31,7 +30,7 @@ pub fn expands<'a, P: Registered>(
     rc: &RenderContext,
     parameter: &'a Parameter,
 ) -> Result<ScopedJson<'a>, RenderError>
-    ensures value { (kept : Kept) → Yields
+    ensures value { (kept : KeptIn (within setting.now)) → Yields
         (HasValue (setting_in P.parts setting.now) (state_with kept rc.now) (param_view parameter.now))
         found_of result }
     ensures constant { IfOk result (λ found. is_constant found ≡ is_literal (param_view parameter.now)) }
@@ -51,7 +50,7 @@ pub fn expand<'a, P: Registered>(
     rc: &RenderContext,
     parameter: &'a Parameter,
 ) -> Result<PathAndJson<'a>, RenderError>
-    ensures { (kept : Kept) → Yields
+    ensures { (kept : KeptIn (within setting.now)) → Yields
         (HasWrittenValue (setting_in P.parts setting.now) (state_with kept rc.now) (param_view parameter.now))
         path_and_data result }
 {
@@ -68,7 +67,7 @@ pub fn expand_as_name<'a, P: Registered>(
     rc: &RenderContext,
     parameter: &'a Parameter,
 ) -> Result<CowStr<'a>, RenderError>
-    ensures { (kept : Kept) → Yields
+    ensures { (kept : KeptIn (within setting.now)) → Yields
         (HasName (setting_in P.parts setting.now) (state_with kept rc.now) (param_view parameter.now))
         cow_str_bytes result }
 {
@@ -90,7 +89,7 @@ pub fn inner_value<'a, P: Registered>(
     rc: &RenderContext,
     inner: &'a Subexpression,
 ) -> Result<ScopedJson<'a>, RenderError>
-    ensures value { (kept : Kept) → Yields
+    ensures value { (kept : KeptIn (within setting.now)) → Yields
         (HasInnerValue (setting_in P.parts setting.now) (state_with kept rc.now) (subexpression_view inner.now))
         found_of result }
     ensures constant { IfOk result (λ found. is_constant found ≡ false) }
@@ -115,7 +114,7 @@ pub fn call_value<'a, P: Registered>(
     rc: &RenderContext,
     helper: &'a HelperTemplate,
 ) -> Result<ScopedJson<'a>, RenderError>
-    ensures value { (kept : Kept) → Yields
+    ensures value { (kept : KeptIn (within setting.now)) → Yields
         (HasInnerValue (setting_in P.parts setting.now) (state_with kept rc.now) (expression (call_view helper.now)))
         found_of result }
     ensures constant { IfOk result (λ found. is_constant found ≡ false) }
@@ -133,7 +132,7 @@ pub fn called<'a, P: Registered>(
     rc: &RenderContext,
     helper: &'a HelperTemplate,
 ) -> Result<Called<'a>, RenderError>
-    ensures { (kept : Kept) → Yields
+    ensures { (kept : KeptIn (within setting.now)) → Yields
         (HasView (setting_in P.parts setting.now) (state_with kept rc.now) (call_name (call_view helper.now))
         (call_args (call_view helper.now)))
         called_view result }
@@ -151,7 +150,7 @@ pub fn params_values<'a, P: Registered>(
     rc: &RenderContext,
     params: &'a Vec<Parameter>,
 ) -> Result<Vec<PathAndJson<'a>>, RenderError>
-    ensures { (kept : Kept) → Yields
+    ensures { (kept : KeptIn (within setting.now)) → Yields
         (HaveValues (setting_in P.parts setting.now) (state_with kept rc.now) (params_view params.now.items))
         (λ vs. map path_and_data vs.items) result }
 {
@@ -169,7 +168,7 @@ pub fn pairs_values<'a, P: Registered>(
     rc: &RenderContext,
     pairs: &'a BTreeMap<String, Parameter>,
 ) -> Result<BTreeMap<&'a str, PathAndJson<'a>>, RenderError>
-    ensures { (kept : Kept) → Yields
+    ensures { (kept : KeptIn (within setting.now)) → Yields
         (PairsHaveValues (setting_in P.parts setting.now) (state_with kept rc.now) (pairs_view pairs.now.entries))
         (λ vs. pairs_seen vs.entries) result }
 {

@@ -1,16 +1,21 @@
-//! Writing texts and values into an output, by the line's state.
+//! Writing texts and values, by the line's state and the indentation in force: into an output, or where the rendering
+//! writes.
 
-ghost use Rattle.std.specs.Prelude.{◌≡◌, ◌≢◌, IfOk, OnErr, option_map, string_bytes, unwrap_or, false, true};
+ghost use Rattle.std.specs.Prelude.{◌≡◌, ◌≢◌, IfErr, IfOk, OnErr, None, Some, option_map, string_bytes, unwrap_or, [], false, true};
 ghost use Rattle.std.specs.IoError.{error_kind};
 ghost use Rattle.serde_json.specs.Data.{null, number, unsigned};
 ghost use Rattle.serde_json.specs.View.{view};
 ghost use Rattle.handlebars_base.specs.Bytes.{Text};
+ghost use Rattle.handlebars_base.specs.Outputs.{Written};
 ghost use Rattle.handlebars_base.specs.Reasons.{out_of_memory};
 ghost use Rattle.handlebars_base.specs.RenderRefusals.{plain_refusal, reason_in, refusal_of};
 ghost use Rattle.handlebars_base.specs.Scoped as scoped;
 ghost use Rattle.handlebars_base.specs.Scoped.{Found, present_in};
 ghost use Rattle.handlebars_base.specs.Shown.{escaped_if};
 ghost use Rattle.handlebars_base.specs.Values as values;
+ghost use Rattle.handlebars_base.specs.Values.{rendered};
+ghost use Rattle.handlebars_scope.specs.Indentation.{written_in};
+ghost use Rattle.handlebars_scope.specs.LineView.{line_of};
 ghost use Rattle.handlebars_helpers.specs.Escaping.{by_own};
 ghost use Rattle.handlebars_helpers.specs.EscapeView.{escaping_of};
 ghost use Rattle.handlebars_helpers.specs.OwnView.{IsOneOf};
@@ -18,32 +23,34 @@ ghost use Rattle.handlebars_meaning.specs.Runs.{plain_fault};
 ghost use Rattle.handlebars_meaning.specs.Sites.{Site};
 ghost use Rattle.handlebars_meaning.specs.Writing as meaning;
 ghost use Rattle.handlebars_meaning.specs.Writing.{rendered_if_any};
-ghost use Rattle.handlebars_meaning.specs.State.{Kept, State};
+ghost use Rattle.handlebars_meaning.specs.State.{State};
 ghost use Rattle.handlebars_render.specs.Boxed.{answer_of, error_of};
 ghost use Rattle.handlebars_render.specs.Shows.{PutsTo, ShowsTo, entities_by};
-ghost use Rattle.handlebars_render.specs.View.{setting_in, state_of, moment, word_reason, CarriesOn, Puts, PutsStep, PutsWord, TellsFault, IsKept};
+ghost use Rattle.handlebars_render.specs.View.{setting_in, state_of, moment, first_moment, word_reason, Around, CarriesOn, Puts, PutsStep, PutsWord, TellsFault, IsKept, KeptIn, within, held_in, IsSame};
 
 use crate::boxed::BoxedError;
 use crate::context::RenderContext;
 use crate::registered::Registered;
 use crate::setting::Setting;
+use crate::sink::Sink;
 use handlebars_base::error::{RenderError, RenderErrorReason};
 use handlebars_base::json::value::{Json, JsonRender, write_value};
 use handlebars_base::output::{Output, output_fault};
 use handlebars_helpers::escape::Escaping;
+use handlebars_scope::indentation::write_in_line;
 use handlebars_scope::line::LineState;
 use serde_json::Number;
 use std::alloc::{AllocError, Global};
 use std::io;
 use std::io::ErrorKind;
 
-/// Writes a text, and takes note of the line behind it. After a fault the context is as it was.
+/// Writes a text with no indentation, and takes note of the line behind it. After a fault the context is as it was.
 pub fn indent_aware_write<O: Output>(
     text: &str,
     rc: &mut RenderContext,
     out: &mut O,
 ) -> Result<(), RenderError>
-    ensures puts { (kept : Kept) → Puts text.now O.may_give (moment kept rc.old (O.held out.old)) result (moment kept rc.new (O.held out.new)) }
+    ensures puts { Puts text.now O.may_give (first_moment rc.old (O.held out.old)) result (first_moment rc.new (O.held out.new)) }
     ensures kept { IsKept rc.old rc.new }
     ensures fault { OnErr result (rc.new ≡ rc.old) }
 {
@@ -56,21 +63,79 @@ pub fn indent_aware_write<O: Output>(
     }
 }
 
-/// The same, with a refusal in a box.
-pub(super) fn write_text<O: Output>(
-    alloc: Global,
+// ---- texts
+
+/// Writes a text, and takes note of the line behind it. Its callers recurse, and have no room for
+/// what it needs.
+#[inline(never)]
+pub(super) fn write_text<O: Output, P>(
+    setting: &Setting<P>,
     text: &str,
     rc: &mut RenderContext,
-    out: &mut O,
+    sink: &mut Sink<'_, O>,
 ) -> Result<(), BoxedError>
-    ensures puts { (kept : Kept) → Puts text.now O.may_give (moment kept rc.old (O.held out.old)) (answer_of result) (moment kept rc.new (O.held out.new)) }
+    ensures puts { (kept : KeptIn (within setting.now)) → Puts text.now O.may_give
+        (moment kept rc.old (held_in O.held sink.old)) (answer_of result) (moment kept rc.new (held_in O.held sink.new)) }
+    ensures same { IsSame sink.old sink.new }
     ensures kept { IsKept rc.old rc.new }
 {
-    if let Err(fault) = out.write(text) {
-        return Err(write_fault(alloc, fault));
+    match write_line(setting, text, rc, sink) {
+        Ok(line) => {
+            rc.set_line(line);
+            Ok(())
+        }
+        Err(e) => Err(e),
     }
-    rc.pass_text(text);
-    Ok(())
+}
+
+// Writes a text, and answers the line behind it.
+fn write_line<O: Output, P>(
+    setting: &Setting<P>,
+    text: &str,
+    rc: &RenderContext,
+    sink: &mut Sink<'_, O>,
+) -> Result<LineState, BoxedError>
+    ensures puts { (kept : KeptIn (within setting.now)) → PutsTo text.now O.may_give
+        (moment kept rc.now (held_in O.held sink.old)) (answer_of result) (held_in O.held sink.new) }
+    ensures same { IsSame sink.old sink.new }
+{
+    match sink {
+        Sink::Out(out) => write_line_to(setting, text, rc, &mut **out),
+        Sink::Ahead(ahead) => write_line_to(setting, text, rc, &mut **ahead),
+    }
+}
+
+fn write_line_to<O: Output, P>(
+    setting: &Setting<P>,
+    text: &str,
+    rc: &RenderContext,
+    out: &mut O,
+) -> Result<LineState, BoxedError>
+    ensures puts { (kept : KeptIn (within setting.now)) → PutsTo text.now O.may_give (moment kept rc.now (O.held out.old))
+        (answer_of result) (O.held out.new) }
+{
+    match write_under(setting.indent, rc.line(), text, false, out) {
+        Ok(()) => Ok(rc.line().behind(text)),
+        Err(fault) => Err(write_fault(setting.alloc, fault)),
+    }
+}
+
+// Writes a text in a line under an indentation, if there is one, escaped or not.
+fn write_under<O: Output>(
+    indent: Option<&str>,
+    line: LineState,
+    text: &str,
+    escapes: bool,
+    out: &mut O,
+) -> Result<(), io::Error>
+    ensures written { Written (written_in (unwrap_or (option_map (λ t. t.now) indent.entry) []) (line_of line)
+        (escaped_if escapes text.now)) (O.held out.old) result (O.held out.new) }
+    ensures given { IfErr result O.may_give }
+{
+    match indent {
+        Some(indent) => write_in_line(line, text, indent, escapes, out),
+        None => write_in_line(line, text, "", escapes, out),
+    }
 }
 
 // The refusal for a write that failed.
@@ -82,6 +147,8 @@ fn write_fault(alloc: Global, fault: io::Error) -> BoxedError
     BoxedError::new(alloc, output_fault(fault))
 }
 
+// ---- values
+
 /// Writes a value, rendered, and escaped as the registry has it where escaping is on, and answers the line behind
 /// it. The value may be one of a block, so the context is left to the caller.
 #[inline(always)]
@@ -89,16 +156,17 @@ pub(super) fn write_found<O: Output, P: Registered>(
     setting: &Setting<P>,
     value: Option<&Json>,
     rc: &RenderContext,
-    out: &mut O,
+    sink: &mut Sink<'_, O>,
 ) -> Result<LineState, BoxedError>
-    ensures shows { (site : Site) (kept : Kept) (found : Found)
+    ensures shows { (site : Site) (kept : KeptIn (within setting.now)) (found : Found)
         → rendered_if_any (present_in found) ≡ rendered_if_any (option_map (λ v. view v.now) value.entry)
-        → ShowsTo (setting_in P.parts setting.now) site found O.may_give (moment kept rc.now (O.held out.old))
-        (answer_of result) (O.held out.new) }
+        → ShowsTo (setting_in P.parts setting.now) site found O.may_give (moment kept rc.now (held_in O.held sink.old))
+        (answer_of result) (held_in O.held sink.new) }
+    ensures same { IsSame sink.old sink.new }
 {
     match entities_by(setting.parts.escape(), rc.escapes()) {
-        Some(entities) => write_by(setting.alloc, entities, value, rc, out),
-        None => write_escaped(setting, value, rc, out),
+        Some(entities) => write_by(setting, entities, value, rc, sink),
+        None => write_escaped(setting, value, rc, sink),
     }
 }
 
@@ -114,23 +182,98 @@ fn entities_by(escaping: Escaping, escapes: bool) -> Option<bool>
     }
 }
 
-// Writes a value piece by piece, with entities or without; nothing where there is none.
+// Writes a value, with entities or without; nothing where there is none.
 #[inline(always)]
-fn write_by<O: Output>(
-    alloc: Global,
+fn write_by<O: Output, P>(
+    setting: &Setting<P>,
     entities: bool,
     value: Option<&Json>,
     rc: &RenderContext,
+    sink: &mut Sink<'_, O>,
+) -> Result<LineState, BoxedError>
+    ensures puts { (kept : KeptIn (within setting.now))
+        → PutsTo (escaped_if entities (rendered_if_any (option_map (λ v. view v.now) value.entry)))
+        O.may_give (moment kept rc.now (held_in O.held sink.old)) (answer_of result) (held_in O.held sink.new) }
+    ensures same { IsSame sink.old sink.new }
+{
+    match value {
+        Some(value) => match sink {
+            Sink::Out(out) => write_value_to(setting, entities, value, rc, &mut **out),
+            Sink::Ahead(ahead) => write_value_to(setting, entities, value, rc, &mut **ahead),
+        },
+        None => Ok(rc.line()),
+    }
+}
+
+fn write_value_to<O: Output, P>(
+    setting: &Setting<P>,
+    entities: bool,
+    value: &Json,
+    rc: &RenderContext,
     out: &mut O,
 ) -> Result<LineState, BoxedError>
-    ensures puts { (kept : Kept) → PutsTo (escaped_if entities (rendered_if_any (option_map (λ v. view v.now) value.entry)))
+    ensures puts { (kept : KeptIn (within setting.now)) → PutsTo (escaped_if entities (rendered (view value.now)))
         O.may_give (moment kept rc.now (O.held out.old)) (answer_of result) (O.held out.new) }
 {
-    let Some(value) = value else {
-        return Ok(rc.line());
-    };
+    match setting.indent {
+        Some(indent) => write_value_under(setting.alloc, entities, value, indent, rc, out),
+        None => write_value_plainly(setting.alloc, entities, value, rc, out),
+    }
+}
+
+// Without an indentation, piece by piece.
+fn write_value_plainly<O: Output>(
+    alloc: Global,
+    entities: bool,
+    value: &Json,
+    rc: &RenderContext,
+    out: &mut O,
+) -> Result<LineState, BoxedError>
+    ensures puts { (a : Around) (kept : KeptIn a) → a.indent ≡ None → PutsTo (escaped_if entities (rendered (view value.now)))
+        O.may_give (moment kept rc.now (O.held out.old)) (answer_of result) (O.held out.new) }
+{
     match write_value(out, value, entities) {
         Ok(()) => Ok(rc.line().behind_value(value)),
+        Err(cause) => Err(write_fault(alloc, cause)),
+    }
+}
+
+// Under an indentation a text is written line by line. Another value is rendered first.
+fn write_value_under<O: Output>(
+    alloc: Global,
+    entities: bool,
+    value: &Json,
+    indent: &str,
+    rc: &RenderContext,
+    out: &mut O,
+) -> Result<LineState, BoxedError>
+    ensures puts { (a : Around) (kept : KeptIn a) → a.indent ≡ Some indent.now
+        → PutsTo (escaped_if entities (rendered (view value.now)))
+        O.may_give (moment kept rc.now (O.held out.old)) (answer_of result) (O.held out.new) }
+{
+    match value {
+        Json::String(text) => write_text_under(alloc, entities, text.as_str(), indent, rc, out),
+        _ => {
+            let text = value.render(alloc)?;
+            write_text_under(alloc, entities, text.as_str(), indent, rc, out)
+        }
+    }
+}
+
+fn write_text_under<O: Output>(
+    alloc: Global,
+    entities: bool,
+    text: &str,
+    indent: &str,
+    rc: &RenderContext,
+    out: &mut O,
+) -> Result<LineState, BoxedError>
+    ensures puts { (a : Around) (kept : KeptIn a) → a.indent ≡ Some indent.now → PutsTo (escaped_if entities text.now)
+        O.may_give (moment kept rc.now (O.held out.old)) (answer_of result) (O.held out.new) }
+{
+    match write_in_line(rc.line(), text, indent, entities, out) {
+        // No entity ends a line.
+        Ok(()) => Ok(rc.line().behind(text)),
         Err(cause) => Err(write_fault(alloc, cause)),
     }
 }
@@ -141,16 +284,17 @@ fn write_escaped<O: Output, P: Registered>(
     setting: &Setting<P>,
     value: Option<&Json>,
     rc: &RenderContext,
-    out: &mut O,
+    sink: &mut Sink<'_, O>,
 ) -> Result<LineState, BoxedError>
-    ensures shows { (site : Site) (kept : Kept) (found : Found)
+    ensures shows { (site : Site) (kept : KeptIn (within setting.now)) (found : Found)
         → rendered_if_any (present_in found) ≡ rendered_if_any (option_map (λ v. view v.now) value.entry)
         → by_own ≡ (P.parts setting.now.parts.now).escape → (state_of rc.now).escapes ≡ true
-        → ShowsTo (setting_in P.parts setting.now) site found O.may_give (moment kept rc.now (O.held out.old))
-        (answer_of result) (O.held out.new) }
+        → ShowsTo (setting_in P.parts setting.now) site found O.may_give (moment kept rc.now (held_in O.held sink.old))
+        (answer_of result) (held_in O.held sink.new) }
+    ensures same { IsSame sink.old sink.new }
 {
     match escaped(setting, value) {
-        Ok(text) => write_line(setting.alloc, text.as_str(), rc, out),
+        Ok(text) => write_line(setting, text.as_str(), rc, sink),
         Err(e) => Err(BoxedError::new(setting.alloc, e)),
     }
 }
@@ -175,35 +319,21 @@ fn whole(alloc: Global, value: Option<&Json>) -> Result<String, AllocError>
     }
 }
 
-// Writes a text, and answers the line behind it.
-fn write_line<O: Output>(
-    alloc: Global,
-    text: &str,
-    rc: &RenderContext,
-    out: &mut O,
-) -> Result<LineState, BoxedError>
-    ensures puts { (kept : Kept) → PutsTo text.now O.may_give (moment kept rc.now (O.held out.old)) (answer_of result)
-        (O.held out.new) }
-{
-    match out.write(text) {
-        Ok(()) => Ok(rc.line().behind(text)),
-        Err(fault) => Err(write_fault(alloc, fault)),
-    }
-}
-
 /// Writes a value that a helper chose, as one that has no path; a missing one counts as null.
 pub(super) fn write_chosen<O: Output, P: Registered>(
     setting: &Setting<P>,
     value: Option<&Json>,
     rc: &mut RenderContext,
-    out: &mut O,
+    sink: &mut Sink<'_, O>,
 ) -> Result<(), BoxedError>
-    ensures shows { (site : Site) (kept : Kept) → CarriesOn (setting_in P.parts setting.now)
+    ensures shows { (site : Site) (kept : KeptIn (within setting.now)) → CarriesOn (setting_in P.parts setting.now)
         (meaning.write_value site (scoped.value (unwrap_or (option_map (λ v. view v.now) value.entry) null)))
-        O.may_give (moment kept rc.old (O.held out.old)) (answer_of result) (moment kept rc.new (O.held out.new)) }
+        O.may_give (moment kept rc.old (held_in O.held sink.old)) (answer_of result)
+        (moment kept rc.new (held_in O.held sink.new)) }
+    ensures same { IsSame sink.old sink.new }
     ensures kept { IsKept rc.old rc.new }
 {
-    match write_found(setting, value, rc, out) {
+    match write_found(setting, value, rc, sink) {
         Ok(line) => {
             rc.set_line(line);
             Ok(())
@@ -217,23 +347,38 @@ pub(super) fn write_count<O: Output, P: Registered>(
     setting: &Setting<P>,
     count: usize,
     rc: &mut RenderContext,
-    out: &mut O,
+    sink: &mut Sink<'_, O>,
 ) -> Result<(), BoxedError>
-    ensures shows { (site : Site) (kept : Kept) → CarriesOn (setting_in P.parts setting.now)
+    ensures shows { (site : Site) (kept : KeptIn (within setting.now)) → CarriesOn (setting_in P.parts setting.now)
         (meaning.write_value site (scoped.value (number (unsigned count))))
-        O.may_give (moment kept rc.old (O.held out.old)) (answer_of result) (moment kept rc.new (O.held out.new)) }
+        O.may_give (moment kept rc.old (held_in O.held sink.old)) (answer_of result)
+        (moment kept rc.new (held_in O.held sink.new)) }
+    ensures same { IsSame sink.old sink.new }
     ensures kept { IsKept rc.old rc.new }
 {
     let value = Json::Number(Number::from(count));
-    write_chosen(setting, Some(&value), rc, out)
+    write_chosen(setting, Some(&value), rc, sink)
 }
 
-/// Writes the text of a step, as it is, whatever the line and the escaping.
+// ---- texts that the line takes no note of
+
+/// Writes a text as it is, whatever the line and the escaping: of a step, or one that is kept.
 pub(super) fn write_as_is<O: Output>(
     alloc: Global,
     text: &str,
-    out: &mut O,
+    sink: &mut Sink<'_, O>,
 ) -> Result<(), BoxedError>
+    ensures puts { (s : State) → PutsStep text.now O.may_give (record { state = s; held = held_in O.held sink.old })
+        (answer_of result) (record { state = s; held = held_in O.held sink.new }) }
+    ensures same { IsSame sink.old sink.new }
+{
+    match sink {
+        Sink::Out(out) => write_as_is_to(alloc, text, &mut **out),
+        Sink::Ahead(ahead) => write_as_is_to(alloc, text, &mut **ahead),
+    }
+}
+
+fn write_as_is_to<O: Output>(alloc: Global, text: &str, out: &mut O) -> Result<(), BoxedError>
     ensures { (s : State) → PutsStep text.now O.may_give (record { state = s; held = O.held out.old })
         (answer_of result) (record { state = s; held = O.held out.new }) }
 {
@@ -243,12 +388,25 @@ pub(super) fn write_as_is<O: Output>(
     }
 }
 
-/// Writes the word of a boolean helper, as it is, whatever the line.
+/// Writes the word of a boolean helper, as it is, whatever the line. Its callers recurse, and have no room for
+/// what it needs.
+#[inline(never)]
 pub(super) fn write_word<O: Output>(
     alloc: Global,
     word: bool,
-    out: &mut O,
+    sink: &mut Sink<'_, O>,
 ) -> Result<(), BoxedError>
+    ensures puts { (s : State) → PutsWord word O.may_give (record { state = s; held = held_in O.held sink.old })
+        (answer_of result) (record { state = s; held = held_in O.held sink.new }) }
+    ensures same { IsSame sink.old sink.new }
+{
+    match sink {
+        Sink::Out(out) => write_word_to(alloc, word, &mut **out),
+        Sink::Ahead(ahead) => write_word_to(alloc, word, &mut **ahead),
+    }
+}
+
+fn write_word_to<O: Output>(alloc: Global, word: bool, out: &mut O) -> Result<(), BoxedError>
     ensures { (s : State) → PutsWord word O.may_give (record { state = s; held = O.held out.old })
         (answer_of result) (record { state = s; held = O.held out.new }) }
 {

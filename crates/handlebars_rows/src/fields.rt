@@ -216,6 +216,23 @@ pub fn set_number(
     Ok(())
 }
 
+/// Sets the field to a limit, a number from 0 to 65535.
+pub fn set_limit(
+    field: &mut Option<u16>,
+    name: String,
+    value: &JsonValue,
+) -> Result<(), RowFailure> {
+    let Some(limit) = value.as_u64().and_then(limit) else {
+        return Err(RowFailure::Field(name, "is no number from 0 to 65535"));
+    };
+    *field = Some(limit);
+    Ok(())
+}
+
+fn limit(number: u64) -> Option<u16> {
+    u16::try_from(number).ok()
+}
+
 /// Sets the field to a boolean.
 pub fn set_boolean(field: &mut bool, name: String, value: &JsonValue) -> Result<(), RowFailure> {
     let Some(boolean) = value.as_bool() else {

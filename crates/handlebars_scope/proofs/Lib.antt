@@ -3,3 +3,5 @@ mod Indexes
 pub mod Lines
 mod Ways
 mod Fronts
+pub mod Indents
+mod Merging

@@ -9,3 +9,6 @@ pub mod ScopeView
 pub mod Seeking
 pub mod WayView
 pub mod Lending
+pub mod Indentation
+pub mod Merged
+pub mod MergedView

@@ -4,6 +4,8 @@
 
 pub mod block;
 pub mod context;
+pub mod indentation;
 pub mod laws;
 pub mod line;
 pub mod local_vars;
+pub mod merge;

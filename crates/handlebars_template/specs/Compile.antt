@@ -59,6 +59,7 @@ abbrev pub indentation : Options → Edge → Option Text
 indentation options e =
     if options.prevent_indent || (e.left || (length e.blanks == 0)) then None else Some e.blanks
 
+-- an inclusion without a block
 abbrev pub partial_of : Options → Edge → Line → Decorator
 partial_of options e line =
     decorator (param_of line.name) (arguments_in no_arguments line.terms) no_body

@@ -5,7 +5,7 @@ ghost use Rattle.handlebars_rows.specs.Outcomes.{outcome_view, handed_of, handed
 
 use handlebars::{
     Context, EscapeKind, HelperEntry, JsonValue, NoFiles, Registry, RenderContext, RenderError,
-    RenderErrorReason, Renderable, Template,
+    RenderErrorReason, Renderable, Template, TemplateOptions,
 };
 use handlebars_rows::bounded::Bounded;
 use handlebars_rows::helpers::helper_named;
@@ -146,6 +146,10 @@ fn registry_of(alloc: Global, row: &Rendering) -> Result<Registry, RenderError> 
     }
     registry.set_strict_mode(row.strict);
     registry.set_recursive_lookup(row.recursive);
+    registry.set_prevent_indent(row.prevent_indent);
+    if let Some(limit) = row.limit {
+        registry.set_inclusion_limit(limit);
+    }
     if let Some(templates) = &row.templates {
         for (name, source) in templates.iter() {
             registry.register_template_string(name.as_str(), source.as_str().unwrap_or(""))?;
@@ -212,7 +216,11 @@ fn write_source(
     out: &mut Bounded,
     log: &Memory,
 ) -> Result<(), RenderError> {
-    let template = Template::compile(alloc, source.as_str())?;
+    let options = TemplateOptions {
+        name: None,
+        prevent_indent: registry.prevent_indent(),
+    };
+    let template = Template::compile2(alloc, source.as_str(), options)?;
     write_tree(alloc, registry, &template, data, out, log)
 }
 

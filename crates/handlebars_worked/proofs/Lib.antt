@@ -9,4 +9,6 @@ mod HelperRows
 mod OwnRows
 mod DecoratorRows
 mod DeedRows
+mod InclusionRows
+mod KeptRows
 mod InclusionSources

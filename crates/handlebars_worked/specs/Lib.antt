@@ -5,4 +5,6 @@ pub mod HelperRows
 pub mod OwnRows
 pub mod DecoratorRows
 pub mod DeedRows
+pub mod InclusionRows
+pub mod KeptRows
 pub mod InclusionSources

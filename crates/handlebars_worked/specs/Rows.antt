@@ -42,6 +42,8 @@ first_parts = record {
   own_escape = no_own_escape;
   strict = false;
   recursive = false;
+  template = nothing_at;
+  limit = 64;
 }
 
 -- a run over data, with what every registry begins with

@@ -6,10 +6,9 @@ ghost use Rattle.handlebars_base.specs.RenderRefusals.{refusal_of, plain_refusal
 ghost use Rattle.handlebars_template.specs.Tree.{tree_name};
 ghost use Rattle.handlebars_template.specs.TreeView.{tree_view, element_view};
 ghost use Rattle.handlebars_meaning.specs.Evaluation.{eval_alone, eval_tree, renamed};
-ghost use Rattle.handlebars_meaning.specs.State.{Kept};
 ghost use Rattle.handlebars_meaning.specs.Steps.{Steps};
 ghost use Rattle.handlebars_render.specs.Silent.{Evals};
-ghost use Rattle.handlebars_render.specs.View.{state_of, state_with, root_of, has_failed, without_partials};
+ghost use Rattle.handlebars_render.specs.View.{state_of, root_of, has_failed, without_partials};
 ghost use Rattle.handlebars.specs.View.{setting_of};
 
 use crate::registry::RegistryOf;
@@ -42,8 +41,8 @@ pub trait Evaluable {
         rc: &mut RenderContext,
         log: &L,
     ) -> Result<(), RenderError>
-        ensures evals { (kept : Kept) → has_failed rc.old ≡ false → Evals (setting_of E.registered E.own registry.now «data».now) (steps self.now)
-            (seen self.now) (state_with kept rc.old) result (state_with kept rc.new) }
+        ensures evals { has_failed rc.old ≡ false → Evals (setting_of E.registered E.own registry.now «data».now) (steps self.now)
+            (seen self.now) (state_of rc.old) result (state_of rc.new) }
         ensures failed { has_failed rc.old ≡ true
             → IsErrAnd result (λ e. refusal_of e ≡ plain_refusal failed) × (rc.new ≡ rc.old) }
         ensures root { root_of rc.new ≡ root_of rc.old }
@@ -73,6 +72,10 @@ impl Evaluable for Template {
             alloc,
             parts,
             given: data,
+            room: u64::MAX,
+            inclusions: 0,
+            kept: None,
+            indent: None,
         };
         match eval_tree(self, &setting, rc) {
             Ok(()) => Ok(()),
@@ -101,6 +104,10 @@ impl Evaluable for TemplateElement {
             alloc,
             parts,
             given: data,
+            room: u64::MAX,
+            inclusions: 0,
+            kept: None,
+            indent: None,
         };
         match eval_element(self, &setting, rc) {
             Ok(()) => Ok(()),

@@ -8,8 +8,7 @@ ghost use Rattle.handlebars_base.specs.RenderRefusals.{refusal_of, plain_refusal
 ghost use Rattle.handlebars_template.specs.Tree.{Param};
 ghost use Rattle.handlebars_template.specs.TreeView.{param_view};
 ghost use Rattle.handlebars_meaning.specs.Values.{HasName, HasWrittenValue};
-ghost use Rattle.handlebars_meaning.specs.State.{Kept};
-ghost use Rattle.handlebars_render.specs.View.{state_of, state_with, root_of, has_failed, Yields};
+ghost use Rattle.handlebars_render.specs.View.{state_of, root_of, has_failed, Yields};
 ghost use Rattle.handlebars.specs.View.{setting_of};
 
 use crate::registry::RegistryOf;
@@ -43,8 +42,8 @@ pub trait Expand {
         rc: &mut RenderContext,
         log: &L,
     ) -> Result<PathAndJson<'rc>, RenderError>
-        ensures expands { (kept : Kept) → has_failed rc.old ≡ false → Yields
-            (HasWrittenValue (setting_of E.registered E.own registry.now «data».now) (state_with kept rc.old) (param self.now))
+        ensures expands { has_failed rc.old ≡ false → Yields
+            (HasWrittenValue (setting_of E.registered E.own registry.now «data».now) (state_of rc.old) (param self.now))
             path_and_data result }
         ensures failed { has_failed rc.old ≡ true
             → IsErrAnd result (λ e. refusal_of e ≡ plain_refusal failed) × (rc.new ≡ rc.old) }
@@ -62,8 +61,8 @@ pub trait Expand {
         rc: &mut RenderContext,
         log: &L,
     ) -> Result<CowStr<'rc>, RenderError>
-        ensures expands { (kept : Kept) → has_failed rc.old ≡ false → Yields
-            (HasName (setting_of E.registered E.own registry.now «data».now) (state_with kept rc.old) (param self.now))
+        ensures expands { has_failed rc.old ≡ false → Yields
+            (HasName (setting_of E.registered E.own registry.now «data».now) (state_of rc.old) (param self.now))
             cow_str_bytes result }
         ensures failed { has_failed rc.old ≡ true
             → IsErrAnd result (λ e. refusal_of e ≡ plain_refusal failed) × (rc.new ≡ rc.old) }
@@ -91,6 +90,10 @@ impl Expand for Parameter {
                 alloc,
                 parts,
                 given: data,
+                room: u64::MAX,
+                inclusions: 0,
+                kept: None,
+                indent: None,
             },
             rc,
             self,
@@ -113,6 +116,10 @@ impl Expand for Parameter {
                 alloc,
                 parts,
                 given: data,
+                room: u64::MAX,
+                inclusions: 0,
+                kept: None,
+                indent: None,
             },
             rc,
             self,

@@ -12,6 +12,7 @@ use handlebars_helpers::own::{Callee, HelperResult, HelperValue};
 use handlebars_helpers::view::Helper;
 use handlebars_render::registered::Registered;
 use handlebars_scope::context::Context;
+use handlebars_template::template::Template;
 use log::{Level, Log, log};
 
 /// A registry, and the logger of a run.
@@ -77,6 +78,14 @@ impl<E: OwnParts, L: Log> Registered for Logging<'_, E, L> {
 
     fn escaped(&self, text: &str) -> Result<String, RenderError> {
         self.registry.entries.escaped(text)
+    }
+
+    fn template(&self, name: &str) -> Option<&Template> {
+        self.registry.get_template(name)
+    }
+
+    fn limit(&self) -> u16 {
+        self.registry.inclusion_limit()
     }
 
     fn strict(&self) -> bool {

@@ -12,12 +12,13 @@ use handlebars_template::template::Template;
 use std::borrow::CowStr;
 use std::collections::BTreeMap;
 
-/// The tag of a decorator, as the decorator sees it: the values of its parameters and pairs, and its body.
+/// A tag, as the decorator of its name sees it: the values of its parameters and pairs, its body and its indentation.
 pub struct Decorator<'rc> {
     name: CowStr<'rc>,
     params: Vec<PathAndJson<'rc>>,
     hash: BTreeMap<&'rc str, PathAndJson<'rc>>,
     template: Option<&'rc Template>,
+    indent: Option<CowStr<'rc>>,
 }
 
 // By hand, so that whoever lets one go makes one call.
@@ -28,6 +29,7 @@ impl Drop for Decorator<'_> {
             params: _,
             hash: _,
             template: _,
+            indent: _,
         } = self;
     }
 }
@@ -39,6 +41,7 @@ impl<'rc> Decorator<'rc> {
         params: Vec<PathAndJson<'rc>>,
         hash: BTreeMap<&'rc str, PathAndJson<'rc>>,
         template: Option<&'rc Template>,
+        indent: Option<CowStr<'rc>>,
     ) -> Decorator<'rc>
         ensures { tag_view result ≡ record {
           call = record {
@@ -47,6 +50,7 @@ impl<'rc> Decorator<'rc> {
             pairs = map (λ e. (e.0.now, path_and_data e.1)) hash.entry.entries;
           };
           body = body_of (option_map (λ t. tree_view t.now) template.entry);
+          indent = option_map cow_str_bytes indent.entry;
         } }
     {
         Decorator {
@@ -54,6 +58,7 @@ impl<'rc> Decorator<'rc> {
             params,
             hash,
             template,
+            indent,
         }
     }
 
@@ -97,5 +102,15 @@ impl<'rc> Decorator<'rc> {
         ensures { body_of (option_map (λ t. tree_view t.now) result) ≡ (tag_view self.now).body }
     {
         self.template
+    }
+
+    /// The indentation in force where the tag stands, followed by the tag's own, if there is any.
+    pub fn indent(&self) -> Option<&str>
+        ensures { option_map (λ t. t.now) result ≡ (tag_view self.now).indent }
+    {
+        match &self.indent {
+            Some(indent) => Some(indent.as_str()),
+            None => None,
+        }
     }
 }

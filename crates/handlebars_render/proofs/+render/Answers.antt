@@ -1,4 +1,4 @@
-use Rattle.std.proofs.Common.{◌∙◌, ◌+◌, true≢false, refl, sym, ap, map, Option, List, length, arith, string_bytes}
+use Rattle.std.proofs.Common.{rules, None, Some, ◌∷◌, ◌∙◌, ◌+◌, true≢false, refl, sym, ap, map, option_map, Option, List, length, arith, string_bytes}
 use Rattle.std.specs.Prelude.{slice_get}
 use Rattle.handlebars_base.specs.RenderRefusals.{spot_of}
 use Rattle.handlebars_template.specs.Place.{Place}
@@ -20,37 +20,56 @@ use Rattle.handlebars_meaning.specs.CarryOut.{helper_call}
 use Rattle.handlebars_meaning.specs.Means.{render_chosen, render_decorator}
 use Rattle.handlebars_meaning.specs.Runs.{named_as, placed_at}
 use Rattle.handlebars_render.specs.Boxed.{answer_of, error_of}
+use Rattle.handlebars_render.specs.declared.boxed.BoxedError.TheVariants.{OutOfMemory}
 use Rattle.handlebars_render.specs.Targets.{target_in}
 use Rattle.handlebars_render.specs.Bound.{bound_of}
-use Rattle.handlebars_render.specs.View.{called_view, keeping, setting_in, state_of, state_with}
+use Rattle.handlebars_base.specs.Bytes.{Text}
+use Rattle.handlebars_render.specs.View.{called, called_view, keeping, setting_in, state_of, state_with, within}
 use Rattle.handlebars_render.proofs.Branches.{carries-branch}
 use Rattle.handlebars_render.proofs.Calls.{branch_none, choice_err, choice_ok, chosen_ok, entered_as}
 use Rattle.handlebars_render.proofs.LocalCalls.{chooses-local, chooses-same, refuses-local}
 use Rattle.handlebars_render.proofs.Leaves.{carries_on-leaves}
-use Rattle.handlebars_render.proofs.Carry.{carries-done, carries-no_value, carries-out_of_memory, carries-puts, carries-run, carries-unescaped, carries_on-bracket, carries_on-done, carries_on-handed, carries_on-task, carries_on-task_over, carries_on-step, carries_on-word, restored, carries_on-in_block, carries_on-out_of_memory}
-use Rattle.handlebars_meaning.specs.State.{entered, hook}
+use Rattle.handlebars_render.proofs.Carry.{carries-done, carries-out_of_memory, carries-puts, carries-run, carries-unescaped, carries_on-bracket, carries_on-done, carries_on-handed, carries_on-task, carries_on-task_over, carries_on-step, carries_on-word, restored, carries_on-in_block, carries_on-no_memory, carries_on-no_value, carries_on-out_of_memory}
+use Rattle.handlebars_meaning.specs.State.{entered, hook, left, nearest_variables}
 use Rattle.handlebars_render.proofs.Elements.{left_starts, left_goes, left_over, left_ends, whole_with}
 use Rattle.handlebars_render.proofs.Kept.{kept-refl, kept-trans, outer-kept, outer-trans}
 use Rattle.handlebars_render.proofs.Lists.{get_or-seen, below-seen, over-seen, place_there, looked_up, placed_marks}
 use Rattle.handlebars_render.proofs.Silent.{carries-does}
+use Rattle.handlebars_render.proofs.Sinks.{same-refl, same-trans}
 use Rattle.handlebars_render.proofs.OwnSteps.{nothing_left, steps-end, steps-go, steps-over}
 use Rattle.handlebars_render.proofs.Turns.{below-kept, binding-seen, carries_on-turn, carries_on-with, entered-with, turns-end, turns-go, turns-no_memory, turns-over}
+use Rattle.handlebars_helpers.specs.DecoratorsView.{tag_view}
+use Rattle.handlebars_template.specs.Tree.{decorator_args, decorator_marks, decorator_name}
+use Rattle.handlebars_template.specs.TreeView.{tree_view}
+use Rattle.handlebars_meaning.specs.Inclusion.{inclusion_block, newest, pair_values}
+use Rattle.handlebars_meaning.specs.Including.{render_ahead}
+use Rattle.handlebars_meaning.specs.Means.{include_tag, line_at, on_line}
+use Rattle.handlebars_meaning.specs.Questions.{view_of}
+use Rattle.handlebars_meaning.specs.Sites.{included_at}
+use Rattle.handlebars_meaning.specs.Steps.{Whole, ask, perform, return}
+use Rattle.handlebars_render.proofs.Asked.{refuses-ask}
+use Rattle.handlebars_render.proofs.Includes.{begins-empty, begun-so, found-none, found-some, kept-more, own-none, own-some, placed, carries_ahead-over, carries_ahead-text, includes-kept, includes-local, includes-own, includes-registered, includes-self, inclusion-ahead, inclusion-ahead_over, inclusion-no_room, inclusion-no_value, inclusion-plain, kept-none, kept-own, kept-text, tag-includes, under-same}
+use Rattle.handlebars_render.proofs.+render.Goals.{partial::include_found-in-Some+in-Ok-render_ahead, partial::include_found-in-Some+in-Err-render_ahead, partial::include_found-in-None}
 use Rattle.handlebars_render.proofs.+render.Goals as goal
 
 -- ---- calls
 
 pub block::render_tag-returns-in-Ok-Done-clause-renders : goal.block::render_tag-returns-in-Ok-Done-clause-renders
 block::render_tag-returns-in-Ok-Done-clause-renders g t c = λ site kept.
-    rw (ap (keeping kept) c.set_line.ensures.state) (rw c.in-Ok-Done.field-0-is at (c.in-Ok-Done.ensures site kept))
+    rw (ap (keeping kept) c.set_line.ensures.state) (rw c.in-Ok-Done.field-0-is at (c.in-Ok-Done.ensures.comes site kept))
 
 pub block::render_tag-returns-in-Ok-Call-clause-renders : goal.block::render_tag-returns-in-Ok-Call-clause-renders
 block::render_tag-returns-in-Ok-Call-clause-renders g t c = λ site kept.
-    let left = rw c.in-Ok-Call.field-0-is at (c.in-Ok-Call.ensures site kept) in
-    carries_on-leaves _ _ _ _ left.0 left.1 (rw c.into_inner.ensures at (c.render_next.ensures.renders site kept))
+    let left = rw c.in-Ok-Call.field-0-is at (c.in-Ok-Call.ensures.comes site kept) in
+    carries_on-leaves _ _ _ _ left.0 left.1 (c.render_boxed.ensures.renders site kept)
+
+pub block::render_boxed-returns-clause-renders : goal.block::render_boxed-returns-clause-renders
+block::render_boxed-returns-clause-renders g t c = λ site kept.
+    rw c.into_inner.ensures at (c.render_next.ensures.renders site kept)
 
 pub block::render_tag-returns-in-Ok-Branch-clause-renders : goal.block::render_tag-returns-in-Ok-Branch-clause-renders
 block::render_tag-returns-in-Ok-Branch-clause-renders g t c = λ site kept.
-    let left = rw c.in-Ok-Branch.field-0-is at (c.in-Ok-Branch.ensures site kept) in
+    let left = rw c.in-Ok-Branch.field-0-is at (c.in-Ok-Branch.ensures.comes site kept) in
     carries_on-leaves _ _ _ _ left.0.leaves left.1
     (c.render_branch.ensures.renders site kept c.args.block left.0.kind left.0.view left.0.chooses)
 
@@ -68,7 +87,7 @@ block::render_branch-returns-clause-renders g t c = λ site kept block k v choos
     (c.render_word-answer.ensures.renders site kept v)))
 
 pub block::render_tag-returns-in-Err-clause-renders : goal.block::render_tag-returns-in-Err-clause-renders
-block::render_tag-returns-in-Err-clause-renders g t c = λ site kept. c.in-Err.ensures site kept
+block::render_tag-returns-in-Err-clause-renders g t c = λ site kept. c.in-Err.ensures.comes site kept
 
 pub block::render_next-returns-then-not-bracket-clause-renders : goal.block::render_next-returns-then-not-bracket-clause-renders
 block::render_next-returns-then-not-bracket-clause-renders g t c = λ site kept.
@@ -171,7 +190,7 @@ block::carry_out-returns-in-Nothing-clause-renders g t c = λ site kept v. rw c.
 
 pub block::render_word-returns-then-not-block-clause-renders : goal.block::render_word-returns-then-not-block-clause-renders
 block::render_word-returns-then-not-block-clause-renders g t c = λ site kept v. rw c.if-not-block.true
-    (carries_on-word _ _ site c.args.word (c.write_word.ensures (state_with kept c.args.rc.now)))
+    (carries_on-word _ _ site c.args.word (c.write_word.ensures.puts (state_with kept c.args.rc.now)))
 
 pub block::render_word-returns-then-word-clause-renders : goal.block::render_word-returns-then-word-clause-renders
 block::render_word-returns-then-word-clause-renders g t c = λ site kept v. rw (c.if-not-block.false, c.if-word.true)
@@ -218,13 +237,11 @@ element::render_element-returns-in-DecoratorBlock-clause-renders g t c = λ site
 
 pub element::render_element-returns-in-PartialExpression-clause-renders : goal.element::render_element-returns-in-PartialExpression-clause-renders
 element::render_element-returns-in-PartialExpression-clause-renders g t c = λ site kept. rw (c.in-PartialExpression.is, element_view-PartialExpression)
-    (carries-no_value _ _ _ _ (error_of c.refuse_partial.result)
-    (rw c.deref-in-PartialExpression.ensures at (c.refuse_partial.ensures kept)))
+    (carries-run _ _ (rw c.deref-in-PartialExpression.ensures at (c.render_partial.ensures.renders site kept)))
 
 pub element::render_element-returns-in-PartialBlock-clause-renders : goal.element::render_element-returns-in-PartialBlock-clause-renders
 element::render_element-returns-in-PartialBlock-clause-renders g t c = λ site kept. rw (c.in-PartialBlock.is, element_view-PartialBlock)
-    (carries-no_value _ _ _ _ (error_of c.refuse_partial-in-PartialBlock.result)
-    (rw c.deref-in-PartialBlock.ensures at (c.refuse_partial-in-PartialBlock.ensures kept)))
+    (carries-run _ _ (rw c.deref-in-PartialBlock.ensures at (c.render_partial-in-PartialBlock.ensures.renders site kept)))
 
 pub element::render_unescaped-returns-clause-renders : goal.element::render_unescaped-returns-clause-renders
 element::render_unescaped-returns-clause-renders g t c = λ site kept. carries-unescaped _ _ (ap (keeping kept) c.set_disable_escape.ensures.state)
@@ -233,6 +250,9 @@ element::render_unescaped-returns-clause-renders g t c = λ site kept. carries-u
     (c.render_tag-answer.ensures.renders site kept)
 
 -- ---- trees
+
+pub tree::render_tree-returns-in_default-clause-renders : goal.tree::render_tree-returns-in_default-clause-renders
+tree::render_tree-returns-in_default-clause-renders g t c = λ at kept. carries_on-no_memory _ _ (error_of OutOfMemory) refl
 
 pub tree::render_tree-returns-in-Ok-clause-renders : goal.tree::render_tree-returns-in-Ok-clause-renders
 tree::render_tree-returns-in-Ok-clause-renders g t c = λ at kept. carries_on-task _ _ (c.in-Ok.ensures.renders at kept)
@@ -251,7 +271,7 @@ pub tree::render_whole-returns-in_err-enter-clause-renders : goal.tree::render_w
 tree::render_whole-returns-in_err-enter-clause-renders g t c = λ at kept. carries-out_of_memory _ _ c.from_residual.result c.from_residual.ensures.1
 
 pub tree::render_whole-elements-init : goal.tree::render_whole-elements-init
-tree::render_whole-elements-init g t c = record { left = λ at kept. left_starts _ _ at _ _ _; kept = kept-refl _ }
+tree::render_whole-elements-init g t c = record { left = λ at kept. left_starts _ _ at _ _ _; same = same-refl _; kept = kept-refl _ }
 
 pub tree::render_whole-elements-preserved : goal.tree::render_whole-elements-preserved
 tree::render_whole-elements-preserved g t c = record {
@@ -261,6 +281,7 @@ tree::render_whole-elements-preserved g t c = record {
       (get_or-seen element_view c.deref-element-items.result.now c.elements.index c.element-item.result c.element-item.is)
       (c.elements.invariant.left at kept)
       (c.in_default.ensures.renders (element_in at c.elements.index) kept);
+  same = same-trans _ _ _ c.elements.invariant.same c.in_default.ensures.same;
   kept = kept-trans c.elements.invariant.kept c.in_default.ensures.kept;
 }
 
@@ -317,7 +338,7 @@ steps::carry_out_own-returns-in-Nothing-clause-renders g t c = λ site kept bloc
 
 pub steps::take_step-returns-in-Write-clause-renders : goal.steps::take_step-returns-in-Write-clause-renders
 steps::take_step-returns-in-Write-clause-renders g t c = λ site kept i block v. rw c.in-Write.is
-    (carries_on-step _ _ site i _ (rw c.as_str.ensures.value at (c.write_as_is.ensures (state_with kept c.args.rc.now))))
+    (carries_on-step _ _ site i _ (rw c.as_str.ensures.value at (c.write_as_is.ensures.puts (state_with kept c.args.rc.now))))
 
 pub steps::take_step-returns-in-Body-clause-renders : goal.steps::take_step-returns-in-Body-clause-renders
 steps::take_step-returns-in-Body-clause-renders g t c = λ site kept i block v. rw c.in-Body.is
@@ -353,6 +374,7 @@ steps::take_steps-steps-init g t c = record {
   left = λ site kept block v next r last d. d;
   sized = c.into_iter-step-iterator.ensures.into_iter_gives.1 ∙ c.args.steps.ok.0
       ∙ ap length (sym c.into_iter-step-iterator.ensures.into_iter_gives.0);
+  same = same-refl _;
   kept = kept-refl _;
 }
 
@@ -368,6 +390,7 @@ steps::take_steps-steps-preserved g t c =
           (ap (map step_of) c.in-Some.ensures.steps.0) (c.steps.invariant.left site kept block v)
           (c.in_default.ensures.renders site kept c.steps.invariant.number block v);
       sized = omega arith;
+      same = same-trans _ _ _ c.steps.invariant.same c.in_default.ensures.same;
       kept = kept-trans c.steps.invariant.kept c.in_default.ensures.kept;
     }
 
@@ -431,6 +454,7 @@ each::take_turns-turns-init g t c =
     record {
       number = 0;
       left = λ site kept block v next r last d. d;
+      same = same-refl _;
       outer = outer-kept (kept-refl _);
       below = λ is. absurd (true≢false is);
     }
@@ -444,6 +468,7 @@ each::take_turns-turns-preserved g t c = record {
       (carries_on-turn _ _ site c.turns.invariant.number (helper_call block (call_view c.args.helper.now) v) (path_view c.args.path) (turn_view c.in-Some.turn)
       (rw (sym (binding-seen c.args.helper.now c.as_ref.result c.as_ref.ensures.value)) (ap (keeping kept) (c.in_ok-set_up_turn.ensures.ok c.turns.invariant.below)))
       (c.in_default-render_body.ensures.renders site kept c.turns.invariant.number block v));
+  same = same-trans _ _ _ c.turns.invariant.same c.in_default-render_body.ensures.same;
   outer = outer-trans c.turns.invariant.outer
       (outer-trans c.in_ok-set_up_turn.ensures.outer (outer-kept c.in_default-render_body.ensures.kept));
   below = λ is. below-kept (path_view c.args.path) _ (turn_view c.in-Some.turn) _ _ _
@@ -454,3 +479,205 @@ pub each::take_turns-returns-clause-renders : goal.each::take_turns-returns-clau
 each::take_turns-returns-clause-renders g t c = λ site kept block v.
     turns-end _ _ site c.turns.invariant.number (helper_call block (call_view c.args.helper.now) v) (path_view c.args.path) _
     c.in_default.ensures (c.turns.invariant.left site kept block v)
+
+-- ---- inclusions
+
+pub partial::render_partial-returns-in-Err-clause-renders : goal.partial::render_partial-returns-in-Err-clause-renders
+partial::render_partial-returns-in-Err-clause-renders g t c = λ site kept.
+    let tag = decorator_view c.args.tag.now in
+    carries_on-handed _ _ c.in-Err.e (error_of c.new.result) c.new.ensures
+    (carries_on-no_value _ _ (ask (view_of (decorator_name tag) (decorator_args tag)))
+    (λ v. on_line (line_at (decorator_marks tag)) (include_tag site tag v)) c.in-Err.e
+    (λ other. refuses-ask _ (view_of (decorator_name tag) (decorator_args tag)) (c.in-Err.ensures kept other)))
+
+pub partial::render_partial-returns-in_err-view-clause-renders : goal.partial::render_partial-returns-in_err-view-clause-renders
+partial::render_partial-returns-in_err-view-clause-renders g t c = λ site kept.
+    carries_on-out_of_memory _ _ c.from_residual.result c.from_residual.ensures.1
+
+pub partial::render_partial-returns-clause-renders : goal.partial::render_partial-returns-clause-renders
+partial::render_partial-returns-clause-renders g t c = λ site kept.
+    let tag = decorator_view c.args.tag.now in
+    let p = setting_in g.P.Registered.parts c.args.setting.now in
+    tag-includes p g.O.Output.may_give site tag (called_view c.in-Ok.call) (tag_view c.in_ok-view.view) (c.in-Ok.ensures kept)
+    c.in_ok-view.ensures (ap (keeping kept) c.enter_partial.ensures.state)
+    (ap (keeping kept) (c.leave_call.ensures.state (state_of c.args.rc.now).line (sym c.get_indent_before_write-before.ensures)
+    (sym c.get_content_produced-produced.ensures)))
+    (c.include-answer.ensures.renders site kept)
+
+pub partial::include-returns-then-is_current_template-clause-renders : goal.partial::include-returns-then-is_current_template-clause-renders
+partial::include-returns-then-is_current_template-clause-renders g t c = λ site kept.
+    includes-self _ _ (tag_view c.args.view.now) site (error_of c.refused.result)
+    (rw c.name.ensures at (sym c.is_current_template.ensures ∙ c.if-is_current_template.true)) c.refused.ensures
+
+pub partial::include-returns-then-is_partial_block-clause-renders : goal.partial::include-returns-then-is_partial_block-clause-renders
+partial::include-returns-then-is_partial_block-clause-renders g t c = λ site kept.
+    includes-kept _ _ (tag_view c.args.view.now) site
+    (rw c.name.ensures at (sym c.is_current_template.ensures ∙ c.if-is_current_template.false))
+    (rw c.name-2.ensures at (sym c.is_partial_block.ensures ∙ c.if-is_partial_block.true))
+    (c.render_kept.ensures.renders site kept)
+
+pub partial::include-returns-in_err-found-clause-renders : goal.partial::include-returns-in_err-found-clause-renders
+partial::include-returns-in_err-found-clause-renders g t c = λ site kept.
+    carries_on-out_of_memory _ _ c.from_residual.result c.from_residual.ensures.1
+
+pub partial::include-returns-in-Some-clause-renders : goal.partial::include-returns-in-Some-clause-renders
+partial::include-returns-in-Some-clause-renders g t c = λ site kept.
+    includes-local _ _ (tag_view c.args.view.now) site (tree_view c.in-Some.tree.value)
+    (rw c.name.ensures at (sym c.is_current_template.ensures ∙ c.if-is_current_template.false))
+    (rw c.name-2.ensures at (sym c.is_partial_block.ensures ∙ c.if-is_partial_block.false))
+    (rw c.name-3.ensures at (rw c.in-Some.is at c.in_ok-found.ensures))
+    (rw c.deref.ensures at (c.include_found.ensures.renders site kept))
+
+pub partial::include-returns-in-Some-template-clause-renders : goal.partial::include-returns-in-Some-template-clause-renders
+partial::include-returns-in-Some-template-clause-renders g t c = λ site kept.
+    includes-registered _ _ (tag_view c.args.view.now) site (tree_view c.in-Some-template.tree.now)
+    (rw c.name.ensures at (sym c.is_current_template.ensures ∙ c.if-is_current_template.false))
+    (rw c.name-2.ensures at (sym c.is_partial_block.ensures ∙ c.if-is_partial_block.false))
+    (rw c.name-3.ensures at (rw c.in-None.is at c.in_ok-found.ensures))
+    (rw c.name-in-None.ensures at c.in-Some-template.ensures)
+    (c.include_found-in-Some-template.ensures.renders site kept)
+
+pub partial::include-returns-clause-renders : goal.partial::include-returns-clause-renders
+partial::include-returns-clause-renders g t c = λ site kept.
+    includes-own _ _ (tag_view c.args.view.now) site
+    (rw c.name.ensures at (sym c.is_current_template.ensures ∙ c.if-is_current_template.false))
+    (rw c.name-2.ensures at (sym c.is_partial_block.ensures ∙ c.if-is_partial_block.false))
+    (rw c.name-3.ensures at (rw c.in-None.is at c.in_ok-found.ensures))
+    (rw c.name-in-None.ensures at c.in-None-template.ensures)
+    (c.include_own.ensures.renders site kept)
+
+pub partial::include_tree-returns-clause-renders : goal.partial::include_tree-returns-clause-renders
+partial::include_tree-returns-clause-renders g t c = λ at kept.
+    under-same _ _ (option_map (λ t. t.now) c.args.text) c.args.count (perform (Whole at (tree_view c.args.tree.now)))
+    (state_of c.args.rc.now) (state_of c.render_tree.new.rc) c.indent.ensures (λ k. c.render_tree.ensures.renders at k) kept
+
+pub partial::render_ahead-returns-in-Ok-clause-ahead : goal.partial::render_ahead-returns-in-Ok-clause-ahead
+partial::render_ahead-returns-in-Ok-clause-ahead g t c = λ at kept held.
+    let z = rw c.in-Ahead.is at (c.in-Ok.ensures.renders at kept) in
+    carries_ahead-text _ _ (begins-empty c.new-text.result c.new-text.ensures)
+    (let same = rw c.in-Ahead.is at c.render_tree-answer.ensures.same in let text = c.into_string.ensures in search rules) z
+
+pub partial::render_ahead-returns-in-Err-clause-ahead : goal.partial::render_ahead-returns-in-Err-clause-ahead
+partial::render_ahead-returns-in-Err-clause-ahead g t c = λ at kept held.
+    carries_ahead-over _ _ _ (begins-empty c.new-text.result c.new-text.ensures)
+    (rw c.in-Ahead.is at (c.in-Err.ensures.renders at kept))
+
+pub partial::render_kept-returns-in-Some-clause-renders : goal.partial::render_kept-returns-in-Some-clause-renders
+partial::render_kept-returns-in-Some-clause-renders g t c = λ site kept.
+    kept-text _ _ (tag_view c.args.view.now) site (tag_view c.args.view.now).body (newest kept.pieces) _
+    (kept.holds ∙ ap (option_map (λ t. t.now)) c.in-Some.is) (c.write_as_is.ensures.puts (state_with kept c.args.rc.now))
+
+pub partial::include_found-returns-in-Err-clause-renders : goal.partial::include_found-returns-in-Err-clause-renders
+partial::include_found-returns-in-Err-clause-renders g t c = λ site kept.
+    let v = tag_view c.args.view.now in
+    let u = tree_view c.args.tree.now in
+    inclusion-no_room _ _ v (included_at site u) u (render_ahead site v.body) (error_of c.in-Err.e) c.in-Err.ensures.err.0 c.in-Err.ensures.err.1
+
+pub partial::include_found-returns-in-Err-inclusion_block-clause-renders : goal.partial::include_found-returns-in-Err-inclusion_block-clause-renders
+partial::include_found-returns-in-Err-inclusion_block-clause-renders g t c = λ site kept.
+    let v = tag_view c.args.view.now in
+    let u = tree_view c.args.tree.now in
+    carries_on-handed _ _ c.in-Err-inclusion_block.e (error_of c.new.result) c.new.ensures
+    (inclusion-no_value _ _ v (included_at site u) u (render_ahead site v.body) c.in-Err-inclusion_block.e c.in-Ok.ensures.ok.0
+    (c.in-Err-inclusion_block.ensures kept))
+
+pub partial::include_found-returns-in_err-name-clause-renders : goal.partial::include_found-returns-in_err-name-clause-renders
+partial::include_found-returns-in_err-name-clause-renders g t c = λ site kept.
+    carries_on-out_of_memory _ _ c.from_residual.result c.from_residual.ensures.1
+
+pub partial::include_found-returns-clause-renders : goal.partial::include_found-returns-clause-renders
+partial::include_found-returns-clause-renders g t c = λ site kept.
+    let v = tag_view c.args.view.now in
+    let u = tree_view c.args.tree.now in
+    let w0 = within c.args.setting.now in
+    let s = state_of c.args.rc.now in
+    let stands = c.in-Ok-inclusion_block.ensures kept in
+    let inner = entered (inclusion_block stands.0 (pair_values v.call.pairs) (nearest_variables s.blocks)) s in
+    let begins = c.in_ok-name.ensures.ok ∙ ap (λ (f : Frame). called None (entered f s)) stands.2 in
+    elim c.match-template.branch [
+      | partial::include_found-in-Some+in-Ok-render_ahead w ↦
+          rw (w.answer-is, w.sink-is)
+          (found-some _ _ v site u (tree_view w.in-Some.body.now) (rw w.in-Some.is at c.template.ensures)
+          (inclusion-ahead _ _ v site u (tree_view w.in-Some.body.now) stands.0 {c = None}
+          (λ ps. placed v.indent (Some ps ∷ kept.pieces) c.in-Ok.count (state_of w.render_ahead.new.rc))
+          (λ ps. placed v.indent (Some ps ∷ kept.pieces) c.in-Ok.count (state_of w.include_tree.new.rc))
+          c.in-Ok.ensures.ok.0 stands.1 (ap (keeping kept) begins)
+          (w.in-Ok-render_ahead.ensures.ahead (body_at site 0) kept _)
+          (λ ps. kept-more v.indent w0.indent (Some ps) kept.pieces w0.inclusions c.in-Ok.count (state_of w.render_ahead.new.rc) c.in-Ok.ensures.ok.1)
+          (λ ps. ap (keeping kept) ((rw w.rc-is at c.end.ensures.state) ∙ ap (λ (n : Option Text). called n (left (state_of w.include_tree.new.rc))) c.in_ok-name.ensures.name))
+          (λ ps is. w.include_tree.ensures.renders (included_at site u)
+          (record { pieces = Some ps ∷ kept.pieces; holds = ap (λ (t : Text). Some t) (sym is ∙ sym w.as_str.ensures.value) }))))
+      | partial::include_found-in-Some+in-Err-render_ahead w ↦
+          rw (w.answer-is, w.sink-is)
+          (found-some _ _ v site u (tree_view w.in-Some.body.now) (rw w.in-Some.is at c.template.ensures)
+          (inclusion-ahead_over _ _ v site u (tree_view w.in-Some.body.now) stands.0 {c = None} c.in-Ok.ensures.ok.0 stands.1
+          (ap (keeping kept) begins) (w.in-Err-render_ahead.ensures.ahead (body_at site 0) kept _)))
+      | partial::include_found-in-None w ↦
+          rw (w.answer-is, w.sink-is)
+          (found-none _ _ v site u (rw w.in-None.is at c.template.ensures)
+          (inclusion-plain _ _ v (included_at site u) u stands.0 {c = None} c.in-Ok.ensures.ok.0 stands.1
+          (begun-so v.indent w0.indent None kept.pieces w0.inclusions c.in-Ok.count inner c.in-Ok.ensures.ok.1 begins)
+          (ap (keeping kept) ((rw w.rc-is at c.end.ensures.state) ∙ ap (λ (n : Option Text). called n (left (state_of w.include_tree-answer.new.rc))) c.in_ok-name.ensures.name))
+          (w.include_tree-answer.ensures.renders (included_at site u) (record { pieces = None ∷ kept.pieces; holds = refl }))))
+    ]
+
+-- ---- the tag's own block
+
+pub partial::include_own-returns-in_default-clause-renders : goal.partial::include_own-returns-in_default-clause-renders
+partial::include_own-returns-in_default-clause-renders g t c = λ site kept.
+    let v = tag_view c.args.view.now in
+    own-none _ _ v site v.body (error_of c.no_partial.result) (rw c.in_default.is at c.template.ensures)
+    (rw c.name.ensures at c.no_partial.ensures)
+
+pub partial::include_own-returns-in-Err-clause-renders : goal.partial::include_own-returns-in-Err-clause-renders
+partial::include_own-returns-in-Err-clause-renders g t c = λ site kept.
+    let v = tag_view c.args.view.now in
+    let u = tree_view c.in-Some.body.now in
+    own-some _ _ v site v.body u (rw c.in-Some.is at c.template.ensures)
+    (inclusion-no_room _ _ v (body_at site 0) u (return None) (error_of c.in-Err.e) c.in-Err.ensures.err.0 c.in-Err.ensures.err.1)
+
+pub partial::include_own-returns-in-Err-inclusion_block-clause-renders : goal.partial::include_own-returns-in-Err-inclusion_block-clause-renders
+partial::include_own-returns-in-Err-inclusion_block-clause-renders g t c = λ site kept.
+    let v = tag_view c.args.view.now in
+    let u = tree_view c.in-Some.body.now in
+    own-some _ _ v site v.body u (rw c.in-Some.is at c.template.ensures)
+    (carries_on-handed _ _ c.in-Err-inclusion_block.e (error_of c.new.result) c.new.ensures
+    (inclusion-no_value _ _ v (body_at site 0) u (return None) c.in-Err-inclusion_block.e c.in-Ok.ensures.ok.0
+    (c.in-Err-inclusion_block.ensures kept)))
+
+pub partial::include_own-returns-in_err-name-clause-renders : goal.partial::include_own-returns-in_err-name-clause-renders
+partial::include_own-returns-in_err-name-clause-renders g t c = λ site kept.
+    carries_on-out_of_memory _ _ c.from_residual.result c.from_residual.ensures.1
+
+pub partial::include_own-returns-clause-renders : goal.partial::include_own-returns-clause-renders
+partial::include_own-returns-clause-renders g t c = λ site kept.
+    let v = tag_view c.args.view.now in
+    let u = tree_view c.in-Some.body.now in
+    let w0 = within c.args.setting.now in
+    let s = state_of c.args.rc.now in
+    let stands = c.in-Ok-inclusion_block.ensures kept in
+    let inner = entered (inclusion_block stands.0 (pair_values v.call.pairs) (nearest_variables s.blocks)) s in
+    let begins = c.in_ok-name.ensures.ok ∙ ap (λ (f : Frame). called None (entered f s)) stands.2 in
+    own-some _ _ v site v.body u (rw c.in-Some.is at c.template.ensures)
+    (inclusion-plain _ _ v (body_at site 0) u stands.0 {c = None} c.in-Ok.ensures.ok.0 stands.1
+    (begun-so v.indent w0.indent None kept.pieces w0.inclusions c.in-Ok.count inner c.in-Ok.ensures.ok.1 begins)
+    (ap (keeping kept) (c.end.ensures.state ∙ ap (λ (n : Option Text). called n (left (state_of c.include_tree-answer.new.rc))) c.in_ok-name.ensures.name))
+    (c.include_tree-answer.ensures.renders (body_at site 0) (record { pieces = None ∷ kept.pieces; holds = refl })))
+
+-- ---- the kept text
+
+pub partial::render_kept-returns-in_default-template-clause-renders : goal.partial::render_kept-returns-in_default-template-clause-renders
+partial::render_kept-returns-in_default-template-clause-renders g t c = λ site kept.
+    let v = tag_view c.args.view.now in
+    kept-none _ _ v site v.body (newest kept.pieces) (error_of c.refused.result)
+    (kept.holds ∙ ap (option_map (λ t. t.now)) c.in_default.is) (rw c.in_default-template.is at c.template.ensures) c.refused.ensures
+
+pub partial::render_kept-returns-clause-renders : goal.partial::render_kept-returns-clause-renders
+partial::render_kept-returns-clause-renders g t c = λ site kept.
+    let v = tag_view c.args.view.now in
+    let s = state_of c.args.rc.now in
+    kept-own _ _ v site v.body (tree_view c.in-Some-template.body.now) (newest kept.pieces)
+    (kept.holds ∙ ap (option_map (λ t. t.now)) c.in_default.is) (rw c.in-Some-template.is at c.template.ensures)
+    (ap (keeping kept) c.take_name-name.ensures.state)
+    (ap (keeping kept) (c.set_current_template_name.ensures.state ∙ ap (λ (n : Option Text). called n (state_of c.render_tree-answer.new.rc)) c.take_name-name.ensures.name))
+    (c.render_tree-answer.ensures.renders (body_at site 0) kept)

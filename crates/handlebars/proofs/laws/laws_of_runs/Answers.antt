@@ -1,6 +1,7 @@
 use Rattle.handlebars_laws.proofs.RunLaws.{Runs-one, Runs-beginning}
 use Rattle.handlebars_laws.proofs.Once.{comes_once}
-use Rattle.handlebars_laws.proofs.RunOrigins.{all_have_origins, element_has_origins}
+use Rattle.handlebars_laws.proofs.RunOrigins.{all_have_origins, comes_in_trees, element_has_origins}
+use Rattle.handlebars_laws.proofs.OtherTemplates.{only_named_count, same_under_larger}
 use Rattle.handlebars.specs.View.{setting_of}
 use Rattle.handlebars.proofs.OwnLaws.{parts-lawful}
 use Rattle.handlebars.proofs.laws.laws_of_runs.Goals as goal
@@ -15,4 +16,7 @@ returns g c =
       once = comes_once p;
       origins = all_have_origins p;
       element = element_has_origins p;
+      trees = comes_in_trees p;
+      larger = same_under_larger p;
+      named = only_named_count p;
     }

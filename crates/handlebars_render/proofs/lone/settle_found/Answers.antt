@@ -4,12 +4,12 @@ use Rattle.handlebars_meaning.specs.Writing.{rendered_if_any}
 use Rattle.handlebars_render.proofs.Calls.{value_there}
 use Rattle.handlebars_render.proofs.lone.settle_found.Goals as goal
 
-pub returns-in-Ok : goal.returns-in-Ok
-returns-in-Ok g c = λ call v found site kept has there.
+pub returns-in-Ok-clause-comes : goal.returns-in-Ok-clause-comes
+returns-in-Ok-clause-comes g c = λ call v found site kept has there.
     value_there _ _ site call v found (view c.args.value.now) has there
     (c.in-Ok.ensures.shows site kept found (ap rendered_if_any there))
 
-pub returns-in-Err : goal.returns-in-Err
-returns-in-Err g c = λ call v found site kept has there.
+pub returns-in-Err-clause-comes : goal.returns-in-Err-clause-comes
+returns-in-Err-clause-comes g c = λ call v found site kept has there.
     value_there _ _ site call v found (view c.args.value.now) has there
     (c.in-Err.ensures.shows site kept found (ap rendered_if_any there))

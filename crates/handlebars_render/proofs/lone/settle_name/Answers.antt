@@ -17,7 +17,7 @@ returns-in-Some g c = λ lone named site kept.
     settles-call _ site false (call_view c.args.helper.now) _ _ (answer_of c.to_call.result) c.to_call.ensures
     (leaves-named _ site (call_view c.args.helper.now) c.args.text.now (target_in false c.args.text.now c.in-Some.target)
     (target_in false (called_view c.alone.result).name c.in-Some.target) (called_view c.alone.result)
-    lone (named-name _ _ (call_name (call_view c.args.helper.now)) c.args.text.now named) (c.in-Some.ensures kept false)
+    lone (named-name _ _ (call_name (call_view c.args.helper.now)) c.args.text.now named) (c.in-Some.ensures false)
     (ap (λ (v : CallView). target_in false v.name c.in-Some.target) c.alone.ensures) c.alone.ensures)
 
 pub returns-in-None : goal.returns-in-None
@@ -25,7 +25,7 @@ returns-in-None g c = λ lone named site kept.
     settles-leaves _ site false (call_view c.args.helper.now) (render_lone site (call_view c.args.helper.now))
     (render_lone_as site (call_view c.args.helper.now) (name_alone c.args.text.now) None) (answer_of c.settle_missing.result)
     (leaves-value _ site (call_view c.args.helper.now) c.args.text.now lone
-    (named-name _ _ (call_name (call_view c.args.helper.now)) c.args.text.now named) (c.in-None.ensures kept false))
+    (named-name _ _ (call_name (call_view c.args.helper.now)) c.args.text.now named) (c.in-None.ensures false))
     (settles-leaves _ site false (call_view c.args.helper.now)
     (render_lone_as site (call_view c.args.helper.now) (name_alone c.args.text.now) None)
     (render_found site (call_view c.args.helper.now) (name_alone c.args.text.now) missing) (answer_of c.settle_missing.result)

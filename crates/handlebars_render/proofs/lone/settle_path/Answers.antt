@@ -16,44 +16,44 @@ use Rattle.handlebars_render.proofs.Leaves.{comes_to-leaves, comes_to-settles, l
 use Rattle.handlebars_render.proofs.LoneValues.{named-path, reached-none-as, reached-value}
 use Rattle.handlebars_render.proofs.lone.settle_path.Goals as goal
 
-pub returns-in-Some : goal.returns-in-Some
-returns-in-Some g c = λ lone is site kept.
+pub returns-in-Some-clause-comes : goal.returns-in-Some-clause-comes
+returns-in-Some-clause-comes g c = λ lone is site kept.
     comes_to-settles _ _ site false (call_view c.args.helper.now) _ _ _ _ (answer_of c.to_call.result) refl
     (settles-call _ site false (call_view c.args.helper.now) _ _ (answer_of c.to_call.result) c.to_call.ensures
     (leaves-named _ site (call_view c.args.helper.now) c.raw.result.now (target_in false c.raw.result.now c.in-Some.target)
     (target_in false (called_view c.alone.result).name c.in-Some.target) (called_view c.alone.result)
     lone (named-path _ _ (call_name (call_view c.args.helper.now)) (reference_of c.args.path.now) _ is c.raw.ensures)
-    (c.in-Some.ensures kept false)
+    (c.in-Some.ensures false)
     (ap (λ (v : CallView). target_in false v.name c.in-Some.target)
     (c.alone.ensures ∙ ap (λ t. name_alone t) (c.raw-in-Some.ensures ∙ sym c.raw.ensures)))
     (c.alone.ensures ∙ ap (λ t. name_alone t) (c.raw-in-Some.ensures ∙ sym c.raw.ensures))))
 
-pub returns-in-Value : goal.returns-in-Value
-returns-in-Value g c = λ lone is site kept.
+pub returns-in-Value-clause-comes : goal.returns-in-Value-clause-comes
+returns-in-Value-clause-comes g c = λ lone is site kept.
     let has = reached-value (setting_in g.P.Registered.parts c.args.setting.now) (state_with kept c.args.rc.now) (call_name (call_view c.args.helper.now)) (reference_of c.args.path.now) (Some (view c.in-Value.value.now)) is (rw c.data.ensures.value at c.in-Value.ensures) in
     comes_to-leaves _ _ site false (call_view c.args.helper.now) _ _ _ _ _ (answer_of c.settle_found.result)
     (leaves-value _ site (call_view c.args.helper.now) c.raw.result.now lone
-    (named-path _ _ (call_name (call_view c.args.helper.now)) (reference_of c.args.path.now) _ is c.raw.ensures) (c.in-None.ensures kept false))
-    (c.settle_found.ensures (call_view c.args.helper.now) (name_alone c.raw.result.now) has.0 site kept has.1 has.2)
+    (named-path _ _ (call_name (call_view c.args.helper.now)) (reference_of c.args.path.now) _ is c.raw.ensures) (c.in-None.ensures false))
+    (c.settle_found.ensures.comes (call_view c.args.helper.now) (name_alone c.raw.result.now) has.0 site kept has.1 has.2)
 
-pub returns-in-Nothing : goal.returns-in-Nothing
-returns-in-Nothing g c = λ lone is site kept.
+pub returns-in-Nothing-clause-comes : goal.returns-in-Nothing-clause-comes
+returns-in-Nothing-clause-comes g c = λ lone is site kept.
     let has = reached-value (setting_in g.P.Registered.parts c.args.setting.now) (state_with kept c.args.rc.now) (call_name (call_view c.args.helper.now)) (reference_of c.args.path.now) None is (rw c.data.ensures.value at c.in-Nothing.ensures) in
     comes_to-leaves _ _ site false (call_view c.args.helper.now) _ _ _ _ _ (answer_of c.settle_missing.result)
     (leaves-value _ site (call_view c.args.helper.now) c.raw-in-Nothing.result.now lone
     (named-path _ _ (call_name (call_view c.args.helper.now)) (reference_of c.args.path.now) _ is c.raw-in-Nothing.ensures)
-    (c.in-None.ensures kept false ∙ ap (helper_named (g.P.Registered.parts c.args.setting.now.parts.now) (state_with kept c.args.rc.now)) (c.raw.ensures ∙ sym c.raw-in-Nothing.ensures)))
+    (c.in-None.ensures false ∙ ap (helper_named (g.P.Registered.parts c.args.setting.now.parts.now) (state_with kept c.args.rc.now)) (c.raw.ensures ∙ sym c.raw-in-Nothing.ensures)))
     (comes_to-leaves _ _ site false (call_view c.args.helper.now) _ _ _ _ _ (answer_of c.settle_missing.result)
     (leaves-missing _ site (call_view c.args.helper.now) (name_alone c.raw-in-Nothing.result.now)
     (value_lacks _ _ _ _ has.0 refl has.1 (sym has.2)))
     (comes_to-settles _ _ site false (call_view c.args.helper.now) _ _ _ _ (answer_of c.settle_missing.result) refl
     (c.settle_missing.ensures site kept)))
 
-pub returns-in-NoIndex : goal.returns-in-NoIndex
-returns-in-NoIndex g c = λ lone is site kept.
+pub returns-in-NoIndex-clause-comes : goal.returns-in-NoIndex-clause-comes
+returns-in-NoIndex-clause-comes g c = λ lone is site kept.
     comes_to-leaves _ _ site false (call_view c.args.helper.now) _ _ _ _ _ (answer_of (Err c.not_an_index.result))
     (leaves-value _ site (call_view c.args.helper.now) c.raw.result.now lone
-    (named-path _ _ (call_name (call_view c.args.helper.now)) (reference_of c.args.path.now) _ is c.raw.ensures) (c.in-None.ensures kept false))
+    (named-path _ _ (call_name (call_view c.args.helper.now)) (reference_of c.args.path.now) _ is c.raw.ensures) (c.in-None.ensures false))
     (value_err _ _ site (call_view c.args.helper.now) (name_alone c.raw.result.now) _ (error_of c.not_an_index.result) refl
     (λ other. reached-none-as (setting_in g.P.Registered.parts c.args.setting.now) (state_with kept c.args.rc.now) (call_name (call_view c.args.helper.now)) (reference_of c.args.path.now)
     (plain_refusal (invalid_json_index c.in-NoIndex.name.now)) _ is (rw c.data.ensures.value at c.in-NoIndex.ensures) (c.not_an_index.ensures other)))

@@ -11,36 +11,36 @@ use Rattle.handlebars_render.proofs.Calls.{value_lacks}
 use Rattle.handlebars_render.proofs.Leaves.{comes_to-leaves, comes_to-no_memory, comes_to-settles, leaves-missing, leaves-named, leaves-value, settles-call}
 use Rattle.handlebars_render.proofs.lone.settle_value.Goals as goal
 
-pub returns-in_err-name : goal.returns-in_err-name
-returns-in_err-name g c = λ lone site kept named has.
+pub returns-in_err-name-clause-comes : goal.returns-in_err-name-clause-comes
+returns-in_err-name-clause-comes g c = λ lone site kept named has.
     comes_to-no_memory _ _ site false (call_view c.args.helper.now) _ _ _ c.from_residual.result c.from_residual.ensures.1
 
-pub returns-in-Some : goal.returns-in-Some
-returns-in-Some g c = λ lone site kept named has.
+pub returns-in-Some-clause-comes : goal.returns-in-Some-clause-comes
+returns-in-Some-clause-comes g c = λ lone site kept named has.
     comes_to-settles _ _ site false (call_view c.args.helper.now) _ _ _ _ (answer_of c.to_call.result) refl
     (settles-call _ site false (call_view c.args.helper.now) _ _ (answer_of c.to_call.result) c.to_call.ensures
     (leaves-named _ site (call_view c.args.helper.now) (called_by (found_of c.args.value)) (target_in false c.as_str.result.now c.in-Some.target)
     (target_in false (called_view c.alone.result).name c.in-Some.target) (called_view c.alone.result)
     lone named
-    (c.in-Some.ensures kept false ∙ ap (helper_named (g.P.Registered.parts c.args.setting.now.parts.now) (state_with kept c.args.rc.now)) (c.as_str.ensures.value ∙ c.in_ok-name.ensures))
+    (c.in-Some.ensures false ∙ ap (helper_named (g.P.Registered.parts c.args.setting.now.parts.now) (state_with kept c.args.rc.now)) (c.as_str.ensures.value ∙ c.in_ok-name.ensures))
     (ap (λ (v : CallView). target_in false v.name c.in-Some.target) c.alone.ensures
     ∙ ap (λ t. target_in false t c.in-Some.target) (sym c.as_str.ensures.value))
     (c.alone.ensures ∙ ap (λ t. name_alone t) c.in_ok-name.ensures)))
 
-pub returns-in-Some-as_json : goal.returns-in-Some-as_json
-returns-in-Some-as_json g c = λ lone site kept named has.
+pub returns-in-Some-as_json-clause-comes : goal.returns-in-Some-as_json-clause-comes
+returns-in-Some-as_json-clause-comes g c = λ lone site kept named has.
     comes_to-leaves _ _ site false (call_view c.args.helper.now) _ _ _ _ _ (answer_of c.settle_found.result)
     (leaves-value _ site (call_view c.args.helper.now) (called_by (found_of c.args.value)) lone named
-    (c.in-None.ensures kept false ∙ ap (helper_named (g.P.Registered.parts c.args.setting.now.parts.now) (state_with kept c.args.rc.now)) (c.as_str.ensures.value ∙ c.in_ok-name.ensures)))
-    (c.settle_found.ensures (call_view c.args.helper.now) (name_alone (called_by (found_of c.args.value))) (found_of c.args.value)
+    (c.in-None.ensures false ∙ ap (helper_named (g.P.Registered.parts c.args.setting.now.parts.now) (state_with kept c.args.rc.now)) (c.as_str.ensures.value ∙ c.in_ok-name.ensures)))
+    (c.settle_found.ensures.comes (call_view c.args.helper.now) (name_alone (called_by (found_of c.args.value))) (found_of c.args.value)
     site kept has (sym c.in-Some-as_json.ensures))
 
-pub returns : goal.returns
-returns g c = λ lone site kept named has.
+pub returns-clause-comes : goal.returns-clause-comes
+returns-clause-comes g c = λ lone site kept named has.
     let same = c.in_ok-name.ensures in
     comes_to-leaves _ _ site false (call_view c.args.helper.now) _ _ _ _ _ (answer_of c.settle_missing.result)
     (leaves-value _ site (call_view c.args.helper.now) _ lone (rw same named)
-    (c.in-None.ensures kept false ∙ ap (helper_named (g.P.Registered.parts c.args.setting.now.parts.now) (state_with kept c.args.rc.now)) c.as_str.ensures.value))
+    (c.in-None.ensures false ∙ ap (helper_named (g.P.Registered.parts c.args.setting.now.parts.now) (state_with kept c.args.rc.now)) c.as_str.ensures.value))
     (comes_to-leaves _ _ site false (call_view c.args.helper.now) _ _ _ _ _ (answer_of c.settle_missing.result)
     (leaves-missing _ site (call_view c.args.helper.now) _
     (value_lacks _ _ _ _ (found_of c.args.value) refl has c.in-None-as_json.ensures))

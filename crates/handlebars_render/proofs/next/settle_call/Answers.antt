@@ -16,7 +16,7 @@ returns-in-Some g c = λ site kept.
 pub returns-in-Ok : goal.returns-in-Ok
 returns-in-Ok g c = λ site kept.
     c.settle_viewed.ensures site kept (rw (call_name-view c.args.helper.now) (c.in-Ok.ensures kept))
-    (rw c.as_str.ensures.value at (c.helper_for-target.ensures kept))
+    (rw c.as_str.ensures.value at (c.helper_for-target.ensures))
 
 pub returns-in-Err : goal.returns-in-Err
 returns-in-Err g c = λ site kept.

@@ -4,14 +4,14 @@ use Rattle.handlebars_render.specs.Boxed.{answer_of}
 use Rattle.handlebars_render.proofs.Leaves.{comes_to-leaves, comes_to-settles, leaves-expression, leaves-lone}
 use Rattle.handlebars_render.proofs.next.settle_expression.Goals as goal
 
-pub returns-then-is_value : goal.returns-then-is_value
-returns-then-is_value g c = λ site kept.
+pub returns-then-is_value-clause-comes : goal.returns-then-is_value-clause-comes
+returns-then-is_value-clause-comes g c = λ site kept.
     comes_to-leaves _ _ site false (call_view c.args.helper.now) _ _ _ _ _ (answer_of c.settle_lone.result)
     (leaves-lone _ site (call_view c.args.helper.now) c.if-is_value.ensures)
-    (c.settle_lone.ensures (sym c.if-is_value.ensures) site kept)
+    (c.settle_lone.ensures.comes (sym c.if-is_value.ensures) site kept)
 
-pub returns-else-is_value : goal.returns-else-is_value
-returns-else-is_value g c = λ site kept.
+pub returns-else-is_value-clause-comes : goal.returns-else-is_value-clause-comes
+returns-else-is_value-clause-comes g c = λ site kept.
     comes_to-leaves _ _ site false (call_view c.args.helper.now) _ _ _ _ _ (answer_of c.settle_call.result)
     (leaves-expression _ site (call_view c.args.helper.now) c.if-is_value.ensures)
     (comes_to-settles _ _ site false (call_view c.args.helper.now) _ _ _ _ (answer_of c.settle_call.result) refl (c.settle_call.ensures site kept))

@@ -12,7 +12,7 @@ returns-in-Ok g c = λ named site kept.
     takes-path _ site c.args.block (call_view c.args.helper.now) c.args.name.now (reference_of c.in-Some.path.now)
     (named-written _ _ (call_name (call_view c.args.helper.now)) c.args.name.now named)
     c.in-Some.ensures.path c.in-Some.wanted c.in-Ok.truth c.takes.result
-    (sym (c.in-Some.ensures.kind c.args.block c.args.name.now) ∙ c.helper_for-target.ensures kept)
+    (sym (c.in-Some.ensures.kind c.args.block c.args.name.now) ∙ c.helper_for-target.ensures)
     (c.in-Ok.ensures kept) c.takes.ensures
 
 pub returns-in-Err : goal.returns-in-Err
@@ -25,4 +25,4 @@ pub returns-in-None : goal.returns-in-None
 returns-in-None g c = λ named site kept.
     c.settle_viewed.ensures site kept
     (named-written _ _ (call_name (call_view c.args.helper.now)) c.args.name.now named)
-    (c.helper_for-target.ensures kept)
+    (c.helper_for-target.ensures)

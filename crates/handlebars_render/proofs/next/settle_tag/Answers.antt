@@ -4,6 +4,6 @@ use Rattle.handlebars_render.specs.Boxed.{answer_of}
 use Rattle.handlebars_render.proofs.Leaves.{comes_to-settles}
 use Rattle.handlebars_render.proofs.next.settle_tag.Goals as goal
 
-pub returns-then-block : goal.returns-then-block
-returns-then-block g c = λ site kept. rw c.if-block.true
+pub returns-then-block-clause-comes : goal.returns-then-block-clause-comes
+returns-then-block-clause-comes g c = λ site kept. rw c.if-block.true
     (comes_to-settles _ _ site true (call_view c.args.helper.now) _ _ _ _ (answer_of c.settle_call.result) refl (c.settle_call.ensures site kept))

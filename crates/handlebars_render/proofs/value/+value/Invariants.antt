@@ -1,20 +1,19 @@
 use Rattle.std.proofs.Common.{map, drop}
 use Rattle.handlebars_base.specs.PathAndData.{path_and_data}
 use Rattle.handlebars_template.specs.TreeView.{params_view, pairs_view}
-use Rattle.handlebars_meaning.specs.State.{Kept}
-use Rattle.handlebars_render.specs.View.{setting_in, state_with, pairs_seen}
+use Rattle.handlebars_render.specs.View.{setting_in, state_with, KeptIn, within, pairs_seen}
 use Rattle.handlebars_render.proofs.Values.{ParamsLeft, PairsLeft}
 use Rattle.handlebars_render.proofs.Ordered.{Follows}
 use Rattle.handlebars_render.proofs.value.+value.Given as goal
 
 abbrev pub invariant-params_values-loop-parameter : goal.invariant-params_values-loop-parameter
 invariant-params_values-loop-parameter g l =
-    (kept : Kept) → ParamsLeft (setting_in g.P.Registered.parts l.setting) (state_with kept l.rc) (params_view l.parameter-items)
+    (kept : KeptIn (within l.setting)) → ParamsLeft (setting_in g.P.Registered.parts l.setting) (state_with kept l.rc) (params_view l.parameter-items)
     (params_view (drop l.parameter-index l.parameter-items)) (map path_and_data l.values.items)
 
 abbrev pub invariant-pairs_values-loop-key : goal.invariant-pairs_values-loop-key
 invariant-pairs_values-loop-key g l = record {
   follows : Follows l.values.entries l.pairs.entries l.key-iterator;
-  left : (kept : Kept) → PairsLeft (setting_in g.P.Registered.parts l.setting) (state_with kept l.rc) (pairs_view l.pairs.entries)
+  left : (kept : KeptIn (within l.setting)) → PairsLeft (setting_in g.P.Registered.parts l.setting) (state_with kept l.rc) (pairs_view l.pairs.entries)
       (pairs_view l.key-iterator) (pairs_seen l.values.entries);
 }

@@ -1,4 +1,3 @@
-use Rattle.std.proofs.Common.{[]}
 use Rattle.std.proofs.lemmas.Result.{IfOk-weaker, IfErr-weaker}
 use Rattle.handlebars_base.specs.TemplateRefusals.{template_refusal_of}
 use Rattle.handlebars_meaning.specs.Answer.{compiles}
@@ -24,11 +23,11 @@ returns-in_err-rc-clause-origins g c = answer_has_origins _ _
 
 pub returns-clause-ok : goal.returns-clause-ok
 returns-clause-ok g c = IfOk-weaker c.renders.result _ _
-    (λ text is. gives_text _ _ _ _ (compiles c.in_ok-template.ensures.ok) c.in_ok-rc.ensures.state (is.1 [])) c.renders.ensures.ok
+    (λ text is. gives_text _ _ _ _ (compiles c.in_ok-template.ensures.ok) c.in_ok-rc.ensures.state is.1) c.renders.ensures.ok
 
 pub returns-clause-err : goal.returns-clause-err
 returns-clause-err g c = IfErr-weaker c.renders.result _ _
-    (λ e is other. refuses_with _ _ _ _ (compiles c.in_ok-template.ensures.ok) c.in_ok-rc.ensures.state (is c.in_ok-rc.ensures.ready other []))
+    (λ e is other. refuses_with _ _ _ _ (compiles c.in_ok-template.ensures.ok) c.in_ok-rc.ensures.state (is c.in_ok-rc.ensures.ready other))
     c.renders.ensures.err
 
 pub returns-clause-one : goal.returns-clause-one

@@ -1,4 +1,4 @@
-use Rattle.std.proofs.Common.{[], ◌∙◌, sym, ap}
+use Rattle.std.proofs.Common.{◌∙◌, sym, ap}
 use Rattle.std.proofs.lemmas.Result.{IfOk-weaker, IfErr-weaker}
 use Rattle.handlebars_base.specs.Reasons.{template_not_found}
 use Rattle.handlebars_base.specs.RenderRefusals.{plain_refusal}
@@ -32,13 +32,13 @@ returns-in_err-rc-clause-origins g c = answer_has_origins _ _
 
 pub returns-clause-ok : goal.returns-clause-ok
 returns-clause-ok g c = IfOk-weaker c.renders.result _ _
-    (λ text is. gives_text _ _ _ _ (is_stored (sym (rw c.in-Some.is at c.get_template.ensures))) c.in_ok-rc.ensures.state (is.1 []))
+    (λ text is. gives_text _ _ _ _ (is_stored (sym (rw c.in-Some.is at c.get_template.ensures))) c.in_ok-rc.ensures.state is.1)
     c.renders.ensures.ok
 
 pub returns-clause-err : goal.returns-clause-err
 returns-clause-err g c = IfErr-weaker c.renders.result _ _
     (λ e is other. refuses_with _ _ _ _ (is_stored (sym (rw c.in-Some.is at c.get_template.ensures))) c.in_ok-rc.ensures.state
-    (is c.in_ok-rc.ensures.ready other []))
+    (is c.in_ok-rc.ensures.ready other))
     c.renders.ensures.err
 
 pub returns-clause-one : goal.returns-clause-one

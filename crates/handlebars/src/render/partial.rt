@@ -1,0 +1,65 @@
+//! Inclusions, for callers.
+
+ghost use Rattle.std.specs.Prelude.{◌≡◌, IsErrAnd, OnErr, OnOk, true, false};
+ghost use Rattle.handlebars_base.specs.Reasons.{failed};
+ghost use Rattle.handlebars_base.specs.RenderRefusals.{refusal_of, plain_refusal};
+ghost use Rattle.handlebars_helpers.specs.DecoratorsView.{tag_view};
+ghost use Rattle.handlebars_meaning.specs.Including.{include};
+ghost use Rattle.handlebars_meaning.specs.Sites.{Site};
+ghost use Rattle.handlebars_meaning.specs.Steps.{run};
+ghost use Rattle.handlebars_render.specs.View.{state_of, root_of, has_failed, first_moment, without_partials, CarriesOut};
+ghost use Rattle.handlebars.specs.View.{setting_of};
+
+use crate::registry::RegistryOf;
+use crate::render::logging::Logging;
+use handlebars_base::error::RenderError;
+use handlebars_base::output::Output;
+use handlebars_helpers::decorators::view::Decorator;
+use handlebars_helpers::entries::OwnParts;
+use handlebars_render::context::RenderContext;
+use handlebars_render::entry::include_into;
+use handlebars_render::failure::{fail_after, ready};
+use handlebars_render::setting::Setting;
+use handlebars_scope::context::Context;
+use log::Log;
+use std::alloc::Global;
+
+/// Renders what a tag of this view includes into an output: what is found by its name, under the view's indentation.
+/// After a refusal the render context has failed: it answers `Failed` from then on, and nothing more is written.
+pub fn expand_partial<E: OwnParts, L: Log, O: Output>(
+    alloc: Global,
+    d: &Decorator,
+    registry: &RegistryOf<E>,
+    data: &Context,
+    rc: &mut RenderContext,
+    out: &mut O,
+    log: &L,
+) -> Result<(), RenderError>
+    ensures includes { (site : Site) → has_failed rc.old ≡ false
+        → CarriesOut (setting_of E.registered E.own registry.now «data».now) (run (include site (tag_view d.now)))
+        O.may_give (first_moment rc.old (O.held out.old)) result (first_moment rc.new (O.held out.new)) }
+    ensures failed { has_failed rc.old ≡ true → IsErrAnd result (λ e. refusal_of e ≡ plain_refusal failed)
+        × (rc.new ≡ rc.old) × (O.held out.new ≡ O.held out.old) }
+    ensures root { root_of rc.new ≡ root_of rc.old }
+    ensures blocks { without_partials (state_of rc.new).blocks ≡ without_partials (state_of rc.old).blocks }
+    ensures recursive { (state_of rc.new).recursive ≡ (state_of rc.old).recursive }
+    ensures escapes { (state_of rc.new).escapes ≡ (state_of rc.old).escapes }
+    ensures ok { OnOk result (has_failed rc.new ≡ false) }
+    ensures err { OnErr result (has_failed rc.new ≡ true) }
+{
+    ready(rc)?;
+    let parts = &Logging { registry, log };
+    let setting = Setting {
+        alloc,
+        parts,
+        given: data,
+        room: u64::MAX,
+        inclusions: 0,
+        kept: None,
+        indent: None,
+    };
+    match include_into(d, &setting, rc, out) {
+        Ok(()) => Ok(()),
+        Err(e) => fail_after(rc, Err(e.into_error())),
+    }
+}

@@ -1,0 +1,94 @@
+-- What an inclusion finds, the block that it stands in, and what it changes.
+use Rattle.std.specs.Prelude.{◌+◌, ◌++◌, Bool, false, List, [], ◌∷◌, Option, None, Some}
+use Rattle.std.specs.Str.{bytes_eq}
+use Rattle.serde_json.specs.Data.{Data}
+use Rattle.handlebars_base.specs.Bytes.{Text}
+use Rattle.handlebars_base.specs.PathAndData.{PathAndData}
+use Rattle.handlebars_base.specs.Scoped.{data_in}
+use Rattle.handlebars_template.specs.Tree.{Tree, Body, no_body, body}
+use Rattle.handlebars_scope.specs.Merged.{merged}
+use Rattle.handlebars_scope.specs.Scopes.{nothing_at, put_at, Bound, bound_value, Frame, empty_frame}
+use Rattle.handlebars_meaning.specs.Pieces.{Piece}
+use Rattle.handlebars_meaning.specs.State.{Parts, Kept, State, outer, partial_in}
+
+-- ---- what is found
+
+-- What an inclusion by a name finds: a local partial, a registered template, or neither. Then it is the tag's own block, or
+-- there is none.
+pub data Partial : Type 0 where
+  is_local : Tree → Partial
+  is_registered : Tree → Partial
+  is_own_block : Tree → Partial
+  is_nowhere : Partial
+
+abbrev pub own_block : Body → Partial
+own_block no_body = is_nowhere
+own_block (body t) = is_own_block t
+
+abbrev pub registered_or_own : Option Tree → Body → Partial
+registered_or_own None b = own_block b
+registered_or_own (Some t) b = is_registered t
+
+abbrev pub local_or_other : Option Tree → Option Tree → Body → Partial
+local_or_other None stored b = registered_or_own stored b
+local_or_other (Some t) stored b = is_local t
+
+-- what a tag with this body finds by a name: a local partial comes first, the nearest block's before others
+abbrev pub found_by : Parts → State → Text → Body → Partial
+found_by parts s name b = local_or_other (partial_in s.blocks name) (parts.template name) b
+
+-- a name is the current one
+abbrev pub is_current : Text → Option Text → Bool
+is_current name None = false
+is_current name (Some current) = bytes_eq current name
+
+-- the newest text that is kept; there is none where the newest entry has none
+abbrev pub newest : Kept → Option (List Piece)
+newest [] = None
+newest (k ∷ ks) = k
+
+-- ---- the block of an inclusion
+
+-- the values of pairs, of which a missing one counts as null
+abbrev pub pair_values : List (Text × PathAndData) → List (Text × Data)
+pair_values [] = []
+pair_values (h ∷ hs) = (h.0, data_in h.1.found) ∷ pair_values hs
+
+-- values bound to their names, beside those that are bound already
+abbrev pub with_bound : List (Text × Data) → (Text → Option Bound) → Text → Option Bound
+with_bound [] bound = bound
+with_bound (h ∷ hs) bound = with_bound hs (put_at h.0 (bound_value h.1) bound)
+
+-- It stands at a value, merged with the pairs, each of which is bound to its key too; and it has these variables.
+abbrev pub inclusion_block : Data → List (Text × Data) → (Text → Option Data) → Frame
+inclusion_block d hs variables = record empty_frame {
+  base_value = Some (merged d hs);
+  bound = with_bound hs nothing_at;
+  variable = variables;
+}
+
+-- ---- what it changes
+
+-- an indentation, followed by another one, where there is one
+abbrev pub joined_indent : Option Text → Option Text → Option Text
+joined_indent None own = own
+joined_indent (Some i) None = Some i
+joined_indent (Some i) (Some own) = Some (i ++ own)
+
+-- The partial is begun: its indentation is in force, what is kept for it is the newest, and it counts.
+abbrev pub begun : Option Text → Option (List Piece) → State → State
+begun indent k s = record s { indent = indent; kept = k ∷ s.kept; inclusions = s.inclusions + 1 }
+
+-- with the name and the indentation of the state before
+abbrev pub named_as_before : State → State → State
+named_as_before before s = record s { current = before.current; indent = before.indent }
+
+-- The inclusion is over: its block is left, and the name, the indentation, what is kept and the count are as before.
+abbrev pub over : State → State → State
+over before s = record s {
+  current = before.current;
+  blocks = outer s.blocks;
+  indent = before.indent;
+  kept = before.kept;
+  inclusions = before.inclusions;
+}

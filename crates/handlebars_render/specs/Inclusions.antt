@@ -1,0 +1,33 @@
+-- What the parts of an inclusion come to.
+use Rattle.std.specs.Prelude.{◌≡◌, ◌≢◌, ℕ, Option, option_map, Result, Ok, Err}
+use denote.Ref.{Bor}
+use Rattle.serde_json.specs.Data.{Data}
+use Rattle.handlebars_base.specs.Bytes.{Text}
+use Rattle.handlebars_base.specs.Reasons.{out_of_memory}
+use Rattle.handlebars_base.specs.RenderRefusals.{reason_in, refusal_of}
+use Rattle.handlebars_base.specs.declared.error.render_error.RenderError.{RenderError}
+use Rattle.handlebars_scope.specs.Merged.{merged}
+use Rattle.handlebars_scope.specs.Scopes.{Frame}
+use Rattle.handlebars_helpers.specs.Decoration.{DecoratorView}
+use Rattle.handlebars_meaning.specs.Inclusion.{inclusion_block, pair_values}
+use Rattle.handlebars_meaning.specs.Including.{base_value}
+use Rattle.handlebars_meaning.specs.State.{Setting, State, nearest_variables}
+use Rattle.handlebars_render.specs.View.{Within, GivesValue, RefusesValue}
+
+-- within one more inclusion: so many are being rendered, with this text kept, or none, and under this indentation
+abbrev pub included : ℕ → Option (Bor Text) → Option Text → Within
+included count text indent = record { text = option_map (λ t. t.now) text; inclusions = count; indent = indent }
+
+-- The value is that of an inclusion's block, merged with the pairs, or it is refused.
+abbrev pub HasBase : {T : Type 0} → Setting → DecoratorView → State → (T → Data) → Result T RenderError → Type 0
+HasBase p v s seen (Ok x) = (d : Data) × GivesValue p (base_value v.call.params) s d
+    × (seen x ≡ merged d (pair_values v.call.pairs))
+HasBase p v s seen (Err e) =
+    reason_in e ≢ out_of_memory → RefusesValue p (base_value v.call.params) s (refusal_of e)
+
+-- The block is that of an inclusion, or its value is refused.
+abbrev pub StandsAt : {T : Type 0} → Setting → DecoratorView → State → (T → Frame) → Result T RenderError → Type 0
+StandsAt p v s seen (Ok x) = (d : Data) × GivesValue p (base_value v.call.params) s d
+    × (seen x ≡ inclusion_block d (pair_values v.call.pairs) (nearest_variables s.blocks))
+StandsAt p v s seen (Err e) =
+    reason_in e ≢ out_of_memory → RefusesValue p (base_value v.call.params) s (refusal_of e)

@@ -1,0 +1,82 @@
+//! The entrances of a rendering, for callers that have an output.
+
+ghost use Rattle.handlebars_template.specs.TreeView.{element_view, tree_view};
+ghost use Rattle.handlebars_helpers.specs.DecoratorsView.{tag_view};
+ghost use Rattle.handlebars_meaning.specs.Including.{include};
+ghost use Rattle.handlebars_meaning.specs.Means.{render_element};
+ghost use Rattle.handlebars_meaning.specs.Sites.{Site, TreeSite};
+ghost use Rattle.handlebars_meaning.specs.Steps.{Whole, perform, run};
+ghost use Rattle.handlebars_render.specs.Boxed.{answer_of};
+ghost use Rattle.handlebars_render.specs.View.{setting_in, moment, CarriesOn, CarriesOut, IsKept, KeptIn, within};
+
+use crate::boxed::BoxedError;
+use crate::context::RenderContext;
+use crate::element::render_element;
+use crate::partial::include;
+use crate::registered::Registered;
+use crate::setting::Setting;
+use crate::sink::Sink;
+use crate::tree::render_tree;
+use handlebars_base::output::Output;
+use handlebars_helpers::decorators::view::Decorator;
+use handlebars_template::template::{Template, TemplateElement};
+
+/// Renders a tree into an output.
+pub fn render_into<'a, O: Output, P: Registered>(
+    template: &'a Template,
+    setting: &Setting<'_, 'a, P>,
+    rc: &mut RenderContext,
+    out: &mut O,
+) -> Result<(), BoxedError>
+    ensures renders { (at : TreeSite) (kept : KeptIn (within setting.now)) → CarriesOn (setting_in P.parts setting.now)
+        (perform (Whole at (tree_view template.now))) O.may_give (moment kept rc.old (O.held out.old))
+        (answer_of result) (moment kept rc.new (O.held out.new)) }
+    ensures kept { IsKept rc.old rc.new }
+{
+    let mut sink = Sink::Out(out);
+    let answer = render_tree(template, setting, rc, &mut sink);
+    match sink {
+        Sink::Out(_out) => answer,
+        Sink::Ahead(_ahead) => answer,
+    }
+}
+
+/// Renders an element into an output.
+pub fn render_element_into<'a, O: Output, P: Registered>(
+    element: &'a TemplateElement,
+    setting: &Setting<'_, 'a, P>,
+    rc: &mut RenderContext,
+    out: &mut O,
+) -> Result<(), BoxedError>
+    ensures renders { (site : Site) (kept : KeptIn (within setting.now)) → CarriesOut (setting_in P.parts setting.now)
+        (run (render_element site (element_view element.now))) O.may_give (moment kept rc.old (O.held out.old))
+        (answer_of result) (moment kept rc.new (O.held out.new)) }
+    ensures kept { IsKept rc.old rc.new }
+{
+    let mut sink = Sink::Out(out);
+    let answer = render_element(element, setting, rc, &mut sink);
+    match sink {
+        Sink::Out(_out) => answer,
+        Sink::Ahead(_ahead) => answer,
+    }
+}
+
+/// Includes what is found by the name of a tag, into an output.
+pub fn include_into<O: Output, P: Registered>(
+    view: &Decorator,
+    setting: &Setting<'_, '_, P>,
+    rc: &mut RenderContext,
+    out: &mut O,
+) -> Result<(), BoxedError>
+    ensures renders { (site : Site) (kept : KeptIn (within setting.now)) → CarriesOn (setting_in P.parts setting.now)
+        (include site (tag_view view.now)) O.may_give (moment kept rc.old (O.held out.old))
+        (answer_of result) (moment kept rc.new (O.held out.new)) }
+    ensures kept { IsKept rc.old rc.new }
+{
+    let mut sink = Sink::Out(out);
+    let answer = include(view, setting, rc, &mut sink);
+    match sink {
+        Sink::Out(_out) => answer,
+        Sink::Ahead(_ahead) => answer,
+    }
+}

@@ -1,0 +1,332 @@
+//! Rendering inclusions.
+
+ghost use Rattle.std.specs.Prelude.{◌≡◌, ◌<◌, ◌≤◌, ◌+◌, IfErr, IfOk};
+ghost use Rattle.std.specs.Str.{bytes_eq};
+ghost use Rattle.handlebars_base.specs.Answers.{IsRefusal};
+ghost use Rattle.handlebars_base.specs.Outputs.{Held};
+ghost use Rattle.handlebars_base.specs.Reasons.{inclusion_limit, partial_not_found};
+ghost use Rattle.handlebars_base.specs.RenderRefusals.{plain_refusal, reason_of};
+ghost use Rattle.handlebars_template.specs.Tree.{decorator_marks};
+ghost use Rattle.handlebars_template.specs.TreeView.{decorator_view, tree_view};
+ghost use Rattle.handlebars_helpers.specs.DecoratorsView.{tag_view};
+ghost use Rattle.handlebars_meaning.specs.Inclusion.{newest, own_block};
+ghost use Rattle.handlebars_meaning.specs.Including.{include, include_found, include_partial, partial_block_name, write_kept};
+ghost use Rattle.handlebars_meaning.specs.Means.{line_at, render_partial};
+ghost use Rattle.handlebars_meaning.specs.Sites.{Site, TreeSite};
+ghost use Rattle.handlebars_meaning.specs.Steps.{Whole, capture, perform};
+ghost use Rattle.handlebars_render.specs.Boxed.{answer_of, error_of};
+ghost use Rattle.handlebars_render.specs.Inclusions.{included};
+ghost use Rattle.handlebars_render.specs.View.{setting_in, state_of, state_with, moment, CarriesAhead, CarriesOn, IsKept, KeptIn, within, held_in, IsSame};
+
+use crate::block::leave_call;
+use crate::boxed::BoxedError;
+use crate::called::view_of_tag;
+use crate::context::RenderContext;
+use crate::inclusion::inclusion_block;
+use crate::registered::Registered;
+use crate::setting::Setting;
+use crate::sink::Sink;
+use crate::tree::render_tree;
+use crate::write::write_as_is;
+use handlebars_base::error::RenderErrorReason;
+use handlebars_base::output::{Output, StringOutput};
+use handlebars_helpers::decorators::view::Decorator;
+use handlebars_template::template::{DecoratorTemplate, Template};
+use std::alloc::{AllocError, Global};
+
+/// Renders what the tag of an inclusion includes. Its view is made first; behind it the line is as behind a call.
+#[cycle(render)]
+pub fn render_partial<'a, O: Output, P: Registered>(
+    tag: &'a DecoratorTemplate,
+    setting: &Setting<'_, 'a, P>,
+    rc: &mut RenderContext,
+    sink: &mut Sink<'_, O>,
+) -> Result<(), BoxedError>
+    ensures renders { (site : Site) (kept : KeptIn (within setting.now)) → CarriesOn (setting_in P.parts setting.now)
+        (render_partial site (decorator_view tag.now)) O.may_give (moment kept rc.old (held_in O.held sink.old))
+        (answer_of result) (moment kept rc.new (held_in O.held sink.new)) }
+    ensures same { IsSame sink.old sink.new }
+    ensures kept { IsKept rc.old rc.new }
+{
+    let call = match view_of_tag(setting, rc, tag) {
+        Ok(call) => call,
+        Err(e) => return Err(BoxedError::new(setting.alloc, e)),
+    };
+    let view = call.of_tag(setting.alloc, setting.indent, tag)?;
+    let before = rc.get_indent_before_write();
+    let produced = rc.get_content_produced();
+    enter_partial(rc, tag);
+    let answer = include(&view, setting, rc, sink);
+    leave_call(rc, before, produced);
+    answer
+}
+
+// The line where an inclusion begins.
+fn enter_partial(rc: &mut RenderContext, tag: &DecoratorTemplate)
+    ensures state { state_of rc.new ≡ record (state_of rc.old) {
+      line = line_at (decorator_marks (decorator_view tag.now)) (state_of rc.old).line;
+    } }
+    ensures kept { IsKept rc.old rc.new }
+{
+    let trailing = rc.get_trailine_newline();
+    rc.set_indent_before_write(tag.indent_before_write && (trailing || tag.indent.is_some()));
+    rc.set_content_produced(false);
+}
+
+/// Includes what is found by the name of a tag.
+#[cycle(render)]
+pub fn include<O: Output, P: Registered>(
+    view: &Decorator,
+    setting: &Setting<'_, '_, P>,
+    rc: &mut RenderContext,
+    sink: &mut Sink<'_, O>,
+) -> Result<(), BoxedError>
+    ensures renders { (site : Site) (kept : KeptIn (within setting.now)) → CarriesOn (setting_in P.parts setting.now)
+        (include site (tag_view view.now)) O.may_give (moment kept rc.old (held_in O.held sink.old))
+        (answer_of result) (moment kept rc.new (held_in O.held sink.new)) }
+    ensures same { IsSame sink.old sink.new }
+    ensures kept { IsKept rc.old rc.new }
+{
+    if rc.is_current_template(view.name()) {
+        return Err(refused(setting.alloc, RenderErrorReason::CannotIncludeSelf));
+    }
+    if is_partial_block(view.name()) {
+        return render_kept(view, setting, rc, sink);
+    }
+    let found = rc.shared_partial(view.name())?;
+    let nearer = Setting {
+        alloc: setting.alloc,
+        parts: &*setting.parts,
+        given: &*setting.given,
+        room: setting.room,
+        inclusions: setting.inclusions,
+        kept: setting.kept,
+        indent: setting.indent,
+    };
+    match &found {
+        Some(tree) => include_found(view, &*tree, &nearer, rc, sink),
+        None => match setting.parts.template(view.name()) {
+            Some(tree) => include_found(view, &*tree, &nearer, rc, sink),
+            None => include_own(view, setting, rc, sink),
+        },
+    }
+}
+
+// Whether a name is that of the kept text.
+fn is_partial_block(name: &str) -> bool
+    ensures { result ≡ bytes_eq partial_block_name name.now }
+{
+    "@partial-block" == name
+}
+
+// Writes the text that is kept, or renders the tag's own block.
+#[cycle(render)]
+fn render_kept<O: Output, P: Registered>(
+    view: &Decorator,
+    setting: &Setting<'_, '_, P>,
+    rc: &mut RenderContext,
+    sink: &mut Sink<'_, O>,
+) -> Result<(), BoxedError>
+    ensures renders { (site : Site) (kept : KeptIn (within setting.now)) → CarriesOn (setting_in P.parts setting.now)
+        (write_kept site (tag_view view.now).body (state_with kept rc.old) (newest kept.pieces))
+        O.may_give (moment kept rc.old (held_in O.held sink.old))
+        (answer_of result) (moment kept rc.new (held_in O.held sink.new)) }
+    ensures same { IsSame sink.old sink.new }
+    ensures kept { IsKept rc.old rc.new }
+{
+    if let Some(text) = setting.kept {
+        return write_as_is(setting.alloc, text, sink);
+    }
+    let Some(body) = view.template() else {
+        return Err(refused(setting.alloc, RenderErrorReason::PartialBlockNotFound));
+    };
+    let nearer = Setting {
+        alloc: setting.alloc,
+        parts: &*setting.parts,
+        given: &*setting.given,
+        room: setting.room,
+        inclusions: setting.inclusions,
+        kept: setting.kept,
+        indent: setting.indent,
+    };
+    let name = rc.take_name();
+    let answer = render_tree(&*body, &nearer, rc, sink);
+    rc.set_current_template_name(name);
+    answer
+}
+
+// Includes a tree that was found. The tag's block is rendered ahead, and its text is kept for it.
+#[cycle(render)]
+fn include_found<'a, O: Output, P: Registered>(
+    view: &Decorator,
+    tree: &'a Template,
+    setting: &Setting<'_, 'a, P>,
+    rc: &mut RenderContext,
+    sink: &mut Sink<'_, O>,
+) -> Result<(), BoxedError>
+    ensures renders { (site : Site) (kept : KeptIn (within setting.now)) → CarriesOn (setting_in P.parts setting.now)
+        (include_found site (tag_view view.now) (tree_view tree.now))
+        O.may_give (moment kept rc.old (held_in O.held sink.old))
+        (answer_of result) (moment kept rc.new (held_in O.held sink.new)) }
+    ensures same { IsSame sink.old sink.new }
+    ensures kept { IsKept rc.old rc.new }
+{
+    let count = match one_more(setting) {
+        Ok(count) => count,
+        Err(e) => return Err(e),
+    };
+    let block = match inclusion_block(view, setting, rc) {
+        Ok(block) => block,
+        Err(e) => return Err(BoxedError::new(setting.alloc, e)),
+    };
+    let name = rc.begin(block)?;
+    let answer = match view.template() {
+        Some(body) => match render_ahead::<O, P>(&*body, setting, rc) {
+            Ok(text) => include_tree(tree, count, Some(text.as_str()), view, setting, rc, sink),
+            Err(e) => Err(e),
+        },
+        None => include_tree(tree, count, None, view, setting, rc, sink),
+    };
+    rc.end(name);
+    answer
+}
+
+// Where nothing is found, the tag's own block is included.
+#[cycle(render)]
+fn include_own<O: Output, P: Registered>(
+    view: &Decorator,
+    setting: &Setting<'_, '_, P>,
+    rc: &mut RenderContext,
+    sink: &mut Sink<'_, O>,
+) -> Result<(), BoxedError>
+    ensures renders { (site : Site) (kept : KeptIn (within setting.now)) → CarriesOn (setting_in P.parts setting.now)
+        (include_partial site (tag_view view.now) (own_block (tag_view view.now).body))
+        O.may_give (moment kept rc.old (held_in O.held sink.old))
+        (answer_of result) (moment kept rc.new (held_in O.held sink.new)) }
+    ensures same { IsSame sink.old sink.new }
+    ensures kept { IsKept rc.old rc.new }
+{
+    let Some(body) = view.template() else {
+        return Err(no_partial(setting.alloc, view.name()));
+    };
+    let count = match one_more(setting) {
+        Ok(count) => count,
+        Err(e) => return Err(e),
+    };
+    let block = match inclusion_block(view, setting, rc) {
+        Ok(block) => block,
+        Err(e) => return Err(BoxedError::new(setting.alloc, e)),
+    };
+    let name = rc.begin(block)?;
+    let nearer = Setting {
+        alloc: setting.alloc,
+        parts: &*setting.parts,
+        given: &*setting.given,
+        room: setting.room,
+        inclusions: setting.inclusions,
+        kept: setting.kept,
+        indent: setting.indent,
+    };
+    let answer = include_tree(&*body, count, None, view, &nearer, rc, sink);
+    rc.end(name);
+    answer
+}
+
+// Renders a tree as one more inclusion, for which this text is kept, or none, under the indentation of the view.
+#[cycle(render)]
+fn include_tree<'a, O: Output, P: Registered>(
+    tree: &'a Template,
+    count: u16,
+    text: Option<&str>,
+    view: &Decorator,
+    setting: &Setting<'_, 'a, P>,
+    rc: &mut RenderContext,
+    sink: &mut Sink<'_, O>,
+) -> Result<(), BoxedError>
+    ensures renders { (at : TreeSite) (kept : KeptIn (included count text.entry (tag_view view.now).indent))
+        → CarriesOn (setting_in P.parts setting.now) (perform (Whole at (tree_view tree.now)))
+        O.may_give (moment kept rc.old (held_in O.held sink.old))
+        (answer_of result) (moment kept rc.new (held_in O.held sink.new)) }
+    ensures same { IsSame sink.old sink.new }
+    ensures kept { IsKept rc.old rc.new }
+{
+    let nearer = Setting {
+        alloc: setting.alloc,
+        parts: &*setting.parts,
+        given: setting.given,
+        room: setting.room,
+        inclusions: count,
+        kept: text,
+        indent: view.indent(),
+    };
+    render_tree(tree, &nearer, rc, sink)
+}
+
+// The text of a tag's block, which is kept for the partial blocks of what is included.
+#[cycle(render)]
+fn render_ahead<O: Output, P: Registered>(
+    body: &Template,
+    setting: &Setting<'_, '_, P>,
+    rc: &mut RenderContext,
+) -> Result<String, BoxedError>
+    ensures ahead { (at : TreeSite) (kept : KeptIn (within setting.now)) (held : Held)
+        → CarriesAhead (setting_in P.parts setting.now) (capture (perform (Whole at (tree_view body.now))))
+        O.may_give (moment kept rc.old held) (answer_of result) (moment kept rc.new held) }
+    ensures kept { IsKept rc.old rc.new }
+{
+    let nearer = Setting {
+        alloc: setting.alloc,
+        parts: &*setting.parts,
+        given: &*setting.given,
+        room: setting.room,
+        inclusions: setting.inclusions,
+        kept: setting.kept,
+        indent: setting.indent,
+    };
+    let mut text = StringOutput::new(setting.alloc);
+    let mut ahead: Sink<'_, O> = Sink::Ahead(&mut text);
+    let answer = render_tree(&*body, &nearer, rc, &mut ahead);
+    match ahead {
+        Sink::Ahead(_text) => match answer {
+            Ok(()) => Ok(text.into_string()),
+            Err(e) => Err(e),
+        },
+        Sink::Out(_out) => unreachable!(),
+    }
+}
+
+// How many inclusions are being rendered within one more, where there is room for it.
+fn one_more<P: Registered>(setting: &Setting<'_, '_, P>) -> Result<u16, BoxedError>
+    ensures ok { IfOk result (λ n. ((within setting.now).inclusions < (P.parts setting.now.parts.now).limit)
+        × (n ≡ (within setting.now).inclusions + 1)) }
+    ensures err { IfErr result (λ e. ((P.parts setting.now.parts.now).limit ≤ (within setting.now).inclusions)
+        × IsRefusal (plain_refusal (inclusion_limit (P.parts setting.now.parts.now).limit)) (error_of e)) }
+{
+    let limit = setting.parts.limit();
+    if setting.inclusions < limit {
+        Ok(setting.inclusions + 1)
+    } else {
+        Err(refused(setting.alloc, RenderErrorReason::InclusionLimit(limit)))
+    }
+}
+
+// A refusal for this reason.
+#[cold]
+#[inline(never)]
+fn refused(alloc: Global, reason: RenderErrorReason) -> BoxedError
+    ensures { IsRefusal (plain_refusal (reason_of reason)) (error_of result) }
+{
+    BoxedError::new(alloc, reason.into())
+}
+
+// The refusal of a name by which nothing is found.
+#[cold]
+#[inline(never)]
+fn no_partial(alloc: Global, name: &str) -> BoxedError
+    ensures { IsRefusal (plain_refusal (partial_not_found name.now)) (error_of result) }
+{
+    match String::from_str(alloc, name) {
+        Ok(name) => BoxedError::new(alloc, RenderErrorReason::PartialNotFound(name).into()),
+        Err(AllocError) => BoxedError::OutOfMemory,
+    }
+}

@@ -1,0 +1,36 @@
+-- What is merged, from one position on.
+use Rattle.std.proofs.Common.{◌≡◌, ℕ, ◌+◌, ◌<◌, ◌≤◌, [], ◌∷◌, ◌++◌, List, drop, get_or, length, map, decimal, refl, sym, ap, ◌∙◌, arith}
+use Rattle.std.proofs.lemmas.List.{drop_all, drop_more}
+use Rattle.std.proofs.lemmas.Str.{chars-nil, chars_past_char}
+use Rattle.std.specs.Char.{encode_utf8}
+use Rattle.std.specs.Str.{chars, IsUtf8}
+use Rattle.handlebars_base.specs.Bytes.{Text}
+use Rattle.serde_json.specs.Data.{Data, Members, put, string}
+use Rattle.serde_json.specs.View.{items_view, view}
+use Rattle.serde_json.specs.declared.value.Value.{Value}
+use Rattle.handlebars_scope.specs.Merged.{with_characters, with_items}
+
+-- an item more
+pub with_items-more : (i : ℕ) (vs : List Value) (v : Value) (ms : Members) → i < length vs → v ≡ get_or vs i v
+    → with_items i (items_view (drop i vs)) ms ≡ with_items (i + 1) (items_view (drop (i + 1) vs)) (put (decimal i) (view v) ms)
+with_items-more i vs v ms inside is =
+    ap (λ (zs : List Value). with_items i (items_view zs) ms) (drop_more vs i v inside)
+    ∙ ap (λ (z : Value). with_items (i + 1) (items_view (drop (i + 1) vs)) (put (decimal i) (view z) ms)) (sym is)
+
+-- none is left
+pub with_items-done : (i : ℕ) (vs : List Value) (ms : Members) → length vs ≤ i → with_items i (items_view (drop i vs)) ms ≡ ms
+with_items-done i vs ms over = ap (λ (zs : List Value). with_items i (items_view zs) ms) (drop_all i vs over)
+
+-- a character more
+pub with_characters-more : (i j index : ℕ) (bs rest : Text) (c : ℕ) (d : Data) (ms next : Members) → IsUtf8 bs
+    → bs ≡ encode_utf8 c ++ rest → index ≡ i → j ≡ i + 1 → d ≡ string (encode_utf8 c) → next ≡ put (decimal index) d ms
+    → with_characters j (chars rest) next ≡ with_characters i (chars bs) ms
+with_characters-more i j index bs rest c d ms next utf8 is here after same more =
+    ap (λ n. with_characters n (chars rest) next) after
+    ∙ ap (λ (z : Members). with_characters (i + 1) (chars rest) z)
+    (more ∙ ap (λ n. put (decimal n) d ms) here ∙ ap (λ (z : Data). put (decimal i) z ms) same)
+    ∙ sym (ap (λ cs. with_characters i cs ms) (chars_past_char bs rest c utf8 is))
+
+pub with_characters-done : (i : ℕ) (bs : Text) (ms : Members) → length bs ≡ 0 → with_characters i (chars bs) ms ≡ ms
+with_characters-done i [] ms none = ap (λ cs. with_characters i cs ms) chars-nil
+with_characters-done i (b ∷ bs) ms none = absurd (omega (arith, none))

@@ -1,0 +1,118 @@
+//! What a value becomes with the pairs of an inclusion.
+
+ghost use Rattle.std.specs.Prelude.{◌≡◌, IfOk, OnOk, decimal, is_some, string_bytes, true};
+ghost use Rattle.std.specs.Char.{encode_utf8};
+ghost use Rattle.std.specs.Str.{chars};
+ghost use Rattle.serde_json.specs.Data.{no_members, put, string};
+ghost use Rattle.serde_json.specs.Find.{as_object};
+ghost use Rattle.serde_json.specs.View.{items_view, members_view, view};
+ghost use Rattle.handlebars_scope.specs.Merged.{members_in, merged, with_characters, with_items};
+ghost use Rattle.handlebars_scope.specs.MergedView.{pairs_in};
+
+use handlebars_base::json::value::{Json, PathAndJson};
+use std::alloc::{AllocError, Global};
+use std::collections::BTreeMap;
+
+/// A value with these pairs. Without any it is a copy of the value; with some an object, with the value's members, or
+/// its items or characters by their positions. A pair whose value is missing counts as null.
+pub fn merge(
+    alloc: Global,
+    base: &Json,
+    pairs: &BTreeMap<&str, PathAndJson>,
+) -> Result<Json, AllocError>
+    ensures { IfOk result (λ d. view d ≡ merged (view base.now) (pairs_in pairs.now.entries)) }
+{
+    if pairs.is_empty() {
+        return base.clone();
+    }
+    let mut members = members_in(alloc, base)?;
+    'pairs: for (key, value) in pairs.iter() {
+        put(
+            &mut members,
+            String::from_str(alloc, *key)?,
+            value.value().clone()?,
+        )?;
+    }
+    Ok(Json::Object(members))
+}
+
+// The members that a value brings.
+fn members_in(alloc: Global, base: &Json) -> Result<BTreeMap<String, Json>, AllocError>
+    ensures { IfOk result (λ members. members_view members.entries ≡ members_in (view base.now)) }
+{
+    match base {
+        Json::Object(_) => own_members(alloc, base.clone()?),
+        Json::Array(items) => items_by_position(alloc, items),
+        Json::String(text) => characters_by_position(alloc, text.as_str()),
+        Json::Null | Json::Bool(_) | Json::Number(_) => Ok(BTreeMap::new(alloc)),
+    }
+}
+
+// Those of an object.
+fn own_members(alloc: Global, base: Json) -> Result<BTreeMap<String, Json>, AllocError>
+    ensures { IfOk result (λ members. is_some (as_object (view base)) ≡ true
+        → members_view members.entries ≡ members_in (view base)) }
+{
+    match base {
+        Json::Object(members) => Ok(members),
+        _ => Ok(BTreeMap::new(alloc)),
+    }
+}
+
+fn items_by_position(alloc: Global, items: &Vec<Json>) -> Result<BTreeMap<String, Json>, AllocError>
+    ensures { IfOk result (λ members. members_view members.entries
+        ≡ with_items 0 (items_view items.now.items) no_members) }
+{
+    let mut members = BTreeMap::new(alloc);
+    'items: for (index, item) in items.iter().enumerate() {
+        put_at(alloc, &mut members, index, item.clone()?)?;
+    }
+    Ok(members)
+}
+
+fn characters_by_position(alloc: Global, text: &str) -> Result<BTreeMap<String, Json>, AllocError>
+    ensures { IfOk result (λ members. members_view members.entries
+        ≡ with_characters 0 (chars text.now) no_members) }
+{
+    let mut members = BTreeMap::new(alloc);
+    'characters: for (index, character) in text.chars().enumerate() {
+        put_at(
+            alloc,
+            &mut members,
+            index,
+            character_alone(alloc, character)?,
+        )?;
+    }
+    Ok(members)
+}
+
+// A text of one character.
+fn character_alone(alloc: Global, character: char) -> Result<Json, AllocError>
+    ensures { IfOk result (λ d. view d ≡ string (encode_utf8 character)) }
+{
+    let mut text = String::new(alloc);
+    text.push(character)?;
+    Ok(Json::String(text))
+}
+
+// Puts a value at a position.
+fn put_at(
+    alloc: Global,
+    members: &mut BTreeMap<String, Json>,
+    position: usize,
+    value: Json,
+) -> Result<(), AllocError>
+    ensures { OnOk result (members_view members.new.entries
+        ≡ put (decimal position) (view value) (members_view members.old.entries)) }
+{
+    let key = format!(in alloc; "{position}")?;
+    put(members, key, value)
+}
+
+fn put(members: &mut BTreeMap<String, Json>, key: String, value: Json) -> Result<(), AllocError>
+    ensures { OnOk result (members_view members.new.entries
+        ≡ put (string_bytes key) (view value) (members_view members.old.entries)) }
+{
+    members.insert(key, value)?;
+    Ok(())
+}
