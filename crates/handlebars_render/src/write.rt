@@ -26,7 +26,7 @@ ghost use Rattle.handlebars_meaning.specs.Writing.{rendered_if_any};
 ghost use Rattle.handlebars_meaning.specs.State.{State};
 ghost use Rattle.handlebars_render.specs.Boxed.{answer_of, error_of};
 ghost use Rattle.handlebars_render.specs.Shows.{PutsTo, ShowsTo, entities_by};
-ghost use Rattle.handlebars_render.specs.View.{setting_in, state_of, moment, first_moment, word_reason, Around, CarriesOn, Puts, PutsStep, PutsWord, TellsFault, IsKept, KeptIn, within, held_in, IsSame};
+ghost use Rattle.handlebars_render.specs.View.{setting_in, state_of, moment, first_moment, word_reason, Within, CarriesOn, Puts, PutsStep, PutsWord, TellsFault, IsKept, KeptIn, within, held_in, IsSame};
 
 use crate::boxed::BoxedError;
 use crate::context::RenderContext;
@@ -229,7 +229,7 @@ fn write_value_plainly<O: Output>(
     rc: &RenderContext,
     out: &mut O,
 ) -> Result<LineState, BoxedError>
-    ensures puts { (a : Around) (kept : KeptIn a) → a.indent ≡ None → PutsTo (escaped_if entities (rendered (view value.now)))
+    ensures puts { (a : Within) (kept : KeptIn a) → a.indent ≡ None → PutsTo (escaped_if entities (rendered (view value.now)))
         O.may_give (moment kept rc.now (O.held out.old)) (answer_of result) (O.held out.new) }
 {
     match write_value(out, value, entities) {
@@ -247,7 +247,7 @@ fn write_value_under<O: Output>(
     rc: &RenderContext,
     out: &mut O,
 ) -> Result<LineState, BoxedError>
-    ensures puts { (a : Around) (kept : KeptIn a) → a.indent ≡ Some indent.now
+    ensures puts { (a : Within) (kept : KeptIn a) → a.indent ≡ Some indent.now
         → PutsTo (escaped_if entities (rendered (view value.now)))
         O.may_give (moment kept rc.now (O.held out.old)) (answer_of result) (O.held out.new) }
 {
@@ -268,7 +268,7 @@ fn write_text_under<O: Output>(
     rc: &RenderContext,
     out: &mut O,
 ) -> Result<LineState, BoxedError>
-    ensures puts { (a : Around) (kept : KeptIn a) → a.indent ≡ Some indent.now → PutsTo (escaped_if entities text.now)
+    ensures puts { (a : Within) (kept : KeptIn a) → a.indent ≡ Some indent.now → PutsTo (escaped_if entities text.now)
         O.may_give (moment kept rc.now (O.held out.old)) (answer_of result) (O.held out.new) }
 {
     match write_in_line(rc.line(), text, indent, entities, out) {
