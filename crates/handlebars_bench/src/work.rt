@@ -12,6 +12,8 @@ pub enum Work {
     Escape,
     Compile,
     Plain,
+    Included,
+    Written,
 }
 
 /// The texts that a work is made of.
@@ -60,6 +62,8 @@ impl Work {
             "escape" => Some(Work::Escape),
             "compile" => Some(Work::Compile),
             "plain" => Some(Work::Plain),
+            "included" => Some(Work::Included),
+            "written" => Some(Work::Written),
             _ => None,
         }
     }
@@ -73,6 +77,8 @@ impl Work {
             Work::Escape => ESCAPE,
             Work::Compile => COMPILE,
             Work::Plain => PLAIN,
+            Work::Included => INCLUDED,
+            Work::Written => WRITTEN,
         }
     }
 
@@ -109,6 +115,8 @@ impl Work {
             Work::Escape => push_marked(text),
             Work::Compile => Ok(()),
             Work::Plain => Ok(()),
+            Work::Included => push_entry(text, number),
+            Work::Written => push_entry(text, number),
         }
     }
 }
@@ -196,4 +204,24 @@ const PLAIN: WorkTexts = WorkTexts {
     front: r#"{"name":"foo","number":17,"place":"home""#,
     end: "}",
     grows: Grows::Lines,
+};
+
+const INCLUDED: WorkTexts = WorkTexts {
+    name: "included",
+    full_size: 10_000,
+    line: "{{#*inline \"entry\"}}<li id={{id}}>{{name}} by {{owner.name}}</li>{{/inline}}\
+        {{#each items}}{{> entry}}{{/each}}",
+    front: r#"{"items":["#,
+    end: "]}",
+    grows: Grows::Items,
+};
+
+// What `included` includes, written out.
+const WRITTEN: WorkTexts = WorkTexts {
+    name: "written",
+    full_size: 10_000,
+    line: "{{#each items}}<li id={{id}}>{{name}} by {{owner.name}}</li>{{/each}}",
+    front: r#"{"items":["#,
+    end: "]}",
+    grows: Grows::Items,
 };
