@@ -157,16 +157,18 @@ fn nested(rt: &impl Abort, alloc: Global, depth: u64) -> String {
     text
 }
 
-// A partial that includes itself twice, sixteen deep: 2^16 texts.
+// A partial that includes itself twice, twenty deep, which is as deep as it may: 2^20 texts.
 #[test]
 fn includes_itself_twice(rt: HostRuntime) {
     let alloc = rt.alloc();
-    let mut bench = Bench::new(&rt, alloc, nested(&rt, alloc, 16).as_str());
+    let mut bench = Bench::new(&rt, alloc, nested(&rt, alloc, 20).as_str());
     let source = "{{#if n}}{{> p n}}{{> p n}}{{else}}x{{/if}}";
     keep(&rt, &mut bench.registry, "p", source);
-    bench.registry.set_inclusion_limit(16);
+    bench.registry.set_inclusion_limit(20);
     let (registry, data) = (&bench.registry, &bench.data);
     let answer = registry.render_with_context("p", data, &Discard, &mut NoFiles);
     let text = answer.expect(&rt, "no refusal");
-    assert!(rt; text.len() == 1 << 16);
+    let mut wanted = String::new(alloc);
+    push_times(&rt, &mut wanted, "x", 1 << 20);
+    assert!(rt; text.as_str() == wanted.as_str());
 }
