@@ -1,7 +1,7 @@
 //! Laws that callers may cite. Each is a function that does nothing: its contract is the law.
 
 ghost use Rattle.handlebars_meaning.specs.Counted.{RendersCounted, JudgesCounted, EqualsCounted, ComparesCounted, WalksCounted};
-ghost use Rattle.handlebars_meaning.specs.Laws.{OneRun, StopsInBeginning, ComesOnce, ComesInTrees, AllHaveOrigins, ElementHasOrigins, OnlyNamedCount, SameUnderLarger};
+ghost use Rattle.handlebars_meaning.specs.Laws.{OneRun, StopsInBeginning, ComesOnce, ComesInTrees, AllHaveOrigins, ElementHasOrigins, LeavesAround, OnlyNamedCount, SameUnderLarger};
 ghost use Rattle.handlebars.specs.View.{setting_of};
 
 use crate::registry::RegistryOf;
@@ -20,9 +20,9 @@ pub use handlebars_template::laws::{cuts_join, one_compilation, one_cut, one_par
 /// Two runs of the same steps from the same state are one, unless they stop on the way; a run that
 /// stops on the way has written a beginning of the whole one's text; a run of a tree comes to no
 /// site twice, and all of its sites stand in trees of the run; and all that the run of a tree or of an element alone writes
-/// has an origin there, where escaping is on, no indentation is in force and nothing is kept at its start. A run that isn't
-/// refused with the limit of inclusions is the same under every larger limit, and whatever stands under names that no
-/// inclusion of it has.
+/// has an origin there, where escaping is on, no indentation is in force and nothing is kept at its start. A tree's run that
+/// ends well leaves what stands around it as it was. A run that isn't refused with the limit of inclusions is the same under
+/// every larger limit, and whatever stands under names that no inclusion of it has.
 pub fn laws_of_runs<E: OwnParts>(registry: &RegistryOf<E>, context: &Context)
     ensures one { OneRun (setting_of E.registered E.own registry.now context.now) }
     ensures beginning { StopsInBeginning (setting_of E.registered E.own registry.now context.now) }
@@ -30,6 +30,7 @@ pub fn laws_of_runs<E: OwnParts>(registry: &RegistryOf<E>, context: &Context)
     ensures origins { AllHaveOrigins (setting_of E.registered E.own registry.now context.now) }
     ensures element { ElementHasOrigins (setting_of E.registered E.own registry.now context.now) }
     ensures trees { ComesInTrees (setting_of E.registered E.own registry.now context.now) }
+    ensures around { LeavesAround (setting_of E.registered E.own registry.now context.now) }
     ensures larger { SameUnderLarger (setting_of E.registered E.own registry.now context.now) }
     ensures named { OnlyNamedCount (setting_of E.registered E.own registry.now context.now) }
 {

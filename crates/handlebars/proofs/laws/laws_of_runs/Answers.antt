@@ -1,3 +1,4 @@
+use Rattle.handlebars_laws.proofs.LeftAround.{leaves_around}
 use Rattle.handlebars_laws.proofs.RunLaws.{Runs-one, Runs-beginning}
 use Rattle.handlebars_laws.proofs.Once.{comes_once}
 use Rattle.handlebars_laws.proofs.RunOrigins.{all_have_origins, comes_in_trees, element_has_origins}
@@ -17,6 +18,7 @@ returns g c =
       origins = all_have_origins p;
       element = element_has_origins p;
       trees = comes_in_trees p;
+      around = leaves_around p;
       larger = same_under_larger p;
       named = only_named_count p;
     }
