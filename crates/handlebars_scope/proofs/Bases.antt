@@ -1,5 +1,5 @@
 -- Blocks that are lent their bases.
-use Rattle.std.proofs.Common.{◌≡◌, ℕ, zero, suc, Bool, true, false, List, [], ◌∷◌, ◌++◌, append-nil, Option, Some, None, option_map, Bor, rules, refl, sym, ap, ◌∙◌}
+use Rattle.std.proofs.Common.{◌≡◌, ◌≢◌, ◌-◌, ℕ, zero, suc, arith, Bool, true, false, List, [], ◌∷◌, ◌++◌, append-nil, Option, Some, None, option_map, Bor, rules, refl, sym, ap, ◌∙◌}
 use Rattle.std.specs.Prelude.{slice_get}
 use Rattle.serde_json.specs.Data.{Data}
 use Rattle.serde_json.specs.View.{view}
@@ -23,6 +23,27 @@ bases_of-Outside = search (rules, the_lemmas)
 pub bases_of-Block : (base : Option (Bor Value)) (outer : Bor Bases)
     → bases_of (Block base outer) ≡ option_map (λ v. view v.now) base ∷ bases_of outer.now
 bases_of-Block base outer = search (rules, the_lemmas)
+
+-- what is lent so many blocks up, seen from one block
+pub up-outside : (here : Bases) (n : ℕ) → here ≡ Outside → None ≡ base_up (bases_of here) n
+up-outside here n is =
+    sym (ap (λ (z : Bases). base_up (bases_of z) n) is ∙ ap (λ (bs : List (Option Data)). base_up bs n) bases_of-Outside)
+
+pub up-here : (base : Option (Bor Value)) (outer : Bor Bases) (here : Bases) (n : ℕ) → here ≡ Block base outer → n ≡ 0
+    → option_map (λ v. view v.now) base ≡ base_up (bases_of here) n
+up-here base outer here n is none =
+    sym (ap (base_up (bases_of here)) none
+    ∙ ap (λ (bs : List (Option Data)). base_up bs 0) (ap bases_of is ∙ bases_of-Block base outer))
+
+further : (b : Option Data) (bs : List (Option Data)) (n : ℕ) → n ≢ 0 → base_up bs (n - 1) ≡ base_up (b ∷ bs) n
+further b bs zero some = absurd (some refl)
+further b bs (suc n) some = let less : suc n - 1 ≡ n = omega arith in ap (base_up bs) less
+
+pub up-further : (base : Option (Bor Value)) (outer : Bor Bases) (here : Bases) (n : ℕ) → here ≡ Block base outer → n ≢ 0
+    → base_up (bases_of outer.now) (n - 1) ≡ base_up (bases_of here) n
+up-further base outer here n is some =
+    further (option_map (λ v. view v.now) base) (bases_of outer.now) n some
+    ∙ sym (ap (λ (bs : List (Option Data)). base_up bs n) (ap bases_of is ∙ bases_of-Block base outer))
 
 -- ---- blocks by their numbers
 

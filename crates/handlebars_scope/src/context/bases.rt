@@ -28,7 +28,7 @@ impl<'v> Bases<'v> {
 
     /// This is lent to one more block, or nothing.
     pub fn block(base: Option<&'v Json>, outer: &'v Bases<'v>) -> Bases<'v>
-        ensures { bases_of result ≡ option_map (λ v. view v.now) base ∷ bases_of outer.now }
+        ensures { bases_of result ≡ option_map (λ v. view v.now) base.entry ∷ bases_of outer.now }
     {
         Bases::Block { base, outer }
     }

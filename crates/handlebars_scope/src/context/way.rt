@@ -167,7 +167,7 @@ fn way_in<'b, 'p>(
     recursive: bool,
 ) -> Way<'b, 'p>
     ensures { way_view result ≡ way_in recursive
-        (with_base (option_map (λ v. view v.now) lent) (frame_of block.now)) (segments_of segments.now) }
+        (with_base (option_map (λ v. view v.now) lent.entry) (frame_of block.now)) (segments_of segments.now) }
 {
     if let Some(value) = lent {
         return Way::Within(value, segments);
