@@ -116,3 +116,8 @@ lent-seen d hs {vars = vars} {other = other} is none is_vars =
     ap (with_base (Some d)) is
     ∙ ap (λ (g : Text → Option Data). record empty_frame { base_value = Some d; variable = g }) is_vars
     ∙ ap (λ (ps : List (Text × PathAndData)). inclusion_block d (pair_values ps) other) (sym none)
+
+-- the pairs of a view, where there are none
+pub no-pairs : (hs : List (Bor Text × PathAndJson)) {vs : List (Text × PathAndData)} → hs ≡ []
+    → map (λ h. (h.0.now, path_and_data h.1)) hs ≡ vs → vs ≡ []
+no-pairs hs none seen = sym seen ∙ ap (map (λ (h : Bor Text × PathAndJson). (h.0.now, path_and_data h.1))) none

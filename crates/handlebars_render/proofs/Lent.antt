@@ -1,17 +1,19 @@
 -- States whose blocks are lent their bases.
 use Rattle.std.proofs.Common.{◌≡◌, List, [], ◌∷◌, Option, Some, None, refl, sym, ap, ◌∙◌}
 use Rattle.serde_json.specs.Data.{Data}
-use Rattle.handlebars_base.specs.Answers.{Answer}
+use Rattle.std.specs.Prelude.{unwrap_or}
+use Rattle.handlebars_base.specs.Answers.{Answer, answer_map, gives, refuses}
 use Rattle.handlebars_base.specs.Bytes.{Text}
-use Rattle.handlebars_base.specs.Path.{Reference}
-use Rattle.handlebars_base.specs.Scoped.{Found}
+use Rattle.handlebars_base.specs.Path.{Reference, relative}
+use Rattle.handlebars_base.specs.Scoped.{Found, missing, present_in, value, walked}
 use Rattle.handlebars_template.specs.Tree.{Tree}
-use Rattle.handlebars_scope.specs.Bases.{bases_of, lend}
-use Rattle.handlebars_scope.specs.Resolve.{or_else}
+use Rattle.handlebars_scope.specs.Bases.{IsCurrent, bases_of, lend}
+use Rattle.handlebars_scope.specs.Resolve.{or_else, resolved}
 use Rattle.handlebars_scope.specs.Scopes.{Frame}
 use Rattle.handlebars_scope.specs.declared.context.bases.Bases.TheVariants.{Outside}
 use Rattle.handlebars_scope.proofs.Bases.{bases_of-Outside}
 use Rattle.handlebars_meaning.specs.State.{State, left, nearest_as, nearest_variables, outer, partial_in, with_nearest, with_partial}
+use Rattle.handlebars_meaning.specs.Values.{as_read, plain}
 use Rattle.handlebars_render.specs.View.{KeptIn, IsUnlent, Within, called, keeping, lending, read_in}
 
 -- ---- outside, and in one more block
@@ -30,6 +32,28 @@ one_more kept b is =
 pub read-lent : {w : Within} (kept : KeptIn w) (s : State) (d : Data) (r : Reference)
     → read_in (lending w.bases s) d r ≡ read_in (keeping kept s) d r
 read-lent kept s d r = ap (λ (bs : List (Option Data)). read_in (lending bs s) d r) (sym kept.lent)
+
+-- the current value, from the given data or from changed data
+plain-current : (a : Answer Found) (v : Data) → answer_map present_in a ≡ gives (Some v)
+    → answer_map present_in (answer_map plain a) ≡ gives (Some v)
+plain-current (gives (walked d names)) v is = is
+plain-current (gives (value d)) v is = is
+plain-current (gives missing) v is = cc
+plain-current (refuses r) v is = cc
+
+pub current-given : (s : State) (bs : List (Option Data)) (d v : Data) → s.changed ≡ None → IsCurrent (lend bs s.blocks) d v
+    → answer_map present_in (read_in (lending bs s) d (relative [] [])) ≡ gives (Some v)
+current-given s bs d v none is =
+    ap (λ (c : Option Data). answer_map present_in
+    (as_read c (resolved s.recursive (lend bs s.blocks) (relative [] []) (unwrap_or c d)))) none ∙ is s.recursive []
+
+pub current-changed : (s : State) (bs : List (Option Data)) (d e v : Data) → s.changed ≡ Some e
+    → IsCurrent (lend bs s.blocks) e v
+    → answer_map present_in (read_in (lending bs s) d (relative [] [])) ≡ gives (Some v)
+current-changed s bs d e v some is =
+    ap (λ (c : Option Data). answer_map present_in
+    (as_read c (resolved s.recursive (lend bs s.blocks) (relative [] []) (unwrap_or c d)))) some
+    ∙ plain-current (resolved s.recursive (lend bs s.blocks) (relative [] []) e) v (is s.recursive [])
 
 pub nearest_variables-lend : (bs : List (Option Data)) (fs : List Frame) → nearest_variables (lend bs fs) ≡ nearest_variables fs
 nearest_variables-lend [] fs = refl

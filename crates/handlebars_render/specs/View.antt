@@ -113,7 +113,7 @@ state_of rc = record {
 
 -- the nearest block is lent nothing
 abbrev pub IsUnlent : List (Option Data) → Type 0
-IsUnlent bases = (outer : List (Option Data)) × (bases ≡ None ∷ outer)
+IsUnlent bases = (rest : List (Option Data)) × (bases ≡ None ∷ rest)
 
 -- the state whose blocks are lent these bases
 abbrev pub lending : List (Option Data) → State → State

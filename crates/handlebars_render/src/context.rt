@@ -383,7 +383,7 @@ impl RenderContext {
     {
         match &self.changed {
             None => walk::current(given, &self.blocks, bases),
-            Some(_) => walk::lent(&self.blocks, bases),
+            Some(_context) => walk::lent(&self.blocks, bases),
         }
     }
 

@@ -72,7 +72,10 @@ fn lent_base<'v, P: Registered>(
     }
     match tag.param(0) {
         Some(value) => Some(value.value()),
-        None => rc.lent_current(setting.given.data(), setting.bases),
+        None => match rc.lent_current(setting.given.data(), setting.bases) {
+            Some(value) => Some(value),
+            None => None,
+        },
     }
 }
 

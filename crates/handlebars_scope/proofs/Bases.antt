@@ -7,10 +7,10 @@ use Rattle.serde_json.specs.declared.value.Value.{Value}
 use Rattle.handlebars_base.specs.Bytes.{Text}
 use Rattle.handlebars_base.specs.Answers.{Answer, answer_map, gives}
 use Rattle.handlebars_base.specs.Optional.{◌>>=◌, with_or}
-use Rattle.handlebars_base.specs.Path.{Segment, named, root, local, up}
+use Rattle.handlebars_base.specs.Path.{Segment, named, root, local, up, variable}
 use Rattle.handlebars_base.specs.Scoped.{present_in}
 use Rattle.handlebars_scope.specs.Bases.{IsCurrent, base_up, bases_of, lend, with_base}
-use Rattle.handlebars_scope.specs.Resolve.{Way, within, along, bound_way, found_along, found_by, or_else, value_at, variable_at, way_from, way_of_bound, way_of_name}
+use Rattle.handlebars_scope.specs.Resolve.{Way, within, along, behind_ups, block_up, bound_way, found_along, found_by, found_within, or_else, resolved, unbound_way, value_at, variable_at, way_from, way_of, way_of_bound, way_of_name}
 use Rattle.handlebars_scope.specs.Scopes.{Frame}
 use Rattle.handlebars_scope.specs.declared.context.bases.Bases.{Bases, the_lemmas}
 use Rattle.handlebars_scope.specs.declared.context.bases.Bases.TheVariants.{Outside, Block}
@@ -69,11 +69,16 @@ variable-lent : (b : Option Data) (o : Option Frame) (name : Text)
 variable-lent b None name = refl
 variable-lent b (Some f) name = ap (λ (v : Text → Option Data). v name) (variable-with_base b f)
 
-pub variable_at-lend : (bs : List (Option Data)) (fs : List Frame) (level : ℕ) (name : Text)
+variable_at-lend : (bs : List (Option Data)) (fs : List Frame) (level : ℕ) (name : Text)
     → variable_at (lend bs fs) level name ≡ variable_at fs level name
 variable_at-lend bs fs level name =
     ap (λ (o : Option Frame). o >>= λ f. f.variable name) (slice_get-lend bs fs level)
     ∙ variable-lent (base_up bs level) (slice_get fs level) name
+
+pub resolved-variable : (recursive : Bool) (bs : List (Option Data)) (fs : List Frame) (level : ℕ) (name text : Text) (d : Data)
+    → resolved recursive fs (variable level name text) d ≡ resolved recursive (lend bs fs) (variable level name text) d
+resolved-variable recursive bs fs level name text d =
+    ap (λ (o : Option Data). gives (found_within o)) (sym (variable_at-lend bs fs level name))
 
 way_of_name-lend : (bs : List (Option Data)) (fs : List Frame) (name : Text) (rest : List Segment)
     → way_of_name (lend bs fs) name rest ≡ way_of_name fs name rest
@@ -91,6 +96,43 @@ bound_way-lend bs fs (named n ∷ rest) = way_of_name-lend bs fs n rest
 bound_way-lend bs fs (root ∷ rest) = refl
 bound_way-lend bs fs (local ∷ rest) = refl
 bound_way-lend bs fs (up ∷ rest) = refl
+
+-- ---- the block so many blocks up
+
+pub block_up-there : (bs : List (Option Data)) (fs : List Frame) (n : ℕ) (f : Frame) {b : Option Data}
+    → Some f ≡ slice_get fs n → b ≡ base_up bs n → Some (with_base b f) ≡ block_up (lend bs fs) n
+block_up-there bs fs n f is base =
+    ap (λ (z : Option Data). Some (with_base z f)) base
+    ∙ sym (ap (λ (o : Option Frame). or_else o (slice_get (lend bs fs) 0))
+    (slice_get-lend bs fs n ∙ ap (option_map (with_base (base_up bs n))) (sym is)))
+
+pub block_up-nearest : (bs : List (Option Data)) (fs : List Frame) (n : ℕ) (f : Frame) {b : Option Data}
+    → None ≡ slice_get fs n → Some f ≡ slice_get fs 0 → b ≡ base_up bs 0 → Some (with_base b f) ≡ block_up (lend bs fs) n
+block_up-nearest bs fs n f none is base =
+    ap (λ (z : Option Data). Some (with_base z f)) base
+    ∙ sym (ap (λ (o : Option Frame). or_else o (slice_get (lend bs fs) 0))
+    (slice_get-lend bs fs n ∙ ap (option_map (with_base (base_up bs n))) (sym none))
+    ∙ slice_get-lend bs fs 0 ∙ ap (option_map (with_base (base_up bs 0))) (sym is))
+
+pub block_up-none : (bs : List (Option Data)) (fs : List Frame) (n : ℕ)
+    → None ≡ slice_get fs n → None ≡ slice_get fs 0 → None ≡ block_up (lend bs fs) n
+block_up-none bs fs n none empty =
+    sym (ap (λ (o : Option Frame). or_else o (slice_get (lend bs fs) 0))
+    (slice_get-lend bs fs n ∙ ap (option_map (with_base (base_up bs n))) (sym none))
+    ∙ slice_get-lend bs fs 0 ∙ ap (option_map (with_base (base_up bs 0))) (sym empty))
+
+pub way_of-bound : (recursive : Bool) (bs : List (Option Data)) (fs : List Frame) (segments : List Segment) {behind : List Segment}
+    {w : Way} → behind ≡ behind_ups segments → Some w ≡ bound_way fs behind → w ≡ way_of recursive (lend bs fs) segments
+way_of-bound recursive bs fs segments same is =
+    sym (ap (λ (o : Option Way). with_or o (λ way. way) (unbound_way recursive (lend bs fs) segments))
+    (bound_way-lend bs fs (behind_ups segments) ∙ ap (bound_way fs) (sym same) ∙ sym is))
+
+pub way_of-unbound : (recursive : Bool) (bs : List (Option Data)) (fs : List Frame) (segments : List Segment) {behind : List Segment}
+    {w : Way} → behind ≡ behind_ups segments → None ≡ bound_way fs behind → w ≡ unbound_way recursive (lend bs fs) segments
+    → w ≡ way_of recursive (lend bs fs) segments
+way_of-unbound recursive bs fs segments same none is =
+    is ∙ sym (ap (λ (o : Option Way). with_or o (λ way. way) (unbound_way recursive (lend bs fs) segments))
+    (bound_way-lend bs fs (behind_ups segments) ∙ ap (bound_way fs) (sym same) ∙ sym none))
 
 -- ---- where the empty path leads
 

@@ -1,6 +1,6 @@
 //! The ways that paths take through blocks of scope. Nothing is copied to make one.
 
-ghost use Rattle.std.specs.Prelude.{◌≡◌, ◌++◌, option_map, string_bytes};
+ghost use Rattle.std.specs.Prelude.{◌≡◌, ◌++◌, option_map, slice_get, string_bytes};
 ghost use Rattle.serde_json.specs.View.{view};
 ghost use Rattle.handlebars_base.specs.PathView.{segments_of};
 ghost use Rattle.handlebars_scope.specs.Bases.{bases_of, lend, with_base};
@@ -150,13 +150,20 @@ fn block_up<'b>(
 ) -> Option<(&'b BlockContext, Option<&'b Json>)>
     ensures { option_map lent_frame result ≡ block_up (lend (bases_of bases.now) (frames_of blocks.now.items)) ups }
 {
-    match blocks.get(ups) {
+    match block_at(blocks, ups) {
         Some(block) => Some((block, bases.up(ups))),
-        None => match blocks.front() {
+        None => match block_at(blocks, 0) {
             Some(block) => Some((block, bases.up(0))),
             None => None,
         },
     }
+}
+
+// The block so many blocks up, if it is there.
+fn block_at(blocks: &VecDeque<BlockContext>, ups: usize) -> Option<&BlockContext>
+    ensures { option_map (λ b. frame_of b.now) result ≡ slice_get (frames_of blocks.now.items) ups }
+{
+    blocks.get(ups)
 }
 
 // A block with a value, lent or its own, is entered there, and another leads from the data along its base path.

@@ -3,4 +3,4 @@ use Rattle.handlebars_scope.specs.Bases.{base_up, bases_of}
 use Rattle.handlebars_scope.proofs.context.bases.Bases.up.Given as goal
 
 abbrev pub invariant-loop-here : goal.invariant-loop-here
-invariant-loop-here l = base_up (bases_of l.here.now) l.left ≡ base_up (bases_of l.fn.self.now) l.fn.blocks
+invariant-loop-here l = base_up (bases_of l.here) l.left ≡ base_up (bases_of l.fn.self) l.fn.blocks
