@@ -77,10 +77,10 @@ lend-nearest (None ∷ bs) inner change (f ∷ fs) is = refl
 lend-nearest (Some d ∷ bs) inner change fs is = cc
 
 -- to which nothing is lent
-pub nearest-lent : {w : Within} (kept : KeptIn w) (change : Frame → Frame) (s : State) → IsUnlent kept.bases
-    → keeping kept (with_nearest change s) ≡ with_nearest change (keeping kept s)
-nearest-lent kept change s unlent =
-    ap (λ (fs : List Frame). record (keeping kept s) { blocks = fs }) (lend-nearest kept.bases unlent.0 change s.blocks unlent.1)
+pub nearest-lent : {w : Within} (kept : KeptIn w) (change : Frame → Frame) (s next : State) → next ≡ with_nearest change s
+    → IsUnlent kept.bases → keeping kept next ≡ with_nearest change (keeping kept s)
+nearest-lent kept change s next is unlent = ap (keeping kept) is
+    ∙ ap (λ (fs : List Frame). record (keeping kept s) { blocks = fs }) (lend-nearest kept.bases unlent.0 change s.blocks unlent.1)
 
 lend-partial : (bs : List (Option Data)) (name : Text) (t : Tree) (fs : List Frame)
     → lend bs (nearest_as (with_partial name t) fs) ≡ nearest_as (with_partial name t) (lend bs fs)

@@ -15,6 +15,7 @@ use Rattle.handlebars_scope.specs.ScopeView.{frame_of}
 use Rattle.handlebars_helpers.specs.CallView.{HelperView}
 use Rattle.handlebars_helpers.specs.Callee.{built, own, calls_local, calls_registered}
 use Rattle.handlebars_helpers.specs.OwnView.{step_of}
+use Rattle.handlebars_helpers.specs.Turns.{turned}
 use Rattle.handlebars_helpers.specs.View.{kind_of, base_view, path_view, turn_view}
 use Rattle.handlebars_scope.specs.Scopes.{Frame, empty_frame}
 use Rattle.handlebars_meaning.specs.CarryOut.{helper_call}
@@ -455,7 +456,7 @@ each::take_turns-returns-in-Err-clause-renders g t c = λ site kept block v unle
     turns-over _ _ site c.turns.invariant.number (helper_call block (call_view c.args.helper.now) v) (path_view c.args.path) _
     c.in-Some.ensures (c.turns.invariant.left site kept block v unlent)
     (carries_on-turn _ _ site c.turns.invariant.number (helper_call block (call_view c.args.helper.now) v) (path_view c.args.path) (turn_view c.in-Some.turn)
-    (rw (sym (binding-seen c.args.helper.now c.as_ref.result c.as_ref.ensures.value)) (ap (keeping kept) (c.in_ok-set_up_turn.ensures.ok c.turns.invariant.below) ∙ nearest-lent kept _ (state_of c.turns.rc) unlent))
+    (rw (sym (binding-seen c.args.helper.now c.as_ref.result c.as_ref.ensures.value)) (nearest-lent kept (turned (path_view c.args.path) _ (turn_view c.in-Some.turn)) _ _ (c.in_ok-set_up_turn.ensures.ok c.turns.invariant.below) unlent))
     (c.in-Err.ensures.renders site kept c.turns.invariant.number block v))
 
 pub each::take_turns-turns-init : goal.each::take_turns-turns-init
@@ -475,7 +476,7 @@ each::take_turns-turns-preserved g t c = record {
       turns-go _ _ site c.turns.invariant.number (helper_call block (call_view c.args.helper.now) v) (path_view c.args.path) _
       c.in-Some.ensures (c.turns.invariant.left site kept block v unlent)
       (carries_on-turn _ _ site c.turns.invariant.number (helper_call block (call_view c.args.helper.now) v) (path_view c.args.path) (turn_view c.in-Some.turn)
-      (rw (sym (binding-seen c.args.helper.now c.as_ref.result c.as_ref.ensures.value)) (ap (keeping kept) (c.in_ok-set_up_turn.ensures.ok c.turns.invariant.below) ∙ nearest-lent kept _ (state_of c.turns.rc) unlent))
+      (rw (sym (binding-seen c.args.helper.now c.as_ref.result c.as_ref.ensures.value)) (nearest-lent kept (turned (path_view c.args.path) _ (turn_view c.in-Some.turn)) _ _ (c.in_ok-set_up_turn.ensures.ok c.turns.invariant.below) unlent))
       (c.in_default-render_body.ensures.renders site kept c.turns.invariant.number block v));
   same = same-trans _ _ _ c.turns.invariant.same c.in_default-render_body.ensures.same;
   outer = outer-trans c.turns.invariant.outer

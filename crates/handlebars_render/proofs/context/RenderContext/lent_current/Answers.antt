@@ -15,4 +15,4 @@ returns-in-None c = IfSome_then c.current.result c.current.ensures
 pub returns-in-Some : goal.returns-in-Some
 returns-in-Some c = IfSome_then c.lent.result c.lent.ensures
     (λ v is. current-changed (state_of c.args.self.now) (bases_of c.args.bases.now) (view c.args.given.now)
-    (data_of c.in-Some.context) (view v.now) (ap (option_map data_of) c.in-Some.is) (is (data_of c.in-Some.context)))
+    (data_of c.in-Some._context) (view v.now) (ap (option_map data_of) c.in-Some.is) (is (data_of c.in-Some._context)))
