@@ -26,6 +26,7 @@ use handlebars_render::entry::{render_element_into, render_into};
 use handlebars_render::failure::{fail_after, ready};
 use handlebars_render::setting::Setting;
 use handlebars_scope::context::Context;
+use handlebars_scope::context::bases::Bases;
 use handlebars_template::template::{Template, TemplateElement};
 use log::Log;
 use std::alloc::Global;
@@ -112,6 +113,7 @@ impl Renderable for Template {
             inclusions: 0,
             kept: None,
             indent: None,
+            bases: &Bases::Outside,
         };
         match render_into(self, &setting, rc, out) {
             Ok(()) => Ok(()),
@@ -143,6 +145,7 @@ impl Renderable for TemplateElement {
             inclusions: 0,
             kept: None,
             indent: None,
+            bases: &Bases::Outside,
         };
         match render_element_into(self, &setting, rc, out) {
             Ok(()) => Ok(()),

@@ -16,8 +16,9 @@ use Rattle.handlebars_base.specs.declared.json.value.path_and_json.PathAndJson.{
 use Rattle.handlebars_template.specs.Tree.{path}
 use Rattle.handlebars_scope.specs.Merged.{merged}
 use Rattle.handlebars_scope.specs.MergedView.{pairs_in}
+use Rattle.handlebars_scope.specs.Bases.{with_base}
 use Rattle.handlebars_scope.specs.Scopes.{Bound, Frame, empty_frame}
-use Rattle.handlebars_meaning.specs.Inclusion.{pair_values}
+use Rattle.handlebars_meaning.specs.Inclusion.{inclusion_block, pair_values}
 use Rattle.handlebars_meaning.specs.Including.{base_value, here}
 use Rattle.handlebars_meaning.specs.Questions.{value_of}
 use Rattle.handlebars_meaning.specs.State.{Setting, State}
@@ -96,14 +97,27 @@ pub none-first : (vs : List PathAndData) → None ≡ slice_get vs 0 → vs ≡ 
 none-first [] is = refl
 none-first (v ∷ vs) is = cc
 
--- a block in which three things were set
-pub block-seen : (a b c f : Frame) {vars other : Text → Option Data} {bound : Text → Option Bound} {bound_other : Text → Option Bound} {d e : Data}
-    → a ≡ empty_frame → b ≡ record a { variable = vars } → c ≡ record b { bound = bound } → f ≡ record c { base_value = Some d }
+-- a plain block in which two things were set
+pub block-seen : (b c f : Frame) {vars other : Text → Option Data} {bound : Text → Option Bound} {bound_other : Text → Option Bound} {d e : Data}
+    → b ≡ record empty_frame { variable = vars } → c ≡ record b { bound = bound } → f ≡ record c { base_value = Some d }
     → vars ≡ other → bound ≡ bound_other → d ≡ e
     → f ≡ record empty_frame { base_value = Some e; bound = bound_other; variable = other }
-block-seen a b c f {vars = vars} {other = other} {bound = bound} {bound_other = bound_other} {d = d} x y z w is_vars is_bound is_value =
-    w ∙ ap (λ (g : Frame). record g { base_value = Some d }) (z ∙ ap (λ (g : Frame). record g { bound = bound })
-    (y ∙ ap (λ (g : Frame). record g { variable = vars }) x))
+block-seen b c f {vars = vars} {other = other} {bound = bound} {bound_other = bound_other} {d = d} y z w is_vars is_bound is_value =
+    w ∙ ap (λ (g : Frame). record g { base_value = Some d }) (z ∙ ap (λ (g : Frame). record g { bound = bound }) y)
     ∙ ap (λ (g : Text → Option Data). record empty_frame { base_value = Some d; bound = bound; variable = g }) is_vars
     ∙ ap (λ (g : Text → Option Bound). record empty_frame { base_value = Some d; bound = g; variable = other }) is_bound
     ∙ ap (λ (g : Data). record empty_frame { base_value = Some g; bound = bound_other; variable = other }) is_value
+
+-- a plain block to which a value is lent, for a tag without pairs
+pub lent-seen : (d : Data) (hs : List (Text × PathAndData)) {b : Frame} {vars other : Text → Option Data}
+    → b ≡ record empty_frame { variable = vars } → hs ≡ [] → vars ≡ other
+    → with_base (Some d) b ≡ inclusion_block d (pair_values hs) other
+lent-seen d hs {vars = vars} {other = other} is none is_vars =
+    ap (with_base (Some d)) is
+    ∙ ap (λ (g : Text → Option Data). record empty_frame { base_value = Some d; variable = g }) is_vars
+    ∙ ap (λ (ps : List (Text × PathAndData)). inclusion_block d (pair_values ps) other) (sym none)
+
+-- the pairs of a view, where there are none
+pub no-pairs : (hs : List (Bor Text × PathAndJson)) {vs : List (Text × PathAndData)} → hs ≡ []
+    → map (λ h. (h.0.now, path_and_data h.1)) hs ≡ vs → vs ≡ []
+no-pairs hs none seen = sym seen ∙ ap (map (λ (h : Bor Text × PathAndJson). (h.0.now, path_and_data h.1))) none

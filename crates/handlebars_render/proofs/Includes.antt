@@ -214,12 +214,12 @@ module _ (p : Setting) (may : Error → Type 0) where
       (carries-elsewhere p may (c back)))))
 
   -- what is carried out under an indentation that is said otherwise
-  pub under-same : (text : Option Text) (n : ℕ) {i j : Option Text} (m : Prog (Unit {0})) (s next : State) {h new : Held} {r : Answered}
-      → i ≡ j
-      → ((k : KeptIn (record { text = text; inclusions = n; indent = i })) → CarriesOn p m may (at (keeping k s) h) r (at (keeping k next) new))
-      → (k : KeptIn (record { text = text; inclusions = n; indent = j })) → CarriesOn p m may (at (keeping k s) h) r (at (keeping k next) new)
-  under-same text n m s next {h = h} {new = new} {r = r} is x =
-      subst (λ (z : Option Text). (k : KeptIn (record { text = text; inclusions = n; indent = z }))
+  pub under-same : (text : Option Text) (n : ℕ) (bs : List (Option Data)) {i j : Option Text} (m : Prog (Unit {0})) (s next : State)
+      {h new : Held} {r : Answered} → i ≡ j
+      → ((k : KeptIn (record { text = text; inclusions = n; indent = i; bases = bs })) → CarriesOn p m may (at (keeping k s) h) r (at (keeping k next) new))
+      → (k : KeptIn (record { text = text; inclusions = n; indent = j; bases = bs })) → CarriesOn p m may (at (keeping k s) h) r (at (keeping k next) new)
+  under-same text n bs m s next {h = h} {new = new} {r = r} is x =
+      subst (λ (z : Option Text). (k : KeptIn (record { text = text; inclusions = n; indent = z; bases = bs }))
       → CarriesOn p m may (at (keeping k s) h) r (at (keeping k next) new)) is x
 
   -- the tag of an inclusion, once its view is known

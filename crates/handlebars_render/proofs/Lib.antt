@@ -22,3 +22,4 @@ mod Sinks
 mod Includes
 mod Bases
 mod Tags
+pub mod Lent

@@ -1,22 +1,32 @@
 -- What the parts of an inclusion come to.
-use Rattle.std.specs.Prelude.{◌≡◌, ◌≢◌, ℕ, Option, option_map, Result, Ok, Err}
+use Rattle.std.specs.Prelude.{◌≡◌, ◌≢◌, ℕ, List, Option, option_map, Result, Ok, Err}
 use denote.Ref.{Bor}
 use Rattle.serde_json.specs.Data.{Data}
+use Rattle.serde_json.specs.View.{view}
 use Rattle.handlebars_base.specs.Bytes.{Text}
 use Rattle.handlebars_base.specs.Reasons.{out_of_memory}
 use Rattle.handlebars_base.specs.RenderRefusals.{reason_in, refusal_of}
 use Rattle.handlebars_base.specs.declared.error.render_error.RenderError.{RenderError}
 use Rattle.handlebars_scope.specs.Merged.{merged}
+use Rattle.handlebars_scope.specs.Bases.{with_base}
 use Rattle.handlebars_scope.specs.Scopes.{Frame}
+use Rattle.handlebars_scope.specs.ScopeView.{frame_of}
 use Rattle.handlebars_helpers.specs.Decoration.{DecoratorView}
 use Rattle.handlebars_meaning.specs.Inclusion.{inclusion_block, pair_values}
 use Rattle.handlebars_meaning.specs.Including.{base_value}
 use Rattle.handlebars_meaning.specs.State.{Setting, State, nearest_variables}
+use Rattle.handlebars_render.specs.declared.inclusion.LentBlock.{LentBlock}
 use Rattle.handlebars_render.specs.View.{Within, GivesValue, RefusesValue}
 
--- within one more inclusion: so many are being rendered, with this text kept, or none, and under this indentation
-abbrev pub included : ℕ → Option (Bor Text) → Option Text → Within
-included count text indent = record { text = option_map (λ t. t.now) text; inclusions = count; indent = indent }
+-- within one more inclusion: so many are being rendered, with this text kept, or none, and under this indentation; these
+-- bases are lent
+abbrev pub included : ℕ → Option (Bor Text) → Option Text → List (Option Data) → Within
+included count text indent bases =
+    record { text = option_map (λ t. t.now) text; inclusions = count; indent = indent; bases = bases }
+
+-- a block with the value that is lent to it as its base, if one is
+abbrev pub lent_frame : LentBlock → Frame
+lent_frame x = with_base (option_map (λ v. view v.now) x.base) (frame_of x.block)
 
 -- The value is that of an inclusion's block, merged with the pairs, or it is refused.
 abbrev pub HasBase : {T : Type 0} → Setting → DecoratorView → State → (T → Data) → Result T RenderError → Type 0

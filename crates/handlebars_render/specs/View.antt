@@ -20,6 +20,7 @@ use Rattle.handlebars_base.specs.declared.json.value.path_and_json.PathAndJson.{
 use Rattle.handlebars_base.specs.declared.error.render_error.RenderErrorReason.TheVariants.{IOError}
 use Rattle.handlebars_base.specs.Scoped.{Found}
 use Rattle.handlebars_base.specs.Values.{word}
+use Rattle.handlebars_scope.specs.Bases.{bases_of, lend}
 use Rattle.handlebars_scope.specs.LineView.{line_of}
 use Rattle.handlebars_scope.specs.Contexts.{data_of}
 use Rattle.handlebars_scope.specs.Resolve.{resolved}
@@ -68,27 +69,32 @@ name_alone name = record { name = name; params = []; pairs = [] }
 -- ---- what holds within an inclusion
 
 -- what the code has of it: the text that is kept for partial blocks, if there is one; how many inclusions are being
--- rendered; and the indentation in force, if there is one
+-- rendered; the indentation in force, if there is one; and what is lent to blocks of scope as their bases
 pub record Within : Type 0 where
   pub text : Option Text
   pub inclusions : ℕ
   pub indent : Option Text
+  pub bases : List (Option Data)
 
 abbrev pub within : {P : Type 0} → declared.Setting P → Within
 within x = record {
   text = option_map (λ t. t.now) x.kept;
   inclusions = x.inclusions;
   indent = option_map (λ t. t.now) x.indent;
+  bases = bases_of x.bases.now;
 }
 
 -- outside of every inclusion
 abbrev pub outside : Within
-outside = record { text = None; inclusions = 0; indent = None }
+outside = record { text = None; inclusions = 0; indent = None; bases = [] }
 
--- The code has the newest text that is kept, and a state the pieces of all: these, whose newest text is that.
+-- The code has the newest text that is kept, and a state the pieces of all: these, whose newest text is that. And the
+-- bases of blocks are lent, which a state has in the blocks.
 pub record KeptIn (w : Within) : Type 0 where
   pub pieces : Kept
+  pub bases : List (Option Data)
   pub holds : option_map join (newest pieces) ≡ w.text
+  pub lent : bases ≡ w.bases
 
 -- A context tells all of a state but what holds within an inclusion. This is its state outside of every one.
 abbrev pub state_of : RenderContext → State
@@ -105,8 +111,21 @@ state_of rc = record {
   local = λ name. option_map local_of (get_by_text rc.local_helpers name);
 }
 
+-- the nearest block is lent nothing
+abbrev pub IsUnlent : List (Option Data) → Type 0
+IsUnlent bases = (rest : List (Option Data)) × (bases ≡ None ∷ rest)
+
+-- the state whose blocks are lent these bases
+abbrev pub lending : List (Option Data) → State → State
+lending bases s = record s { blocks = lend bases s.blocks }
+
 abbrev pub keeping : {w : Within} → KeptIn w → State → State
-keeping {w = w} kept s = record s { indent = w.indent; kept = kept.pieces; inclusions = w.inclusions }
+keeping {w = w} kept s = record s {
+  blocks = lend kept.bases s.blocks;
+  indent = w.indent;
+  kept = kept.pieces;
+  inclusions = w.inclusions;
+}
 
 -- the state of a context within it, with these pieces kept
 abbrev pub state_with : {w : Within} → KeptIn w → RenderContext → State

@@ -72,7 +72,7 @@ pub fn condition<P: Registered>(
 ) -> Result<bool, BoxedError>
     ensures { (kept : KeptIn (within setting.now)) → Judges (setting_in P.parts setting.now) (state_with kept rc.now) (reference_of path.now) (answer_of result) }
 {
-    match rc.reach(setting.given.data(), path) {
+    match rc.reach(setting.given.data(), path, setting.bases) {
         Reached::Value(value) => Ok(value.is_truthy(false)),
         Reached::Nothing => Ok(false),
         Reached::NoIndex(name) => Err(not_an_index(setting.alloc, name)),

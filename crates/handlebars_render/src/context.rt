@@ -1,14 +1,16 @@
 //! The state of a rendering.
 
-ghost use Rattle.std.specs.Prelude.{◌≡◌, ◌≢◌, not, IfOk, IfErr, OnOk, OnErr, None, true, false, is_some, map, option_map, slice_get, string_bytes};
+ghost use Rattle.std.specs.Prelude.{◌≡◌, ◌≢◌, [], not, IfOk, IfErr, IfSome, OnOk, OnErr, None, Some, true, false, is_some, map, option_map, slice_get, string_bytes};
 ghost use Rattle.std.specs.Borrow.{sem};
 ghost use Rattle.serde_json.specs.View.{view};
 ghost use Rattle.handlebars_base.specs.Answers.{Answers, answer_map, gives, refuses};
+ghost use Rattle.handlebars_base.specs.Path.{relative};
 ghost use Rattle.handlebars_base.specs.PathView.{reference_of};
 ghost use Rattle.handlebars_base.specs.Reasons.{out_of_memory};
 ghost use Rattle.handlebars_base.specs.RenderRefusals.{reason_in, refusal_of};
 ghost use Rattle.handlebars_base.specs.Scoped.{found_of, is_constant, present_in};
 ghost use Rattle.handlebars_template.specs.TreeView.{binding_of, binding_view, tree_view};
+ghost use Rattle.handlebars_scope.specs.Bases.{bases_of, lend};
 ghost use Rattle.handlebars_scope.specs.Contexts.{data_of};
 ghost use Rattle.handlebars_scope.specs.LineView.{line_of};
 ghost use Rattle.handlebars_scope.specs.Resolve.{resolved};
@@ -22,7 +24,7 @@ ghost use Rattle.handlebars_meaning.specs.Values.{Evaluates};
 ghost use Rattle.handlebars_render.specs.Lending.{LendsBlock};
 ghost use Rattle.handlebars_meaning.specs.Inclusion.{is_current};
 ghost use Rattle.handlebars_meaning.specs.State.{entered, first_state, left, nearest_variables, partial_in, with_data, with_local, with_nearest, with_partial, without_local};
-ghost use Rattle.handlebars_render.specs.View.{called, state_of, read_in, root_of, has_failed, behind, with_line, HasOuter, IsKept, NearestBelow};
+ghost use Rattle.handlebars_render.specs.View.{called, lending, state_of, read_in, root_of, has_failed, behind, with_line, HasOuter, IsKept, NearestBelow};
 
 use crate::null::Null;
 use handlebars_base::error::RenderError;
@@ -31,6 +33,7 @@ use handlebars_base::json::value::{Json, ScopedJson};
 use handlebars_helpers::own::LocalHelper;
 use handlebars_helpers::turn::{Turn, set_up_next_turn, set_up_turn};
 use handlebars_scope::block::BlockContext;
+use handlebars_scope::context::bases::Bases;
 use handlebars_scope::context::reached::Reached;
 use handlebars_scope::context::{Context, walk};
 use handlebars_scope::line::LineState;
@@ -330,42 +333,82 @@ impl RenderContext {
         !self.local_helpers.is_empty() && self.local_helpers.contains_key(name)
     }
 
-    // What a path leads to in these blocks, and in this data where it wasn't changed; nothing is copied.
-    pub(super) fn reach<'v: 'n, 'n>(&'v self, given: &'v Json, path: &'n Path) -> Reached<'v, 'n>
-        ensures { reached_of result
-            ≡ answer_map present_in (read_in (state_of self.now) (view given.now) (reference_of path.now)) }
+    // What a path leads to in these blocks, of which some are lent their bases, and in this data where it wasn't
+    // changed; nothing is copied.
+    pub(super) fn reach<'v: 'n, 'n>(
+        &'v self,
+        given: &'v Json,
+        path: &'n Path,
+        bases: &'v Bases<'v>,
+    ) -> Reached<'v, 'n>
+        ensures { reached_of result ≡ answer_map present_in
+            (read_in (lending (bases_of bases.now) (state_of self.now)) (view given.now) (reference_of path.now)) }
     {
         match &self.changed {
-            None => walk::reach(given, path, &self.blocks, self.recursive_lookup),
-            Some(context) => self.reach_changed(context, path),
+            None => walk::reach(given, path, &self.blocks, bases, self.recursive_lookup),
+            Some(context) => self.reach_changed(context, path, bases),
         }
     }
 
     // The same where the data was changed: a missing value is null.
-    fn reach_changed<'v: 'n, 'n>(&'v self, context: &'v Context, path: &'n Path) -> Reached<'v, 'n>
+    fn reach_changed<'v: 'n, 'n>(
+        &'v self,
+        context: &'v Context,
+        path: &'n Path,
+        bases: &'v Bases<'v>,
+    ) -> Reached<'v, 'n>
         ensures { reached_of result ≡ answer_map present_in (answer_map values.plain (resolved
-            (state_of self.now).recursive (state_of self.now).blocks (reference_of path.now) (data_of context.now))) }
+            (state_of self.now).recursive (lend (bases_of bases.now) (state_of self.now).blocks) (reference_of path.now)
+            (data_of context.now))) }
     {
-        match walk::reach(context.data(), path, &self.blocks, self.recursive_lookup) {
+        match walk::reach(
+            context.data(),
+            path,
+            &self.blocks,
+            bases,
+            self.recursive_lookup,
+        ) {
             Reached::Value(value) => Reached::Value(value),
             Reached::Nothing => Reached::Value(self.null.value()),
             Reached::NoIndex(name) => Reached::NoIndex(name),
         }
     }
 
-    // The same, with the full path of a value of the data, where it wasn't changed. A value that a block
+    // The value that the empty path leads to, where neither a block of this context nor changed data holds it, so that
+    // the context may change while it is lent.
+    pub(super) fn lent_current<'v>(&self, given: &'v Json, bases: &'v Bases<'v>) -> Option<&'v Json>
+        ensures { IfSome result (λ v. answer_map present_in
+            (read_in (lending (bases_of bases.now) (state_of self.now)) (view given.now) (relative [] []))
+            ≡ gives (Some (view v.now))) }
+    {
+        match &self.changed {
+            None => walk::current(given, &self.blocks, bases),
+            Some(_context) => walk::lent(&self.blocks, bases),
+        }
+    }
+
+    // What a path leads to, with the full path of a value of the data, where it wasn't changed. A value that a block
     // holds is copied, and so is one of changed data.
     pub(super) fn find<'a>(
         &self,
         given: &'a Json,
         path: &Path,
+        bases: &Bases<'_>,
     ) -> Result<ScopedJson<'a>, RenderError>
-        ensures found { Answers found_of result (read_in (state_of self.now) (view given.now) (reference_of path.now)) }
+        ensures found { Answers found_of result
+            (read_in (lending (bases_of bases.now) (state_of self.now)) (view given.now) (reference_of path.now)) }
         ensures plain { IfOk result (λ found. is_constant found ≡ false) }
     {
         match &self.changed {
-            None => walk::find(self.alloc, given, path, &self.blocks, self.recursive_lookup),
-            Some(context) => self.find_changed(context, path),
+            None => walk::find(
+                self.alloc,
+                given,
+                path,
+                &self.blocks,
+                bases,
+                self.recursive_lookup,
+            ),
+            Some(context) => self.find_changed(context, path, bases),
         }
     }
 
@@ -374,9 +417,11 @@ impl RenderContext {
         &self,
         context: &Context,
         path: &Path,
+        bases: &Bases<'_>,
     ) -> Result<ScopedJson<'a>, RenderError>
         ensures found { Answers found_of result (answer_map values.plain (resolved
-            (state_of self.now).recursive (state_of self.now).blocks (reference_of path.now) (data_of context.now))) }
+            (state_of self.now).recursive (lend (bases_of bases.now) (state_of self.now).blocks) (reference_of path.now)
+            (data_of context.now))) }
         ensures plain { IfOk result (λ found. is_constant found ≡ false) }
     {
         match walk::resolve(
@@ -384,6 +429,7 @@ impl RenderContext {
             context.data(),
             path,
             &self.blocks,
+            bases,
             self.recursive_lookup,
         ) {
             Ok(Some(found)) => Ok(ScopedJson::Derived(found.clone()?)),
@@ -483,6 +529,7 @@ impl RenderContext {
             context.data(),
             &reference,
             &self.blocks,
+            &Bases::Outside,
             self.recursive_lookup,
         )
     }

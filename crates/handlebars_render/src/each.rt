@@ -8,7 +8,7 @@ ghost use Rattle.handlebars_helpers.specs.CallView.{CallView};
 ghost use Rattle.handlebars_helpers.specs.View.{base_view, path_view, turns_left};
 ghost use Rattle.handlebars_meaning.specs.CarryOut.{helper_call, in_block, render_with, take_turns};
 ghost use Rattle.handlebars_render.specs.Boxed.{answer_of};
-ghost use Rattle.handlebars_render.specs.View.{setting_in, moment, CarriesOn, HasOuter, IsKept, KeptIn, within, held_in, IsSame};
+ghost use Rattle.handlebars_render.specs.View.{setting_in, moment, CarriesOn, HasOuter, IsKept, IsUnlent, KeptIn, within, held_in, IsSame};
 
 use crate::block::render_body;
 use crate::boxed::BoxedError;
@@ -20,6 +20,7 @@ use handlebars_base::output::Output;
 use handlebars_helpers::each_turns::Turns;
 use handlebars_helpers::turn::{Base, with_block};
 use handlebars_scope::block::BlockContext;
+use handlebars_scope::context::bases::Bases;
 use handlebars_template::template::HelperTemplate;
 
 /// The body, in a block that stands at a base.
@@ -40,7 +41,18 @@ pub fn render_with<'a, O: Output, P: Registered>(
     let variables = rc.nearest_variables()?;
     let block = with_block(setting.alloc, helper.block_param.as_ref(), base, variables)?;
     rc.push_block(block)?;
-    let answer = render_body(helper, setting, rc, sink);
+    let bases = Bases::block(None, setting.bases);
+    let nearer = Setting {
+        alloc: setting.alloc,
+        parts: &*setting.parts,
+        given: setting.given,
+        room: setting.room,
+        inclusions: setting.inclusions,
+        kept: setting.kept,
+        indent: setting.indent,
+        bases: &bases,
+    };
+    let answer = render_body(helper, &nearer, rc, sink);
     rc.pop_block();
     answer
 }
@@ -63,12 +75,24 @@ pub fn render_each<'a, O: Output, P: Registered>(
     ensures same { IsSame sink.old sink.new }
 {
     rc.push_block(BlockContext::new(setting.alloc))?;
-    let answer = take_turns(helper, setting, path, turns, rc, sink);
+    let bases = Bases::block(None, setting.bases);
+    let nearer = Setting {
+        alloc: setting.alloc,
+        parts: &*setting.parts,
+        given: setting.given,
+        room: setting.room,
+        inclusions: setting.inclusions,
+        kept: setting.kept,
+        indent: setting.indent,
+        bases: &bases,
+    };
+    let answer = take_turns(helper, &nearer, path, turns, rc, sink);
     rc.pop_block();
     answer
 }
 
-// The turns that are left. In each one the nearest block is set up for it, and the body is rendered.
+// The turns that are left. In each one the nearest block, to which nothing is lent, is set up for it, and the body is
+// rendered.
 #[cycle(render)]
 fn take_turns<'a, O: Output, P: Registered>(
     helper: &'a HelperTemplate,
@@ -78,7 +102,8 @@ fn take_turns<'a, O: Output, P: Registered>(
     rc: &mut RenderContext,
     sink: &mut Sink<'_, O>,
 ) -> Result<(), BoxedError>
-    ensures renders { (site : Site) (kept : KeptIn (within setting.now)) (block : Bool) (v : CallView) → CarriesOn (setting_in P.parts setting.now)
+    ensures renders { (site : Site) (kept : KeptIn (within setting.now)) (block : Bool) (v : CallView)
+        → IsUnlent kept.bases → CarriesOn (setting_in P.parts setting.now)
         (take_turns site 0 (helper_call block (call_view helper.now) v) (path_view path.entry) (turns_left turns.entry))
         O.may_give (moment kept rc.old (held_in O.held sink.old)) (answer_of result) (moment kept rc.new (held_in O.held sink.new)) }
     ensures outer { HasOuter rc.old rc.new }

@@ -1,16 +1,18 @@
 //! The block of scope of an inclusion.
 
-ghost use Rattle.std.specs.Prelude.{◌≡◌, [], IfOk};
+ghost use Rattle.std.specs.Prelude.{◌≡◌, [], IfOk, IfSome};
 ghost use Rattle.serde_json.specs.View.{view};
 ghost use Rattle.handlebars_base.specs.Path.{relative};
 ghost use Rattle.handlebars_base.specs.PathView.{reference_of};
 ghost use Rattle.handlebars_scope.specs.MergedView.{pairs_in};
-ghost use Rattle.handlebars_scope.specs.Scopes.{nothing_at};
+ghost use Rattle.handlebars_scope.specs.Scopes.{empty_frame, nothing_at};
 ghost use Rattle.handlebars_scope.specs.ScopeView.{bounds_of, frame_of};
 ghost use Rattle.handlebars_helpers.specs.DecoratorsView.{tag_view};
+ghost use Rattle.handlebars_meaning.specs.Including.{base_value};
 ghost use Rattle.handlebars_meaning.specs.Inclusion.{with_bound};
-ghost use Rattle.handlebars_render.specs.Inclusions.{StandsAt, HasBase};
-ghost use Rattle.handlebars_render.specs.View.{setting_in, state_with, KeptIn, within};
+ghost use Rattle.handlebars_meaning.specs.State.{nearest_variables};
+ghost use Rattle.handlebars_render.specs.Inclusions.{HasBase, StandsAt, lent_frame};
+ghost use Rattle.handlebars_render.specs.View.{setting_in, state_of, state_with, GivesValue, KeptIn, within};
 
 use crate::context::RenderContext;
 use crate::registered::Registered;
@@ -25,9 +27,70 @@ use handlebars_scope::merge::merge;
 use std::alloc::{AllocError, Global};
 use std::collections::BTreeMap;
 
+/// A block of scope, and the value that is lent to it as its base, where it has none of its own.
+#[derive(Drop)]
+pub struct LentBlock<'v> {
+    pub block: BlockContext,
+    pub base: Option<&'v Json>,
+}
+
 /// The block of an inclusion: it stands at a value, merged with the pairs, which are bound to their keys too, and has the
-/// variables of the nearest block.
-pub fn inclusion_block<P: Registered>(
+/// variables of the nearest block. Without pairs the value is lent to it, unless the context holds it.
+pub fn inclusion_block<'v, P: Registered>(
+    tag: &'v Decorator,
+    setting: &Setting<'v, 'v, P>,
+    rc: &RenderContext,
+) -> Result<LentBlock<'v>, RenderError>
+    ensures { (kept : KeptIn (within setting.now)) → StandsAt (setting_in P.parts setting.now) (tag_view tag.now)
+        (state_with kept rc.now) lent_frame result }
+{
+    match lent_base(tag, setting, rc) {
+        Some(base) => Ok(LentBlock {
+            block: plain_block(setting.alloc, rc)?,
+            base: Some(base),
+        }),
+        None => match own_block(tag, setting, rc) {
+            Ok(block) => Ok(LentBlock { block, base: None }),
+            Err(e) => Err(e),
+        },
+    }
+}
+
+// The value that an inclusion stands at, where there are no pairs and it can be lent: that of the first parameter, or
+// without one the current one.
+fn lent_base<'v, P: Registered>(
+    tag: &'v Decorator,
+    setting: &Setting<'v, 'v, P>,
+    rc: &RenderContext,
+) -> Option<&'v Json>
+    ensures value { IfSome result (λ v. (kept : KeptIn (within setting.now)) → GivesValue (setting_in P.parts setting.now)
+        (base_value (tag_view tag.now).call.params) (state_with kept rc.now) (view v.now)) }
+    ensures plain { IfSome result (λ v. (tag_view tag.now).call.pairs ≡ []) }
+{
+    if !tag.hash().is_empty() {
+        return None;
+    }
+    match tag.param(0) {
+        Some(value) => Some(value.value()),
+        None => match rc.lent_current(setting.given.data(), setting.bases) {
+            Some(value) => Some(value),
+            None => None,
+        },
+    }
+}
+
+// A block with the variables of the nearest one, and nothing else.
+fn plain_block(alloc: Global, rc: &RenderContext) -> Result<BlockContext, AllocError>
+    ensures { IfOk result (λ block. frame_of block
+        ≡ record empty_frame { variable = nearest_variables (state_of rc.now).blocks }) }
+{
+    let mut block = BlockContext::new(alloc);
+    block.set_local_variables(rc.nearest_variables()?);
+    Ok(block)
+}
+
+// The block that has the value itself.
+fn own_block<P: Registered>(
     tag: &Decorator,
     setting: &Setting<'_, '_, P>,
     rc: &RenderContext,
@@ -39,8 +102,7 @@ pub fn inclusion_block<P: Registered>(
         Ok(base) => base,
         Err(e) => return Err(e),
     };
-    let mut block = BlockContext::new(setting.alloc);
-    block.set_local_variables(rc.nearest_variables()?);
+    let mut block = plain_block(setting.alloc, rc)?;
     block.set_block_params(bound_pairs(setting.alloc, tag.hash())?);
     block.set_base_value(base);
     Ok(block)
@@ -71,7 +133,7 @@ fn current<P: Registered>(
         → HasBase (setting_in P.parts setting.now) (tag_view tag.now) (state_with kept rc.now) view result }
 {
     let here = here(setting.alloc);
-    match rc.reach(setting.given.data(), &here) {
+    match rc.reach(setting.given.data(), &here, setting.bases) {
         Reached::Value(value) => Ok(merge(setting.alloc, value, tag.hash())?),
         Reached::Nothing => Ok(merge(setting.alloc, &Json::Null, tag.hash())?),
         Reached::NoIndex(name) => Err(wrong_index(setting.alloc, name)),

@@ -107,7 +107,7 @@ fn settle_path<'a, O: Output, P: Registered>(
             Called::alone(setting.alloc, CowStr::Borrowed(path.raw())),
             true,
         ),
-        None => match rc.reach(setting.given.data(), path) {
+        None => match rc.reach(setting.given.data(), path, setting.bases) {
             Reached::Value(value) => settle_found(setting, value, rc, sink),
             Reached::Nothing => settle_missing(helper, setting, CowStr::Borrowed(path.raw()), rc),
             Reached::NoIndex(name) => Err(not_an_index(setting.alloc, name)),

@@ -22,7 +22,7 @@ use crate::block::leave_call;
 use crate::boxed::BoxedError;
 use crate::called::view_of_tag;
 use crate::context::RenderContext;
-use crate::inclusion::inclusion_block;
+use crate::inclusion::{LentBlock, inclusion_block};
 use crate::registered::Registered;
 use crate::setting::Setting;
 use crate::sink::Sink;
@@ -31,6 +31,7 @@ use crate::write::write_as_is;
 use handlebars_base::error::RenderErrorReason;
 use handlebars_base::output::{Output, StringOutput};
 use handlebars_helpers::decorators::view::Decorator;
+use handlebars_scope::context::bases::Bases;
 use handlebars_template::template::{DecoratorTemplate, Template};
 use std::alloc::{AllocError, Global};
 
@@ -102,6 +103,7 @@ pub fn include<O: Output, P: Registered>(
         inclusions: setting.inclusions,
         kept: setting.kept,
         indent: setting.indent,
+        bases: setting.bases,
     };
     match &found {
         Some(tree) => include_found(view, &*tree, &nearer, rc, sink),
@@ -148,6 +150,7 @@ fn render_kept<O: Output, P: Registered>(
         inclusions: setting.inclusions,
         kept: setting.kept,
         indent: setting.indent,
+        bases: setting.bases,
     };
     let name = rc.take_name();
     let answer = render_tree(&*body, &nearer, rc, sink);
@@ -175,17 +178,28 @@ fn include_found<'a, O: Output, P: Registered>(
         Ok(count) => count,
         Err(e) => return Err(e),
     };
-    let block = match inclusion_block(view, setting, rc) {
-        Ok(block) => block,
+    let LentBlock { block, base } = match inclusion_block(&*view, &*setting, rc) {
+        Ok(lent) => lent,
         Err(e) => return Err(BoxedError::new(setting.alloc, e)),
     };
     let name = rc.begin(block)?;
+    let bases = Bases::block(base, setting.bases);
+    let nearer = Setting {
+        alloc: setting.alloc,
+        parts: &*setting.parts,
+        given: setting.given,
+        room: setting.room,
+        inclusions: setting.inclusions,
+        kept: setting.kept,
+        indent: setting.indent,
+        bases: &bases,
+    };
     let answer = match view.template() {
-        Some(body) => match render_ahead::<O, P>(&*body, setting, rc) {
-            Ok(text) => include_tree(tree, count, Some(text.as_str()), view, setting, rc, sink),
+        Some(body) => match render_ahead::<O, P>(&*body, &nearer, rc) {
+            Ok(text) => include_tree(tree, count, Some(text.as_str()), view, &nearer, rc, sink),
             Err(e) => Err(e),
         },
-        None => include_tree(tree, count, None, view, setting, rc, sink),
+        None => include_tree(tree, count, None, view, &nearer, rc, sink),
     };
     rc.end(name);
     answer
@@ -213,11 +227,12 @@ fn include_own<O: Output, P: Registered>(
         Ok(count) => count,
         Err(e) => return Err(e),
     };
-    let block = match inclusion_block(view, setting, rc) {
-        Ok(block) => block,
+    let LentBlock { block, base } = match inclusion_block(&*view, &*setting, rc) {
+        Ok(lent) => lent,
         Err(e) => return Err(BoxedError::new(setting.alloc, e)),
     };
     let name = rc.begin(block)?;
+    let bases = Bases::block(base, setting.bases);
     let nearer = Setting {
         alloc: setting.alloc,
         parts: &*setting.parts,
@@ -226,6 +241,7 @@ fn include_own<O: Output, P: Registered>(
         inclusions: setting.inclusions,
         kept: setting.kept,
         indent: setting.indent,
+        bases: &bases,
     };
     let answer = include_tree(&*body, count, None, view, &nearer, rc, sink);
     rc.end(name);
@@ -243,7 +259,8 @@ fn include_tree<'a, O: Output, P: Registered>(
     rc: &mut RenderContext,
     sink: &mut Sink<'_, O>,
 ) -> Result<(), BoxedError>
-    ensures renders { (at : TreeSite) (kept : KeptIn (included count text.entry (tag_view view.now).indent))
+    ensures renders { (at : TreeSite) (kept : KeptIn (included count text.entry (tag_view view.now).indent
+        (within setting.now).bases))
         → CarriesOn (setting_in P.parts setting.now) (perform (Whole at (tree_view tree.now)))
         O.may_give (moment kept rc.old (held_in O.held sink.old))
         (answer_of result) (moment kept rc.new (held_in O.held sink.new)) }
@@ -258,6 +275,7 @@ fn include_tree<'a, O: Output, P: Registered>(
         inclusions: count,
         kept: text,
         indent: view.indent(),
+        bases: setting.bases,
     };
     render_tree(tree, &nearer, rc, sink)
 }
@@ -282,6 +300,7 @@ fn render_ahead<O: Output, P: Registered>(
         inclusions: setting.inclusions,
         kept: setting.kept,
         indent: setting.indent,
+        bases: setting.bases,
     };
     let mut text = StringOutput::new(setting.alloc);
     let mut ahead: Sink<'_, O> = Sink::Ahead(&mut text);

@@ -1,6 +1,7 @@
 //! What a run reads, and what holds within an inclusion.
 
 use handlebars_scope::context::Context;
+use handlebars_scope::context::bases::Bases;
 use std::alloc::Global;
 
 /// All that stays as it is in a run, and what stays as it is within an inclusion.
@@ -17,4 +18,6 @@ pub struct Setting<'r, 'a, P> {
     pub kept: Option<&'r str>,
     /// The indentation in force, if there is one.
     pub indent: Option<&'r str>,
+    /// What is lent to blocks of scope as their bases.
+    pub bases: &'r Bases<'r>,
 }

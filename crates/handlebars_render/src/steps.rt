@@ -28,6 +28,7 @@ use handlebars_base::output::Output;
 use handlebars_helpers::own::HelperStep;
 use handlebars_helpers::view::Helper;
 use handlebars_scope::block::BlockContext;
+use handlebars_scope::context::bases::Bases;
 use handlebars_template::template::HelperTemplate;
 
 /// Renders what the helper of one's own under a name chooses for a call.
@@ -137,7 +138,18 @@ fn render_in<'a, O: Output, P: Registered>(
     ensures same { IsSame sink.old sink.new }
 {
     rc.push_block(scope)?;
-    let answer = render_body(helper, setting, rc, sink);
+    let bases = Bases::block(None, setting.bases);
+    let nearer = Setting {
+        alloc: setting.alloc,
+        parts: &*setting.parts,
+        given: setting.given,
+        room: setting.room,
+        inclusions: setting.inclusions,
+        kept: setting.kept,
+        indent: setting.indent,
+        bases: &bases,
+    };
+    let answer = render_body(helper, &nearer, rc, sink);
     rc.pop_block();
     answer
 }

@@ -47,6 +47,7 @@ pub fn render_tree<'a, O: Output, P: Registered>(
         inclusions: setting.inclusions,
         kept: setting.kept,
         indent: setting.indent,
+        bases: setting.bases,
     };
     match render_whole(template, &nearer, rc, sink) {
         Ok(()) => Ok(()),

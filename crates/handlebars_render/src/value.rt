@@ -37,7 +37,7 @@ pub fn expands<'a, P: Registered>(
 {
     match parameter {
         Parameter::Name(_) => Ok(ScopedJson::Missing),
-        Parameter::Path(path) => rc.find(setting.given.data(), path),
+        Parameter::Path(path) => rc.find(setting.given.data(), path, setting.bases),
         Parameter::Literal(value) => Ok(ScopedJson::Constant(value)),
         Parameter::Subexpression(inner) => inner_value(setting, rc, inner),
     }

@@ -9,6 +9,7 @@ use handlebars_lines::binding::split_binding;
 use handlebars_lines::line::{Enclosure, NameMode, split_line};
 use handlebars_lines::literal::split_literal;
 use handlebars_lines::worth::literal_value;
+use handlebars_scope::context::bases::Bases;
 use handlebars_scope::context::walk::resolve;
 use handlebars_template::template::{Parameter, Template, TemplateOptions};
 use std::alloc::{AllocError, Global};
@@ -120,7 +121,7 @@ impl Call {
     fn resolved(&self, alloc: Global, path: &str) -> Result<String, RenderError> {
         let path = Path::parse(alloc, path)?;
         let blocks = VecDeque::new(alloc);
-        let found = resolve(alloc, &self.data, &path, &blocks, false)?;
+        let found = resolve(alloc, &self.data, &path, &blocks, &Bases::Outside, false)?;
         Ok(format!(in alloc; "{found:?}")?)
     }
 }

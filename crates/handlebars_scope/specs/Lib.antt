@@ -1,6 +1,7 @@
 pub mod Contexts
 pub mod Wraps
 pub mod Scopes
+pub mod Bases
 pub mod Resolve
 pub mod Fronts
 pub mod LineState

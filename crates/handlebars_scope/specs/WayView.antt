@@ -1,5 +1,5 @@
 -- What a way in the code stands for, and what is reached on it.
-use Rattle.std.specs.Prelude.{ℕ, List, Option, Some, None, map, ◌++◌, String, string_bytes}
+use Rattle.std.specs.Prelude.{ℕ, List, Option, Some, None, map, option_map, ◌++◌, String, string_bytes}
 use Rattle.std.specs.declared.alloc.Global.{Global}
 use denote.Ref.{Bor}
 use Rattle.serde_json.specs.Data.{Data}
@@ -9,11 +9,19 @@ use Rattle.handlebars_base.specs.Answers.{Answer, gives, refuses_for}
 use Rattle.handlebars_base.specs.Bytes.{Text}
 use Rattle.handlebars_base.specs.PathView.{segments_of}
 use Rattle.handlebars_base.specs.Reasons.{invalid_json_index}
+use Rattle.handlebars_scope.specs.Bases.{with_base}
+use Rattle.handlebars_scope.specs.Scopes.{Frame}
+use Rattle.handlebars_scope.specs.ScopeView.{frame_of}
+use Rattle.handlebars_scope.specs.declared.block.BlockContext.{BlockContext}
 use Rattle.handlebars_scope.specs.Resolve.{Way, within, along, under_front, names_of}
 use Rattle.handlebars_scope.specs.declared.context.way.Way.{Way as CodeWay}
 use Rattle.handlebars_scope.specs.declared.context.way.Way.TheVariants.{Within, Along, UnderFront}
 use Rattle.handlebars_scope.specs.declared.context.reached.Reached.{Reached}
 use Rattle.handlebars_scope.specs.declared.context.reached.Reached.TheVariants as reach
+
+-- a block with the base that is lent to it, if one is
+abbrev pub lent_frame : Bor BlockContext × Option (Bor Value) → Frame
+lent_frame b = with_base (option_map (λ v. view v.now) b.1) (frame_of b.0.now)
 
 -- the names that texts are
 abbrev pub names_in : List (String Global) → List Text

@@ -7,6 +7,7 @@ ghost use Rattle.serde_json.specs.Written.{has_float};
 ghost use Rattle.handlebars_base.specs.Reasons.{nowhere, out_of_memory, serde_error};
 ghost use Rattle.handlebars_base.specs.RenderRefusals.{reason_in, spot_of};
 
+pub mod bases;
 mod range;
 pub mod reached;
 pub mod walk;

@@ -20,6 +20,7 @@ use handlebars_render::evaluate::{eval_element, eval_tree};
 use handlebars_render::failure::{fail_after, ready};
 use handlebars_render::setting::Setting;
 use handlebars_scope::context::Context;
+use handlebars_scope::context::bases::Bases;
 use handlebars_template::template::{Template, TemplateElement};
 use log::Log;
 use std::alloc::Global;
@@ -76,6 +77,7 @@ impl Evaluable for Template {
             inclusions: 0,
             kept: None,
             indent: None,
+            bases: &Bases::Outside,
         };
         match eval_tree(self, &setting, rc) {
             Ok(()) => Ok(()),
@@ -108,6 +110,7 @@ impl Evaluable for TemplateElement {
             inclusions: 0,
             kept: None,
             indent: None,
+            bases: &Bases::Outside,
         };
         match eval_element(self, &setting, rc) {
             Ok(()) => Ok(()),

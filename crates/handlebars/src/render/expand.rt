@@ -21,6 +21,7 @@ use handlebars_render::failure::{fail_after, ready};
 use handlebars_render::setting::Setting;
 use handlebars_render::value;
 use handlebars_scope::context::Context;
+use handlebars_scope::context::bases::Bases;
 use handlebars_template::template::Parameter;
 use log::Log;
 use std::alloc::Global;
@@ -94,6 +95,7 @@ impl Expand for Parameter {
                 inclusions: 0,
                 kept: None,
                 indent: None,
+                bases: &Bases::Outside,
             },
             rc,
             self,
@@ -120,6 +122,7 @@ impl Expand for Parameter {
                 inclusions: 0,
                 kept: None,
                 indent: None,
+                bases: &Bases::Outside,
             },
             rc,
             self,

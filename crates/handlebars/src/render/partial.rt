@@ -21,6 +21,7 @@ use handlebars_render::entry::include_into;
 use handlebars_render::failure::{fail_after, ready};
 use handlebars_render::setting::Setting;
 use handlebars_scope::context::Context;
+use handlebars_scope::context::bases::Bases;
 use log::Log;
 use std::alloc::Global;
 
@@ -57,6 +58,7 @@ pub fn expand_partial<E: OwnParts, L: Log, O: Output>(
         inclusions: 0,
         kept: None,
         indent: None,
+        bases: &Bases::Outside,
     };
     match include_into(d, &setting, rc, out) {
         Ok(()) => Ok(()),

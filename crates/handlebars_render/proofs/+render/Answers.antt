@@ -1,5 +1,6 @@
 use Rattle.std.proofs.Common.{rules, None, Some, ◌∷◌, ◌∙◌, ◌+◌, true≢false, refl, sym, ap, map, option_map, Option, List, length, arith, string_bytes}
 use Rattle.std.specs.Prelude.{slice_get}
+use Rattle.serde_json.specs.View.{view}
 use Rattle.handlebars_base.specs.RenderRefusals.{spot_of}
 use Rattle.handlebars_template.specs.Place.{Place}
 use Rattle.handlebars_template.specs.Tree.{Tree, tree_name, CallMarks, call_marks}
@@ -14,6 +15,7 @@ use Rattle.handlebars_scope.specs.ScopeView.{frame_of}
 use Rattle.handlebars_helpers.specs.CallView.{HelperView}
 use Rattle.handlebars_helpers.specs.Callee.{built, own, calls_local, calls_registered}
 use Rattle.handlebars_helpers.specs.OwnView.{step_of}
+use Rattle.handlebars_helpers.specs.Turns.{turned}
 use Rattle.handlebars_helpers.specs.View.{kind_of, base_view, path_view, turn_view}
 use Rattle.handlebars_scope.specs.Scopes.{Frame, empty_frame}
 use Rattle.handlebars_meaning.specs.CarryOut.{helper_call}
@@ -24,7 +26,7 @@ use Rattle.handlebars_render.specs.declared.boxed.BoxedError.TheVariants.{OutOfM
 use Rattle.handlebars_render.specs.Targets.{target_in}
 use Rattle.handlebars_render.specs.Bound.{bound_of}
 use Rattle.handlebars_base.specs.Bytes.{Text}
-use Rattle.handlebars_render.specs.View.{called, called_view, keeping, setting_in, state_of, state_with, within}
+use Rattle.handlebars_render.specs.View.{called, called_view, keeping, lending, setting_in, state_of, state_with, within}
 use Rattle.handlebars_render.proofs.Branches.{carries-branch}
 use Rattle.handlebars_render.proofs.Calls.{branch_none, choice_err, choice_ok, chosen_ok, entered_as}
 use Rattle.handlebars_render.proofs.LocalCalls.{chooses-local, chooses-same, refuses-local}
@@ -33,6 +35,7 @@ use Rattle.handlebars_render.proofs.Carry.{carries-done, carries-out_of_memory, 
 use Rattle.handlebars_meaning.specs.State.{entered, hook, left, nearest_variables}
 use Rattle.handlebars_render.proofs.Elements.{left_starts, left_goes, left_over, left_ends, whole_with}
 use Rattle.handlebars_render.proofs.Kept.{kept-refl, kept-trans, outer-kept, outer-trans}
+use Rattle.handlebars_render.proofs.Lent.{left-lent, named-lent, nearest-lent, nearest_variables-lend, one_more, partial_in-lend}
 use Rattle.handlebars_render.proofs.Lists.{get_or-seen, below-seen, over-seen, place_there, looked_up, placed_marks}
 use Rattle.handlebars_render.proofs.Silent.{carries-does}
 use Rattle.handlebars_render.proofs.Sinks.{same-refl, same-trans}
@@ -358,8 +361,10 @@ steps::render_in-returns-in_err-push_block-clause-renders g t c = λ site kept i
 
 pub steps::render_in-returns-clause-renders : goal.steps::render_in-returns-clause-renders
 steps::render_in-returns-clause-renders g t c = λ site kept i block v.
-    carries_on-in_block _ _ (frame_of c.args.scope) _ (ap (keeping kept) c.in_ok-push_block.ensures.ok)
-    (ap (keeping kept) c.pop_block.ensures.state) (c.render_body-answer.ensures.renders site kept i block v)
+    let more = one_more kept None c.block-bases.ensures in
+    carries_on-in_block _ _ (frame_of c.args.scope) _ (ap (keeping more) c.in_ok-push_block.ensures.ok)
+    (ap (keeping kept) c.pop_block.ensures.state ∙ left-lent kept None c.block-bases.ensures (state_of c.render_body-answer.new.rc))
+    (c.render_body-answer.ensures.renders site more i block v)
 
 pub steps::take_steps-returns-in-Err-clause-renders : goal.steps::take_steps-returns-in-Err-clause-renders
 steps::take_steps-returns-in-Err-clause-renders g t c = λ site kept block v.
@@ -419,10 +424,13 @@ each::render_with-returns-in_err-push_block-clause-renders g t c = λ site kept 
 
 pub each::render_with-returns-clause-renders : goal.each::render_with-returns-clause-renders
 each::render_with-returns-clause-renders g t c = λ site kept block v.
+    let more = one_more kept None c.block-bases.ensures in
     carries_on-with _ _ site (helper_call block (call_view c.args.helper.now) v) (base_view c.args.base)
-    (ap (keeping kept) (entered-with (base_view c.args.base) c.in_ok-push_block.ensures.ok c.in_ok-block.ensures
-    (binding-seen c.args.helper.now c.as_ref.result c.as_ref.ensures.value) c.in_ok-variables.ensures))
-    (ap (keeping kept) c.pop_block.ensures.state) (c.render_body-answer.ensures.renders site kept 0 block v)
+    (ap (keeping more) (entered-with (base_view c.args.base) c.in_ok-push_block.ensures.ok c.in_ok-block.ensures
+    (binding-seen c.args.helper.now c.as_ref.result c.as_ref.ensures.value)
+    (c.in_ok-variables.ensures ∙ sym (nearest_variables-lend kept.bases (state_of c.args.rc.now).blocks))))
+    (ap (keeping kept) c.pop_block.ensures.state ∙ left-lent kept None c.block-bases.ensures (state_of c.render_body-answer.new.rc))
+    (c.render_body-answer.ensures.renders site more 0 block v)
 
 pub each::render_each-returns-in_err-push_block-clause-renders : goal.each::render_each-returns-in_err-push_block-clause-renders
 each::render_each-returns-in_err-push_block-clause-renders g t c = λ site kept block v.
@@ -430,30 +438,32 @@ each::render_each-returns-in_err-push_block-clause-renders g t c = λ site kept 
 
 pub each::render_each-returns-clause-renders : goal.each::render_each-returns-clause-renders
 each::render_each-returns-clause-renders g t c = λ site kept block v.
+    let more = one_more kept None c.block-bases.ensures in
     carries_on-in_block _ _ empty_frame _
-    (ap (keeping kept) (c.in_ok-push_block.ensures.ok ∙ ap (λ (f : Frame). entered f (state_of c.args.rc.now)) c.new.ensures))
-    (ap (keeping kept) c.pop_block.ensures.state) (c.take_turns-answer.ensures.renders site kept block v)
+    (ap (keeping more) (c.in_ok-push_block.ensures.ok ∙ ap (λ (f : Frame). entered f (state_of c.args.rc.now)) c.new.ensures))
+    (ap (keeping kept) c.pop_block.ensures.state ∙ left-lent kept None c.block-bases.ensures (state_of c.take_turns-answer.new.rc))
+    (c.take_turns-answer.ensures.renders site more block v (kept.bases, refl))
 
 -- ---- turns
 
 pub each::take_turns-returns-in_err-set_up_turn-clause-renders : goal.each::take_turns-returns-in_err-set_up_turn-clause-renders
-each::take_turns-returns-in_err-set_up_turn-clause-renders g t c = λ site kept block v.
+each::take_turns-returns-in_err-set_up_turn-clause-renders g t c = λ site kept block v unlent.
     turns-no_memory _ _ site c.turns.invariant.number (helper_call block (call_view c.args.helper.now) v) (path_view c.args.path) _ _ c.from_residual.result
-    c.in-Some.ensures (c.turns.invariant.left site kept block v) c.from_residual.ensures.1
+    c.in-Some.ensures (c.turns.invariant.left site kept block v unlent) c.from_residual.ensures.1
 
 pub each::take_turns-returns-in-Err-clause-renders : goal.each::take_turns-returns-in-Err-clause-renders
-each::take_turns-returns-in-Err-clause-renders g t c = λ site kept block v.
+each::take_turns-returns-in-Err-clause-renders g t c = λ site kept block v unlent.
     turns-over _ _ site c.turns.invariant.number (helper_call block (call_view c.args.helper.now) v) (path_view c.args.path) _
-    c.in-Some.ensures (c.turns.invariant.left site kept block v)
+    c.in-Some.ensures (c.turns.invariant.left site kept block v unlent)
     (carries_on-turn _ _ site c.turns.invariant.number (helper_call block (call_view c.args.helper.now) v) (path_view c.args.path) (turn_view c.in-Some.turn)
-    (rw (sym (binding-seen c.args.helper.now c.as_ref.result c.as_ref.ensures.value)) (ap (keeping kept) (c.in_ok-set_up_turn.ensures.ok c.turns.invariant.below)))
+    (rw (sym (binding-seen c.args.helper.now c.as_ref.result c.as_ref.ensures.value)) (nearest-lent kept (turned (path_view c.args.path) _ (turn_view c.in-Some.turn)) _ _ (c.in_ok-set_up_turn.ensures.ok c.turns.invariant.below) unlent))
     (c.in-Err.ensures.renders site kept c.turns.invariant.number block v))
 
 pub each::take_turns-turns-init : goal.each::take_turns-turns-init
 each::take_turns-turns-init g t c =
     record {
       number = 0;
-      left = λ site kept block v next r last d. d;
+      left = λ site kept block v unlent next r last d. d;
       same = same-refl _;
       outer = outer-kept (kept-refl _);
       below = λ is. absurd (true≢false is);
@@ -462,11 +472,11 @@ each::take_turns-turns-init g t c =
 pub each::take_turns-turns-preserved : goal.each::take_turns-turns-preserved
 each::take_turns-turns-preserved g t c = record {
   number = c.turns.invariant.number + 1;
-  left = λ site kept block v.
+  left = λ site kept block v unlent.
       turns-go _ _ site c.turns.invariant.number (helper_call block (call_view c.args.helper.now) v) (path_view c.args.path) _
-      c.in-Some.ensures (c.turns.invariant.left site kept block v)
+      c.in-Some.ensures (c.turns.invariant.left site kept block v unlent)
       (carries_on-turn _ _ site c.turns.invariant.number (helper_call block (call_view c.args.helper.now) v) (path_view c.args.path) (turn_view c.in-Some.turn)
-      (rw (sym (binding-seen c.args.helper.now c.as_ref.result c.as_ref.ensures.value)) (ap (keeping kept) (c.in_ok-set_up_turn.ensures.ok c.turns.invariant.below)))
+      (rw (sym (binding-seen c.args.helper.now c.as_ref.result c.as_ref.ensures.value)) (nearest-lent kept (turned (path_view c.args.path) _ (turn_view c.in-Some.turn)) _ _ (c.in_ok-set_up_turn.ensures.ok c.turns.invariant.below) unlent))
       (c.in_default-render_body.ensures.renders site kept c.turns.invariant.number block v));
   same = same-trans _ _ _ c.turns.invariant.same c.in_default-render_body.ensures.same;
   outer = outer-trans c.turns.invariant.outer
@@ -476,9 +486,9 @@ each::take_turns-turns-preserved g t c = record {
 }
 
 pub each::take_turns-returns-clause-renders : goal.each::take_turns-returns-clause-renders
-each::take_turns-returns-clause-renders g t c = λ site kept block v.
+each::take_turns-returns-clause-renders g t c = λ site kept block v unlent.
     turns-end _ _ site c.turns.invariant.number (helper_call block (call_view c.args.helper.now) v) (path_view c.args.path) _
-    c.in_default.ensures (c.turns.invariant.left site kept block v)
+    c.in_default.ensures (c.turns.invariant.left site kept block v unlent)
 
 -- ---- inclusions
 
@@ -525,7 +535,8 @@ partial::include-returns-in-Some-clause-renders g t c = λ site kept.
     includes-local _ _ (tag_view c.args.view.now) site (tree_view c.in-Some.tree.value)
     (rw c.name.ensures at (sym c.is_current_template.ensures ∙ c.if-is_current_template.false))
     (rw c.name-2.ensures at (sym c.is_partial_block.ensures ∙ c.if-is_partial_block.false))
-    (rw c.name-3.ensures at (rw c.in-Some.is at c.in_ok-found.ensures))
+    ((rw c.name-3.ensures at (rw c.in-Some.is at c.in_ok-found.ensures))
+    ∙ sym (partial_in-lend kept.bases (state_of c.args.rc.now).blocks (tag_view c.args.view.now).call.name))
     (rw c.deref.ensures at (c.include_found.ensures.renders site kept))
 
 pub partial::include-returns-in-Some-template-clause-renders : goal.partial::include-returns-in-Some-template-clause-renders
@@ -533,7 +544,8 @@ partial::include-returns-in-Some-template-clause-renders g t c = λ site kept.
     includes-registered _ _ (tag_view c.args.view.now) site (tree_view c.in-Some-template.tree.now)
     (rw c.name.ensures at (sym c.is_current_template.ensures ∙ c.if-is_current_template.false))
     (rw c.name-2.ensures at (sym c.is_partial_block.ensures ∙ c.if-is_partial_block.false))
-    (rw c.name-3.ensures at (rw c.in-None.is at c.in_ok-found.ensures))
+    ((rw c.name-3.ensures at (rw c.in-None.is at c.in_ok-found.ensures))
+    ∙ sym (partial_in-lend kept.bases (state_of c.args.rc.now).blocks (tag_view c.args.view.now).call.name))
     (rw c.name-in-None.ensures at c.in-Some-template.ensures)
     (c.include_found-in-Some-template.ensures.renders site kept)
 
@@ -542,13 +554,14 @@ partial::include-returns-clause-renders g t c = λ site kept.
     includes-own _ _ (tag_view c.args.view.now) site
     (rw c.name.ensures at (sym c.is_current_template.ensures ∙ c.if-is_current_template.false))
     (rw c.name-2.ensures at (sym c.is_partial_block.ensures ∙ c.if-is_partial_block.false))
-    (rw c.name-3.ensures at (rw c.in-None.is at c.in_ok-found.ensures))
+    ((rw c.name-3.ensures at (rw c.in-None.is at c.in_ok-found.ensures))
+    ∙ sym (partial_in-lend kept.bases (state_of c.args.rc.now).blocks (tag_view c.args.view.now).call.name))
     (rw c.name-in-None.ensures at c.in-None-template.ensures)
     (c.include_own.ensures.renders site kept)
 
 pub partial::include_tree-returns-clause-renders : goal.partial::include_tree-returns-clause-renders
 partial::include_tree-returns-clause-renders g t c = λ at kept.
-    under-same _ _ (option_map (λ t. t.now) c.args.text) c.args.count (perform (Whole at (tree_view c.args.tree.now)))
+    under-same _ _ (option_map (λ t. t.now) c.args.text) c.args.count (within c.args.setting.now).bases (perform (Whole at (tree_view c.args.tree.now)))
     (state_of c.args.rc.now) (state_of c.render_tree.new.rc) c.indent.ensures (λ k. c.render_tree.ensures.renders at k) kept
 
 pub partial::render_ahead-returns-in-Ok-clause-ahead : goal.partial::render_ahead-returns-in-Ok-clause-ahead
@@ -590,35 +603,45 @@ partial::include_found-returns-clause-renders g t c = λ site kept.
     let v = tag_view c.args.view.now in
     let u = tree_view c.args.tree.now in
     let w0 = within c.args.setting.now in
-    let s = state_of c.args.rc.now in
+    let s = lending kept.bases (state_of c.args.rc.now) in
+    let b = option_map (λ v. view v.now) c.in-Ok-inclusion_block.lent.base in
     let stands = c.in-Ok-inclusion_block.ensures kept in
     let inner = entered (inclusion_block stands.0 (pair_values v.call.pairs) (nearest_variables s.blocks)) s in
-    let begins = c.in_ok-name.ensures.ok ∙ ap (λ (f : Frame). called None (entered f s)) stands.2 in
+    let begins = ap (lending (b ∷ kept.bases)) c.in_ok-name.ensures.ok
+        ∙ ap (λ (f : Frame). called None (entered f s)) stands.2 in
+    let more = one_more kept b c.block-bases.ensures in
     elim c.match-template.branch [
       | partial::include_found-in-Some+in-Ok-render_ahead w ↦
           rw (w.answer-is, w.sink-is)
           (found-some _ _ v site u (tree_view w.in-Some.body.now) (rw w.in-Some.is at c.template.ensures)
           (inclusion-ahead _ _ v site u (tree_view w.in-Some.body.now) stands.0 {c = None}
-          (λ ps. placed v.indent (Some ps ∷ kept.pieces) c.in-Ok.count (state_of w.render_ahead.new.rc))
-          (λ ps. placed v.indent (Some ps ∷ kept.pieces) c.in-Ok.count (state_of w.include_tree.new.rc))
-          c.in-Ok.ensures.ok.0 stands.1 (ap (keeping kept) begins)
-          (w.in-Ok-render_ahead.ensures.ahead (body_at site 0) kept _)
-          (λ ps. kept-more v.indent w0.indent (Some ps) kept.pieces w0.inclusions c.in-Ok.count (state_of w.render_ahead.new.rc) c.in-Ok.ensures.ok.1)
-          (λ ps. ap (keeping kept) ((rw w.rc-is at c.end.ensures.state) ∙ ap (λ (n : Option Text). called n (left (state_of w.include_tree.new.rc))) c.in_ok-name.ensures.name))
+          (λ ps. placed v.indent (Some ps ∷ kept.pieces) c.in-Ok.count (lending (b ∷ kept.bases) (state_of w.render_ahead.new.rc)))
+          (λ ps. placed v.indent (Some ps ∷ kept.pieces) c.in-Ok.count (lending (b ∷ kept.bases) (state_of w.include_tree.new.rc)))
+          c.in-Ok.ensures.ok.0 stands.1 (ap (placed w0.indent kept.pieces w0.inclusions) begins)
+          (w.in-Ok-render_ahead.ensures.ahead (body_at site 0) more _)
+          (λ ps. kept-more v.indent w0.indent (Some ps) kept.pieces w0.inclusions c.in-Ok.count (lending (b ∷ kept.bases) (state_of w.render_ahead.new.rc)) c.in-Ok.ensures.ok.1)
+          (λ ps. ap (keeping kept) ((rw w.rc-is at c.end.ensures.state) ∙ ap (λ (n : Option Text). called n (left (state_of w.include_tree.new.rc))) c.in_ok-name.ensures.name)
+          ∙ named-lent kept b c.block-bases.ensures (state_of c.args.rc.now).current (state_of w.include_tree.new.rc))
           (λ ps is. w.include_tree.ensures.renders (included_at site u)
-          (record { pieces = Some ps ∷ kept.pieces; holds = ap (λ (t : Text). Some t) (sym is ∙ sym w.as_str.ensures.value) }))))
+          (record {
+            pieces = Some ps ∷ kept.pieces;
+            bases = more.bases;
+            holds = ap (λ (t : Text). Some t) (sym is ∙ sym w.as_str.ensures.value);
+            lent = more.lent;
+          }))))
       | partial::include_found-in-Some+in-Err-render_ahead w ↦
           rw (w.answer-is, w.sink-is)
           (found-some _ _ v site u (tree_view w.in-Some.body.now) (rw w.in-Some.is at c.template.ensures)
           (inclusion-ahead_over _ _ v site u (tree_view w.in-Some.body.now) stands.0 {c = None} c.in-Ok.ensures.ok.0 stands.1
-          (ap (keeping kept) begins) (w.in-Err-render_ahead.ensures.ahead (body_at site 0) kept _)))
+          (ap (placed w0.indent kept.pieces w0.inclusions) begins) (w.in-Err-render_ahead.ensures.ahead (body_at site 0) more _)))
       | partial::include_found-in-None w ↦
           rw (w.answer-is, w.sink-is)
           (found-none _ _ v site u (rw w.in-None.is at c.template.ensures)
           (inclusion-plain _ _ v (included_at site u) u stands.0 {c = None} c.in-Ok.ensures.ok.0 stands.1
           (begun-so v.indent w0.indent None kept.pieces w0.inclusions c.in-Ok.count inner c.in-Ok.ensures.ok.1 begins)
-          (ap (keeping kept) ((rw w.rc-is at c.end.ensures.state) ∙ ap (λ (n : Option Text). called n (left (state_of w.include_tree-answer.new.rc))) c.in_ok-name.ensures.name))
-          (w.include_tree-answer.ensures.renders (included_at site u) (record { pieces = None ∷ kept.pieces; holds = refl }))))
+          (ap (keeping kept) ((rw w.rc-is at c.end.ensures.state) ∙ ap (λ (n : Option Text). called n (left (state_of w.include_tree-answer.new.rc))) c.in_ok-name.ensures.name)
+          ∙ named-lent kept b c.block-bases.ensures (state_of c.args.rc.now).current (state_of w.include_tree-answer.new.rc))
+          (w.include_tree-answer.ensures.renders (included_at site u) (record { pieces = None ∷ kept.pieces; bases = more.bases; holds = refl; lent = more.lent }))))
     ]
 
 -- ---- the tag's own block
@@ -654,15 +677,19 @@ partial::include_own-returns-clause-renders g t c = λ site kept.
     let v = tag_view c.args.view.now in
     let u = tree_view c.in-Some.body.now in
     let w0 = within c.args.setting.now in
-    let s = state_of c.args.rc.now in
+    let s = lending kept.bases (state_of c.args.rc.now) in
+    let b = option_map (λ v. view v.now) c.in-Ok-inclusion_block.lent.base in
     let stands = c.in-Ok-inclusion_block.ensures kept in
     let inner = entered (inclusion_block stands.0 (pair_values v.call.pairs) (nearest_variables s.blocks)) s in
-    let begins = c.in_ok-name.ensures.ok ∙ ap (λ (f : Frame). called None (entered f s)) stands.2 in
+    let begins = ap (lending (b ∷ kept.bases)) c.in_ok-name.ensures.ok
+        ∙ ap (λ (f : Frame). called None (entered f s)) stands.2 in
+    let more = one_more kept b c.block-bases.ensures in
     own-some _ _ v site v.body u (rw c.in-Some.is at c.template.ensures)
     (inclusion-plain _ _ v (body_at site 0) u stands.0 {c = None} c.in-Ok.ensures.ok.0 stands.1
     (begun-so v.indent w0.indent None kept.pieces w0.inclusions c.in-Ok.count inner c.in-Ok.ensures.ok.1 begins)
-    (ap (keeping kept) (c.end.ensures.state ∙ ap (λ (n : Option Text). called n (left (state_of c.include_tree-answer.new.rc))) c.in_ok-name.ensures.name))
-    (c.include_tree-answer.ensures.renders (body_at site 0) (record { pieces = None ∷ kept.pieces; holds = refl })))
+    (ap (keeping kept) (c.end.ensures.state ∙ ap (λ (n : Option Text). called n (left (state_of c.include_tree-answer.new.rc))) c.in_ok-name.ensures.name)
+    ∙ named-lent kept b c.block-bases.ensures (state_of c.args.rc.now).current (state_of c.include_tree-answer.new.rc))
+    (c.include_tree-answer.ensures.renders (body_at site 0) (record { pieces = None ∷ kept.pieces; bases = more.bases; holds = refl; lent = more.lent })))
 
 -- ---- the kept text
 

@@ -7,7 +7,7 @@ use Rattle.handlebars_helpers.specs.CallView.{CallView}
 use Rattle.handlebars_helpers.specs.OwnView.{step_of}
 use Rattle.handlebars_helpers.specs.View.{path_view, turns_left}
 use Rattle.handlebars_meaning.specs.CarryOut.{helper_call}
-use Rattle.handlebars_render.specs.View.{setting_in, state_of, moment, held_in, within, HasOuter, IsKept, IsSame, KeptIn, NearestBelow}
+use Rattle.handlebars_render.specs.View.{setting_in, state_of, moment, held_in, within, HasOuter, IsKept, IsSame, IsUnlent, KeptIn, NearestBelow}
 use Rattle.handlebars_render.proofs.Elements.{Left}
 use Rattle.handlebars_render.proofs.OwnSteps.{StepsLeft}
 use Rattle.handlebars_render.proofs.Turns.{TurnsLeft}
@@ -119,7 +119,7 @@ invariant-tree::render_whole-elements g l = record {
 abbrev pub invariant-each::take_turns-turns : goal.invariant-each::take_turns-turns
 invariant-each::take_turns-turns g l = record {
   number : ℕ;
-  left : (site : Site) (kept : KeptIn (within l.setting)) (block : Bool) (v : CallView) → TurnsLeft (setting_in g.P.Registered.parts l.setting) g.O.Output.may_give
+  left : (site : Site) (kept : KeptIn (within l.setting)) (block : Bool) (v : CallView) → IsUnlent kept.bases → TurnsLeft (setting_in g.P.Registered.parts l.setting) g.O.Output.may_give
       site number (helper_call block (call_view l.helper) v) (path_view l.path) (turns_left l.initial.left) (turns_left l.left)
       (moment kept l.initial.rc (held_in g.O.Output.held l.initial.sink)) (moment kept l.rc (held_in g.O.Output.held l.sink));
   same : IsSame l.initial.sink l.sink;

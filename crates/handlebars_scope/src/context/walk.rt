@@ -1,18 +1,21 @@
 //! Where paths lead in blocks of scope and data.
 
-ghost use Rattle.std.specs.Prelude.{◌≡◌, ◌≤◌, ◌++◌, ◌∷◌, [], Some, false, length, option_map, string_bytes};
+ghost use Rattle.std.specs.Prelude.{◌≡◌, ◌≤◌, ◌++◌, ◌∷◌, [], None, Some, false, length, option_map, string_bytes};
 ghost use Rattle.std.specs.Prelude.{IfOk, IfSome, OnOk};
+ghost use Rattle.serde_json.specs.Data.{Data};
 ghost use Rattle.serde_json.specs.View.{view};
 ghost use Rattle.handlebars_base.specs.Answers.{Answers, answer_map, gives};
 ghost use Rattle.handlebars_base.specs.PathView.{reference_of, segments_of};
 ghost use Rattle.handlebars_base.specs.Scoped.{found_of, is_constant, present_in};
+ghost use Rattle.handlebars_scope.specs.Bases.{IsCurrent, bases_of, lend};
 ghost use Rattle.handlebars_scope.specs.Resolve.{along, found_by, found_front, found_within, navigated, resolved, variable_at};
 ghost use Rattle.handlebars_scope.specs.Resolve.{if_any, index_of, longest, member_at, names_of, or_else, value_at};
-ghost use Rattle.handlebars_scope.specs.ScopeView.{frames_of};
+ghost use Rattle.handlebars_scope.specs.ScopeView.{frame_of, frames_of};
 ghost use Rattle.handlebars_scope.specs.Seeking.{Seeks};
 ghost use Rattle.handlebars_scope.specs.WayView.{hit_of, names_in, reached_of, way_view};
 
 use crate::block::BlockContext;
+use crate::context::bases::Bases;
 use crate::context::reached::{Reached, Unfound, answered, if_found};
 use crate::context::way::{Way, way_of};
 use handlebars_base::error::RenderError;
@@ -27,13 +30,15 @@ pub fn resolve<'v>(
     given: &'v Json,
     path: &Path,
     blocks: &'v VecDeque<BlockContext>,
+    bases: &'v Bases<'v>,
     recursive: bool,
 ) -> Result<Option<&'v Json>, RenderError>
     ensures { Answers (option_map (λ v. view v.now)) result
         (answer_map present_in
-        (resolved recursive (frames_of blocks.now.items) (reference_of path.now) (view given.now))) }
+        (resolved recursive (lend (bases_of bases.now) (frames_of blocks.now.items)) (reference_of path.now)
+        (view given.now))) }
 {
-    answered(alloc, reach(given, path, blocks, recursive))
+    answered(alloc, reach(given, path, blocks, bases, recursive))
 }
 
 /// The same, before a refusal is made of it.
@@ -41,13 +46,15 @@ pub fn reach<'v: 'n, 'n>(
     given: &'v Json,
     path: &'n Path,
     blocks: &'v VecDeque<BlockContext>,
+    bases: &'v Bases<'v>,
     recursive: bool,
 ) -> Reached<'v, 'n>
     ensures { reached_of result ≡ answer_map present_in
-        (resolved recursive (frames_of blocks.now.items) (reference_of path.now) (view given.now)) }
+        (resolved recursive (lend (bases_of bases.now) (frames_of blocks.now.items)) (reference_of path.now)
+        (view given.now)) }
 {
     match path {
-        Path::Relative((segments, _)) => follow(given, way_of(blocks, segments, recursive)),
+        Path::Relative((segments, _)) => follow(given, way_of(blocks, bases, segments, recursive)),
         Path::Local((level, name, _)) => if_found(variable_at(blocks, *level, name.as_str())),
     }
 }
@@ -58,13 +65,15 @@ pub fn find<'a>(
     given: &'a Json,
     path: &Path,
     blocks: &VecDeque<BlockContext>,
+    bases: &Bases<'_>,
     recursive: bool,
 ) -> Result<ScopedJson<'a>, RenderError>
     ensures found { Answers found_of result
-        (resolved recursive (frames_of blocks.now.items) (reference_of path.now) (view given.now)) }
+        (resolved recursive (lend (bases_of bases.now) (frames_of blocks.now.items)) (reference_of path.now)
+        (view given.now)) }
     ensures plain { IfOk result (λ found. is_constant found ≡ false) }
 {
-    match seek(alloc, given, path, blocks, recursive) {
+    match seek(alloc, given, path, blocks, bases, recursive) {
         Ok(found) => Ok(found),
         Err(why) => Err(why.into_error(alloc)),
     }
@@ -76,17 +85,63 @@ pub fn seek<'a, 'n>(
     given: &'a Json,
     path: &'n Path,
     blocks: &'n VecDeque<BlockContext>,
+    bases: &'n Bases<'n>,
     recursive: bool,
 ) -> Result<ScopedJson<'a>, Unfound<'n>>
     ensures found { Seeks result
-        (resolved recursive (frames_of blocks.now.items) (reference_of path.now) (view given.now)) }
+        (resolved recursive (lend (bases_of bases.now) (frames_of blocks.now.items)) (reference_of path.now)
+        (view given.now)) }
     ensures plain { IfOk result (λ found. is_constant found ≡ false) }
 {
     match path {
         Path::Relative((segments, _)) => {
-            found_by(alloc, given, way_of(blocks, segments, recursive))
+            found_by(alloc, given, way_of(blocks, bases, segments, recursive))
         }
         Path::Local((level, name, _)) => Ok(copied(variable_at(blocks, *level, name.as_str()))?),
+    }
+}
+
+/// The value that the nearest block stands at, or the data without any; none where the block holds it itself, or the
+/// data has none there. So it is lent for as long as the data and what is lent to blocks.
+pub fn current<'v>(
+    given: &'v Json,
+    blocks: &VecDeque<BlockContext>,
+    bases: &'v Bases<'v>,
+) -> Option<&'v Json>
+    ensures { IfSome result (λ v. IsCurrent (lend (bases_of bases.now) (frames_of blocks.now.items)) (view given.now)
+        (view v.now)) }
+{
+    match blocks.front() {
+        Some(block) => match bases.up(0) {
+            Some(value) => Some(value),
+            None => current_in(given, block),
+        },
+        None => Some(given),
+    }
+}
+
+// The same for a block that nothing is lent to.
+fn current_in<'v>(given: &'v Json, block: &BlockContext) -> Option<&'v Json>
+    ensures value { IfSome result (λ v. value_at (view given.now) (frame_of block.now).base_path ≡ gives (Some (view v.now))) }
+    ensures path { IfSome result (λ v. (frame_of block.now).base_value ≡ None) }
+{
+    match block.base_value() {
+        Some(_) => None,
+        None => match value_by_names(given, block.base_path()) {
+            Some(value) => Some(value),
+            None => None,
+        },
+    }
+}
+
+/// The same where the data itself may not be lent: what is lent to the nearest block.
+pub fn lent<'v>(blocks: &VecDeque<BlockContext>, bases: &'v Bases<'v>) -> Option<&'v Json>
+    ensures { IfSome result (λ v. (d : Data) → IsCurrent (lend (bases_of bases.now) (frames_of blocks.now.items)) d
+        (view v.now)) }
+{
+    match blocks.front() {
+        Some(_) => bases.up(0),
+        None => None,
     }
 }
 
@@ -102,7 +157,8 @@ pub(crate) fn navigate<'a>(
         (navigated recursive (frames_of blocks.now.items) (segments_of segments.now) (view given.now)) }
     ensures plain { IfOk result (λ found. is_constant found ≡ false) }
 {
-    match found_by(alloc, given, way_of(blocks, segments, recursive)) {
+    let bases = Bases::outside();
+    match found_by(alloc, given, way_of(blocks, &bases, segments, recursive)) {
         Ok(found) => Ok(found),
         Err(why) => Err(why.into_error(alloc)),
     }

@@ -1,15 +1,18 @@
 //! The ways that paths take through blocks of scope. Nothing is copied to make one.
 
-ghost use Rattle.std.specs.Prelude.{◌≡◌, ◌++◌, option_map, string_bytes};
+ghost use Rattle.std.specs.Prelude.{◌≡◌, ◌++◌, option_map, slice_get, string_bytes};
+ghost use Rattle.serde_json.specs.View.{view};
 ghost use Rattle.handlebars_base.specs.PathView.{segments_of};
+ghost use Rattle.handlebars_scope.specs.Bases.{bases_of, lend, with_base};
 ghost use Rattle.handlebars_scope.specs.Resolve.{along, behind_ups, block_up, is_from_root};
 ghost use Rattle.handlebars_scope.specs.Resolve.{names_of, plain_name, ups_in};
 ghost use Rattle.handlebars_scope.specs.Resolve.{bound_way, unbound_way, way_from, way_in};
 ghost use Rattle.handlebars_scope.specs.Resolve.{way_of, way_of_bound, way_of_name};
 ghost use Rattle.handlebars_scope.specs.ScopeView.{bound_of, frame_of, frames_of};
-ghost use Rattle.handlebars_scope.specs.WayView.{names_in, way_view};
+ghost use Rattle.handlebars_scope.specs.WayView.{lent_frame, names_in, way_view};
 
 use crate::block::{BlockContext, BlockParamHolder};
+use crate::context::bases::Bases;
 use handlebars_base::json::path::{PathRule, PathSeg};
 use handlebars_base::json::value::Json;
 use std::collections::VecDeque;
@@ -29,18 +32,20 @@ pub enum Way<'b, 'p> {
     UnderFront(&'b [String], &'p String),
 }
 
-/// The way of segments in these blocks.
+/// The way of segments in these blocks, of which some are lent their bases.
 pub fn way_of<'b, 'p>(
     blocks: &'b VecDeque<BlockContext>,
+    bases: &'b Bases<'b>,
     segments: &'p [PathSeg],
     recursive: bool,
 ) -> Way<'b, 'p>
-    ensures { way_view result ≡ way_of recursive (frames_of blocks.now.items) (segments_of segments.now) }
+    ensures { way_view result
+        ≡ way_of recursive (lend (bases_of bases.now) (frames_of blocks.now.items)) (segments_of segments.now) }
 {
     let (ups, behind) = past_ups(segments);
     match bound_way(blocks, behind) {
         Some(way) => way,
-        None => unbound_way(blocks, ups, segments, recursive),
+        None => unbound_way(blocks, bases, ups, segments, recursive),
     }
 }
 
@@ -110,18 +115,20 @@ fn way_of_bound<'b, 'p>(
 // The way of segments whose name no block binds, of which so many are `..` in front.
 fn unbound_way<'b, 'p>(
     blocks: &'b VecDeque<BlockContext>,
+    bases: &'b Bases<'b>,
     ups: usize,
     segments: &'p [PathSeg],
     recursive: bool,
 ) -> Way<'b, 'p>
     requires { ups ≡ ups_in (segments_of segments.now) }
-    ensures { way_view result ≡ unbound_way recursive (frames_of blocks.now.items) (segments_of segments.now) }
+    ensures { way_view result
+        ≡ unbound_way recursive (lend (bases_of bases.now) (frames_of blocks.now.items)) (segments_of segments.now) }
 {
     if is_from_root(segments) {
         return along(&[], segments);
     }
-    match block_up(blocks, ups) {
-        Some(block) => way_in(block, segments, recursive),
+    match block_up(blocks, bases, ups) {
+        Some((block, lent)) => way_in(block, lent, segments, recursive),
         None => along(&[], segments),
     }
 }
@@ -135,20 +142,43 @@ fn is_from_root(segments: &[PathSeg]) -> bool
     }
 }
 
-// The block so many blocks up, or the nearest one where that isn't there.
-fn block_up(blocks: &VecDeque<BlockContext>, ups: usize) -> Option<&BlockContext>
-    ensures { option_map (λ b. frame_of b.now) result ≡ block_up (frames_of blocks.now.items) ups }
+// The block so many blocks up, or the nearest one where that isn't there, with the base that is lent to it.
+fn block_up<'b>(
+    blocks: &'b VecDeque<BlockContext>,
+    bases: &'b Bases<'b>,
+    ups: usize,
+) -> Option<(&'b BlockContext, Option<&'b Json>)>
+    ensures { option_map lent_frame result ≡ block_up (lend (bases_of bases.now) (frames_of blocks.now.items)) ups }
 {
-    match blocks.get(ups) {
-        Some(block) => Some(block),
-        None => blocks.front(),
+    match block_at(blocks, ups) {
+        Some(block) => Some((block, bases.up(ups))),
+        None => match block_at(blocks, 0) {
+            Some(block) => Some((block, bases.up(0))),
+            None => None,
+        },
     }
 }
 
-// A block with a value is entered there, and another leads from the data along its base path.
-fn way_in<'b, 'p>(block: &'b BlockContext, segments: &'p [PathSeg], recursive: bool) -> Way<'b, 'p>
-    ensures { way_view result ≡ way_in recursive (frame_of block.now) (segments_of segments.now) }
+// The block so many blocks up, if it is there.
+fn block_at(blocks: &VecDeque<BlockContext>, ups: usize) -> Option<&BlockContext>
+    ensures { option_map (λ b. frame_of b.now) result ≡ slice_get (frames_of blocks.now.items) ups }
 {
+    blocks.get(ups)
+}
+
+// A block with a value, lent or its own, is entered there, and another leads from the data along its base path.
+fn way_in<'b, 'p>(
+    block: &'b BlockContext,
+    lent: Option<&'b Json>,
+    segments: &'p [PathSeg],
+    recursive: bool,
+) -> Way<'b, 'p>
+    ensures { way_view result ≡ way_in recursive
+        (with_base (option_map (λ v. view v.now) lent.entry) (frame_of block.now)) (segments_of segments.now) }
+{
+    if let Some(value) = lent {
+        return Way::Within(value, segments);
+    }
     match block.base_value() {
         Some(value) => Way::Within(value, segments),
         None => way_from(block.base_path(), segments, recursive),

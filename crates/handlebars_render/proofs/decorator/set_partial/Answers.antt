@@ -1,16 +1,18 @@
-use Rattle.std.proofs.Common.{ap}
+use Rattle.std.proofs.Common.{ap, ◌∙◌}
 use Rattle.handlebars_template.specs.TreeView.{tree_view}
 use Rattle.handlebars_helpers.specs.DecoratorsView.{tag_view}
 use Rattle.handlebars_render.specs.Boxed.{error_of}
-use Rattle.handlebars_render.specs.View.{keeping, setting_in}
+use Rattle.handlebars_render.specs.View.{keeping, setting_in, state_of}
 use Rattle.handlebars_render.proofs.Carry.{refusal-handed}
+use Rattle.handlebars_render.proofs.Lent.{partial-lent}
 use Rattle.handlebars_render.proofs.Silent.{does-partial, refuses-partial}
 use Rattle.handlebars_render.proofs.decorator.set_partial.Goals as goal
 
 pub returns-in_ok-set_partial-in-Some-clause-does : goal.returns-in_ok-set_partial-in-Some-clause-does
 returns-in_ok-set_partial-in-Some-clause-does g c = λ kept.
     does-partial (setting_in g.P.Registered.parts c.args.setting.now) c.args.name.now (tag_view c.args.tag.now).body (tree_view c.in-Some.template.now) c.in-Some.ensures
-    (ap (keeping kept) c.in_ok-set_partial-in-Some.ensures.ok)
+    (ap (keeping kept) c.in_ok-set_partial-in-Some.ensures.ok
+    ∙ partial-lent kept c.args.name.now (tree_view c.in-Some.template.now) (state_of c.args.rc.now))
 
 pub returns-in-None-clause-does : goal.returns-in-None-clause-does
 returns-in-None-clause-does g c = λ kept.

@@ -1,16 +1,15 @@
 use Rattle.std.proofs.Common.{sym, ap, ◌∙◌}
-use Rattle.handlebars_scope.specs.Scopes.{nothing_at}
-use Rattle.handlebars_meaning.specs.Inclusion.{pair_values, with_bound}
-use Rattle.handlebars_render.proofs.Bases.{block-seen, pairs-seen}
+use Rattle.serde_json.specs.View.{view}
+use Rattle.handlebars_helpers.specs.DecoratorsView.{tag_view}
+use Rattle.handlebars_render.specs.View.{state_of}
+use Rattle.handlebars_render.proofs.Bases.{lent-seen}
+use Rattle.handlebars_render.proofs.Lent.{nearest_variables-lend}
 use Rattle.handlebars_render.proofs.inclusion.inclusion_block.Goals as goal
 
-pub returns : goal.returns
-returns g c = λ kept.
-    let has = c.in-Ok.ensures kept in (
-      has.0,
-      has.1,
-      block-seen _ _ _ _ c.new-block.ensures c.set_local_variables.ensures c.set_block_params.ensures c.set_base_value.ensures
-          c.in_ok-nearest_variables.ensures
-          (c.in_ok-bound_pairs.ensures ∙ ap (λ hs. with_bound hs nothing_at) (sym (pairs-seen _) ∙ ap pair_values c.hash.ensures))
-          has.2,
-    )
+pub returns-in_ok-plain_block-in-Some : goal.returns-in_ok-plain_block-in-Some
+returns-in_ok-plain_block-in-Some g c = λ kept. (
+  view c.in-Some.base.now,
+  c.in-Some.ensures.value kept,
+  lent-seen (view c.in-Some.base.now) (tag_view c.args.tag.now).call.pairs c.in_ok-plain_block-in-Some.ensures c.in-Some.ensures.plain
+      (sym (nearest_variables-lend kept.bases (state_of c.args.rc.now).blocks)),
+)

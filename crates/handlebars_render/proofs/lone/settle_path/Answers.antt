@@ -1,7 +1,10 @@
 use Rattle.std.proofs.Common.{ap, false, ◌∙◌, refl, sym}
 use Rattle.std.specs.Prelude.{Err, None, Some}
 use Rattle.serde_json.specs.View.{view}
+use Rattle.handlebars_base.specs.Answers.{answer_map}
 use Rattle.handlebars_base.specs.PathView.{reference_of}
+use Rattle.handlebars_base.specs.Scoped.{present_in}
+use Rattle.handlebars_scope.specs.Contexts.{data_of}
 use Rattle.handlebars_base.specs.Reasons.{invalid_json_index}
 use Rattle.handlebars_base.specs.RenderRefusals.{plain_refusal}
 use Rattle.handlebars_template.specs.Tree.{call_name}
@@ -10,7 +13,8 @@ use Rattle.handlebars_helpers.specs.CallView.{CallView}
 use Rattle.handlebars_meaning.specs.State.{helper_named}
 use Rattle.handlebars_render.specs.Boxed.{answer_of, error_of}
 use Rattle.handlebars_render.specs.Targets.{target_in}
-use Rattle.handlebars_render.specs.View.{called_view, name_alone, setting_in, state_with}
+use Rattle.handlebars_render.specs.View.{called_view, name_alone, setting_in, state_of, state_with}
+use Rattle.handlebars_render.proofs.Lent.{read-lent}
 use Rattle.handlebars_render.proofs.Calls.{value_err, value_lacks}
 use Rattle.handlebars_render.proofs.Leaves.{comes_to-leaves, comes_to-settles, leaves-missing, leaves-named, leaves-value, settles-call}
 use Rattle.handlebars_render.proofs.LoneValues.{named-path, reached-none-as, reached-value}
@@ -30,7 +34,8 @@ returns-in-Some-clause-comes g c = λ lone is site kept.
 
 pub returns-in-Value-clause-comes : goal.returns-in-Value-clause-comes
 returns-in-Value-clause-comes g c = λ lone is site kept.
-    let has = reached-value (setting_in g.P.Registered.parts c.args.setting.now) (state_with kept c.args.rc.now) (call_name (call_view c.args.helper.now)) (reference_of c.args.path.now) (Some (view c.in-Value.value.now)) is (rw c.data.ensures.value at c.in-Value.ensures) in
+    let has = reached-value (setting_in g.P.Registered.parts c.args.setting.now) (state_with kept c.args.rc.now) (call_name (call_view c.args.helper.now)) (reference_of c.args.path.now) (Some (view c.in-Value.value.now)) is ((rw c.data.ensures.value at c.in-Value.ensures)
+    ∙ ap (answer_map present_in) (read-lent kept (state_of c.args.rc.now) (data_of c.args.setting.now.given.now) (reference_of c.args.path.now))) in
     comes_to-leaves _ _ site false (call_view c.args.helper.now) _ _ _ _ _ (answer_of c.settle_found.result)
     (leaves-value _ site (call_view c.args.helper.now) c.raw.result.now lone
     (named-path _ _ (call_name (call_view c.args.helper.now)) (reference_of c.args.path.now) _ is c.raw.ensures) (c.in-None.ensures false))
@@ -38,7 +43,8 @@ returns-in-Value-clause-comes g c = λ lone is site kept.
 
 pub returns-in-Nothing-clause-comes : goal.returns-in-Nothing-clause-comes
 returns-in-Nothing-clause-comes g c = λ lone is site kept.
-    let has = reached-value (setting_in g.P.Registered.parts c.args.setting.now) (state_with kept c.args.rc.now) (call_name (call_view c.args.helper.now)) (reference_of c.args.path.now) None is (rw c.data.ensures.value at c.in-Nothing.ensures) in
+    let has = reached-value (setting_in g.P.Registered.parts c.args.setting.now) (state_with kept c.args.rc.now) (call_name (call_view c.args.helper.now)) (reference_of c.args.path.now) None is ((rw c.data.ensures.value at c.in-Nothing.ensures)
+    ∙ ap (answer_map present_in) (read-lent kept (state_of c.args.rc.now) (data_of c.args.setting.now.given.now) (reference_of c.args.path.now))) in
     comes_to-leaves _ _ site false (call_view c.args.helper.now) _ _ _ _ _ (answer_of c.settle_missing.result)
     (leaves-value _ site (call_view c.args.helper.now) c.raw-in-Nothing.result.now lone
     (named-path _ _ (call_name (call_view c.args.helper.now)) (reference_of c.args.path.now) _ is c.raw-in-Nothing.ensures)
@@ -56,4 +62,5 @@ returns-in-NoIndex-clause-comes g c = λ lone is site kept.
     (named-path _ _ (call_name (call_view c.args.helper.now)) (reference_of c.args.path.now) _ is c.raw.ensures) (c.in-None.ensures false))
     (value_err _ _ site (call_view c.args.helper.now) (name_alone c.raw.result.now) _ (error_of c.not_an_index.result) refl
     (λ other. reached-none-as (setting_in g.P.Registered.parts c.args.setting.now) (state_with kept c.args.rc.now) (call_name (call_view c.args.helper.now)) (reference_of c.args.path.now)
-    (plain_refusal (invalid_json_index c.in-NoIndex.name.now)) _ is (rw c.data.ensures.value at c.in-NoIndex.ensures) (c.not_an_index.ensures other)))
+    (plain_refusal (invalid_json_index c.in-NoIndex.name.now)) _ is ((rw c.data.ensures.value at c.in-NoIndex.ensures)
+    ∙ ap (answer_map present_in) (read-lent kept (state_of c.args.rc.now) (data_of c.args.setting.now.given.now) (reference_of c.args.path.now))) (c.not_an_index.ensures other)))

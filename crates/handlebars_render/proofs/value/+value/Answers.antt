@@ -1,11 +1,15 @@
-use Rattle.std.proofs.Common.{refl, sym, ap, ◌∙◌}
-use Rattle.handlebars_base.specs.Answers.{gives}
+use Rattle.std.proofs.Common.{refl, sym, ap, ◌∙◌, subst}
+use Rattle.handlebars_base.specs.Answers.{Answers, gives}
 use Rattle.handlebars_base.specs.Bytes.{Text}
 use Rattle.handlebars_base.specs.PathAndData.{PathAndData, path_and_data}
+use Rattle.handlebars_base.specs.PathView.{reference_of}
 use Rattle.handlebars_base.specs.Scoped.{found_of}
+use Rattle.handlebars_scope.specs.Contexts.{data_of}
 use Rattle.handlebars_template.specs.TreeView.{call_view, pairs_view}
 use Rattle.handlebars_template.proofs.Levels.{call_name-view, call_params-view, call_pairs-view, element_view-Expression, param_view-Path, param_view-Subexpression}
 use Rattle.handlebars_meaning.specs.Asks.{goes_on, is_refused}
+use Rattle.handlebars_render.specs.View.{state_of}
+use Rattle.handlebars_render.proofs.Lent.{read-lent}
 use Rattle.handlebars_render.proofs.Ordered.{follows-next, inserted-last, map-push, pairs_seen-push}
 use Rattle.handlebars_render.proofs.Values.{pairs-end, pairs-go, pairs-over, params-end, params-go, params-here, params-over, params-past, subexpression_view-out, inner_value-parts, yields-answer, handed_on, yields-inner_value, yields-then, written-as}
 use Rattle.handlebars_render.proofs.value.+value.Goals as goal
@@ -50,7 +54,9 @@ expand_as_name-returns-in-Err g t c = λ kept other. rw (c.in-Subexpression.is, 
 
 pub expands-returns-in-Path-clause-value : goal.expands-returns-in-Path-clause-value
 expands-returns-in-Path-clause-value g t c = λ kept. rw (c.in-Path.is, param_view-Path)
-    (yields-answer found_of _ _ (rw c.data.ensures.value at c.find.ensures.found))
+    (yields-answer found_of _ _ (subst (λ a. Answers found_of c.find.result a)
+    (read-lent kept (state_of c.args.rc.now) (data_of c.args.setting.now.given.now) (reference_of c.in-Path.path))
+    (rw c.data.ensures.value at c.find.ensures.found)))
 
 pub expands-returns-in-Subexpression-clause-value : goal.expands-returns-in-Subexpression-clause-value
 expands-returns-in-Subexpression-clause-value g t c = λ kept. rw (c.in-Subexpression.is, param_view-Subexpression)

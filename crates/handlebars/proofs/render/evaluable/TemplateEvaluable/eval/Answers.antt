@@ -1,13 +1,14 @@
-use Rattle.std.proofs.Common.{refl, []}
+use Rattle.std.proofs.Common.{refl}
 use Rattle.handlebars_render.specs.Boxed.{error_of}
 use Rattle.handlebars_render.specs.View.{state_of}
 use Rattle.handlebars.proofs.Evaluated.{evals-failed}
+use Rattle.handlebars_render.proofs.Lent.{kept-outside}
 use Rattle.handlebars.proofs.render.evaluable.TemplateEvaluable.eval.Goals as goal
 
 pub returns-in-Ok-clause-evals : goal.returns-in-Ok-clause-evals
-returns-in-Ok-clause-evals g c = λ ready. c.in-Ok.ensures.evals (record { pieces = []; holds = refl })
+returns-in-Ok-clause-evals g c = λ ready. c.in-Ok.ensures.evals kept-outside
 
 pub returns-in-Err-clause-evals : goal.returns-in-Err-clause-evals
 returns-in-Err-clause-evals g c = λ ready.
     evals-failed _ _ _ _ _ (state_of c.eval_tree.new.rc) _ (error_of c.in-Err.e) c.into_error.result
-    c.fail_after.result refl c.into_error.ensures c.fail_after.ensures.answer (c.in-Err.ensures.evals (record { pieces = []; holds = refl }))
+    c.fail_after.result refl c.into_error.ensures c.fail_after.ensures.answer (c.in-Err.ensures.evals kept-outside)

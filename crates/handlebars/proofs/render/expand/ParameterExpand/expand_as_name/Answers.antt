@@ -1,13 +1,14 @@
-use Rattle.std.proofs.Common.{[], refl, sym, subst}
+use Rattle.std.proofs.Common.{sym, subst}
 use Rattle.std.specs.Cow.{cow_str_bytes}
 use Rattle.handlebars_template.specs.TreeView.{param_view}
 use Rattle.handlebars_meaning.specs.Values.{HasName}
 use Rattle.handlebars_render.specs.View.{state_of, Yields}
 use Rattle.handlebars.specs.View.{setting_of}
+use Rattle.handlebars_render.proofs.Lent.{kept-outside}
 use Rattle.handlebars.proofs.render.expand.ParameterExpand.expand_as_name.Goals as goal
 
 pub returns-clause-expands : goal.returns-clause-expands
 returns-clause-expands g c = λ ready. subst
     (Yields (HasName (setting_of g.E.OwnParts.registered g.E.OwnParts.own c.args.registry.now c.args.data.now)
     (state_of c.args.rc.now) (param_view c.args.self.now)) cow_str_bytes)
-    (sym c.fail_after.ensures.answer) (c.expand_as_name-answer.ensures (record { pieces = []; holds = refl }))
+    (sym c.fail_after.ensures.answer) (c.expand_as_name-answer.ensures kept-outside)

@@ -1,0 +1,189 @@
+-- Blocks that are lent their bases.
+use Rattle.std.proofs.Common.{◌≡◌, ◌≢◌, ◌-◌, ℕ, zero, suc, arith, Bool, true, false, List, [], ◌∷◌, ◌++◌, append-nil, Option, Some, None, option_map, Bor, rules, refl, sym, ap, ◌∙◌}
+use Rattle.std.specs.Prelude.{slice_get}
+use Rattle.serde_json.specs.Data.{Data}
+use Rattle.serde_json.specs.View.{view}
+use Rattle.serde_json.specs.declared.value.Value.{Value}
+use Rattle.handlebars_base.specs.Bytes.{Text}
+use Rattle.handlebars_base.specs.Answers.{Answer, answer_map, gives}
+use Rattle.handlebars_base.specs.Optional.{◌>>=◌, with_or}
+use Rattle.handlebars_base.specs.Path.{Segment, named, root, local, up, variable}
+use Rattle.handlebars_base.specs.Scoped.{present_in}
+use Rattle.handlebars_scope.specs.Bases.{IsCurrent, base_up, bases_of, lend, with_base}
+use Rattle.handlebars_scope.specs.Resolve.{Way, within, along, behind_ups, block_up, bound_way, found_along, found_by, found_within, or_else, resolved, unbound_way, value_at, variable_at, way_from, way_of, way_of_bound, way_of_name}
+use Rattle.handlebars_scope.specs.Scopes.{Frame}
+use Rattle.handlebars_scope.specs.declared.context.bases.Bases.{Bases, the_lemmas}
+use Rattle.handlebars_scope.specs.declared.context.bases.Bases.TheVariants.{Outside, Block}
+
+-- ---- what the code has
+
+pub bases_of-Outside : bases_of Outside ≡ []
+bases_of-Outside = search (rules, the_lemmas)
+
+pub bases_of-Block : (base : Option (Bor Value)) (outer : Bor Bases)
+    → bases_of (Block base outer) ≡ option_map (λ v. view v.now) base ∷ bases_of outer.now
+bases_of-Block base outer = search (rules, the_lemmas)
+
+-- what is lent so many blocks up, seen from one block
+pub up-outside : (here : Bases) (n : ℕ) → here ≡ Outside → None ≡ base_up (bases_of here) n
+up-outside here n is =
+    sym (ap (λ (z : Bases). base_up (bases_of z) n) is ∙ ap (λ (bs : List (Option Data)). base_up bs n) bases_of-Outside)
+
+pub up-here : (base : Option (Bor Value)) (outer : Bor Bases) (here : Bases) (n : ℕ) → here ≡ Block base outer → n ≡ 0
+    → option_map (λ v. view v.now) base ≡ base_up (bases_of here) n
+up-here base outer here n is none =
+    sym (ap (base_up (bases_of here)) none
+    ∙ ap (λ (bs : List (Option Data)). base_up bs 0) (ap bases_of is ∙ bases_of-Block base outer))
+
+further : (b : Option Data) (bs : List (Option Data)) (n : ℕ) → n ≢ 0 → base_up bs (n - 1) ≡ base_up (b ∷ bs) n
+further b bs zero some = absurd (some refl)
+further b bs (suc n) some = let less : suc n - 1 ≡ n = omega arith in ap (base_up bs) less
+
+pub up-further : (base : Option (Bor Value)) (outer : Bor Bases) (here : Bases) (n : ℕ) → here ≡ Block base outer → n ≢ 0
+    → base_up (bases_of outer.now) (n - 1) ≡ base_up (bases_of here) n
+up-further base outer here n is some =
+    further (option_map (λ v. view v.now) base) (bases_of outer.now) n some
+    ∙ sym (ap (λ (bs : List (Option Data)). base_up bs n) (ap bases_of is ∙ bases_of-Block base outer))
+
+-- ---- blocks by their numbers
+
+unchanged : (o : Option Frame) → o ≡ option_map (with_base None) o
+unchanged None = refl
+unchanged (Some f) = refl
+
+pub slice_get-lend : (bs : List (Option Data)) (fs : List Frame) (n : ℕ)
+    → slice_get (lend bs fs) n ≡ option_map (with_base (base_up bs n)) (slice_get fs n)
+slice_get-lend [] fs n = unchanged (slice_get fs n)
+slice_get-lend (b ∷ bs) [] n = refl
+slice_get-lend (b ∷ bs) (f ∷ fs) zero = refl
+slice_get-lend (b ∷ bs) (f ∷ fs) (suc n) = slice_get-lend bs fs n
+
+-- ---- what is bound, and variables, are as they were
+
+variable-with_base : (b : Option Data) (f : Frame) → (with_base b f).variable ≡ f.variable
+variable-with_base None f = refl
+variable-with_base (Some d) f = refl
+
+variable-lent : (b : Option Data) (o : Option Frame) (name : Text)
+    → (option_map (with_base b) o >>= λ f. f.variable name) ≡ (o >>= λ f. f.variable name)
+variable-lent b None name = refl
+variable-lent b (Some f) name = ap (λ (v : Text → Option Data). v name) (variable-with_base b f)
+
+variable_at-lend : (bs : List (Option Data)) (fs : List Frame) (level : ℕ) (name : Text)
+    → variable_at (lend bs fs) level name ≡ variable_at fs level name
+variable_at-lend bs fs level name =
+    ap (λ (o : Option Frame). o >>= λ f. f.variable name) (slice_get-lend bs fs level)
+    ∙ variable-lent (base_up bs level) (slice_get fs level) name
+
+pub resolved-variable : (recursive : Bool) (bs : List (Option Data)) (fs : List Frame) (level : ℕ) (name text : Text) (d : Data)
+    → resolved recursive fs (variable level name text) d ≡ resolved recursive (lend bs fs) (variable level name text) d
+resolved-variable recursive bs fs level name text d =
+    ap (λ (o : Option Data). gives (found_within o)) (sym (variable_at-lend bs fs level name))
+
+way_of_name-lend : (bs : List (Option Data)) (fs : List Frame) (name : Text) (rest : List Segment)
+    → way_of_name (lend bs fs) name rest ≡ way_of_name fs name rest
+way_of_name-lend [] fs name rest = refl
+way_of_name-lend (b ∷ bs) [] name rest = refl
+way_of_name-lend (None ∷ bs) (f ∷ fs) name rest =
+    ap (or_else (option_map (λ x. way_of_bound f.base_path x rest) (f.bound name))) (way_of_name-lend bs fs name rest)
+way_of_name-lend (Some d ∷ bs) (f ∷ fs) name rest =
+    ap (or_else (option_map (λ x. way_of_bound f.base_path x rest) (f.bound name))) (way_of_name-lend bs fs name rest)
+
+pub bound_way-lend : (bs : List (Option Data)) (fs : List Frame) (segments : List Segment)
+    → bound_way (lend bs fs) segments ≡ bound_way fs segments
+bound_way-lend bs fs [] = refl
+bound_way-lend bs fs (named n ∷ rest) = way_of_name-lend bs fs n rest
+bound_way-lend bs fs (root ∷ rest) = refl
+bound_way-lend bs fs (local ∷ rest) = refl
+bound_way-lend bs fs (up ∷ rest) = refl
+
+-- ---- the block so many blocks up
+
+pub block_up-there : (bs : List (Option Data)) (fs : List Frame) (n : ℕ) (f : Frame) {b : Option Data}
+    → Some f ≡ slice_get fs n → b ≡ base_up bs n → Some (with_base b f) ≡ block_up (lend bs fs) n
+block_up-there bs fs n f is base =
+    ap (λ (z : Option Data). Some (with_base z f)) base
+    ∙ sym (ap (λ (o : Option Frame). or_else o (slice_get (lend bs fs) 0))
+    (slice_get-lend bs fs n ∙ ap (option_map (with_base (base_up bs n))) (sym is)))
+
+pub block_up-nearest : (bs : List (Option Data)) (fs : List Frame) (n : ℕ) (f : Frame) {b : Option Data}
+    → None ≡ slice_get fs n → Some f ≡ slice_get fs 0 → b ≡ base_up bs 0 → Some (with_base b f) ≡ block_up (lend bs fs) n
+block_up-nearest bs fs n f none is base =
+    ap (λ (z : Option Data). Some (with_base z f)) base
+    ∙ sym (ap (λ (o : Option Frame). or_else o (slice_get (lend bs fs) 0))
+    (slice_get-lend bs fs n ∙ ap (option_map (with_base (base_up bs n))) (sym none))
+    ∙ slice_get-lend bs fs 0 ∙ ap (option_map (with_base (base_up bs 0))) (sym is))
+
+pub block_up-none : (bs : List (Option Data)) (fs : List Frame) (n : ℕ)
+    → None ≡ slice_get fs n → None ≡ slice_get fs 0 → None ≡ block_up (lend bs fs) n
+block_up-none bs fs n none empty =
+    sym (ap (λ (o : Option Frame). or_else o (slice_get (lend bs fs) 0))
+    (slice_get-lend bs fs n ∙ ap (option_map (with_base (base_up bs n))) (sym none))
+    ∙ slice_get-lend bs fs 0 ∙ ap (option_map (with_base (base_up bs 0))) (sym empty))
+
+pub way_of-bound : (recursive : Bool) (bs : List (Option Data)) (fs : List Frame) (segments : List Segment) {behind : List Segment}
+    {w : Way} → behind ≡ behind_ups segments → Some w ≡ bound_way fs behind → w ≡ way_of recursive (lend bs fs) segments
+way_of-bound recursive bs fs segments same is =
+    sym (ap (λ (o : Option Way). with_or o (λ way. way) (unbound_way recursive (lend bs fs) segments))
+    (bound_way-lend bs fs (behind_ups segments) ∙ ap (bound_way fs) (sym same) ∙ sym is))
+
+pub way_of-unbound : (recursive : Bool) (bs : List (Option Data)) (fs : List Frame) (segments : List Segment) {behind : List Segment}
+    {w : Way} → behind ≡ behind_ups segments → None ≡ bound_way fs behind → w ≡ unbound_way recursive (lend bs fs) segments
+    → w ≡ way_of recursive (lend bs fs) segments
+way_of-unbound recursive bs fs segments same none is =
+    is ∙ sym (ap (λ (o : Option Way). with_or o (λ way. way) (unbound_way recursive (lend bs fs) segments))
+    (bound_way-lend bs fs (behind_ups segments) ∙ ap (bound_way fs) (sym same) ∙ sym none))
+
+-- ---- where the empty path leads
+
+pub current-data : (d : Data) → IsCurrent [] d d
+current-data d recursive text = refl
+
+current-way : (recursive : Bool) (base : List Text) → way_from recursive base [] None ≡ along (base ++ [])
+current-way true base = refl
+current-way false base = refl
+
+pub current-held : (f : Frame) (fs : List Frame) (d v : Data) → f.base_value ≡ Some v → IsCurrent (f ∷ fs) d v
+current-held f fs d v is recursive text =
+    ap (λ (o : Option Data). answer_map present_in (found_by (with_or o (λ e. within e []) (way_from recursive f.base_path [] None)) d)) is
+
+pub current-along : (f : Frame) (fs : List Frame) (d v : Data) → f.base_value ≡ None → value_at d f.base_path ≡ gives (Some v)
+    → IsCurrent (f ∷ fs) d v
+current-along f fs d v none is recursive text =
+    ap (λ (o : Option Data). answer_map present_in (found_by (with_or o (λ e. within e []) (way_from recursive f.base_path [] None)) d)) none
+    ∙ ap (λ (w : Way). answer_map present_in (found_by w d)) (current-way recursive f.base_path)
+    ∙ ap (λ (names : List Text). answer_map present_in (answer_map (found_along names) (value_at d names))) (append-nil f.base_path)
+    ∙ ap (λ (a : Answer (Option Data)). answer_map present_in (answer_map (found_along f.base_path) a)) is
+
+-- of blocks in the code, the nearest of which is lent a value, or none
+pub current-lent : (bs : List (Option Data)) (fs : List Frame) (f : Frame) (d v : Data)
+    → Some f ≡ slice_get fs 0 → Some v ≡ base_up bs 0 → IsCurrent (lend bs fs) d v
+current-lent [] fs f d v front is = cc
+current-lent (b ∷ bs) [] f d v front is = cc
+current-lent (None ∷ bs) (g ∷ fs) f d v front is = cc
+current-lent (Some e ∷ bs) (g ∷ fs) f d v front is = current-held (with_base (Some e) g) (lend bs fs) d v (sym is)
+
+pub current-unlent : (bs : List (Option Data)) (fs : List Frame) (f : Frame) (d v : Data)
+    → Some f ≡ slice_get fs 0 → None ≡ base_up bs 0 → f.base_value ≡ None → value_at d f.base_path ≡ gives (Some v)
+    → IsCurrent (lend bs fs) d v
+current-unlent bs [] f d v front is none at = cc
+current-unlent [] (g ∷ fs) f d v front is none at =
+    current-along g fs d v (ap (λ (h : Frame). h.base_value) (front-is front) ∙ none)
+    (ap (λ (h : Frame). value_at d h.base_path) (front-is front) ∙ at)
+  where
+    front-is : {x y : Frame} → Some x ≡ Some y → y ≡ x
+    front-is e = cc
+current-unlent (None ∷ bs) (g ∷ fs) f d v front is none at =
+    current-along g (lend bs fs) d v (ap (λ (h : Frame). h.base_value) (front-is front) ∙ none)
+    (ap (λ (h : Frame). value_at d h.base_path) (front-is front) ∙ at)
+  where
+    front-is : {x y : Frame} → Some x ≡ Some y → y ≡ x
+    front-is e = cc
+current-unlent (Some e ∷ bs) (g ∷ fs) f d v front is none at = cc
+
+-- without any block
+pub current-outside : (bs : List (Option Data)) (fs : List Frame) (d : Data) → None ≡ slice_get fs 0
+    → IsCurrent (lend bs fs) d d
+current-outside [] [] d none = current-data d
+current-outside (b ∷ bs) [] d none = current-data d
+current-outside bs (f ∷ fs) d none = cc
