@@ -608,7 +608,7 @@ partial::include_found-returns-clause-renders g t c = λ site kept.
     let stands = c.in-Ok-inclusion_block.ensures kept in
     let inner = entered (inclusion_block stands.0 (pair_values v.call.pairs) (nearest_variables s.blocks)) s in
     let begins = ap (lending (b ∷ kept.bases)) c.in_ok-name.ensures.ok
-        ∙ ap (λ (f : Frame). called None (entered f s)) stands.2 in
+    ∙ ap (λ (f : Frame). called None (entered f s)) stands.2 in
     let more = one_more kept b c.block-bases.ensures in
     elim c.match-template.branch [
       | partial::include_found-in-Some+in-Ok-render_ahead w ↦
@@ -682,7 +682,7 @@ partial::include_own-returns-clause-renders g t c = λ site kept.
     let stands = c.in-Ok-inclusion_block.ensures kept in
     let inner = entered (inclusion_block stands.0 (pair_values v.call.pairs) (nearest_variables s.blocks)) s in
     let begins = ap (lending (b ∷ kept.bases)) c.in_ok-name.ensures.ok
-        ∙ ap (λ (f : Frame). called None (entered f s)) stands.2 in
+    ∙ ap (λ (f : Frame). called None (entered f s)) stands.2 in
     let more = one_more kept b c.block-bases.ensures in
     own-some _ _ v site v.body u (rw c.in-Some.is at c.template.ensures)
     (inclusion-plain _ _ v (body_at site 0) u stands.0 {c = None} c.in-Ok.ensures.ok.0 stands.1

@@ -21,7 +21,7 @@ returns-in-Value g c = λ kept none.
       d,
       of-none p s (tag_view c.args.tag.now).call.params none
           (base-value p s d _ c.here-here.ensures ((rw c.data.ensures.value at c.in-Value.ensures)
-    ∙ ap (answer_map present_in) (read-lent kept (state_of c.args.rc.now) (data_of c.args.setting.now.given.now) (reference_of c.here-here.result)))),
+          ∙ ap (answer_map present_in) (read-lent kept (state_of c.args.rc.now) (data_of c.args.setting.now.given.now) (reference_of c.here-here.result)))),
       merged-seen d d _ c.in_ok-merge-in-Value.ensures refl c.hash.ensures,
     )
 
@@ -32,7 +32,7 @@ returns-in-Nothing g c = λ kept none.
       null,
       of-none p s (tag_view c.args.tag.now).call.params none
           (base-nothing p s _ c.here-here.ensures ((rw c.data.ensures.value at c.in-Nothing.ensures)
-    ∙ ap (answer_map present_in) (read-lent kept (state_of c.args.rc.now) (data_of c.args.setting.now.given.now) (reference_of c.here-here.result)))),
+          ∙ ap (answer_map present_in) (read-lent kept (state_of c.args.rc.now) (data_of c.args.setting.now.given.now) (reference_of c.here-here.result)))),
       merged-seen _ null _ c.in_ok-merge-in-Nothing.ensures view-null c.hash-in-Nothing.ensures,
     )
 
