@@ -12,7 +12,6 @@ ghost use Rattle.handlebars_base.specs.Scoped.{found_of, is_constant, present_in
 ghost use Rattle.handlebars_template.specs.TreeView.{binding_of, binding_view, tree_view};
 ghost use Rattle.handlebars_scope.specs.Bases.{bases_of, lend};
 ghost use Rattle.handlebars_scope.specs.Contexts.{data_of};
-ghost use Rattle.handlebars_scope.specs.LineView.{line_of};
 ghost use Rattle.handlebars_scope.specs.Resolve.{resolved};
 ghost use Rattle.handlebars_scope.specs.ScopeView.{frame_of, frames_of, variables_of};
 ghost use Rattle.handlebars_scope.specs.WayView.{reached_of};
@@ -22,9 +21,11 @@ ghost use Rattle.handlebars_helpers.specs.View.{path_view, turn_view};
 ghost use Rattle.handlebars_meaning.specs.Values as values;
 ghost use Rattle.handlebars_meaning.specs.Values.{Evaluates};
 ghost use Rattle.handlebars_render.specs.Lending.{LendsBlock};
-ghost use Rattle.handlebars_meaning.specs.Inclusion.{is_current};
 ghost use Rattle.handlebars_meaning.specs.State.{entered, first_state, left, nearest_variables, partial_in, with_data, with_local, with_nearest, with_partial, without_local};
-ghost use Rattle.handlebars_render.specs.View.{called, lending, state_of, read_in, root_of, has_failed, behind, with_line, HasOuter, IsKept, NearestBelow};
+ghost use Rattle.handlebars_render.specs.View.{lending, state_of, read_in, root_of, has_failed, HasOuter, IsKept, NearestBelow};
+
+mod lines;
+mod names;
 
 use crate::null::Null;
 use handlebars_base::error::RenderError;
@@ -454,54 +455,6 @@ impl RenderContext {
         self.escapes = !disable;
     }
 
-    /// Whether indentation goes before the next text.
-    pub fn get_indent_before_write(&self) -> bool
-        ensures { result ≡ (state_of self.now).line.before }
-    {
-        self.line.before
-    }
-
-    /// From now on indentation goes before the next text, or doesn't.
-    pub fn set_indent_before_write(&mut self, indent: bool)
-        ensures state { state_of self.new
-            ≡ with_line (record (state_of self.old).line { before = indent }) (state_of self.old) }
-        ensures kept { IsKept self.old self.new }
-    {
-        self.line.before = indent;
-    }
-
-    /// Whether the last text ended a line.
-    pub fn get_trailine_newline(&self) -> bool
-        ensures { result ≡ (state_of self.now).line.trailing }
-    {
-        self.line.trailing
-    }
-
-    /// From now on the last text counts as one that ended a line, or didn't.
-    pub fn set_trailing_newline(&mut self, trailing: bool)
-        ensures state { state_of self.new
-            ≡ with_line (record (state_of self.old).line { trailing = trailing }) (state_of self.old) }
-        ensures kept { IsKept self.old self.new }
-    {
-        self.line.trailing = trailing;
-    }
-
-    /// Whether a text was written.
-    pub fn get_content_produced(&self) -> bool
-        ensures { result ≡ (state_of self.now).line.produced }
-    {
-        self.line.produced
-    }
-
-    /// From now on a text counts as written, or as not written yet.
-    pub fn set_content_produced(&mut self, produced: bool)
-        ensures state { state_of self.new
-            ≡ with_line (record (state_of self.old).line { produced = produced }) (state_of self.old) }
-        ensures kept { IsKept self.old self.new }
-    {
-        self.line.produced = produced;
-    }
-
     // Whether values are escaped.
     pub(super) fn escapes(&self) -> bool
         ensures { result ≡ (state_of self.now).escapes }
@@ -524,77 +477,15 @@ impl RenderContext {
         ensures plain { IfOk result (λ found. is_constant found ≡ false) }
     {
         let reference = Path::parse(self.alloc, path)?;
+        let bases = Bases::outside();
         walk::find(
             self.alloc,
             context.data(),
             &reference,
             &self.blocks,
-            &Bases::Outside,
+            &bases,
             self.recursive_lookup,
         )
-    }
-
-    /// The name of the template that the run began with, if it has one.
-    pub fn get_root_template_name(&self) -> Option<&String>
-        ensures { option_map (λ name. string_bytes name.now) result ≡ root_of self.now }
-    {
-        self.root_template.as_ref()
-    }
-
-    /// The name of the template whose elements are being rendered, if it has one.
-    pub fn get_current_template_name(&self) -> Option<&String>
-        ensures { option_map (λ name. string_bytes name.now) result ≡ (state_of self.now).current }
-    {
-        self.current_template.as_ref()
-    }
-
-    /// From now on this is the name of the template whose elements are being rendered, or it has none.
-    pub fn set_current_template_name(&mut self, name: Option<String>)
-        ensures state { state_of self.new ≡ called (option_map string_bytes name) (state_of self.old) }
-        ensures kept { IsKept self.old self.new }
-    {
-        self.current_template = name;
-    }
-
-    /// Whether a name is that of the template whose elements are being rendered.
-    pub fn is_current_template(&self, name: &str) -> bool
-        ensures { result ≡ is_current name.now (state_of self.now).current }
-    {
-        match &self.current_template {
-            Some(current) => current.as_str() == name,
-            None => false,
-        }
-    }
-
-    // Takes the current name away, and gives it.
-    pub(super) fn take_name(&mut self) -> Option<String>
-        ensures name { option_map string_bytes result ≡ (state_of self.old).current }
-        ensures state { state_of self.new ≡ called None (state_of self.old) }
-        ensures kept { IsKept self.old self.new }
-    {
-        self.current_template.take()
-    }
-
-    // An inclusion begins, in this block. The name that was the current one is given.
-    pub(super) fn begin(&mut self, block: BlockContext) -> Result<Option<String>, AllocError>
-        ensures name { IfOk result (λ name. option_map string_bytes name ≡ (state_of self.old).current) }
-        ensures ok { OnOk result (state_of self.new ≡ called None (entered (frame_of block) (state_of self.old))) }
-        ensures err { OnErr result (state_of self.new ≡ state_of self.old) }
-        ensures root { root_of self.new ≡ root_of self.old }
-        ensures failed { has_failed self.new ≡ has_failed self.old }
-    {
-        self.blocks.push_front(block)?;
-        Ok(self.current_template.take())
-    }
-
-    // An inclusion is over: its block is left, and this name is the current one again.
-    pub(super) fn end(&mut self, name: Option<String>)
-        ensures state { state_of self.new ≡ called (option_map string_bytes name) (left (state_of self.old)) }
-        ensures root { root_of self.new ≡ root_of self.old }
-        ensures failed { has_failed self.new ≡ has_failed self.old }
-    {
-        self.blocks.pop_front();
-        self.current_template = name;
     }
 
     // From now on renderings are refused.
@@ -602,62 +493,6 @@ impl RenderContext {
         ensures { self.new ≡ record self.old { failed = true } }
     {
         self.failed = true;
-    }
-
-    // Makes a name the current one, or none. A name that is the current one isn't copied again.
-    pub(super) fn enter(&mut self, name: &Option<String>) -> Result<(), AllocError>
-        ensures ok { OnOk result (state_of self.new
-            ≡ record (state_of self.old) { current = option_map string_bytes name.now }) }
-        ensures err { OnErr result (state_of self.new ≡ state_of self.old) }
-        ensures kept { IsKept self.old self.new }
-    {
-        match name {
-            Some(name) => self.enter_name(name),
-            None => {
-                self.current_template = None;
-                Ok(())
-            }
-        }
-    }
-
-    #[inline(never)]
-    fn enter_name(&mut self, name: &String) -> Result<(), AllocError>
-        ensures ok { OnOk result (state_of self.new
-            ≡ record (state_of self.old) { current = Some (string_bytes name.now) }) }
-        ensures err { OnErr result (state_of self.new ≡ state_of self.old) }
-        ensures kept { IsKept self.old self.new }
-    {
-        let is_current = match &self.current_template {
-            Some(current) => current.as_str() == name.as_str(),
-            None => false,
-        };
-        if !is_current {
-            self.current_template = Some(name.clone()?);
-        }
-        Ok(())
-    }
-
-    // A text was written.
-    pub(super) fn pass_text(&mut self, text: &str)
-        ensures state { state_of self.new ≡ behind text.now (state_of self.old) }
-        ensures kept { IsKept self.old self.new }
-    {
-        self.line = self.line.behind(text);
-    }
-
-    // The line that is being written.
-    pub(super) fn line(&self) -> LineState
-        ensures { line_of result ≡ (state_of self.now).line }
-    {
-        self.line
-    }
-
-    // From now on this is the line that is being written.
-    pub(super) fn set_line(&mut self, line: LineState)
-        ensures state { state_of self.new ≡ with_line (line_of line) (state_of self.old) }
-        ensures kept { IsKept self.old self.new }
-    {
-        self.line = line;
     }
 }
 

@@ -6,7 +6,7 @@ pub returns-in_err-reference-clause-err : goal.returns-in_err-reference-clause-e
 returns-in_err-reference-clause-err c = evaluates_nowhere _ _ _ _ _ _ c.from_residual.ensures.1 c.in_err-reference.ensures.err
 
 pub returns-clause-ok : goal.returns-clause-ok
-returns-clause-ok c = evaluates_to _ _ _ _ found_of _ _ c.in_ok-reference.ensures.ok (rw c.data.ensures.value at c.find.ensures.found)
+returns-clause-ok c = evaluates_to _ _ _ _ found_of _ _ c.in_ok-reference.ensures.ok (rw c.outside-bases.ensures at (rw c.data.ensures.value at c.find.ensures.found))
 
 pub returns-clause-err : goal.returns-clause-err
-returns-clause-err c = evaluation_refused _ _ _ _ found_of _ _ c.in_ok-reference.ensures.ok (rw c.data.ensures.value at c.find.ensures.found)
+returns-clause-err c = evaluation_refused _ _ _ _ found_of _ _ c.in_ok-reference.ensures.ok (rw c.outside-bases.ensures at (rw c.data.ensures.value at c.find.ensures.found))
