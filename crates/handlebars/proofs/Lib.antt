@@ -4,3 +4,5 @@ pub mod Rendered
 pub mod Stored
 pub mod Texts
 mod Evaluated
+mod KeptBytes
+mod Walks

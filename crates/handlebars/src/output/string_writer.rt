@@ -39,12 +39,22 @@ impl StringWriter {
 }
 
 impl Write for StringWriter {
-    ghost use Rattle.std.specs.Prelude.{Some};
+    ghost use Rattle.std.specs.Io.{WritesAtMost};
+    ghost use Rattle.std.specs.Io.KnownBytes.{WriteAppends};
+    ghost use Rattle.std.specs.IoError.{error_kind};
+    ghost use Rattle.std.specs.Prelude.{◌≡◌, ◌++◌, IfErr, OnErr, OnOk, Some};
+    ghost use Rattle.std.specs.declared.io.ErrorKind.TheVariants.{OutOfMemory};
     ghost use Rattle.handlebars.specs.Writers.{bytes_in};
 
     ghost contents = { λ w. Some (bytes_in w) };
 
-    fn write(&mut self, buf: &[u8]) -> io::Result<usize> {
+    fn write(&mut self, buf: &[u8]) -> io::Result<usize>
+        ensures bound { WritesAtMost result buf.now }
+        ensures bytes { WriteAppends (Some (bytes_in self.old)) (Some (bytes_in self.new)) result buf.now }
+        ensures ok { OnOk result (bytes_in self.new ≡ bytes_in self.old ++ buf.now) }
+        ensures err { OnErr result (bytes_in self.new ≡ bytes_in self.old) }
+        ensures memory { IfErr result (λ e. error_kind e ≡ OutOfMemory) }
+    {
         self.bytes.write(buf)
     }
 
