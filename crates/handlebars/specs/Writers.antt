@@ -19,14 +19,13 @@ module _ {W : Type 0} where
   abbrev pub held_by : WriteOutput W → Held
   held_by o = record { text = o.taken.text; faults = o.faults }
 
-  -- The output's writer has taken a text, which it tells where it told what it held before; and it is the same writer.
-  pub record Takes (contents : W → Option Text) (before : WriteOutput W) (t : Text) (after : WriteOutput W) : Type 0 where
-    pub text : after.taken.text ≡ before.taken.text ++ t
-    pub told : Appends (contents before.writer.now) (contents after.writer.now) t
-    pub same : after.writer.ghost_name ≡ before.writer.ghost_name
+-- A writer has taken a text behind another, and tells it where it told what it held before.
+pub record Takes (t : Text) (before : Option Text) (taken : Text) (after : Option Text) (now : Text) : Type 0 where
+  pub text : now ≡ taken ++ t
+  pub told : Appends before after t
 
 abbrev pub held_in : {W K : Type 0} {w : _} {k : _} → NamedOutput W K w k → Held
-held_in o = held_by o.out
+held_in o = record { text = o.taken.text; faults = o.faults }
 
 -- what a writer of a text keeps
 abbrev pub bytes_in : StringWriter → Text

@@ -39,34 +39,6 @@ impl<'w, W: Write> WriteOutput<'w, W> {
             faults: 0,
         }
     }
-
-    // One write, of which it is noted what it takes.
-    fn put(&mut self, bytes: &[u8]) -> io::Result<usize>
-        ensures bound { WritesAtMost result bytes.now }
-        ensures takes { Takes W.contents self.old (taken_of bytes.now result) self.new }
-        ensures faults { self.new.faults ≡ self.old.faults }
-    {
-        let count = self.writer.write(bytes)?;
-        self.taken = self.taken.and(&bytes[..count]);
-        Ok(count)
-    }
-
-    fn put_all(&mut self, bytes: &[u8]) -> io::Result<()>
-        ensures ok { OnOk result (Takes W.contents self.old bytes.now self.new) }
-        ensures err { OnErr result ((front : Text) × IsBeginning front bytes.now × Takes W.contents self.old front self.new) }
-        ensures some { OnErr result (0 < length bytes.now) }
-        ensures faults { self.new.faults ≡ self.old.faults }
-    {
-        let mut rest = bytes;
-        'writes: while !rest.is_empty() {
-            let count = self.put(rest)?;
-            if count == 0 {
-                return Err(io::Error::from(ErrorKind::WriteZero));
-            }
-            rest = &rest[count..];
-        }
-        Ok(())
-    }
 }
 
 impl<W: Write> Output for WriteOutput<'_, W> {
@@ -77,9 +49,11 @@ impl<W: Write> Output for WriteOutput<'_, W> {
         ensures given { IfErr result (λ _. Unit {0}) }
 
         // What is taken is behind what the writer told that it holds, where it tells that.
-        ensures takes { (t : Text) × Takes W.contents self.old t self.new }
+        ensures takes { (t : Text) × Takes t (W.contents self.old.writer.now) self.old.taken.text
+            (W.contents self.new.writer.now) self.new.taken.text }
+        ensures same { self.new.writer.ghost_name ≡ self.old.writer.ghost_name }
     {
-        match self.put_all(seg.as_bytes()) {
+        match put_all(self.writer, &mut self.taken, seg.as_bytes()) {
             Ok(()) => Ok(()),
             Err(cause) => {
                 self.faults = self.faults.saturating_add(1);
@@ -87,4 +61,32 @@ impl<W: Write> Output for WriteOutput<'_, W> {
             }
         }
     }
+}
+
+// In as many writes as the writer needs. A write that takes nothing is a fault, and behind a fault there is no other.
+fn put_all<W: Write>(writer: &mut W, taken: &mut Taken, bytes: &[u8]) -> io::Result<()>
+    ensures ok { OnOk result (Takes bytes.now (W.contents writer.old) taken.old.text (W.contents writer.new) taken.new.text) }
+    ensures err { OnErr result ((front : Text) × IsBeginning front bytes.now
+        × Takes front (W.contents writer.old) taken.old.text (W.contents writer.new) taken.new.text) }
+    ensures some { OnErr result (0 < length bytes.now) }
+{
+    let mut rest = bytes;
+    'writes: while !rest.is_empty() {
+        let count = put(writer, taken, rest)?;
+        if count == 0 {
+            return Err(io::Error::from(ErrorKind::WriteZero));
+        }
+        rest = &rest[count..];
+    }
+    Ok(())
+}
+
+// One write, of which it is noted what it takes.
+fn put<W: Write>(writer: &mut W, taken: &mut Taken, bytes: &[u8]) -> io::Result<usize>
+    ensures bound { WritesAtMost result bytes.now }
+    ensures takes { Takes (taken_of bytes.now result) (W.contents writer.old) taken.old.text (W.contents writer.new) taken.new.text }
+{
+    let count = writer.write(bytes)?;
+    *taken = taken.and(&bytes[..count]);
+    Ok(count)
 }

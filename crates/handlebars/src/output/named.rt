@@ -5,7 +5,8 @@ ghost use Rattle.handlebars_base.specs.Bytes.{Text};
 ghost use Rattle.handlebars.specs.Taken.{TellsTaken};
 ghost use base.Fml.{GName};
 
-use crate::output::WriteOutput;
+use crate::output::put_all;
+use crate::output::taken::Taken;
 use handlebars_base::output::Output;
 use std::io;
 use std::io::Write;
@@ -26,13 +27,15 @@ impl Named for Brand {
     ghost first = { None };
 }
 
-/// A new output to that writer, whatever has been written to it since.
+/// An output to that writer that was new, whatever has been written to it since.
 #[derive(Drop)]
 pub(crate) struct NamedOutput<'w, W: Write, K: Named> {
-    pub(crate) out: WriteOutput<'w, W>,
+    pub(crate) writer: &'w mut W,
+    pub(crate) taken: Taken,
+    pub(crate) faults: u64,
     pub(crate) of: PhantomData<K>,
-    ghost same: { out.writer.ghost_name ≡ K.name },
-    ghost told: { TellsTaken K.first out.taken.text (W.contents out.writer.now) },
+    ghost same: { writer.ghost_name ≡ K.name },
+    ghost told: { TellsTaken K.first taken.text (W.contents writer.now) },
 }
 
 impl<W: Write, K: Named> Output for NamedOutput<'_, W, K> {
@@ -41,6 +44,12 @@ impl<W: Write, K: Named> Output for NamedOutput<'_, W, K> {
     ghost held = { held_in };
 
     fn write(&mut self, seg: &str) -> Result<(), io::Error> {
-        self.out.write(seg)
+        match put_all(self.writer, &mut self.taken, seg.as_bytes()) {
+            Ok(()) => Ok(()),
+            Err(cause) => {
+                self.faults = self.faults.saturating_add(1);
+                Err(cause)
+            }
+        }
     }
 }

@@ -3,7 +3,7 @@ use Rattle.handlebars_base.specs.TemplateRefusals.{template_refusal_of}
 use Rattle.handlebars_meaning.specs.Answer.{compiles}
 use Rattle.handlebars.proofs.OwnLaws.{parts-lawful}
 use Rattle.handlebars.proofs.AnswerLaws.{FromSource-one, has_one_answer, answer_has_origins, compile_refused, gives_text, refuses_with}
-use Rattle.handlebars.proofs.registry.calls.RegistryOf.render_template_with_context.Goals as goal
+use Rattle.handlebars.proofs.registry.RegistryOf.render_template_with_context.Goals as goal
 
 pub returns-in_err-template-clause-err : goal.returns-in_err-template-clause-err
 returns-in_err-template-clause-err g c = compile_refused _ _ _ (template_refusal_of c.in_err-template.field-0.0) c.from_residual.result

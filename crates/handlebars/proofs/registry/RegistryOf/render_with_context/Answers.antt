@@ -5,7 +5,7 @@ use Rattle.handlebars_base.specs.RenderRefusals.{plain_refusal}
 use Rattle.handlebars_meaning.specs.Answer.{is_stored, is_not}
 use Rattle.handlebars.proofs.OwnLaws.{parts-lawful}
 use Rattle.handlebars.proofs.AnswerLaws.{FromName-one, has_one_answer, answer_has_origins, refuses_before, gives_text, refuses_with}
-use Rattle.handlebars.proofs.registry.calls.RegistryOf.render_with_context.Goals as goal
+use Rattle.handlebars.proofs.registry.RegistryOf.render_with_context.Goals as goal
 
 pub returns-in_err-name-clause-one : goal.returns-in_err-name-clause-one
 returns-in_err-name-clause-one g c = has_one_answer _ (parts-lawful g.E.OwnParts.registered g.E.OwnParts.own c.args.self.now c.keeps_law.ensures) _ (FromName-one _ _)
