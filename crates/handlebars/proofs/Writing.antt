@@ -1,7 +1,7 @@
 -- What calls to a writer say, and calls that convert their data.
 use Rattle.std.proofs.Common.{◌≡◌, ◌≢◌, ℕ, List, [], ◌++◌, append-nil, Option, None, Some, Result, Ok, Err, refl, sym, ap, ◌∙◌, subst, inl, inr, ◌⊎◌}
 use Rattle.std.specs.Io.KnownBytes.{Appends}
-use Rattle.std.specs.Prelude.{IsErrAnd, IfErr}
+use Rattle.std.specs.Prelude.{IsErrAnd}
 use Rattle.std.specs.declared.io.Error.{Error}
 use Rattle.serde.specs.Event.{Log}
 use Rattle.serde_json.specs.Data.{Data}
@@ -111,21 +111,17 @@ module _ (p : Setting) (begins : Beginning → Type 0) where
   writes_refused q e o b is =
       refused_behind (subst (λ (z : Refusal). RenderAnswers p begins [] (Refused z)) (sym is) (not_begun b)) (Appends-nothing o)
 
-  writes_if : (q : Refusal) (e : RenderError) (o : Option Text) → begins (no_tree q) → IsRefusal q e → Writes p begins o o (Err e)
+  pub writes_if : (q : Refusal) (e : RenderError) (o : Option Text) → begins (no_tree q) → IsRefusal q e → Writes p begins o o (Err e)
   writes_if q e o b is = elim (memory_or (reason_in e)) [
     | inl memory ↦ writes_no_memory e o memory
     | inr other ↦ writes_refused q e o b (is other)
   ]
 
-  pub writes_at_once : (q : Refusal) (r : Answered) (o : Option Text) → begins (no_tree q) → IsErrAnd r (IsRefusal q)
-      → Writes p begins o o r
-  writes_at_once q (Ok u) o b is = absurd is
-  writes_at_once q (Err e) o b is = writes_if q e o b is
-
   -- want of memory alone
-  pub writes_without_memory : (r : Answered) (o : Option Text) → IsErrAnd r (λ e. reason_in e ≡ out_of_memory) → Writes p begins o o r
+  pub writes_without_memory : (r : Answered) (o : Option Text) → IsErrAnd r (λ e. refusal_of e ≡ plain_refusal out_of_memory)
+      → Writes p begins o o r
   writes_without_memory (Ok u) o is = absurd is
-  writes_without_memory (Err e) o is = writes_no_memory e o is
+  writes_without_memory (Err e) o is = writes_no_memory e o (ap (λ (z : Refusal). z.reason) is)
 
 module _ (p : Setting) (options : Options) (source : Text) where
   not_compiled : (f : TemplateRefusal) (e : RenderError) (o : Option Text)
@@ -136,19 +132,13 @@ module _ (p : Setting) (options : Options) (source : Text) where
       λ memory. other (ap (λ (z : Refusal). z.reason) is ∙ ap (λ (r : TemplateReason). reason_for f r) memory) in
       writes_refused p (FromSource options source) (plain_refusal (of_template f)) e o (does_not (so not_memory)) is
 
-  writes_not_compiled : (f : TemplateRefusal) (e : RenderError) (o : Option Text)
+  pub writes_not_compiled : (f : TemplateRefusal) (e : RenderError) (o : Option Text)
       → (f.reason ≢ template_out_of_memory → Compiles source options (refused f))
       → refusal_of e ≡ plain_refusal (of_template f) → Writes p (FromSource options source) o o (Err e)
   writes_not_compiled f e o so is = elim (memory_or (reason_in e)) [
     | inl memory ↦ writes_no_memory p (FromSource options source) e o memory
     | inr other ↦ not_compiled f e o so is other
   ]
-
-  pub writes_uncompiled : (f : TemplateRefusal) (r : Answered) (o : Option Text)
-      → (f.reason ≢ template_out_of_memory → Compiles source options (refused f))
-      → IsErrAnd r (λ e. refusal_of e ≡ plain_refusal (of_template f)) → Writes p (FromSource options source) o o r
-  writes_uncompiled f (Ok u) o so is = absurd is
-  writes_uncompiled f (Err e) o so is = writes_not_compiled f e o so is
 
 -- ---- data that isn't converted
 

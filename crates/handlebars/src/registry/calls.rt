@@ -50,8 +50,10 @@ impl<E: OwnParts> RegistryOf<E> {
         ensures unread { files.new ≡ files.old }
     {
         self.entries.keeps_law();
-        let ctx = Context::wraps(self.alloc, data)?;
-        self.render_with_context(name, &ctx, log, files)
+        match Context::wraps(self.alloc, data) {
+            Ok(ctx) => self.render_with_context(name, &ctx, log, files),
+            Err(e) => Err(e),
+        }
     }
 
     /// The same over a context.
@@ -71,7 +73,10 @@ impl<E: OwnParts> RegistryOf<E> {
         ensures unread { _files.new ≡ _files.old }
     {
         self.entries.keeps_law();
-        let template = self.template_named(name)?;
+        let Some(template) = self.get_template(name) else {
+            let name = String::from_str(self.alloc, name)?;
+            return Err(RenderErrorReason::TemplateNotFound(name).into());
+        };
         let mut rc = self.first_context(template.name.as_ref())?;
         template.renders(self.alloc, self, ctx, &mut rc, log)
     }
@@ -93,8 +98,10 @@ impl<E: OwnParts> RegistryOf<E> {
         ensures unread { files.new ≡ files.old }
     {
         self.entries.keeps_law();
-        let ctx = Context::wraps(self.alloc, data)?;
-        self.render_with_context_to_write(name, &ctx, writer, log, files)
+        match Context::wraps(self.alloc, data) {
+            Ok(ctx) => self.render_with_context_to_write(name, &ctx, writer, log, files),
+            Err(e) => Err(e),
+        }
     }
 
     /// The same over a context.
@@ -113,8 +120,10 @@ impl<E: OwnParts> RegistryOf<E> {
         ensures unread { _files.new ≡ _files.old }
     {
         self.entries.keeps_law();
-        let template = self.template_named(name)?;
-        write_template(self, template, ctx, log, writer)
+        match self.template_named(name) {
+            Ok(template) => write_template(self, template, ctx, log, writer),
+            Err(e) => Err(e),
+        }
     }
 
     // The template that is rendered under the name.
@@ -150,8 +159,10 @@ impl<E: OwnParts> RegistryOf<E> {
         ensures unread { files.new ≡ files.old }
     {
         self.entries.keeps_law();
-        let ctx = Context::wraps(self.alloc, data)?;
-        self.render_template_with_context(source, &ctx, log, files)
+        match Context::wraps(self.alloc, data) {
+            Ok(ctx) => self.render_template_with_context(source, &ctx, log, files),
+            Err(e) => Err(e),
+        }
     }
 
     /// The same over a context.
@@ -177,7 +188,7 @@ impl<E: OwnParts> RegistryOf<E> {
     {
         self.entries.keeps_law();
         let template = self.compiled(source)?;
-        let mut rc = self.first_context(template.name.as_ref())?;
+        let mut rc = self.first_context(None)?;
         template.renders(self.alloc, self, ctx, &mut rc, log)
     }
 
@@ -197,8 +208,10 @@ impl<E: OwnParts> RegistryOf<E> {
         ensures unread { files.new ≡ files.old }
     {
         self.entries.keeps_law();
-        let ctx = Context::wraps(self.alloc, data)?;
-        self.render_template_with_context_to_write(source, &ctx, writer, log, files)
+        match Context::wraps(self.alloc, data) {
+            Ok(ctx) => self.render_template_with_context_to_write(source, &ctx, writer, log, files),
+            Err(e) => Err(e),
+        }
     }
 
     /// The same over a context.
@@ -217,8 +230,10 @@ impl<E: OwnParts> RegistryOf<E> {
         ensures unread { _files.new ≡ _files.old }
     {
         self.entries.keeps_law();
-        let template = self.compiled(source)?;
-        write_template(self, &template, ctx, log, writer)
+        match self.compiled(source) {
+            Ok(template) => write_template(self, &template, ctx, log, writer),
+            Err(e) => Err(e.into()),
+        }
     }
 
     // The tree of a source that has no name.
