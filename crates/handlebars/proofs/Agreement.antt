@@ -40,9 +40,11 @@ Refused-injective {r = r} e = ap (refusal_from r) e
 module _ (p : Setting) (begins : Beginning → Type 0) (one : HasOneAnswer p begins) where
   texts_agree : (t : Text) (before after : Option Text) (r : Answered) → GivesText p begins t
       → (w : Writes p begins before after r) → IsUnbroken p begins w → IsOk r × Appends before after t
-  texts_agree t before after _ g (all_written {ps = ps} a w) h =
-      (refl, subst (λ (z : Text). Appends before after z)
-      (same_text-merely (join ps) t (one ps g.pieces _ _ a g.answers (λ s. s) (λ s. s)) (λ same. ap join same.0 ∙ sym g.is)) w)
+  texts_agree t before after _ g (all_written {ps = ps} a w) h = (
+    refl,
+    subst (λ (z : Text). Appends before after z)
+        (same_text-merely (join ps) t (one ps g.pieces _ _ a g.answers (λ s. s) (λ s. s)) (λ same. ap join same.0 ∙ sym g.is)) w,
+  )
   texts_agree t before after _ g (refused_behind {ps = ps} a w) h =
       absurd (never-merely (one g.pieces ps _ _ g.answers a (λ s. s) (λ s. s)) (λ same. Ended≢Refused same.1))
   texts_agree t before after _ g (writer_failed cause f a tells is w) h = absurd h

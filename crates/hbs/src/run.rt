@@ -55,14 +55,7 @@ fn print<'a, R: TemplateReader, O: Write>(
     let [Word::Text(template), Word::Text(data)] = words else {
         return Err(Failure::Usage);
     };
-    print_text(
-        alloc,
-        strict,
-        template.as_str(),
-        data.as_str(),
-        files,
-        out,
-    )
+    print_text(alloc, strict, template.as_str(), data.as_str(), files, out)
 }
 
 // Whether the first word is `--strict`, and the words that name files.

@@ -198,7 +198,14 @@ fn tells_of_words_and_files(rt: HostRuntime) {
     let (template, data) = ("t.hbs", "d.json");
     let strict = "--strict";
     runs_for(&rt, alloc, &[template, data], (0, 2), "a\n", "");
-    runs_for(&rt, alloc, &[strict, template, data], (1, 2), "a\n", MISSING);
+    runs_for(
+        &rt,
+        alloc,
+        &[strict, template, data],
+        (1, 2),
+        "a\n",
+        MISSING,
+    );
     runs_for(&rt, alloc, &[], (2, 0), "", USAGE);
     runs_for(&rt, alloc, &[template], (2, 0), "", USAGE);
     runs_for(&rt, alloc, &[template, data, data], (2, 0), "", USAGE);

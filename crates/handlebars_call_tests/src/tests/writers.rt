@@ -90,7 +90,10 @@ fn breaks(
             &Discard,
             &mut NoFiles,
         );
-        assert!(rt; whole.as_bytes().starts_with(writer.taken.as_slice()), "{source}");
+        assert!(rt;
+            whole.as_bytes().starts_with(writer.taken.as_slice()),
+            "{source}"
+        );
         match answer {
             Ok(()) => assert!(rt; writer.refused == 0 && writer.taken.len() == whole.len()),
             Err(e) => assert!(rt; writer.refused == 1 && is_fault(&e), "{source}"),
@@ -109,7 +112,15 @@ fn writers_break(rt: HostRuntime) {
             Some(ErrorKind::Interrupted),
             Some(ErrorKind::BrokenPipe),
         ] {
-            breaks(&rt, alloc, &registry, "{{a}}|{{{x}}}", &data, at_most, fault);
+            breaks(
+                &rt,
+                alloc,
+                &registry,
+                "{{a}}|{{{x}}}",
+                &data,
+                at_most,
+                fault,
+            );
             breaks(
                 &rt,
                 alloc,
@@ -167,8 +178,16 @@ fn calls_agree(rt: HostRuntime) {
         .expect(&rt, "a template");
     let (log, files) = (&Discard, &mut NoFiles);
     gave(&rt, registry.render(name, &value, log, files), wanted);
-    gave(&rt, registry.render_with_context(name, &ctx, log, files), wanted);
-    gave(&rt, registry.render_template(source, &value, log, files), wanted);
+    gave(
+        &rt,
+        registry.render_with_context(name, &ctx, log, files),
+        wanted,
+    );
+    gave(
+        &rt,
+        registry.render_template(source, &value, log, files),
+        wanted,
+    );
     gave(
         &rt,
         registry.render_template_with_context(source, &ctx, log, files),
@@ -184,8 +203,7 @@ fn calls_agree(rt: HostRuntime) {
     let answer = registry.render_template_to_write(source, &value, &mut out, log, files);
     wrote(&rt, answer, out, wanted);
     let mut out = StringWriter::new(alloc);
-    let answer =
-        registry.render_template_with_context_to_write(source, &ctx, &mut out, log, files);
+    let answer = registry.render_template_with_context_to_write(source, &ctx, &mut out, log, files);
     wrote(&rt, answer, out, wanted);
 }
 
