@@ -1,6 +1,7 @@
 -- What a registry and its contexts stand for.
 use Rattle.std.specs.BTreeMap.{get_by_text}
 use Rattle.std.specs.Prelude.{ℕ, Bool, Option, None, Some, option_map}
+use Rattle.serde_json.specs.Data.{Data}
 use Rattle.handlebars_base.specs.Bytes.{Text}
 use Rattle.handlebars_tags.specs.Options.{Options}
 use Rattle.handlebars_template.specs.Tree.{Tree}
@@ -55,6 +56,10 @@ module _ {E : Type 0} where
       limit = r.inclusion_limit;
     }
 
-    -- the setting of a run, with a registry and over a context
+    -- the setting of a run, with a registry and over data
+    abbrev pub setting_over : RegistryOf E → Data → Setting
+    setting_over r d = record { given = d; parts = parts_of r }
+
+    -- the same over a context
     abbrev pub setting_of : RegistryOf E → Context → Setting
     setting_of r c = record { given = data_of c; parts = parts_of r }

@@ -1,8 +1,12 @@
 //! Laws that callers may cite. Each is a function that does nothing: its contract is the law.
 
+ghost use Rattle.serde_json.specs.Data.{Data};
+ghost use Rattle.handlebars_base.specs.Bytes.{Text};
+ghost use Rattle.handlebars_meaning.specs.Answer.{FromName, FromSource};
 ghost use Rattle.handlebars_meaning.specs.Counted.{RendersCounted, JudgesCounted, EqualsCounted, ComparesCounted, WalksCounted};
 ghost use Rattle.handlebars_meaning.specs.Laws.{OneRun, StopsInBeginning, ComesOnce, ComesInTrees, AllHaveOrigins, ElementHasOrigins, LeavesAround, OnlyNamedCount, SameUnderLarger};
-ghost use Rattle.handlebars.specs.View.{setting_of};
+ghost use Rattle.handlebars.specs.Calls.{CallsAgree};
+ghost use Rattle.handlebars.specs.View.{options_of, setting_of, setting_over, stored};
 
 use crate::registry::RegistryOf;
 pub use handlebars_base::laws::{
@@ -33,6 +37,18 @@ pub fn laws_of_runs<E: OwnParts>(registry: &RegistryOf<E>, context: &Context)
     ensures around { LeavesAround (setting_of E.registered E.own registry.now context.now) }
     ensures larger { SameUnderLarger (setting_of E.registered E.own registry.now context.now) }
     ensures named { OnlyNamedCount (setting_of E.registered E.own registry.now context.now) }
+{
+    registry.entries.keeps_law();
+}
+
+/// The calls that render agree, those by one name and those by one source, into a text or to a writer, over a context or over
+/// data whose conversion gives its value: where neither the writer fails nor memory, on the outcome, and on the text that is
+/// given.
+pub fn calls_agree<E: OwnParts>(registry: &RegistryOf<E>)
+    ensures names { (name : Text) (d : Data)
+        → CallsAgree (setting_over E.registered E.own registry.now d) (FromName (stored registry.now) name) }
+    ensures sources { (source : Text) (d : Data)
+        → CallsAgree (setting_over E.registered E.own registry.now d) (FromSource (options_of registry.now) source) }
 {
     registry.entries.keeps_law();
 }

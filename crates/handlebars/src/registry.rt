@@ -1,9 +1,8 @@
-//! The registry, and the calls that render.
+//! The registry: what templates are rendered with.
 
-ghost use Rattle.std.specs.Prelude.{◌≡◌, ◌≢◌, IfOk, IfErr, OnErr, OnOk, option_map, string_bytes, None, Some, false, is_some};
+ghost use Rattle.std.specs.Prelude.{◌≡◌, ◌≢◌, IfOk, IfErr, OnErr, OnOk, option_map, None, Some, false, is_some};
 ghost use Rattle.handlebars_base.specs.Bytes.{Text};
-ghost use Rattle.handlebars_base.specs.Reasons.{out_of_memory, template_out_of_memory};
-ghost use Rattle.handlebars_base.specs.RenderRefusals.{refusal_of, reason_in};
+ghost use Rattle.handlebars_base.specs.Reasons.{template_out_of_memory};
 ghost use Rattle.handlebars_base.specs.TemplateRefusals.{template_refusal_of};
 ghost use Rattle.handlebars_template.specs.Compile.{Compiles, compiled, refused};
 ghost use Rattle.handlebars_template.specs.Tree.{Tree};
@@ -11,23 +10,18 @@ ghost use Rattle.handlebars_template.specs.TreeView.{tree_view};
 ghost use Rattle.handlebars_helpers.specs.Decoration.{built_in_decorator};
 ghost use Rattle.handlebars_helpers.specs.Callee.{first_callee};
 ghost use Rattle.handlebars_helpers.specs.Escaping.{for_html};
-ghost use Rattle.handlebars_meaning.specs.Answer.{FromSource, FromName, GivesText, RefusesWith, HasOneAnswer, AnswerHasOrigins};
-ghost use Rattle.handlebars_meaning.specs.State.{first_state};
 ghost use Rattle.handlebars.specs.Store.{Stores, HasSameParts, HasSameTemplates, PutsDecorator, PutsEscape, PutsHelper};
-ghost use Rattle.handlebars_render.specs.View.{state_of, root_of, has_failed};
-ghost use Rattle.handlebars.specs.View.{modes_of, named_by, setting_of, options_of, stored};
+ghost use Rattle.handlebars.specs.View.{modes_of, named_by, stored};
 
-use crate::render::Renderable;
-use crate::sources::TemplateReader;
-use handlebars_base::error::{RenderError, RenderErrorReason, TemplateError};
+mod calls;
+mod writing;
+
+use handlebars_base::error::TemplateError;
 use handlebars_helpers::decorators::entry::DecoratorEntryOf;
 use handlebars_helpers::entries::{BoxedEntries, Entries, OwnParts};
 use handlebars_helpers::escape::EscapeKindOf;
 use handlebars_helpers::own::entry::HelperEntryOf;
-use handlebars_render::context::RenderContext;
-use handlebars_scope::context::Context;
 use handlebars_template::template::{Template, TemplateOptions};
-use log::Log;
 use std::alloc::{AllocError, Global};
 use std::collections::BTreeMap;
 
@@ -252,7 +246,7 @@ impl<B: Drop, F: Drop, D: Drop, G: Drop, X: Drop> RegistryOf<Entries<B, F, D, G,
     }
 }
 
-// The calls that render.
+// A new one.
 impl<E: OwnParts> RegistryOf<E> {
     /// A registry with the built-in helpers and decorators, and nothing else; values are escaped for
     /// html, the mode isn't strict, lookup isn't recursive, inclusions add their indentation, and 64 of them may be rendered
@@ -276,74 +270,5 @@ impl<E: OwnParts> RegistryOf<E> {
             prevent_indent: false,
             inclusion_limit: 64,
         })
-    }
-
-    /// Renders the template under the name over a context; `TemplateNotFound` where none stands
-    /// there. The logger is given the lines of `log`; the reader isn't asked.
-    pub fn render_with_context<L: Log, R: TemplateReader>(
-        &self,
-        name: &str,
-        ctx: &Context,
-        log: &L,
-        _files: &mut R,
-    ) -> Result<String, RenderError>
-        ensures ok { IfOk result (λ text.
-            GivesText (setting_of E.registered E.own self.now ctx.now) (FromName (stored self.now) name.now) (string_bytes text)) }
-        ensures err { IfErr result (λ e. reason_in e ≢ out_of_memory
-            → RefusesWith (setting_of E.registered E.own self.now ctx.now) (FromName (stored self.now) name.now) (refusal_of e)) }
-        ensures one { HasOneAnswer (setting_of E.registered E.own self.now ctx.now) (FromName (stored self.now) name.now) }
-        ensures origins { AnswerHasOrigins (setting_of E.registered E.own self.now ctx.now) (FromName (stored self.now) name.now) }
-        ensures unread { _files.new ≡ _files.old }
-    {
-        self.entries.keeps_law();
-        let Some(template) = self.get_template(name) else {
-            let name = String::from_str(self.alloc, name)?;
-            return Err(RenderErrorReason::TemplateNotFound(name).into());
-        };
-        let mut rc = self.first_context(template.name.as_ref())?;
-        template.renders(self.alloc, self, ctx, &mut rc, log)
-    }
-
-    /// Renders a source over a context. The logger is given the lines of `log`; the reader isn't
-    /// asked.
-    pub fn render_template_with_context<L: Log, R: TemplateReader>(
-        &self,
-        source: &str,
-        ctx: &Context,
-        log: &L,
-        _files: &mut R,
-    ) -> Result<String, RenderError>
-        // The text is the join of the pieces of the one answer that the language's definition gives.
-        ensures ok { IfOk result (λ text.
-            GivesText (setting_of E.registered E.own self.now ctx.now) (FromSource (options_of self.now) source.now) (string_bytes text)) }
-
-        // A refusal, but for want of memory, is the definition's: its reason, its position and its name.
-        ensures err { IfErr result (λ e. reason_in e ≢ out_of_memory
-            → RefusesWith (setting_of E.registered E.own self.now ctx.now) (FromSource (options_of self.now) source.now) (refusal_of e)) }
-
-        // There is at most one such answer, and each of its pieces comes from a tree of the run and the data.
-        ensures one { HasOneAnswer (setting_of E.registered E.own self.now ctx.now) (FromSource (options_of self.now) source.now) }
-        ensures origins { AnswerHasOrigins (setting_of E.registered E.own self.now ctx.now) (FromSource (options_of self.now) source.now) }
-        ensures unread { _files.new ≡ _files.old }
-    {
-        self.entries.keeps_law();
-        let options = TemplateOptions {
-            name: None,
-            prevent_indent: self.prevent_indent,
-        };
-        let template = Template::compile2(self.alloc, source, options)?;
-        let mut rc = self.first_context(None)?;
-        template.renders(self.alloc, self, ctx, &mut rc, log)
-    }
-
-    // The first state of a run with this registry, which the template of that name begins, if it has one.
-    fn first_context(&self, root_template: Option<&String>) -> Result<RenderContext, AllocError>
-        ensures state { IfOk result (λ rc. state_of rc ≡ first_state (modes_of self.now).recursive) }
-        ensures root { IfOk result (λ rc. root_of rc ≡ option_map (λ name. string_bytes name.now) root_template.entry) }
-        ensures ready { IfOk result (λ rc. has_failed rc ≡ false) }
-    {
-        let mut rc = RenderContext::new(self.alloc, root_template)?;
-        rc.set_recursive_lookup(self.recursive_lookup);
-        Ok(rc)
     }
 }

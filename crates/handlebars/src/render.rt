@@ -11,7 +11,7 @@ ghost use Rattle.handlebars.specs.View.{setting_of};
 
 mod evaluable;
 mod expand;
-mod logging;
+pub(crate) mod logging;
 pub mod partial;
 
 use crate::registry::RegistryOf;

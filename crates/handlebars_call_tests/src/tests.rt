@@ -10,3 +10,4 @@ mod names;
 mod own_parts;
 mod registries;
 mod trees;
+mod writers;

@@ -4,18 +4,17 @@ ghost use Rattle.std.specs.Prelude.{◌≡◌, ◌≢◌, ◌≤◌, Err, IfOk, 
 ghost use Rattle.hbs.specs.Words.{begins_strict, file_words, is_strict};
 
 use crate::failure::Failure;
-use crate::text::text;
+use crate::text::print_text;
 use crate::words::Word;
 use handlebars::TemplateReader;
 use std::alloc::{AllocError, Global};
-use std::io;
 use std::io::Write;
 
 /// Renders the template that the first word names over the data that the second one names, in strict
 /// mode where `--strict` stands before them, and answers the status that the program ends with.
 /// `words` is an error where they found no memory. Other than two words that are texts, behind
 /// `--strict` or not, are refused before any file is read. A run that fails says
-/// why in one line on `err`, and writes nothing to `out` unless writing there is what fails.
+/// why in one line on `err`; what was written to `out` before it fails stays.
 pub fn run<R: TemplateReader, O: Write, E: Write>(
     alloc: Global,
     words: Result<Vec<Word>, AllocError>,
@@ -56,11 +55,7 @@ fn print<'a, R: TemplateReader, O: Write>(
     let [Word::Text(template), Word::Text(data)] = words else {
         return Err(Failure::Usage);
     };
-    let text = text(alloc, strict, template.as_str(), data.as_str(), files)?;
-    match write_text(text.as_str(), out) {
-        Ok(()) => Ok(()),
-        Err(_) => Err(Failure::CannotWrite),
-    }
+    print_text(alloc, strict, template.as_str(), data.as_str(), files, out)
 }
 
 // Whether the first word is `--strict`, and the words that name files.
@@ -87,10 +82,4 @@ fn is_strict(word: &Word) -> bool
         Word::Text(text) => text.as_str() == "--strict",
         Word::Unreadable => false,
     }
-}
-
-// In one write, where the output takes it all.
-fn write_text<O: Write>(text: &str, out: &mut O) -> io::Result<()> {
-    out.write_all(text.as_bytes())?;
-    out.flush()
 }

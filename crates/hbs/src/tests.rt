@@ -181,7 +181,7 @@ fn renders_or_refuses(rt: HostRuntime) {
     renders(&rt, alloc, "{{a", "{\"a\":}", 2, "", no_json);
     let number = "Number outside the kept range\n";
     renders(&rt, alloc, "{{a", "1.5", 1, "", number);
-    renders(&rt, alloc, "x{{a.x}}", "{\"a\":[1]}", 1, "", BY_NAME);
+    renders(&rt, alloc, "x{{a.x}}", "{\"a\":[1]}", 1, "x", BY_NAME);
     renders(&rt, alloc, "ab{{name", "null", 1, "", UNREADABLE);
 }
 
@@ -198,7 +198,14 @@ fn tells_of_words_and_files(rt: HostRuntime) {
     let (template, data) = ("t.hbs", "d.json");
     let strict = "--strict";
     runs_for(&rt, alloc, &[template, data], (0, 2), "a\n", "");
-    runs_for(&rt, alloc, &[strict, template, data], (1, 2), "", MISSING);
+    runs_for(
+        &rt,
+        alloc,
+        &[strict, template, data],
+        (1, 2),
+        "a\n",
+        MISSING,
+    );
     runs_for(&rt, alloc, &[], (2, 0), "", USAGE);
     runs_for(&rt, alloc, &[template], (2, 0), "", USAGE);
     runs_for(&rt, alloc, &[template, data, data], (2, 0), "", USAGE);
