@@ -1,6 +1,11 @@
 pub mod AnswerLaws
+pub mod Loaded
+pub mod Loads
 pub mod OwnLaws
+pub mod Paths
 pub mod Rendered
 pub mod Stored
+pub mod TakenBack
 pub mod Texts
+pub mod Walks
 mod Evaluated

@@ -1,2 +1,6 @@
 pub mod View
 pub mod Store
+pub mod Files
+pub mod Folder
+pub mod Dev
+pub mod Over

@@ -1,6 +1,6 @@
 //! The registry, and the calls that render.
 
-ghost use Rattle.std.specs.Prelude.{◌≡◌, ◌≢◌, IfOk, IfErr, OnErr, OnOk, option_map, string_bytes, None, Some, false, is_some};
+ghost use Rattle.std.specs.Prelude.{◌≡◌, ◌≢◌, IfOk, IfErr, OnErr, OnOk, List, option_map, string_bytes, None, Some, false, is_some};
 ghost use Rattle.handlebars_base.specs.Bytes.{Text};
 ghost use Rattle.handlebars_base.specs.Reasons.{out_of_memory, template_out_of_memory};
 ghost use Rattle.handlebars_base.specs.RenderRefusals.{refusal_of, reason_in};
@@ -15,9 +15,18 @@ ghost use Rattle.handlebars_meaning.specs.Answer.{FromSource, FromName, GivesTex
 ghost use Rattle.handlebars_meaning.specs.State.{first_state};
 ghost use Rattle.handlebars.specs.Store.{Stores, HasSameParts, HasSameTemplates, PutsDecorator, PutsEscape, PutsHelper};
 ghost use Rattle.handlebars_render.specs.View.{state_of, root_of, has_failed};
-ghost use Rattle.handlebars.specs.View.{modes_of, named_by, setting_of, options_of, stored};
+ghost use Rattle.handlebars.specs.Dev.{HasRead, RefusesReading, RefusesSource, stored_under};
+ghost use Rattle.handlebars.specs.Files.{Loaded, is_dev};
+ghost use Rattle.handlebars.specs.Over.{setting_over};
+ghost use Rattle.handlebars.specs.View.{modes_of, named_by, options_of, stored};
 
-use crate::render::Renderable;
+mod dev;
+mod files;
+mod reading;
+mod stored;
+
+use crate::registry::dev::DevFiles;
+use crate::render::over::renders_over;
 use crate::sources::TemplateReader;
 use handlebars_base::error::{RenderError, RenderErrorReason, TemplateError};
 use handlebars_helpers::decorators::entry::DecoratorEntryOf;
@@ -36,6 +45,7 @@ use std::collections::BTreeMap;
 pub struct RegistryOf<E> {
     alloc: Global,
     templates: BTreeMap<String, Template>,
+    dev: DevFiles,
     pub(crate) entries: E,
     strict_mode: bool,
     recursive_lookup: bool,
@@ -54,6 +64,7 @@ impl<E: Drop> RegistryOf<E> {
         ensures modes { modes_of self.new ≡ record (modes_of self.old) { strict = enabled } }
         ensures entries { self.new.entries ≡ self.old.entries }
         ensures kept { HasSameTemplates self.old self.new }
+        ensures dev { self.new.dev ≡ self.old.dev }
     {
         self.strict_mode = enabled;
     }
@@ -71,6 +82,7 @@ impl<E: Drop> RegistryOf<E> {
         ensures modes { modes_of self.new ≡ record (modes_of self.old) { recursive = enabled } }
         ensures entries { self.new.entries ≡ self.old.entries }
         ensures kept { HasSameTemplates self.old self.new }
+        ensures dev { self.new.dev ≡ self.old.dev }
     {
         self.recursive_lookup = enabled;
     }
@@ -88,6 +100,7 @@ impl<E: Drop> RegistryOf<E> {
         ensures modes { modes_of self.new ≡ record (modes_of self.old) { prevent_indent = enabled } }
         ensures entries { self.new.entries ≡ self.old.entries }
         ensures kept { HasSameTemplates self.old self.new }
+        ensures dev { self.new.dev ≡ self.old.dev }
     {
         self.prevent_indent = enabled;
     }
@@ -104,6 +117,7 @@ impl<E: Drop> RegistryOf<E> {
         ensures modes { modes_of self.new ≡ record (modes_of self.old) { limit = limit } }
         ensures entries { self.new.entries ≡ self.old.entries }
         ensures kept { HasSameTemplates self.old self.new }
+        ensures dev { self.new.dev ≡ self.old.dev }
     {
         self.inclusion_limit = limit;
     }
@@ -121,6 +135,7 @@ impl<E: Drop> RegistryOf<E> {
         ensures kept { OnErr result (HasSameTemplates self.old self.new) }
         ensures entries { self.new.entries ≡ self.old.entries }
         ensures modes { modes_of self.new ≡ modes_of self.old }
+        ensures dev { self.new.dev ≡ self.old.dev }
     {
         let key = String::from_str(self.alloc, name)?;
         self.templates.insert(key, template)?;
@@ -141,6 +156,7 @@ impl<E: Drop> RegistryOf<E> {
         ensures kept { OnErr result (HasSameTemplates self.old self.new) }
         ensures entries { self.new.entries ≡ self.old.entries }
         ensures modes { modes_of self.new ≡ modes_of self.old }
+        ensures dev { self.new.dev ≡ self.old.dev }
     {
         let template = self.compiled_as(name, source)?;
         self.register_template(name, template)?;
@@ -156,6 +172,7 @@ impl<E: Drop> RegistryOf<E> {
         ensures kept { OnErr result (HasSameTemplates self.old self.new) }
         ensures entries { self.new.entries ≡ self.old.entries }
         ensures modes { modes_of self.new ≡ modes_of self.old }
+        ensures dev { self.new.dev ≡ self.old.dev }
     {
         self.register_template_string(name, source)
     }
@@ -201,6 +218,7 @@ impl<B: Drop, F: Drop, D: Drop, G: Drop, X: Drop> RegistryOf<Entries<B, F, D, G,
         ensures ok { OnOk result (PutsHelper self.old self.new name.now (Some def)) }
         ensures err { OnErr result (HasSameParts self.old self.new) }
         ensures kept { HasSameTemplates self.old self.new }
+        ensures dev { self.new.dev ≡ self.old.dev }
     {
         let name = String::from_str(self.alloc, name)?;
         self.entries.helpers.insert(name, def)
@@ -210,6 +228,7 @@ impl<B: Drop, F: Drop, D: Drop, G: Drop, X: Drop> RegistryOf<Entries<B, F, D, G,
     pub fn unregister_helper(&mut self, name: &str)
         ensures helper { PutsHelper self.old self.new name.now None }
         ensures kept { HasSameTemplates self.old self.new }
+        ensures dev { self.new.dev ≡ self.old.dev }
     {
         self.entries.helpers.remove(name);
     }
@@ -223,6 +242,7 @@ impl<B: Drop, F: Drop, D: Drop, G: Drop, X: Drop> RegistryOf<Entries<B, F, D, G,
         ensures ok { OnOk result (PutsDecorator self.old self.new name.now (Some def)) }
         ensures err { OnErr result (HasSameParts self.old self.new) }
         ensures kept { HasSameTemplates self.old self.new }
+        ensures dev { self.new.dev ≡ self.old.dev }
     {
         let name = String::from_str(self.alloc, name)?;
         self.entries.decorators.insert(name, def)
@@ -232,6 +252,7 @@ impl<B: Drop, F: Drop, D: Drop, G: Drop, X: Drop> RegistryOf<Entries<B, F, D, G,
     pub fn register_escape_fn(&mut self, escape_fn: EscapeKindOf<X>)
         ensures escape { PutsEscape self.old self.new escape_fn }
         ensures kept { HasSameTemplates self.old self.new }
+        ensures dev { self.new.dev ≡ self.old.dev }
     {
         self.entries.escape = escape_fn;
     }
@@ -240,6 +261,7 @@ impl<B: Drop, F: Drop, D: Drop, G: Drop, X: Drop> RegistryOf<Entries<B, F, D, G,
     pub fn unregister_escape_fn(&mut self)
         ensures escape { PutsEscape self.old self.new (EscapeKindOf.Html) }
         ensures kept { HasSameTemplates self.old self.new }
+        ensures dev { self.new.dev ≡ self.old.dev }
     {
         self.entries.escape = EscapeKindOf::Html;
     }
@@ -266,10 +288,12 @@ impl<E: OwnParts> RegistryOf<E> {
         ensures recursive { IfOk result (λ r. (modes_of r).recursive ≡ false) }
         ensures prevents { IfOk result (λ r. (modes_of r).prevent_indent ≡ false) }
         ensures limit { IfOk result (λ r. (modes_of r).limit ≡ 64) }
+        ensures dev { IfOk result (λ r. is_dev r ≡ false) }
     {
         Ok(RegistryOf {
             alloc,
             templates: BTreeMap::new(alloc),
+            dev: DevFiles::new(),
             entries: E::first(alloc)?,
             strict_mode: false,
             recursive_lookup: false,
@@ -279,52 +303,64 @@ impl<E: OwnParts> RegistryOf<E> {
     }
 
     /// Renders the template under the name over a context; `TemplateNotFound` where none stands
-    /// there. The logger is given the lines of `log`; the reader isn't asked.
+    /// there. The logger is given the lines of `log`; the reader is asked in dev mode alone.
     pub fn render_with_context<L: Log, R: TemplateReader>(
         &self,
         name: &str,
         ctx: &Context,
         log: &L,
-        _files: &mut R,
+        files: &mut R,
     ) -> Result<String, RenderError>
-        ensures ok { IfOk result (λ text.
-            GivesText (setting_of E.registered E.own self.now ctx.now) (FromName (stored self.now) name.now) (string_bytes text)) }
-        ensures err { IfErr result (λ e. reason_in e ≢ out_of_memory
-            → RefusesWith (setting_of E.registered E.own self.now ctx.now) (FromName (stored self.now) name.now) (refusal_of e)) }
-        ensures one { HasOneAnswer (setting_of E.registered E.own self.now ctx.now) (FromName (stored self.now) name.now) }
-        ensures origins { AnswerHasOrigins (setting_of E.registered E.own self.now ctx.now) (FromName (stored self.now) name.now) }
-        ensures unread { _files.new ≡ _files.old }
+        // The files are read, and the text is the definition's with their trees laid over the stored ones.
+        ensures ok { IfOk result (λ text. HasRead R.reads self.now (Some name.now) files.old files.new (λ read.
+            GivesText (setting_over E.registered E.own read self.now ctx.now) (FromName (stored_under read self.now) name.now)
+            (string_bytes text))) }
+
+        // A refusal, but for want of memory, is that of a file, or the definition's with the trees of all files.
+        ensures err { IfErr result (λ e. reason_in e ≢ out_of_memory → RefusesReading R.reads self.now (Some name.now)
+            files.old files.new (λ read f. RefusesWith (setting_over E.registered E.own read self.now ctx.now)
+            (FromName (stored_under read self.now) name.now) f) (refusal_of e)) }
+        ensures one { (read : List Loaded) → HasOneAnswer (setting_over E.registered E.own read self.now ctx.now)
+            (FromName (stored_under read self.now) name.now) }
+        ensures origins { (read : List Loaded) → AnswerHasOrigins (setting_over E.registered E.own read self.now ctx.now)
+            (FromName (stored_under read self.now) name.now) }
     {
         self.entries.keeps_law();
-        let Some(template) = self.get_template(name) else {
+        let read = self.read_files(Some(name), files)?;
+        let Some(template) = self.template_over(&read, name) else {
             let name = String::from_str(self.alloc, name)?;
             return Err(RenderErrorReason::TemplateNotFound(name).into());
         };
         let mut rc = self.first_context(template.name.as_ref())?;
-        template.renders(self.alloc, self, ctx, &mut rc, log)
+        renders_over(template, self.alloc, self, &read, ctx, &mut rc, log)
     }
 
-    /// Renders a source over a context. The logger is given the lines of `log`; the reader isn't
-    /// asked.
+    /// Renders a source over a context. The logger is given the lines of `log`; the reader is asked
+    /// in dev mode alone.
     pub fn render_template_with_context<L: Log, R: TemplateReader>(
         &self,
         source: &str,
         ctx: &Context,
         log: &L,
-        _files: &mut R,
+        files: &mut R,
     ) -> Result<String, RenderError>
-        // The text is the join of the pieces of the one answer that the language's definition gives.
-        ensures ok { IfOk result (λ text.
-            GivesText (setting_of E.registered E.own self.now ctx.now) (FromSource (options_of self.now) source.now) (string_bytes text)) }
+        // The source is compiled and the files are read, and the text is the join of the pieces of the one answer that the
+        // language's definition gives with their trees laid over the stored ones.
+        ensures ok { IfOk result (λ text. HasRead R.reads self.now None files.old files.new (λ read.
+            GivesText (setting_over E.registered E.own read self.now ctx.now) (FromSource (options_of self.now) source.now)
+            (string_bytes text))) }
 
-        // A refusal, but for want of memory, is the definition's: its reason, its position and its name.
-        ensures err { IfErr result (λ e. reason_in e ≢ out_of_memory
-            → RefusesWith (setting_of E.registered E.own self.now ctx.now) (FromSource (options_of self.now) source.now) (refusal_of e)) }
+        // A refusal, but for want of memory, is that of the source, and no file is asked for, or that of a file, or the
+        // definition's with the trees of all files: its reason, its position and its name.
+        ensures err { IfErr result (λ e. reason_in e ≢ out_of_memory → RefusesSource R.reads self.now (options_of self.now) source.now
+            files.old files.new (λ read f. RefusesWith (setting_over E.registered E.own read self.now ctx.now)
+            (FromSource (options_of self.now) source.now) f) (refusal_of e)) }
 
         // There is at most one such answer, and each of its pieces comes from a tree of the run and the data.
-        ensures one { HasOneAnswer (setting_of E.registered E.own self.now ctx.now) (FromSource (options_of self.now) source.now) }
-        ensures origins { AnswerHasOrigins (setting_of E.registered E.own self.now ctx.now) (FromSource (options_of self.now) source.now) }
-        ensures unread { _files.new ≡ _files.old }
+        ensures one { (read : List Loaded) → HasOneAnswer (setting_over E.registered E.own read self.now ctx.now)
+            (FromSource (options_of self.now) source.now) }
+        ensures origins { (read : List Loaded) → AnswerHasOrigins (setting_over E.registered E.own read self.now ctx.now)
+            (FromSource (options_of self.now) source.now) }
     {
         self.entries.keeps_law();
         let options = TemplateOptions {
@@ -332,8 +368,9 @@ impl<E: OwnParts> RegistryOf<E> {
             prevent_indent: self.prevent_indent,
         };
         let template = Template::compile2(self.alloc, source, options)?;
+        let read = self.read_files(None, files)?;
         let mut rc = self.first_context(None)?;
-        template.renders(self.alloc, self, ctx, &mut rc, log)
+        renders_over(&template, self.alloc, self, &read, ctx, &mut rc, log)
     }
 
     // The first state of a run with this registry, which the template of that name begins, if it has one.

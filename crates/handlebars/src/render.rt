@@ -12,6 +12,7 @@ ghost use Rattle.handlebars.specs.View.{setting_of};
 mod evaluable;
 mod expand;
 mod logging;
+pub mod over;
 pub mod partial;
 
 use crate::registry::RegistryOf;
@@ -103,7 +104,11 @@ impl Renderable for Template {
         log: &L,
     ) -> Result<(), RenderError> {
         ready(rc)?;
-        let parts = &Logging { registry, log };
+        let parts = &Logging {
+            registry,
+            read: None,
+            log,
+        };
         let setting = Setting {
             alloc,
             parts,
@@ -134,7 +139,11 @@ impl Renderable for TemplateElement {
         log: &L,
     ) -> Result<(), RenderError> {
         ready(rc)?;
-        let parts = &Logging { registry, log };
+        let parts = &Logging {
+            registry,
+            read: None,
+            log,
+        };
         let setting = Setting {
             alloc,
             parts,

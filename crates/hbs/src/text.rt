@@ -1,24 +1,35 @@
 //! The text that a run prints.
 
 use crate::failure::Failure;
-use handlebars::{Context, JsonValue, NoFiles, Registry, TemplateReader};
+use handlebars::{
+    Context, DirectorySourceOptions, JsonValue, NoFiles, Registry, TemplateReader,
+};
 use log::sink::Discard;
 use std::alloc::Global;
 
-/// What a template gives over data, in strict mode or not, both read from their paths: the template
-/// first.
+/// What is asked for: the paths of a template, of data and perhaps of a folder, and whether the mode is strict.
+#[derive(Drop)]
+pub struct Task<'a> {
+    pub strict: bool,
+    pub template: &'a str,
+    pub data: &'a str,
+    pub folder: Option<&'a str>,
+}
+
+/// What a template gives over data: the template is read first, then the data, then the folder.
 pub fn text<'a, R: TemplateReader>(
     alloc: Global,
-    strict: bool,
-    template: &'a str,
-    data: &'a str,
+    task: &Task<'a>,
     files: &mut R,
 ) -> Result<String, Failure<'a>> {
-    let source = read(template, files)?;
-    let value = json(alloc, data, read(data, files)?.as_str())?;
+    let source = read(task.template, files)?;
+    let value = json(alloc, task.data, read(task.data, files)?.as_str())?;
     let context = Context::try_from(value)?;
     let mut registry = Registry::new(alloc)?;
-    registry.set_strict_mode(strict);
+    registry.set_strict_mode(task.strict);
+    if let Some(folder) = task.folder {
+        registry.register_templates_directory(folder, DirectorySourceOptions::default(), files)?;
+    }
     let text = registry.render_template_with_context(
         source.as_str(),
         &context,

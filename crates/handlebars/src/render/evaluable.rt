@@ -67,7 +67,11 @@ impl Evaluable for Template {
         log: &L,
     ) -> Result<(), RenderError> {
         ready(rc)?;
-        let parts = &Logging { registry, log };
+        let parts = &Logging {
+            registry,
+            read: None,
+            log,
+        };
         let setting = Setting {
             alloc,
             parts,
@@ -99,7 +103,11 @@ impl Evaluable for TemplateElement {
         log: &L,
     ) -> Result<(), RenderError> {
         ready(rc)?;
-        let parts = &Logging { registry, log };
+        let parts = &Logging {
+            registry,
+            read: None,
+            log,
+        };
         let setting = Setting {
             alloc,
             parts,

@@ -84,7 +84,11 @@ impl Expand for Parameter {
         log: &L,
     ) -> Result<PathAndJson<'rc>, RenderError> {
         ready(rc)?;
-        let parts = &Logging { registry, log };
+        let parts = &Logging {
+            registry,
+            read: None,
+            log,
+        };
         let answer = value::expand(
             &Setting {
                 alloc,
@@ -110,7 +114,11 @@ impl Expand for Parameter {
         log: &L,
     ) -> Result<CowStr<'rc>, RenderError> {
         ready(rc)?;
-        let parts = &Logging { registry, log };
+        let parts = &Logging {
+            registry,
+            read: None,
+            log,
+        };
         let answer = value::expand_as_name(
             &Setting {
                 alloc,
