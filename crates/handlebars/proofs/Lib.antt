@@ -1,8 +1,10 @@
 pub mod AnswerLaws
 pub mod Loaded
 pub mod Loads
+pub mod OverLaws
 pub mod OwnLaws
 pub mod Paths
+pub mod ReadFiles
 pub mod Rendered
 pub mod Stored
 pub mod TakenBack

@@ -1,5 +1,6 @@
 -- What a walk of a folder registers.
-use Rattle.std.proofs.Common.{◌≡◌, ◌≢◌, ◌+◌, ℕ, Bool, true, false, List, [], ◌∷◌, ◌++◌, Result, Ok, Err, String, Global, refl, sym, ap, ◌∙◌, subst, append-nil, append_assoc}
+use Rattle.std.proofs.Common.{◌≡◌, ◌≢◌, ◌+◌, ◌<◌, ◌≤◌, ℕ, suc, add-one, drop, drop-cons, get_or, length, Bool, true, false, List, [], ◌∷◌, ◌++◌, Result, Ok, Err, String, Global, refl, sym, ap, ◌∙◌, subst, append-nil, append_assoc}
+use Rattle.std.proofs.Math.ListN.{drop_of_length-le}
 use Rattle.std.specs.Global.{Vec}
 use Rattle.std.specs.IoError.{error_kind}
 use Rattle.std.specs.Prelude.{IfErr, OnErr, OnOk, codes, string_bytes}
@@ -14,6 +15,7 @@ use Rattle.handlebars.specs.Files.{HasLoaded, IsStopFor, Loaded, LoadsFile, Stop
 use Rattle.handlebars.specs.Folder.{Choice, Entry, GoesOn, IsInOrder, Place, Registers, Task, a_folder, an_entry, entries_of, Walks, listed, unlisted, listed_in_want, no_entry, goes_on, ends, takes, refuses, passes, enters, too_deep, in_want, below_at, folder_at, is_taken, name_in, path_at}
 use Rattle.handlebars.specs.View.{modes_of}
 use Rattle.handlebars.specs.declared.registry.RegistryOf.{RegistryOf}
+use Rattle.handlebars.specs.declared.sources.EntryKind.{EntryKind}
 use Rattle.handlebars.specs.declared.sources.EntryKind.TheVariants.{File, Folder}
 use Rattle.handlebars.proofs.Loaded.{loaded-none, loaded-then}
 
@@ -68,6 +70,25 @@ module _ {S : Type 0} (reads : S → Text → Result (String Global) Error → S
       subst (λ z. FileClaim p name old new s t answer z below) (sym is_path)
       (subst (λ z. FileClaim p name old new s t answer (path_at p (string_bytes name)) z) (sym is_below)
       (file-here p name old new s t answer))
+
+  -- the same under another spelling of the name
+  pub file-named : (p : Place) (name : String Global) (given path below : Text) (old new : RegistryOf E) (s t : S)
+      (answer : Result (Unit {0}) TemplateError) → path ≡ path_at p (string_bytes name) → below ≡ below_at p (string_bytes name)
+      → given ≡ name_in c below → is_taken c path (string_bytes name) ≡ true
+      → OnOk answer ((tree : Tree) × LoadsFile reads (modes_of old).prevent_indent given path s (Ok tree) t
+      × HasLoaded (record { name = given; path = path; tree = tree } ∷ []) old new)
+      → IfErr answer (λ e. (why : Stop) × IsStopFor e why
+      × LoadsFile reads (modes_of old).prevent_indent given path s (Err why) t)
+      → OnErr answer (HasLoaded [] old new)
+      → Registers reads lists c (an_entry p (name, File)) old new s t answer
+  file-named p name given path below old new s t answer is_path is_below is_name taken =
+      subst (λ z. OnOk answer ((tree : Tree) × LoadsFile reads (modes_of old).prevent_indent z path s (Ok tree) t
+          × HasLoaded (record { name = z; path = path; tree = tree } ∷ []) old new)
+          → IfErr answer (λ e. (why : Stop) × IsStopFor e why
+          × LoadsFile reads (modes_of old).prevent_indent z path s (Err why) t)
+          → OnErr answer (HasLoaded [] old new)
+          → Registers reads lists c (an_entry p (name, File)) old new s t answer) (sym is_name)
+      (file-registers p name path below old new s t answer is_path is_below taken)
 
   pub file-passes : (p : Place) (name : String Global) (path : Text) (r : RegistryOf E) (s : S)
       → path ≡ path_at p (string_bytes name) → is_taken c path (string_bytes name) ≡ false
@@ -141,47 +162,79 @@ module _ {S : Type 0} (reads : S → Text → Result (String Global) Error → S
       × GoesOn reads lists (modes_of old).prevent_indent c ls p xs xs s s
   entries-begin p xs old s = ([], loaded-none old, λ ms o u w. w)
 
-  pub entry-goes_on : (p : Place) (x : Entry) (xs rest : List Entry) (old mid new : RegistryOf E) (s t u : S) (done : Unit {0})
+  next-entry : (p : Place) (x : Entry) (xs : List Entry) (i : ℕ) (old mid : RegistryOf E) (s t : S) → i < length xs
+      → x ≡ get_or xs i x
+      → ((ls : List Loaded) × HasLoaded ls old mid × GoesOn reads lists (modes_of old).prevent_indent c ls p xs (drop i xs) s t)
+      → (ls : List Loaded) × HasLoaded ls old mid
+      × GoesOn reads lists (modes_of old).prevent_indent c ls p xs (x ∷ drop (i + 1) xs) s t
+  next-entry p x xs i old mid s t within is before =
+      subst (λ zs. (ls : List Loaded) × HasLoaded ls old mid
+          × GoesOn reads lists (modes_of old).prevent_indent c ls p xs zs s t)
+      (drop-cons xs i x within ∙ ap (λ z. z ∷ drop (suc i) xs) (sym is) ∙ ap (λ n. x ∷ drop n xs) (sym (add-one i))) before
+
+  entry-went : (p : Place) (x : Entry) (xs rest : List Entry) (old mid new : RegistryOf E) (s t u : S) (done : Unit {0})
       → ((ls : List Loaded) × HasLoaded ls old mid × GoesOn reads lists (modes_of old).prevent_indent c ls p xs (x ∷ rest) s t)
-      → Registers reads lists c (an_entry p x) mid new t u (Ok done)
+      → (loaded : List Loaded) → HasLoaded loaded mid new
+      → (end : Result (Unit {0}) Stop) → Tells (λ (z : Unit {0}). z) (Ok done) end
+      → Walks reads lists (modes_of mid).prevent_indent c (an_entry p x) t loaded end u
       → (ls : List Loaded) × HasLoaded ls old new × GoesOn reads lists (modes_of old).prevent_indent c ls p xs rest s u
-  entry-goes_on p x xs rest old mid new s t u done before r = went r.end r.tells r.walks
-    where
-    went : (end : Result (Unit {0}) Stop) → Tells (λ (z : Unit {0}). z) (Ok done) end
-        → Walks reads lists (modes_of mid).prevent_indent c (an_entry p x) t r.loaded end u
-        → (ls : List Loaded) × HasLoaded ls old new × GoesOn reads lists (modes_of old).prevent_indent c ls p xs rest s u
-    went (Ok v) tells w =
-        (before.0 ++ r.loaded, loaded-then old mid new before.1 r.has,
-        λ ms o z rests. subst (λ ls. Walks reads lists (modes_of old).prevent_indent c (entries_of p xs) s ls o z)
-            (sym (append_assoc before.0 r.loaded ms))
-            (before.2 (r.loaded ++ ms) o z (goes_on (over-walk old mid before.1.modes w) rests)))
-    went (Err why) tells w = absurd tells
+  entry-went p x xs rest old mid new s t u done before loaded has (Ok v) tells w =
+      (before.0 ++ loaded, loaded-then old mid new before.1 has,
+      λ ms o z rests. subst (λ ls. Walks reads lists (modes_of old).prevent_indent c (entries_of p xs) s ls o z)
+          (sym (append_assoc before.0 loaded ms))
+          (before.2 (loaded ++ ms) o z (goes_on (over-walk old mid before.1.modes w) rests)))
+  entry-went p x xs rest old mid new s t u done before loaded has (Err why) tells w = absurd tells
 
-  pub entry-ends : (p : Place) (x : Entry) (xs rest : List Entry) (old mid new : RegistryOf E) (s t u : S) (e : TemplateError)
+  pub entry-goes_on : (p : Place) (x : Entry) (xs : List Entry) (i : ℕ) (old mid new : RegistryOf E) (s t u : S) (done : Unit {0})
+      → i < length xs → x ≡ get_or xs i x
+      → ((ls : List Loaded) × HasLoaded ls old mid × GoesOn reads lists (modes_of old).prevent_indent c ls p xs (drop i xs) s t)
+      → Registers reads lists c (an_entry p x) mid new t u (Ok done)
+      → (ls : List Loaded) × HasLoaded ls old new
+      × GoesOn reads lists (modes_of old).prevent_indent c ls p xs (drop (i + 1) xs) s u
+  entry-goes_on p x xs i old mid new s t u done within is left r =
+      entry-went p x xs (drop (i + 1) xs) old mid new s t u done (next-entry p x xs i old mid s t within is left) r.loaded r.has r.end
+      r.tells r.walks
+
+  entry-ended : (p : Place) (x : Entry) (xs rest : List Entry) (old mid new : RegistryOf E) (s t u : S) (e : TemplateError)
       → ((ls : List Loaded) × HasLoaded ls old mid × GoesOn reads lists (modes_of old).prevent_indent c ls p xs (x ∷ rest) s t)
-      → Registers reads lists c (an_entry p x) mid new t u (Err e) → Registers reads lists c (entries_of p xs) old new s u (Err e)
-  entry-ends p x xs rest old mid new s t u e before r = went r.end r.tells r.walks
-    where
-    went : (end : Result (Unit {0}) Stop) → Tells (λ (z : Unit {0}). z) (Err e) end
-        → Walks reads lists (modes_of mid).prevent_indent c (an_entry p x) t r.loaded end u
-        → Registers reads lists c (entries_of p xs) old new s u (Err e)
-    went (Ok v) tells w = absurd tells
-    went (Err why) tells w = record {
-      loaded = before.0 ++ r.loaded;
-      end = Err why;
-      walks = before.2 r.loaded (Err why) u (ends (over-walk old mid before.1.modes w));
-      tells = tells;
-      has = loaded-then old mid new before.1 r.has;
-    }
+      → (loaded : List Loaded) → HasLoaded loaded mid new
+      → (end : Result (Unit {0}) Stop) → Tells (λ (z : Unit {0}). z) (Err e) end
+      → Walks reads lists (modes_of mid).prevent_indent c (an_entry p x) t loaded end u
+      → Registers reads lists c (entries_of p xs) old new s u (Err e)
+  entry-ended p x xs rest old mid new s t u e before loaded has (Ok v) tells w = absurd tells
+  entry-ended p x xs rest old mid new s t u e before loaded has (Err why) tells w = record {
+    loaded = before.0 ++ loaded;
+    end = Err why;
+    walks = before.2 loaded (Err why) u (ends (over-walk old mid before.1.modes w));
+    tells = tells;
+    has = loaded-then old mid new before.1 has;
+  }
 
-  pub entries-end : (p : Place) (xs : List Entry) (old mid : RegistryOf E) (s t : S)
-      → ((ls : List Loaded) × HasLoaded ls old mid × GoesOn reads lists (modes_of old).prevent_indent c ls p xs [] s t)
+  pub entry-ends : (p : Place) (x : Entry) (xs : List Entry) (i : ℕ) (old mid new : RegistryOf E) (s t u : S) (e : TemplateError)
+      → i < length xs → x ≡ get_or xs i x
+      → ((ls : List Loaded) × HasLoaded ls old mid × GoesOn reads lists (modes_of old).prevent_indent c ls p xs (drop i xs) s t)
+      → Registers reads lists c (an_entry p x) mid new t u (Err e) → Registers reads lists c (entries_of p xs) old new s u (Err e)
+  entry-ends p x xs i old mid new s t u e within is left r =
+      entry-ended p x xs (drop (i + 1) xs) old mid new s t u e (next-entry p x xs i old mid s t within is left) r.loaded r.has r.end
+      r.tells r.walks
+
+  pub entries-end : (p : Place) (xs : List Entry) (i : ℕ) (old mid : RegistryOf E) (s t : S) → length xs ≤ i
+      → ((ls : List Loaded) × HasLoaded ls old mid × GoesOn reads lists (modes_of old).prevent_indent c ls p xs (drop i xs) s t)
       → Registers reads lists c (entries_of p xs) old mid s t (Ok tt)
-  entries-end p xs old mid s t before = record {
+  entries-end p xs i old mid s t over before = record {
     loaded = before.0;
     end = Ok tt;
     walks = subst (λ ls. Walks reads lists (modes_of old).prevent_indent c (entries_of p xs) s ls (Ok tt) t)
-        (append-nil before.0) (before.2 [] (Ok tt) t no_entry);
+        (append-nil before.0) (before.2 [] (Ok tt) t
+        (subst (λ zs. Walks reads lists (modes_of old).prevent_indent c (entries_of p zs) t [] (Ok tt) t) (sym (drop_of_length-le xs over))
+        no_entry));
     tells = refl;
     has = before.1;
   }
+
+  -- an entry of that kind
+  pub entry-of-kind : (p : Place) (x : Entry) (kind : EntryKind) (old new : RegistryOf E) (s t : S)
+      (answer : Result (Unit {0}) TemplateError) → x.1 ≡ kind → Registers reads lists c (an_entry p (x.0, kind)) old new s t answer
+      → Registers reads lists c (an_entry p x) old new s t answer
+  entry-of-kind p x kind old new s t answer is r =
+      subst (λ z. Registers reads lists c (an_entry p (x.0, z)) old new s t answer) (sym is) r

@@ -9,8 +9,10 @@ use Rattle.handlebars_base.specs.Bytes.{Text}
 use Rattle.handlebars_base.specs.Reasons.{Refusal, TemplateRefusal, of_template}
 use Rattle.handlebars_base.specs.RenderRefusals.{plain_refusal}
 use Rattle.handlebars_base.specs.declared.error.template_error.TemplateError.{TemplateError}
+use Rattle.handlebars_tags.specs.Options.{Options}
+use Rattle.handlebars_template.specs.Compile.{Compiles, compiled, refused}
 use Rattle.handlebars_template.specs.Tree.{Tree}
-use Rattle.handlebars_template.specs.declared.template.Template.{Template}
+use Rattle.handlebars_template.specs.declared.template.tree.Template.{Template}
 use Rattle.handlebars.specs.Files.{IsStopFor, Stop, refusal, no_memory, Loaded, LoadsFile, files_of, laid_over, remembered, tree_among, tree_in}
 use Rattle.handlebars.specs.View.{stored}
 use Rattle.handlebars.specs.declared.registry.RegistryOf.{RegistryOf}
@@ -76,6 +78,13 @@ module _ {S : Type 0} (reads : S → Text → Result (String Global) Error → S
     pub reads_all : ReadsFiles fs before read (Ok tt) after
     pub holds : (ls : List Loaded) → HoldsTrees ls old → HoldsTrees (ls ++ read) new
 
+  -- Some of the files are read and compiled in turn, and put into a map; what comes of the rest comes, behind them, of all.
+  pub record HasReadSome (fs rest : List (Text × Text)) (before after : S) (old new : BTreeMap (String Global) Template) : Type 0 where
+    pub read : List Loaded
+    pub holds : (ls : List Loaded) → HoldsTrees ls old → HoldsTrees (ls ++ read) new
+    pub goes_on : (ls : List Loaded) (o : Result (Unit {0}) Stop) (u : S) → ReadsFiles rest after ls o u
+        → ReadsFiles fs before (read ++ ls) o u
+
   -- The files are read and compiled in turn, up to one that is refused, as the error tells.
   pub record FailsReading (fs : List (Text × Text)) (before after : S) (e : TemplateError) : Type 0 where
     pub read : List Loaded
@@ -107,3 +116,15 @@ module _ {S : Type 0} (reads : S → Text → Result (String Global) Error → S
     at_a_file : {read : List Loaded} {f : TemplateRefusal} → ReadsFor read (Err (refusal f))
         → RefusesReading Refuses (plain_refusal (of_template f))
     behind_all : {read : List Loaded} {f : Refusal} → ReadsFor read (Ok tt) → Refuses read f → RefusesReading Refuses f
+
+-- ---- renderings of a source
+
+module _ {S : Type 0} (reads : S → Text → Result (String Global) Error → S → Type 0) {E : Type 0} (r : RegistryOf E)
+    (options : Options) (source : Text) (before after : S) (Refuses : List Loaded → Refusal → Type 0) where
+  -- A source that doesn't compile is refused, and no file is asked for; else the refusal is that of a file, or behind the
+  -- reading of all, with their trees.
+  pub data RefusesSource : Refusal → Type 0 where
+    not_compiled : {f : TemplateRefusal} → Compiles source options (refused f) → after ≡ before
+        → RefusesSource (plain_refusal (of_template f))
+    is_compiled : {t : Tree} {f : Refusal} → Compiles source options (compiled t)
+        → RefusesReading reads r None before after Refuses f → RefusesSource f

@@ -15,7 +15,7 @@ use Rattle.handlebars_tags.specs.Options.{Options}
 use Rattle.handlebars_template.specs.Compile.{Compiles, compiled, refused}
 use Rattle.handlebars_template.specs.Tree.{Tree}
 use Rattle.handlebars_template.specs.TreeView.{tree_view}
-use Rattle.handlebars_template.specs.declared.template.Template.{Template}
+use Rattle.handlebars_template.specs.declared.template.tree.Template.{Template}
 use Rattle.handlebars.specs.View.{modes_of, stored}
 use Rattle.handlebars.specs.declared.registry.RegistryOf.{RegistryOf}
 use Rattle.handlebars.specs.declared.registry.dev.DevFiles.{DevFiles}

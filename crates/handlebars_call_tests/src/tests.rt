@@ -4,6 +4,7 @@ mod blocks_of_scope;
 mod changes;
 mod contexts;
 mod decorators;
+mod dev_mode;
 mod files;
 mod helpers;
 mod inclusions;

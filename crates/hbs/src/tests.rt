@@ -280,7 +280,7 @@ const BROKEN_PARTIAL: &str = r#"Template error: invalid handlebars syntax: unrea
     --> Template error in "a":1:1
      |
    0 | {{x
-     |^--
+     |-^-
      |
      = reason: invalid handlebars syntax: unreadable tag
 

@@ -1,11 +1,11 @@
 //! Dev mode: templates of files are read anew at each rendering.
 
-ghost use Rattle.std.specs.Prelude.{◌≡◌, ◌≢◌, ◌++◌, ◌∷◌, [], IfOk, IfErr, OnErr, OnOk, List, map, None, Some, Ok, Err, cond, option_map, string_bytes};
+ghost use Rattle.std.specs.Prelude.{◌≡◌, ◌≢◌, ◌++◌, ◌∷◌, [], IfOk, IfErr, OnErr, OnOk, List, map, None, Some, Ok, Err, false, cond, option_map, string_bytes};
 ghost use Rattle.std.specs.Str.{bytes_eq};
 ghost use Rattle.handlebars_base.specs.Bytes.{Text};
 ghost use Rattle.handlebars_template.specs.Tree.{Tree};
 ghost use Rattle.handlebars_template.specs.TreeView.{tree_view};
-ghost use Rattle.handlebars.specs.Dev.{FailsReading, HoldsTrees, ReadsFiles, ReadsInto, asked_file, files_for, is_asked, is_known, others};
+ghost use Rattle.handlebars.specs.Dev.{FailsReading, HoldsTrees, ReadsFiles, ReadsInto, asked_file, file_at, files_for, is_asked, is_known, others};
 ghost use Rattle.handlebars.specs.Files.{Loaded, file_of, files_of, is_dev, remembered, tree_in};
 ghost use Rattle.handlebars.specs.Store.{HasSameTemplates};
 ghost use Rattle.handlebars.specs.View.{modes_of};
@@ -48,12 +48,14 @@ impl<E: Drop> RegistryOf<E> {
             (files_for self.now (option_map (λ s. s.now) asked.entry)) files.old read (Ok tt) files.new × HoldsTrees read trees) }
         ensures err { IfErr result (λ e. FailsReading R.reads (modes_of self.now).prevent_indent
             (files_for self.now (option_map (λ s. s.now) asked.entry)) files.old files.new e) }
+        ensures unread { is_dev self.now ≡ false → files.new ≡ files.old }
     {
         let mut trees = BTreeMap::new(self.alloc);
-        if self.is_known(asked) {
-            self.read_asked(asked, files, &mut trees)?;
-            self.read_others(asked, files, &mut trees)?;
+        if !self.is_known(asked) {
+            return Ok(trees);
         }
+        self.read_asked(asked, files, &mut trees)?;
+        self.read_others(asked, files, &mut trees)?;
         Ok(trees)
     }
 
@@ -78,10 +80,27 @@ impl<E: Drop> RegistryOf<E> {
             (asked_file (option_map (λ s. s.now) asked.entry) (remembered self.now)) files.old files.new trees.old trees.new) }
         ensures err { IfErr result (λ e. FailsReading R.reads (modes_of self.now).prevent_indent
             (asked_file (option_map (λ s. s.now) asked.entry) (remembered self.now)) files.old files.new e) }
+        ensures unread { is_dev self.now ≡ false → files.new ≡ files.old }
     {
-        let Some(name) = asked else {
-            return Ok(());
-        };
+        match asked {
+            Some(name) => self.read_remembered(name, files, trees),
+            None => Ok(()),
+        }
+    }
+
+    // The file of a name, if one is remembered.
+    fn read_remembered<R: TemplateReader>(
+        &self,
+        name: &str,
+        files: &mut R,
+        trees: &mut BTreeMap<String, Template>,
+    ) -> Result<(), TemplateError>
+        ensures ok { OnOk result (ReadsInto R.reads (modes_of self.now).prevent_indent
+            (file_at name.now (remembered self.now name.now)) files.old files.new trees.old trees.new) }
+        ensures err { IfErr result (λ e. FailsReading R.reads (modes_of self.now).prevent_indent
+            (file_at name.now (remembered self.now name.now)) files.old files.new e) }
+        ensures unread { is_dev self.now ≡ false → files.new ≡ files.old }
+    {
         match self.dev.path(name) {
             Some(path) => self.read_into(name, path.as_str(), files, trees),
             None => Ok(()),
@@ -99,6 +118,7 @@ impl<E: Drop> RegistryOf<E> {
             (others (option_map (λ s. s.now) asked.entry) (files_of self.now)) files.old files.new trees.old trees.new) }
         ensures err { IfErr result (λ e. FailsReading R.reads (modes_of self.now).prevent_indent
             (others (option_map (λ s. s.now) asked.entry) (files_of self.now)) files.old files.new e) }
+        ensures unread { is_dev self.now ≡ false → files.new ≡ files.old }
     {
         match self.dev.paths() {
             Some(paths) => self.read_all_but(asked, paths, files, trees),

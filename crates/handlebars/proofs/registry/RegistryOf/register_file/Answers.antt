@@ -1,6 +1,7 @@
 use Rattle.std.proofs.Common.{option_map, refl, sym, ap, ◌∙◌}
 use Rattle.std.specs.Prelude.{is_some, string_bytes}
 use Rattle.std.specs.Str.{bytes_eq}
+use Rattle.std.proofs.lemmas.Result.{err_from_is_err_and}
 use Rattle.handlebars_template.specs.TreeView.{tree_view}
 use Rattle.handlebars.specs.Files.{is_dev, path_in, remembered}
 use Rattle.handlebars.specs.View.{stored}
@@ -9,13 +10,15 @@ use Rattle.handlebars.proofs.TakenBack.{taken-back}
 use Rattle.handlebars.proofs.registry.RegistryOf.register_file.Goals as goal
 
 pub returns-in_err-before-clause-kept : goal.returns-in_err-before-clause-kept
-returns-in_err-before-clause-kept g c = record {
-  trees = λ n. refl;
-  files = λ n. c.in_err-before.ensures.err n ∙ sym (cond-same (is_dev c.args.self.now) (remembered c.args.self.now n));
-  entries = refl;
-  modes = refl;
-  dev = c.in_err-before.ensures.on;
-}
+returns-in_err-before-clause-kept g c =
+    let p = err_from_is_err_and c.from_residual.result c.from_residual.ensures.1 in
+    rw p.1 (record {
+      trees = λ n. refl;
+      files = λ n. c.in_err-before.ensures.err n ∙ sym (cond-same (is_dev c.args.self.now) (remembered c.args.self.now n));
+      entries = refl;
+      modes = refl;
+      dev = c.in_err-before.ensures.on;
+    })
 
 pub returns-in-Ok-clause-ok : goal.returns-in-Ok-clause-ok
 returns-in-Ok-clause-ok g c = record {

@@ -18,7 +18,7 @@ returns-in_err-template-clause-kept g c =
 
 pub returns-in_err-register_file-clause-err : goal.returns-in_err-register_file-clause-err
 returns-in_err-register_file-clause-err g c =
-    let p = err_from_is_err_and c.from_residual.result c.from_residual.ensures.1 in
+    let p = err_from_is_err_and c.from_residual-in_err-register_file.result c.from_residual-in_err-register_file.ensures.1 in
     rw p.1 (no_memory, ap (λ r. r.reason) p.2, loads-in_want _ _ _ _ _ _ _ c.in_ok-template.ensures.ok)
 
 pub returns-clause-ok : goal.returns-clause-ok
