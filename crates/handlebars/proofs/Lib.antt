@@ -1,4 +1,5 @@
 pub mod AnswerLaws
+pub mod DevLaws
 pub mod Loaded
 pub mod Loads
 pub mod OverLaws
@@ -10,4 +11,5 @@ pub mod Stored
 pub mod TakenBack
 pub mod Texts
 pub mod Walks
+pub mod WithoutFiles
 mod Evaluated

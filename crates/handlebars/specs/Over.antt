@@ -1,10 +1,8 @@
 -- What a run reads where trees that were read are laid over those of a registry.
 use Rattle.std.specs.BTreeMap.{BTreeMap}
 use Rattle.std.specs.Global.{Global}
-use Rattle.std.specs.Prelude.{List, Option, None, Some, String}
-use denote.Ref.{Bor}
+use Rattle.std.specs.Prelude.{◌≡◌, List, String}
 use Rattle.handlebars_base.specs.Bytes.{Text}
-use Rattle.handlebars_template.specs.Tree.{Tree}
 use Rattle.handlebars_template.specs.declared.template.tree.Template.{Template}
 use Rattle.handlebars_scope.specs.declared.context.Context.{Context}
 use Rattle.handlebars_helpers.specs.OwnAnswers.{OwnAnswers, Registered}
@@ -12,17 +10,13 @@ use Rattle.handlebars_meaning.specs.Laws.{with_templates}
 use Rattle.handlebars_meaning.specs.State.{Parts, Setting}
 use Rattle.handlebars.specs.Dev.{stored_under}
 use Rattle.handlebars.specs.Files.{Loaded, laid_over, tree_in}
-use Rattle.handlebars.specs.View.{parts_of, setting_of, stored}
+use Rattle.handlebars.specs.View.{modes_of, parts_of, setting_of, stored}
 use Rattle.handlebars.specs.declared.registry.RegistryOf.{RegistryOf}
 
--- the trees of a map, if there is one, over others
-abbrev pub trees_over : Option (Bor (BTreeMap (String Global) Template)) → (Text → Option Tree) → Text → Option Tree
-trees_over None below = below
-trees_over (Some trees) below = laid_over (tree_in trees.now) below
-
 module _ {E : Type 0} (registered : E → Registered) (own : E → OwnAnswers) where
-  abbrev pub parts_over : Option (Bor (BTreeMap (String Global) Template)) → RegistryOf E → Parts
-  parts_over read r = record (parts_of registered own r) { template = trees_over read (stored r) }
+  -- what a run reads, with the trees of a map over those of a registry
+  abbrev pub parts_over : BTreeMap (String Global) Template → RegistryOf E → Parts
+  parts_over trees r = record (parts_of registered own r) { template = laid_over (tree_in trees) (stored r) }
 
   -- the setting of a run, with the trees of a map over those of a registry
   abbrev pub setting_with : BTreeMap (String Global) Template → RegistryOf E → Context → Setting
@@ -31,3 +25,9 @@ module _ {E : Type 0} (registered : E → Registered) (own : E → OwnAnswers) w
   -- the same with trees that were read
   abbrev pub setting_over : List Loaded → RegistryOf E → Context → Setting
   setting_over read r c = with_templates (stored_under read r) (setting_of registered own r c)
+
+-- A registry holds the trees that were read, laid over those of one in dev mode, and is else the same.
+pub record HoldsRead {E : Type 0} (read : List Loaded) (dev plain : RegistryOf E) : Type 0 where
+  pub entries : plain.entries ≡ dev.entries
+  pub modes : modes_of plain ≡ modes_of dev
+  pub trees : (name : Text) → stored plain name ≡ stored_under read dev name

@@ -2,7 +2,14 @@
 
 ghost use Rattle.handlebars_meaning.specs.Counted.{RendersCounted, JudgesCounted, EqualsCounted, ComparesCounted, WalksCounted};
 ghost use Rattle.handlebars_meaning.specs.Laws.{OneRun, StopsInBeginning, ComesOnce, ComesInTrees, AllHaveOrigins, ElementHasOrigins, OnlyNamedCount, SameUnderLarger};
-ghost use Rattle.handlebars.specs.View.{setting_of};
+ghost use Rattle.std.specs.Prelude.{List};
+ghost use Rattle.handlebars_base.specs.Bytes.{Text};
+ghost use Rattle.handlebars_base.specs.Reasons.{Refusal};
+ghost use Rattle.handlebars_meaning.specs.Answer.{FromName, FromSource, GivesText, RefusesWith};
+ghost use Rattle.handlebars.specs.Dev.{stored_under};
+ghost use Rattle.handlebars.specs.Files.{Loaded};
+ghost use Rattle.handlebars.specs.Over.{HoldsRead, setting_over};
+ghost use Rattle.handlebars.specs.View.{options_of, setting_of, stored};
 
 use crate::registry::RegistryOf;
 pub use handlebars_base::laws::{
@@ -35,6 +42,23 @@ pub fn laws_of_runs<E: OwnParts>(registry: &RegistryOf<E>, context: &Context)
 {
     registry.entries.keeps_law();
 }
+
+/// In dev mode, where every file was read and compiled, an answer is that of a registry without it that holds the trees that
+/// were read and is else the same.
+pub fn dev_mode_law<E: OwnParts>(context: &Context)
+    ensures text_by_name { (dev plain : RegistryOf E) (read : List Loaded) → HoldsRead read dev plain → (name text : Text)
+        → GivesText (setting_over E.registered E.own read dev context.now) (FromName (stored_under read dev) name) text
+        → GivesText (setting_of E.registered E.own plain context.now) (FromName (stored plain) name) text }
+    ensures refusal_by_name { (dev plain : RegistryOf E) (read : List Loaded) → HoldsRead read dev plain → (name : Text) (f : Refusal)
+        → RefusesWith (setting_over E.registered E.own read dev context.now) (FromName (stored_under read dev) name) f
+        → RefusesWith (setting_of E.registered E.own plain context.now) (FromName (stored plain) name) f }
+    ensures text_by_source { (dev plain : RegistryOf E) (read : List Loaded) → HoldsRead read dev plain → (source text : Text)
+        → GivesText (setting_over E.registered E.own read dev context.now) (FromSource (options_of dev) source) text
+        → GivesText (setting_of E.registered E.own plain context.now) (FromSource (options_of plain) source) text }
+    ensures refusal_by_source { (dev plain : RegistryOf E) (read : List Loaded) → HoldsRead read dev plain → (source : Text) (f : Refusal)
+        → RefusesWith (setting_over E.registered E.own read dev context.now) (FromSource (options_of dev) source) f
+        → RefusesWith (setting_of E.registered E.own plain context.now) (FromSource (options_of plain) source) f }
+{}
 
 /// A number outside the range counts as null wherever it stands: neither the text of a value, its truth, its
 /// equality or order with another one, nor where names lead in it tells it from what it counts as.

@@ -104,11 +104,7 @@ impl Renderable for Template {
         log: &L,
     ) -> Result<(), RenderError> {
         ready(rc)?;
-        let parts = &Logging {
-            registry,
-            read: None,
-            log,
-        };
+        let parts = &Logging { registry, log };
         let setting = Setting {
             alloc,
             parts,
@@ -139,11 +135,7 @@ impl Renderable for TemplateElement {
         log: &L,
     ) -> Result<(), RenderError> {
         ready(rc)?;
-        let parts = &Logging {
-            registry,
-            read: None,
-            log,
-        };
+        let parts = &Logging { registry, log };
         let setting = Setting {
             alloc,
             parts,

@@ -67,11 +67,7 @@ impl Evaluable for Template {
         log: &L,
     ) -> Result<(), RenderError> {
         ready(rc)?;
-        let parts = &Logging {
-            registry,
-            read: None,
-            log,
-        };
+        let parts = &Logging { registry, log };
         let setting = Setting {
             alloc,
             parts,
@@ -103,11 +99,7 @@ impl Evaluable for TemplateElement {
         log: &L,
     ) -> Result<(), RenderError> {
         ready(rc)?;
-        let parts = &Logging {
-            registry,
-            read: None,
-            log,
-        };
+        let parts = &Logging { registry, log };
         let setting = Setting {
             alloc,
             parts,

@@ -84,11 +84,7 @@ impl Expand for Parameter {
         log: &L,
     ) -> Result<PathAndJson<'rc>, RenderError> {
         ready(rc)?;
-        let parts = &Logging {
-            registry,
-            read: None,
-            log,
-        };
+        let parts = &Logging { registry, log };
         let answer = value::expand(
             &Setting {
                 alloc,
@@ -114,11 +110,7 @@ impl Expand for Parameter {
         log: &L,
     ) -> Result<CowStr<'rc>, RenderError> {
         ready(rc)?;
-        let parts = &Logging {
-            registry,
-            read: None,
-            log,
-        };
+        let parts = &Logging { registry, log };
         let answer = value::expand_as_name(
             &Setting {
                 alloc,

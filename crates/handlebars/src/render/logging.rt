@@ -1,6 +1,6 @@
-//! What a run is given: a registry, trees that were read, and a logger.
+//! What a run is given: a registry and a logger.
 
-ghost use Rattle.handlebars.specs.Over.{parts_over};
+ghost use Rattle.handlebars.specs.View.{parts_of};
 
 use crate::registry::RegistryOf;
 use handlebars_base::error::RenderError;
@@ -14,18 +14,16 @@ use handlebars_render::registered::Registered;
 use handlebars_scope::context::Context;
 use handlebars_template::template::Template;
 use log::{Level, Log, log};
-use std::collections::BTreeMap;
 
-/// A registry, trees that were read in place of its own ones, if any were, and the logger of a run.
+/// A registry, and the logger of a run.
 #[derive(Drop)]
 pub struct Logging<'r, E, L> {
     pub registry: &'r RegistryOf<E>,
-    pub read: Option<&'r BTreeMap<String, Template>>,
     pub log: &'r L,
 }
 
 impl<E: OwnParts, L: Log> Registered for Logging<'_, E, L> {
-    ghost parts = { λ x. parts_over E.registered E.own x.read x.registry.now };
+    ghost parts = { λ x. parts_of E.registered E.own x.registry.now };
 
     fn helper(&self, name: &str) -> Option<Callee> {
         self.registry.entries.helper(name)
@@ -83,10 +81,7 @@ impl<E: OwnParts, L: Log> Registered for Logging<'_, E, L> {
     }
 
     fn template(&self, name: &str) -> Option<&Template> {
-        match self.read {
-            Some(read) => self.registry.template_over(read, name),
-            None => self.registry.get_template(name),
-        }
+        self.registry.get_template(name)
     }
 
     fn limit(&self) -> u16 {

@@ -6,22 +6,114 @@ ghost use Rattle.handlebars_base.specs.RenderRefusals.{refusal_of, plain_refusal
 ghost use Rattle.handlebars_template.specs.TreeView.{tree_view};
 ghost use Rattle.handlebars_meaning.specs.Means.{render_tree};
 ghost use Rattle.handlebars_render.specs.View.{state_of, has_failed, first_moment, CarriesOut, GivesString, RefusesString};
-ghost use Rattle.handlebars.specs.Over.{setting_with};
+ghost use Rattle.handlebars.specs.Over.{parts_over, setting_with};
 
 use crate::registry::RegistryOf;
-use crate::render::logging::Logging;
 use handlebars_base::error::RenderError;
 use handlebars_base::output::{Output, StringOutput};
+use handlebars_helpers::decorators::view::Decorator;
+use handlebars_helpers::decorators::{DecoratorKind, DecoratorResult};
 use handlebars_helpers::entries::OwnParts;
+use handlebars_helpers::escape::Escaping;
+use handlebars_helpers::own::{Callee, HelperResult, HelperValue};
+use handlebars_helpers::view::Helper;
 use handlebars_render::context::RenderContext;
 use handlebars_render::entry::render_into;
 use handlebars_render::failure::{fail_after, ready};
+use handlebars_render::registered::Registered;
 use handlebars_render::setting::Setting;
 use handlebars_scope::context::Context;
 use handlebars_template::template::Template;
-use log::Log;
+use log::{Level, Log, log};
 use std::alloc::Global;
 use std::collections::BTreeMap;
+
+/// A registry, trees that were read in place of its own ones of the same names, and the logger of a run.
+#[derive(Drop)]
+pub struct Over<'r, E, L> {
+    pub registry: &'r RegistryOf<E>,
+    pub read: &'r BTreeMap<String, Template>,
+    pub log: &'r L,
+}
+
+impl<E: OwnParts, L: Log> Registered for Over<'_, E, L> {
+    ghost parts = { λ x. parts_over E.registered E.own x.read.now x.registry.now };
+
+    fn helper(&self, name: &str) -> Option<Callee> {
+        self.registry.entries.helper(name)
+    }
+
+    fn steps_of(
+        &self,
+        name: &str,
+        view: &Helper,
+        given: &Context,
+        changed: Option<&Context>,
+    ) -> HelperResult {
+        let strict = self.registry.strict_mode();
+        self.registry
+            .entries
+            .steps_of(name, view, given, changed, strict)
+    }
+
+    fn offer_of(
+        &self,
+        name: &str,
+        view: &Helper,
+        given: &Context,
+        changed: Option<&Context>,
+    ) -> Result<HelperValue, RenderError> {
+        let strict = self.registry.strict_mode();
+        self.registry
+            .entries
+            .offer_of(name, view, given, changed, strict)
+    }
+
+    fn decorator(&self, name: &str) -> Option<DecoratorKind> {
+        self.registry.entries.decorator(name)
+    }
+
+    fn deeds_of(
+        &self,
+        name: &str,
+        tag: &Decorator,
+        given: &Context,
+        changed: Option<&Context>,
+    ) -> DecoratorResult {
+        let strict = self.registry.strict_mode();
+        self.registry
+            .entries
+            .deeds_of(name, tag, given, changed, strict)
+    }
+
+    fn escape(&self) -> Escaping {
+        self.registry.entries.escape()
+    }
+
+    fn escaped(&self, text: &str) -> Result<String, RenderError> {
+        self.registry.entries.escaped(text)
+    }
+
+    fn template(&self, name: &str) -> Option<&Template> {
+        self.registry.template_over(self.read, name)
+    }
+
+    fn limit(&self) -> u16 {
+        self.registry.inclusion_limit()
+    }
+
+    fn strict(&self) -> bool {
+        self.registry.strict_mode()
+    }
+
+    fn log(&self, level: Level, text: &str) {
+        log!(self.log; level, "{text}");
+    }
+
+    fn keeps_law(&self) {
+        self.registry.entries.keeps_law();
+    }
+}
 
 /// Renders a tree into an output, as `Renderable::render` does, with the trees that were read in place of those of the
 /// registry under the same names.
@@ -42,9 +134,9 @@ pub fn render_over<E: OwnParts, L: Log, O: Output>(
         × (rc.new ≡ rc.old) × (O.held out.new ≡ O.held out.old) }
 {
     ready(rc)?;
-    let parts = &Logging {
+    let parts = &Over {
         registry,
-        read: Some(read),
+        read,
         log,
     };
     let setting = Setting {

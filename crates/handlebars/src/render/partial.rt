@@ -48,11 +48,7 @@ pub fn expand_partial<E: OwnParts, L: Log, O: Output>(
     ensures err { OnErr result (has_failed rc.new ≡ true) }
 {
     ready(rc)?;
-    let parts = &Logging {
-            registry,
-            read: None,
-            log,
-        };
+    let parts = &Logging { registry, log };
     let setting = Setting {
         alloc,
         parts,
