@@ -1,5 +1,5 @@
 -- What a walk of a folder registers.
-use Rattle.std.proofs.Common.{◌≡◌, ◌≢◌, ◌+◌, ◌<◌, ◌≤◌, ℕ, suc, add-one, drop, drop-cons, get_or, length, Bool, true, false, List, [], ◌∷◌, ◌++◌, Result, Ok, Err, String, Global, refl, sym, ap, ◌∙◌, subst, append-nil, append_assoc}
+use Rattle.std.proofs.Common.{◌≡◌, ◌≢◌, ◌+◌, ◌<◌, ◌≤◌, ℕ, zero, suc, arith, add-one, drop, drop-cons, get_or, length, Bool, true, false, List, [], ◌∷◌, ◌++◌, Result, Ok, Err, String, Global, refl, sym, ap, ◌∙◌, subst, append-nil, append_assoc}
 use Rattle.std.proofs.Math.ListN.{drop_of_length-le}
 use Rattle.std.specs.Global.{Vec}
 use Rattle.std.specs.IoError.{error_kind}
@@ -238,3 +238,7 @@ module _ {S : Type 0} (reads : S → Text → Result (String Global) Error → S
       → Registers reads lists c (an_entry p x) old new s t answer
   entry-of-kind p x kind old new s t answer is r =
       subst (λ z. Registers reads lists c (an_entry p (x.0, z)) old new s t answer) (sym is) r
+
+pub zero-from : (n : ℕ) → (1 ≤ n → ⊥) → n ≡ 0
+zero-from zero small = refl
+zero-from (suc n) small = absurd (small (omega arith))
