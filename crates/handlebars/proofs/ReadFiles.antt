@@ -69,11 +69,11 @@ module _ {S : Type 0} (reads : S → Text → Result (String Global) Error → S
   into-one name path made a b l put =
       let one : Loaded = record { name = name; path = path; tree = made } in
       record {
-    read = one ∷ [];
-    reads_all = loads l no_file;
-    holds = λ ls h n. put n ∙ ap (cond (bytes_eq name n) (Some made)) (h n)
-        ∙ put-laid (bytes_eq name n) made (tree_among ls n) ∙ sym (last_under-append (λ x. x.tree) ls (one ∷ []) n);
-  }
+        read = one ∷ [];
+        reads_all = loads l no_file;
+        holds = λ ls h n. put n ∙ ap (cond (bytes_eq name n) (Some made)) (h n)
+            ∙ put-laid (bytes_eq name n) made (tree_among ls n) ∙ sym (last_under-append (λ x. x.tree) ls (one ∷ []) n);
+      }
 
   pub fails-one : (name path : Text) {s t : S} (e : TemplateError)
       → ((why : Stop) × IsStopFor e why × LoadsFile reads prevents name path s (Err why) t)

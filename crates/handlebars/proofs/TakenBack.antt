@@ -35,7 +35,7 @@ pub taken-back : (old rem mid last : Option (BTreeMap (String Global) (String Gl
     → path_in last n ≡ path_in old n
 taken-back old rem mid last name path n before same on was put back =
     let back' = subst (λ z. is_some (path_in z name) ≡ is_some z
-        → (m : Text) → path_in last m ≡ path_put (is_some z) name before (path_in z) m) same back in
+    → (m : Text) → path_in last m ≡ path_put (is_some z) name before (path_in z) m) same back in
     let there = ap is_some (put name) ∙ path_put-there old name path ∙ sym on in
     back' there n ∙ ap (λ d. path_put d name before (path_in rem) n) on
     ∙ path_put-back (is_some old) name n path (path_in old) (path_in rem) before was put

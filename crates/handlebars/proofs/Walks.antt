@@ -83,11 +83,11 @@ module _ {S : Type 0} (reads : S → Text → Result (String Global) Error → S
       → Registers reads lists c (an_entry p (name, File)) old new s t answer
   file-named p name given path below old new s t answer is_path is_below is_name taken =
       subst (λ z. OnOk answer ((tree : Tree) × LoadsFile reads (modes_of old).prevent_indent z path s (Ok tree) t
-          × HasLoaded (record { name = z; path = path; tree = tree } ∷ []) old new)
-          → IfErr answer (λ e. (why : Stop) × IsStopFor e why
-          × LoadsFile reads (modes_of old).prevent_indent z path s (Err why) t)
-          → OnErr answer (HasLoaded [] old new)
-          → Registers reads lists c (an_entry p (name, File)) old new s t answer) (sym is_name)
+      × HasLoaded (record { name = z; path = path; tree = tree } ∷ []) old new)
+      → IfErr answer (λ e. (why : Stop) × IsStopFor e why
+      × LoadsFile reads (modes_of old).prevent_indent z path s (Err why) t)
+      → OnErr answer (HasLoaded [] old new)
+      → Registers reads lists c (an_entry p (name, File)) old new s t answer) (sym is_name)
       (file-registers p name path below old new s t answer is_path is_below taken)
 
   pub file-passes : (p : Place) (name : String Global) (path : Text) (r : RegistryOf E) (s : S)
@@ -140,9 +140,9 @@ module _ {S : Type 0} (reads : S → Text → Result (String Global) Error → S
       → Registers reads lists c (an_entry p (name, Folder)) old new s t answer
   folder-enters p name levels path front old new s t answer is_path is_front deeper r =
       let r' = subst (λ z. Registers reads lists c
-          (a_folder (record { path = path_at p (string_bytes name); front = z; levels = levels })) old new s t answer) is_front
-          (subst (λ z. Registers reads lists c (a_folder (record { path = z; front = front; levels = levels })) old new s t answer)
-          is_path r) in
+      (a_folder (record { path = path_at p (string_bytes name); front = z; levels = levels })) old new s t answer) is_front
+      (subst (λ z. Registers reads lists c (a_folder (record { path = z; front = front; levels = levels })) old new s t answer)
+      is_path r) in
       record { loaded = r'.loaded; end = r'.end; walks = enters deeper r'.walks; tells = r'.tells; has = r'.has }
 
   pub folder-too_deep : (p : Place) (name : String Global) (r : RegistryOf E) (s : S) → p.levels ≡ 0
@@ -169,7 +169,7 @@ module _ {S : Type 0} (reads : S → Text → Result (String Global) Error → S
       × GoesOn reads lists (modes_of old).prevent_indent c ls p xs (x ∷ drop (i + 1) xs) s t
   next-entry p x xs i old mid s t within is before =
       subst (λ zs. (ls : List Loaded) × HasLoaded ls old mid
-          × GoesOn reads lists (modes_of old).prevent_indent c ls p xs zs s t)
+      × GoesOn reads lists (modes_of old).prevent_indent c ls p xs zs s t)
       (drop-cons xs i x within ∙ ap (λ z. z ∷ drop (suc i) xs) (sym is) ∙ ap (λ n. x ∷ drop n xs) (sym (add-one i))) before
 
   entry-went : (p : Place) (x : Entry) (xs rest : List Entry) (old mid new : RegistryOf E) (s t u : S) (done : Unit {0})
@@ -178,11 +178,13 @@ module _ {S : Type 0} (reads : S → Text → Result (String Global) Error → S
       → (end : Result (Unit {0}) Stop) → Tells (λ (z : Unit {0}). z) (Ok done) end
       → Walks reads lists (modes_of mid).prevent_indent c (an_entry p x) t loaded end u
       → (ls : List Loaded) × HasLoaded ls old new × GoesOn reads lists (modes_of old).prevent_indent c ls p xs rest s u
-  entry-went p x xs rest old mid new s t u done before loaded has (Ok v) tells w =
-      (before.0 ++ loaded, loaded-then old mid new before.1 has,
-      λ ms o z rests. subst (λ ls. Walks reads lists (modes_of old).prevent_indent c (entries_of p xs) s ls o z)
-          (sym (append_assoc before.0 loaded ms))
-          (before.2 (loaded ++ ms) o z (goes_on (over-walk old mid before.1.modes w) rests)))
+  entry-went p x xs rest old mid new s t u done before loaded has (Ok v) tells w = (
+    before.0 ++ loaded,
+    loaded-then old mid new before.1 has,
+    λ ms o z rests. subst (λ ls. Walks reads lists (modes_of old).prevent_indent c (entries_of p xs) s ls o z)
+        (sym (append_assoc before.0 loaded ms))
+        (before.2 (loaded ++ ms) o z (goes_on (over-walk old mid before.1.modes w) rests)),
+  )
   entry-went p x xs rest old mid new s t u done before loaded has (Err why) tells w = absurd tells
 
   pub entry-goes_on : (p : Place) (x : Entry) (xs : List Entry) (i : ℕ) (old mid new : RegistryOf E) (s t u : S) (done : Unit {0})

@@ -107,7 +107,6 @@ module _ {S : Type 0} (reads : S → Text → Result (String Global) Error → S
         → Walks (a_folder p) s [] (Ok tt) t
     listed_in_want : {p : Place} {answer : Result (Vec Entry) Error} {s t : S} → lists s p.path answer t
         → Walks (a_folder p) s [] (Err no_memory) t
-
     -- An entry is walked, and then the rest; where one is refused, nothing follows.
     no_entry : {p : Place} {s : S} → Walks (entries_of p []) s [] (Ok tt) s
     goes_on : {p : Place} {x : Entry} {xs : List Entry} {s t u : S} {ls ms : List Loaded} {o : Result (Unit {0}) Stop}
@@ -115,7 +114,6 @@ module _ {S : Type 0} (reads : S → Text → Result (String Global) Error → S
         → Walks (entries_of p (x ∷ xs)) s (ls ++ ms) o u
     ends : {p : Place} {x : Entry} {xs : List Entry} {s t : S} {ls : List Loaded} {why : Stop}
         → Walks (an_entry p x) s ls (Err why) t → Walks (entries_of p (x ∷ xs)) s ls (Err why) t
-
     -- A file that is taken is registered, or refused.
     takes : {p : Place} {name : String Global} {s t : S} {tree : Tree}
         → is_taken c (path_at p (string_bytes name)) (string_bytes name) ≡ true → LoadsAt p (string_bytes name) s (Ok tree) t
@@ -126,13 +124,11 @@ module _ {S : Type 0} (reads : S → Text → Result (String Global) Error → S
     passes : {p : Place} {name : String Global} {s : S}
         → is_taken c (path_at p (string_bytes name)) (string_bytes name) ≡ false
         → Walks (an_entry p (name, File)) s [] (Ok tt) s
-
     -- A folder is walked where it stands, unless it is too deep.
     enters : {p : Place} {name : String Global} {levels : ℕ} {s t : S} {ls : List Loaded} {o : Result (Unit {0}) Stop}
         → p.levels ≡ levels + 1 → Walks (a_folder (folder_at p (string_bytes name) levels)) s ls o t
         → Walks (an_entry p (name, Folder)) s ls o t
     too_deep : {p : Place} {name : String Global} {s : S} → p.levels ≡ 0 → Walks (an_entry p (name, Folder)) s [] (Ok tt) s
-
     -- There may be no memory on the way.
     in_want : {k : Task} {s : S} → Walks k s [] (Err no_memory) s
 

@@ -55,7 +55,7 @@ impl TemplateReader for Kept {
         match folder {
             "f" => Ok(vec![in self.alloc;
                 (String::from_str(self.alloc, "b")?, EntryKind::Folder),
-                (String::from_str(self.alloc, "a.hbs")?, EntryKind::File)
+                (String::from_str(self.alloc, "a.hbs")?, EntryKind::File),
             ]?),
             "f/b" => {
                 Ok(vec![in self.alloc; (String::from_str(self.alloc, "c.hbs")?, EntryKind::File)]?)

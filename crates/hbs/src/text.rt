@@ -1,9 +1,7 @@
 //! The text that a run prints.
 
 use crate::failure::Failure;
-use handlebars::{
-    Context, DirectorySourceOptions, JsonValue, NoFiles, Registry, TemplateReader,
-};
+use handlebars::{Context, DirectorySourceOptions, JsonValue, NoFiles, Registry, TemplateReader};
 use log::sink::Discard;
 use std::alloc::Global;
 

@@ -12,7 +12,11 @@ const FOLDERS: &[(&str, &[&str])] = &[("d", &["t.hbs", "b.hbs", "a.hbs"])];
 
 const FIRST: &[(&str, &str)] = &[("d/t.hbs", "A"), ("d/a.hbs", "a"), ("d/b.hbs", "b")];
 
-const SECOND: &[(&str, &str)] = &[("d/t.hbs", "B{{> a}}"), ("d/a.hbs", "aa"), ("d/b.hbs", "{{a")];
+const SECOND: &[(&str, &str)] = &[
+    ("d/t.hbs", "B{{> a}}"),
+    ("d/a.hbs", "aa"),
+    ("d/b.hbs", "{{a"),
+];
 
 // What a template gives over no data, and which files are asked for.
 fn gives(
@@ -55,15 +59,20 @@ fn registry_of_files(rt: &impl Abort, alloc: Global, files: &mut Shelf<'_>) -> R
     registry
 }
 
-const NO_B: &str = r#"Err(RenderError { template_name: None, line_no: None, column_no: None, reason: TemplateError(TemplateError { reason: IoError(Kind(PermissionDenied), "b"), template_name: None, line_no: None, column_no: None, segment: None }) })"#;
+const NO_B: &str =
+    r#"Err(RenderError { template_name: None, line_no: None, column_no: None, reason: TemplateError(TemplateError { reason: IoError(Kind(PermissionDenied), "b"), template_name: None, line_no: None, column_no: None, segment: None }) })"#;
 
-const BAD_B: &str = r#"Err(RenderError { template_name: None, line_no: None, column_no: None, reason: TemplateError(TemplateError { reason: InvalidSyntax("unreadable tag"), template_name: Some("b"), line_no: Some(1), column_no: Some(1), segment: Some("   0 | {{a\n     |-^-\n") }) })"#;
+const BAD_B: &str =
+    r#"Err(RenderError { template_name: None, line_no: None, column_no: None, reason: TemplateError(TemplateError { reason: InvalidSyntax("unreadable tag"), template_name: Some("b"), line_no: Some(1), column_no: Some(1), segment: Some("   0 | {{a\n     |-^-\n") }) })"#;
 
-const NOT_FOUND: &str = r#"Err(RenderError { template_name: None, line_no: None, column_no: None, reason: TemplateNotFound("no") })"#;
+const NOT_FOUND: &str =
+    r#"Err(RenderError { template_name: None, line_no: None, column_no: None, reason: TemplateNotFound("no") })"#;
 
-const NOT_COMPILED: &str = r#"Err(RenderError { template_name: None, line_no: None, column_no: None, reason: TemplateError(TemplateError { reason: InvalidSyntax("unreadable tag"), template_name: Some("Unnamed"), line_no: Some(1), column_no: Some(1), segment: Some("   0 | {{\n     |-^\n") }) })"#;
+const NOT_COMPILED: &str =
+    r#"Err(RenderError { template_name: None, line_no: None, column_no: None, reason: TemplateError(TemplateError { reason: InvalidSyntax("unreadable tag"), template_name: Some("Unnamed"), line_no: Some(1), column_no: Some(1), segment: Some("   0 | {{\n     |-^\n") }) })"#;
 
-const NO_MEMORY: &str = "Err(RenderError { template_name: None, line_no: None, column_no: None, reason: OutOfMemory })";
+const NO_MEMORY: &str =
+    "Err(RenderError { template_name: None, line_no: None, column_no: None, reason: OutOfMemory })";
 
 #[test]
 fn files_are_read_anew(rt: HostRuntime) {
@@ -72,9 +81,30 @@ fn files_are_read_anew(rt: HostRuntime) {
     let mut registry = registry_of_files(&rt, alloc, &mut files);
     assert!(rt; registry.dev_mode());
     files.texts = &[("d/t.hbs", "B{{> a}}"), ("d/a.hbs", "aa"), ("d/b.hbs", "b")];
-    gives(&rt, &registry, &mut files, "t", "Ok(\"Baa\")", "d/t.hbs;d/a.hbs;d/b.hbs;");
-    gives(&rt, &registry, &mut files, "b", "Ok(\"b\")", "d/b.hbs;d/a.hbs;d/t.hbs;");
-    renders(&rt, &registry, &mut files, "{{> t}}", "Ok(\"Baa\")", "d/a.hbs;d/b.hbs;d/t.hbs;");
+    gives(
+        &rt,
+        &registry,
+        &mut files,
+        "t",
+        "Ok(\"Baa\")",
+        "d/t.hbs;d/a.hbs;d/b.hbs;",
+    );
+    gives(
+        &rt,
+        &registry,
+        &mut files,
+        "b",
+        "Ok(\"b\")",
+        "d/b.hbs;d/a.hbs;d/t.hbs;",
+    );
+    renders(
+        &rt,
+        &registry,
+        &mut files,
+        "{{> t}}",
+        "Ok(\"Baa\")",
+        "d/a.hbs;d/b.hbs;d/t.hbs;",
+    );
 
     // What nothing stands under, or doesn't compile, is refused before any file is asked for.
     gives(&rt, &registry, &mut files, "no", NOT_FOUND, "");
@@ -83,8 +113,22 @@ fn files_are_read_anew(rt: HostRuntime) {
     // A file wins over a template that is registered later under its name.
     let answer = registry.register_template_string("a", "later");
     is_shown(&rt, alloc, answer, "Ok(())");
-    gives(&rt, &registry, &mut files, "t", "Ok(\"Baa\")", "d/t.hbs;d/a.hbs;d/b.hbs;");
-    gives(&rt, &registry, &mut files, "a", "Ok(\"aa\")", "d/a.hbs;d/b.hbs;d/t.hbs;");
+    gives(
+        &rt,
+        &registry,
+        &mut files,
+        "t",
+        "Ok(\"Baa\")",
+        "d/t.hbs;d/a.hbs;d/b.hbs;",
+    );
+    gives(
+        &rt,
+        &registry,
+        &mut files,
+        "a",
+        "Ok(\"aa\")",
+        "d/a.hbs;d/b.hbs;d/t.hbs;",
+    );
 
     // Without dev mode that template stands there, and what was read when the files were registered.
     registry.set_dev_mode(false);
@@ -101,10 +145,24 @@ fn files_that_fail_refuse(rt: HostRuntime) {
     let mut files = Shelf::new(alloc, FIRST, FOLDERS);
     let mut registry = registry_of_files(&rt, alloc, &mut files);
     files.broken = "d/b.hbs";
-    gives(&rt, &registry, &mut files, "t", NO_B, "d/t.hbs;d/a.hbs;d/b.hbs;");
+    gives(
+        &rt,
+        &registry,
+        &mut files,
+        "t",
+        NO_B,
+        "d/t.hbs;d/a.hbs;d/b.hbs;",
+    );
     renders(&rt, &registry, &mut files, "x", NO_B, "d/a.hbs;d/b.hbs;");
     files.kind = ErrorKind::OutOfMemory;
-    renders(&rt, &registry, &mut files, "x", NO_MEMORY, "d/a.hbs;d/b.hbs;");
+    renders(
+        &rt,
+        &registry,
+        &mut files,
+        "x",
+        NO_MEMORY,
+        "d/a.hbs;d/b.hbs;",
+    );
     files.broken = "";
     files.texts = SECOND;
     gives(&rt, &registry, &mut files, "b", BAD_B, "d/b.hbs;");
@@ -112,7 +170,14 @@ fn files_that_fail_refuse(rt: HostRuntime) {
 
     // One that is taken away is forgotten, and all are where all templates are taken away.
     registry.unregister_template("b");
-    renders(&rt, &registry, &mut files, "x", "Ok(\"x\")", "d/a.hbs;d/t.hbs;");
+    renders(
+        &rt,
+        &registry,
+        &mut files,
+        "x",
+        "Ok(\"x\")",
+        "d/a.hbs;d/t.hbs;",
+    );
     registry.clear_templates();
     renders(&rt, &registry, &mut files, "x", "Ok(\"x\")", "");
     assert!(rt; registry.dev_mode());

@@ -70,18 +70,29 @@ fn folders_are_walked(rt: HostRuntime) {
     let names = "#t;.h;a/c;b;";
     registers(&rt, &mut files, "d", all, "Ok(())", asked, names);
     let text = options(".txt", false, false);
-    registers(&rt, &mut files, "d", text, "Ok(())", "d/;d/a/;d/n.txt;", "n;");
+    registers(
+        &rt,
+        &mut files,
+        "d",
+        text,
+        "Ok(())",
+        "d/;d/a/;d/n.txt;",
+        "n;",
+    );
 
     // The folder is asked for as it is given, and one that isn't there has nothing.
     registers(&rt, &mut files, "d/", default, "Ok(())", "d//;", "");
     registers(&rt, &mut files, "e", default, "Ok(())", "e/;", "");
 }
 
-const UNREADABLE: &str = r#"Err(TemplateError { reason: InvalidSyntax("unreadable tag"), template_name: Some("b"), line_no: Some(1), column_no: Some(1), segment: Some("   0 | {{#if\n     |-^---\n") })"#;
+const UNREADABLE: &str =
+    r#"Err(TemplateError { reason: InvalidSyntax("unreadable tag"), template_name: Some("b"), line_no: Some(1), column_no: Some(1), segment: Some("   0 | {{#if\n     |-^---\n") })"#;
 
-const NO_FILE: &str = r#"Err(TemplateError { reason: IoError(Kind(PermissionDenied), "a/c"), template_name: None, line_no: None, column_no: None, segment: None })"#;
+const NO_FILE: &str =
+    r#"Err(TemplateError { reason: IoError(Kind(PermissionDenied), "a/c"), template_name: None, line_no: None, column_no: None, segment: None })"#;
 
-const NO_MEMORY: &str = "Err(TemplateError { reason: OutOfMemory, template_name: None, line_no: None, column_no: None, segment: None })";
+const NO_MEMORY: &str =
+    "Err(TemplateError { reason: OutOfMemory, template_name: None, line_no: None, column_no: None, segment: None })";
 
 // Where a file is refused, those before it stay registered, and those behind it aren't asked for.
 #[test]
@@ -101,7 +112,15 @@ fn folders_are_refused(rt: HostRuntime) {
     files.broken = "d/a";
     registers(&rt, &mut files, "d", default, NO_MEMORY, "d/;d/a/;", "");
     files.kind = ErrorKind::NotFound;
-    registers(&rt, &mut files, "d", default, "Ok(())", "d/;d/a/;d/b.hbs;", "b;");
+    registers(
+        &rt,
+        &mut files,
+        "d",
+        default,
+        "Ok(())",
+        "d/;d/a/;d/b.hbs;",
+        "b;",
+    );
 }
 
 // Names in byte order, also where one begins another; what is there twice is taken twice.
@@ -109,7 +128,18 @@ fn folders_are_refused(rt: HostRuntime) {
 fn folders_have_an_order(rt: HostRuntime) {
     let alloc = rt.alloc();
     let folders: &[(&str, &[&str])] = &[
-        ("f", &["b.hbs", "a.hbs", "B.hbs", "a/", "a-b.hbs", "a.hbs", "\u{e9}.hbs"]),
+        (
+            "f",
+            &[
+                "b.hbs",
+                "a.hbs",
+                "B.hbs",
+                "a/",
+                "a-b.hbs",
+                "a.hbs",
+                "\u{e9}.hbs",
+            ],
+        ),
         ("f/a", &["z.hbs", ".hbs"]),
     ];
     let texts = &[
@@ -135,7 +165,8 @@ fn files_are_registered(rt: HostRuntime) {
     let answer = registry.register_template_file("p", "d/n.txt", &mut files);
     is_shown(&rt, alloc, answer, "Ok(())");
     let answer = registry.register_template_file("q", "d/n.tx", &mut files);
-    let refusal = r#"Err(TemplateError { reason: IoError(Kind(NotFound), "q"), template_name: None, line_no: None, column_no: None, segment: None })"#;
+    let refusal =
+        r#"Err(TemplateError { reason: IoError(Kind(NotFound), "q"), template_name: None, line_no: None, column_no: None, segment: None })"#;
     is_shown(&rt, alloc, answer, refusal);
     has(&rt, alloc, &registry, "p;");
     is_same(&rt, files.asked.as_str(), "d/n.txt;d/n.tx;");
@@ -154,6 +185,7 @@ fn files_are_registered(rt: HostRuntime) {
     registry.clear_templates();
     has(&rt, alloc, &registry, "");
     let text = registry.render_with_context("a", &data, &Discard, &mut NoFiles);
-    let refusal = r#"Err(RenderError { template_name: None, line_no: None, column_no: None, reason: TemplateNotFound("a") })"#;
+    let refusal =
+        r#"Err(RenderError { template_name: None, line_no: None, column_no: None, reason: TemplateNotFound("a") })"#;
     is_shown(&rt, alloc, text, refusal);
 }

@@ -66,10 +66,7 @@ impl TemplateReader for Shelf<'_> {
     }
 }
 
-fn entries(
-    alloc: Global,
-    names: &[&'static str],
-) -> Result<Vec<(String, EntryKind)>, io::Error> {
+fn entries(alloc: Global, names: &[&'static str]) -> Result<Vec<(String, EntryKind)>, io::Error> {
     let mut entries = Vec::new(alloc);
     for name in names {
         entries.push(match name.strip_suffix('/') {

@@ -51,7 +51,7 @@ register_entry-returns-in-File g t c =
     c.args.self.now c.register_found.new.self c.args.files.now c.register_found.new.files c.register_found.result c.in-File.is
     (c.register_found.ensures (record { path = c.args.folder.now; front = c.args.front.now; levels = c.args.levels })
     (c.as_str-in-File.ensures.value ∙ c.in_ok-push_str.ensures.bytes ∙ ap (λ z. z ++ c.as_str.result.now) c.in_ok-path.ensures
-        ∙ ap (λ z. c.args.folder.now ++ codes "/" ++ z) c.as_str.ensures.value)
+    ∙ ap (λ z. c.args.folder.now ++ codes "/" ++ z) c.as_str.ensures.value)
     (c.as_str-in-File-2.ensures.value ∙ c.in_ok-below.ensures ∙ ap (λ z. c.args.front.now ++ z) c.as_str-2.ensures.value))
 
 pub register_entry-returns-in_default : goal.register_entry-returns-in_default
@@ -74,9 +74,9 @@ register_entry-returns g t c =
     (folder-enters g.R.TemplateReader.reads g.R.TemplateReader.lists (choice_of c.args.options.now) (record { path = c.args.folder.now; front = c.args.front.now; levels = c.args.levels }) c.args.entry.now.0 c.in-Some.levels c.as_str-in-Folder-2.result.now c.as_str-in-Folder-3.result.now
     c.args.self.now c.register_folder.new.self c.args.files.now c.register_folder.new.files c.register_folder.result
     (c.as_str-in-Folder-2.ensures.value ∙ c.in_ok-push_str.ensures.bytes ∙ ap (λ z. z ++ c.as_str.result.now) c.in_ok-path.ensures
-        ∙ ap (λ z. c.args.folder.now ++ codes "/" ++ z) c.as_str.ensures.value)
+    ∙ ap (λ z. c.args.folder.now ++ codes "/" ++ z) c.as_str.ensures.value)
     (c.as_str-in-Folder-3.ensures.value ∙ c.in_ok-front-in-Folder.ensures ∙ ap (λ z. z ++ codes "/")
-        (c.as_str-in-Folder.ensures.value ∙ c.in_ok-below.ensures ∙ ap (λ z. c.args.front.now ++ z) c.as_str-2.ensures.value))
+    (c.as_str-in-Folder.ensures.value ∙ c.in_ok-below.ensures ∙ ap (λ z. c.args.front.now ++ z) c.as_str-2.ensures.value))
     (grind (arith, c.in-Some.ensures)) c.register_folder.ensures)
 
 pub register_folder-returns-in_err-entries-in-Ok : goal.register_folder-returns-in_err-entries-in-Ok
