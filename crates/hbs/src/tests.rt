@@ -231,9 +231,9 @@ fn tells_of_words_and_files(rt: HostRuntime) {
         "",
         USAGE,
     );
-    runs_for(&rt, alloc, &[template, strict, data], (2, 0), "", USAGE);
     let no_data = "hbs: cannot read --strict\n";
     runs_for(&rt, alloc, &[template, strict], (2, 2), "", no_data);
+    runs_for(&rt, alloc, &[template, strict, data], (2, 2), "", no_data);
     runs_for(&rt, alloc, &[strict, strict, data], (2, 1), "", no_data);
     let no_path = "hbs: cannot read no/é such\n";
     runs_for(&rt, alloc, &["no/é such", data], (2, 1), "", no_path);
