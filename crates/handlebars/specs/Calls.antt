@@ -1,22 +1,28 @@
--- What the calls that render say of a writer, and of data that is converted first.
+-- What the calls that render say of a writer, of files that are read first, and of data that is converted first.
 use Rattle.std.specs.Io.KnownBytes.{Appends}
-use Rattle.std.specs.Prelude.{◌≡◌, ◌⊎◌, List, [], Option, Result, Ok, Err, IsErrAnd, IsOk}
+use Rattle.std.specs.Global.{Global}
+use Rattle.std.specs.Prelude.{◌≡◌, ◌⊎◌, List, [], Option, None, Result, Ok, Err, IsErrAnd, IsOk, String}
 use Rattle.std.specs.declared.io.Error.{Error}
 use Rattle.serde.specs.Event.{Log}
 use Rattle.serde_json.specs.Data.{Data}
 use Rattle.handlebars_base.specs.Answers.{gives, refuses}
 use Rattle.handlebars_base.specs.Bytes.{Text}
 use Rattle.handlebars_base.specs.Outputs.{IsBeginning}
-use Rattle.handlebars_base.specs.Reasons.{Refusal, out_of_memory}
-use Rattle.handlebars_base.specs.RenderRefusals.{reason_in, refusal_of}
+use Rattle.handlebars_base.specs.Reasons.{Refusal, TemplateRefusal, of_template, out_of_memory}
+use Rattle.handlebars_base.specs.RenderRefusals.{plain_refusal, reason_in, refusal_of}
 use Rattle.handlebars_base.specs.declared.error.render_error.RenderError.{RenderError}
 use Rattle.handlebars_scope.specs.Wraps.{IsConversion}
+use Rattle.handlebars_tags.specs.Options.{Options}
+use Rattle.handlebars_template.specs.Compile.{Compiles, compiled, refused}
 use Rattle.handlebars_template.specs.Tree.{Tree}
 use Rattle.handlebars_meaning.specs.Answer.{Beginning, a_tree, RenderAnswers, GivesText, RefusesWith}
 use Rattle.handlebars_meaning.specs.Pieces.{Piece, join}
 use Rattle.handlebars_meaning.specs.Runs.{Outcome, Ended, Refused, Faulted, Fault, IsStop}
 use Rattle.handlebars_meaning.specs.State.{Setting, State}
 use Rattle.handlebars_render.specs.View.{Answered, TellsFault}
+use Rattle.handlebars.specs.Dev.{ReadsFor}
+use Rattle.handlebars.specs.Files.{Loaded, refusal}
+use Rattle.handlebars.specs.declared.registry.RegistryOf.{RegistryOf}
 
 -- ---- calls to a writer
 
@@ -62,6 +68,30 @@ module _ (p : Setting) (begins : Beginning → Type 0) where
     pub refusals : (q : Refusal) (before after : Option Text) (r : Answered) → RefusesWith p begins q
         → (w : Writes before after r) → IsUnbroken w → IsErrAnd r (λ e. ∥ refusal_of e ≡ q ∥₁)
 
+-- ---- calls to a writer that read files first
+
+module _ {S : Type 0} (reads : S → Text → Result (String Global) Error → S → Type 0) {E : Type 0} (r : RegistryOf E) where
+  -- What such a call says of a writer, with the reader before and behind it. All files are read, and it is written to with
+  -- their trees; or one of them is refused, or memory, and nothing is written.
+  pub data WritesReading (asked : Option Text) (before after : S) (to : List Loaded → Option Text → Option Text → Answered → Type 0)
+      (first last : Option Text) : Answered → Type 0 where
+    written_behind : {read : List Loaded} {a : Answered} → ReadsFor reads r asked before after read (Ok tt) → to read first last a
+        → WritesReading asked before after to first last a
+    refused_at_file : {read : List Loaded} {e : RenderError} {f : TemplateRefusal} → ReadsFor reads r asked before after read (Err (refusal f))
+        → refusal_of e ≡ plain_refusal (of_template f) → Appends first last [] → WritesReading asked before after to first last (Err e)
+    no_room_to_read : {e : RenderError} → reason_in e ≡ out_of_memory → Appends first last []
+        → WritesReading asked before after to first last (Err e)
+
+  -- The same of a source. Where that doesn't compile, or there is no memory for it, no file is asked for and nothing is written.
+  pub data WritesSource (options : Options) (source : Text) (before after : S)
+      (to : List Loaded → Option Text → Option Text → Answered → Type 0) (first last : Option Text) : Answered → Type 0 where
+    compiled_so : {t : Tree} {a : Answered} → Compiles source options (compiled t) → WritesReading None before after to first last a
+        → WritesSource options source before after to first last a
+    refused_so : {e : RenderError} {f : TemplateRefusal} → Compiles source options (refused f) → after ≡ before
+        → refusal_of e ≡ plain_refusal (of_template f) → Appends first last [] → WritesSource options source before after to first last (Err e)
+    no_room_to_compile : {e : RenderError} → reason_in e ≡ out_of_memory → after ≡ before → Appends first last []
+        → WritesSource options source before after to first last (Err e)
+
 -- ---- calls that convert their data
 
 module _ {T : Type 0} (writes : T → Log → Log → Type 0) (x : T) where
@@ -69,15 +99,17 @@ module _ {T : Type 0} (writes : T → Log → Log → Type 0) (x : T) where
   abbrev pub Converts : (Data → Type 0) → Type 0
   Converts holds = (d : Data) × IsConversion writes x (gives d) × holds d
 
-  -- The conversion gave data of which this holds, or it was refused so.
-  abbrev pub ConvertsOr : Refusal → (Data → Type 0) → Type 0
-  ConvertsOr r holds = IsConversion writes x (refuses r) ⊎ Converts holds
+  -- The conversion gave data of which this holds, or it was refused so, and no file was asked for.
+  abbrev pub ConvertsOr : Refusal → Type 0 → (Data → Type 0) → Type 0
+  ConvertsOr r unread holds = (IsConversion writes x (refuses r) × unread) ⊎ Converts holds
 
-  -- What a call says of a writer that converts its data first. Where it is refused then, nothing is written.
-  pub data WritesConverted (to : Data → Option Text → Option Text → Answered → Type 0) (before after : Option Text)
+  -- What a call says of a writer that converts its data first. Where it is refused then, no file is asked for and nothing is
+  -- written.
+  pub data WritesConverted (unread : Type 0) (to : Data → Option Text → Option Text → Answered → Type 0) (before after : Option Text)
       : Answered → Type 0 where
     converted : {d : Data} {r : Answered} → IsConversion writes x (gives d) → to d before after r
-        → WritesConverted to before after r
-    not_converted : {e : RenderError} → IsConversion writes x (refuses (refusal_of e)) → Appends before after []
-        → WritesConverted to before after (Err e)
-    no_room : {e : RenderError} → reason_in e ≡ out_of_memory → Appends before after [] → WritesConverted to before after (Err e)
+        → WritesConverted unread to before after r
+    not_converted : {e : RenderError} → IsConversion writes x (refuses (refusal_of e)) → unread → Appends before after []
+        → WritesConverted unread to before after (Err e)
+    no_room : {e : RenderError} → reason_in e ≡ out_of_memory → unread → Appends before after []
+        → WritesConverted unread to before after (Err e)

@@ -3,3 +3,7 @@ pub mod Store
 pub mod Taken
 pub mod Writers
 pub mod Calls
+pub mod Files
+pub mod Folder
+pub mod Dev
+pub mod Over

@@ -56,4 +56,4 @@ pub use registry::{Registry, Registry as Handlebars, RegistryOf};
 pub use render::partial::expand_partial;
 pub use render::{Evaluable, Expand, Renderable};
 pub use serde_json::Value as JsonValue;
-pub use sources::{EntryKind, NoFiles, TemplateReader};
+pub use sources::{DirectorySourceOptions, EntryKind, FileReader, NoFiles, TemplateReader};

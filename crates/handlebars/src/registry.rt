@@ -11,11 +11,17 @@ ghost use Rattle.handlebars_helpers.specs.Decoration.{built_in_decorator};
 ghost use Rattle.handlebars_helpers.specs.Callee.{first_callee};
 ghost use Rattle.handlebars_helpers.specs.Escaping.{for_html};
 ghost use Rattle.handlebars.specs.Store.{Stores, HasSameParts, HasSameTemplates, PutsDecorator, PutsEscape, PutsHelper};
+ghost use Rattle.handlebars.specs.Files.{is_dev};
 ghost use Rattle.handlebars.specs.View.{modes_of, named_by, stored};
 
 mod calls;
+mod dev;
+mod files;
+mod reading;
+mod stored;
 mod writing;
 
+use crate::registry::dev::DevFiles;
 use handlebars_base::error::TemplateError;
 use handlebars_helpers::decorators::entry::DecoratorEntryOf;
 use handlebars_helpers::entries::{BoxedEntries, Entries, OwnParts};
@@ -30,6 +36,7 @@ use std::collections::BTreeMap;
 pub struct RegistryOf<E> {
     alloc: Global,
     templates: BTreeMap<String, Template>,
+    dev: DevFiles,
     pub(crate) entries: E,
     strict_mode: bool,
     recursive_lookup: bool,
@@ -48,6 +55,7 @@ impl<E: Drop> RegistryOf<E> {
         ensures modes { modes_of self.new ≡ record (modes_of self.old) { strict = enabled } }
         ensures entries { self.new.entries ≡ self.old.entries }
         ensures kept { HasSameTemplates self.old self.new }
+        ensures dev { self.new.dev ≡ self.old.dev }
     {
         self.strict_mode = enabled;
     }
@@ -65,6 +73,7 @@ impl<E: Drop> RegistryOf<E> {
         ensures modes { modes_of self.new ≡ record (modes_of self.old) { recursive = enabled } }
         ensures entries { self.new.entries ≡ self.old.entries }
         ensures kept { HasSameTemplates self.old self.new }
+        ensures dev { self.new.dev ≡ self.old.dev }
     {
         self.recursive_lookup = enabled;
     }
@@ -82,6 +91,7 @@ impl<E: Drop> RegistryOf<E> {
         ensures modes { modes_of self.new ≡ record (modes_of self.old) { prevent_indent = enabled } }
         ensures entries { self.new.entries ≡ self.old.entries }
         ensures kept { HasSameTemplates self.old self.new }
+        ensures dev { self.new.dev ≡ self.old.dev }
     {
         self.prevent_indent = enabled;
     }
@@ -98,6 +108,7 @@ impl<E: Drop> RegistryOf<E> {
         ensures modes { modes_of self.new ≡ record (modes_of self.old) { limit = limit } }
         ensures entries { self.new.entries ≡ self.old.entries }
         ensures kept { HasSameTemplates self.old self.new }
+        ensures dev { self.new.dev ≡ self.old.dev }
     {
         self.inclusion_limit = limit;
     }
@@ -115,6 +126,7 @@ impl<E: Drop> RegistryOf<E> {
         ensures kept { OnErr result (HasSameTemplates self.old self.new) }
         ensures entries { self.new.entries ≡ self.old.entries }
         ensures modes { modes_of self.new ≡ modes_of self.old }
+        ensures dev { self.new.dev ≡ self.old.dev }
     {
         let key = String::from_str(self.alloc, name)?;
         self.templates.insert(key, template)?;
@@ -135,6 +147,7 @@ impl<E: Drop> RegistryOf<E> {
         ensures kept { OnErr result (HasSameTemplates self.old self.new) }
         ensures entries { self.new.entries ≡ self.old.entries }
         ensures modes { modes_of self.new ≡ modes_of self.old }
+        ensures dev { self.new.dev ≡ self.old.dev }
     {
         let template = self.compiled_as(name, source)?;
         self.register_template(name, template)?;
@@ -150,6 +163,7 @@ impl<E: Drop> RegistryOf<E> {
         ensures kept { OnErr result (HasSameTemplates self.old self.new) }
         ensures entries { self.new.entries ≡ self.old.entries }
         ensures modes { modes_of self.new ≡ modes_of self.old }
+        ensures dev { self.new.dev ≡ self.old.dev }
     {
         self.register_template_string(name, source)
     }
@@ -195,6 +209,7 @@ impl<B: Drop, F: Drop, D: Drop, G: Drop, X: Drop> RegistryOf<Entries<B, F, D, G,
         ensures ok { OnOk result (PutsHelper self.old self.new name.now (Some def)) }
         ensures err { OnErr result (HasSameParts self.old self.new) }
         ensures kept { HasSameTemplates self.old self.new }
+        ensures dev { self.new.dev ≡ self.old.dev }
     {
         let name = String::from_str(self.alloc, name)?;
         self.entries.helpers.insert(name, def)
@@ -204,6 +219,7 @@ impl<B: Drop, F: Drop, D: Drop, G: Drop, X: Drop> RegistryOf<Entries<B, F, D, G,
     pub fn unregister_helper(&mut self, name: &str)
         ensures helper { PutsHelper self.old self.new name.now None }
         ensures kept { HasSameTemplates self.old self.new }
+        ensures dev { self.new.dev ≡ self.old.dev }
     {
         self.entries.helpers.remove(name);
     }
@@ -217,6 +233,7 @@ impl<B: Drop, F: Drop, D: Drop, G: Drop, X: Drop> RegistryOf<Entries<B, F, D, G,
         ensures ok { OnOk result (PutsDecorator self.old self.new name.now (Some def)) }
         ensures err { OnErr result (HasSameParts self.old self.new) }
         ensures kept { HasSameTemplates self.old self.new }
+        ensures dev { self.new.dev ≡ self.old.dev }
     {
         let name = String::from_str(self.alloc, name)?;
         self.entries.decorators.insert(name, def)
@@ -226,6 +243,7 @@ impl<B: Drop, F: Drop, D: Drop, G: Drop, X: Drop> RegistryOf<Entries<B, F, D, G,
     pub fn register_escape_fn(&mut self, escape_fn: EscapeKindOf<X>)
         ensures escape { PutsEscape self.old self.new escape_fn }
         ensures kept { HasSameTemplates self.old self.new }
+        ensures dev { self.new.dev ≡ self.old.dev }
     {
         self.entries.escape = escape_fn;
     }
@@ -234,6 +252,7 @@ impl<B: Drop, F: Drop, D: Drop, G: Drop, X: Drop> RegistryOf<Entries<B, F, D, G,
     pub fn unregister_escape_fn(&mut self)
         ensures escape { PutsEscape self.old self.new (EscapeKindOf.Html) }
         ensures kept { HasSameTemplates self.old self.new }
+        ensures dev { self.new.dev ≡ self.old.dev }
     {
         self.entries.escape = EscapeKindOf::Html;
     }
@@ -260,10 +279,12 @@ impl<E: OwnParts> RegistryOf<E> {
         ensures recursive { IfOk result (λ r. (modes_of r).recursive ≡ false) }
         ensures prevents { IfOk result (λ r. (modes_of r).prevent_indent ≡ false) }
         ensures limit { IfOk result (λ r. (modes_of r).limit ≡ 64) }
+        ensures dev { IfOk result (λ r. is_dev r ≡ false) }
     {
         Ok(RegistryOf {
             alloc,
             templates: BTreeMap::new(alloc),
+            dev: DevFiles::new(),
             entries: E::first(alloc)?,
             strict_mode: false,
             recursive_lookup: false,

@@ -12,6 +12,7 @@ ghost use Rattle.handlebars.specs.View.{setting_of};
 mod evaluable;
 mod expand;
 pub(crate) mod logging;
+pub mod over;
 pub mod partial;
 
 use crate::registry::RegistryOf;

@@ -1,27 +1,37 @@
 //! The text that a run prints.
 
 use crate::failure::Failure;
-use handlebars::{Context, JsonValue, NoFiles, Registry, TemplateReader};
+use handlebars::{Context, DirectorySourceOptions, JsonValue, NoFiles, Registry, TemplateReader};
 use log::sink::Discard;
 use std::alloc::Global;
 use std::io;
 use std::io::{BufWriter, Write};
 
-/// Prints what a template gives over data, in strict mode or not, both read from their paths: the template first. What is
-/// printed before a fault stays.
+/// What is asked for: the paths of a template, of data and perhaps of a folder, and whether the mode is strict.
+#[derive(Drop)]
+pub struct Task<'a> {
+    pub strict: bool,
+    pub template: &'a str,
+    pub data: &'a str,
+    pub folder: Option<&'a str>,
+}
+
+/// Prints what a template gives over data: the template is read first, then the data, then the folder. What is printed before
+/// a fault stays.
 pub fn print_text<'a, R: TemplateReader, O: Write>(
     alloc: Global,
-    strict: bool,
-    template: &'a str,
-    data: &'a str,
+    task: &Task<'a>,
     files: &mut R,
     out: &mut O,
 ) -> Result<(), Failure<'a>> {
-    let source = read(template, files)?;
-    let value = json(alloc, data, read(data, files)?.as_str())?;
+    let source = read(task.template, files)?;
+    let value = json(alloc, task.data, read(task.data, files)?.as_str())?;
     let context = Context::try_from(value)?;
     let mut registry = Registry::new(alloc)?;
-    registry.set_strict_mode(strict);
+    registry.set_strict_mode(task.strict);
+    if let Some(folder) = task.folder {
+        registry.register_templates_directory(folder, DirectorySourceOptions::default(), files)?;
+    }
     write_text(alloc, &registry, source.as_str(), &context, out)
 }
 

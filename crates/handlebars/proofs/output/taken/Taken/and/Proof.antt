@@ -26,7 +26,7 @@ use denote.Triple.Entry.{alive}
 use denote.Triple.Spec.{Meets, triple_of}
 use denote.Triple.Table.{entered}
 use denote.Triple.Walked.{says, Stays, stay_dropped, walk_of, ends_at, walk_Meets, Goes-dropped}
-use Rattle.handlebars.proofs.Walks.{none, none_made}
+use Rattle.handlebars.proofs.TakenWalks.{none, none_made}
 use Rattle.handlebars.specs.contracts.output.taken.Taken as Taken
 use Rattle.handlebars.specs.contracts.output.taken.Taken.and as F
 use Rattle.handlebars.specs.contracts.output.taken.Taken.and.Key.{name as #self}
