@@ -6,6 +6,7 @@ use Rattle.std.specs.Global.{Global}
 use Rattle.std.specs.Option.{option_or}
 use Rattle.std.specs.Prelude.{IfErr, IsErrAnd, String}
 use Rattle.std.specs.declared.io.Error.{Error}
+use Rattle.serde_json.specs.Data.{Data}
 use Rattle.handlebars_base.specs.Bytes.{Text}
 use Rattle.handlebars_base.specs.Reasons.{Refusal, TemplateRefusal, TemplateReason, template_out_of_memory, out_of_memory, of_template, reason_for, template_not_found}
 use Rattle.handlebars_base.specs.RenderRefusals.{plain_refusal, refusal_of, reason_in}
@@ -16,7 +17,6 @@ use Rattle.handlebars_tags.specs.Options.{Options}
 use Rattle.handlebars_template.specs.Compile.{Compiles, compiled, refused}
 use Rattle.handlebars_template.specs.Tree.{Tree}
 use Rattle.handlebars_template.specs.declared.template.tree.Template.{Template}
-use Rattle.handlebars_scope.specs.declared.context.Context.{Context}
 use Rattle.handlebars_helpers.specs.OwnAnswers.{HaveOne, OwnAnswers, Registered}
 use Rattle.handlebars_meaning.specs.Answer.{FromName, FromSource, GivesText, RefusesWith, compiles, is_not, is_stored}
 use Rattle.handlebars_meaning.specs.Laws.{with_templates}
@@ -25,20 +25,24 @@ use Rattle.handlebars_meaning.specs.State.{IsLawful, Setting, State, first_state
 use Rattle.handlebars_render.specs.View.{GivesString, RefusesString}
 use Rattle.handlebars.specs.Dev.{FailsReading, HasRead, HoldsTrees, ReadsFiles, RefusesReading, at_a_file, behind_all, RefusesSource, not_compiled, is_compiled, files_for, stored_under}
 use Rattle.handlebars.specs.Files.{IsStopFor, Loaded, Stop, no_memory, refusal, laid_over, tree_among, tree_in}
-use Rattle.handlebars.specs.Over.{setting_over, setting_with}
-use Rattle.handlebars.specs.View.{setting_of, stored}
+use Rattle.handlebars.specs.Over.{setting_under, setting_with}
+use Rattle.handlebars.specs.View.{setting_over, stored}
 use Rattle.handlebars.specs.declared.registry.RegistryOf.{RegistryOf}
 use Rattle.handlebars.proofs.AnswerLaws.{gives_text, refuses_before, refuses_with}
 
-module _ {E : Type 0} (registered : E → Registered) (own : E → OwnAnswers) (r : RegistryOf E) (ctx : Context) where
+module _ {E : Type 0} (registered : E → Registered) (own : E → OwnAnswers) (r : RegistryOf E) (d : Data) where
   -- the law of parts of one's own, whatever trees were read
-  pub over-lawful : (read : List Loaded) → HaveOne (own r.entries) → IsLawful (setting_over registered own read r ctx).parts
+  pub over-lawful : (read : List Loaded) → HaveOne (own r.entries) → IsLawful (setting_under registered own read r d).parts
   over-lawful read one = record { helpers = one.helpers; decorators = one.decorators; escape = one.escape }
 
+  pub with-lawful : (trees : BTreeMap (String Global) Template) → HaveOne (own r.entries)
+      → IsLawful (setting_with registered own trees r d).parts
+  with-lawful trees one = record { helpers = one.helpers; decorators = one.decorators; escape = one.escape }
+
   over-same : (read : List Loaded) (trees : BTreeMap (String Global) Template) → HoldsTrees read trees
-      → setting_with registered own trees r ctx ≡ setting_over registered own read r ctx
+      → setting_with registered own trees r d ≡ setting_under registered own read r d
   over-same read trees holds =
-      ap (λ (above : Text → Option Tree). with_templates (laid_over above (stored r)) (setting_of registered own r ctx))
+      ap (λ (above : Text → Option Tree). with_templates (laid_over above (stored r)) (setting_over registered own r d))
       (fun_ext (λ n. holds n))
 
   module _ {S : Type 0} (reads : S → Text → Result (String Global) Error → S → Type 0) (before after : S)
@@ -52,33 +56,33 @@ module _ {E : Type 0} (registered : E → Registered) (own : E → OwnAnswers) (
 
       pub gives-by-name : (t : Tree) (first next : State) (text : Text) → Some t ≡ laid_over (tree_in trees) (stored r) name
           → first ≡ first_state r.recursive_lookup
-          → GivesString (setting_with registered own trees r ctx) (render_tree t) first next text
-          → HasRead reads r (Some name) before after (λ read. GivesText (setting_over registered own read r ctx)
+          → GivesString (setting_with registered own trees r d) (render_tree t) first next text
+          → HasRead reads r (Some name) before after (λ read. GivesText (setting_under registered own read r d)
           (FromName (stored_under read r) name) text)
       gives-by-name t first next text is begins g = record {
         read = rd.0;
         reads_all = rd.1;
-        holds = gives_text (setting_over registered own rd.0 r ctx) (FromName (stored_under rd.0 r) name) t first
+        holds = gives_text (setting_under registered own rd.0 r d) (FromName (stored_under rd.0 r) name) t first
             (is_stored (found (Some t) is)) begins
             (subst (λ (p : Setting). GivesString p (render_tree t) first next text) (over-same rd.0 trees rd.2) g);
       }
 
       pub refuses-by-name : (t : Tree) (first : State) (f : Refusal) → Some t ≡ laid_over (tree_in trees) (stored r) name
           → first ≡ first_state r.recursive_lookup
-          → RefusesString (setting_with registered own trees r ctx) (render_tree t) first f
-          → RefusesReading reads r (Some name) before after (λ read q. RefusesWith (setting_over registered own read r ctx)
+          → RefusesString (setting_with registered own trees r d) (render_tree t) first f
+          → RefusesReading reads r (Some name) before after (λ read q. RefusesWith (setting_under registered own read r d)
           (FromName (stored_under read r) name) q) f
       refuses-by-name t first f is begins g =
-          behind_all rd.1 (refuses_with (setting_over registered own rd.0 r ctx) (FromName (stored_under rd.0 r) name) t first
+          behind_all rd.1 (refuses_with (setting_under registered own rd.0 r d) (FromName (stored_under rd.0 r) name) t first
           (is_stored (found (Some t) is)) begins
           (subst (λ (p : Setting). RefusesString p (render_tree t) first f) (over-same rd.0 trees rd.2) g))
 
       pub not-found-by-name : (e : RenderError) → None ≡ laid_over (tree_in trees) (stored r) name
           → refusal_of e ≡ plain_refusal (template_not_found name)
-          → RefusesReading reads r (Some name) before after (λ read q. RefusesWith (setting_over registered own read r ctx)
+          → RefusesReading reads r (Some name) before after (λ read q. RefusesWith (setting_under registered own read r d)
           (FromName (stored_under read r) name) q) (refusal_of e)
       not-found-by-name e is why =
-          behind_all rd.1 (refuses_before (setting_over registered own rd.0 r ctx) (FromName (stored_under rd.0 r) name)
+          behind_all rd.1 (refuses_before (setting_under registered own rd.0 r d) (FromName (stored_under rd.0 r) name)
           (plain_refusal (template_not_found name)) e (is_not (found None is)) why)
 
     -- ---- a call by source
@@ -87,24 +91,24 @@ module _ {E : Type 0} (registered : E → Registered) (own : E → OwnAnswers) (
         (rd : (read : List Loaded) × ReadsFiles reads r.prevent_indent (files_for r None) before read (Ok tt) after
         × HoldsTrees read trees) where
       pub gives-by-source : (first next : State) (text : Text) → first ≡ first_state r.recursive_lookup
-          → GivesString (setting_with registered own trees r ctx) (render_tree t) first next text
-          → HasRead reads r None before after (λ read. GivesText (setting_over registered own read r ctx)
+          → GivesString (setting_with registered own trees r d) (render_tree t) first next text
+          → HasRead reads r None before after (λ read. GivesText (setting_under registered own read r d)
           (FromSource options source) text)
       gives-by-source first next text begins g = record {
         read = rd.0;
         reads_all = rd.1;
-        holds = gives_text (setting_over registered own rd.0 r ctx) (FromSource options source) t first
+        holds = gives_text (setting_under registered own rd.0 r d) (FromSource options source) t first
             (compiles is_source) begins
             (subst (λ (p : Setting). GivesString p (render_tree t) first next text) (over-same rd.0 trees rd.2) g);
       }
 
       pub refuses-by-source : (first : State) (f : Refusal) → first ≡ first_state r.recursive_lookup
-          → RefusesString (setting_with registered own trees r ctx) (render_tree t) first f
-          → RefusesSource reads r options source before after (λ read q. RefusesWith (setting_over registered own read r ctx)
+          → RefusesString (setting_with registered own trees r d) (render_tree t) first f
+          → RefusesSource reads r options source before after (λ read q. RefusesWith (setting_under registered own read r d)
           (FromSource options source) q) f
       refuses-by-source first f begins g =
           is_compiled is_source
-          (behind_all rd.1 (refuses_with (setting_over registered own rd.0 r ctx) (FromSource options source) t first
+          (behind_all rd.1 (refuses_with (setting_under registered own rd.0 r d) (FromSource options source) t first
           (compiles is_source) begins
           (subst (λ (p : Setting). RefusesString p (render_tree t) first f) (over-same rd.0 trees rd.2) g)))
 

@@ -151,10 +151,10 @@ module _ {T : Type 0} (writes : T → Log → Log → Type 0) (x : T) where
       → IsConversion writes x (refuses (refusal_of e))
   not_converted_so e plain is = subst (λ (z : Refusal). IsConversion writes x (refuses z)) (plain_here e plain) is
 
-  pub writes_unconverted : {to : Data → Option Text → Option Text → Answered → Type 0} (e : RenderError) (o : Option Text)
+  pub writes_unconverted : {unread : Type 0} {to : Data → Option Text → Option Text → Answered → Type 0} (e : RenderError) (o : Option Text)
       → spot_of e ≡ nowhere → (reason_in e ≢ out_of_memory → IsConversion writes x (refuses (plain_refusal (reason_in e))))
-      → WritesConverted writes x to o o (Err e)
-  writes_unconverted e o plain so = elim (memory_or (reason_in e)) [
-    | inl memory ↦ no_room memory (Appends-nothing o)
-    | inr other ↦ not_converted (not_converted_so e plain (so other)) (Appends-nothing o)
+      → unread → WritesConverted writes x unread to o o (Err e)
+  writes_unconverted e o plain so asked = elim (memory_or (reason_in e)) [
+    | inl memory ↦ no_room memory asked (Appends-nothing o)
+    | inr other ↦ not_converted (not_converted_so e plain (so other)) asked (Appends-nothing o)
   ]

@@ -1,8 +1,8 @@
-use Rattle.std.proofs.Common.{inl, inr}
+use Rattle.std.proofs.Common.{inl, inr, refl}
 use Rattle.std.proofs.lemmas.Result.{IfOk-weaker, IfErr-weaker}
 use Rattle.handlebars_scope.specs.Contexts.{data_of}
-use Rattle.handlebars.proofs.OwnLaws.{parts-lawful}
 use Rattle.handlebars.proofs.AnswerLaws.{FromSource-one, has_one_answer, answer_has_origins}
+use Rattle.handlebars.proofs.OverLaws.{over-lawful}
 use Rattle.handlebars.proofs.Writing.{not_converted_so}
 use Rattle.handlebars.proofs.registry.RegistryOf.render_template.Goals as goal
 
@@ -15,16 +15,18 @@ returns-in-Ok-clause-err g c = IfErr-weaker c.render_template_with_context.resul
     (λ e is other. inr (data_of c.in-Ok.ctx, (c.in-Ok.ensures.ok, is other))) c.render_template_with_context.ensures.err
 
 pub returns-in-Err-clause-err : goal.returns-in-Err-clause-err
-returns-in-Err-clause-err g c = λ other. inl (not_converted_so _ _ c.in-Err.e c.in-Err.ensures.plain (c.in-Err.ensures.err other))
+returns-in-Err-clause-err g c = λ other. inl (not_converted_so _ _ c.in-Err.e c.in-Err.ensures.plain (c.in-Err.ensures.err other), refl)
 
 pub returns-in-Ok-clause-one : goal.returns-in-Ok-clause-one
-returns-in-Ok-clause-one g c = λ d. has_one_answer _ (parts-lawful g.E.OwnParts.registered g.E.OwnParts.own c.args.self.now c.keeps_law.ensures) _ (FromSource-one _ _)
+returns-in-Ok-clause-one g c = λ d read. has_one_answer _ (over-lawful g.E.OwnParts.registered g.E.OwnParts.own c.args.self.now d read c.keeps_law.ensures)
+    _ (FromSource-one _ _)
 
 pub returns-in-Ok-clause-origins : goal.returns-in-Ok-clause-origins
-returns-in-Ok-clause-origins g c = λ d. answer_has_origins _ _
+returns-in-Ok-clause-origins g c = λ d read. answer_has_origins _ _
 
 pub returns-in-Err-clause-one : goal.returns-in-Err-clause-one
-returns-in-Err-clause-one g c = λ d. has_one_answer _ (parts-lawful g.E.OwnParts.registered g.E.OwnParts.own c.args.self.now c.keeps_law.ensures) _ (FromSource-one _ _)
+returns-in-Err-clause-one g c = λ d read. has_one_answer _ (over-lawful g.E.OwnParts.registered g.E.OwnParts.own c.args.self.now d read c.keeps_law.ensures)
+    _ (FromSource-one _ _)
 
 pub returns-in-Err-clause-origins : goal.returns-in-Err-clause-origins
-returns-in-Err-clause-origins g c = λ d. answer_has_origins _ _
+returns-in-Err-clause-origins g c = λ d read. answer_has_origins _ _

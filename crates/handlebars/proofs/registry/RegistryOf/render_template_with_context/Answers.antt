@@ -1,5 +1,6 @@
 use Rattle.std.proofs.lemmas.Result.{IfOk-weaker, IfErr-weaker}
 use Rattle.handlebars_base.specs.TemplateRefusals.{template_refusal_of}
+use Rattle.handlebars_scope.specs.Contexts.{data_of}
 use Rattle.handlebars_template.specs.TreeView.{tree_view}
 use Rattle.handlebars.proofs.AnswerLaws.{FromSource-one, has_one_answer, answer_has_origins}
 use Rattle.handlebars.proofs.OverLaws.{over-lawful, gives-by-source, refuses-by-source, source-fails-at-file, source-refused}
@@ -15,39 +16,39 @@ returns-in_err-read-clause-err g c = source-fails-at-file _ _ _ _ _ (tree_view c
 
 pub returns-clause-ok : goal.returns-clause-ok
 returns-clause-ok g c = IfOk-weaker c.renders_over.result _ _
-    (λ text is. gives-by-source g.E.OwnParts.registered g.E.OwnParts.own c.args.self.now c.args.ctx.now _ _ _ c.in_ok-read.read _ c.args.source.now
+    (λ text is. gives-by-source g.E.OwnParts.registered g.E.OwnParts.own c.args.self.now (data_of c.args.ctx.now) _ _ _ c.in_ok-read.read _ c.args.source.now
     (tree_view c.in_ok-template.template) c.in_ok-template.ensures.ok c.in_ok-read.ensures.ok _ _ _ c.in_ok-rc.ensures.state is.1)
     c.renders_over.ensures.ok
 
 pub returns-clause-err : goal.returns-clause-err
 returns-clause-err g c = IfErr-weaker c.renders_over.result _ _
-    (λ e is other. refuses-by-source g.E.OwnParts.registered g.E.OwnParts.own c.args.self.now c.args.ctx.now _ _ _ c.in_ok-read.read _ c.args.source.now
+    (λ e is other. refuses-by-source g.E.OwnParts.registered g.E.OwnParts.own c.args.self.now (data_of c.args.ctx.now) _ _ _ c.in_ok-read.read _ c.args.source.now
     (tree_view c.in_ok-template.template) c.in_ok-template.ensures.ok c.in_ok-read.ensures.ok _ _ c.in_ok-rc.ensures.state
     (is c.in_ok-rc.ensures.ready other)) c.renders_over.ensures.err
 
 pub returns-in_err-template-clause-one : goal.returns-in_err-template-clause-one
-returns-in_err-template-clause-one g c = λ read. has_one_answer _ (over-lawful g.E.OwnParts.registered g.E.OwnParts.own c.args.self.now c.args.ctx.now read c.keeps_law.ensures)
+returns-in_err-template-clause-one g c = λ read. has_one_answer _ (over-lawful g.E.OwnParts.registered g.E.OwnParts.own c.args.self.now (data_of c.args.ctx.now) read c.keeps_law.ensures)
     _ (FromSource-one _ _)
 
 pub returns-in_err-template-clause-origins : goal.returns-in_err-template-clause-origins
 returns-in_err-template-clause-origins g c = λ read. answer_has_origins _ _
 
 pub returns-in_err-read-clause-one : goal.returns-in_err-read-clause-one
-returns-in_err-read-clause-one g c = λ read. has_one_answer _ (over-lawful g.E.OwnParts.registered g.E.OwnParts.own c.args.self.now c.args.ctx.now read c.keeps_law.ensures)
+returns-in_err-read-clause-one g c = λ read. has_one_answer _ (over-lawful g.E.OwnParts.registered g.E.OwnParts.own c.args.self.now (data_of c.args.ctx.now) read c.keeps_law.ensures)
     _ (FromSource-one _ _)
 
 pub returns-in_err-read-clause-origins : goal.returns-in_err-read-clause-origins
 returns-in_err-read-clause-origins g c = λ read. answer_has_origins _ _
 
 pub returns-in_err-rc-clause-one : goal.returns-in_err-rc-clause-one
-returns-in_err-rc-clause-one g c = λ read. has_one_answer _ (over-lawful g.E.OwnParts.registered g.E.OwnParts.own c.args.self.now c.args.ctx.now read c.keeps_law.ensures)
+returns-in_err-rc-clause-one g c = λ read. has_one_answer _ (over-lawful g.E.OwnParts.registered g.E.OwnParts.own c.args.self.now (data_of c.args.ctx.now) read c.keeps_law.ensures)
     _ (FromSource-one _ _)
 
 pub returns-in_err-rc-clause-origins : goal.returns-in_err-rc-clause-origins
 returns-in_err-rc-clause-origins g c = λ read. answer_has_origins _ _
 
 pub returns-clause-one : goal.returns-clause-one
-returns-clause-one g c = λ read. has_one_answer _ (over-lawful g.E.OwnParts.registered g.E.OwnParts.own c.args.self.now c.args.ctx.now read c.keeps_law.ensures)
+returns-clause-one g c = λ read. has_one_answer _ (over-lawful g.E.OwnParts.registered g.E.OwnParts.own c.args.self.now (data_of c.args.ctx.now) read c.keeps_law.ensures)
     _ (FromSource-one _ _)
 
 pub returns-clause-origins : goal.returns-clause-origins
