@@ -2,6 +2,7 @@
 #![tactic(auto)]
 
 pub mod caller;
+pub mod memory;
 pub mod parts;
 #[cfg(test)]
 mod tests;

@@ -1,10 +1,12 @@
 //! Dev mode: files are read anew at each rendering.
 
+use crate::memory::Texts;
 use crate::tests::helpers::{is_same, is_shown};
 use crate::tests::shelf::Shelf;
-use handlebars::{Context, DirectorySourceOptions, Registry};
+use handlebars::{Context, DirectorySourceOptions, Registry, StringWriter};
 use log::sink::Discard;
 use std::alloc::Global;
+use std::collections::BTreeMap;
 use std::io::ErrorKind;
 use std::process::Abort;
 
@@ -200,4 +202,57 @@ fn files_are_remembered_in_dev_mode_alone(rt: HostRuntime) {
     files.texts = FIRST;
     gives(&rt, &registry, &mut files, "t", "Ok(\"A\")", "d/t.hbs;");
     gives(&rt, &registry, &mut files, "a", "Ok(\"aa\")", "d/t.hbs;");
+}
+
+// A text under a path in memory.
+fn put(rt: &impl Abort, files: &mut Texts, path: &str, text: &str) {
+    let path = String::from_str(files.alloc, path).expect(rt, "memory");
+    let text = String::from_str(files.alloc, text).expect(rt, "memory");
+    files.texts.insert(path, text).expect(rt, "memory");
+}
+
+// Each call that renders reads the file anew.
+#[test]
+fn all_calls_read_files(rt: HostRuntime) {
+    let alloc = rt.alloc();
+    let mut files = Texts {
+        alloc,
+        texts: BTreeMap::new(alloc),
+    };
+    let mut registry = Registry::new(alloc).expect(&rt, "memory");
+    registry.set_dev_mode(true);
+    put(&rt, &mut files, "t.hbs", "{{this}}");
+    let answer = registry.register_template_file("t", "t.hbs", &mut files);
+    is_shown(&rt, alloc, answer, "Ok(())");
+    put(&rt, &mut files, "t.hbs", "[{{this}}]");
+    let context = Context::wraps(alloc, &7u64).expect(&rt, "a context");
+    let source = "{{> t}}";
+    let text = registry.render("t", &7u64, &Discard, &mut files);
+    is_shown(&rt, alloc, text, "Ok(\"[7]\")");
+    let text = registry.render_with_context("t", &context, &Discard, &mut files);
+    is_shown(&rt, alloc, text, "Ok(\"[7]\")");
+    let text = registry.render_template(source, &7u64, &Discard, &mut files);
+    is_shown(&rt, alloc, text, "Ok(\"[7]\")");
+    let text = registry.render_template_with_context(source, &context, &Discard, &mut files);
+    is_shown(&rt, alloc, text, "Ok(\"[7]\")");
+    let mut out = StringWriter::new(alloc);
+    let answer = registry.render_to_write("t", &7u64, &mut out, &Discard, &mut files);
+    is_shown(&rt, alloc, answer, "Ok(())");
+    let answer =
+        registry.render_with_context_to_write("t", &context, &mut out, &Discard, &mut files);
+    is_shown(&rt, alloc, answer, "Ok(())");
+    let answer = registry.render_template_to_write(source, &7u64, &mut out, &Discard, &mut files);
+    is_shown(&rt, alloc, answer, "Ok(())");
+    let answer = registry.render_template_with_context_to_write(
+        source,
+        &context,
+        &mut out,
+        &Discard,
+        &mut files,
+    );
+    is_shown(&rt, alloc, answer, "Ok(())");
+    is_same(&rt, out.into_string().as_str(), "[7][7][7][7]");
+    files.texts.clear();
+    let answer = registry.render_to_write("t", &7u64, &mut StringWriter::new(alloc), &Discard, &mut files);
+    assert!(rt; answer.is_err());
 }

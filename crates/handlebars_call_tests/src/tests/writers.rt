@@ -146,7 +146,7 @@ fn word_breaks(rt: &impl Abort, alloc: Global, kind: ErrorKind, wanted: &str) {
         &mut NoFiles,
     );
     is_shown(rt, alloc, answer.map_err(|e| e.line_no), wanted);
-    assert!(rt; writer.taken.as_slice() == b"atr");
+    assert!(rt; writer.taken.as_slice() == b"atr".as_slice());
 }
 
 #[test]
@@ -215,7 +215,7 @@ fn outputs_write(rt: HostRuntime) {
     out.write("abc").expect(&rt, "a write");
     let error = out.write("def").expect_err(&rt, "a fault");
     assert!(rt; error.kind() == ErrorKind::WriteZero);
-    assert!(rt; writer.taken.as_slice() == b"abcde");
+    assert!(rt; writer.taken.as_slice() == b"abcde".as_slice());
 
     let mut bytes = StringWriter::new(alloc);
     bytes.write_all(b"a\xff").expect(&rt, "memory");
