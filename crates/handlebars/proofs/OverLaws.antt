@@ -120,10 +120,10 @@ module _ {S : Type 0} (reads : S → Text → Result (String Global) Error → S
       → ReadsFiles reads r.prevent_indent (files_for r asked) before read (Err why) after → IsStopFor e why
       → refusal_of d ≡ plain_refusal (of_template (template_refusal_of e)) → reason_in d ≢ out_of_memory
       → RefusesReading reads r asked before after Refuses (refusal_of d)
-  fails-so e d read (refusal f) fails stop is other =
+  fails-so e d read (refusal f) failing stop is other =
       subst (λ z. RefusesReading reads r asked before after Refuses z)
-      (sym (is ∙ ap (λ z. plain_refusal (of_template z)) stop)) (at_a_file fails)
-  fails-so e d read no_memory fails stop is other =
+      (sym (is ∙ ap (λ z. plain_refusal (of_template z)) stop)) (at_a_file failing)
+  fails-so e d read no_memory failing stop is other =
       absurd (other (ap (λ (z : Refusal). z.reason) is
       ∙ ap (λ (z : TemplateReason). reason_for (template_refusal_of e) z) stop))
 

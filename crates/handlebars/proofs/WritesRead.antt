@@ -79,16 +79,16 @@ module _ {E : Type 0} (r : RegistryOf E) {S : Type 0} (reads : S → Text → Re
   stops-so : (asked : Option Text) (before after : S) (e : TemplateError) (x : RenderError) (o : Option Text) (read : List Loaded) (why : Stop)
       → ReadsFiles reads r.prevent_indent (files_for r asked) before read (Err why) after → IsStopFor e why
       → refusal_of x ≡ plain_refusal (of_template (template_refusal_of e)) → WritesReading reads r asked before after to o o (Err x)
-  stops-so asked before after e x o read (refusal f) fails stop is =
-      refused_at_file fails (is ∙ ap (λ z. plain_refusal (of_template z)) stop) (Appends-nothing o)
-  stops-so asked before after e x o read no_memory fails stop is =
+  stops-so asked before after e x o read (refusal f) failing stop is =
+      refused_at_file failing (is ∙ ap (λ z. plain_refusal (of_template z)) stop) (Appends-nothing o)
+  stops-so asked before after e x o read no_memory failing stop is =
       no_room_to_read (ap (λ (z : Refusal). z.reason) is ∙ ap (λ (z : TemplateReason). reason_for (template_refusal_of e) z) stop)
       (Appends-nothing o)
 
   pub writes-unread : (asked : Option Text) (before after : S) (e : TemplateError) (x : RenderError) (o : Option Text)
       → FailsReading reads r.prevent_indent (files_for r asked) before after e
       → refusal_of x ≡ plain_refusal (of_template (template_refusal_of e)) → WritesReading reads r asked before after to o o (Err x)
-  writes-unread asked before after e x o fails is = stops-so asked before after e x o fails.read fails.why fails.reads_up_to fails.stop is
+  writes-unread asked before after e x o failing is = stops-so asked before after e x o failing.read failing.why failing.reads_up_to failing.stop is
 
   module _ (options : Options) (source : Text) (s : S) (f : TemplateRefusal) (x : RenderError) (o : Option Text)
       (refuses : f.reason ≢ template_out_of_memory → Compiles source options (refused f))

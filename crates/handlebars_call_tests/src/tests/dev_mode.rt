@@ -208,7 +208,8 @@ fn files_are_remembered_in_dev_mode_alone(rt: HostRuntime) {
 fn put(rt: &impl Abort, files: &mut Texts, path: &str, text: &str) {
     let path = String::from_str(files.alloc, path).expect(rt, "memory");
     let text = String::from_str(files.alloc, text).expect(rt, "memory");
-    files.texts.insert(path, text).expect(rt, "memory");
+    let before: Result<_, _> = files.texts.insert(path, text);
+    let _ = before.expect(rt, "memory");
 }
 
 // Each call that renders reads the file anew.
