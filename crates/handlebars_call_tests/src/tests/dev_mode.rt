@@ -239,21 +239,24 @@ fn all_calls_read_files(rt: HostRuntime) {
     let mut out = StringWriter::new(alloc);
     let answer = registry.render_to_write("t", &7u64, &mut out, &Discard, &mut files);
     is_shown(&rt, alloc, answer, "Ok(())");
-    let answer =
-        registry.render_with_context_to_write("t", &context, &mut out, &Discard, &mut files);
+    let answer = registry.render_with_context_to_write(
+        "t", &context, &mut out, &Discard, &mut files,
+    );
     is_shown(&rt, alloc, answer, "Ok(())");
     let answer = registry.render_template_to_write(source, &7u64, &mut out, &Discard, &mut files);
     is_shown(&rt, alloc, answer, "Ok(())");
     let answer = registry.render_template_with_context_to_write(
-        source,
-        &context,
-        &mut out,
-        &Discard,
-        &mut files,
+        source, &context, &mut out, &Discard, &mut files,
     );
     is_shown(&rt, alloc, answer, "Ok(())");
     is_same(&rt, out.into_string().as_str(), "[7][7][7][7]");
     files.texts.clear();
-    let answer = registry.render_to_write("t", &7u64, &mut StringWriter::new(alloc), &Discard, &mut files);
+    let answer = registry.render_to_write(
+        "t",
+        &7u64,
+        &mut StringWriter::new(alloc),
+        &Discard,
+        &mut files,
+    );
     assert!(rt; answer.is_err());
 }
