@@ -1,6 +1,7 @@
 //! The blocks of scope of `each` and `with`.
 
-ghost use Rattle.std.specs.Prelude.{◌≡◌, ◌++◌, ◌∷◌, [], IfOk, List, OnOk, codes, map, option_map, string_bytes};
+ghost use Rattle.std.specs.Prelude.{◌≡◌, ◌++◌, ◌∷◌, [], IfOk, IfSome, List, OnOk, codes, map, option_map, string_bytes};
+ghost use Rattle.std.specs.Prelude.{decimal};
 ghost use Rattle.serde_json.specs.View.{view};
 ghost use Rattle.handlebars_template.specs.TreeView.{binding_of, binding_view};
 ghost use Rattle.handlebars_base.specs.Bytes.{Text};
@@ -183,7 +184,35 @@ fn write_turn_name(name: &mut String, turn: Turn) -> Result<(), AllocError>
     name.clear();
     match turn.key {
         Some(key) => name.push_str(key),
-        None => name.push_str(Buffer::new().format(turn.index)),
+        None => push_index(name, turn.index),
+    }
+}
+
+// The digits of an index. Most turns are among the first ten.
+fn push_index(name: &mut String, index: usize) -> Result<(), AllocError>
+    ensures { OnOk result (string_bytes name.new ≡ string_bytes name.old ++ decimal index) }
+{
+    match digit(index) {
+        Some(digit) => name.push_str(digit),
+        None => name.push_str(Buffer::new().format(index)),
+    }
+}
+
+fn digit(index: usize) -> Option<&'static str>
+    ensures { IfSome result (λ t. t.now ≡ decimal index) }
+{
+    match index {
+        0 => Some("0"),
+        1 => Some("1"),
+        2 => Some("2"),
+        3 => Some("3"),
+        4 => Some("4"),
+        5 => Some("5"),
+        6 => Some("6"),
+        7 => Some("7"),
+        8 => Some("8"),
+        9 => Some("9"),
+        _ => None,
     }
 }
 

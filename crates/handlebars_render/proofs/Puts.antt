@@ -1,6 +1,6 @@
 -- What the calls that write a text say.
 use Rattle.std.proofs.Common.{◌≡◌, ◌≢◌, Bool, true, false, [], Option, None, Some, Result, Ok, Err, refl, sym, ap, ◌∙◌, subst, append-nil}
-use Rattle.std.specs.Prelude.{unwrap_or, IsErrAnd}
+use Rattle.std.specs.Prelude.{unwrap_or, IfOk, IsErrAnd}
 use Rattle.std.specs.declared.io.Error.{Error}
 use Rattle.std.specs.declared.io.ErrorKind.TheVariants.{OutOfMemory}
 use Rattle.std.specs.IoError.{error_kind}
@@ -18,7 +18,7 @@ use Rattle.handlebars_base.specs.Shown.{escaped_if}
 use Rattle.handlebars_meaning.specs.Runs.{plain_fault}
 use Rattle.handlebars_meaning.specs.State.{State}
 use Rattle.handlebars_meaning.specs.Writing.{rendered_if_any}
-use Rattle.handlebars_render.specs.View.{Moment, Answered, Puts, all_put, front_put, part_put, TellsFault, PutsWord, word_put, word_cut, word_part, word_reason, behind, with_line, written_at}
+use Rattle.handlebars_render.specs.View.{Moment, Answered, Puts, all_put, front_put, part_put, TellsFault, IsPart, PutsStep, step_put, step_cut, step_part, PutsWord, word_put, word_cut, word_part, word_reason, behind, with_line, written_at}
 use Rattle.handlebars_scope.specs.Indentation.{written_in}
 use Rattle.handlebars_scope.specs.declared.line.LineState.{LineState as CodeLine}
 use Rattle.handlebars_scope.proofs.Indents.{written_in-none}
@@ -92,6 +92,14 @@ module _ (may : Error → Type 0) where
       → may cause → IsCutOff x h new → TellsFault cause (plain_fault false) e → Puts t may (at s h) (Err e) (at next new)
   puts_front x t {h = h} {new = new} cause e same given cut tells =
       front_put cause given (subst (λ (z : Text). IsCutOff z h new) same cut) tells
+
+  -- without an indentation a text that is written as it is is put
+  pub puts-step : (t : Text) {s next : State} {h new : Held} {r : Answered} → s.indent ≡ None → IfOk r (λ u. next ≡ behind t s)
+      → PutsStep t may (at s h) r (at s new) → Puts t may (at s h) r (at next new)
+  puts-step t {s = s} none is (step_put same whole) = puts_all t (plain-at s t none) is whole
+  puts-step t {s = s} none is (step_cut {e = e} cause given cut tells) = puts_front t t cause e (plain-at s t none) given cut tells
+  puts-step t {s = s} {h = h} {new = new} none is (step_part {e = e} part) =
+      part_put (subst (λ (z : Text). IsPart z h new e) (plain-at s t none) part)
 
   -- nothing is written, for want of memory
   pub puts_nothing : (t : Text) {s next : State} {h : Held} (e : RenderError) → reason_in e ≡ out_of_memory

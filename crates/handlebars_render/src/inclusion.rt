@@ -84,9 +84,10 @@ fn plain_block(alloc: Global, rc: &RenderContext) -> Result<BlockContext, AllocE
     ensures { IfOk result (λ block. frame_of block
         ≡ record empty_frame { variable = nearest_variables (state_of rc.now).blocks }) }
 {
-    let mut block = BlockContext::new(alloc);
-    block.set_local_variables(rc.nearest_variables()?);
-    Ok(block)
+    match rc.block() {
+        Some(block) => BlockContext::with_variables_of(block),
+        None => Ok(BlockContext::new(alloc)),
+    }
 }
 
 // The block that has the value itself.

@@ -10,7 +10,7 @@ ghost use Rattle.handlebars_base.specs.RenderRefusals.{plain_refusal};
 ghost use Rattle.handlebars_base.specs.Scoped.{Found, found_of, missing, present_in};
 ghost use Rattle.handlebars_template.specs.Tree.{Call, as_name, call_name, is_value};
 ghost use Rattle.handlebars_template.specs.Tree as tree;
-ghost use Rattle.handlebars_template.specs.TreeView.{call_view, param_view};
+ghost use Rattle.handlebars_template.specs.TreeView.{call_view, param_view, subexpression_view};
 ghost use Rattle.handlebars_helpers.specs.CallView.{CallView};
 ghost use Rattle.handlebars_meaning.specs.Sites.{Site};
 ghost use Rattle.handlebars_meaning.specs.Means.{render_found, render_lone, render_lone_as};
@@ -34,11 +34,12 @@ use handlebars_base::json::path::Path;
 use handlebars_base::json::value::{Json, JsonRender, ScopedJson};
 use handlebars_base::output::Output;
 use handlebars_scope::context::reached::Reached;
-use handlebars_template::template::{HelperTemplate, Parameter};
+use handlebars_template::template::{HelperTemplate, Parameter, Subexpression};
 use std::alloc::{AllocError, Global};
 use std::borrow::CowStr;
 
-/// An expression with no parameters and no pairs. Nothing is made for a name or a path.
+/// An expression with no parameters and no pairs. Nothing is made for a name or a path. Most are paths with a value, so all
+/// else stays apart, and what it needs isn't made ready for them.
 pub fn settle_lone<'a, O: Output, P: Registered>(
     helper: &'a HelperTemplate,
     setting: &Setting<'_, 'a, P>,
@@ -57,14 +58,34 @@ pub fn settle_lone<'a, O: Output, P: Registered>(
         Parameter::Literal(value) => {
             settle_value(helper, setting, ScopedJson::Constant(value), rc, sink)
         }
-        Parameter::Subexpression(inner) => match inner_value(setting, rc, inner) {
-            Ok(value) => settle_value(helper, setting, value, rc, sink),
-            Err(e) => Err(BoxedError::new(setting.alloc, e)),
-        },
+        Parameter::Subexpression(inner) => settle_inner(helper, setting, inner, rc, sink),
+    }
+}
+
+// A call in parentheses, which is made once.
+#[inline(never)]
+fn settle_inner<'a, O: Output, P: Registered>(
+    helper: &'a HelperTemplate,
+    setting: &Setting<'_, 'a, P>,
+    inner: &'a Subexpression,
+    rc: &RenderContext,
+    sink: &mut Sink<'_, O>,
+) -> Result<Next<'a>, BoxedError>
+    ensures comes { is_value (call_view helper.now) ≡ true
+        → call_name (call_view helper.now) ≡ tree.subexpression (subexpression_view inner.now)
+        → (site : Site) (kept : KeptIn (within setting.now)) → ComesTo (setting_in P.parts setting.now) site false (call_view helper.now)
+        (render_lone site (call_view helper.now))
+        O.may_give (moment kept rc.now (held_in O.held sink.old)) (answer_of result) (held_in O.held sink.new) }
+    ensures same { IsSame sink.old sink.new }
+{
+    match inner_value(setting, rc, inner) {
+        Ok(value) => settle_value(helper, setting, value, rc, sink),
+        Err(e) => Err(BoxedError::new(setting.alloc, e)),
     }
 }
 
 // A name that is no path has no value.
+#[inline(never)]
 fn settle_name<'a, P: Registered>(
     helper: &'a HelperTemplate,
     setting: &Setting<'_, 'a, P>,
@@ -116,6 +137,7 @@ fn settle_path<'a, O: Output, P: Registered>(
 }
 
 // A literal, or a call in parentheses, which was made once: its text is the name.
+#[inline(never)]
 fn settle_value<'a, O: Output, P: Registered>(
     helper: &'a HelperTemplate,
     setting: &Setting<'_, 'a, P>,
@@ -170,6 +192,7 @@ fn settle_found<'a, O: Output, P: Registered>(
 }
 
 // A missing value is refused in strict mode; else the hook is to be called, where there is one.
+#[inline(never)]
 fn settle_missing<'a, P: Registered>(
     helper: &'a HelperTemplate,
     setting: &Setting<'_, 'a, P>,

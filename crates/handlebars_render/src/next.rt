@@ -118,6 +118,7 @@ fn settle_expression<'a, O: Output, P: Registered>(
 // ---- calls
 
 // A block, and an expression with parameters or pairs, calls the helper of its name, or the hook.
+#[inline(never)]
 fn settle_call<'a, P: Registered>(
     helper: &'a HelperTemplate,
     setting: &Setting<'_, 'a, P>,
@@ -198,6 +199,7 @@ fn settle_viewed<'a, P: Registered>(
 }
 
 /// A helper is to be called.
+#[inline(never)]
 pub fn to_call<'a>(
     alloc: Global,
     target: Target,

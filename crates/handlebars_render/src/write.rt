@@ -1,12 +1,11 @@
 //! Writing texts and values, by the line's state and the indentation in force: into an output, or where the rendering
 //! writes.
 
-ghost use Rattle.std.specs.Prelude.{◌≡◌, ◌≢◌, IfErr, IfOk, OnErr, None, Some, option_map, string_bytes, unwrap_or, [], false, true};
+ghost use Rattle.std.specs.Prelude.{◌≡◌, ◌≢◌, IfErr, IfOk, OnErr, None, Some, option_map, string_bytes, unwrap_or, false, true};
 ghost use Rattle.std.specs.IoError.{error_kind};
 ghost use Rattle.serde_json.specs.Data.{null, number, unsigned};
 ghost use Rattle.serde_json.specs.View.{view};
 ghost use Rattle.handlebars_base.specs.Bytes.{Text};
-ghost use Rattle.handlebars_base.specs.Outputs.{Written};
 ghost use Rattle.handlebars_base.specs.Reasons.{out_of_memory};
 ghost use Rattle.handlebars_base.specs.RenderRefusals.{plain_refusal, reason_in, refusal_of};
 ghost use Rattle.handlebars_base.specs.Scoped as scoped;
@@ -14,8 +13,6 @@ ghost use Rattle.handlebars_base.specs.Scoped.{Found, present_in};
 ghost use Rattle.handlebars_base.specs.Shown.{escaped_if};
 ghost use Rattle.handlebars_base.specs.Values as values;
 ghost use Rattle.handlebars_base.specs.Values.{rendered};
-ghost use Rattle.handlebars_scope.specs.Indentation.{written_in};
-ghost use Rattle.handlebars_scope.specs.LineView.{line_of};
 ghost use Rattle.handlebars_helpers.specs.Escaping.{by_own};
 ghost use Rattle.handlebars_helpers.specs.EscapeView.{escaping_of};
 ghost use Rattle.handlebars_helpers.specs.OwnView.{IsOneOf};
@@ -65,10 +62,49 @@ pub fn indent_aware_write<O: Output>(
 
 // ---- texts
 
-/// Writes a text, and takes note of the line behind it. Its callers recurse, and have no room for
-/// what it needs.
-#[inline(never)]
+/// Writes a text, and takes note of the line behind it.
 pub(super) fn write_text<O: Output, P>(
+    setting: &Setting<P>,
+    text: &str,
+    rc: &mut RenderContext,
+    sink: &mut Sink<'_, O>,
+) -> Result<(), BoxedError>
+    ensures puts { (kept : KeptIn (within setting.now)) → Puts text.now O.may_give
+        (moment kept rc.old (held_in O.held sink.old)) (answer_of result) (moment kept rc.new (held_in O.held sink.new)) }
+    ensures same { IsSame sink.old sink.new }
+    ensures kept { IsKept rc.old rc.new }
+{
+    match setting.indent {
+        None => write_text_plainly(setting.alloc, text, rc, sink),
+        Some(_) => write_text_in_line(setting, text, rc, sink),
+    }
+}
+
+// Without an indentation, as most are.
+fn write_text_plainly<O: Output>(
+    alloc: Global,
+    text: &str,
+    rc: &mut RenderContext,
+    sink: &mut Sink<'_, O>,
+) -> Result<(), BoxedError>
+    ensures puts { (a : Within) (kept : KeptIn a) → a.indent ≡ None → Puts text.now O.may_give
+        (moment kept rc.old (held_in O.held sink.old)) (answer_of result) (moment kept rc.new (held_in O.held sink.new)) }
+    ensures same { IsSame sink.old sink.new }
+    ensures kept { IsKept rc.old rc.new }
+{
+    match write_as_is(alloc, text, sink) {
+        Ok(()) => {
+            rc.pass_text(text);
+            Ok(())
+        }
+        Err(e) => Err(e),
+    }
+}
+
+// Under the indentation in force, if there is one.
+#[cold]
+#[inline(never)]
+fn write_text_in_line<O: Output, P>(
     setting: &Setting<P>,
     text: &str,
     rc: &mut RenderContext,
@@ -114,27 +150,25 @@ fn write_line_to<O: Output, P>(
     ensures puts { (kept : KeptIn (within setting.now)) → PutsTo text.now O.may_give (moment kept rc.now (O.held out.old))
         (answer_of result) (O.held out.new) }
 {
-    match write_under(setting.indent, rc.line(), text, false, out) {
-        Ok(()) => Ok(rc.line().behind(text)),
-        Err(fault) => Err(write_fault(setting.alloc, fault)),
+    match setting.indent {
+        None => write_line_plainly(setting.alloc, text, rc, out),
+        Some(indent) => write_text_under(setting.alloc, false, text, indent, rc, out),
     }
 }
 
-// Writes a text in a line under an indentation, if there is one, escaped or not.
-fn write_under<O: Output>(
-    indent: Option<&str>,
-    line: LineState,
+// Without an indentation, as most are.
+fn write_line_plainly<O: Output>(
+    alloc: Global,
     text: &str,
-    escapes: bool,
+    rc: &RenderContext,
     out: &mut O,
-) -> Result<(), io::Error>
-    ensures written { Written (written_in (unwrap_or (option_map (λ t. t.now) indent.entry) []) (line_of line)
-        (escaped_if escapes text.now)) (O.held out.old) result (O.held out.new) }
-    ensures given { IfErr result O.may_give }
+) -> Result<LineState, BoxedError>
+    ensures puts { (a : Within) (kept : KeptIn a) → a.indent ≡ None → PutsTo text.now
+        O.may_give (moment kept rc.now (O.held out.old)) (answer_of result) (O.held out.new) }
 {
-    match indent {
-        Some(indent) => write_in_line(line, text, indent, escapes, out),
-        None => write_in_line(line, text, "", escapes, out),
+    match out.write(text) {
+        Ok(()) => Ok(rc.line().behind(text)),
+        Err(fault) => Err(write_fault(alloc, fault)),
     }
 }
 
@@ -260,6 +294,8 @@ fn write_value_under<O: Output>(
     }
 }
 
+#[cold]
+#[inline(never)]
 fn write_text_under<O: Output>(
     alloc: Global,
     entities: bool,
@@ -362,7 +398,9 @@ pub(super) fn write_count<O: Output, P: Registered>(
 
 // ---- texts that the line takes no note of
 
-/// Writes a text as it is, whatever the line and the escaping: of a step, or one that is kept.
+/// Writes a text as it is, whatever the line and the escaping: of a step, or one that is kept. Its callers recurse, and have
+/// no room for what it needs.
+#[inline(never)]
 pub(super) fn write_as_is<O: Output>(
     alloc: Global,
     text: &str,

@@ -1,6 +1,6 @@
 //! Blocks of scope: what `each`, `with` and an inclusion put around what they render.
 
-ghost use Rattle.std.specs.Prelude.{◌≡◌, ◌==◌, IsTrue, OnErr, OnOk, Some, codes, map, option_map, string_bytes};
+ghost use Rattle.std.specs.Prelude.{◌≡◌, ◌==◌, IfOk, IsTrue, OnErr, OnOk, Some, codes, map, option_map, string_bytes};
 ghost use Rattle.std.specs.Borrow.{sem};
 ghost use Rattle.serde_json.specs.Data.{boolean, number, unsigned};
 ghost use Rattle.serde_json.specs.View.{view};
@@ -144,6 +144,15 @@ impl BlockContext {
             local_partials: BTreeMap::new(alloc),
             alloc,
         }
+    }
+
+    /// The same with the variables of another block.
+    pub fn with_variables_of(block: &BlockContext) -> Result<BlockContext, AllocError>
+        ensures { IfOk result (λ b. frame_of b ≡ record empty_frame { variable = (frame_of block.now).variable }) }
+    {
+        let mut copy = BlockContext::new(block.alloc);
+        copy.local_variables.copy(&block.local_variables)?;
+        Ok(copy)
     }
 
     /// Sets a variable. Where memory is refused, nothing is changed.

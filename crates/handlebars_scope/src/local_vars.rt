@@ -102,12 +102,20 @@ impl LocalVars {
         ensures { IfOk result (λ copy. variables_of copy ≡ variables_of self.now) }
     {
         let mut copy = LocalVars::new(self.alloc);
-        copy_to(&mut copy.first, &self.first)?;
-        copy_to(&mut copy.last, &self.last)?;
-        copy_to(&mut copy.index, &self.index)?;
-        copy_to(&mut copy.key, &self.key)?;
-        copy.extra = self.extra.clone()?;
+        copy.copy(self)?;
         Ok(copy)
+    }
+
+    // Takes the variables of another, in place of all that were set. Where memory is refused, some are taken.
+    pub(crate) fn copy(&mut self, other: &LocalVars) -> Result<(), AllocError>
+        ensures { OnOk result (variables_of self.new ≡ variables_of other.now) }
+    {
+        copy_to(&mut self.first, &other.first)?;
+        copy_to(&mut self.last, &other.last)?;
+        copy_to(&mut self.index, &other.index)?;
+        copy_to(&mut self.key, &other.key)?;
+        self.extra = other.extra.clone()?;
+        Ok(())
     }
 }
 
@@ -154,9 +162,15 @@ fn put_extra(
     Ok(())
 }
 
+// Copies a variable. What a turn sets is copied here.
 fn copy_to(to: &mut Option<Json>, from: &Option<Json>) -> Result<(), AllocError>
     ensures { OnOk result (option_map view to.new ≡ option_map view from.now) }
 {
-    *to = from.clone()?;
+    match from {
+        None => *to = None,
+        Some(Json::Bool(truth)) => set_truth(to, *truth),
+        Some(Json::Number(number)) => set_number(to, *number),
+        Some(value) => set(to, value.clone()?),
+    }
     Ok(())
 }

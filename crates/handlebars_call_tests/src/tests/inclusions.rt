@@ -157,22 +157,6 @@ fn nested(rt: &impl Abort, alloc: Global, depth: u64) -> String {
     text
 }
 
-// A partial that includes itself twice, twenty deep, which is as deep as it may: 2^20 texts.
-#[test]
-fn includes_itself_twice(rt: HostRuntime) {
-    let alloc = rt.alloc();
-    let mut bench = Bench::new(&rt, alloc, nested(&rt, alloc, 20).as_str());
-    let source = "{{#if n}}{{> p n}}{{> p n}}{{else}}x{{/if}}";
-    keep(&rt, &mut bench.registry, "p", source);
-    bench.registry.set_inclusion_limit(20);
-    let (registry, data) = (&bench.registry, &bench.data);
-    let answer = registry.render_with_context("p", data, &Discard, &mut NoFiles);
-    let text = answer.expect(&rt, "no refusal");
-    let mut wanted = String::new(alloc);
-    push_times(&rt, &mut wanted, "x", 1 << 20);
-    assert!(rt; text.as_str() == wanted.as_str());
-}
-
 // A text between so many openings of a block and as many ends.
 fn between_ifs(rt: &impl Abort, alloc: Global, condition: &str, text: &str, times: u64) -> String {
     let mut source = String::new(alloc);
@@ -186,7 +170,20 @@ fn between_ifs(rt: &impl Abort, alloc: Global, condition: &str, text: &str, time
     source
 }
 
-// 64 inclusions of 200 blocks each, by source and by name.
+const TOO_DEEP: &str =
+    r#"Err(RenderError { template_name: Some("p"), line_no: Some(1), column_no: Some(1801), reason: InclusionLimit(64) })"#;
+
+// An endless inclusion ends at its limit.
+fn ends_at_the_limit(rt: &impl Abort, alloc: Global, bench: &mut Bench) {
+    let source = between_ifs(rt, alloc, "n", "{{> p}}", 200);
+    keep(rt, &mut bench.registry, "p", source.as_str());
+    let (registry, data) = (&bench.registry, &bench.data);
+    let answer = registry.render_with_context("p", data, &Discard, &mut NoFiles);
+    is_shown(rt, alloc, answer, TOO_DEEP);
+}
+
+// 64 inclusions of 200 blocks each, by source and by name. Rows don't nest so deep, since they also run as Rattle's own
+// compiler builds them, where a block takes more of the stack.
 #[test]
 fn inclusions_nest_as_deep_as_they_may(rt: HostRuntime) {
     let alloc = rt.alloc();
@@ -205,19 +202,5 @@ fn inclusions_nest_as_deep_as_they_may(rt: HostRuntime) {
     let text = answer.expect(&rt, "no refusal");
     wanted.push('x').expect(&rt, "memory");
     assert!(rt; text.as_str() == wanted.as_str());
-}
-
-const TOO_DEEP: &str =
-    r#"Err(RenderError { template_name: Some("p"), line_no: Some(1), column_no: Some(1801), reason: InclusionLimit(64) })"#;
-
-// An endless inclusion ends at its limit.
-#[test]
-fn endless_inclusions_are_refused(rt: HostRuntime) {
-    let alloc = rt.alloc();
-    let mut bench = Bench::new(&rt, alloc, r#"{"a":true}"#);
-    let source = between_ifs(&rt, alloc, "a", "{{> p}}", 200);
-    keep(&rt, &mut bench.registry, "p", source.as_str());
-    let (registry, data) = (&bench.registry, &bench.data);
-    let answer = registry.render_with_context("p", data, &Discard, &mut NoFiles);
-    is_shown(&rt, alloc, answer, TOO_DEEP);
+    ends_at_the_limit(&rt, alloc, &mut bench);
 }

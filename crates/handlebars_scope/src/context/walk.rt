@@ -1,7 +1,8 @@
 //! Where paths lead in blocks of scope and data.
 
 ghost use Rattle.std.specs.Prelude.{◌≡◌, ◌≤◌, ◌++◌, ◌∷◌, [], None, Some, false, length, option_map, string_bytes};
-ghost use Rattle.std.specs.Prelude.{IfOk, IfSome, OnOk};
+ghost use Rattle.std.specs.Prelude.{◌<◌, IfOk, IfSome, OnOk};
+ghost use Rattle.std.specs.Char.{digit_value};
 ghost use Rattle.serde_json.specs.Data.{Data};
 ghost use Rattle.serde_json.specs.View.{view};
 ghost use Rattle.handlebars_base.specs.Answers.{Answers, answer_map, gives};
@@ -127,10 +128,7 @@ fn current_in<'v>(given: &'v Json, block: &BlockContext) -> Option<&'v Json>
 {
     match block.base_value() {
         Some(_) => None,
-        None => match value_by_names(given, block.base_path()) {
-            Some(value) => Some(value),
-            None => None,
-        },
+        None => value_by_names(given, block.base_path()),
     }
 }
 
@@ -359,10 +357,7 @@ fn along_values<'v>(
 {
     let at_base = value_by_names(given, base)?;
     let at_bound = value_by_names(at_base, bound)?;
-    match value_by_segments(at_bound, rest) {
-        Some(value) => Some(value),
-        None => None,
-    }
+    value_by_segments(at_bound, rest)
 }
 
 fn value_by_names<'v>(given: &'v Json, names: &[String]) -> Option<&'v Json>
@@ -412,7 +407,38 @@ fn value_by_name<'v>(value: &'v Json, name: &String) -> Option<&'v Json>
 fn index_of(text: &str) -> Option<usize>
     ensures { result ≡ index_of text.now }
 {
-    text.parse::<usize>().ok()
+    match short_index(text.as_bytes()) {
+        Some(index) => Some(index),
+        None => text.parse::<usize>().ok(),
+    }
+}
+
+// The same for the usual names, of one to four digits.
+fn short_index(name: &[u8]) -> Option<usize>
+    ensures { IfSome result (λ index. index_of name.now ≡ Some index) }
+{
+    match name {
+        [ones] => digit(*ones),
+        [tens, ones] => Some(digit(*tens)? * 10 + digit(*ones)?),
+        [hundreds, tens, ones] => {
+            Some((digit(*hundreds)? * 10 + digit(*tens)?) * 10 + digit(*ones)?)
+        }
+        [thousands, hundreds, tens, ones] => {
+            let hundreds = digit(*thousands)? * 10 + digit(*hundreds)?;
+            Some((hundreds * 10 + digit(*tens)?) * 10 + digit(*ones)?)
+        }
+        _ => None,
+    }
+}
+
+// The value of an ASCII digit.
+fn digit(byte: u8) -> Option<usize>
+    ensures { IfSome result (λ value. (value ≡ digit_value byte) × (value < 10)) }
+{
+    match byte {
+        b'0'..=b'9' => Some((byte - b'0') as usize),
+        _ => None,
+    }
 }
 
 // ---- under the longest front

@@ -1,9 +1,5 @@
-use Rattle.std.proofs.Common.{ap}
-use Rattle.handlebars_render.specs.View.{keeping}
+use Rattle.std.proofs.Common.{ap, option_map}
 use Rattle.handlebars_render.proofs.write.write_text.Goals as goal
 
-pub returns-in-Ok-clause-puts : goal.returns-in-Ok-clause-puts
-returns-in-Ok-clause-puts g c = λ kept. rw (ap (keeping kept) c.set_line.ensures.state) (c.in-Ok.ensures.puts kept)
-
-pub returns-in-Err-clause-puts : goal.returns-in-Err-clause-puts
-returns-in-Err-clause-puts g c = λ kept. c.in-Err.ensures.puts kept
+pub returns-in-None-clause-puts : goal.returns-in-None-clause-puts
+returns-in-None-clause-puts g c = λ kept. c.write_text_plainly.ensures.puts _ kept (ap (option_map (λ t. t.now)) c.in-None.is)

@@ -6,8 +6,8 @@ use Rattle.handlebars_scope.specs.WayView.{names_in}
 use Rattle.handlebars_scope.proofs.Ways.{value_at-on}
 use Rattle.handlebars_scope.proofs.context.walk.along_values.Goals as goal
 
-pub returns-in-Some : goal.returns-in-Some
-returns-in-Some c =
+pub returns : goal.returns
+returns c =
     let base : value_at (view c.args.given.now) (names_in c.args.base.now)
     ≡ gives (Some (view c.in_ok-at_base.at_base.now)) = search rules in
     let bound : value_at (view c.in_ok-at_base.at_base.now) (names_in c.args.bound.now)
