@@ -79,7 +79,7 @@ beginning_refusal : Refusal → Beginning → Refusal
 beginning_refusal d (a_tree t) = d
 beginning_refusal d (no_tree r) = r
 
-a_tree-injective : {t u : Tree} → a_tree t ≡ a_tree u → t ≡ u
+pub a_tree-injective : {t u : Tree} → a_tree t ≡ a_tree u → t ≡ u
 unfolding beginning_tree
 a_tree-injective {t = t} e = ap (beginning_tree t) e
 
@@ -87,7 +87,7 @@ no_tree-injective : {r q : Refusal} → no_tree r ≡ no_tree q → r ≡ q
 unfolding beginning_refusal
 no_tree-injective {r = r} e = ap (beginning_refusal r) e
 
-a_tree≢no_tree : {t : Tree} {r : Refusal} → a_tree t ≡ no_tree r → ⊥
+pub a_tree≢no_tree : {t : Tree} {r : Refusal} → a_tree t ≡ no_tree r → ⊥
 a_tree≢no_tree e = cc
 
 module _ (p : Setting) (lawful : IsLawful p.parts) (begins : Beginning → Type 0) (one : IsOne begins) where

@@ -1,5 +1,7 @@
 -- What stands under a name behind a registration.
-use Rattle.std.proofs.Common.{◌≡◌, cond, Some, option_map, ap, ◌∙◌, String, Global}
+use Rattle.std.proofs.Common.{◌≡◌, Bool, true, false, cond, Option, None, Some, option_map, refl, ap, ◌∙◌, String, Global}
+use Rattle.std.specs.Cmp.Lexicographic.{slice_cmp}
+use Rattle.std.specs.Ordering.{nat_cmp}
 use Rattle.std.specs.BTreeMap.{BTreeMap, UpdatesBy, get_by_text}
 use Rattle.std.specs.Prelude.{string_bytes}
 use Rattle.std.specs.Str.{bytes_eq}
@@ -16,3 +18,14 @@ get_by_text-insert f m n key value name t updates is_name is_tree other =
     ∙ option_map-cond f (bytes_eq (string_bytes key) other) value (get_by_text m other)
     ∙ ap (λ z. cond (bytes_eq z other) (Some (f value)) (option_map f (get_by_text m other))) is_name
     ∙ ap (λ z. cond (bytes_eq name other) (Some z) (option_map f (get_by_text m other))) is_tree
+
+option_map-cond_none : {A B : Type 0} (f : A → B) (b : Bool) (o : Option A) → option_map f (cond b None o) ≡ cond b None (option_map f o)
+option_map-cond_none f true o = refl
+option_map-cond_none f false o = refl
+
+pub get_by_text-removed : {A B : Type 0} (f : A → B) (m n : BTreeMap (String Global) A) (name : Text)
+    → UpdatesBy string_cmp (λ k. slice_cmp nat_cmp name (string_bytes k)) m n None
+    → (other : Text) → option_map f (get_by_text n other) ≡ cond (bytes_eq name other) None (option_map f (get_by_text m other))
+get_by_text-removed f m n name updates other =
+    ap (option_map f) (btree_map_updates_text name m n None updates other)
+    ∙ option_map-cond_none f (bytes_eq name other) (get_by_text m other)

@@ -1,2 +1,10 @@
 pub mod View
 pub mod Store
+pub mod Taken
+pub mod Writers
+pub mod Calls
+pub mod Files
+pub mod Folder
+pub mod Dev
+pub mod Over
+pub mod Readers

@@ -1,5 +1,5 @@
 -- What a registry keeps under names.
-use Rattle.std.specs.Prelude.{◌≡◌, Option, Some, cond}
+use Rattle.std.specs.Prelude.{◌≡◌, Option, None, Some, cond}
 use Rattle.std.specs.Str.{bytes_eq}
 use Rattle.handlebars_base.specs.Bytes.{Text}
 use Rattle.handlebars_template.specs.Tree.{Tree}
@@ -21,6 +21,10 @@ module _ {E : Type 0} where
   -- Under each name stands what stood there.
   abbrev pub HasSameTemplates : RegistryOf E → RegistryOf E → Type 0
   HasSameTemplates old new = (name : Text) → stored new name ≡ stored old name
+
+  -- Nothing stands under the name now, and under each other name what stood there.
+  abbrev pub TakesTemplate : RegistryOf E → RegistryOf E → Text → Type 0
+  TakesTemplate old new name = (other : Text) → stored new other ≡ cond (bytes_eq name other) None (stored old other)
 
 -- ---- helpers, decorators and modes
 

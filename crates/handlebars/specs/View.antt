@@ -1,6 +1,7 @@
 -- What a registry and its contexts stand for.
 use Rattle.std.specs.BTreeMap.{get_by_text}
 use Rattle.std.specs.Prelude.{ℕ, Bool, Option, None, Some, option_map}
+use Rattle.serde_json.specs.Data.{Data}
 use Rattle.handlebars_base.specs.Bytes.{Text}
 use Rattle.handlebars_tags.specs.Options.{Options}
 use Rattle.handlebars_template.specs.Tree.{Tree}
@@ -19,6 +20,10 @@ pub record Modes : Type 0 where
   pub prevent_indent : Bool
   pub limit : ℕ
 
+-- how sources of this name are compiled
+abbrev pub named : Bool → Text → Options
+named prevent_indent name = record { name = Some name; prevent_indent = prevent_indent }
+
 module _ {E : Type 0} where
   abbrev pub modes_of : RegistryOf E → Modes
   modes_of r = record {
@@ -32,12 +37,9 @@ module _ {E : Type 0} where
   abbrev pub stored : RegistryOf E → Text → Option Tree
   stored r name = option_map tree_view (get_by_text r.templates name)
 
-  -- how a registry compiles sources, without a name and with one
+  -- how a registry compiles sources that have no name
   abbrev pub options_of : RegistryOf E → Options
   options_of r = record { name = None; prevent_indent = r.prevent_indent }
-
-  abbrev pub named_by : RegistryOf E → Text → Options
-  named_by r name = record { name = Some name; prevent_indent = r.prevent_indent }
 
   -- What a run reads, by what stands under the names of a registry's entries and what those of one's own answer.
   module _ (registered : E → Registered) (own : E → OwnAnswers) where
@@ -55,6 +57,10 @@ module _ {E : Type 0} where
       limit = r.inclusion_limit;
     }
 
-    -- the setting of a run, with a registry and over a context
+    -- the setting of a run, with a registry and over data
+    abbrev pub setting_over : RegistryOf E → Data → Setting
+    setting_over r d = record { given = d; parts = parts_of r }
+
+    -- the same over a context
     abbrev pub setting_of : RegistryOf E → Context → Setting
     setting_of r c = record { given = data_of c; parts = parts_of r }

@@ -1,10 +1,23 @@
 //! Laws that callers may cite. Each is a function that does nothing: its contract is the law.
 
-ghost use Rattle.handlebars_meaning.specs.Counted.{RendersCounted, JudgesCounted, EqualsCounted, ComparesCounted, WalksCounted};
-ghost use Rattle.handlebars_meaning.specs.Laws.{OneRun, StopsInBeginning, ComesOnce, ComesInTrees, AllHaveOrigins, ElementHasOrigins, LeavesAround, OnlyNamedCount, SameUnderLarger};
-ghost use Rattle.handlebars.specs.View.{setting_of};
+ghost use Rattle.std.specs.Prelude.{◌≡◌, Bool, false, List, [], Option, Result};
+ghost use Rattle.serde_json.specs.Data.{Data};
+ghost use Rattle.handlebars_base.specs.Bytes.{Text};
+ghost use Rattle.handlebars_meaning.specs.Answer.{FromName, FromSource};
+ghost use Rattle.handlebars_meaning.specs.Counted.{RendersCounted, JudgesCounted, EqualsCounted};
+ghost use Rattle.handlebars_meaning.specs.Counted.{ComparesCounted, WalksCounted};
+ghost use Rattle.handlebars_meaning.specs.Laws.{OneRun, StopsInBeginning, ComesOnce, ComesInTrees, AllHaveOrigins};
+ghost use Rattle.handlebars_meaning.specs.Laws.{ElementHasOrigins, LeavesAround, OnlyNamedCount, SameUnderLarger};
+ghost use Rattle.handlebars.specs.Calls.{CallsAgree};
+ghost use Rattle.handlebars.specs.Dev.{ReadsFiles, ReadsFor, stored_under};
+ghost use Rattle.handlebars.specs.Files.{IsByName, Loaded, Stop, files_of, is_dev, path_under, remembered};
+ghost use Rattle.handlebars.specs.Folder.{Choice, Task, Walks};
+ghost use Rattle.handlebars.specs.Over.{HoldsRead, SameAnswers, setting_under};
+ghost use Rattle.handlebars.specs.Readers.{AnswersAlike, HasOneEnd, IsSameList, IsSameRead};
+ghost use Rattle.handlebars.specs.View.{options_of, setting_of, setting_over, stored};
 
 use crate::registry::RegistryOf;
+use crate::sources::TemplateReader;
 pub use handlebars_base::laws::{
     equality_laws, escape_laws, one_meaning, order_laws, paths_in_front,
 };
@@ -17,12 +30,12 @@ pub use handlebars_scope::laws::recursive_lookup_law;
 pub use handlebars_tags::laws::{clear_text, last_blanks, one_comment, one_tag, one_text};
 pub use handlebars_template::laws::{cuts_join, one_compilation, one_cut, one_parsing};
 
-/// Two runs of the same steps from the same state are one, unless they stop on the way; a run that
-/// stops on the way has written a beginning of the whole one's text; a run of a tree comes to no
-/// site twice, and all of its sites stand in trees of the run; and all that the run of a tree or of an element alone writes
-/// has an origin there, where escaping is on, no indentation is in force and nothing is kept at its start. A tree's run that
-/// ends well leaves what stands around it as it was. A run that isn't refused with the limit of inclusions is the same under
-/// every larger limit, and whatever stands under names that no inclusion of it has.
+/// Two runs of the same steps from the same state are one, unless they stop on the way; a run that stops on the way has
+/// written a beginning of the whole one's text; a run of a tree comes to no site twice, and all of its sites stand in
+/// trees of the run; and all that the run of a tree or of an element alone writes has an origin there, where escaping
+/// is on, no indentation is in force and nothing is kept at its start. A tree's run that ends well leaves what stands
+/// around it as it was. A run that isn't refused with the limit of inclusions is the same under every larger limit, and
+/// whatever stands under names that no inclusion of it has.
 pub fn laws_of_runs<E: OwnParts>(registry: &RegistryOf<E>, context: &Context)
     ensures one { OneRun (setting_of E.registered E.own registry.now context.now) }
     ensures beginning { StopsInBeginning (setting_of E.registered E.own registry.now context.now) }
@@ -36,6 +49,61 @@ pub fn laws_of_runs<E: OwnParts>(registry: &RegistryOf<E>, context: &Context)
 {
     registry.entries.keeps_law();
 }
+
+/// The calls that render agree, those by one name and those by one source, into a text or to a writer, over a context
+/// or over data whose conversion gives its value: where they read the same trees and neither the writer fails nor
+/// memory, on the outcome, and on the text that is given.
+pub fn calls_agree<E: OwnParts>(registry: &RegistryOf<E>)
+    ensures names { (name : Text) (d : Data) (read : List Loaded)
+        → CallsAgree (setting_under E.registered E.own read registry.now d)
+        (FromName (stored_under read registry.now) name) }
+    ensures sources { (source : Text) (d : Data) (read : List Loaded)
+        → CallsAgree (setting_under E.registered E.own read registry.now d)
+        (FromSource (options_of registry.now) source) }
+{
+    registry.entries.keeps_law();
+}
+
+/// In dev mode, where every file was read and compiled, the answers are those of a registry that holds the trees which
+/// were read and is else the same: the same pieces, and the same outcome.
+pub fn dev_mode_law<E: OwnParts>()
+    ensures names { (dev plain : RegistryOf E) (read : List Loaded) (d : Data) → HoldsRead read dev plain
+        → (name : Text)
+        → SameAnswers (setting_under E.registered E.own read dev d) (FromName (stored_under read dev) name)
+        (setting_over E.registered E.own plain d) (FromName (stored plain) name) }
+    ensures sources { (dev plain : RegistryOf E) (read : List Loaded) (d : Data) → HoldsRead read dev plain
+        → (source : Text)
+        → SameAnswers (setting_under E.registered E.own read dev d) (FromSource (options_of dev) source)
+        (setting_over E.registered E.own plain d) (FromSource (options_of plain) source) }
+{}
+
+/// The files that a registry remembers are in byte order of the names of their templates, each name once, and under
+/// each name stands what is remembered under it.
+pub fn files_in_order<E: OwnParts>(registry: &RegistryOf<E>)
+    ensures order { IsByName (files_of registry.now) }
+    ensures paths { (name : Text) → remembered registry.now name ≡ path_under (files_of registry.now) name }
+{
+    registry.files_are_in_order();
+}
+
+/// Without dev mode no file is read, and the reader is left as it was; what stands under names then are the stored
+/// trees alone.
+pub fn without_dev_mode<E: OwnParts, R: TemplateReader>()
+    ensures unread { (plain : RegistryOf E) (asked : Option Text) (before after : R) (read : List Loaded)
+        (end : Result (Unit {0}) Stop) → is_dev plain ≡ false
+        → ReadsFor R.reads plain asked before after read end → (read ≡ []) × (after ≡ before) }
+    ensures stored { (plain : RegistryOf E) → HoldsRead [] plain plain }
+{}
+
+/// Where a reader gives one answer from a state at a path, there is one outcome of reading files in turn, and one of
+/// walking a folder, apart from want of memory: the same trees, the same end, and the same state of the reader.
+pub fn one_reading<R: TemplateReader>()
+    ensures files { AnswersAlike IsSameRead R.reads → (prevent_indent : Bool) (paths : List (Text × Text)) (before : R)
+        → HasOneEnd (ReadsFiles R.reads prevent_indent paths before) }
+    ensures folder { AnswersAlike IsSameRead R.reads → AnswersAlike IsSameList R.lists → (prevent_indent : Bool)
+        (choice : Choice) (task : Task) (before : R)
+        → HasOneEnd (Walks R.reads R.lists prevent_indent choice task before) }
+{}
 
 /// A number outside the range counts as null wherever it stands: neither the text of a value, its truth, its
 /// equality or order with another one, nor where names lead in it tells it from what it counts as.

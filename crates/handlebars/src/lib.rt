@@ -10,6 +10,7 @@
 #![tactic(auto)]
 
 pub mod laws;
+mod output;
 mod registry;
 mod render;
 mod sources;
@@ -50,8 +51,9 @@ pub use handlebars_template::template::{
     BlockParam, DecoratorTemplate, ExpressionSpec, HelperTemplate, Parameter, Subexpression,
     Template, TemplateElement, TemplateMapping, TemplateOptions,
 };
+pub use output::{StringWriter, WriteOutput};
 pub use registry::{Registry, Registry as Handlebars, RegistryOf};
 pub use render::partial::expand_partial;
 pub use render::{Evaluable, Expand, Renderable};
 pub use serde_json::Value as JsonValue;
-pub use sources::{EntryKind, NoFiles, TemplateReader};
+pub use sources::{DirectorySourceOptions, EntryKind, FileReader, NoFiles, TemplateReader};

@@ -1,9 +1,8 @@
-//! The registry, and the calls that render.
+//! The registry: what templates are rendered with.
 
-ghost use Rattle.std.specs.Prelude.{◌≡◌, ◌≢◌, IfOk, IfErr, OnErr, OnOk, option_map, string_bytes, None, Some, false, is_some};
+ghost use Rattle.std.specs.Prelude.{◌≡◌, ◌≢◌, IfOk, IfErr, OnErr, OnOk, option_map, None, Some, false, is_some};
 ghost use Rattle.handlebars_base.specs.Bytes.{Text};
-ghost use Rattle.handlebars_base.specs.Reasons.{out_of_memory, template_out_of_memory};
-ghost use Rattle.handlebars_base.specs.RenderRefusals.{refusal_of, reason_in};
+ghost use Rattle.handlebars_base.specs.Reasons.{template_out_of_memory};
 ghost use Rattle.handlebars_base.specs.TemplateRefusals.{template_refusal_of};
 ghost use Rattle.handlebars_template.specs.Compile.{Compiles, compiled, refused};
 ghost use Rattle.handlebars_template.specs.Tree.{Tree};
@@ -11,23 +10,24 @@ ghost use Rattle.handlebars_template.specs.TreeView.{tree_view};
 ghost use Rattle.handlebars_helpers.specs.Decoration.{built_in_decorator};
 ghost use Rattle.handlebars_helpers.specs.Callee.{first_callee};
 ghost use Rattle.handlebars_helpers.specs.Escaping.{for_html};
-ghost use Rattle.handlebars_meaning.specs.Answer.{FromSource, FromName, GivesText, RefusesWith, HasOneAnswer, AnswerHasOrigins};
-ghost use Rattle.handlebars_meaning.specs.State.{first_state};
 ghost use Rattle.handlebars.specs.Store.{Stores, HasSameParts, HasSameTemplates, PutsDecorator, PutsEscape, PutsHelper};
-ghost use Rattle.handlebars_render.specs.View.{state_of, root_of, has_failed};
-ghost use Rattle.handlebars.specs.View.{modes_of, named_by, setting_of, options_of, stored};
+ghost use Rattle.handlebars.specs.Files.{is_dev};
+ghost use Rattle.handlebars.specs.View.{modes_of, named, stored};
 
-use crate::render::Renderable;
-use crate::sources::TemplateReader;
-use handlebars_base::error::{RenderError, RenderErrorReason, TemplateError};
+mod calls;
+mod dev;
+mod files;
+mod reading;
+mod stored;
+mod writing;
+
+use crate::registry::dev::DevFiles;
+use handlebars_base::error::TemplateError;
 use handlebars_helpers::decorators::entry::DecoratorEntryOf;
 use handlebars_helpers::entries::{BoxedEntries, Entries, OwnParts};
 use handlebars_helpers::escape::EscapeKindOf;
 use handlebars_helpers::own::entry::HelperEntryOf;
-use handlebars_render::context::RenderContext;
-use handlebars_scope::context::Context;
 use handlebars_template::template::{Template, TemplateOptions};
-use log::Log;
 use std::alloc::{AllocError, Global};
 use std::collections::BTreeMap;
 
@@ -36,6 +36,7 @@ use std::collections::BTreeMap;
 pub struct RegistryOf<E> {
     alloc: Global,
     templates: BTreeMap<String, Template>,
+    dev: DevFiles,
     pub(crate) entries: E,
     strict_mode: bool,
     recursive_lookup: bool,
@@ -54,6 +55,7 @@ impl<E: Drop> RegistryOf<E> {
         ensures modes { modes_of self.new ≡ record (modes_of self.old) { strict = enabled } }
         ensures entries { self.new.entries ≡ self.old.entries }
         ensures kept { HasSameTemplates self.old self.new }
+        ensures dev { self.new.dev ≡ self.old.dev }
     {
         self.strict_mode = enabled;
     }
@@ -71,6 +73,7 @@ impl<E: Drop> RegistryOf<E> {
         ensures modes { modes_of self.new ≡ record (modes_of self.old) { recursive = enabled } }
         ensures entries { self.new.entries ≡ self.old.entries }
         ensures kept { HasSameTemplates self.old self.new }
+        ensures dev { self.new.dev ≡ self.old.dev }
     {
         self.recursive_lookup = enabled;
     }
@@ -88,6 +91,7 @@ impl<E: Drop> RegistryOf<E> {
         ensures modes { modes_of self.new ≡ record (modes_of self.old) { prevent_indent = enabled } }
         ensures entries { self.new.entries ≡ self.old.entries }
         ensures kept { HasSameTemplates self.old self.new }
+        ensures dev { self.new.dev ≡ self.old.dev }
     {
         self.prevent_indent = enabled;
     }
@@ -104,6 +108,7 @@ impl<E: Drop> RegistryOf<E> {
         ensures modes { modes_of self.new ≡ record (modes_of self.old) { limit = limit } }
         ensures entries { self.new.entries ≡ self.old.entries }
         ensures kept { HasSameTemplates self.old self.new }
+        ensures dev { self.new.dev ≡ self.old.dev }
     {
         self.inclusion_limit = limit;
     }
@@ -121,6 +126,7 @@ impl<E: Drop> RegistryOf<E> {
         ensures kept { OnErr result (HasSameTemplates self.old self.new) }
         ensures entries { self.new.entries ≡ self.old.entries }
         ensures modes { modes_of self.new ≡ modes_of self.old }
+        ensures dev { self.new.dev ≡ self.old.dev }
     {
         let key = String::from_str(self.alloc, name)?;
         self.templates.insert(key, template)?;
@@ -134,13 +140,16 @@ impl<E: Drop> RegistryOf<E> {
         name: &str,
         source: &str,
     ) -> Result<(), TemplateError>
-        ensures ok { OnOk result ((t : Tree) × Compiles source.now (named_by self.old name.now) (compiled t)
+        ensures ok { OnOk result ((t : Tree)
+            × Compiles source.now (named (modes_of self.old).prevent_indent name.now) (compiled t)
             × Stores self.old self.new name.now t) }
         ensures err { IfErr result (λ e. (template_refusal_of e).reason ≢ template_out_of_memory
-            → Compiles source.now (named_by self.old name.now) (refused (template_refusal_of e))) }
+            → Compiles source.now (named (modes_of self.old).prevent_indent name.now)
+            (refused (template_refusal_of e))) }
         ensures kept { OnErr result (HasSameTemplates self.old self.new) }
         ensures entries { self.new.entries ≡ self.old.entries }
         ensures modes { modes_of self.new ≡ modes_of self.old }
+        ensures dev { self.new.dev ≡ self.old.dev }
     {
         let template = self.compiled_as(name, source)?;
         self.register_template(name, template)?;
@@ -149,22 +158,27 @@ impl<E: Drop> RegistryOf<E> {
 
     /// The same: a partial is a template.
     pub fn register_partial(&mut self, name: &str, source: &str) -> Result<(), TemplateError>
-        ensures ok { OnOk result ((t : Tree) × Compiles source.now (named_by self.old name.now) (compiled t)
+        ensures ok { OnOk result ((t : Tree)
+            × Compiles source.now (named (modes_of self.old).prevent_indent name.now) (compiled t)
             × Stores self.old self.new name.now t) }
         ensures err { IfErr result (λ e. (template_refusal_of e).reason ≢ template_out_of_memory
-            → Compiles source.now (named_by self.old name.now) (refused (template_refusal_of e))) }
+            → Compiles source.now (named (modes_of self.old).prevent_indent name.now)
+            (refused (template_refusal_of e))) }
         ensures kept { OnErr result (HasSameTemplates self.old self.new) }
         ensures entries { self.new.entries ≡ self.old.entries }
         ensures modes { modes_of self.new ≡ modes_of self.old }
+        ensures dev { self.new.dev ≡ self.old.dev }
     {
         self.register_template_string(name, source)
     }
 
     // The tree of a source, for this name.
     fn compiled_as(&self, name: &str, source: &str) -> Result<Template, TemplateError>
-        ensures ok { IfOk result (λ t. Compiles source.now (named_by self.now name.now) (compiled (tree_view t))) }
+        ensures ok { IfOk result (λ t. Compiles source.now (named (modes_of self.now).prevent_indent name.now)
+            (compiled (tree_view t))) }
         ensures err { IfErr result (λ e. (template_refusal_of e).reason ≢ template_out_of_memory
-            → Compiles source.now (named_by self.now name.now) (refused (template_refusal_of e))) }
+            → Compiles source.now (named (modes_of self.now).prevent_indent name.now)
+            (refused (template_refusal_of e))) }
     {
         let options = TemplateOptions {
             name: Some(String::from_str(self.alloc, name)?),
@@ -201,6 +215,7 @@ impl<B: Drop, F: Drop, D: Drop, G: Drop, X: Drop> RegistryOf<Entries<B, F, D, G,
         ensures ok { OnOk result (PutsHelper self.old self.new name.now (Some def)) }
         ensures err { OnErr result (HasSameParts self.old self.new) }
         ensures kept { HasSameTemplates self.old self.new }
+        ensures dev { self.new.dev ≡ self.old.dev }
     {
         let name = String::from_str(self.alloc, name)?;
         self.entries.helpers.insert(name, def)
@@ -210,6 +225,7 @@ impl<B: Drop, F: Drop, D: Drop, G: Drop, X: Drop> RegistryOf<Entries<B, F, D, G,
     pub fn unregister_helper(&mut self, name: &str)
         ensures helper { PutsHelper self.old self.new name.now None }
         ensures kept { HasSameTemplates self.old self.new }
+        ensures dev { self.new.dev ≡ self.old.dev }
     {
         self.entries.helpers.remove(name);
     }
@@ -223,6 +239,7 @@ impl<B: Drop, F: Drop, D: Drop, G: Drop, X: Drop> RegistryOf<Entries<B, F, D, G,
         ensures ok { OnOk result (PutsDecorator self.old self.new name.now (Some def)) }
         ensures err { OnErr result (HasSameParts self.old self.new) }
         ensures kept { HasSameTemplates self.old self.new }
+        ensures dev { self.new.dev ≡ self.old.dev }
     {
         let name = String::from_str(self.alloc, name)?;
         self.entries.decorators.insert(name, def)
@@ -232,6 +249,7 @@ impl<B: Drop, F: Drop, D: Drop, G: Drop, X: Drop> RegistryOf<Entries<B, F, D, G,
     pub fn register_escape_fn(&mut self, escape_fn: EscapeKindOf<X>)
         ensures escape { PutsEscape self.old self.new escape_fn }
         ensures kept { HasSameTemplates self.old self.new }
+        ensures dev { self.new.dev ≡ self.old.dev }
     {
         self.entries.escape = escape_fn;
     }
@@ -240,6 +258,7 @@ impl<B: Drop, F: Drop, D: Drop, G: Drop, X: Drop> RegistryOf<Entries<B, F, D, G,
     pub fn unregister_escape_fn(&mut self)
         ensures escape { PutsEscape self.old self.new (EscapeKindOf.Html) }
         ensures kept { HasSameTemplates self.old self.new }
+        ensures dev { self.new.dev ≡ self.old.dev }
     {
         self.entries.escape = EscapeKindOf::Html;
     }
@@ -252,98 +271,32 @@ impl<B: Drop, F: Drop, D: Drop, G: Drop, X: Drop> RegistryOf<Entries<B, F, D, G,
     }
 }
 
-// The calls that render.
+// A new one.
 impl<E: OwnParts> RegistryOf<E> {
-    /// A registry with the built-in helpers and decorators, and nothing else; values are escaped for
-    /// html, the mode isn't strict, lookup isn't recursive, inclusions add their indentation, and 64 of them may be rendered
-    /// one within another.
+    /// A registry with the built-in helpers and decorators, and nothing else; values are escaped for html, the mode
+    /// isn't strict, lookup isn't recursive, inclusions add their indentation, and 64 of them may be rendered one
+    /// within another.
     pub fn new(alloc: Global) -> Result<RegistryOf<E>, AllocError>
         ensures templates { IfOk result (λ r. (name : Text) → stored r name ≡ None) }
         ensures helpers { IfOk result (λ r. (name : Text) → (E.registered r.entries).helper name ≡ first_callee name) }
-        ensures decorators { IfOk result (λ r. (name : Text) → (E.registered r.entries).decorator name ≡ built_in_decorator name) }
+        ensures decorators { IfOk result
+            (λ r. (name : Text) → (E.registered r.entries).decorator name ≡ built_in_decorator name) }
         ensures escape { IfOk result (λ r. (E.registered r.entries).escape ≡ for_html) }
         ensures strict { IfOk result (λ r. (modes_of r).strict ≡ false) }
         ensures recursive { IfOk result (λ r. (modes_of r).recursive ≡ false) }
         ensures prevents { IfOk result (λ r. (modes_of r).prevent_indent ≡ false) }
         ensures limit { IfOk result (λ r. (modes_of r).limit ≡ 64) }
+        ensures dev { IfOk result (λ r. is_dev r ≡ false) }
     {
         Ok(RegistryOf {
             alloc,
             templates: BTreeMap::new(alloc),
+            dev: DevFiles::new(),
             entries: E::first(alloc)?,
             strict_mode: false,
             recursive_lookup: false,
             prevent_indent: false,
             inclusion_limit: 64,
         })
-    }
-
-    /// Renders the template under the name over a context; `TemplateNotFound` where none stands
-    /// there. The logger is given the lines of `log`; the reader isn't asked.
-    pub fn render_with_context<L: Log, R: TemplateReader>(
-        &self,
-        name: &str,
-        ctx: &Context,
-        log: &L,
-        _files: &mut R,
-    ) -> Result<String, RenderError>
-        ensures ok { IfOk result (λ text.
-            GivesText (setting_of E.registered E.own self.now ctx.now) (FromName (stored self.now) name.now) (string_bytes text)) }
-        ensures err { IfErr result (λ e. reason_in e ≢ out_of_memory
-            → RefusesWith (setting_of E.registered E.own self.now ctx.now) (FromName (stored self.now) name.now) (refusal_of e)) }
-        ensures one { HasOneAnswer (setting_of E.registered E.own self.now ctx.now) (FromName (stored self.now) name.now) }
-        ensures origins { AnswerHasOrigins (setting_of E.registered E.own self.now ctx.now) (FromName (stored self.now) name.now) }
-        ensures unread { _files.new ≡ _files.old }
-    {
-        self.entries.keeps_law();
-        let Some(template) = self.get_template(name) else {
-            let name = String::from_str(self.alloc, name)?;
-            return Err(RenderErrorReason::TemplateNotFound(name).into());
-        };
-        let mut rc = self.first_context(template.name.as_ref())?;
-        template.renders(self.alloc, self, ctx, &mut rc, log)
-    }
-
-    /// Renders a source over a context. The logger is given the lines of `log`; the reader isn't
-    /// asked.
-    pub fn render_template_with_context<L: Log, R: TemplateReader>(
-        &self,
-        source: &str,
-        ctx: &Context,
-        log: &L,
-        _files: &mut R,
-    ) -> Result<String, RenderError>
-        // The text is the join of the pieces of the one answer that the language's definition gives.
-        ensures ok { IfOk result (λ text.
-            GivesText (setting_of E.registered E.own self.now ctx.now) (FromSource (options_of self.now) source.now) (string_bytes text)) }
-
-        // A refusal, but for want of memory, is the definition's: its reason, its position and its name.
-        ensures err { IfErr result (λ e. reason_in e ≢ out_of_memory
-            → RefusesWith (setting_of E.registered E.own self.now ctx.now) (FromSource (options_of self.now) source.now) (refusal_of e)) }
-
-        // There is at most one such answer, and each of its pieces comes from a tree of the run and the data.
-        ensures one { HasOneAnswer (setting_of E.registered E.own self.now ctx.now) (FromSource (options_of self.now) source.now) }
-        ensures origins { AnswerHasOrigins (setting_of E.registered E.own self.now ctx.now) (FromSource (options_of self.now) source.now) }
-        ensures unread { _files.new ≡ _files.old }
-    {
-        self.entries.keeps_law();
-        let options = TemplateOptions {
-            name: None,
-            prevent_indent: self.prevent_indent,
-        };
-        let template = Template::compile2(self.alloc, source, options)?;
-        let mut rc = self.first_context(None)?;
-        template.renders(self.alloc, self, ctx, &mut rc, log)
-    }
-
-    // The first state of a run with this registry, which the template of that name begins, if it has one.
-    fn first_context(&self, root_template: Option<&String>) -> Result<RenderContext, AllocError>
-        ensures state { IfOk result (λ rc. state_of rc ≡ first_state (modes_of self.now).recursive) }
-        ensures root { IfOk result (λ rc. root_of rc ≡ option_map (λ name. string_bytes name.now) root_template.entry) }
-        ensures ready { IfOk result (λ rc. has_failed rc ≡ false) }
-    {
-        let mut rc = RenderContext::new(self.alloc, root_template)?;
-        rc.set_recursive_lookup(self.recursive_lookup);
-        Ok(rc)
     }
 }

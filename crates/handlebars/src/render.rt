@@ -6,12 +6,14 @@ ghost use Rattle.handlebars_base.specs.RenderRefusals.{refusal_of, plain_refusal
 ghost use Rattle.handlebars_template.specs.TreeView.{tree_view, element_view};
 ghost use Rattle.handlebars_meaning.specs.Steps.{Steps};
 ghost use Rattle.handlebars_meaning.specs.Means.{render_tree, render_alone};
-ghost use Rattle.handlebars_render.specs.View.{state_of, root_of, has_failed, first_moment, without_partials, CarriesOut, GivesString, RefusesString};
+ghost use Rattle.handlebars_render.specs.View.{state_of, root_of, has_failed, first_moment};
+ghost use Rattle.handlebars_render.specs.View.{without_partials, CarriesOut, GivesString, RefusesString};
 ghost use Rattle.handlebars.specs.View.{setting_of};
 
 mod evaluable;
 mod expand;
-mod logging;
+pub(crate) mod logging;
+pub mod over;
 pub mod partial;
 
 use crate::registry::RegistryOf;
@@ -48,7 +50,8 @@ pub trait Renderable {
         out: &mut O,
         log: &L,
     ) -> Result<(), RenderError>
-        ensures renders { has_failed rc.old ≡ false → CarriesOut (setting_of E.registered E.own registry.now «data».now) (steps self.now)
+        ensures renders { has_failed rc.old ≡ false
+            → CarriesOut (setting_of E.registered E.own registry.now «data».now) (steps self.now)
             O.may_give (first_moment rc.old (O.held out.old)) result (first_moment rc.new (O.held out.new)) }
         ensures failed { has_failed rc.old ≡ true → IsErrAnd result (λ e. refusal_of e ≡ plain_refusal failed)
             × (rc.new ≡ rc.old) × (O.held out.new ≡ O.held out.old) }

@@ -6,6 +6,11 @@ ghost use Rattle.std.specs.declared.alloc.Global.{Global};
 ghost use Rattle.std.specs.declared.io.Error.{Error};
 ghost use Rattle.handlebars.specs.declared.sources.EntryKind.{EntryKind};
 
+mod file_reader;
+mod options;
+
+pub use file_reader::FileReader;
+pub use options::DirectorySourceOptions;
 use std::io;
 use std::io::ErrorKind;
 

@@ -47,14 +47,15 @@ pub fn rendered_with_helper<
     log: &L,
 ) -> Result<String, RenderError>
     ensures text { IfOk result (λ text. GivesText
-        (setting_of ⟦<Entries<B, F, D, G, X> as OwnParts>⟧.registered ⟦<Entries<B, F, D, G, X> as OwnParts>⟧.own registry.new «data».now)
+        (setting_of ⟦<Entries<B, F, D, G, X> as OwnParts>⟧.registered ⟦<Entries<B, F, D, G, X> as OwnParts>⟧.own
+        registry.new «data».now)
         (FromSource (options_of registry.new) source.now) (string_bytes text)) }
     ensures steps { OnOk result ((q : Asked) (a : Answer (Option (List Step)))
-        → ((parts_of ⟦<Entries<B, F, D, G, X> as OwnParts>⟧.registered ⟦<Entries<B, F, D, G, X> as OwnParts>⟧.own registry.new).own
-        name.now).has_steps q a → B.has_steps helper q a) }
+        → ((parts_of ⟦<Entries<B, F, D, G, X> as OwnParts>⟧.registered ⟦<Entries<B, F, D, G, X> as OwnParts>⟧.own
+        registry.new).own name.now).has_steps q a → B.has_steps helper q a) }
     ensures offer { OnOk result ((q : Asked) (a : Answer Offer)
-        → ((parts_of ⟦<Entries<B, F, D, G, X> as OwnParts>⟧.registered ⟦<Entries<B, F, D, G, X> as OwnParts>⟧.own registry.new).own
-        name.now).has_offer q a → B.has_offer helper q a) }
+        → ((parts_of ⟦<Entries<B, F, D, G, X> as OwnParts>⟧.registered ⟦<Entries<B, F, D, G, X> as OwnParts>⟧.own
+        registry.new).own name.now).has_offer q a → B.has_offer helper q a) }
 {
     registry.register_helper(name, HelperEntryOf::Own(helper))?;
     registry.render_template_with_context(source, data, log, &mut NoFiles)
@@ -77,11 +78,12 @@ pub fn rendered_with_decorator<
     log: &L,
 ) -> Result<String, RenderError>
     ensures text { IfOk result (λ text. GivesText
-        (setting_of ⟦<Entries<B, F, D, G, X> as OwnParts>⟧.registered ⟦<Entries<B, F, D, G, X> as OwnParts>⟧.own registry.new «data».now)
+        (setting_of ⟦<Entries<B, F, D, G, X> as OwnParts>⟧.registered ⟦<Entries<B, F, D, G, X> as OwnParts>⟧.own
+        registry.new «data».now)
         (FromSource (options_of registry.new) source.now) (string_bytes text)) }
     ensures deeds { OnOk result ((q : TagAsked) (a : Answer (List Deed))
-        → (parts_of ⟦<Entries<B, F, D, G, X> as OwnParts>⟧.registered ⟦<Entries<B, F, D, G, X> as OwnParts>⟧.own registry.new).own_decorator
-        name.now q a → D.has_deeds decorator q a) }
+        → (parts_of ⟦<Entries<B, F, D, G, X> as OwnParts>⟧.registered ⟦<Entries<B, F, D, G, X> as OwnParts>⟧.own
+        registry.new).own_decorator name.now q a → D.has_deeds decorator q a) }
 {
     registry.register_decorator(name, DecoratorEntryOf::Own(decorator))?;
     registry.render_template_with_context(source, data, log, &mut NoFiles)
@@ -103,10 +105,12 @@ pub fn rendered_with_escape<
     log: &L,
 ) -> Result<String, RenderError>
     ensures text { IfOk result (λ text. GivesText
-        (setting_of ⟦<Entries<B, F, D, G, X> as OwnParts>⟧.registered ⟦<Entries<B, F, D, G, X> as OwnParts>⟧.own registry.new «data».now)
+        (setting_of ⟦<Entries<B, F, D, G, X> as OwnParts>⟧.registered ⟦<Entries<B, F, D, G, X> as OwnParts>⟧.own
+        registry.new «data».now)
         (FromSource (options_of registry.new) source.now) (string_bytes text)) }
     ensures escaped { (t : Text) (a : Answer Text)
-        → (parts_of ⟦<Entries<B, F, D, G, X> as OwnParts>⟧.registered ⟦<Entries<B, F, D, G, X> as OwnParts>⟧.own registry.new).own_escape t a
+        → (parts_of ⟦<Entries<B, F, D, G, X> as OwnParts>⟧.registered ⟦<Entries<B, F, D, G, X> as OwnParts>⟧.own
+        registry.new).own_escape t a
         → X.has_escaped escape t a }
 {
     registry.register_escape_fn(EscapeKindOf::Own(escape));

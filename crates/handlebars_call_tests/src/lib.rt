@@ -2,6 +2,8 @@
 #![tactic(auto)]
 
 pub mod caller;
+pub mod memory;
+pub mod pages;
 pub mod parts;
 #[cfg(test)]
 mod tests;

@@ -1,2 +1,4 @@
 pub mod Outcomes
 pub mod Replies
+pub mod Wanted
+pub mod Ways

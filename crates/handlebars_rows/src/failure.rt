@@ -67,3 +67,9 @@ impl From<AllocError> for RowFailure {
         RowFailure::Fields("out of memory")
     }
 }
+
+impl<T: Drop> From<AllocFailed<T>> for RowFailure {
+    fn from(_e: AllocFailed<T>) -> Self {
+        RowFailure::Fields("out of memory")
+    }
+}

@@ -2,7 +2,7 @@
 
 use crate::failure::RowFailure;
 use crate::helpers::helper_named;
-use crate::rendering::Escape;
+use crate::rendering::{Escape, Over};
 use serde_json::{Map, Value as JsonValue};
 use std::alloc::{AllocError, Global};
 use std::io::ErrorKind;
@@ -83,14 +83,19 @@ pub fn set_texts(
     name: String,
     value: JsonValue,
 ) -> Result<(), RowFailure> {
+    *field = Some(texts(name, value)?);
+    Ok(())
+}
+
+/// An object of texts.
+pub fn texts(name: String, value: JsonValue) -> Result<Map<String, JsonValue>, RowFailure> {
     let JsonValue::Object(members) = value else {
         return Err(RowFailure::Field(name, "is no object"));
     };
     if !all_texts(&members) {
         return Err(RowFailure::Field(name, "has a member that is no text"));
     }
-    *field = Some(members);
-    Ok(())
+    Ok(members)
 }
 
 fn all_texts(members: &Map<String, JsonValue>) -> bool {
@@ -148,6 +153,32 @@ fn escape(value: &JsonValue) -> Option<Escape> {
     }
 }
 
+/// Sets the field to an array of texts.
+pub fn set_list(
+    field: &mut Option<Vec<JsonValue>>,
+    name: String,
+    value: JsonValue,
+) -> Result<(), RowFailure> {
+    let JsonValue::Array(list) = value else {
+        return Err(RowFailure::Field(name, "is no array"));
+    };
+    if !all_are_texts(list.as_slice()) {
+        return Err(RowFailure::Field(name, "has an element that is no text"));
+    }
+    *field = Some(list);
+    Ok(())
+}
+
+/// Whether all of them are texts.
+pub fn all_are_texts(values: &[JsonValue]) -> bool {
+    for value in values {
+        if !value.is_string() {
+            return false;
+        }
+    }
+    true
+}
+
 /// Sets the field to an array of lines, each a level and a text.
 pub fn set_lines(
     field: &mut Option<Vec<JsonValue>>,
@@ -181,6 +212,27 @@ pub fn line(value: &JsonValue) -> Option<(&str, &str)> {
     }
 }
 
+/// Sets the field to what the calls render over, by its name.
+pub fn set_over(
+    field: &mut Option<Over>,
+    name: String,
+    value: &JsonValue,
+) -> Result<(), RowFailure> {
+    let Some(over) = over(value) else {
+        return Err(RowFailure::Field(name, "is neither context nor value"));
+    };
+    *field = Some(over);
+    Ok(())
+}
+
+fn over(value: &JsonValue) -> Option<Over> {
+    match value.as_str()? {
+        "context" => Some(Over::Context),
+        "value" => Some(Over::Value),
+        _ => None,
+    }
+}
+
 /// Sets the field to a kind of fault, by its name.
 pub fn set_fault(
     field: &mut Option<ErrorKind>,
@@ -194,9 +246,14 @@ pub fn set_fault(
     Ok(())
 }
 
-fn fault(value: &JsonValue) -> Option<ErrorKind> {
+/// The kind of fault of that name.
+pub fn fault(value: &JsonValue) -> Option<ErrorKind> {
     match value.as_str()? {
         "NotFound" => Some(ErrorKind::NotFound),
+        "PermissionDenied" => Some(ErrorKind::PermissionDenied),
+        "BrokenPipe" => Some(ErrorKind::BrokenPipe),
+        "IsADirectory" => Some(ErrorKind::IsADirectory),
+        "InvalidData" => Some(ErrorKind::InvalidData),
         "Interrupted" => Some(ErrorKind::Interrupted),
         "OutOfMemory" => Some(ErrorKind::OutOfMemory),
         _ => None,

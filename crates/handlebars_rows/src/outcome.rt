@@ -51,7 +51,8 @@ impl Refusal {
         })
     }
 
-    fn of_template(alloc: Global, error: &TemplateError) -> Result<Refusal, AllocError> {
+    /// The refusal of a template that can't be read, or doesn't compile.
+    pub fn of_template(alloc: Global, error: &TemplateError) -> Result<Refusal, AllocError> {
         Ok(Refusal {
             reason: error.reason().to_string(alloc)?,
             line: error.pos().map(|place| place.0),

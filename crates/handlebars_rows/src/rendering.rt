@@ -1,9 +1,11 @@
 //! Rows that render a template.
 
 use crate::failure::RowFailure;
-use crate::fields;
 use crate::outcome::{Outcome, Refusal};
+use crate::pen::Taking;
+use crate::steps::Step;
 use crate::told::Wanted;
+use crate::{fields, kept, pen, steps};
 use serde_json::{Map, Value as JsonValue};
 use std::alloc::Global;
 use std::fmt;
@@ -25,8 +27,16 @@ pub struct Rendering {
     pub prevent_indent: bool,
     /// How many inclusions may be rendered in each other, where it is said.
     pub limit: Option<u16>,
+    /// Files and folders by path, which the reader has.
+    pub files: Option<Map<String, JsonValue>>,
+    /// What is done before the rendering.
+    pub steps: Option<Vec<Step>>,
     pub rendered: Rendered,
     pub data: JsonValue,
+    /// Over what the calls render, if not over either.
+    pub over: Option<Over>,
+    /// What the writer takes, where there is one.
+    pub to: Option<Taking>,
     /// How many bytes the output takes, if not all.
     pub takes: Option<usize>,
     /// The fault of the output when it takes no more.
@@ -44,8 +54,12 @@ impl Drop for Rendering {
             recursive: _,
             prevent_indent: _,
             limit: _,
+            files: _,
+            steps: _,
             rendered: _,
             data: _,
+            over: _,
+            to: _,
             takes: _,
             fault: _,
             wanted: _,
@@ -58,6 +72,13 @@ impl Drop for Rendering {
 pub enum Escape {
     Html,
     Plain,
+}
+
+/// What a call renders over: a context, or data that it converts.
+#[derive(Clone, Copy)]
+pub enum Over {
+    Context,
+    Value,
 }
 
 /// What a row renders.
@@ -78,13 +99,55 @@ impl fmt::Display for Rendered {
 }
 
 impl Rendering {
+    ghost use Rattle.std.specs.Prelude.{◌≡◌};
+    ghost use Rattle.handlebars_rows.specs.Ways.{has_output, has_text, has_writer, is_over};
+
+    /// Whether calls are asked for a text, and not to write.
+    pub fn has_text(&self) -> bool
+        ensures { result ≡ has_text self.now }
+    {
+        self.takes.is_none() && self.to.is_none()
+    }
+
+    /// Whether calls are asked to write.
+    pub fn has_writer(&self) -> bool
+        ensures { result ≡ has_writer self.now }
+    {
+        self.takes.is_none()
+    }
+
+    /// Whether calls render over a context, and over the data.
+    pub fn is_over(&self, over: Over) -> bool
+        ensures { result ≡ is_over over self.now }
+    {
+        match self.over {
+            None => true,
+            Some(Over::Context) => match over {
+                Over::Context => true,
+                Over::Value => false,
+            },
+            Some(Over::Value) => match over {
+                Over::Context => false,
+                Over::Value => true,
+            },
+        }
+    }
+
+    /// Whether a template is rendered to an output of its own, which neither files nor a writer can have.
+    pub fn has_output(&self) -> bool
+        ensures { result ≡ has_output self.now }
+    {
+        self.files.is_none()
+            && (self.steps.is_none() && (self.to.is_none() && self.is_over(Over::Context)))
+    }
+
     /// The row of an object's members.
     pub fn read(alloc: Global, members: Map<String, JsonValue>) -> Result<Rendering, RowFailure> {
         let mut fields = Fields::default();
         for (name, value) in members {
             fields.take(alloc, name, value)?;
         }
-        fields.into_rendering()
+        fields.into_rendering(alloc)
     }
 }
 
@@ -98,9 +161,13 @@ struct Fields {
     recursive: bool,
     prevent_indent: bool,
     limit: Option<u16>,
+    files: Option<Map<String, JsonValue>>,
+    steps: Option<Vec<Step>>,
     source: Option<String>,
     name: Option<String>,
     data: Option<JsonValue>,
+    over: Option<Over>,
+    to: Option<Taking>,
     takes: Option<usize>,
     fault: Option<ErrorKind>,
     text: Option<String>,
@@ -110,6 +177,7 @@ struct Fields {
     template: Option<String>,
     printed: Option<String>,
     logged: Option<Vec<JsonValue>>,
+    asked: Option<Vec<JsonValue>>,
 }
 
 impl Drop for Fields {
@@ -122,9 +190,13 @@ impl Drop for Fields {
             recursive: _,
             prevent_indent: _,
             limit: _,
+            files: _,
+            steps: _,
             source: _,
             name: _,
             data: _,
+            over: _,
+            to: _,
             takes: _,
             fault: _,
             text: _,
@@ -134,6 +206,7 @@ impl Drop for Fields {
             template: _,
             printed: _,
             logged: _,
+            asked: _,
         } = self;
     }
 }
@@ -148,10 +221,25 @@ impl Fields {
             "recursive" => fields::set_boolean(&mut self.recursive, name, &value),
             "prevent_indent" => fields::set_boolean(&mut self.prevent_indent, name, &value),
             "limit" => fields::set_limit(&mut self.limit, name, &value),
+            "files" => kept::set_files(&mut self.files, name, value),
+            "steps" => steps::set_steps(&mut self.steps, alloc, name, value),
+            _ => self.take_rendered(alloc, name, value),
+        }
+    }
+
+    fn take_rendered(
+        &mut self,
+        alloc: Global,
+        name: String,
+        value: JsonValue,
+    ) -> Result<(), RowFailure> {
+        match name.as_str() {
             "source" => fields::set_text(&mut self.source, alloc, name, value),
             "name" => fields::set_text(&mut self.name, alloc, name, value),
             "data" => self.set_data(value),
             "json" => self.set_json(alloc, name, value),
+            "over" => fields::set_over(&mut self.over, name, &value),
+            "to" => pen::set_taking(&mut self.to, name, &value),
             "takes" => fields::set_number(&mut self.takes, name, &value),
             "fault" => fields::set_fault(&mut self.fault, name, &value),
             _ => self.take_wanted(alloc, name, value),
@@ -190,6 +278,7 @@ impl Fields {
             "template" => fields::set_text(&mut self.template, alloc, name, value),
             "printed" => fields::set_text(&mut self.printed, alloc, name, value),
             "logged" => fields::set_lines(&mut self.logged, name, value),
+            "asked" => fields::set_list(&mut self.asked, name, value),
             _ => Err(RowFailure::Field(name, "is no field")),
         }
     }
@@ -204,7 +293,14 @@ impl Fields {
         if self.takes.is_none() && self.fault.is_some() {
             return Err(RowFailure::Fields("a fault without an output that takes so much"));
         }
+        if self.takes.is_some() && self.is_for_calls() {
+            return Err(RowFailure::Fields("an output beside what the calls alone have"));
+        }
         Ok(())
+    }
+
+    fn is_for_calls(&self) -> bool {
+        self.files.is_some() || self.steps.is_some() || self.over.is_some() || self.to.is_some()
     }
 
     fn tells_of_refusal(&self) -> bool {
@@ -214,9 +310,20 @@ impl Fields {
             || self.printed.is_some()
     }
 
-    fn into_rendering(self) -> Result<Rendering, RowFailure> {
+    // With steps, the empty source stands where none does, and renders to the empty text.
+    fn fill(&mut self, alloc: Global) {
+        if self.steps.is_some() && self.source.is_none() && self.name.is_none() {
+            self.source = Some(String::new(alloc));
+            if self.text.is_none() {
+                self.text = Some(String::new(alloc));
+            }
+        }
+    }
+
+    fn into_rendering(self, alloc: Global) -> Result<Rendering, RowFailure> {
         let mut fields = self;
         fields.check()?;
+        fields.fill(alloc);
         let rendered = template_of(fields.source.take(), fields.name.take())?;
         let text = fields
             .text
@@ -235,9 +342,13 @@ impl Fields {
             recursive,
             prevent_indent,
             limit,
+            files,
+            steps,
             source: _,
             name: _,
             data,
+            over,
+            to,
             takes,
             fault,
             text: _,
@@ -247,6 +358,7 @@ impl Fields {
             template,
             printed,
             logged,
+            asked,
         } = self;
         let refusal = reason.map(|reason| Refusal {
             reason,
@@ -262,14 +374,19 @@ impl Fields {
             recursive,
             prevent_indent,
             limit,
+            files,
+            steps,
             rendered,
             data: data.unwrap_or(JsonValue::Null),
+            over,
+            to,
             takes,
             fault: fault.unwrap_or(ErrorKind::NotFound),
             wanted: Wanted {
                 outcome: Outcome { text, refusal },
                 printed,
                 logged,
+                asked,
             },
         }
     }

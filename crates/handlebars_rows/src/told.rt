@@ -1,8 +1,10 @@
 //! What a rendering tells beside its outcome, and what is wanted of all of it.
 
 ghost use Rattle.std.specs.Prelude.{◌≡◌, IsTrue, IfSome, Some, option_map, string_bytes};
+ghost use Rattle.handlebars_rows.specs.Wanted.{Prints};
 
 use crate::fields::line;
+use crate::names::Names;
 use crate::outcome::Outcome;
 use handlebars_base::error::RenderError;
 use log::sink::{Lines, Memory};
@@ -18,13 +20,16 @@ pub struct Wanted {
     pub printed: Option<String>,
     /// The lines that the logger sees, each a level and a text, if they are wanted.
     pub logged: Option<Vec<JsonValue>>,
+    /// The paths that the reader is asked for, if they are wanted.
+    pub asked: Option<Vec<JsonValue>>,
 }
 
-/// The whole text of the error, if there is one, and the lines that the logger saw.
+/// The whole text of the error, if there is one, the lines that the logger saw, and what the reader was asked for.
 #[derive(Drop)]
 pub struct Told {
     pub printed: Option<String>,
     pub lines: Lines,
+    pub asked: Names,
 }
 
 impl Told {
@@ -33,20 +38,23 @@ impl Told {
         alloc: Global,
         answer: &Result<T, RenderError>,
         log: Memory,
+        asked: Names,
     ) -> Result<Told, AllocError> {
         let printed = printed(alloc, answer)?;
         Ok(Told {
             printed,
             lines: log.into_lines(),
+            asked,
         })
     }
 
     /// Whether it is what is wanted, as far as anything is.
     pub fn comes_to(&self, wanted: &Wanted) -> bool
-        ensures { IsTrue result → IfSome wanted.now.printed
-            (λ text. option_map string_bytes self.now.printed ≡ Some (string_bytes text)) }
+        ensures { IsTrue result → Prints self.now wanted.now }
     {
-        prints(&self.printed, &wanted.printed) && logs(self.lines.as_slice(), &wanted.logged)
+        prints(&self.printed, &wanted.printed)
+            && logs(self.lines.as_slice(), &wanted.logged)
+            && self.asked.are(&wanted.asked)
     }
 }
 
@@ -110,6 +118,10 @@ impl fmt::Display for Told {
         for line in self.lines.as_slice() {
             write!(f, "\n      logged: {line:?}")?;
         }
+        let asked = &self.asked;
+        if !asked.is_empty() {
+            write!(f, "\n      asked: {asked}")?;
+        }
         Ok(())
     }
 }
@@ -117,14 +129,17 @@ impl fmt::Display for Told {
 impl fmt::Display for Wanted {
     fn fmt<W: fmt::Write>(&self, f: &mut fmt::Formatter<W>) -> fmt::Result {
         let outcome = &self.outcome;
-        writeln!(f, "    wanted:   {outcome}")?;
+        write!(f, "    wanted:     {outcome}")?;
         if let Some(text) = &self.printed {
-            writeln!(f, "      printed: {text:?}")?;
+            write!(f, "\n      printed: {text:?}")?;
         }
         if let Some(lines) = &self.logged {
             for line in lines {
-                writeln!(f, "      logged: {line}")?;
+                write!(f, "\n      logged: {line}")?;
             }
+        }
+        if let Some(paths) = &self.asked {
+            write!(f, "\n      asked: {paths:?}")?;
         }
         Ok(())
     }

@@ -1,29 +1,37 @@
 //! What a rendering answers.
 
-ghost use Rattle.std.specs.Prelude.{◌≡◌, IfOk, IsTrue, IfSome, Some, is_some, not, option_map, string_bytes};
+ghost use Rattle.std.specs.Prelude.{◌≡◌, ◌&&◌, IfOk, IsTrue, IfSome, is_some};
 ghost use Rattle.handlebars_rows.specs.Outcomes.{outcome_view, handed_of, handed_out};
+ghost use Rattle.handlebars_rows.specs.Wanted.{IsHandedOut, IsWritten};
+ghost use Rattle.handlebars_rows.specs.Ways.{has_output, has_text, has_writer, is_over};
 
-use handlebars::{
-    Context, EscapeKind, HelperEntry, JsonValue, NoFiles, Registry, RenderContext, RenderError,
-    RenderErrorReason, Renderable, Template, TemplateOptions,
-};
+use crate::calls;
+use crate::output::write_template;
+use crate::shelf::Shelf;
+use handlebars::RenderError;
 use handlebars_rows::bounded::Bounded;
-use handlebars_rows::helpers::helper_named;
+use handlebars_rows::names::Names;
 use handlebars_rows::outcome::{Outcome, Refusal};
-use handlebars_rows::rendering::{Escape, Rendered, Rendering};
+use handlebars_rows::pen::{Pen, Taking};
+use handlebars_rows::rendering::{Over, Rendering};
 use handlebars_rows::told::{Told, Wanted};
 use log::sink::Memory;
-use serde_json::Map;
 use std::alloc::{AllocError, Global};
 use std::fmt;
 
-/// What a row comes to, in each of the two ways to render it.
+/// What a row comes to, in each of the ways to render it that are asked.
 #[derive(Drop)]
 pub struct Answer {
-    /// What the registry hands out; it isn't asked where the output is bounded.
+    /// What the registry hands out over a context.
     pub registry: Option<Handed>,
-    /// What the template writes.
-    pub template: Written,
+    /// The same over data that it converts.
+    pub converted: Option<Handed>,
+    /// What the template writes to an output.
+    pub template: Option<Written>,
+    /// What the registry writes to a writer, over a context.
+    pub writer: Option<Written>,
+    /// The same over data that it converts.
+    pub converting: Option<Written>,
 }
 
 /// The whole text, or none of it.
@@ -41,46 +49,88 @@ pub struct Written {
 }
 
 impl Answer {
-    /// Renders a row: in the registry's way unless the output is bounded, and always in the template's.
+    /// Renders a row in each way that it has.
     pub fn of(alloc: Global, row: &Rendering) -> Result<Answer, AllocError>
-        ensures asked { IfOk result (λ answer. is_some answer.registry ≡ not (is_some row.now.takes)) }
+        ensures registry { IfOk result (λ a. is_some a.registry
+            ≡ (has_text row.now && is_over (Over.Context) row.now)) }
+        ensures converted { IfOk result (λ a. is_some a.converted
+            ≡ (has_text row.now && is_over (Over.Value) row.now)) }
+        ensures template { IfOk result (λ a. is_some a.template ≡ has_output row.now) }
+        ensures writer { IfOk result (λ a. is_some a.writer
+            ≡ (has_writer row.now && is_over (Over.Context) row.now)) }
+        ensures converting { IfOk result (λ a. is_some a.converting
+            ≡ (has_writer row.now && is_over (Over.Value) row.now)) }
     {
-        let registry = match row.takes {
-            Some(_) => None,
-            None => Some(Handed::of(alloc, row)?),
-        };
-        let template = Written::of(alloc, row)?;
-        Ok(Answer { registry, template })
+        let registry = Handed::asked(alloc, row, Over::Context)?;
+        let converted = Handed::asked(alloc, row, Over::Value)?;
+        let template = Written::to_output(alloc, row)?;
+        let writer = Written::asked(alloc, row, Over::Context)?;
+        let converting = Written::asked(alloc, row, Over::Value)?;
+        Ok(Answer {
+            registry,
+            converted,
+            template,
+            writer,
+            converting,
+        })
     }
 
-    /// Whether both ways come to what is wanted.
+    /// Whether all of them come to what is wanted.
     pub fn comes_to(&self, wanted: &Wanted) -> bool
-        ensures template { IsTrue result
-            → outcome_view self.now.template.outcome ≡ outcome_view wanted.now.outcome }
         ensures registry { IsTrue result → IfSome self.now.registry
-            (λ handed. handed_of handed.text ≡ handed_out (outcome_view wanted.now.outcome)) }
-        ensures printed { IsTrue result → IfSome wanted.now.printed
-            (λ text. option_map string_bytes self.now.template.told.printed ≡ Some (string_bytes text)) }
+            (λ handed. IsHandedOut handed.text handed.told wanted.now) }
+        ensures converted { IsTrue result → IfSome self.now.converted
+            (λ handed. IsHandedOut handed.text handed.told wanted.now) }
+        ensures template { IsTrue result → IfSome self.now.template
+            (λ written. IsWritten written.outcome written.told wanted.now) }
+        ensures writer { IsTrue result → IfSome self.now.writer
+            (λ written. IsWritten written.outcome written.told wanted.now) }
+        ensures converting { IsTrue result → IfSome self.now.converting
+            (λ written. IsWritten written.outcome written.told wanted.now) }
     {
-        all_handed_out(&self.registry, wanted) && self.template.comes_to(wanted)
+        are_handed_out(&self.registry, wanted)
+            && are_handed_out(&self.converted, wanted)
+            && are_written(&self.template, wanted)
+            && are_written(&self.writer, wanted)
+            && are_written(&self.converting, wanted)
     }
 }
 
-fn all_handed_out(registry: &Option<Handed>, wanted: &Wanted) -> bool
-    ensures { IsTrue result → IfSome registry.now
-        (λ handed. handed_of handed.text ≡ handed_out (outcome_view wanted.now.outcome)) }
+fn are_handed_out(handed: &Option<Handed>, wanted: &Wanted) -> bool
+    ensures { IsTrue result → IfSome handed.now
+        (λ handed. IsHandedOut handed.text handed.told wanted.now) }
 {
-    match registry {
+    match handed {
         Some(handed) => handed.comes_to(wanted),
         None => true,
     }
 }
 
+fn are_written(written: &Option<Written>, wanted: &Wanted) -> bool
+    ensures { IsTrue result → IfSome written.now
+        (λ written. IsWritten written.outcome written.told wanted.now) }
+{
+    match written {
+        Some(written) => written.comes_to(wanted),
+        None => true,
+    }
+}
+
 impl Handed {
-    fn of(alloc: Global, row: &Rendering) -> Result<Handed, AllocError> {
+    fn asked(alloc: Global, row: &Rendering, over: Over) -> Result<Option<Handed>, AllocError>
+        ensures { IfOk result (λ handed. is_some handed ≡ (has_text row.now && is_over over row.now)) }
+    {
+        match row.has_text() && row.is_over(over) {
+            true => Ok(Some(Handed::of(alloc, row, over)?)),
+            false => Ok(None),
+        }
+    }
+
+    fn of(alloc: Global, row: &Rendering, over: Over) -> Result<Handed, AllocError> {
         let log = Memory::new(alloc);
-        let answer = registry_text(alloc, row, &log);
-        let told = Told::of(alloc, &answer, log)?;
+        let mut files = Shelf::new(alloc);
+        let answer = calls::text(alloc, row, over, &log, &mut files);
+        let told = Told::of(alloc, &answer, log, files.take_asked())?;
         let text = match answer {
             Ok(text) => Ok(text),
             Err(error) => Err(Refusal::of(alloc, &error)?),
@@ -89,9 +139,7 @@ impl Handed {
     }
 
     fn comes_to(&self, wanted: &Wanted) -> bool
-        ensures text { IsTrue result → handed_of self.now.text ≡ handed_out (outcome_view wanted.now.outcome) }
-        ensures printed { IsTrue result → IfSome wanted.now.printed
-            (λ text. option_map string_bytes self.now.told.printed ≡ Some (string_bytes text)) }
+        ensures { IsTrue result → IsHandedOut self.now.text self.now.told wanted.now }
     {
         hands_out(&self.text, &wanted.outcome) && self.told.comes_to(wanted)
     }
@@ -109,16 +157,52 @@ fn hands_out(handed: &Result<String, Refusal>, wanted: &Outcome) -> bool
 }
 
 impl Written {
-    fn of(alloc: Global, row: &Rendering) -> Result<Written, AllocError> {
+    fn asked(alloc: Global, row: &Rendering, over: Over) -> Result<Option<Written>, AllocError>
+        ensures { IfOk result (λ written. is_some written ≡ (has_writer row.now && is_over over row.now)) }
+    {
+        match row.has_writer() && row.is_over(over) {
+            true => Ok(Some(Written::of(alloc, row, over)?)),
+            false => Ok(None),
+        }
+    }
+
+    fn of(alloc: Global, row: &Rendering, over: Over) -> Result<Written, AllocError> {
+        let log = Memory::new(alloc);
+        let mut files = Shelf::new(alloc);
+        let mut pen = Pen::new(alloc, row.to.unwrap_or(Taking::all()));
+        let answer = calls::write(alloc, row, over, &mut pen, &log, &mut files);
+        let text = pen.text(alloc)?;
+        Written::with(alloc, text, &answer, log, files.take_asked())
+    }
+
+    fn to_output(alloc: Global, row: &Rendering) -> Result<Option<Written>, AllocError>
+        ensures { IfOk result (λ written. is_some written ≡ has_output row.now) }
+    {
+        match row.has_output() {
+            true => Ok(Some(Written::of_template(alloc, row)?)),
+            false => Ok(None),
+        }
+    }
+
+    fn of_template(alloc: Global, row: &Rendering) -> Result<Written, AllocError> {
         let log = Memory::new(alloc);
         let mut out = Bounded::new(alloc, row.takes.unwrap_or(usize::MAX), row.fault);
         let answer = write_template(alloc, row, &mut out, &log);
-        let told = Told::of(alloc, &answer, log)?;
-        let refusal = match &answer {
+        Written::with(alloc, out.into_string(), &answer, log, Names::new(alloc))
+    }
+
+    fn with(
+        alloc: Global,
+        text: String,
+        answer: &Result<(), RenderError>,
+        log: Memory,
+        asked: Names,
+    ) -> Result<Written, AllocError> {
+        let told = Told::of(alloc, answer, log, asked)?;
+        let refusal = match answer {
             Ok(()) => None,
             Err(error) => Some(Refusal::of(alloc, error)?),
         };
-        let text = out.into_string();
         Ok(Written {
             outcome: Outcome { text, refusal },
             told,
@@ -126,150 +210,46 @@ impl Written {
     }
 
     fn comes_to(&self, wanted: &Wanted) -> bool
-        ensures outcome { IsTrue result → outcome_view self.now.outcome ≡ outcome_view wanted.now.outcome }
-        ensures printed { IsTrue result → IfSome wanted.now.printed
-            (λ text. option_map string_bytes self.now.told.printed ≡ Some (string_bytes text)) }
+        ensures { IsTrue result → IsWritten self.now.outcome self.now.told wanted.now }
     {
         self.outcome.equals(&wanted.outcome) && self.told.comes_to(wanted)
     }
 }
 
-// What the row registers, in byte order of name: helpers, then templates. A template that doesn't compile refuses the
-// row.
-fn registry_of(alloc: Global, row: &Rendering) -> Result<Registry, RenderError> {
-    let mut registry = Registry::new(alloc)?;
-    if let Some(helpers) = &row.helpers {
-        register_helpers(&mut registry, helpers)?;
-    }
-    if let Some(escape) = row.escape {
-        register_escape(&mut registry, escape);
-    }
-    registry.set_strict_mode(row.strict);
-    registry.set_recursive_lookup(row.recursive);
-    registry.set_prevent_indent(row.prevent_indent);
-    if let Some(limit) = row.limit {
-        registry.set_inclusion_limit(limit);
-    }
-    if let Some(templates) = &row.templates {
-        for (name, source) in templates.iter() {
-            registry.register_template_string(name.as_str(), source.as_str().unwrap_or(""))?;
-        }
-    }
-    Ok(registry)
-}
-
-// A name with no helper loses the one that it has.
-fn register_helpers(
-    registry: &mut Registry,
-    helpers: &Map<String, JsonValue>,
-) -> Result<(), AllocError> {
-    for (name, value) in helpers.iter() {
-        match helper_named(value) {
-            Some(kind) => registry.register_helper(name.as_str(), HelperEntry::Built(kind))?,
-            None => registry.unregister_helper(name.as_str()),
-        }
-    }
-    Ok(())
-}
-
-// `Html` is registered behind `Plain`, in the place of it.
-fn register_escape(registry: &mut Registry, escape: Escape) {
-    registry.register_escape_fn(EscapeKind::Plain);
-    match escape {
-        Escape::Html => registry.register_escape_fn(EscapeKind::Html),
-        Escape::Plain => {}
-    }
-}
-
-fn registry_text(alloc: Global, row: &Rendering, log: &Memory) -> Result<String, RenderError> {
-    let registry = registry_of(alloc, row)?;
-    let data = Context::try_from(row.data.clone()?)?;
-    match &row.rendered {
-        Rendered::Source(source) => {
-            registry.render_template_with_context(source.as_str(), &data, log, &mut NoFiles)
-        }
-        Rendered::Name(name) => {
-            registry.render_with_context(name.as_str(), &data, log, &mut NoFiles)
-        }
-    }
-}
-
-fn write_template(
-    alloc: Global,
-    row: &Rendering,
-    out: &mut Bounded,
-    log: &Memory,
-) -> Result<(), RenderError> {
-    let registry = registry_of(alloc, row)?;
-    let data = Context::try_from(row.data.clone()?)?;
-    match &row.rendered {
-        Rendered::Source(source) => write_source(alloc, &registry, source, &data, out, log),
-        Rendered::Name(name) => write_named(alloc, &registry, name, &data, out, log),
-    }
-}
-
-fn write_source(
-    alloc: Global,
-    registry: &Registry,
-    source: &String,
-    data: &Context,
-    out: &mut Bounded,
-    log: &Memory,
-) -> Result<(), RenderError> {
-    let options = TemplateOptions {
-        name: None,
-        prevent_indent: registry.prevent_indent(),
-    };
-    let template = Template::compile2(alloc, source.as_str(), options)?;
-    write_tree(alloc, registry, &template, data, out, log)
-}
-
-fn write_named(
-    alloc: Global,
-    registry: &Registry,
-    name: &String,
-    data: &Context,
-    out: &mut Bounded,
-    log: &Memory,
-) -> Result<(), RenderError> {
-    match registry.get_template(name.as_str()) {
-        Some(template) => write_tree(alloc, registry, template, data, out, log),
-        None => Err(RenderErrorReason::TemplateNotFound(name.clone()?).into()),
-    }
-}
-
-// Where the context doesn't tell of a refusal, or an output is asked again that has refused a segment, this is another
-// refusal, which no row wants.
-fn write_tree(
-    alloc: Global,
-    registry: &Registry,
-    template: &Template,
-    data: &Context,
-    out: &mut Bounded,
-    log: &Memory,
-) -> Result<(), RenderError> {
-    let mut rc = RenderContext::new(alloc, template.name.as_ref())?;
-    rc.set_recursive_lookup(registry.recursive_lookup());
-    let answer = template.render(alloc, registry, data, &mut rc, out, log);
-    let failed = answer.is_err();
-    if rc.has_failed() == failed && out.refused() <= u64::from(failed) {
-        answer
-    } else {
-        Err(RenderError::new(alloc, "not told, or asked again"))
-    }
-}
-
 impl fmt::Display for Answer {
     fn fmt<W: fmt::Write>(&self, f: &mut fmt::Formatter<W>) -> fmt::Result {
-        if let Some(handed) = &self.registry {
-            let told = &handed.told;
-            match &handed.text {
-                Ok(text) => writeln!(f, "    registry: {text:?}{told}")?,
-                Err(refusal) => writeln!(f, "    registry: {refusal}{told}")?,
-            }
-        }
-        let outcome = &self.template.outcome;
-        let told = &self.template.told;
-        write!(f, "    template: {outcome}{told}")
+        show_handed(f, "registry:  ", &self.registry)?;
+        show_handed(f, "converted: ", &self.converted)?;
+        show_written(f, "template:  ", &self.template)?;
+        show_written(f, "writer:    ", &self.writer)?;
+        show_written(f, "converting:", &self.converting)
     }
+}
+
+fn show_handed<W: fmt::Write>(
+    f: &mut fmt::Formatter<W>,
+    way: &str,
+    handed: &Option<Handed>,
+) -> fmt::Result {
+    let Some(handed) = handed else {
+        return Ok(());
+    };
+    let told = &handed.told;
+    match &handed.text {
+        Ok(text) => write!(f, "\n    {way} {text:?}{told}"),
+        Err(refusal) => write!(f, "\n    {way} {refusal}{told}"),
+    }
+}
+
+fn show_written<W: fmt::Write>(
+    f: &mut fmt::Formatter<W>,
+    way: &str,
+    written: &Option<Written>,
+) -> fmt::Result {
+    let Some(written) = written else {
+        return Ok(());
+    };
+    let outcome = &written.outcome;
+    let told = &written.told;
+    write!(f, "\n    {way} {outcome}{told}")
 }

@@ -4,8 +4,12 @@
 
 mod answer;
 mod asked;
+mod calls;
+mod output;
+mod registered;
 mod row;
 mod run;
+mod shelf;
 
 use run::run;
 use std::process::ExitCode;

@@ -2,7 +2,7 @@
 
 ghost use Rattle.std.specs.Prelude.{◌≡◌, ◌<◌, ◌≤◌};
 
-use handlebars::RenderError;
+use handlebars::{RenderError, TemplateError};
 use std::alloc::AllocError;
 use std::io::ErrorKind;
 use std::{fmt, io};
@@ -13,6 +13,8 @@ pub enum Failure<'a> {
     Usage,
     CannotRead(&'a str),
     NotJson(&'a str),
+    /// A template of the folder is refused.
+    NotRegistered(TemplateError),
     Refused(RenderError),
     OutOfMemory,
     CannotWrite,
@@ -37,6 +39,7 @@ impl<'a> Failure<'a> {
             Failure::Usage => 2,
             Failure::CannotRead(_) => 2,
             Failure::NotJson(_) => 2,
+            Failure::NotRegistered(_) => 1,
             Failure::Refused(_) => 1,
             Failure::OutOfMemory => 1,
             Failure::CannotWrite => 1,
@@ -47,6 +50,12 @@ impl<'a> Failure<'a> {
 impl From<AllocError> for Failure<'_> {
     fn from(_e: AllocError) -> Self {
         Failure::OutOfMemory
+    }
+}
+
+impl From<TemplateError> for Failure<'_> {
+    fn from(cause: TemplateError) -> Self {
+        Failure::NotRegistered(cause)
     }
 }
 
@@ -62,6 +71,7 @@ impl fmt::Display for Failure<'_> {
             Failure::Usage => write!(f, "usage: hbs [--strict] TEMPLATE DATA [FOLDER]"),
             Failure::CannotRead(path) => write!(f, "hbs: cannot read {path}"),
             Failure::NotJson(path) => write!(f, "hbs: not JSON: {path}"),
+            Failure::NotRegistered(cause) => write!(f, "{cause}"),
             Failure::Refused(cause) => write!(f, "{cause}"),
             Failure::OutOfMemory => write!(f, "Out of memory"),
             Failure::CannotWrite => write!(f, "hbs: cannot write"),

@@ -1,26 +1,26 @@
-//! `hbs [--strict] TEMPLATE DATA`: prints what a template gives over JSON data.
+//! `hbs [--strict] TEMPLATE DATA [FOLDER]`: prints what a template gives over JSON data, with the templates of a
+//! folder.
 #![tactic(auto)]
 
 mod failure;
-mod files;
 mod run;
 #[cfg(test)]
 mod tests;
 mod text;
 mod words;
 
-use files::Disk;
+use handlebars::FileReader;
 use run::run;
 use std::process::ExitCode;
 use words::command_line;
 
 fn main(rt: HostRuntime) -> ExitCode {
     let words = command_line(&rt);
-    let mut disk = Disk::new(&rt);
+    let mut files = FileReader::new(&rt, rt.alloc());
     let status = run(
         rt.alloc(),
         words,
-        &mut disk,
+        &mut files,
         &mut rt.stdout(),
         &mut rt.stderr(),
     );

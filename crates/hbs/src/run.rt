@@ -4,18 +4,17 @@ ghost use Rattle.std.specs.Prelude.{◌≡◌, ◌≢◌, ◌≤◌, Err, IfOk, 
 ghost use Rattle.hbs.specs.Words.{begins_strict, file_words, is_strict};
 
 use crate::failure::Failure;
-use crate::text::text;
+use crate::text::{Task, print_text};
 use crate::words::Word;
 use handlebars::TemplateReader;
 use std::alloc::{AllocError, Global};
-use std::io;
 use std::io::Write;
 
-/// Renders the template that the first word names over the data that the second one names, in strict
-/// mode where `--strict` stands before them, and answers the status that the program ends with.
-/// `words` is an error where they found no memory. Other than two words that are texts, behind
-/// `--strict` or not, are refused before any file is read. A run that fails says
-/// why in one line on `err`, and writes nothing to `out` unless writing there is what fails.
+/// Renders the template that the first word names over the data that the second one names, with the templates of the
+/// folder that a third one names, in strict mode where `--strict` stands before them, and answers the status that the
+/// program ends with. `words` is an error where they found no memory. Other than two or three words that are texts,
+/// behind `--strict` or not, are refused before any file is read. A run that fails says
+/// why in one line on `err`; what was written to `out` before it fails stays.
 pub fn run<R: TemplateReader, O: Write, E: Write>(
     alloc: Global,
     words: Result<Vec<Word>, AllocError>,
@@ -24,7 +23,8 @@ pub fn run<R: TemplateReader, O: Write, E: Write>(
     err: &mut E,
 ) -> u8
     ensures status { result ≤ 2 }
-    ensures usage { IfOk words (λ given. length (file_words given.items) ≢ 2 → result ≡ 2) }
+    ensures usage { IfOk words (λ given. length (file_words given.items) ≢ 2
+        → length (file_words given.items) ≢ 3 → result ≡ 2) }
 {
     match words {
         Ok(words) => match print(alloc, words.as_slice(), files, out) {
@@ -50,17 +50,25 @@ fn print<'a, R: TemplateReader, O: Write>(
     files: &mut R,
     out: &mut O,
 ) -> Result<(), Failure<'a>>
-    ensures usage { length (file_words words.now) ≢ 2 → result ≡ Err Failure.Usage }
+    ensures usage { length (file_words words.now) ≢ 2 → length (file_words words.now) ≢ 3 → result ≡ Err Failure.Usage }
 {
     let (strict, words) = split_strict(words);
-    let [Word::Text(template), Word::Text(data)] = words else {
-        return Err(Failure::Usage);
+    let task = match words {
+        [Word::Text(template), Word::Text(data)] => Task {
+            strict,
+            template: template.as_str(),
+            data: data.as_str(),
+            folder: None,
+        },
+        [Word::Text(template), Word::Text(data), Word::Text(folder)] => Task {
+            strict,
+            template: template.as_str(),
+            data: data.as_str(),
+            folder: Some(folder.as_str()),
+        },
+        _ => return Err(Failure::Usage),
     };
-    let text = text(alloc, strict, template.as_str(), data.as_str(), files)?;
-    match write_text(text.as_str(), out) {
-        Ok(()) => Ok(()),
-        Err(_) => Err(Failure::CannotWrite),
-    }
+    print_text(alloc, &task, files, out)
 }
 
 // Whether the first word is `--strict`, and the words that name files.
@@ -87,10 +95,4 @@ fn is_strict(word: &Word) -> bool
         Word::Text(text) => text.as_str() == "--strict",
         Word::Unreadable => false,
     }
-}
-
-// In one write, where the output takes it all.
-fn write_text<O: Write>(text: &str, out: &mut O) -> io::Result<()> {
-    out.write_all(text.as_bytes())?;
-    out.flush()
 }

@@ -1,4 +1,4 @@
-//! Runs of the program over two files that a test keeps.
+//! Runs of the program over files that a test keeps.
 
 use crate::run::run;
 use crate::words::Word;
@@ -8,12 +8,13 @@ use std::io;
 use std::io::{ErrorKind, Write};
 use std::process::Abort;
 
-// Two files, the path that can't be read and why, and how often any was asked for.
+// Two files and a folder of two templates, the path that can't be read and why, and how often any was asked for.
 #[derive(Drop)]
 struct Kept {
     alloc: Global,
     template: &'static str,
     data: &'static str,
+    partial: &'static str,
     broken: &'static str,
     kind: ErrorKind,
     asked: u64,
@@ -27,6 +28,8 @@ impl Kept {
         match path {
             "t.hbs" => Ok(self.template),
             "d.json" => Ok(self.data),
+            "f/a.hbs" => Ok(self.partial),
+            "f/b/c.hbs" => Ok("C"),
             _ => Err(ErrorKind::NotFound),
         }
     }
@@ -45,8 +48,20 @@ impl TemplateReader for Kept {
         }
     }
 
-    fn list(&mut self, _folder: &str) -> Result<Vec<(String, EntryKind)>, io::Error> {
-        Err(io::Error::from(ErrorKind::Unsupported))
+    fn list(&mut self, folder: &str) -> Result<Vec<(String, EntryKind)>, io::Error> {
+        if folder == self.broken {
+            return Err(io::Error::from(self.kind));
+        }
+        match folder {
+            "f" => Ok(vec![in self.alloc;
+                (String::from_str(self.alloc, "b")?, EntryKind::Folder),
+                (String::from_str(self.alloc, "a.hbs")?, EntryKind::File),
+            ]?),
+            "f/b" => {
+                Ok(vec![in self.alloc; (String::from_str(self.alloc, "c.hbs")?, EntryKind::File)]?)
+            }
+            _ => Err(io::Error::from(ErrorKind::NotFound)),
+        }
     }
 }
 
@@ -70,6 +85,7 @@ fn readable(alloc: Global, template: &'static str, data: &'static str) -> Kept {
         alloc,
         template,
         data,
+        partial: "{{x}}",
         broken: "",
         kind: ErrorKind::NotFound,
         asked: 0,
@@ -181,7 +197,7 @@ fn renders_or_refuses(rt: HostRuntime) {
     renders(&rt, alloc, "{{a", "{\"a\":}", 2, "", no_json);
     let number = "Number outside the kept range\n";
     renders(&rt, alloc, "{{a", "1.5", 1, "", number);
-    renders(&rt, alloc, "x{{a.x}}", "{\"a\":[1]}", 1, "", BY_NAME);
+    renders(&rt, alloc, "x{{a.x}}", "{\"a\":[1]}", 1, "x", BY_NAME);
     renders(&rt, alloc, "ab{{name", "null", 1, "", UNREADABLE);
 }
 
@@ -198,10 +214,17 @@ fn tells_of_words_and_files(rt: HostRuntime) {
     let (template, data) = ("t.hbs", "d.json");
     let strict = "--strict";
     runs_for(&rt, alloc, &[template, data], (0, 2), "a\n", "");
-    runs_for(&rt, alloc, &[strict, template, data], (1, 2), "", MISSING);
+    runs_for(
+        &rt,
+        alloc,
+        &[strict, template, data],
+        (1, 2),
+        "a\n",
+        MISSING,
+    );
     runs_for(&rt, alloc, &[], (2, 0), "", USAGE);
     runs_for(&rt, alloc, &[template], (2, 0), "", USAGE);
-    runs_for(&rt, alloc, &[template, data, data], (2, 0), "", USAGE);
+    runs_for(&rt, alloc, &[template, data, data, data], (2, 0), "", USAGE);
     runs_for(&rt, alloc, &["?"], (2, 0), "", USAGE);
     runs_for(&rt, alloc, &[template, "?"], (2, 0), "", USAGE);
     runs_for(&rt, alloc, &["?", data], (2, 0), "", USAGE);
@@ -210,14 +233,14 @@ fn tells_of_words_and_files(rt: HostRuntime) {
     runs_for(
         &rt,
         alloc,
-        &[strict, template, data, data],
+        &[strict, template, data, data, data],
         (2, 0),
         "",
         USAGE,
     );
-    runs_for(&rt, alloc, &[template, strict, data], (2, 0), "", USAGE);
     let no_data = "hbs: cannot read --strict\n";
     runs_for(&rt, alloc, &[template, strict], (2, 2), "", no_data);
+    runs_for(&rt, alloc, &[template, strict, data], (2, 2), "", no_data);
     runs_for(&rt, alloc, &[strict, strict, data], (2, 1), "", no_data);
     let no_path = "hbs: cannot read no/é such\n";
     runs_for(&rt, alloc, &["no/é such", data], (2, 1), "", no_path);
@@ -238,6 +261,54 @@ fn tells_of_words_and_files(rt: HostRuntime) {
     breaks(&rt, alloc, data, ErrorKind::InvalidData, (2, 2), no_data);
     breaks(&rt, alloc, template, ErrorKind::OutOfMemory, (1, 1), memory);
     breaks(&rt, alloc, data, ErrorKind::OutOfMemory, (1, 2), memory);
+}
+
+// Over a folder whose template `a` has this text, with this path that can't be read.
+fn includes(
+    rt: &impl Abort,
+    alloc: Global,
+    partial: &'static str,
+    broken: (&'static str, ErrorKind),
+    wanted: (u8, u64),
+    out: &str,
+    err: &str,
+) {
+    let mut files = readable(alloc, "[{{> a}}{{> b/c}}]", r#"{"x":1}"#);
+    files.partial = partial;
+    (files.broken, files.kind) = broken;
+    let words = words(alloc, &["t.hbs", "d.json", "f"]);
+    comes_to(rt, &mut files, words, wanted, out, err);
+}
+
+const NO_PARTIAL: &str =
+    "Error rendering \"Unnamed template\" line 1, col 2: Partial not found a\n";
+
+const BROKEN_PARTIAL: &str = r#"Template error: invalid handlebars syntax: unreadable tag
+    --> Template error in "a":1:1
+     |
+   0 | {{x
+     |-^-
+     |
+     = reason: invalid handlebars syntax: unreadable tag
+
+"#;
+
+#[test]
+fn renders_with_a_folder(rt: HostRuntime) {
+    let alloc = rt.alloc();
+    let whole = ("", ErrorKind::NotFound);
+    includes(&rt, alloc, "{{x}}", whole, (0, 4), "[1C]", "");
+    includes(&rt, alloc, "{{x", whole, (1, 3), "", BROKEN_PARTIAL);
+    let unlisted = ("f", ErrorKind::NotFound);
+    includes(&rt, alloc, "", unlisted, (1, 2), "[", NO_PARTIAL);
+    let memory = "Out of memory\n";
+    let unlisted = ("f", ErrorKind::OutOfMemory);
+    includes(&rt, alloc, "", unlisted, (1, 2), "", memory);
+    let unread = ("f/b/c.hbs", ErrorKind::OutOfMemory);
+    includes(&rt, alloc, "", unread, (1, 4), "", memory);
+    let unread = ("f/a.hbs", ErrorKind::NotFound);
+    let no_file = "Template \"a\": entity not found\n";
+    includes(&rt, alloc, "", unread, (1, 3), "", no_file);
 }
 
 #[test]

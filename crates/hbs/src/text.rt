@@ -1,31 +1,71 @@
 //! The text that a run prints.
 
 use crate::failure::Failure;
-use handlebars::{Context, JsonValue, NoFiles, Registry, TemplateReader};
+use handlebars::{Context, DirectorySourceOptions, JsonValue, NoFiles, Registry, TemplateReader};
 use log::sink::Discard;
 use std::alloc::Global;
+use std::io;
+use std::io::{BufWriter, Write};
 
-/// What a template gives over data, in strict mode or not, both read from their paths: the template
-/// first.
-pub fn text<'a, R: TemplateReader>(
+/// What is asked for: the paths of a template, of data and perhaps of a folder, and whether the mode is strict.
+#[derive(Drop)]
+pub struct Task<'a> {
+    pub strict: bool,
+    pub template: &'a str,
+    pub data: &'a str,
+    pub folder: Option<&'a str>,
+}
+
+/// Prints what a template gives over data: the template is read first, then the data, then the folder. What is printed
+/// before a fault stays.
+pub fn print_text<'a, R: TemplateReader, O: Write>(
     alloc: Global,
-    strict: bool,
-    template: &'a str,
-    data: &'a str,
+    task: &Task<'a>,
     files: &mut R,
-) -> Result<String, Failure<'a>> {
-    let source = read(template, files)?;
-    let value = json(alloc, data, read(data, files)?.as_str())?;
+    out: &mut O,
+) -> Result<(), Failure<'a>> {
+    let source = read(task.template, files)?;
+    let value = json(alloc, task.data, read(task.data, files)?.as_str())?;
     let context = Context::try_from(value)?;
     let mut registry = Registry::new(alloc)?;
-    registry.set_strict_mode(strict);
-    let text = registry.render_template_with_context(
-        source.as_str(),
-        &context,
+    registry.set_strict_mode(task.strict);
+    if let Some(folder) = task.folder {
+        registry.register_templates_directory(folder, DirectorySourceOptions::default(), files)?;
+    }
+    write_text(alloc, &registry, source.as_str(), &context, out)
+}
+
+// Through a buffer, which is emptied at a fault too.
+fn write_text<'a, O: Write>(
+    alloc: Global,
+    registry: &Registry,
+    source: &str,
+    context: &Context,
+    out: &mut O,
+) -> Result<(), Failure<'a>> {
+    let mut buffer = match BufWriter::new(alloc, out) {
+        Ok(buffer) => buffer,
+        Err(_) => return Err(Failure::OutOfMemory),
+    };
+    let answer = registry.render_template_with_context_to_write(
+        source,
+        context,
+        &mut buffer,
         &Discard,
         &mut NoFiles,
-    )?;
-    Ok(text)
+    );
+    let flushed = buffer.flush();
+    match answer {
+        Ok(()) => written(flushed),
+        Err(cause) => Err(cause.into()),
+    }
+}
+
+fn written<'a>(answer: io::Result<()>) -> Result<(), Failure<'a>> {
+    match answer {
+        Ok(()) => Ok(()),
+        Err(_) => Err(Failure::CannotWrite),
+    }
 }
 
 fn read<'a, R: TemplateReader>(path: &'a str, files: &mut R) -> Result<String, Failure<'a>> {

@@ -42,7 +42,8 @@ pub trait Evaluable {
         rc: &mut RenderContext,
         log: &L,
     ) -> Result<(), RenderError>
-        ensures evals { has_failed rc.old ≡ false → Evals (setting_of E.registered E.own registry.now «data».now) (steps self.now)
+        ensures evals { has_failed rc.old ≡ false
+            → Evals (setting_of E.registered E.own registry.now «data».now) (steps self.now)
             (seen self.now) (state_of rc.old) result (state_of rc.new) }
         ensures failed { has_failed rc.old ≡ true
             → IsErrAnd result (λ e. refusal_of e ≡ plain_refusal failed) × (rc.new ≡ rc.old) }

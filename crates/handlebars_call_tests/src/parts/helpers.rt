@@ -4,7 +4,8 @@ ghost use Rattle.std.specs.Prelude.{◌≡◌, ◌∷◌, [], IfOk, None, Some, 
 ghost use Rattle.std.proofs.Common.{sym, ◌∙◌};
 ghost use Rattle.serde_json.specs.Data.{string};
 ghost use Rattle.handlebars_base.specs.Answers.{gives};
-ghost use Rattle.handlebars_helpers.specs.Own.{not_offered, offers, offers_missing, renders_body, renders_inverse, writes};
+ghost use Rattle.handlebars_helpers.specs.Own.{not_offered, offers, offers_missing};
+ghost use Rattle.handlebars_helpers.specs.Own.{renders_body, renders_inverse, writes};
 ghost use Rattle.handlebars_helpers.specs.View.{helper_view};
 ghost use Rattle.handlebars_call_tests.specs.Parts.{distance, shown_at};
 

@@ -1,6 +1,6 @@
 //! What the tests share. Each of these ends the test where something else comes than is wanted: an owned value that is
-//! kept across an early return writes out at each how it is let go, and ending needs none. In a function over any type a
-//! value is let go by one call, and so is one that is `Held`.
+//! kept across an early return writes out at each how it is let go, and ending needs none. In a function over any type
+//! a value is let go by one call, and so is one that is `Held`.
 
 use handlebars::{
     Context, JsonValue, Registry, RenderContext, RenderError, Renderable, StringOutput, Template,

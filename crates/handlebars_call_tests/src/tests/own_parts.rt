@@ -237,7 +237,8 @@ fn functions_are_asked(rt: HostRuntime) {
             &Context,
         >, _strict: bool| -> FnDeeds
             ensures { MatchResult result
-                (λ deeds. deeds_of deeds ≡ binds (codes "size") (record { registered = codes "len"; constants = [] }) ∷ [])
+                (λ deeds. deeds_of deeds
+                ≡ binds (codes "size") (record { registered = codes "len"; constants = [] }) ∷ [])
                 (λ e. refused_for e ≡ out_of_memory) }
         { renamed(alloc) },
     )

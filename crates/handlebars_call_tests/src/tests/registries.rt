@@ -45,7 +45,8 @@ fn helpers_change(rt: &impl Abort, alloc: Global, registry: &mut Registry) {
 }
 
 const MISSING: &str =
-    r#"Err(RenderError { template_name: None, line_no: Some(1), column_no: Some(1), reason: MissingVariable(Some("no")) })"#;
+    "Err(RenderError { template_name: None, line_no: Some(1), column_no: Some(1), \
+        reason: MissingVariable(Some(\"no\")) })";
 
 fn mode_changes(rt: &impl Abort, alloc: Global, registry: &mut Registry) {
     assert!(rt; !registry.strict_mode());

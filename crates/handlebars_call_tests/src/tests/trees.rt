@@ -77,7 +77,8 @@ const NO_HELPER: &str =
     r#"Err(RenderError { template_name: Some("t"), line_no: None, column_no: None, reason: HelperNotFound("none") })"#;
 
 const NO_HELPER_THERE: &str =
-    r#"Err(RenderError { template_name: Some("t"), line_no: Some(3), column_no: Some(4), reason: HelperNotFound("none") })"#;
+    "Err(RenderError { template_name: Some(\"t\"), line_no: Some(3), column_no: Some(4), \
+        reason: HelperNotFound(\"none\") })";
 
 const NO_PARTIAL: &str =
     r#"Err(RenderError { template_name: Some("t"), line_no: None, column_no: None, reason: PartialNotFound("p") })"#;

@@ -1,0 +1,105 @@
+-- What calls say of a writer that read files first.
+use mathlib.Core.Path.{fun_ext}
+use Rattle.std.proofs.Common.{◌≡◌, ◌≢◌, [], Option, None, Some, Result, Ok, Err, List, sym, ap, ◌∙◌, subst, refl, inl, inr}
+use Rattle.std.specs.BTreeMap.{BTreeMap}
+use Rattle.std.specs.Global.{Global}
+use Rattle.std.specs.Prelude.{String}
+use Rattle.std.specs.declared.io.Error.{Error}
+use Rattle.serde.specs.Event.{Log}
+use Rattle.serde_json.specs.Data.{Data}
+use Rattle.handlebars_base.specs.Answers.{refuses}
+use Rattle.handlebars_base.specs.Bytes.{Text}
+use Rattle.handlebars_base.specs.Reasons.{Refusal, TemplateRefusal, TemplateReason, nowhere, of_template, out_of_memory, reason_for, template_out_of_memory}
+use Rattle.handlebars_base.specs.RenderRefusals.{plain_refusal, reason_in, refusal_of, spot_of}
+use Rattle.handlebars_base.specs.TemplateRefusals.{template_refusal_of}
+use Rattle.handlebars_base.specs.declared.error.render_error.RenderError.{RenderError}
+use Rattle.handlebars_base.specs.declared.error.template_error.TemplateError.{TemplateError}
+use Rattle.handlebars_tags.specs.Options.{Options}
+use Rattle.handlebars_template.specs.Compile.{Compiles, compiled, refused}
+use Rattle.handlebars_template.specs.Tree.{Tree}
+use Rattle.handlebars_template.specs.declared.template.tree.Template.{Template}
+use Rattle.handlebars_helpers.specs.OwnAnswers.{OwnAnswers, Registered}
+use Rattle.handlebars_meaning.specs.Answer.{FromName, FromSource, compiles}
+use Rattle.handlebars_meaning.specs.Laws.{with_templates}
+use Rattle.handlebars_meaning.specs.State.{Setting}
+use Rattle.handlebars_render.specs.View.{Answered}
+use Rattle.handlebars_render.proofs.Carry.{memory_or}
+use Rattle.handlebars.specs.Calls.{BeginsWith, Writes, WritesReading, WritesSource, written_behind, refused_at_file, no_room_to_read, compiled_so, refused_so, no_room_to_compile}
+use Rattle.handlebars.specs.Dev.{FailsReading, HoldsTrees, ReadsFiles, files_for, stored_under}
+use Rattle.handlebars.specs.Files.{IsStopFor, Loaded, Stop, no_memory, not_read, refusal, laid_over, tree_in, unread}
+use Rattle.handlebars.specs.Over.{setting_under, setting_with}
+use Rattle.handlebars.specs.View.{setting_over, stored}
+use Rattle.handlebars.specs.declared.registry.RegistryOf.{RegistryOf}
+use Rattle.handlebars.proofs.AnswerLaws.{FromSource-one}
+use Rattle.handlebars.proofs.Writing.{Appends-nothing, Writes-begun}
+
+module _ {E : Type 0} (registered : E → Registered) (own : E → OwnAnswers) (r : RegistryOf E) (d : Data)
+    {S : Type 0} (reads : S → Text → Result (String Global) Error → S → Type 0) (before after : S) where
+  -- ---- all files were read
+
+  module _ (trees : BTreeMap (String Global) Template) {first last : Option Text} {a : Answered} where
+    pub writes-by-name : (name : Text) (rd : (read : List Loaded)
+        × ReadsFiles reads r.prevent_indent (files_for r (Some name)) before read (Ok tt) after × HoldsTrees read trees)
+        → Writes (setting_with registered own trees r d) (FromName (laid_over (tree_in trees) (stored r)) name) first last a
+        → WritesReading reads r (Some name) before after (λ read. Writes (setting_under registered own read r d)
+        (FromName (stored_under read r) name)) first last a
+    writes-by-name name rd w =
+        written_behind rd.1 (subst (λ (above : Text → Option Tree). Writes (with_templates (laid_over above (stored r)) (setting_over registered own r d))
+        (FromName (laid_over above (stored r)) name) first last a) (fun_ext (λ n. rd.2 n)) w)
+
+    pub writes-compiled : (t : Tree) (rd : (read : List Loaded)
+        × ReadsFiles reads r.prevent_indent (files_for r None) before read (Ok tt) after × HoldsTrees read trees)
+        → Writes (setting_with registered own trees r d) (BeginsWith t) first last a
+        → WritesReading reads r None before after (λ read. Writes (setting_under registered own read r d) (BeginsWith t)) first last a
+    writes-compiled t rd w =
+        written_behind rd.1 (subst (λ (above : Text → Option Tree). Writes (with_templates (laid_over above (stored r)) (setting_over registered own r d))
+        (BeginsWith t) first last a) (fun_ext (λ n. rd.2 n)) w)
+
+  -- ---- a source that compiles
+
+  module _ (options : Options) (source : Text) (t : Tree) (is_source : Compiles source options (compiled t)) {first last : Option Text} where
+    from_source : {a : Answered}
+        → WritesReading reads r None before after (λ read. Writes (setting_under registered own read r d) (BeginsWith t)) first last a
+        → WritesReading reads r None before after (λ read. Writes (setting_under registered own read r d) (FromSource options source)) first last a
+    from_source (written_behind {read = read} all w) = written_behind all
+        (Writes-begun (setting_under registered own read r d) (FromSource options source) (FromSource-one options source) t (compiles is_source) w)
+    from_source (refused_at_file f all why is w) = refused_at_file f all why is w
+    from_source (no_room_to_read is w) = no_room_to_read is w
+
+    pub writes-source : {a : Answered}
+        → WritesReading reads r None before after (λ read. Writes (setting_under registered own read r d) (BeginsWith t)) first last a
+        → WritesSource reads r options source before after (λ read. Writes (setting_under registered own read r d) (FromSource options source))
+        first last a
+    writes-source w = compiled_so is_source (from_source w)
+
+-- ---- what is refused before that
+
+module _ {E : Type 0} (r : RegistryOf E) {S : Type 0} (reads : S → Text → Result (String Global) Error → S → Type 0)
+    (to : List Loaded → Option Text → Option Text → Answered → Type 0) where
+  stops-so : (asked : Option Text) (before after : S) (e : TemplateError) (x : RenderError) (o : Option Text) (read : List Loaded) (why : Stop)
+      → ReadsFiles reads r.prevent_indent (files_for r asked) before read (Err why) after → IsStopFor e why
+      → refusal_of x ≡ plain_refusal (of_template (template_refusal_of e)) → WritesReading reads r asked before after to o o (Err x)
+  stops-so asked before after e x o read (refusal f) failing stop is =
+      refused_at_file f failing refl (is ∙ ap (λ z. plain_refusal (of_template z)) stop) (Appends-nothing o)
+  stops-so asked before after e x o read (not_read name kind) failing stop is =
+      refused_at_file (unread name) failing refl (is ∙ ap (λ z. plain_refusal (of_template z)) stop.0) (Appends-nothing o)
+  stops-so asked before after e x o read no_memory failing stop is =
+      no_room_to_read (ap (λ (z : Refusal). z.reason) is ∙ ap (λ (z : TemplateReason). reason_for (template_refusal_of e) z) stop)
+      (Appends-nothing o)
+
+  pub writes-unread : (asked : Option Text) (before after : S) (e : TemplateError) (x : RenderError) (o : Option Text)
+      → FailsReading reads r.prevent_indent (files_for r asked) before after e
+      → refusal_of x ≡ plain_refusal (of_template (template_refusal_of e)) → WritesReading reads r asked before after to o o (Err x)
+  writes-unread asked before after e x o failing is = stops-so asked before after e x o failing.read failing.why failing.reads_up_to failing.stop is
+
+  module _ (options : Options) (source : Text) (s : S) (f : TemplateRefusal) (x : RenderError) (o : Option Text)
+      (refuses : f.reason ≢ template_out_of_memory → Compiles source options (refused f))
+      (is : refusal_of x ≡ plain_refusal (of_template f)) where
+    not_memory : reason_in x ≢ out_of_memory → f.reason ≢ template_out_of_memory
+    not_memory other memory = other (ap (λ (z : Refusal). z.reason) is ∙ ap (λ (z : TemplateReason). reason_for f z) memory)
+
+    pub writes-uncompiled : WritesSource reads r options source s s to o o (Err x)
+    writes-uncompiled = elim (memory_or (reason_in x)) [
+      | inl memory ↦ no_room_to_compile memory refl (Appends-nothing o)
+      | inr other ↦ refused_so (refuses (not_memory other)) refl is (Appends-nothing o)
+    ]

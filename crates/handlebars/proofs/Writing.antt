@@ -1,0 +1,160 @@
+-- What calls to a writer say, and calls that convert their data.
+use Rattle.std.proofs.Common.{◌≡◌, ◌≢◌, ℕ, List, [], ◌++◌, append-nil, Option, None, Some, Result, Ok, Err, refl, sym, ap, ◌∙◌, subst, inl, inr, ◌⊎◌}
+use Rattle.std.specs.Io.KnownBytes.{Appends}
+use Rattle.std.specs.Prelude.{IsErrAnd}
+use Rattle.std.specs.declared.io.Error.{Error}
+use Rattle.serde.specs.Event.{Log}
+use Rattle.serde_json.specs.Data.{Data}
+use Rattle.handlebars_base.specs.Answers.{IsRefusal, gives, refuses}
+use Rattle.handlebars_base.specs.Bytes.{Text}
+use Rattle.handlebars_base.specs.Outputs.{Held}
+use Rattle.handlebars_base.specs.Reasons.{Reason, Refusal, Spot, TemplateRefusal, TemplateReason, nowhere, of_template, out_of_memory, reason_for, template_out_of_memory}
+use Rattle.handlebars_base.specs.RenderRefusals.{plain_refusal, reason_in, refusal_of, spot_of}
+use Rattle.handlebars_base.specs.declared.error.render_error.RenderError.{RenderError}
+use Rattle.handlebars_scope.specs.Wraps.{IsConversion}
+use Rattle.handlebars_tags.specs.Options.{Options}
+use Rattle.handlebars_template.specs.Compile.{Compiles, refused}
+use Rattle.handlebars_template.specs.Tree.{Tree}
+use Rattle.handlebars_meaning.specs.Answer.{Beginning, a_tree, no_tree, FromSource, does_not, RenderAnswers, not_begun, rendered}
+use Rattle.handlebars_meaning.specs.Means.{render_tree}
+use Rattle.handlebars_meaning.specs.Pieces.{Piece, join}
+use Rattle.handlebars_meaning.specs.Runs.{Outcome, Refused, IsStop, Means}
+use Rattle.handlebars_meaning.specs.State.{IsLawful, Setting, State, first_state}
+use Rattle.handlebars_laws.proofs.RunLaws.{Runs-beginning}
+use Rattle.handlebars_render.specs.View.{Answered, CarriesOut, Tells, ended, refusal, fault, no_memory}
+use Rattle.handlebars_render.proofs.Carry.{at, memory_or}
+use Rattle.handlebars.specs.Calls.{BeginsWith, IsBeginningOfAnswer, Writes, all_written, refused_behind, writer_failed, memory_failed, WritesConverted, not_converted, no_room}
+use Rattle.handlebars.specs.Taken.{TellsTaken}
+use Rattle.handlebars.proofs.AnswerLaws.{IsOne, a_tree-injective, a_tree≢no_tree}
+
+-- ---- what a writer tells
+
+pub Appends-nothing : (o : Option Text) → Appends o o []
+Appends-nothing None = tt
+Appends-nothing (Some xs) = sym (append-nil xs)
+
+pub Appends-told : (first now : Option Text) (t : Text) → TellsTaken first t now → Appends first now t
+Appends-told None now t told = tt
+Appends-told (Some xs) now t told = subst (λ (n : Option Text). Appends (Some xs) n t) (sym (told xs refl)) refl
+
+-- ---- beginnings
+
+pub BeginsWith-one : (t : Tree) → IsOne (BeginsWith t)
+BeginsWith-one t a b x y = x ∙ sym y
+
+module _ (p : Setting) {B C : Beginning → Type 0} (to : (b : Beginning) → B b → C b) where
+  RenderAnswers-map : {ps : List Piece} {o : Outcome} → RenderAnswers p B ps o → RenderAnswers p C ps o
+  RenderAnswers-map (not_begun b) = not_begun (to _ b)
+  RenderAnswers-map (rendered b m) = rendered (to _ b) m
+
+module _ (p : Setting) {B C : Beginning → Type 0} (to : (b : Beginning) → B b → C b) (from : (b : Beginning) → C b → B b) where
+  IsBeginningOfAnswer-map : (t : Text) → IsBeginningOfAnswer p B t → IsBeginningOfAnswer p C t
+  IsBeginningOfAnswer-map t is ps o a h = is ps o (RenderAnswers-map p from a) h
+
+  Writes-map : {before after : Option Text} {r : Answered} → Writes p B before after r → Writes p C before after r
+  Writes-map (all_written a w) = all_written (RenderAnswers-map p to a) w
+  Writes-map (refused_behind a w) = refused_behind (RenderAnswers-map p to a) w
+  Writes-map (writer_failed cause f a tells is w) =
+      writer_failed cause f (RenderAnswers-map p to a) tells (IsBeginningOfAnswer-map _ is) w
+  Writes-map (memory_failed t memory is w) = memory_failed t memory (IsBeginningOfAnswer-map t is) w
+
+-- A call begins with the one tree.
+pub Writes-begun : (p : Setting) (begins : Beginning → Type 0) (one : IsOne begins) (t : Tree) {before after : Option Text} {r : Answered}
+    → begins (a_tree t) → Writes p (BeginsWith t) before after r → Writes p begins before after r
+Writes-begun p begins one t begun w =
+    Writes-map p (λ b is. subst begins (sym is) begun) (λ b is. one b (a_tree t) is begun) w
+
+-- The same writers at the two moments.
+pub Writes-at : {W : Type 0} (p : Setting) (begins : Beginning → Type 0) (contents : W → Option Text) {before first after last : W}
+    {r : Answered} → first ≡ before → last ≡ after → Writes p begins (contents first) (contents after) r
+    → Writes p begins (contents before) (contents last) r
+Writes-at p begins contents {before = before} {after = after} {r = r} a b w =
+    subst (λ z. Writes p begins (contents before) (contents z) r) (sym b)
+    (subst (λ z. Writes p begins (contents z) (contents after) r) a w)
+
+-- ---- a run
+
+module _ (p : Setting) (lawful : IsLawful p.parts) (t : Tree) where
+  stop_begins : {ps : List Piece} {o : Outcome} → Means p t (first_state p.parts.recursive) ps o → IsStop o
+      → IsBeginningOfAnswer p (BeginsWith t) (join ps)
+  stop_begins m stops _ _ (not_begun b) h = absurd (a_tree≢no_tree (sym b))
+  stop_begins m stops qs q (rendered {t = u} b n) h =
+      Runs-beginning lawful m (subst (λ (v : Tree). Means p v (first_state p.parts.recursive) qs q) (a_tree-injective b) n) stops h
+
+  writes_told : {may : Error → Type 0} {i j : ℕ} {ps : List Piece} {o : Outcome} {before after : Option Text} {r : Answered}
+      {next : State} → Means p t (first_state p.parts.recursive) ps o → Tells may i j o r next
+      → Appends before after (join ps) → Writes p (BeginsWith t) before after r
+  writes_told m (ended same) w = all_written (rendered refl m) w
+  writes_told m (refusal same) w = refused_behind (rendered refl m) w
+  writes_told m (fault cause f given count tells) w = writer_failed cause f (rendered refl m) tells (stop_begins m tt) w
+  writes_told {ps = ps} m (no_memory same is) w = memory_failed (join ps) is (stop_begins m tt) w
+
+  -- a rendering to a writer that had taken nothing
+  pub writes_run : {may : Error → Type 0} {first next : State} {h new : Held} {before after : Option Text} {r : Answered}
+      → first ≡ first_state p.parts.recursive → h.text ≡ [] → TellsTaken before new.text after
+      → CarriesOut p (render_tree t) may (at first h) r (at next new) → Writes p (BeginsWith t) before after r
+  writes_run {before = before} {after = after} is empty told c =
+      writes_told (subst (λ (s : State). Means p t s c.pieces c.outcome) is c.runs) c.tells
+      (subst (λ (z : Text). Appends before after z) (c.text ∙ ap (λ (z : Text). z ++ join c.pieces) empty)
+      (Appends-told before after _ told))
+
+-- ---- what is refused before a run
+
+module _ (p : Setting) (begins : Beginning → Type 0) where
+  pub nothing_begins : IsBeginningOfAnswer p begins []
+  nothing_begins ps o a h = ∣ (join ps, refl) ∣₁
+
+  writes_no_memory : (e : RenderError) (o : Option Text) → reason_in e ≡ out_of_memory → Writes p begins o o (Err e)
+  writes_no_memory e o memory = memory_failed [] memory nothing_begins (Appends-nothing o)
+
+  writes_refused : (q : Refusal) (e : RenderError) (o : Option Text) → begins (no_tree q) → refusal_of e ≡ q → Writes p begins o o (Err e)
+  writes_refused q e o b is =
+      refused_behind (subst (λ (z : Refusal). RenderAnswers p begins [] (Refused z)) (sym is) (not_begun b)) (Appends-nothing o)
+
+  pub writes_if : (q : Refusal) (e : RenderError) (o : Option Text) → begins (no_tree q) → IsRefusal q e → Writes p begins o o (Err e)
+  writes_if q e o b is = elim (memory_or (reason_in e)) [
+    | inl memory ↦ writes_no_memory e o memory
+    | inr other ↦ writes_refused q e o b (is other)
+  ]
+
+  -- want of memory alone
+  pub writes_without_memory : (r : Answered) (o : Option Text) → IsErrAnd r (λ e. refusal_of e ≡ plain_refusal out_of_memory)
+      → Writes p begins o o r
+  writes_without_memory (Ok u) o is = absurd is
+  writes_without_memory (Err e) o is = writes_no_memory e o (ap (λ (z : Refusal). z.reason) is)
+
+module _ (p : Setting) (options : Options) (source : Text) where
+  not_compiled : (f : TemplateRefusal) (e : RenderError) (o : Option Text)
+      → (f.reason ≢ template_out_of_memory → Compiles source options (refused f))
+      → refusal_of e ≡ plain_refusal (of_template f) → reason_in e ≢ out_of_memory → Writes p (FromSource options source) o o (Err e)
+  not_compiled f e o so is other =
+      let not_memory : f.reason ≢ template_out_of_memory =
+      λ memory. other (ap (λ (z : Refusal). z.reason) is ∙ ap (λ (r : TemplateReason). reason_for f r) memory) in
+      writes_refused p (FromSource options source) (plain_refusal (of_template f)) e o (does_not (so not_memory)) is
+
+  pub writes_not_compiled : (f : TemplateRefusal) (e : RenderError) (o : Option Text)
+      → (f.reason ≢ template_out_of_memory → Compiles source options (refused f))
+      → refusal_of e ≡ plain_refusal (of_template f) → Writes p (FromSource options source) o o (Err e)
+  writes_not_compiled f e o so is = elim (memory_or (reason_in e)) [
+    | inl memory ↦ writes_no_memory p (FromSource options source) e o memory
+    | inr other ↦ not_compiled f e o so is other
+  ]
+
+-- ---- data that isn't converted
+
+-- a refusal without a place
+pub plain_here : (e : RenderError) → spot_of e ≡ nowhere → plain_refusal (reason_in e) ≡ refusal_of e
+plain_here e plain = sym (ap (λ (z : Spot). record { reason = reason_in e; spot = z }) plain)
+
+module _ {T : Type 0} (writes : T → Log → Log → Type 0) (x : T) where
+  pub not_converted_so : (e : RenderError) → spot_of e ≡ nowhere → IsConversion writes x (refuses (plain_refusal (reason_in e)))
+      → IsConversion writes x (refuses (refusal_of e))
+  not_converted_so e plain is = subst (λ (z : Refusal). IsConversion writes x (refuses z)) (plain_here e plain) is
+
+  pub writes_unconverted : {unread : Type 0} {to : Data → Option Text → Option Text → Answered → Type 0} (e : RenderError) (o : Option Text)
+      → spot_of e ≡ nowhere → (reason_in e ≢ out_of_memory → IsConversion writes x (refuses (plain_refusal (reason_in e))))
+      → unread → WritesConverted writes x unread to o o (Err e)
+  writes_unconverted e o plain so asked = elim (memory_or (reason_in e)) [
+    | inl memory ↦ no_room memory asked (Appends-nothing o)
+    | inr other ↦ not_converted (not_converted_so e plain (so other)) asked (Appends-nothing o)
+  ]

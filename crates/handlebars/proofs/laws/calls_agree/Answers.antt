@@ -1,0 +1,17 @@
+use Rattle.handlebars.specs.Over.{setting_under}
+use Rattle.handlebars.proofs.Agreement as agreement
+use Rattle.handlebars.proofs.AnswerLaws.{FromName-one, FromSource-one, has_one_answer}
+use Rattle.handlebars.proofs.OverLaws.{over-lawful}
+use Rattle.handlebars.proofs.laws.calls_agree.Goals as goal
+
+pub returns-clause-names : goal.returns-clause-names
+returns-clause-names g c = λ name d read.
+    let over = setting_under g.E.OwnParts.registered g.E.OwnParts.own read c.args.registry.now d in
+    agreement.calls_agree over _ (has_one_answer over
+    (over-lawful g.E.OwnParts.registered g.E.OwnParts.own c.args.registry.now d read c.keeps_law.ensures) _ (FromName-one _ name))
+
+pub returns-clause-sources : goal.returns-clause-sources
+returns-clause-sources g c = λ source d read.
+    let over = setting_under g.E.OwnParts.registered g.E.OwnParts.own read c.args.registry.now d in
+    agreement.calls_agree over _ (has_one_answer over
+    (over-lawful g.E.OwnParts.registered g.E.OwnParts.own c.args.registry.now d read c.keeps_law.ensures) _ (FromSource-one _ source))

@@ -1,0 +1,36 @@
+use Rattle.std.proofs.Common.{inl, inr, refl}
+use Rattle.std.proofs.lemmas.Result.{IfOk-weaker, IfErr-weaker}
+use Rattle.handlebars_scope.specs.Contexts.{data_of}
+use Rattle.handlebars.proofs.Asks.{asks-nothing}
+use Rattle.handlebars.proofs.AnswerLaws.{FromName-one, has_one_answer, answer_has_origins}
+use Rattle.handlebars.proofs.OverLaws.{over-lawful}
+use Rattle.handlebars.proofs.Writing.{not_converted_so}
+use Rattle.handlebars.proofs.registry.RegistryOf.render.Goals as goal
+
+pub returns-in-Ok-clause-ok : goal.returns-in-Ok-clause-ok
+returns-in-Ok-clause-ok g c = IfOk-weaker c.render_with_context.result _ _
+    (λ text is. (data_of c.in-Ok.ctx, c.in-Ok.ensures.ok, is)) c.render_with_context.ensures.ok
+
+pub returns-in-Ok-clause-err : goal.returns-in-Ok-clause-err
+returns-in-Ok-clause-err g c = IfErr-weaker c.render_with_context.result _ _
+    (λ e is other. inr (data_of c.in-Ok.ctx, c.in-Ok.ensures.ok, is other)) c.render_with_context.ensures.err
+
+pub returns-in-Err-clause-err : goal.returns-in-Err-clause-err
+returns-in-Err-clause-err g c = λ other. inl (not_converted_so _ _ c.in-Err.e c.in-Err.ensures.plain (c.in-Err.ensures.err other), refl)
+
+pub returns-in-Ok-clause-one : goal.returns-in-Ok-clause-one
+returns-in-Ok-clause-one g c = λ d read. has_one_answer _ (over-lawful g.E.OwnParts.registered g.E.OwnParts.own c.args.self.now d read c.keeps_law.ensures)
+    _ (FromName-one _ _)
+
+pub returns-in-Ok-clause-origins : goal.returns-in-Ok-clause-origins
+returns-in-Ok-clause-origins g c = λ d read. answer_has_origins _ _
+
+pub returns-in-Err-clause-one : goal.returns-in-Err-clause-one
+returns-in-Err-clause-one g c = λ d read. has_one_answer _ (over-lawful g.E.OwnParts.registered g.E.OwnParts.own c.args.self.now d read c.keeps_law.ensures)
+    _ (FromName-one _ _)
+
+pub returns-in-Err-clause-origins : goal.returns-in-Err-clause-origins
+returns-in-Err-clause-origins g c = λ d read. answer_has_origins _ _
+
+pub returns-in-Err-clause-asks : goal.returns-in-Err-clause-asks
+returns-in-Err-clause-asks g c = asks-nothing g.R.TemplateReader.reads c.args.self.now _ c.args.files.now

@@ -1,0 +1,27 @@
+use Rattle.handlebars_scope.specs.Contexts.{data_of}
+use Rattle.handlebars.proofs.AnswerLaws.{FromName-one, has_one_answer, answer_has_origins}
+use Rattle.handlebars.proofs.OverLaws.{over-lawful}
+use Rattle.handlebars.proofs.WritesRead.{writes-by-name, writes-unread}
+use Rattle.handlebars.proofs.registry.RegistryOf.render_with_context_to_write.Goals as goal
+
+pub returns-in-Ok-clause-writes : goal.returns-in-Ok-clause-writes
+returns-in-Ok-clause-writes g c =
+    writes-by-name g.E.OwnParts.registered g.E.OwnParts.own c.args.self.now (data_of c.args.ctx.now) _ _ _ c.in-Ok.read c.args.name.now c.in-Ok.ensures.ok
+    c.write_named.ensures
+
+pub returns-in-Err-clause-writes : goal.returns-in-Err-clause-writes
+returns-in-Err-clause-writes g c = writes-unread c.args.self.now _ _ _ _ _ c.in-Err.e c.into.result _ c.in-Err.ensures.err c.into.ensures
+
+pub returns-in-Ok-clause-one : goal.returns-in-Ok-clause-one
+returns-in-Ok-clause-one g c = λ read. has_one_answer _ (over-lawful g.E.OwnParts.registered g.E.OwnParts.own c.args.self.now (data_of c.args.ctx.now) read c.keeps_law.ensures)
+    _ (FromName-one _ _)
+
+pub returns-in-Ok-clause-origins : goal.returns-in-Ok-clause-origins
+returns-in-Ok-clause-origins g c = λ read. answer_has_origins _ _
+
+pub returns-in-Err-clause-one : goal.returns-in-Err-clause-one
+returns-in-Err-clause-one g c = λ read. has_one_answer _ (over-lawful g.E.OwnParts.registered g.E.OwnParts.own c.args.self.now (data_of c.args.ctx.now) read c.keeps_law.ensures)
+    _ (FromName-one _ _)
+
+pub returns-in-Err-clause-origins : goal.returns-in-Err-clause-origins
+returns-in-Err-clause-origins g c = λ read. answer_has_origins _ _

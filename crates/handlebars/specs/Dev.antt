@@ -1,0 +1,129 @@
+-- Dev mode: the files that a rendering reads, and what it answers with their trees.
+use Rattle.std.specs.BTreeMap.{BTreeMap}
+use Rattle.std.specs.Global.{Global}
+use Rattle.std.specs.List.{filter}
+use Rattle.std.specs.Prelude.{◌≡◌, Bool, true, false, not, ◌||◌, if◌then◌else◌, is_some, List, [], ◌∷◌, ◌++◌, Option, None, Some, Result, Ok, Err, String}
+use Rattle.std.specs.Str.{bytes_eq}
+use Rattle.std.specs.declared.io.Error.{Error}
+use Rattle.handlebars_base.specs.Bytes.{Text}
+use Rattle.handlebars_base.specs.Reasons.{Refusal, TemplateRefusal, of_template}
+use Rattle.handlebars_base.specs.RenderRefusals.{plain_refusal}
+use Rattle.handlebars_base.specs.declared.error.template_error.TemplateError.{TemplateError}
+use Rattle.handlebars_tags.specs.Options.{Options}
+use Rattle.handlebars_template.specs.Compile.{Compiles, compiled, refused}
+use Rattle.handlebars_template.specs.Tree.{Tree}
+use Rattle.handlebars_template.specs.declared.template.tree.Template.{Template}
+use Rattle.handlebars.specs.Files.{IsStopFor, RefusesSo, Stop, no_memory, Loaded, LoadsFile, files_of, laid_over, remembered, tree_among, tree_in}
+use Rattle.handlebars.specs.View.{stored}
+use Rattle.handlebars.specs.declared.registry.RegistryOf.{RegistryOf}
+
+-- ---- which files
+
+-- whether it is the name that is asked for, if one is
+abbrev pub is_asked : Option Text → Text → Bool
+is_asked None name = false
+is_asked (Some asked) name = bytes_eq asked name
+
+abbrev pub file_at : Text → Option Text → List (Text × Text)
+file_at name None = []
+file_at name (Some path) = (name, path) ∷ []
+
+-- the file of the name that is asked for, if there is one
+abbrev pub asked_file : Option Text → (Text → Option Text) → List (Text × Text)
+asked_file None paths = []
+asked_file (Some name) paths = file_at name (paths name)
+
+-- the files of all other names
+abbrev pub others : Option Text → List (Text × Text) → List (Text × Text)
+others asked fs = filter (λ f. not (is_asked asked f.0)) fs
+
+module _ {E : Type 0} (r : RegistryOf E) where
+  -- whether something stands under the name that is asked for, if one is
+  abbrev pub is_known : Option Text → Bool
+  is_known None = true
+  is_known (Some name) = is_some (stored r name) || is_some (remembered r name)
+
+  -- The files that a rendering reads: first that of the name that is asked for, then all others in byte order of name;
+  -- none where nothing stands under that name.
+  abbrev pub files_for : Option Text → List (Text × Text)
+  files_for asked =
+      if is_known asked
+      then asked_file asked (remembered r) ++ others asked (files_of r)
+      else []
+
+-- ---- reading them
+
+-- Under each name a map has the tree that was read for it, if one was.
+abbrev pub HoldsTrees : List Loaded → BTreeMap (String Global) Template → Type 0
+HoldsTrees read trees = (name : Text) → tree_in trees name ≡ tree_among read name
+
+module _ {S : Type 0} (reads : S → Text → Result (String Global) Error → S → Type 0) (prevent_indent : Bool) where
+  abbrev pub loaded_from : Text × Text → Tree → Loaded
+  loaded_from f t = record { name = f.0; path = f.1; tree = t }
+
+  -- From a state of the reader the files are read and compiled in turn, up to one that is refused, which gives these trees,
+  -- ends so, and leaves the reader in a state. There may be no memory on the way.
+  pub data ReadsFiles : List (Text × Text) → S → List Loaded → Result (Unit {0}) Stop → S → Type 0 where
+    no_file : {s : S} → ReadsFiles [] s [] (Ok tt) s
+    loads : {f : Text × Text} {fs : List (Text × Text)} {s t u : S} {tree : Tree} {ls : List Loaded} {o : Result (Unit {0}) Stop}
+        → LoadsFile reads prevent_indent f.0 f.1 s (Ok tree) t → ReadsFiles fs t ls o u
+        → ReadsFiles (f ∷ fs) s (loaded_from f tree ∷ ls) o u
+    fails : {f : Text × Text} {fs : List (Text × Text)} {s t : S} {why : Stop}
+        → LoadsFile reads prevent_indent f.0 f.1 s (Err why) t → ReadsFiles (f ∷ fs) s [] (Err why) t
+    in_want : {fs : List (Text × Text)} {s : S} → ReadsFiles fs s [] (Err no_memory) s
+
+  -- The files are read and compiled in turn, and their trees are put into a map.
+  pub record ReadsInto (fs : List (Text × Text)) (before after : S) (old new : BTreeMap (String Global) Template) : Type 0 where
+    pub read : List Loaded
+    pub reads_all : ReadsFiles fs before read (Ok tt) after
+    pub holds : (ls : List Loaded) → HoldsTrees ls old → HoldsTrees (ls ++ read) new
+
+  -- The files are read and compiled in turn, up to one that is refused, as the error tells.
+  pub record FailsReading (fs : List (Text × Text)) (before after : S) (e : TemplateError) : Type 0 where
+    pub read : List Loaded
+    pub why : Stop
+    pub reads_up_to : ReadsFiles fs before read (Err why) after
+    pub stop : IsStopFor e why
+
+-- ---- what is answered
+
+module _ {E : Type 0} where
+  -- trees that were read, laid over those that are stored
+  abbrev pub stored_under : List Loaded → RegistryOf E → Text → Option Tree
+  stored_under read r = laid_over (tree_among read) (stored r)
+
+module _ {S : Type 0} (reads : S → Text → Result (String Global) Error → S → Type 0) {E : Type 0} (r : RegistryOf E)
+    (asked : Option Text) (before after : S) where
+  -- the files of a rendering are read so
+  abbrev pub ReadsFor : List Loaded → Result (Unit {0}) Stop → Type 0
+  ReadsFor read o = ReadsFiles reads r.prevent_indent (files_for r asked) before read o after
+
+  -- Whatever is answered, the files were asked for in turn, all of them or those up to one.
+  pub record AsksFor : Type 0 where
+    pub read : List Loaded
+    pub end : Result (Unit {0}) Stop
+    pub reads_up_to : ReadsFor read end
+
+  -- All files are read and compiled, and this holds of their trees.
+  pub record HasRead (Holds : List Loaded → Type 0) : Type 0 where
+    pub read : List Loaded
+    pub reads_all : ReadsFor read (Ok tt)
+    pub holds : Holds read
+
+  -- A refusal is that of a file, or behind the reading of all, with their trees.
+  pub data RefusesReading (Refuses : List Loaded → Refusal → Type 0) : Refusal → Type 0 where
+    at_a_file : {read : List Loaded} {why : Stop} (f : TemplateRefusal) → ReadsFor read (Err why) → RefusesSo why f
+        → RefusesReading Refuses (plain_refusal (of_template f))
+    behind_all : {read : List Loaded} {f : Refusal} → ReadsFor read (Ok tt) → Refuses read f → RefusesReading Refuses f
+
+-- ---- renderings of a source
+
+module _ {S : Type 0} (reads : S → Text → Result (String Global) Error → S → Type 0) {E : Type 0} (r : RegistryOf E)
+    (options : Options) (source : Text) (before after : S) (Refuses : List Loaded → Refusal → Type 0) where
+  -- A source that doesn't compile is refused, and no file is asked for; else the refusal is that of a file, or behind the
+  -- reading of all, with their trees.
+  pub data RefusesSource : Refusal → Type 0 where
+    not_compiled : {f : TemplateRefusal} → Compiles source options (refused f) → after ≡ before
+        → RefusesSource (plain_refusal (of_template f))
+    is_compiled : {t : Tree} {f : Refusal} → Compiles source options (compiled t)
+        → RefusesReading reads r None before after Refuses f → RefusesSource f

@@ -1,0 +1,62 @@
+//! What stands under the names of templates.
+
+ghost use Rattle.std.specs.BTreeMap.{get_by_text};
+ghost use Rattle.std.specs.Prelude.{◌≡◌, None, cond, option_map};
+ghost use Rattle.std.specs.Str.{bytes_eq};
+ghost use Rattle.handlebars_base.specs.Bytes.{Text};
+ghost use Rattle.handlebars_template.specs.TreeView.{tree_view};
+ghost use Rattle.handlebars.specs.Files.{is_dev, laid_over, remembered, tree_in};
+ghost use Rattle.handlebars.specs.Store.{TakesTemplate};
+ghost use Rattle.handlebars.specs.View.{modes_of, stored};
+
+use crate::registry::RegistryOf;
+use handlebars_template::template::Template;
+use std::collections::BTreeMap;
+
+impl<E: Drop> RegistryOf<E> {
+    /// Takes the template under a name away, where one stands there. Its file, if it is remembered, is forgotten.
+    pub fn unregister_template(&mut self, name: &str)
+        ensures template { TakesTemplate self.old self.new name.now }
+        ensures file { (other : Text) → remembered self.new other
+            ≡ cond (bytes_eq name.now other) None (remembered self.old other) }
+        ensures dev { is_dev self.new ≡ is_dev self.old }
+        ensures entries { self.new.entries ≡ self.old.entries }
+        ensures modes { modes_of self.new ≡ modes_of self.old }
+    {
+        self.templates.remove(name);
+        self.dev.forget(name);
+    }
+
+    /// Takes all templates away, and forgets all files.
+    pub fn clear_templates(&mut self)
+        ensures templates { (name : Text) → stored self.new name ≡ None }
+        ensures files { (name : Text) → remembered self.new name ≡ None }
+        ensures dev { is_dev self.new ≡ is_dev self.old }
+        ensures entries { self.new.entries ≡ self.old.entries }
+        ensures modes { modes_of self.new ≡ modes_of self.old }
+    {
+        self.templates.clear();
+        self.dev.forget_all();
+    }
+
+    /// All templates, by their names.
+    pub fn get_templates(&self) -> &BTreeMap<String, Template>
+        ensures { (name : Text) → option_map tree_view (get_by_text result.now name) ≡ stored self.now name }
+    {
+        &self.templates
+    }
+
+    // The template under a name: one that was read, else the one that stands there.
+    pub(crate) fn template_over<'t>(
+        &'t self,
+        read: &'t BTreeMap<String, Template>,
+        name: &str,
+    ) -> Option<&'t Template>
+        ensures { option_map (λ t. tree_view t.now) result ≡ laid_over (tree_in read.now) (stored self.now) name.now }
+    {
+        match read.get(name) {
+            Some(template) => Some(template),
+            None => self.get_template(name),
+        }
+    }
+}

@@ -1,0 +1,82 @@
+//! Callers of the engine that write to a file, and that render templates of files.
+
+ghost use Rattle.std.specs.Prelude.{◌≡◌, IfOk, OnOk, Some, string_bytes, true};
+ghost use Rattle.handlebars_scope.specs.Contexts.{data_of};
+ghost use Rattle.handlebars_meaning.specs.Answer.{FromName, GivesText};
+ghost use Rattle.handlebars.specs.Calls.{Writes, WritesReading};
+ghost use Rattle.handlebars.specs.Dev.{HasRead, stored_under};
+ghost use Rattle.handlebars.specs.Files.{is_dev};
+ghost use Rattle.handlebars.specs.Over.{setting_under};
+
+use handlebars::{Context, NoFiles, OwnParts, RegistryOf, RenderError, TemplateReader};
+use log::Log;
+use std::fs::File;
+use std::io::{BufWriter, Write};
+use std::rt::Files;
+
+/// Writes a registered template over data to a file, through a buffer. Where it is refused, the file has what stands
+/// before that.
+pub fn write_page<F: Files + AllocGlobal, E: OwnParts, L: Log>(
+    rt: &F,
+    path: &str,
+    registry: &RegistryOf<E>,
+    name: &str,
+    data: &Context,
+    log: &L,
+) -> Result<(), RenderError> {
+    let mut page = BufWriter::new(rt.alloc(), File::create(rt, path)?)?;
+    write_to(registry, name, data, &mut page, log, &mut NoFiles)?;
+    Ok(page.flush()?)
+}
+
+/// The same to any writer. Of one that tells what it holds it is known what it holds then: the text of the definition
+/// behind what it held before, or where the call is refused a beginning of it.
+pub fn write_to<E: OwnParts, W: Write, L: Log, R: TemplateReader>(
+    registry: &RegistryOf<E>,
+    name: &str,
+    data: &Context,
+    writer: &mut W,
+    log: &L,
+    files: &mut R,
+) -> Result<(), RenderError>
+    ensures writes { WritesReading R.reads registry.now (Some name.now) files.old files.new
+        (λ read. Writes (setting_under E.registered E.own read registry.now (data_of «data».now))
+        (FromName (stored_under read registry.now) name.now)) (W.contents writer.old) (W.contents writer.new) result }
+{
+    registry.render_with_context_to_write(name, data, writer, log, files)
+}
+
+/// The text of a file's template over data, and from now on whatever its file has at each rendering. It is the text of
+/// the definition, with the trees that were read in place of the stored ones.
+pub fn rendered_anew<E: OwnParts, L: Log, R: TemplateReader>(
+    registry: &mut RegistryOf<E>,
+    name: &str,
+    path: &str,
+    data: &Context,
+    log: &L,
+    files: &mut R,
+) -> Result<String, RenderError>
+    ensures text { IfOk result (λ text. (between : R) × HasRead R.reads registry.new (Some name.now) between files.new
+        (λ read. GivesText (setting_under E.registered E.own read registry.new (data_of «data».now))
+        (FromName (stored_under read registry.new) name.now) (string_bytes text))) }
+    ensures dev { OnOk result (is_dev registry.new ≡ true) }
+{
+    registry.set_dev_mode(true);
+    registry.register_template_file(name, path, files)?;
+    registry.render_with_context(name, data, log, files)
+}
+
+/// The text of a registered template over data, as it was registered: whatever is remembered is forgotten, and no file
+/// is asked for.
+pub fn rendered_as_registered<E: OwnParts, L: Log, R: TemplateReader>(
+    registry: &mut RegistryOf<E>,
+    name: &str,
+    data: &Context,
+    log: &L,
+    files: &mut R,
+) -> Result<String, RenderError>
+    ensures unread { files.new ≡ files.old }
+{
+    registry.set_dev_mode(false);
+    registry.render_with_context(name, data, log, files)
+}

@@ -1,0 +1,39 @@
+//! The callers that write to a file, and that render templates of files, each once.
+
+use crate::memory::Texts;
+use crate::pages::{rendered_anew, rendered_as_registered, write_page};
+use crate::tests::files::put;
+use crate::tests::helpers::{is_same, is_shown};
+use handlebars::{Context, FileReader, Registry, TemplateReader};
+use log::sink::Discard;
+use std::collections::BTreeMap;
+
+#[test]
+fn page_is_written(rt: HostRuntime) {
+    let alloc = rt.alloc();
+    let mut registry = Registry::new(alloc).expect(&rt, "memory");
+    let registered = registry.register_template_string("page", "<p>{{@root}}</p>\n");
+    is_shown(&rt, alloc, registered, "Ok(())");
+    let null = Context::null();
+    let written = write_page(&rt, "page.html", &registry, "page", &null, &Discard);
+    is_shown(&rt, alloc, written, "Ok(())");
+    let text = FileReader::new(&rt, alloc).read("page.html");
+    is_same(&rt, text.expect(&rt, "a text").as_str(), "<p></p>\n");
+}
+
+#[test]
+fn page_is_read_anew(rt: HostRuntime) {
+    let alloc = rt.alloc();
+    let mut registry = Registry::new(alloc).expect(&rt, "memory");
+    let null = Context::null();
+    let mut files = Texts {
+        alloc,
+        texts: BTreeMap::new(alloc),
+    };
+    put(&rt, &mut files, "p.hbs", "A");
+    let text = rendered_anew(&mut registry, "p", "p.hbs", &null, &Discard, &mut files);
+    is_shown(&rt, alloc, text, r#"Ok("A")"#);
+    put(&rt, &mut files, "p.hbs", "B");
+    let text = rendered_as_registered(&mut registry, "p", &null, &Discard, &mut files);
+    is_shown(&rt, alloc, text, r#"Ok("A")"#);
+}

@@ -1,0 +1,20 @@
+-- What is wanted of a rendering.
+use Rattle.std.specs.Prelude.{◌≡◌, IfSome, Some, option_map, Result, String, string_bytes}
+use Rattle.std.specs.declared.alloc.Global.{Global}
+use Rattle.handlebars_rows.specs.Outcomes.{handed_of, handed_out, outcome_view}
+use Rattle.handlebars_rows.specs.declared.outcome.Outcome.{Outcome}
+use Rattle.handlebars_rows.specs.declared.outcome.Refusal.{Refusal}
+use Rattle.handlebars_rows.specs.declared.told.Told.{Told}
+use Rattle.handlebars_rows.specs.declared.told.Wanted.{Wanted}
+
+-- The error is printed as is wanted, if that is wanted.
+abbrev pub Prints : Told → Wanted → Type 0
+Prints told wanted = IfSome wanted.printed (λ text. option_map string_bytes told.printed ≡ Some (string_bytes text))
+
+-- A call hands out the wanted text, or none where a refusal is wanted, and prints what is wanted.
+abbrev pub IsHandedOut : Result (String Global) Refusal → Told → Wanted → Type 0
+IsHandedOut text told wanted = (handed_of text ≡ handed_out (outcome_view wanted.outcome)) × Prints told wanted
+
+-- What is written is the wanted text, and the refusal behind it the wanted one, and is printed so.
+abbrev pub IsWritten : Outcome → Told → Wanted → Type 0
+IsWritten outcome told wanted = (outcome_view outcome ≡ outcome_view wanted.outcome) × Prints told wanted

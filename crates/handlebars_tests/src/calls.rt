@@ -1,0 +1,109 @@
+//! The eight calls that render.
+
+use crate::registered::registry_of;
+use crate::shelf::Shelf;
+use handlebars::{Context, JsonValue, Registry, RenderError};
+use handlebars_rows::pen::Pen;
+use handlebars_rows::rendering::{Over, Rendered, Rendering};
+use log::sink::Memory;
+use std::alloc::Global;
+
+/// What the call for a text answers.
+pub fn text(
+    alloc: Global,
+    row: &Rendering,
+    over: Over,
+    log: &Memory,
+    files: &mut Shelf,
+) -> Result<String, RenderError> {
+    let registry = registry_of(alloc, row, files)?;
+    match over {
+        Over::Context => text_over_context(&registry, row, log, files),
+        Over::Value => text_over_value(&registry, row, log, files),
+    }
+}
+
+fn text_over_context(
+    registry: &Registry,
+    row: &Rendering,
+    log: &Memory,
+    files: &mut Shelf,
+) -> Result<String, RenderError> {
+    let data = context(&row.data)?;
+    match &row.rendered {
+        Rendered::Source(source) => {
+            registry.render_template_with_context(source.as_str(), &data, log, files)
+        }
+        Rendered::Name(name) => registry.render_with_context(name.as_str(), &data, log, files),
+    }
+}
+
+fn text_over_value(
+    registry: &Registry,
+    row: &Rendering,
+    log: &Memory,
+    files: &mut Shelf,
+) -> Result<String, RenderError> {
+    match &row.rendered {
+        Rendered::Source(source) => {
+            registry.render_template(source.as_str(), &row.data, log, files)
+        }
+        Rendered::Name(name) => registry.render(name.as_str(), &row.data, log, files),
+    }
+}
+
+/// What the call that writes answers.
+pub fn write(
+    alloc: Global,
+    row: &Rendering,
+    over: Over,
+    pen: &mut Pen,
+    log: &Memory,
+    files: &mut Shelf,
+) -> Result<(), RenderError> {
+    let registry = registry_of(alloc, row, files)?;
+    match over {
+        Over::Context => write_over_context(&registry, row, pen, log, files),
+        Over::Value => write_over_value(&registry, row, pen, log, files),
+    }
+}
+
+fn write_over_context(
+    registry: &Registry,
+    row: &Rendering,
+    pen: &mut Pen,
+    log: &Memory,
+    files: &mut Shelf,
+) -> Result<(), RenderError> {
+    let data = context(&row.data)?;
+    match &row.rendered {
+        Rendered::Source(source) => {
+            let source = source.as_str();
+            registry.render_template_with_context_to_write(source, &data, pen, log, files)
+        }
+        Rendered::Name(name) => {
+            registry.render_with_context_to_write(name.as_str(), &data, pen, log, files)
+        }
+    }
+}
+
+fn write_over_value(
+    registry: &Registry,
+    row: &Rendering,
+    pen: &mut Pen,
+    log: &Memory,
+    files: &mut Shelf,
+) -> Result<(), RenderError> {
+    let data = &row.data;
+    match &row.rendered {
+        Rendered::Source(source) => {
+            registry.render_template_to_write(source.as_str(), data, pen, log, files)
+        }
+        Rendered::Name(name) => registry.render_to_write(name.as_str(), data, pen, log, files),
+    }
+}
+
+/// The context of a row's data.
+pub fn context(data: &JsonValue) -> Result<Context, RenderError> {
+    Context::try_from(data.clone()?)
+}

@@ -1,0 +1,79 @@
+//! A template that is rendered to an output of its own.
+
+use crate::calls::context;
+use crate::registered::registry_of;
+use crate::shelf::Shelf;
+use handlebars::{
+    Context, Registry, RenderContext, RenderError, RenderErrorReason, Renderable, Template,
+    TemplateOptions,
+};
+use handlebars_rows::bounded::Bounded;
+use handlebars_rows::rendering::{Rendered, Rendering};
+use log::sink::Memory;
+use std::alloc::Global;
+
+/// What the template of a row answers that is rendered to an output.
+pub fn write_template(
+    alloc: Global,
+    row: &Rendering,
+    out: &mut Bounded,
+    log: &Memory,
+) -> Result<(), RenderError> {
+    let registry = registry_of(alloc, row, &mut Shelf::new(alloc))?;
+    let data = context(&row.data)?;
+    match &row.rendered {
+        Rendered::Source(source) => write_source(alloc, &registry, source, &data, out, log),
+        Rendered::Name(name) => write_named(alloc, &registry, name, &data, out, log),
+    }
+}
+
+fn write_source(
+    alloc: Global,
+    registry: &Registry,
+    source: &String,
+    data: &Context,
+    out: &mut Bounded,
+    log: &Memory,
+) -> Result<(), RenderError> {
+    let options = TemplateOptions {
+        name: None,
+        prevent_indent: registry.prevent_indent(),
+    };
+    let template = Template::compile2(alloc, source.as_str(), options)?;
+    write_tree(alloc, registry, &template, data, out, log)
+}
+
+fn write_named(
+    alloc: Global,
+    registry: &Registry,
+    name: &String,
+    data: &Context,
+    out: &mut Bounded,
+    log: &Memory,
+) -> Result<(), RenderError> {
+    match registry.get_template(name.as_str()) {
+        Some(template) => write_tree(alloc, registry, template, data, out, log),
+        None => Err(RenderErrorReason::TemplateNotFound(name.clone()?).into()),
+    }
+}
+
+// Where the context doesn't tell of a refusal, or an output is asked again that has refused a segment, this is another
+// refusal, which no row wants.
+fn write_tree(
+    alloc: Global,
+    registry: &Registry,
+    template: &Template,
+    data: &Context,
+    out: &mut Bounded,
+    log: &Memory,
+) -> Result<(), RenderError> {
+    let mut rc = RenderContext::new(alloc, template.name.as_ref())?;
+    rc.set_recursive_lookup(registry.recursive_lookup());
+    let answer = template.render(alloc, registry, data, &mut rc, out, log);
+    let failed = answer.is_err();
+    if rc.has_failed() == failed && out.refused() <= u64::from(failed) {
+        answer
+    } else {
+        Err(RenderError::new(alloc, "not told, or asked again"))
+    }
+}
