@@ -1,11 +1,9 @@
-//! Registries that change, and the reader that they don't ask.
+//! Registries that change.
 
-use crate::tests::helpers::{data_of, is_shown};
-use handlebars::{BuiltIn, Context, EntryKind, HelperEntry, NoFiles, Registry, TemplateReader};
+use crate::tests::helpers::is_shown;
+use handlebars::{BuiltIn, Context, HelperEntry, NoFiles, Registry};
 use log::sink::Discard;
 use std::alloc::Global;
-use std::io;
-use std::io::ErrorKind;
 use std::process::Abort;
 
 // What a source gives over no data.
@@ -74,43 +72,4 @@ fn registries_change(rt: HostRuntime) {
     helpers_change(&rt, alloc, &mut registry);
     mode_changes(&rt, alloc, &mut registry);
     source_has_its_own(&rt, alloc, &registry);
-}
-
-// Counts how often it is asked.
-#[derive(Drop)]
-struct Counter {
-    asked: u64,
-}
-
-impl TemplateReader for Counter {
-    ghost reads = { λ _ _ _ _. Unit {0} };
-
-    ghost lists = { λ _ _ _ _. Unit {0} };
-
-    fn read(&mut self, _path: &str) -> Result<String, io::Error> {
-        self.asked = self.asked.saturating_add(1);
-        Err(io::Error::from(ErrorKind::NotFound))
-    }
-
-    fn list(&mut self, _folder: &str) -> Result<Vec<(String, EntryKind)>, io::Error> {
-        self.asked = self.asked.saturating_add(1);
-        Err(io::Error::from(ErrorKind::NotFound))
-    }
-}
-
-// Whether a source renders over a list under `a`; no file is asked for.
-fn renders(rt: &impl Abort, alloc: Global, registry: &Registry, source: &str, wanted: &str) {
-    let data = data_of(rt, alloc, r#"{"a":[1]}"#);
-    let mut files = Counter { asked: 0 };
-    let answer = registry.render_template_with_context(source, &data, &Discard, &mut files);
-    is_shown(rt, alloc, (answer.is_ok(), files.asked), wanted);
-}
-
-#[test]
-fn asks_no_reader(rt: HostRuntime) {
-    let alloc = rt.alloc();
-    let registry = Registry::new(alloc).expect(&rt, "memory");
-    renders(&rt, alloc, &registry, "x{{a}}", "(true, 0)");
-    renders(&rt, alloc, &registry, "{{a.x}}", "(false, 0)");
-    renders(&rt, alloc, &registry, "{{> a}}", "(false, 0)");
 }
