@@ -1,4 +1,5 @@
-//! The blocks of scope of `each` and `with`.
+//! The blocks of scope of `each` and `with`. Setting a turn up is one call, which hands the turn on to none but those that bind
+//! names or a key.
 
 ghost use Rattle.std.specs.Prelude.{◌≡◌, ◌++◌, ◌∷◌, [], IfOk, IfSome, List, OnOk, codes, map, option_map, string_bytes};
 ghost use Rattle.std.specs.Prelude.{decimal};
@@ -38,6 +39,7 @@ pub struct Turn<'h> {
 
 /// Sets the block of `each` up for a turn of what has this path, if it has one. What has no path is
 /// copied into the block.
+#[inline(never)]
 pub fn set_up_turn(
     alloc: Global,
     block: &mut BlockContext,
@@ -55,6 +57,7 @@ pub fn set_up_turn(
 
 /// Sets the block of `each` up for another turn of the same. It stands at a member of what has this path
 /// already, so only the last name of its path changes.
+#[inline(never)]
 pub fn set_up_next_turn(
     alloc: Global,
     block: &mut BlockContext,
@@ -151,6 +154,7 @@ fn set_turn_path(
 }
 
 // The block stands at the turn's member from now on, where it stood at another member.
+#[inline(always)]
 fn set_next_base(
     block: &mut BlockContext,
     path: Option<&Vec<String>>,
@@ -167,6 +171,7 @@ fn set_next_base(
 }
 
 // Makes the turn's name of the last name of a path, whose memory is taken again.
+#[inline(always)]
 fn replace_name(to: &mut Vec<String>, turn: Turn) -> Result<(), AllocError>
     ensures { (path : List Text) → IsBelow path (map string_bytes to.old.items)
         → OnOk result (map string_bytes to.new.items ≡ path ++ (turn_name (turn_view turn.entry) ∷ [])) }
@@ -178,6 +183,7 @@ fn replace_name(to: &mut Vec<String>, turn: Turn) -> Result<(), AllocError>
 }
 
 // Makes the name that leads to the member of another text.
+#[inline(always)]
 fn write_turn_name(name: &mut String, turn: Turn) -> Result<(), AllocError>
     ensures { OnOk result (string_bytes name.new ≡ turn_name (turn_view turn.entry)) }
 {
@@ -219,6 +225,7 @@ fn digit(index: usize) -> Option<&'static str>
 // ---- names
 
 // Binds the names of a turn, and no other.
+#[inline(always)]
 fn bind_turn(
     alloc: Global,
     block: &mut BlockContext,
@@ -239,6 +246,7 @@ fn bind_turn(
 }
 
 // The names that are bound in a turn.
+#[inline(never)]
 fn turn_names(
     alloc: Global,
     binding: Option<&BlockParam>,
@@ -329,6 +337,7 @@ fn key_value(alloc: Global, turn: Turn) -> Result<Json, AllocError>
 
 // ---- variables
 
+#[inline(always)]
 fn set_turn_variables(alloc: Global, block: &mut BlockContext, turn: Turn) -> Result<(), AllocError>
     ensures { OnOk result (frame_of block.new ≡ record (frame_of block.old) {
       variable = turn_variables (turn_view turn.entry) (frame_of block.old).variable;
@@ -342,6 +351,7 @@ fn set_turn_variables(alloc: Global, block: &mut BlockContext, turn: Turn) -> Re
 }
 
 // The variable of an object's member alone.
+#[inline(never)]
 fn set_key(alloc: Global, block: &mut BlockContext, turn: Turn) -> Result<(), AllocError>
     ensures { OnOk result (frame_of block.new ≡ record (frame_of block.old) {
       variable = put_at (codes "key") (turn_key (turn_view turn.entry)) (frame_of block.old).variable;

@@ -90,7 +90,8 @@ fn plain_block(alloc: Global, rc: &RenderContext) -> Result<BlockContext, AllocE
     }
 }
 
-// The block that has the value itself.
+// The block that has the value itself. It stands apart from its caller, which needs no room for it where the value is lent.
+#[inline(never)]
 fn own_block<P: Registered>(
     tag: &Decorator,
     setting: &Setting<'_, '_, P>,

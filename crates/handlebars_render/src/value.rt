@@ -145,6 +145,7 @@ pub fn called<'a, P: Registered>(
 
 /// The values of parameters, in order.
 #[cycle(value)]
+#[inline(always)]
 pub fn params_values<'a, P: Registered>(
     setting: &Setting<'_, 'a, P>,
     rc: &RenderContext,
@@ -163,6 +164,7 @@ pub fn params_values<'a, P: Registered>(
 
 /// The values of pairs, by key.
 #[cycle(value)]
+#[inline(always)]
 pub fn pairs_values<'a, P: Registered>(
     setting: &Setting<'_, 'a, P>,
     rc: &RenderContext,

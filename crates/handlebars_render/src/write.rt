@@ -81,6 +81,7 @@ pub(super) fn write_text<O: Output, P>(
 }
 
 // Without an indentation, as most are.
+#[inline(always)]
 fn write_text_plainly<O: Output>(
     alloc: Global,
     text: &str,
@@ -239,6 +240,7 @@ fn write_by<O: Output, P>(
     }
 }
 
+#[inline(always)]
 fn write_value_to<O: Output, P>(
     setting: &Setting<P>,
     entities: bool,
@@ -256,6 +258,7 @@ fn write_value_to<O: Output, P>(
 }
 
 // Without an indentation, piece by piece.
+#[inline(always)]
 fn write_value_plainly<O: Output>(
     alloc: Global,
     entities: bool,
@@ -273,6 +276,7 @@ fn write_value_plainly<O: Output>(
 }
 
 // Under an indentation a text is written line by line. Another value is rendered first.
+#[inline(never)]
 fn write_value_under<O: Output>(
     alloc: Global,
     entities: bool,
@@ -416,6 +420,7 @@ pub(super) fn write_as_is<O: Output>(
     }
 }
 
+#[inline(always)]
 fn write_as_is_to<O: Output>(alloc: Global, text: &str, out: &mut O) -> Result<(), BoxedError>
     ensures { (s : State) → PutsStep text.now O.may_give (record { state = s; held = O.held out.old })
         (answer_of result) (record { state = s; held = O.held out.new }) }
