@@ -30,6 +30,15 @@ pub enum Deed {
     Files(Map<String, JsonValue>),
 }
 
+impl Deed {
+    fn is_folder(&self) -> bool {
+        match self {
+            Deed::Folder(_) => true,
+            _ => false,
+        }
+    }
+}
+
 /// A folder that is registered.
 #[derive(Drop)]
 pub struct Folder {
@@ -185,7 +194,26 @@ impl Fields {
             .deed
             .take()
             .ok_or(RowFailure::Fields("a step does nothing"))?;
+        if fields.has_options() && !deed.is_folder() {
+            return Err(RowFailure::Fields(
+                "an extension, hidden or temporary at a step that is no folder",
+            ));
+        }
+        if fields.has_place() && fields.reason.is_none() {
+            return Err(RowFailure::Fields(
+                "a line, a column or a template at a step without a reason",
+            ));
+        }
         Ok(fields.with_deed(deed))
+    }
+
+    fn has_options(&self) -> bool {
+        self.extension.is_some() || self.hidden || self.temporary
+    }
+
+    // Whether the place of a refusal is wanted.
+    fn has_place(&self) -> bool {
+        self.line.is_some() || self.column.is_some() || self.template.is_some()
     }
 
     fn with_deed(self, deed: Deed) -> Step {
