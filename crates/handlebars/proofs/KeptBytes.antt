@@ -1,6 +1,6 @@
 -- The text of bytes that a writer keeps.
 use Rattle.std.proofs.Common.{◌≡◌, [], true, false, refl, cond, ap, inl, inr}
-use Rattle.std.proofs.lemmas.Bool.{cases_Bool}
+use Rattle.std.proofs.lemmas.Bool.{cases_Bool, false≢true}
 use Rattle.std.proofs.Math.Bool.{Bool-set}
 use Rattle.std.proofs.Math.Logic.{∥∥₁_elim}
 use Rattle.std.specs.Str.{IsUtf8, is_utf8}
@@ -11,9 +11,6 @@ use Rattle.handlebars.specs.Writers.{text_of}
 pub text_of-utf8 : (bytes : Text) → ∥ IsUtf8 bytes ∥₁ → text_of bytes ≡ bytes
 text_of-utf8 bytes told =
     ap (λ b. cond b bytes []) (∥∥₁_elim told (Bool-set (is_utf8 bytes) true) (is_utf8-from_IsUtf8 bytes))
-
-false≢true : false ≡ true → ⊥
-false≢true e = cc
 
 pub text_of-other : (bytes : Text) → (IsUtf8 bytes → false ≡ true) → text_of bytes ≡ []
 text_of-other bytes none = elim (cases_Bool (is_utf8 bytes)) [

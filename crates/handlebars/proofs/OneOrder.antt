@@ -1,13 +1,10 @@
 -- There is one stable order of a list, as far as its elements are seen.
 use Rattle.std.proofs.Common.{◌≡◌, ◌+◌, ◌<◌, ◌≤◌, ℕ, zero, suc, arith, add-one, get_or, length, Bool, true, false, not, ◌&&◌, cond, List, [], ◌∷◌, map, refl, sym, ap, ◌∙◌, subst, ◌⊎◌, inl, inr}
-use Rattle.std.proofs.lemmas.Bool.{cases_Bool}
+use Rattle.std.proofs.lemmas.Bool.{cases_Bool, false≢true}
 use Rattle.std.proofs.lemmas.List.Sorted.{sorted_far}
 use Rattle.std.specs.Cmp.{IsStrictWeakOrder}
 use Rattle.std.specs.List.{filter}
 use Rattle.std.specs.List.Sorted.{IsSortedBy, ties}
-
-false≢true : {b : Bool} → b ≡ false → b ≡ true → ⊥
-false≢true e f = cc
 
 both-or-none : (a b : Bool) → (a ≡ false → b ≡ false) → (b ≡ false → a ≡ false) → a ≡ b
 both-or-none true true to from = refl
@@ -72,7 +69,7 @@ module _ {X : Type 0} (lt : X → X → Bool) (order : IsStrictWeakOrder lt) whe
 
   ties-itself : (x : X) → ties lt x x ≡ true
   ties-itself x = elim (cases_Bool (lt x x)) [
-    | inl is ↦ absurd (false≢true (order.one_way x x is) is)
+    | inl is ↦ absurd (false≢true (sym (order.one_way x x is) ∙ is))
     | inr other ↦ tied other other
   ]
 

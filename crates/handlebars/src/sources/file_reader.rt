@@ -1,5 +1,7 @@
 //! The reader over the system's files.
 
+ghost use Rattle.std.specs.Prelude.{◌≡◌};
+
 use crate::sources::{EntryKind, TemplateReader};
 use std::alloc::Global;
 use std::fs::DirEntry;
@@ -16,7 +18,10 @@ pub struct FileReader<'a, R> {
 }
 
 impl<'a, R> FileReader<'a, R> {
-    pub fn new(rt: &'a R, alloc: Global) -> FileReader<'a, R> {
+    /// Asks for no file yet.
+    pub fn new(rt: &'a R, alloc: Global) -> FileReader<'a, R>
+        ensures { result ≡ record { rt = rt.entry; alloc = alloc } }
+    {
         FileReader { rt, alloc }
     }
 }
