@@ -1,6 +1,8 @@
 //! Why a run ends with no rendering, and what it says of that.
 
-ghost use Rattle.std.specs.Prelude.{◌≡◌, ◌<◌, ◌≤◌};
+ghost use Rattle.std.specs.IoError.{error_kind};
+ghost use Rattle.std.specs.Prelude.{◌≡◌, ◌≢◌, ◌<◌, ◌≤◌};
+ghost use Rattle.std.specs.declared.io.ErrorKind.TheVariants.{OutOfMemory};
 
 use handlebars::{RenderError, TemplateError};
 use std::alloc::AllocError;
@@ -22,7 +24,10 @@ pub enum Failure<'a> {
 
 impl<'a> Failure<'a> {
     /// The failure of a reader at a path.
-    pub fn of_reader(path: &'a str, cause: io::Error) -> Failure<'a> {
+    pub fn of_reader(path: &'a str, cause: io::Error) -> Failure<'a>
+        ensures memory { error_kind cause ≡ OutOfMemory → result ≡ Failure.OutOfMemory }
+        ensures other { error_kind cause ≢ OutOfMemory → result ≡ Failure.CannotRead path.entry }
+    {
         match cause.kind() {
             ErrorKind::OutOfMemory => Failure::OutOfMemory,
             _ => Failure::CannotRead(path),
@@ -34,6 +39,12 @@ impl<'a> Failure<'a> {
         ensures bound { result ≤ 2 }
         ensures failed { 0 < result }
         ensures usage { self.now ≡ Failure.Usage → result ≡ 2 }
+        ensures unread { (path : _) → self.now ≡ Failure.CannotRead path → result ≡ 2 }
+        ensures data { (path : _) → self.now ≡ Failure.NotJson path → result ≡ 2 }
+        ensures template { (cause : _) → self.now ≡ Failure.NotRegistered cause → result ≡ 1 }
+        ensures refused { (cause : _) → self.now ≡ Failure.Refused cause → result ≡ 1 }
+        ensures memory { self.now ≡ Failure.OutOfMemory → result ≡ 1 }
+        ensures unwritten { self.now ≡ Failure.CannotWrite → result ≡ 1 }
     {
         match self {
             Failure::Usage => 2,
@@ -48,19 +59,25 @@ impl<'a> Failure<'a> {
 }
 
 impl From<AllocError> for Failure<'_> {
-    fn from(_e: AllocError) -> Self {
+    fn from(_e: AllocError) -> Self
+        ensures { result ≡ Failure.OutOfMemory }
+    {
         Failure::OutOfMemory
     }
 }
 
 impl From<TemplateError> for Failure<'_> {
-    fn from(cause: TemplateError) -> Self {
+    fn from(cause: TemplateError) -> Self
+        ensures { result ≡ Failure.NotRegistered cause }
+    {
         Failure::NotRegistered(cause)
     }
 }
 
 impl From<RenderError> for Failure<'_> {
-    fn from(cause: RenderError) -> Self {
+    fn from(cause: RenderError) -> Self
+        ensures { result ≡ Failure.Refused cause }
+    {
         Failure::Refused(cause)
     }
 }
