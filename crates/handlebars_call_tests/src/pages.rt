@@ -1,6 +1,6 @@
 //! Callers of the engine that write to a file, and that render templates of files.
 
-ghost use Rattle.std.specs.Prelude.{◌≡◌, IfOk, OnOk, Some, string_bytes, true};
+ghost use Rattle.std.specs.Prelude.{◌≡◌, IfOk, OnOk, Some, false, string_bytes, true};
 ghost use Rattle.handlebars_scope.specs.Contexts.{data_of};
 ghost use Rattle.handlebars_meaning.specs.Answer.{FromName, GivesText};
 ghost use Rattle.handlebars.specs.Calls.{Writes, WritesReading};
@@ -75,6 +75,10 @@ pub fn rendered_as_registered<E: OwnParts, L: Log, R: TemplateReader>(
     log: &L,
     files: &mut R,
 ) -> Result<String, RenderError>
+    ensures text { IfOk result (λ text. HasRead R.reads registry.new (Some name.now) files.old files.new
+        (λ read. GivesText (setting_under E.registered E.own read registry.new (data_of «data».now))
+        (FromName (stored_under read registry.new) name.now) (string_bytes text))) }
+    ensures dev { is_dev registry.new ≡ false }
     ensures unread { files.new ≡ files.old }
 {
     registry.set_dev_mode(false);

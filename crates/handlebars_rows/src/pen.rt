@@ -54,6 +54,9 @@ impl Taking {
 
     fn with_failing(self, value: &JsonValue) -> Option<Taking> {
         let fails = value.as_u64()?;
+        if fails == 0 {
+            return None;
+        }
         Some(Taking {
             fails: Some(fails),
             ..self
