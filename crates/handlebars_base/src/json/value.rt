@@ -91,7 +91,10 @@ impl<'rc> ScopedJson<'rc> {
 impl<'rc> From<Value> for ScopedJson<'rc> {
     ghost from_gives = { λ v s. found_of s ≡ value (view v) };
 
-    fn from(given: Value) -> ScopedJson<'rc> {
+    fn from(given: Value) -> ScopedJson<'rc>
+        ensures found { found_of result ≡ value (view given) }
+        ensures derived { derived_in result ≡ Some (view given) }
+    {
         ScopedJson::Derived(given)
     }
 }
