@@ -20,7 +20,7 @@ use Rattle.handlebars_meaning.specs.Means.{todo}
 use Rattle.handlebars_meaning.specs.Runs.{Outcome, Ended, Refused, Faulted, NoMemory, IsOver, marked, Front, none, cut_off, more, Runs, done, refused, wrote, got, set, asked, did, did_over, captured, captured_over, looked, has_room, has_none, stop, cut}
 use Rattle.handlebars_meaning.specs.Visits.{Visit, arrival, visits}
 use Rattle.handlebars_meaning.specs.Origins.{tree_at, element_at, is_raw_tree, AreIndents, ComesFrom, HaveOrigins, IsLocalOfRun, stood_in, IsTreeOfRun, is_body, is_inverse, is_local_of, is_stored, IsSiteOfRun, StandInTrees}
-use Rattle.handlebars_laws.proofs.Outcomes.{over_marked, stop_over}
+use Rattle.handlebars_laws.proofs.Outcomes.{in_memory_over, over_marked, stop_over}
 use Rattle.handlebars_laws.proofs.Within.{beginning_within, beginning_beginning}
 
 module _ (p : Setting) (u : Tree) (blocks : List Frame) (vs : List Visit) where
@@ -311,7 +311,7 @@ module _ (p : Setting) (u : Tree) (blocks : List Frame) (vs : List Visit) where
         (later_visits (visits a) (visits b) are) in
         (rest.0, rest.1, stand_join (visits a) (visits b) first.2 rest.2)
     origins_of (captured_over {s = s} {o = o} a over) on g are =
-        (tt, over_ends on o over, (origins_of a s.escapes g.0 are).2)
+        (tt, over_ends on o (in_memory_over o over), (origins_of a s.escapes g.0 are).2)
     origins_of (looked r) on g are = origins_of r on g are
     origins_of (has_room lt r) on g are = origins_of r on g are
     origins_of (has_none le) on g are = (tt, tt, tt)

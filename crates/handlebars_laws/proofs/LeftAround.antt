@@ -27,7 +27,7 @@ use Rattle.handlebars_meaning.specs.Writing.{rendered_if_any, write_text, write_
 use Rattle.handlebars_meaning.specs.CarryOut.{in_block, render_branch, render_body, render_word, take_turns, take_step, take_steps, carry_out}
 use Rattle.handlebars_meaning.specs.Means.{unescaped, on_line, line_in, line_at, render_chosen, render_helped, render_call, render_hook, render_found, render_lone_as, render_lone, render_expression, shown_tag, set_partial, do_deed, do_deeds, render_decorator, include_tag, render_partial, render_element, render_elements, todo}
 use Rattle.handlebars_meaning.specs.Runs.{Outcome, Ended, Refused, Faulted, NoMemory, IsOver, marked, Runs, done, refused, wrote, got, set, asked, did, did_over, captured, captured_over, looked, has_room, has_none, stop, cut}
-use Rattle.handlebars_laws.proofs.Outcomes.{over_marked, stop_over}
+use Rattle.handlebars_laws.proofs.Outcomes.{in_memory_over, over_marked, stop_over}
 use Rattle.handlebars_meaning.specs.Laws.{Around, around, LeavesAround}
 
 -- ---- steps that lead to this from a state
@@ -70,7 +70,7 @@ module _ (p : Setting) (plan : (t : Task) (s : State) → Keeps (around s) s (to
   keeps_of (did_over {t = t} {o = o} x over) a h = over_ends a (marked t o) (over_marked t o over)
   keeps_of (captured {s = s} {next = next} {ps = ps} x y) a h =
       keeps_of y a (h.1 ps next (keeps_of x (around s) h.0))
-  keeps_of (captured_over {o = o} x over) a h = over_ends a o over
+  keeps_of (captured_over {o = o} x over) a h = over_ends a o (in_memory_over o over)
   keeps_of (looked r) a h = keeps_of r a (h _)
   keeps_of (has_room lt r) a h = keeps_of r a h
   keeps_of (has_none le) a h = tt

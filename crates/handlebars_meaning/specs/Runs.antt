@@ -35,6 +35,13 @@ IsOver (Refused r) = Unit {0}
 IsOver (Faulted f) = Unit {0}
 IsOver NoMemory = Unit {0}
 
+-- over before its end where no output takes part, which alone may fault
+abbrev pub IsOverInMemory : Outcome → Type 0
+IsOverInMemory (Ended s) = ⊥
+IsOverInMemory (Refused r) = Unit {0}
+IsOverInMemory (Faulted f) = ⊥
+IsOverInMemory NoMemory = Unit {0}
+
 abbrev pub IsStop : Outcome → Type 0
 IsStop (Ended s) = ⊥
 IsStop (Refused r) = ⊥
@@ -91,11 +98,11 @@ pub data Runs (p : Setting) : Steps → State → List Piece → Outcome → Typ
   did_over : {s : State} {t : Task} {k : Steps} {ps : List Piece} {o : Outcome}
       → Runs p (todo t) s ps o → IsOver o → Runs p (Do t k) s ps (marked t o)
   -- what was captured is told, and the run goes on from the state behind it; a capture that is over before its end wrote
-  -- nothing
+  -- nothing, and no output failed
   captured : {s next : State} {m : Steps} {f : List Piece → Steps} {ps qs : List Piece} {o : Outcome}
       → Runs p m s ps (Ended next) → Runs p (f ps) next qs o → Runs p (Capture m f) s qs o
   captured_over : {s : State} {m : Steps} {f : List Piece → Steps} {ps : List Piece} {o : Outcome}
-      → Runs p m s ps o → IsOver o → Runs p (Capture m f) s [] o
+      → Runs p m s ps o → IsOverInMemory o → Runs p (Capture m f) s [] o
   -- what is found by a name
   looked : {s : State} {n : Text} {b : Body} {f : Partial → Steps} {ps : List Piece} {o : Outcome}
       → Runs p (f (found_by p.parts s n b)) s ps o → Runs p (Find n b f) s ps o

@@ -21,7 +21,7 @@ use Rattle.handlebars_meaning.specs.Including.{base_value, enter_block, include,
 use Rattle.handlebars_meaning.specs.Means.{include_tag, line_at, line_out, on_line, render_elements, render_partial, shown_tag, todo}
 use Rattle.handlebars_meaning.specs.Pieces.{Piece, join}
 use Rattle.handlebars_meaning.specs.Questions.{view_of}
-use Rattle.handlebars_meaning.specs.Runs.{Outcome, Refused, IsOver, Runs, got, set, did, did_over, captured, captured_over, looked, has_room, has_none, stop}
+use Rattle.handlebars_meaning.specs.Runs.{Outcome, Refused, IsOverInMemory, Runs, got, set, did, did_over, captured, captured_over, looked, has_room, has_none, stop}
 use Rattle.handlebars_meaning.specs.Sites.{Site, TreeSite, body_at, included_at}
 use Rattle.handlebars_meaning.specs.State.{Kept, Setting, State, entered, nearest_variables, partial_in}
 use Rattle.handlebars_meaning.specs.Steps.{Whole, Steps, Done, Do, Room, Get, Set, Prog, return, ask, state, perform, capture, find, room, ◌>>=◌, ◌>>◌}
@@ -151,11 +151,10 @@ module _ (p : Setting) (may : Error → Type 0) where
   Tells-ahead (fault cause f given counted tells) = absurd (omega (arith, counted (omega arith)))
   Tells-ahead (no_memory same is) = no_memory refl is
 
-  IsOver-err : {before after : ℕ} {o : Outcome} {e : RenderError} {next : State} → Tells may before after o (Err e) next
-      → IsOver o
-  IsOver-err (refusal same) = tt
-  IsOver-err (fault cause f given counted tells) = tt
-  IsOver-err (no_memory same is) = tt
+  IsOverInMemory-err : {o : Outcome} {e : RenderError} {next : State} → Tells may 0 0 o (Err e) next → IsOverInMemory o
+  IsOverInMemory-err (refusal same) = tt
+  IsOverInMemory-err (fault cause f given counted tells) = absurd (omega (arith, counted (omega arith)))
+  IsOverInMemory-err (no_memory same is) = tt
 
   pub carries_ahead-over : {m : Prog (Unit {0})} {e : RenderError} {s next : State} {h begins : Held} (text : Text)
       → begins ≡ nothing
@@ -166,7 +165,7 @@ module _ (p : Setting) (may : Error → Type 0) where
       no_text (λ f. record {
         pieces = [];
         outcome = x.outcome;
-        runs = captured_over x.runs (IsOver-err x.tells);
+        runs = captured_over x.runs (IsOverInMemory-err x.tells);
         text = sym (append-nil h.text);
         tells = Tells-ahead x.tells;
       })

@@ -30,7 +30,7 @@ abbrev behind_capture : {p : Setting} {m : Steps} {f : List Piece → Steps} {s 
     → Runs p m s ps o → ((next : State) → RunFrom p (f ps) next) → RunFrom p (Capture m f) s
 behind_capture (Ended next) r rest = record { pieces = _; outcome = _; runs = captured r (rest next).runs }
 behind_capture (Refused f) r rest = record { pieces = _; outcome = _; runs = captured_over r tt }
-behind_capture (Faulted f) r rest = record { pieces = _; outcome = _; runs = captured_over r tt }
+behind_capture (Faulted f) r rest = record { pieces = _; outcome = _; runs = stop }
 behind_capture NoMemory r rest = record { pieces = _; outcome = _; runs = captured_over r tt }
 
 -- whether one number is less than another
