@@ -43,7 +43,7 @@ pub use handlebars_helpers::view::Helper;
 pub use handlebars_render::context::RenderContext;
 pub use handlebars_render::write::indent_aware_write;
 pub use handlebars_scope::block::{BlockContext, BlockParamHolder, BlockParams};
-pub use handlebars_scope::context::Context;
+pub use handlebars_scope::context::{Context, Object};
 pub use handlebars_scope::indentation::{with_indent, write_indented};
 pub use handlebars_scope::local_vars::LocalVars;
 pub use handlebars_template::template;

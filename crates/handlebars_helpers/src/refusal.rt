@@ -2,21 +2,39 @@
 
 ghost use Rattle.std.specs.Prelude.{◌≡◌};
 ghost use Rattle.handlebars_base.specs.Reasons.{out_of_memory};
-ghost use Rattle.handlebars_base.specs.RenderRefusals.{plain_refusal, refusal_of};
+ghost use Rattle.handlebars_base.specs.RenderRefusals.{plain_refusal, reason_of, refusal_of};
 ghost use Rattle.handlebars_helpers.specs.FnRefusals.{refused_for};
 
-use handlebars_base::error::{RenderError, RenderErrorReason};
+use handlebars_base::error::{RenderError, RenderErrorReason, TemplateError};
 use std::alloc::{AllocError, AllocFailed};
+use std::io;
+use std::string::FromUtf8Error;
 
 /// Why a function that stands for a helper or a decorator refuses: as the reason of `RenderErrorReason` of
 /// this name. The reasons that hold a `&'static str` are left out: none comes out of a call of a `dyn Fn`.
 #[derive(Drop)]
 pub enum FnRefusal {
+    TemplateNotFound(String),
+    TemplateError(TemplateError),
     MissingVariable(Option<String>),
+    PartialNotFound(String),
+    PartialBlockNotFound,
+    HelperNotFound(String),
+    DecoratorNotFound(String),
+    CannotIncludeSelf,
+    InvalidLoggingLevel(String),
     BlockContentRequired,
+    InvalidJsonPath(String),
+    InvalidJsonIndex(String),
+    SerdeError(serde_json::Error),
+    IOError(io::Error),
+    Utf8Error(FromUtf8Error),
     NestedError(String),
     Unimplemented,
     Other(String),
+    InclusionLimit(u16),
+    InvalidNumber,
+    Failed,
     OutOfMemory,
 }
 
@@ -26,14 +44,36 @@ impl From<FnRefusal> for RenderError {
     fn from(refusal: FnRefusal) -> RenderError
         ensures { refusal_of result ≡ plain_refusal (refused_for refusal) }
     {
-        match refusal {
-            FnRefusal::MissingVariable(path) => RenderErrorReason::MissingVariable(path).into(),
-            FnRefusal::BlockContentRequired => RenderErrorReason::BlockContentRequired.into(),
-            FnRefusal::NestedError(cause) => RenderErrorReason::NestedError(cause).into(),
-            FnRefusal::Unimplemented => RenderErrorReason::Unimplemented.into(),
-            FnRefusal::Other(text) => RenderErrorReason::Other(text).into(),
-            FnRefusal::OutOfMemory => RenderErrorReason::OutOfMemory.into(),
-        }
+        reason(refusal).into()
+    }
+}
+
+fn reason(refusal: FnRefusal) -> RenderErrorReason
+    ensures { reason_of result ≡ refused_for refusal }
+{
+    match refusal {
+        FnRefusal::TemplateNotFound(name) => RenderErrorReason::TemplateNotFound(name),
+        FnRefusal::TemplateError(cause) => RenderErrorReason::TemplateError(cause),
+        FnRefusal::MissingVariable(path) => RenderErrorReason::MissingVariable(path),
+        FnRefusal::PartialNotFound(name) => RenderErrorReason::PartialNotFound(name),
+        FnRefusal::PartialBlockNotFound => RenderErrorReason::PartialBlockNotFound,
+        FnRefusal::HelperNotFound(name) => RenderErrorReason::HelperNotFound(name),
+        FnRefusal::DecoratorNotFound(name) => RenderErrorReason::DecoratorNotFound(name),
+        FnRefusal::CannotIncludeSelf => RenderErrorReason::CannotIncludeSelf,
+        FnRefusal::InvalidLoggingLevel(level) => RenderErrorReason::InvalidLoggingLevel(level),
+        FnRefusal::BlockContentRequired => RenderErrorReason::BlockContentRequired,
+        FnRefusal::InvalidJsonPath(path) => RenderErrorReason::InvalidJsonPath(path),
+        FnRefusal::InvalidJsonIndex(index) => RenderErrorReason::InvalidJsonIndex(index),
+        FnRefusal::SerdeError(cause) => RenderErrorReason::SerdeError(cause),
+        FnRefusal::IOError(cause) => RenderErrorReason::IOError(cause),
+        FnRefusal::Utf8Error(cause) => RenderErrorReason::Utf8Error(cause),
+        FnRefusal::NestedError(cause) => RenderErrorReason::NestedError(cause),
+        FnRefusal::Unimplemented => RenderErrorReason::Unimplemented,
+        FnRefusal::Other(text) => RenderErrorReason::Other(text),
+        FnRefusal::InclusionLimit(limit) => RenderErrorReason::InclusionLimit(limit),
+        FnRefusal::InvalidNumber => RenderErrorReason::InvalidNumber,
+        FnRefusal::Failed => RenderErrorReason::Failed,
+        FnRefusal::OutOfMemory => RenderErrorReason::OutOfMemory,
     }
 }
 

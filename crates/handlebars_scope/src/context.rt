@@ -21,7 +21,10 @@ use handlebars_base::json::path::PathSeg;
 use handlebars_base::json::value::{Json, ScopedJson};
 use serde::Serialize;
 use std::alloc::{AllocError, Global};
-use std::collections::VecDeque;
+use std::collections::{BTreeMap, VecDeque};
+
+/// The members of an object, each under its name.
+pub type Object = BTreeMap<String, Json>;
 
 /// Data whose numbers are all integers, none below -2^63 and none of 2^64 or more.
 #[derive(Drop)]

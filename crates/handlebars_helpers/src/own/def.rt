@@ -28,7 +28,8 @@ pub trait HelperDef: Drop {
     ) -> Result<HelperValue, RenderError>
         ensures { IsOneOf (has_offer self.now (asked_with h.now «data».now changed.entry strict)) offer_of result };
 
-    /// What it does where something is written: its steps, or none, and then it is asked for a value.
+    /// What it does where something is written: its steps, or none, and then it is asked for a value. In
+    /// parentheses it is asked where no value is offered, and its steps make a text.
     fn call(
         &self,
         h: &Helper,
