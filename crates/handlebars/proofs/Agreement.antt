@@ -1,5 +1,5 @@
 -- Calls into a text and calls to a writer agree.
-use Rattle.std.proofs.Common.{◌≡◌, true, List, Option, Result, Ok, Err, refl, sym, ap, ◌∙◌, subst}
+use Rattle.std.proofs.Common.{◌≡◌, true, Option, refl, sym, ap, ◌∙◌, subst}
 use Rattle.std.proofs.Math.Bool.{Bool-set}
 use Rattle.std.proofs.Math.Logic.{∥∥₁_elim, ∥∥₁_map}
 use Rattle.std.proofs.lemmas.Slice.Eq.{bytes_eq-Decides}
@@ -9,9 +9,8 @@ use Rattle.std.specs.Str.{bytes_eq}
 use Rattle.handlebars_base.specs.Bytes.{Text}
 use Rattle.handlebars_base.specs.Reasons.{Refusal}
 use Rattle.handlebars_base.specs.RenderRefusals.{refusal_of}
-use Rattle.handlebars_base.specs.declared.error.render_error.RenderError.{RenderError}
 use Rattle.handlebars_meaning.specs.Answer.{Beginning, GivesText, HasOneAnswer, RefusesWith}
-use Rattle.handlebars_meaning.specs.Pieces.{Piece, join}
+use Rattle.handlebars_meaning.specs.Pieces.{join}
 use Rattle.handlebars_meaning.specs.Runs.{Outcome, Ended, Refused, Faulted, NoMemory}
 use Rattle.handlebars_meaning.specs.State.{Setting, State}
 use Rattle.handlebars_render.specs.View.{Answered}

@@ -1,5 +1,5 @@
 -- The text of bytes that a writer keeps.
-use Rattle.std.proofs.Common.{◌≡◌, [], true, false, refl, cond, ap, inl, inr}
+use Rattle.std.proofs.Common.{◌≡◌, [], true, false, cond, ap, inl, inr}
 use Rattle.std.proofs.lemmas.Bool.{cases_Bool, false≢true}
 use Rattle.std.proofs.Math.Bool.{Bool-set}
 use Rattle.std.proofs.Math.Logic.{∥∥₁_elim}

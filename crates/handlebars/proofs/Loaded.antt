@@ -1,12 +1,12 @@
 -- What a registry has behind registrations of files.
-use Rattle.std.proofs.Common.{◌≡◌, Bool, true, false, List, [], ◌∷◌, ◌++◌, cond, Option, None, Some, option_map, refl, sym, ap, ◌∙◌, String, Global}
+use Rattle.std.proofs.Common.{◌≡◌, Bool, true, false, List, [], ◌∷◌, ◌++◌, cond, Option, None, Some, refl, sym, ap, ◌∙◌, String, Global}
 use Rattle.std.specs.BTreeMap.{BTreeMap}
 use Rattle.std.specs.Option.{option_or}
 use Rattle.std.specs.Prelude.{is_some}
 use Rattle.std.specs.Str.{bytes_eq}
 use Rattle.handlebars_base.specs.Bytes.{Text}
-use Rattle.handlebars.specs.Files.{HasLoaded, Loaded, laid_over, last_under, path_in, path_put, path_among, tree_among, remembered, is_dev}
-use Rattle.handlebars.specs.View.{modes_of, stored}
+use Rattle.handlebars.specs.Files.{HasLoaded, Loaded, laid_over, last_under, path_in, path_put, path_among, remembered, is_dev}
+use Rattle.handlebars.specs.View.{stored}
 use Rattle.handlebars.specs.declared.registry.RegistryOf.{RegistryOf}
 
 pub cond-same : {X : Type 0} (b : Bool) (x : X) → cond b x x ≡ x

@@ -1,5 +1,5 @@
 -- What a walk of a folder registers is one, where the reader gives one answer.
-use Rattle.std.proofs.Common.{◌≡◌, ◌≢◌, ◌+◌, ℕ, arith, Bool, true, false, List, [], ◌∷◌, ◌++◌, map, Result, Ok, Err, String, Global, refl, sym, ap, ◌∙◌, subst}
+use Rattle.std.proofs.Common.{◌≡◌, ◌≢◌, ◌+◌, ℕ, arith, Bool, true, false, List, [], ◌∷◌, ◌++◌, map, Result, Err, String, Global, refl, sym, ap, ◌∙◌, subst}
 use Rattle.std.proofs.lemmas.List.Sorted.{ranks_by}
 use Rattle.std.specs.Cmp.Lexicographic.{slice_cmp}
 use Rattle.std.specs.Global.{Vec}
@@ -11,8 +11,8 @@ use Rattle.std.specs.String.{string_cmp_total}
 use Rattle.std.specs.declared.io.Error.{Error}
 use Rattle.handlebars_base.specs.Bytes.{Text}
 use Rattle.handlebars_template.specs.Tree.{Tree}
-use Rattle.handlebars.specs.Files.{Loaded, LoadsFile, Stop, no_memory}
-use Rattle.handlebars.specs.Folder.{Choice, Entry, IsInOrder, Place, Task, a_folder, an_entry, entries_of, Walks, LoadsAt, loaded_at, listed, unlisted, listed_in_want, no_entry, goes_on, ends, takes, refuses, passes, enters, too_deep, in_want, below_at, comes_before, folder_at, is_taken, name_in, path_at}
+use Rattle.handlebars.specs.Files.{Loaded, Stop, no_memory}
+use Rattle.handlebars.specs.Folder.{Choice, Entry, IsInOrder, Place, Task, a_folder, an_entry, entries_of, Walks, LoadsAt, loaded_at, listed, unlisted, listed_in_want, no_entry, goes_on, ends, takes, refuses, passes, enters, too_deep, in_want, comes_before, folder_at, is_taken, path_at}
 use Rattle.handlebars.specs.Readers.{AnswersAlike, HasOneEnd, IsSameList, IsSameRead, entry_seen}
 use Rattle.handlebars.specs.declared.sources.EntryKind.{EntryKind}
 use Rattle.handlebars.specs.declared.sources.EntryKind.TheVariants.{File, Folder}

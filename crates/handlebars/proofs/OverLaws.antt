@@ -1,6 +1,6 @@
 -- What is answered with trees that were read.
 use mathlib.Core.Path.{fun_ext}
-use Rattle.std.proofs.Common.{◌≡◌, ◌≢◌, List, [], Option, None, Some, Result, Ok, Err, refl, sym, ap, ◌∙◌, subst}
+use Rattle.std.proofs.Common.{◌≡◌, ◌≢◌, List, Option, None, Some, Result, Ok, Err, refl, sym, ap, ◌∙◌, subst}
 use Rattle.std.specs.BTreeMap.{BTreeMap}
 use Rattle.std.specs.Global.{Global}
 use Rattle.std.specs.Option.{option_or}
@@ -10,9 +10,7 @@ use Rattle.serde_json.specs.Data.{Data}
 use Rattle.handlebars_base.specs.Bytes.{Text}
 use Rattle.handlebars_base.specs.Reasons.{Refusal, TemplateRefusal, TemplateReason, template_out_of_memory, out_of_memory, of_template, reason_for, template_not_found}
 use Rattle.handlebars_base.specs.RenderRefusals.{plain_refusal, refusal_of, reason_in}
-use Rattle.handlebars_base.specs.TemplateRefusals.{template_refusal_of}
 use Rattle.handlebars_base.specs.declared.error.render_error.RenderError.{RenderError}
-use Rattle.handlebars_base.specs.declared.error.template_error.TemplateError.{TemplateError}
 use Rattle.handlebars_tags.specs.Options.{Options}
 use Rattle.handlebars_template.specs.Compile.{Compiles, compiled, refused}
 use Rattle.handlebars_template.specs.Tree.{Tree}
@@ -23,8 +21,8 @@ use Rattle.handlebars_meaning.specs.Laws.{with_templates}
 use Rattle.handlebars_meaning.specs.Means.{render_tree}
 use Rattle.handlebars_meaning.specs.State.{IsLawful, Setting, State, first_state}
 use Rattle.handlebars_render.specs.View.{GivesString, RefusesString}
-use Rattle.handlebars.specs.Dev.{FailsReading, HasRead, HoldsTrees, ReadsFiles, RefusesReading, at_a_file, behind_all, RefusesSource, not_compiled, is_compiled, files_for, stored_under}
-use Rattle.handlebars.specs.Files.{IsStopFor, Loaded, Stop, no_memory, not_read, refusal, laid_over, tree_among, tree_in, unread}
+use Rattle.handlebars.specs.Dev.{FailsRendering, HasRead, HoldsTrees, ReadsFiles, RefusesReading, at_a_file, behind_all, RefusesSource, not_compiled, is_compiled, files_for, stored_under}
+use Rattle.handlebars.specs.Files.{Loaded, laid_over, tree_in}
 use Rattle.handlebars.specs.Over.{setting_under, setting_with}
 use Rattle.handlebars.specs.View.{setting_over, stored}
 use Rattle.handlebars.specs.declared.registry.RegistryOf.{RegistryOf}
@@ -67,20 +65,20 @@ module _ {E : Type 0} (registered : E → Registered) (own : E → OwnAnswers) (
             (subst (λ (p : Setting). GivesString p (render_tree t) first next text) (over-same rd.0 trees rd.2) g);
       }
 
-      pub refuses-by-name : (t : Tree) (first : State) (f : Refusal) → Some t ≡ laid_over (tree_in trees) (stored r) name
+      pub refuses-by-name : (t : Tree) (first : State) (e : RenderError) → Some t ≡ laid_over (tree_in trees) (stored r) name
           → first ≡ first_state r.recursive_lookup
-          → RefusesString (setting_with registered own trees r d) (render_tree t) first f
+          → RefusesString (setting_with registered own trees r d) (render_tree t) first (refusal_of e)
           → RefusesReading reads r (Some name) before after (λ read q. RefusesWith (setting_under registered own read r d)
-          (FromName (stored_under read r) name) q) f
-      refuses-by-name t first f is begins g =
+          (FromName (stored_under read r) name) q) e
+      refuses-by-name t first e is begins g =
           behind_all rd.1 (refuses_with (setting_under registered own rd.0 r d) (FromName (stored_under rd.0 r) name) t first
           (is_stored (found (Some t) is)) begins
-          (subst (λ (p : Setting). RefusesString p (render_tree t) first f) (over-same rd.0 trees rd.2) g))
+          (subst (λ (p : Setting). RefusesString p (render_tree t) first (refusal_of e)) (over-same rd.0 trees rd.2) g))
 
       pub not-found-by-name : (e : RenderError) → None ≡ laid_over (tree_in trees) (stored r) name
           → refusal_of e ≡ plain_refusal (template_not_found name)
           → RefusesReading reads r (Some name) before after (λ read q. RefusesWith (setting_under registered own read r d)
-          (FromName (stored_under read r) name) q) (refusal_of e)
+          (FromName (stored_under read r) name) q) e
       not-found-by-name e is why =
           behind_all rd.1 (refuses_before (setting_under registered own rd.0 r d) (FromName (stored_under rd.0 r) name)
           (plain_refusal (template_not_found name)) e (is_not (found None is)) why)
@@ -102,65 +100,43 @@ module _ {E : Type 0} (registered : E → Registered) (own : E → OwnAnswers) (
             (subst (λ (p : Setting). GivesString p (render_tree t) first next text) (over-same rd.0 trees rd.2) g);
       }
 
-      pub refuses-by-source : (first : State) (f : Refusal) → first ≡ first_state r.recursive_lookup
-          → RefusesString (setting_with registered own trees r d) (render_tree t) first f
+      pub refuses-by-source : (first : State) (e : RenderError) → first ≡ first_state r.recursive_lookup
+          → RefusesString (setting_with registered own trees r d) (render_tree t) first (refusal_of e)
           → RefusesSource reads r options source before after (λ read q. RefusesWith (setting_under registered own read r d)
-          (FromSource options source) q) f
-      refuses-by-source first f begins g =
+          (FromSource options source) q) e
+      refuses-by-source first e begins g =
           is_compiled is_source
           (behind_all rd.1 (refuses_with (setting_under registered own rd.0 r d) (FromSource options source) t first
           (compiles is_source) begins
-          (subst (λ (p : Setting). RefusesString p (render_tree t) first f) (over-same rd.0 trees rd.2) g)))
+          (subst (λ (p : Setting). RefusesString p (render_tree t) first (refusal_of e)) (over-same rd.0 trees rd.2) g)))
 
 -- ---- files that are refused
 
 module _ {S : Type 0} (reads : S → Text → Result (String Global) Error → S → Type 0) {E : Type 0} (r : RegistryOf E)
     (asked : Option Text) (before after : S) (Refuses : List Loaded → Refusal → Type 0) where
-  fails-so : (e : TemplateError) (d : RenderError) (read : List Loaded) (why : Stop)
-      → ReadsFiles reads r.prevent_indent (files_for r asked) before read (Err why) after → IsStopFor e why
-      → refusal_of d ≡ plain_refusal (of_template (template_refusal_of e)) → reason_in d ≢ out_of_memory
-      → RefusesReading reads r asked before after Refuses (refusal_of d)
-  fails-so e d read (refusal f) failing stop is other =
-      subst (λ z. RefusesReading reads r asked before after Refuses z)
-      (sym (is ∙ ap (λ z. plain_refusal (of_template z)) stop)) (at_a_file f failing refl)
-  fails-so e d read (not_read name kind) failing stop is other =
-      subst (λ z. RefusesReading reads r asked before after Refuses z)
-      (sym (is ∙ ap (λ z. plain_refusal (of_template z)) stop.0)) (at_a_file (unread name) failing refl)
-  fails-so e d read no_memory failing stop is other =
-      absurd (other (ap (λ (z : Refusal). z.reason) is
-      ∙ ap (λ (z : TemplateReason). reason_for (template_refusal_of e) z) stop))
-
-  pub fails-at-file : (e : TemplateError) (answer : Result (String Global) RenderError)
-      → FailsReading reads r.prevent_indent (files_for r asked) before after e
-      → IsErrAnd answer (λ d. refusal_of d ≡ plain_refusal (of_template (template_refusal_of e)))
-      → IfErr answer (λ d. reason_in d ≢ out_of_memory → RefusesReading reads r asked before after Refuses (refusal_of d))
-  fails-at-file e (Ok text) fails is = absurd is
-  fails-at-file e (Err d) fails is = λ other. fails-so e d fails.read fails.why fails.reads_up_to fails.stop is other
+  pub fails-at-file : (d : RenderError) → FailsRendering reads r.prevent_indent (files_for r asked) before after d
+      → RefusesReading reads r asked before after Refuses d
+  fails-at-file d x = at_a_file x.reads_up_to x.stop
 
 module _ {S : Type 0} (reads : S → Text → Result (String Global) Error → S → Type 0) {E : Type 0} (r : RegistryOf E)
     (options : Options) (source : Text) (Refuses : List Loaded → Refusal → Type 0) where
-  pub source-fails-at-file : (t : Tree) (before after : S) (e : TemplateError) (answer : Result (String Global) RenderError)
-      → Compiles source options (compiled t)
-      → FailsReading reads r.prevent_indent (files_for r None) before after e
-      → IsErrAnd answer (λ d. refusal_of d ≡ plain_refusal (of_template (template_refusal_of e)))
-      → IfErr answer (λ d. reason_in d ≢ out_of_memory
-      → RefusesSource reads r options source before after Refuses (refusal_of d))
-  source-fails-at-file t before after e (Ok text) c fails is = absurd is
-  source-fails-at-file t before after e (Err d) c fails is =
-      λ other. is_compiled c (fails-at-file reads r None before after Refuses e (Err d) fails is other)
+  pub source-fails-at-file : (t : Tree) (before after : S) (d : RenderError) → Compiles source options (compiled t)
+      → FailsRendering reads r.prevent_indent (files_for r None) before after d
+      → RefusesSource reads r options source before after Refuses d
+  source-fails-at-file t before after d c x = is_compiled c (fails-at-file reads r None before after Refuses d x)
 
   refused-so : (s : S) (f : TemplateRefusal) (d : RenderError)
       → (f.reason ≢ template_out_of_memory → Compiles source options (refused f))
       → refusal_of d ≡ plain_refusal (of_template f) → reason_in d ≢ out_of_memory
-      → RefusesSource reads r options source s s Refuses (refusal_of d)
+      → RefusesSource reads r options source s s Refuses d
   refused-so s f d refuses is other =
       let not_memory : f.reason ≢ template_out_of_memory =
       λ memory. other (ap (λ (z : Refusal). z.reason) is ∙ ap (λ (z : TemplateReason). reason_for f z) memory) in
-      subst (λ z. RefusesSource reads r options source s s Refuses z) (sym is) (not_compiled (refuses not_memory) refl)
+      not_compiled (refuses not_memory) refl is
 
   pub source-refused : (s : S) (f : TemplateRefusal) (answer : Result (String Global) RenderError)
       → (f.reason ≢ template_out_of_memory → Compiles source options (refused f))
       → IsErrAnd answer (λ d. refusal_of d ≡ plain_refusal (of_template f))
-      → IfErr answer (λ d. reason_in d ≢ out_of_memory → RefusesSource reads r options source s s Refuses (refusal_of d))
+      → IfErr answer (λ d. reason_in d ≢ out_of_memory → RefusesSource reads r options source s s Refuses d)
   source-refused s f (Ok text) refuses is = absurd is
   source-refused s f (Err d) refuses is = λ other. refused-so s f d refuses is other

@@ -1,17 +1,20 @@
 -- What is read of files in turn.
-use Rattle.std.proofs.Common.{◌≡◌, Bool, true, false, cond, not, map, List, [], ◌∷◌, ◌++◌, Option, Some, None, Result, Ok, Err, String, Global, refl, sym, ap, ◌∙◌, subst, append-nil, append_assoc}
+use Rattle.std.proofs.Common.{◌≡◌, ◌≢◌, Bool, true, false, cond, not, map, List, [], ◌∷◌, ◌++◌, Option, Some, None, Result, Ok, Err, String, Global, refl, sym, ap, ◌∙◌, subst, append-nil, append_assoc}
 use Rattle.std.specs.BTreeMap.{BTreeMap}
 use Rattle.std.specs.Prelude.{IfErr, OnOk, is_some, string_bytes}
 use Rattle.std.specs.Str.{bytes_eq}
 use Rattle.std.specs.declared.io.Error.{Error}
 use Rattle.handlebars_base.specs.Bytes.{Text}
-use Rattle.handlebars_base.specs.Reasons.{template_out_of_memory}
+use Rattle.handlebars_base.specs.Reasons.{Refusal, TemplateReason, TemplateRefusal, of_template, out_of_memory, reason_for, template_error, template_out_of_memory}
+use Rattle.handlebars_base.specs.RenderRefusals.{cause_of, plain_refusal, reason_in, refusal_of}
 use Rattle.handlebars_base.specs.TemplateRefusals.{template_refusal_of}
+use Rattle.handlebars_base.specs.declared.error.render_error.RenderError.{RenderError}
+use Rattle.handlebars_base.specs.declared.error.render_error.RenderErrorReason.TheVariants as reasons
 use Rattle.handlebars_base.specs.declared.error.template_error.TemplateError.{TemplateError}
 use Rattle.handlebars_template.specs.Tree.{Tree}
 use Rattle.handlebars_template.specs.declared.template.tree.Template.{Template}
-use Rattle.handlebars.specs.Dev.{FailsReading, HoldsTrees, ReadsFiles, ReadsInto, no_file, loads, fails, in_want, is_asked, others}
-use Rattle.handlebars.specs.Files.{IsStopFor, Loaded, LoadsFile, Stop, file_of, no_memory, path_in, tree_among, tree_in}
+use Rattle.handlebars.specs.Dev.{FailsReading, FailsRendering, HoldsTrees, ReadsFiles, ReadsInto, no_file, loads, fails, in_want, is_asked, others}
+use Rattle.handlebars.specs.Files.{IsStopFor, Loaded, LoadsFile, Stop, TellsStop, file_of, no_memory, not_read, path_in, refusal, tree_among, tree_in, unread}
 use Rattle.handlebars.proofs.Loaded.{last_under-append, put-laid}
 use Rattle.handlebars.proofs.Loads.{loads-in_want}
 
@@ -206,3 +209,26 @@ pub path_in-off : (paths : Option (BTreeMap (String Global) (String Global))) (n
     → Some path ≡ path_in paths name → ⊥
 path_in-off None name path off there = cc
 path_in-off (Some m) name path off there = cc
+
+-- ---- the error of a rendering
+
+template_error≢out_of_memory : {f : TemplateRefusal} → template_error f ≡ out_of_memory → ⊥
+template_error≢out_of_memory e = cc
+
+module _ (e : TemplateError) (d : RenderError) (is : refusal_of d ≡ plain_refusal (of_template (template_refusal_of e)))
+    (cause : reason_in d ≢ out_of_memory → cause_of d ≡ reasons.TemplateError e) where
+  tells-stop : (why : Stop) → IsStopFor e why → TellsStop why d
+  tells-stop (refusal f) stop = is ∙ ap (λ z. plain_refusal (of_template z)) stop
+  tells-stop (not_read name kind) stop =
+      let so : refusal_of d ≡ plain_refusal (of_template (unread name)) = is ∙ ap (λ z. plain_refusal (of_template z)) stop.0 in
+      let kept : cause_of d ≡ reasons.TemplateError e =
+      cause (λ memory. template_error≢out_of_memory (ap (λ (z : Refusal). z.reason) (sym so) ∙ memory)) in
+      (so, (e, kept, stop.1))
+  tells-stop no_memory stop =
+      ap (λ (z : Refusal). z.reason) is ∙ ap (λ (z : TemplateReason). reason_for (template_refusal_of e) z) stop
+
+  pub fails-rendering : {S : Type 0} (reads : S → Text → Result (String Global) Error → S → Type 0) {prevents : Bool}
+      {fs : List (Text × Text)} {before after : S} → FailsReading reads prevents fs before after e
+      → FailsRendering reads prevents fs before after d
+  fails-rendering reads x =
+      record { read = x.read; why = x.why; reads_up_to = x.reads_up_to; stop = tells-stop x.why x.stop }

@@ -12,7 +12,7 @@ use Rattle.handlebars_base.specs.TemplateRefusals.{template_refusal_of}
 use Rattle.handlebars_base.specs.declared.error.template_error.TemplateError.{TemplateError}
 use Rattle.handlebars_template.specs.Tree.{Tree}
 use Rattle.handlebars.specs.Files.{HasLoaded, IsStopFor, Loaded, LoadsFile, Stop, no_memory, Tells}
-use Rattle.handlebars.specs.Folder.{Choice, Entry, IsInOrder, Place, Registers, Task, a_folder, an_entry, entries_of, Walks, listed, unlisted, listed_in_want, no_entry, goes_on, ends, takes, refuses, passes, enters, too_deep, in_want, below_at, folder_at, is_taken, name_in, path_at}
+use Rattle.handlebars.specs.Folder.{Choice, Entry, IsInOrder, Place, Registers, Task, a_folder, an_entry, entries_of, Walks, listed, unlisted, listed_in_want, no_entry, goes_on, ends, takes, refuses, passes, enters, too_deep, in_want, below_at, is_taken, name_in, path_at}
 use Rattle.handlebars.specs.View.{modes_of}
 use Rattle.handlebars.specs.declared.registry.RegistryOf.{RegistryOf}
 use Rattle.handlebars.specs.declared.sources.EntryKind.{EntryKind}

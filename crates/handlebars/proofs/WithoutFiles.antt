@@ -1,5 +1,5 @@
 -- What is read where no file is there.
-use Rattle.std.proofs.Common.{◌≡◌, Bool, List, [], Option, Result, Ok, Err, String, Global, refl, subst}
+use Rattle.std.proofs.Common.{◌≡◌, Bool, List, [], Option, Result, Ok, String, Global, refl, subst}
 use Rattle.std.specs.declared.io.Error.{Error}
 use Rattle.handlebars_base.specs.Bytes.{Text}
 use Rattle.handlebars_template.specs.Tree.{Tree}

@@ -1,19 +1,15 @@
 -- What calls say of a writer that read files first.
 use mathlib.Core.Path.{fun_ext}
-use Rattle.std.proofs.Common.{◌≡◌, ◌≢◌, [], Option, None, Some, Result, Ok, Err, List, sym, ap, ◌∙◌, subst, refl, inl, inr}
+use Rattle.std.proofs.Common.{◌≡◌, ◌≢◌, Option, None, Some, Result, Ok, Err, List, ap, ◌∙◌, subst, refl, inl, inr}
 use Rattle.std.specs.BTreeMap.{BTreeMap}
 use Rattle.std.specs.Global.{Global}
 use Rattle.std.specs.Prelude.{String}
 use Rattle.std.specs.declared.io.Error.{Error}
-use Rattle.serde.specs.Event.{Log}
 use Rattle.serde_json.specs.Data.{Data}
-use Rattle.handlebars_base.specs.Answers.{refuses}
 use Rattle.handlebars_base.specs.Bytes.{Text}
-use Rattle.handlebars_base.specs.Reasons.{Refusal, TemplateRefusal, TemplateReason, nowhere, of_template, out_of_memory, reason_for, template_out_of_memory}
-use Rattle.handlebars_base.specs.RenderRefusals.{plain_refusal, reason_in, refusal_of, spot_of}
-use Rattle.handlebars_base.specs.TemplateRefusals.{template_refusal_of}
+use Rattle.handlebars_base.specs.Reasons.{Refusal, TemplateRefusal, TemplateReason, of_template, out_of_memory, reason_for, template_out_of_memory}
+use Rattle.handlebars_base.specs.RenderRefusals.{plain_refusal, reason_in, refusal_of}
 use Rattle.handlebars_base.specs.declared.error.render_error.RenderError.{RenderError}
-use Rattle.handlebars_base.specs.declared.error.template_error.TemplateError.{TemplateError}
 use Rattle.handlebars_tags.specs.Options.{Options}
 use Rattle.handlebars_template.specs.Compile.{Compiles, compiled, refused}
 use Rattle.handlebars_template.specs.Tree.{Tree}
@@ -21,12 +17,11 @@ use Rattle.handlebars_template.specs.declared.template.tree.Template.{Template}
 use Rattle.handlebars_helpers.specs.OwnAnswers.{OwnAnswers, Registered}
 use Rattle.handlebars_meaning.specs.Answer.{FromName, FromSource, compiles}
 use Rattle.handlebars_meaning.specs.Laws.{with_templates}
-use Rattle.handlebars_meaning.specs.State.{Setting}
 use Rattle.handlebars_render.specs.View.{Answered}
 use Rattle.handlebars_render.proofs.Carry.{memory_or}
 use Rattle.handlebars.specs.Calls.{BeginsWith, Writes, WritesReading, WritesSource, written_behind, refused_at_file, no_room_to_read, compiled_so, refused_so, no_room_to_compile}
-use Rattle.handlebars.specs.Dev.{FailsReading, HoldsTrees, ReadsFiles, files_for, stored_under}
-use Rattle.handlebars.specs.Files.{IsStopFor, Loaded, Stop, no_memory, not_read, refusal, laid_over, tree_in, unread}
+use Rattle.handlebars.specs.Dev.{FailsRendering, HoldsTrees, ReadsFiles, files_for, stored_under}
+use Rattle.handlebars.specs.Files.{Loaded, laid_over, tree_in}
 use Rattle.handlebars.specs.Over.{setting_under, setting_with}
 use Rattle.handlebars.specs.View.{setting_over, stored}
 use Rattle.handlebars.specs.declared.registry.RegistryOf.{RegistryOf}
@@ -63,7 +58,7 @@ module _ {E : Type 0} (registered : E → Registered) (own : E → OwnAnswers) (
         → WritesReading reads r None before after (λ read. Writes (setting_under registered own read r d) (FromSource options source)) first last a
     from_source (written_behind {read = read} all w) = written_behind all
         (Writes-begun (setting_under registered own read r d) (FromSource options source) (FromSource-one options source) t (compiles is_source) w)
-    from_source (refused_at_file f all why is w) = refused_at_file f all why is w
+    from_source (refused_at_file all tells w) = refused_at_file all tells w
     from_source (no_room_to_read is w) = no_room_to_read is w
 
     pub writes-source : {a : Answered}
@@ -76,21 +71,10 @@ module _ {E : Type 0} (registered : E → Registered) (own : E → OwnAnswers) (
 
 module _ {E : Type 0} (r : RegistryOf E) {S : Type 0} (reads : S → Text → Result (String Global) Error → S → Type 0)
     (to : List Loaded → Option Text → Option Text → Answered → Type 0) where
-  stops-so : (asked : Option Text) (before after : S) (e : TemplateError) (x : RenderError) (o : Option Text) (read : List Loaded) (why : Stop)
-      → ReadsFiles reads r.prevent_indent (files_for r asked) before read (Err why) after → IsStopFor e why
-      → refusal_of x ≡ plain_refusal (of_template (template_refusal_of e)) → WritesReading reads r asked before after to o o (Err x)
-  stops-so asked before after e x o read (refusal f) failing stop is =
-      refused_at_file f failing refl (is ∙ ap (λ z. plain_refusal (of_template z)) stop) (Appends-nothing o)
-  stops-so asked before after e x o read (not_read name kind) failing stop is =
-      refused_at_file (unread name) failing refl (is ∙ ap (λ z. plain_refusal (of_template z)) stop.0) (Appends-nothing o)
-  stops-so asked before after e x o read no_memory failing stop is =
-      no_room_to_read (ap (λ (z : Refusal). z.reason) is ∙ ap (λ (z : TemplateReason). reason_for (template_refusal_of e) z) stop)
-      (Appends-nothing o)
-
-  pub writes-unread : (asked : Option Text) (before after : S) (e : TemplateError) (x : RenderError) (o : Option Text)
-      → FailsReading reads r.prevent_indent (files_for r asked) before after e
-      → refusal_of x ≡ plain_refusal (of_template (template_refusal_of e)) → WritesReading reads r asked before after to o o (Err x)
-  writes-unread asked before after e x o failing is = stops-so asked before after e x o failing.read failing.why failing.reads_up_to failing.stop is
+  pub writes-unread : (asked : Option Text) (before after : S) (x : RenderError) (o : Option Text)
+      → FailsRendering reads r.prevent_indent (files_for r asked) before after x
+      → WritesReading reads r asked before after to o o (Err x)
+  writes-unread asked before after x o fails = refused_at_file fails.reads_up_to fails.stop (Appends-nothing o)
 
   module _ (options : Options) (source : Text) (s : S) (f : TemplateRefusal) (x : RenderError) (o : Option Text)
       (refuses : f.reason ≢ template_out_of_memory → Compiles source options (refused f))

@@ -1,14 +1,14 @@
 -- What calls to a writer say, and calls that convert their data.
-use Rattle.std.proofs.Common.{◌≡◌, ◌≢◌, ℕ, List, [], ◌++◌, append-nil, Option, None, Some, Result, Ok, Err, refl, sym, ap, ◌∙◌, subst, inl, inr, ◌⊎◌}
+use Rattle.std.proofs.Common.{◌≡◌, ◌≢◌, ℕ, List, [], ◌++◌, append-nil, Option, None, Some, Ok, Err, refl, sym, ap, ◌∙◌, subst, inl, inr}
 use Rattle.std.specs.Io.KnownBytes.{Appends}
 use Rattle.std.specs.Prelude.{IsErrAnd}
 use Rattle.std.specs.declared.io.Error.{Error}
 use Rattle.serde.specs.Event.{Log}
 use Rattle.serde_json.specs.Data.{Data}
-use Rattle.handlebars_base.specs.Answers.{IsRefusal, gives, refuses}
+use Rattle.handlebars_base.specs.Answers.{IsRefusal, refuses}
 use Rattle.handlebars_base.specs.Bytes.{Text}
 use Rattle.handlebars_base.specs.Outputs.{Held}
-use Rattle.handlebars_base.specs.Reasons.{Reason, Refusal, Spot, TemplateRefusal, TemplateReason, nowhere, of_template, out_of_memory, reason_for, template_out_of_memory}
+use Rattle.handlebars_base.specs.Reasons.{Refusal, Spot, TemplateRefusal, TemplateReason, nowhere, of_template, out_of_memory, reason_for, template_out_of_memory}
 use Rattle.handlebars_base.specs.RenderRefusals.{plain_refusal, reason_in, refusal_of, spot_of}
 use Rattle.handlebars_base.specs.declared.error.render_error.RenderError.{RenderError}
 use Rattle.handlebars_scope.specs.Wraps.{IsConversion}

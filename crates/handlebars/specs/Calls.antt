@@ -21,7 +21,7 @@ use Rattle.handlebars_meaning.specs.Runs.{Outcome, Ended, Refused, Faulted, Faul
 use Rattle.handlebars_meaning.specs.State.{Setting, State}
 use Rattle.handlebars_render.specs.View.{Answered, TellsFault}
 use Rattle.handlebars.specs.Dev.{ReadsFor}
-use Rattle.handlebars.specs.Files.{Loaded, RefusesSo, Stop}
+use Rattle.handlebars.specs.Files.{Loaded, Stop, TellsStop}
 use Rattle.handlebars.specs.declared.registry.RegistryOf.{RegistryOf}
 
 -- ---- calls to a writer
@@ -77,8 +77,8 @@ module _ {S : Type 0} (reads : S → Text → Result (String Global) Error → S
       (first last : Option Text) : Answered → Type 0 where
     written_behind : {read : List Loaded} {a : Answered} → ReadsFor reads r asked before after read (Ok tt) → to read first last a
         → WritesReading asked before after to first last a
-    refused_at_file : {read : List Loaded} {e : RenderError} {why : Stop} (f : TemplateRefusal) → ReadsFor reads r asked before after read (Err why)
-        → RefusesSo why f → refusal_of e ≡ plain_refusal (of_template f) → Appends first last [] → WritesReading asked before after to first last (Err e)
+    refused_at_file : {read : List Loaded} {e : RenderError} {why : Stop} → ReadsFor reads r asked before after read (Err why)
+        → TellsStop why e → Appends first last [] → WritesReading asked before after to first last (Err e)
     no_room_to_read : {e : RenderError} → reason_in e ≡ out_of_memory → Appends first last []
         → WritesReading asked before after to first last (Err e)
 

@@ -7,13 +7,14 @@ use Rattle.std.specs.Str.{bytes_eq}
 use Rattle.std.specs.declared.io.Error.{Error}
 use Rattle.handlebars_base.specs.Bytes.{Text}
 use Rattle.handlebars_base.specs.Reasons.{Refusal, TemplateRefusal, of_template}
-use Rattle.handlebars_base.specs.RenderRefusals.{plain_refusal}
+use Rattle.handlebars_base.specs.RenderRefusals.{plain_refusal, refusal_of}
+use Rattle.handlebars_base.specs.declared.error.render_error.RenderError.{RenderError}
 use Rattle.handlebars_base.specs.declared.error.template_error.TemplateError.{TemplateError}
 use Rattle.handlebars_tags.specs.Options.{Options}
 use Rattle.handlebars_template.specs.Compile.{Compiles, compiled, refused}
 use Rattle.handlebars_template.specs.Tree.{Tree}
 use Rattle.handlebars_template.specs.declared.template.tree.Template.{Template}
-use Rattle.handlebars.specs.Files.{IsStopFor, RefusesSo, Stop, no_memory, Loaded, LoadsFile, files_of, laid_over, remembered, tree_among, tree_in}
+use Rattle.handlebars.specs.Files.{IsStopFor, Stop, TellsStop, no_memory, Loaded, LoadsFile, files_of, laid_over, remembered, tree_among, tree_in}
 use Rattle.handlebars.specs.View.{stored}
 use Rattle.handlebars.specs.declared.registry.RegistryOf.{RegistryOf}
 
@@ -85,6 +86,13 @@ module _ {S : Type 0} (reads : S → Text → Result (String Global) Error → S
     pub reads_up_to : ReadsFiles fs before read (Err why) after
     pub stop : IsStopFor e why
 
+  -- The same for a rendering, whose error tells why.
+  pub record FailsRendering (fs : List (Text × Text)) (before after : S) (e : RenderError) : Type 0 where
+    pub read : List Loaded
+    pub why : Stop
+    pub reads_up_to : ReadsFiles fs before read (Err why) after
+    pub stop : TellsStop why e
+
 -- ---- what is answered
 
 module _ {E : Type 0} where
@@ -110,20 +118,21 @@ module _ {S : Type 0} (reads : S → Text → Result (String Global) Error → S
     pub reads_all : ReadsFor read (Ok tt)
     pub holds : Holds read
 
-  -- A refusal is that of a file, or behind the reading of all, with their trees.
-  pub data RefusesReading (Refuses : List Loaded → Refusal → Type 0) : Refusal → Type 0 where
-    at_a_file : {read : List Loaded} {why : Stop} (f : TemplateRefusal) → ReadsFor read (Err why) → RefusesSo why f
-        → RefusesReading Refuses (plain_refusal (of_template f))
-    behind_all : {read : List Loaded} {f : Refusal} → ReadsFor read (Ok tt) → Refuses read f → RefusesReading Refuses f
+  -- The error tells of a file that is refused, or of a refusal behind the reading of all, with their trees.
+  pub data RefusesReading (Refuses : List Loaded → Refusal → Type 0) : RenderError → Type 0 where
+    at_a_file : {read : List Loaded} {why : Stop} {e : RenderError} → ReadsFor read (Err why) → TellsStop why e
+        → RefusesReading Refuses e
+    behind_all : {read : List Loaded} {e : RenderError} → ReadsFor read (Ok tt) → Refuses read (refusal_of e)
+        → RefusesReading Refuses e
 
 -- ---- renderings of a source
 
 module _ {S : Type 0} (reads : S → Text → Result (String Global) Error → S → Type 0) {E : Type 0} (r : RegistryOf E)
     (options : Options) (source : Text) (before after : S) (Refuses : List Loaded → Refusal → Type 0) where
-  -- A source that doesn't compile is refused, and no file is asked for; else the refusal is that of a file, or behind the
-  -- reading of all, with their trees.
-  pub data RefusesSource : Refusal → Type 0 where
-    not_compiled : {f : TemplateRefusal} → Compiles source options (refused f) → after ≡ before
-        → RefusesSource (plain_refusal (of_template f))
-    is_compiled : {t : Tree} {f : Refusal} → Compiles source options (compiled t)
-        → RefusesReading reads r None before after Refuses f → RefusesSource f
+  -- A source that doesn't compile is refused, and no file is asked for; else the error tells of a file that is refused, or
+  -- of a refusal behind the reading of all, with their trees.
+  pub data RefusesSource : RenderError → Type 0 where
+    not_compiled : {f : TemplateRefusal} {e : RenderError} → Compiles source options (refused f) → after ≡ before
+        → refusal_of e ≡ plain_refusal (of_template f) → RefusesSource e
+    is_compiled : {t : Tree} {e : RenderError} → Compiles source options (compiled t)
+        → RefusesReading reads r None before after Refuses e → RefusesSource e

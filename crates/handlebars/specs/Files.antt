@@ -6,14 +6,17 @@ use Rattle.std.specs.IoError.{error_kind}
 use Rattle.std.specs.List.Sorted.{IsStrictlySortedBy}
 use Rattle.std.specs.Map.{keys_of, lookup}
 use Rattle.std.specs.Ordering.{nat_cmp}
-use Rattle.std.specs.Prelude.{◌≡◌, ◌≢◌, Bool, false, cond, List, [], ◌∷◌, map, Option, None, Some, option_map, is_some, Result, Ok, Err, String, string_bytes}
+use Rattle.std.specs.Prelude.{◌≡◌, ◌≢◌, Bool, cond, List, [], ◌∷◌, map, Option, None, Some, option_map, is_some, Result, Ok, Err, String, string_bytes}
 use Rattle.std.specs.Str.{bytes_eq}
 use Rattle.std.specs.declared.io.Error.{Error}
 use Rattle.std.specs.declared.io.ErrorKind.{ErrorKind}
 use Rattle.std.specs.declared.io.ErrorKind.TheVariants.{OutOfMemory}
 use Rattle.handlebars_base.specs.Bytes.{Text}
-use Rattle.handlebars_base.specs.Reasons.{TemplateRefusal, template_io_error, template_out_of_memory}
+use Rattle.handlebars_base.specs.Reasons.{TemplateRefusal, of_template, out_of_memory, template_io_error, template_out_of_memory}
+use Rattle.handlebars_base.specs.RenderRefusals.{cause_of, plain_refusal, reason_in, refusal_of}
 use Rattle.handlebars_base.specs.TemplateRefusals.{template_cause_of, template_refusal_of}
+use Rattle.handlebars_base.specs.declared.error.render_error.RenderError.{RenderError}
+use Rattle.handlebars_base.specs.declared.error.render_error.RenderErrorReason.TheVariants as reasons
 use Rattle.handlebars_base.specs.declared.error.template_error.TemplateError.{TemplateError}
 use Rattle.handlebars_base.specs.declared.error.template_error.TemplateErrorReason.TheVariants.{IoError}
 use Rattle.std.specs.Option.{option_or}
@@ -23,7 +26,6 @@ use Rattle.handlebars_template.specs.TreeView.{tree_view}
 use Rattle.handlebars_template.specs.declared.template.tree.Template.{Template}
 use Rattle.handlebars.specs.View.{modes_of, named, stored}
 use Rattle.handlebars.specs.declared.registry.RegistryOf.{RegistryOf}
-use Rattle.handlebars.specs.declared.registry.dev.DevFiles.{DevFiles}
 
 -- ---- reading and compiling one
 
@@ -54,11 +56,15 @@ Tells view (Ok x) (Err s) = ⊥
 Tells view (Err e) (Ok y) = ⊥
 Tells view (Err e) (Err s) = IsStopFor e s
 
--- A stop is this refusal.
-abbrev pub RefusesSo : Stop → TemplateRefusal → Type 0
-RefusesSo (refusal r) f = r ≡ f
-RefusesSo (not_read name kind) f = unread name ≡ f
-RefusesSo no_memory f = ⊥
+-- The error of a rendering keeps one of a template, which holds one of the system, of this kind.
+abbrev pub KeepsKind : ErrorKind → RenderError → Type 0
+KeepsKind kind e = (cause : TemplateError) × (cause_of e ≡ reasons.TemplateError cause) × HoldsKind kind cause
+
+-- The error of a rendering tells of a stop, at no place.
+abbrev pub TellsStop : Stop → RenderError → Type 0
+TellsStop (refusal r) e = refusal_of e ≡ plain_refusal (of_template r)
+TellsStop (not_read name kind) e = (refusal_of e ≡ plain_refusal (of_template (unread name))) × KeepsKind kind e
+TellsStop no_memory e = reason_in e ≡ out_of_memory
 
 module _ {S : Type 0} (reads : S → Text → Result (String Global) Error → S → Type 0) (prevent_indent : Bool) where
   -- The file at a path is read for the template of a name, and its text is compiled. There may be no memory for that; a

@@ -1,7 +1,7 @@
 -- What of a folder is registered, and in which order.
 use Rattle.std.specs.Global.{Global, Vec}
 use Rattle.std.specs.IoError.{error_kind}
-use Rattle.std.specs.List.{starts_with, ends_with}
+use Rattle.std.specs.List.{ends_with}
 use Rattle.std.specs.List.Sorted.{IsPermutation, IsSortedBy, IsStableBy}
 use Rattle.std.specs.Ordering.{is_lt}
 use Rattle.std.specs.Prelude.{◌≡◌, ◌≢◌, ℕ, ◌+◌, ◌-◌, ◌==◌, Bool, true, false, not, ◌&&◌, ◌||◌, if◌then◌else◌, List, [], ◌∷◌, ◌++◌, length, take, codes, Result, Ok, Err, String, string_bytes}

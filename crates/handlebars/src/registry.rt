@@ -85,8 +85,7 @@ impl<E: Drop> RegistryOf<E> {
         self.recursive_lookup
     }
 
-    /// From now on, or no more, an inclusion that stands alone on its line adds no indentation, in sources that are
-    /// compiled from then on.
+    /// From now on, or no more, an inclusion adds no indentation, in sources that are compiled from then on.
     pub fn set_prevent_indent(&mut self, enabled: bool)
         ensures modes { modes_of self.new ≡ record (modes_of self.old) { prevent_indent = enabled } }
         ensures entries { self.new.entries ≡ self.old.entries }

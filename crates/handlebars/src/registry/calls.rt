@@ -58,7 +58,7 @@ impl<E: OwnParts> RegistryOf<E> {
         ensures err { IfErr result (λ e. reason_in e ≢ out_of_memory → ConvertsOr T.writes «data».now (refusal_of e)
             (files.new ≡ files.old) (λ d. RefusesReading R.reads self.now (Some name.now) files.old files.new
             (λ read f. RefusesWith (setting_under E.registered E.own read self.now d)
-            (FromName (stored_under read self.now) name.now) f) (refusal_of e))) }
+            (FromName (stored_under read self.now) name.now) f) e)) }
         ensures one { (d : Data) (read : List Loaded) → HasOneAnswer (setting_under E.registered E.own read self.now d)
             (FromName (stored_under read self.now) name.now) }
         ensures origins { (d : Data) (read : List Loaded)
@@ -92,7 +92,7 @@ impl<E: OwnParts> RegistryOf<E> {
         ensures err { IfErr result (λ e. reason_in e ≢ out_of_memory
             → RefusesReading R.reads self.now (Some name.now) files.old files.new
             (λ read f. RefusesWith (setting_under E.registered E.own read self.now (data_of ctx.now))
-            (FromName (stored_under read self.now) name.now) f) (refusal_of e)) }
+            (FromName (stored_under read self.now) name.now) f) e) }
         ensures one { (read : List Loaded)
             → HasOneAnswer (setting_under E.registered E.own read self.now (data_of ctx.now))
             (FromName (stored_under read self.now) name.now) }
@@ -103,7 +103,7 @@ impl<E: OwnParts> RegistryOf<E> {
         ensures unread { is_dev self.now ≡ false → files.new ≡ files.old }
     {
         self.entries.keeps_law();
-        let read = self.read_files(Some(name), files)?;
+        let read = self.read_for(Some(name), files)?;
         let Some(template) = self.template_over(&read, name) else {
             let name = String::from_str(self.alloc, name)?;
             return Err(RenderErrorReason::TemplateNotFound(name).into());
@@ -166,9 +166,9 @@ impl<E: OwnParts> RegistryOf<E> {
         ensures unread { is_dev self.now ≡ false → files.new ≡ files.old }
     {
         self.entries.keeps_law();
-        match self.read_files(Some(name), files) {
+        match self.read_for(Some(name), files) {
             Ok(read) => self.write_named(name, &read, ctx, writer, log),
-            Err(e) => Err(e.into()),
+            Err(e) => Err(e),
         }
     }
 
@@ -228,7 +228,7 @@ impl<E: OwnParts> RegistryOf<E> {
             (files.new ≡ files.old)
             (λ d. RefusesSource R.reads self.now (options_of self.now) source.now files.old files.new
             (λ read f. RefusesWith (setting_under E.registered E.own read self.now d)
-            (FromSource (options_of self.now) source.now) f) (refusal_of e))) }
+            (FromSource (options_of self.now) source.now) f) e)) }
         ensures one { (d : Data) (read : List Loaded) → HasOneAnswer (setting_under E.registered E.own read self.now d)
             (FromSource (options_of self.now) source.now) }
         ensures origins { (d : Data) (read : List Loaded)
@@ -259,12 +259,13 @@ impl<E: OwnParts> RegistryOf<E> {
             (FromSource (options_of self.now) source.now)
             (string_bytes text))) }
 
-        // A refusal, but for want of memory, is that of the source, and no file is asked for, or that of a file, or the
-        // definition's with the trees of all files: its reason, its position and its name.
+        // A refusal, but for want of memory, is that of the source, and no file is asked for, or that of a file, with the
+        // kind of the system's error where it can't be read, or the definition's with the trees of all files: its reason,
+        // its position and its name.
         ensures err { IfErr result (λ e. reason_in e ≢ out_of_memory
             → RefusesSource R.reads self.now (options_of self.now) source.now files.old files.new
             (λ read f. RefusesWith (setting_under E.registered E.own read self.now (data_of ctx.now))
-            (FromSource (options_of self.now) source.now) f) (refusal_of e)) }
+            (FromSource (options_of self.now) source.now) f) e) }
 
         // There is at most one such answer, and each of its pieces comes from a tree of the run and the data.
         ensures one { (read : List Loaded)
@@ -278,7 +279,7 @@ impl<E: OwnParts> RegistryOf<E> {
     {
         self.entries.keeps_law();
         let template = self.compiled(source)?;
-        let read = self.read_files(None, files)?;
+        let read = self.read_for(None, files)?;
         let mut rc = self.first_context(None)?;
         renders_over(&template, self.alloc, self, &read, ctx, &mut rc, log)
     }
@@ -357,9 +358,9 @@ impl<E: OwnParts> RegistryOf<E> {
         ensures asks { AsksFor R.reads self.now None files.old files.new }
         ensures unread { is_dev self.now ≡ false → files.new ≡ files.old }
     {
-        match self.read_files(None, files) {
+        match self.read_for(None, files) {
             Ok(read) => write_template(self, template, &read, ctx, log, writer),
-            Err(e) => Err(e.into()),
+            Err(e) => Err(e),
         }
     }
 

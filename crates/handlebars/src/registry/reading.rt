@@ -6,7 +6,7 @@ ghost use Rattle.std.specs.Str.{bytes_eq};
 ghost use Rattle.handlebars_base.specs.Bytes.{Text};
 ghost use Rattle.handlebars_template.specs.Tree.{Tree};
 ghost use Rattle.handlebars_template.specs.TreeView.{tree_view};
-ghost use Rattle.handlebars.specs.Dev.{AsksFor, FailsReading, HoldsTrees, ReadsFiles, ReadsInto};
+ghost use Rattle.handlebars.specs.Dev.{AsksFor, FailsReading, FailsRendering, HoldsTrees, ReadsFiles, ReadsInto};
 ghost use Rattle.handlebars.specs.Dev.{asked_file, file_at, files_for, is_asked, is_known, others};
 ghost use Rattle.handlebars.specs.Files.{IsByName, Loaded, file_of, files_of, is_dev, remembered, tree_in};
 ghost use Rattle.handlebars.specs.Store.{HasSameTemplates};
@@ -14,7 +14,7 @@ ghost use Rattle.handlebars.specs.View.{modes_of};
 
 use crate::registry::RegistryOf;
 use crate::sources::TemplateReader;
-use handlebars_base::error::TemplateError;
+use handlebars_base::error::{RenderError, TemplateError};
 use handlebars_template::template::Template;
 use std::alloc::{AllocError, Global};
 use std::collections::BTreeMap;
@@ -48,7 +48,7 @@ impl<E: Drop> RegistryOf<E> {
 
     // The trees of the files that are remembered, read anew: first that of the name that is asked for, then all others
     // in order of name. Where nothing stands under that name, none is read.
-    pub(crate) fn read_files<R: TemplateReader>(
+    fn read_files<R: TemplateReader>(
         &self,
         asked: Option<&str>,
         files: &mut R,
@@ -68,6 +68,26 @@ impl<E: Drop> RegistryOf<E> {
         self.read_asked(asked, files, &mut trees)?;
         self.read_others(asked, files, &mut trees)?;
         Ok(trees)
+    }
+
+    // The same for a rendering, whose error tells why.
+    pub(crate) fn read_for<R: TemplateReader>(
+        &self,
+        asked: Option<&str>,
+        files: &mut R,
+    ) -> Result<BTreeMap<String, Template>, RenderError>
+        ensures ok { IfOk result (λ trees. (read : List Loaded) × ReadsFiles R.reads (modes_of self.now).prevent_indent
+            (files_for self.now (option_map (λ s. s.now) asked.entry)) files.old read (Ok tt) files.new
+            × HoldsTrees read trees) }
+        ensures err { IfErr result (λ e. FailsRendering R.reads (modes_of self.now).prevent_indent
+            (files_for self.now (option_map (λ s. s.now) asked.entry)) files.old files.new e) }
+        ensures asks { AsksFor R.reads self.now (option_map (λ s. s.now) asked.entry) files.old files.new }
+        ensures unread { is_dev self.now ≡ false → files.new ≡ files.old }
+    {
+        match self.read_files(asked, files) {
+            Ok(trees) => Ok(trees),
+            Err(e) => Err(RenderError::from(e)),
+        }
     }
 
     // Whether something stands under the name, if one is asked for.

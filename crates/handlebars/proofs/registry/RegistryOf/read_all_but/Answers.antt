@@ -1,6 +1,5 @@
-use Rattle.std.proofs.Common.{◌≡◌, ◌∷◌, [], false, option_map, ap, sym, ◌∙◌}
+use Rattle.std.proofs.Common.{option_map, ap, sym, ◌∙◌}
 use Rattle.std.proofs.lemmas.Result.{err_from_is_err_and}
-use Rattle.std.specs.Prelude.{string_bytes}
 use Rattle.handlebars.specs.Dev.{is_asked}
 use Rattle.handlebars.proofs.ReadFiles.{files-begin, files-next, files-fail, files-end}
 use Rattle.handlebars.proofs.registry.RegistryOf.read_all_but.Goals as goal

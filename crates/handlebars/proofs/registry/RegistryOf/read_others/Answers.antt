@@ -1,4 +1,4 @@
-use Rattle.std.proofs.Common.{Ok, option_map, ap, sym, ◌∙◌}
+use Rattle.std.proofs.Common.{Ok, option_map, ap, ◌∙◌}
 use Rattle.std.specs.Prelude.{is_some}
 use Rattle.handlebars.specs.Dev.{others}
 use Rattle.handlebars.specs.Files.{files_in}

@@ -1,4 +1,4 @@
-use Rattle.std.proofs.Common.{◌∷◌, [], Ok, ap, sym, ◌∙◌}
+use Rattle.std.proofs.Common.{◌∷◌, [], Ok, ap, ◌∙◌}
 use Rattle.handlebars.specs.Dev.{file_at}
 use Rattle.handlebars.proofs.ReadFiles.{into-along, fails-along, into-nothing, path_in-off}
 use Rattle.handlebars.proofs.registry.RegistryOf.read_remembered.Goals as goal

@@ -1,4 +1,4 @@
-use Rattle.std.proofs.lemmas.Result.{IfOk-weaker, IfErr-weaker}
+use Rattle.std.proofs.lemmas.Result.{IfOk-weaker, IfErr-weaker, err_from_is_err_and}
 use Rattle.handlebars_base.specs.TemplateRefusals.{template_refusal_of}
 use Rattle.handlebars_scope.specs.Contexts.{data_of}
 use Rattle.handlebars_template.specs.TreeView.{tree_view}
@@ -12,8 +12,10 @@ returns-in_err-template-clause-err g c = source-refused _ _ _ _ _ _ (template_re
     c.in_err-template.ensures.err c.from_residual.ensures.1
 
 pub returns-in_err-read-clause-err : goal.returns-in_err-read-clause-err
-returns-in_err-read-clause-err g c = source-fails-at-file _ _ _ _ _ (tree_view c.in_ok-template.template) _ _ c.in_err-read.field-0.0
-    c.from_residual-in_err-read.result c.in_ok-template.ensures.ok c.in_err-read.ensures.err c.from_residual-in_err-read.ensures.1
+returns-in_err-read-clause-err g c =
+    let p = err_from_is_err_and c.from_residual-in_err-read.result c.from_residual-in_err-read.ensures.1 in
+    rw (p.1, p.2) (λ other. source-fails-at-file _ _ _ _ _ (tree_view c.in_ok-template.template) _ _ c.in_err-read.field-0.0
+    c.in_ok-template.ensures.ok c.in_err-read.ensures.err)
 
 pub returns-clause-ok : goal.returns-clause-ok
 returns-clause-ok g c = IfOk-weaker c.renders_over.result _ _

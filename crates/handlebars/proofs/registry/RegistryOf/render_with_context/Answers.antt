@@ -1,16 +1,16 @@
 use Rattle.std.proofs.Common.{◌∙◌, ap}
-use Rattle.std.proofs.lemmas.Result.{IfOk-weaker, IfErr-weaker}
+use Rattle.std.proofs.lemmas.Result.{IfOk-weaker, IfErr-weaker, err_from_is_err_and}
 use Rattle.handlebars_base.specs.Reasons.{template_not_found}
 use Rattle.handlebars_base.specs.RenderRefusals.{plain_refusal}
 use Rattle.handlebars_scope.specs.Contexts.{data_of}
-use Rattle.handlebars_template.specs.TreeView.{tree_view}
 use Rattle.handlebars.proofs.AnswerLaws.{FromName-one, has_one_answer, answer_has_origins}
 use Rattle.handlebars.proofs.OverLaws.{over-lawful, gives-by-name, refuses-by-name, not-found-by-name, fails-at-file}
 use Rattle.handlebars.proofs.registry.RegistryOf.render_with_context.Goals as goal
 
 pub returns-in_err-read-clause-err : goal.returns-in_err-read-clause-err
-returns-in_err-read-clause-err g c = fails-at-file _ _ _ _ _ _ c.in_err-read.field-0.0 c.from_residual.result c.in_err-read.ensures.err
-    c.from_residual.ensures.1
+returns-in_err-read-clause-err g c =
+    let p = err_from_is_err_and c.from_residual.result c.from_residual.ensures.1 in
+    rw (p.1, p.2) (λ other. fails-at-file _ _ _ _ _ _ c.in_err-read.field-0.0 c.in_err-read.ensures.err)
 
 pub returns-in_default-clause-err : goal.returns-in_default-clause-err
 returns-in_default-clause-err g c = λ other. not-found-by-name g.E.OwnParts.registered g.E.OwnParts.own c.args.self.now (data_of c.args.ctx.now) _ _ _ c.in_ok-read.read

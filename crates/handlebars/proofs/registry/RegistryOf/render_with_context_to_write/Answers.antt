@@ -10,7 +10,7 @@ returns-in-Ok-clause-writes g c =
     c.write_named.ensures
 
 pub returns-in-Err-clause-writes : goal.returns-in-Err-clause-writes
-returns-in-Err-clause-writes g c = writes-unread c.args.self.now _ _ _ _ _ c.in-Err.e c.into.result _ c.in-Err.ensures.err c.into.ensures
+returns-in-Err-clause-writes g c = writes-unread c.args.self.now _ _ _ _ _ c.in-Err.e _ c.in-Err.ensures.err
 
 pub returns-in-Ok-clause-one : goal.returns-in-Ok-clause-one
 returns-in-Ok-clause-one g c = λ read. has_one_answer _ (over-lawful g.E.OwnParts.registered g.E.OwnParts.own c.args.self.now (data_of c.args.ctx.now) read c.keeps_law.ensures)

@@ -1,4 +1,4 @@
-use Rattle.std.proofs.Common.{None, ap, ◌∙◌}
+use Rattle.std.proofs.Common.{◌∙◌}
 use Rattle.std.specs.Str.{bytes_eq}
 use Rattle.handlebars_template.specs.TreeView.{tree_view}
 use Rattle.handlebars.proofs.Loaded.{path_put-none}

@@ -9,4 +9,4 @@ returns-in-Ok-clause-writes g c =
     c.in-Ok.ensures.ok c.write_template.ensures
 
 pub returns-in-Err-clause-writes : goal.returns-in-Err-clause-writes
-returns-in-Err-clause-writes g c = writes-unread c.args.self.now _ _ _ _ _ c.in-Err.e c.into.result _ c.in-Err.ensures.err c.into.ensures
+returns-in-Err-clause-writes g c = writes-unread c.args.self.now _ _ _ _ _ c.in-Err.e _ c.in-Err.ensures.err

@@ -1,6 +1,6 @@
-use Rattle.std.proofs.Common.{◌≡◌, rules, ap, refl}
+use Rattle.std.proofs.Common.{◌≡◌, rules}
 use Rattle.std.specs.Ordering.{is_lt}
-use Rattle.std.specs.String.{string_cmp, string_cmp_total}
+use Rattle.std.specs.String.{string_cmp_total}
 use Rattle.std.proofs.lemmas.Fn.{always_returns_same}
 use Rattle.std.proofs.lemmas.List.Sorted.{ranks_by}
 use Rattle.handlebars.specs.Folder.{comes_before}
