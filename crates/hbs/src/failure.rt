@@ -34,7 +34,8 @@ impl<'a> Failure<'a> {
         }
     }
 
-    /// The status that a run ends with: 2 for words and files that are wrong, and else 1.
+    /// The status that a run ends with: 2 for wrong words, a template or data file that can't be read, and data that
+    /// isn't JSON, and else 1.
     pub fn status(&self) -> u8
         ensures bound { result ≤ 2 }
         ensures failed { 0 < result }
