@@ -125,7 +125,7 @@ impl Renderable for Template {
     }
 }
 
-/// An element alone, which has no position: a refusal of it has none either.
+/// An element alone, which has no position to give: an error has what it brings itself, as one from a body of the element.
 impl Renderable for TemplateElement {
     ghost steps = { λ e. render_alone (element_view e) };
 

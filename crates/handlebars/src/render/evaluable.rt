@@ -33,7 +33,7 @@ pub trait Evaluable {
     ghost seen: { Self → Refusal → Refusal };
 
     /// Carries out the decorators, in order, and writes nothing. After a refusal the render context has failed:
-    /// it answers `Failed` from then on. The name of a template, or none, takes the place of the one in its error.
+    /// it answers `Failed` from then on. What becomes of the error's place and name is said at each impl.
     fn eval<E: OwnParts, L: Log>(
         &self,
         alloc: Global,
@@ -55,6 +55,8 @@ pub trait Evaluable {
         ensures err { OnErr result (has_failed rc.new ≡ true) };
 }
 
+/// An error without a line takes the position of its element, where the tree has one; and the tree's name, or none, takes
+/// the place of the name in the error.
 impl Evaluable for Template {
     ghost steps = { λ t. eval_tree (tree_view t) };
 
@@ -87,7 +89,8 @@ impl Evaluable for Template {
     }
 }
 
-/// An element alone, which has no position: a refusal of it has none either, and no name.
+/// An element alone, which has neither a position nor a name to give: an error has what it brings itself, as that of a
+/// part of one's own may.
 impl Evaluable for TemplateElement {
     ghost steps = { λ e. eval_alone (element_view e) };
 
