@@ -118,7 +118,7 @@ module _ (p : Setting) (law : Law) (sound : IsSound law) (plan : PlanHolds p law
       let arrives = sound.first_known (arrival t s) (visits a ++ visits b) known in
       let behind = sound.later_known (arrival t s) (visits a ++ visits b) known in
       let part = Runs-obeys a t (λ j y. law.IsNext s y) 0 (plan t s (sound.part_begins h.2) arrives)
-          (sound.first_known (visits a) (visits b) behind) in
+      (sound.first_known (visits a) (visits b) behind) in
       let rest = Runs-obeys b x end (h.0 + 1) (h.3 z part.ends) (sound.later_known (visits a) (visits b) behind) in
       let m : ℕ = h.0 in
       let le : n ≤ m = h.1 in
@@ -135,7 +135,7 @@ module _ (p : Setting) (law : Law) (sound : IsSound law) (plan : PlanHolds p law
   Runs-obeys (did_over {s = s} {t = t} {o = o} a over) x end n h known =
       let arrives = sound.first_known (arrival t s) (visits a) known in
       let part = Runs-obeys a t (λ j y. law.IsNext s y) 0 (plan t s (sound.part_begins h.2) arrives)
-          (sound.later_known (arrival t s) (visits a) known) in
+      (sound.later_known (arrival t s) (visits a) known) in
       let m : ℕ = h.0 in
       let le : n ≤ m = h.1 in
       record {
@@ -147,9 +147,9 @@ module _ (p : Setting) (law : Law) (sound : IsSound law) (plan : PlanHolds p law
       }
   Runs-obeys (captured {next = z} {f = f} {ps = ps} a b) x end n h known =
       let first = Runs-obeys a x (λ j y. (ws : List Piece) → law.MayWrite ws → Holds p law x end j y (f ws)) n h
-          (sound.first_known (visits a) (visits b) known) in
+      (sound.first_known (visits a) (visits b) known) in
       let rest = Runs-obeys b x end first.to (first.ends ps first.written)
-          (sound.later_known (visits a) (visits b) known) in
+      (sound.later_known (visits a) (visits b) known) in
       let le : n ≤ first.to = first.le in
       let far : first.to ≤ rest.to = rest.le in
       record {

@@ -49,7 +49,7 @@ not-both pre n m i v w a b same =
     let below : a.0 < m = a.2 in
     let from : m ≤ b.0 = b.1 in
     let is : b.0 ≡ a.0 = ap number_in (append_cancel_left pre (b.0 ∷ b.3.0) (a.0 ∷ a.3.0)
-        (sym b.3.1 ∙ ap address same ∙ a.3.1)) in
+    (sym b.3.1 ∙ ap address same ∙ a.3.1)) in
     omega (arith, below, from, is)
 
 not-within : (pre : List ℕ) (n m : ℕ) (v w : Visit) → address v.site ≡ pre → IsBetween pre n m w → w.site ≢ v.site

@@ -1,5 +1,5 @@
--- Questions at two settings, which differ in the registered templates and the limit: related where those of parts of one's own
--- are, by any relation that answers asked for one after the other keep.
+-- One pass through all questions, at two settings that differ in the registered templates and the limit: they are related
+-- where what parts of one's own are asked is, by any relation that is kept where one answer is asked for after another.
 use Rattle.std.proofs.Common.{ℕ, List, Option, None, Some}
 use Rattle.handlebars_base.specs.Answers.{Answer}
 use Rattle.handlebars_base.specs.Bytes.{Text}

@@ -1,5 +1,5 @@
 -- All that a run writes has an origin, and each site to which it comes stands in a tree of the run.
-use Rattle.std.proofs.Common.{◌≡◌, ℕ, List, [], ◌∷◌, ◌++◌, Bool, true, false, not, ◌||◌, refl, sym, ap, ◌∙◌, Option, Some, None, option_and_then, arith}
+use Rattle.std.proofs.Common.{◌≡◌, ℕ, List, Bool, true, false, not, ◌||◌, refl, sym, ap, ◌∙◌, Option, Some, None, option_and_then, arith}
 use Rattle.std.specs.List.{Contains}
 use Rattle.std.proofs.lemmas.List.Elements.{Contains-append_left, Contains-append_right}
 use Rattle.handlebars_base.specs.Bytes.{Text}
@@ -140,17 +140,17 @@ module _ (p : Setting) (u : Tree) (blocks : List Frame) (vs : List Visit) where
       → Shows p before escapes found all → (a : Text) → IsWithin a all → IsOfShown p u vs escapes site found a
   is_of_shown {site = site} {block = block} {c = c} {before = before} {v = v} {all = all} s escapes called has fits is shows
       a within = record {
-    block = block;
-    helper = c;
-    state = before;
-    view = v;
-    called = is_called called;
-    is_raw = raw-not (is_raw_site u site) escapes (sym is ∙ fits);
-    writes = has;
-    all = all;
-    shows = shows;
-    is = within;
-  }
+        block = block;
+        helper = c;
+        state = before;
+        view = v;
+        called = is_called called;
+        is_raw = raw-not (is_raw_site u site) escapes (sym is ∙ fits);
+        writes = has;
+        all = all;
+        shows = shows;
+        is = within;
+      }
 
   -- ---- all that templates do is as the law says
 

@@ -12,7 +12,6 @@ use Rattle.handlebars_helpers.specs.Turns.{Turn, turn_base, turned, with_block}
 use Rattle.handlebars_meaning.specs.Inclusion.{newest, joined_indent}
 use Rattle.handlebars_meaning.specs.Laws.{IsPlain}
 use Rattle.handlebars_meaning.specs.Origins.{element_at, inclusion_tag, IsVisited, AreIndents, no_indents, one_indent_more, HaveOrigins, IsLocalOfRun, stood_in}
-use Rattle.handlebars_meaning.specs.Pieces.{Piece}
 use Rattle.handlebars_meaning.specs.Sites.{Site}
 use Rattle.handlebars_meaning.specs.State.{Kept, Setting, State, outer, nearest_as, partial_in, with_partial}
 use Rattle.handlebars_meaning.specs.Visits.{Visit}

@@ -10,7 +10,7 @@ use Rattle.handlebars_meaning.specs.Pieces.{of_text}
 use Rattle.handlebars_meaning.specs.Questions.{view_of, decorator_of, deeds_of}
 use Rattle.handlebars_meaning.specs.Sites.{TreeSite, Site}
 use Rattle.handlebars_meaning.specs.State.{Setting, State}
-use Rattle.handlebars_meaning.specs.Steps.{Task, One, Whole, Done, Prog, ◌>>=◌, ◌>>◌}
+use Rattle.handlebars_meaning.specs.Steps.{Task, One, Whole, Done, ◌>>=◌, ◌>>◌}
 use Rattle.handlebars_laws.proofs.Calls.{render_call-holds, render_expression-holds}
 use Rattle.handlebars_laws.proofs.Closed.{Closed}
 use Rattle.handlebars_laws.proofs.Inclusions.{render_partial-holds}
