@@ -26,7 +26,7 @@ use Rattle.handlebars_meaning.specs.Steps.{Task, One, Prog, ◌>>=◌, ◌>>◌}
 use Rattle.handlebars_meaning.specs.Writing.{rendered_if_any, write_rendered, write_value}
 use Rattle.handlebars_laws.proofs.Closed.{ComesToCall, body_of-call, inverse_of-call, Closed}
 use Rattle.handlebars_laws.proofs.Law.{Law}
-use Rattle.handlebars_laws.proofs.Programs.{upto, any, Leads, any_leads, answer-holds, return-holds, write_text-holds, in_block-holds, on_line-holds, render_branch-holds}
+use Rattle.handlebars_laws.proofs.Programs.{upto, any, Leads, Leads-any, answer-holds, return-holds, write_text-holds, in_block-holds, on_line-holds, render_branch-holds}
 use Rattle.handlebars_laws.proofs.Within.{StepsFrom, step_there, steps_behind}
 
 -- ---- what a helper chooses doesn't depend on the line
@@ -81,18 +81,18 @@ module _ (p : Setting) (law : Law) (closed : Closed p law) (site : Site) (place 
           render_branch-holds p law closed this i (inverse_at site i) (call_inverse c) s
           (λ t is h. closed.inverse_part i comes (inverse_of-call e block c shown ∙ ap tree_in is) fits h)
 
-      only_body-holds : (s : State) → law.Fits site s → Goes 0 any s (render_body site 0 view)
-      only_body-holds s fits = any_leads p law this (render_body site 0 view) (render_body-holds 0 s fits)
+      render_body-any : (s : State) → law.Fits site s → Goes 0 any s (render_body site 0 view)
+      render_body-any s fits = Leads-any p law this (render_body site 0 view) (render_body-holds 0 s fits)
 
-      only_inverse-holds : (s : State) → law.Fits site s → Goes 0 any s (render_branch (inverse_at site 0) (call_inverse c))
-      only_inverse-holds s fits = any_leads p law this (render_branch (inverse_at site 0) (call_inverse c))
+      render_inverse-any : (s : State) → law.Fits site s → Goes 0 any s (render_branch (inverse_at site 0) (call_inverse c))
+      render_inverse-any s fits = Leads-any p law this (render_branch (inverse_at site 0) (call_inverse c))
           (render_inverse-holds 0 s fits)
 
       render_with-holds : (s : State) (base : Base) → law.Fits site s → Goes 0 any s (render_with site view base)
       unfolding ◌>>=◌
       render_with-holds s base fits h end i le next g =
           in_block-holds p law closed this s (with_block base view.binding (nearest_variables s.blocks))
-          (render_body site 0 view) (closed.with_enters _ _ _) (only_body-holds _ (closed.block_fits fits)) h end i le next g
+          (render_body site 0 view) (closed.with_enters _ _ _) (render_body-any _ (closed.block_fits fits)) h end i le next g
 
       take_turns-hold : (i : ℕ) (path : Option (List Text)) (ts : List Turn) (s : State) → law.Fits site s
           → Goes i any s (take_turns site i view path ts)
@@ -133,18 +133,18 @@ module _ (p : Setting) (law : Law) (closed : Closed p law) (site : Site) (place 
         chooses choice chose = record { target = k; calls = calls; chooses = chose }
 
         -- only an expression writes a word
-        word_written-by : (b : Bool) → block ≡ false → Chose (the_word b)
+        MayWrite-word : (b : Bool) → block ≡ false → Chose (the_word b)
             → law.MayWrite (record { origin = of_word site b; text = word b } ∷ [])
-        word_written-by b plain chose =
+        MayWrite-word b plain chose =
             closed.word_written b (subst (λ (z : Bool). ComesToCall p law site e z c before v) plain called)
             (subst (λ (z : Bool). Chooses p z c before v (the_word b)) plain (chooses (the_word b) chose))
 
         render_word-holds : (s : State) (tag b : Bool) → block ≡ tag → law.Fits site s → Chose (the_word b)
             → Goes 0 any s (render_word site view tag b)
         render_word-holds s false b is fits chose = λ h end i le next g.
-            (word_written-by b is chose, g i s tt (closed.same_next h))
-        render_word-holds s true true is fits chose = only_body-holds s fits
-        render_word-holds s true false is fits chose = only_inverse-holds s fits
+            (MayWrite-word b is chose, g i s tt (closed.same_next h))
+        render_word-holds s true true is fits chose = render_body-any s fits
+        render_word-holds s true false is fits chose = render_inverse-any s fits
 
         module _ (all : List Step) (chose : Chose (the_steps all)) where
           take_step-holds : (s : State) (i : ℕ) (step : Step) → law.Fits site s → slice_get all i ≡ Some step
@@ -172,8 +172,8 @@ module _ (p : Setting) (law : Law) (closed : Closed p law) (site : Site) (place 
 
         carry_out-holds : (s : State) (choice : Choice) → law.Fits site s → Chose choice
             → Goes 0 any s (carry_out site view choice)
-        carry_out-holds s the_body fits chose = only_body-holds s fits
-        carry_out-holds s the_inverse fits chose = only_inverse-holds s fits
+        carry_out-holds s the_body fits chose = render_body-any s fits
+        carry_out-holds s the_inverse fits chose = render_inverse-any s fits
         carry_out-holds s (body_in_block base) fits chose = render_with-holds s base fits
         carry_out-holds s (body_in_turns path ts) fits chose =
             in_block-holds p law closed this s empty_frame (take_turns site 0 view path ts)

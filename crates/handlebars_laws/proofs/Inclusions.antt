@@ -101,8 +101,8 @@ module _ (p : Setting) (law : Law) (closed : Closed p law) (site : Site) (place 
   render_ahead-leads (body x) is s fits h end i le next g =
       (0, le, block_part x is s fits h, λ n same ps written. g (Some ps) written 1 n (omega arith) same)
 
-  none-leads : LeadsAhead 0 (return None)
-  none-leads s fits h end i le next g = g None tt i s le (closed.same_next h)
+  return-leads : LeadsAhead 0 (return None)
+  return-leads s fits h end i le next g = g None tt i s le (closed.same_next h)
 
   -- ---- what is included
 
@@ -116,7 +116,7 @@ module _ (p : Setting) (law : Law) (closed : Closed p law) (site : Site) (place 
     abbrev view : DecoratorView
     view = shown_tag s.indent t v
 
-    -- what follows the value of the inclusion's block, and what follows the block that was rendered ahead
+    -- the block of the inclusion is entered, at this value; and what follows the block that was rendered ahead
     abbrev block_of : Data → State → State
     block_of d z = entered (inclusion_block d (pair_values v.pairs) (nearest_variables z.blocks)) z
 
@@ -154,7 +154,7 @@ module _ (p : Setting) (law : Law) (closed : Closed p law) (site : Site) (place 
         (render_ahead-leads (decorator_body t) refl)
     include_partial-holds (is_own_block x) is well fits = include_tree-holds 0 (body_at site 0) x (return None)
         (λ n fit h. block_part x (local_or_other-own (partial_in s.blocks v.name) (p.parts.template v.name)
-        (decorator_body t) x is) n fit h) fits none-leads
+        (decorator_body t) x is) n fit h) fits return-leads
     include_partial-holds is_nowhere is well fits = λ h end i le next g. tt
 
     include_other-holds : (is_kept : Bool) → law.IsWell s → law.Fits site s

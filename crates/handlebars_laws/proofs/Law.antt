@@ -14,7 +14,7 @@ use Rattle.handlebars_meaning.specs.Steps.{Task, Steps, Done, Refuse, Write, Get
 use Rattle.handlebars_meaning.specs.Visits.{Visit, arrival, visits}
 use Rattle.handlebars_laws.proofs.Outcomes.{in_memory_over, over_marked, stop_over}
 
--- Parts of a part have numbers, which grow in the order of the run; a law may use them or not.
+-- What a law says. The parts of a part have numbers, which grow in the order of the run; a law may use them or not.
 pub record Law : Type 1 where
   -- of a state, of one behind another, and of a block of scope that is entered
   pub IsWell : State → Type 0
@@ -35,8 +35,8 @@ pub record Law : Type 1 where
 -- ---- steps
 
 module _ (p : Setting) (law : Law) (x : Task) where
-  -- These steps of the part do what the law says, from a state on, with parts from a number on; and where they are done,
-  -- that holds of the number and the state to which they came.
+  -- These steps of the part x are as the law says, from a state and from a number of parts on; and where they are done, the
+  -- first argument holds of the number and the state to which they came.
   abbrev pub Holds : (ℕ → State → Type 0) → ℕ → State → Steps → Type 0
   Holds end n s Done = end n s
   Holds end n s (Refuse r) = Unit {0}
@@ -50,7 +50,8 @@ module _ (p : Setting) (law : Law) (x : Task) where
   Holds end n s (Find name b f) = Holds end n s (f (found_by p.parts s name b))
   Holds end n s (Room k) = Holds end n s k
 
--- What of runs a law has to keep: that parts begin, that pieces and visits are joined, and pieces cut off.
+-- What a law has to keep, so that it holds of runs: a part of another begins, pieces and visits are joined, and pieces are
+-- cut off where a run stops.
 pub record IsSound (law : Law) : Type 0 where
   pub part_begins : {x t : Task} {m : ℕ} {s : State} → law.IsPart x m s t → law.Begins t s
   pub none_written : law.MayWrite []
@@ -78,7 +79,8 @@ EndsIn-over end (Refused r) over = tt
 EndsIn-over end (Faulted f) over = tt
 EndsIn-over end NoMemory over = tt
 
--- What holds of a run of a part's steps, which came up to some number.
+-- What holds of a run of steps of the part x, from a number of parts on: it came to some number, what it wrote and visited
+-- is as the law says, and where it ended well, what is asked of its end holds.
 pub record Obeys (law : Law) (x : Task) (end : ℕ → State → Type 0) (n : ℕ) (ps : List Piece) (o : Outcome) (vs : List Visit)
     : Type 0 where
   pub to : ℕ
@@ -87,22 +89,22 @@ pub record Obeys (law : Law) (x : Task) (end : ℕ → State → Type 0) (n : �
   pub ends : EndsIn (end to) o
   pub are_in : law.AreIn x n to vs
 
--- the plan: the steps of each part that begins do what the law says, and lead to a state next to the one before
+-- The steps of each part that begins are as the law says, and end in a state next to the one before.
 abbrev pub PlanHolds : Setting → Law → Type 0
 PlanHolds p law = (t : Task) (s : State) → law.Begins t s → law.AreKnown (arrival t s)
     → Holds p law t (λ n z. law.IsNext s z) 0 s (todo t)
 
 module _ (p : Setting) (law : Law) (sound : IsSound law) (plan : PlanHolds p law) where
-  nothing_obeys : (x : Task) (end : ℕ → State → Type 0) (n : ℕ) (o : Outcome) → EndsIn (end n) o
+  Obeys-none : (x : Task) (end : ℕ → State → Type 0) (n : ℕ) (o : Outcome) → EndsIn (end n) o
       → Obeys law x end n [] o []
-  nothing_obeys x end n o ends =
+  Obeys-none x end n o ends =
       record { to = n; le = omega arith; written = sound.none_written; ends = ends; are_in = sound.none_in x n }
 
   pub Runs-obeys : {k : Steps} {s : State} {ps : List Piece} {o : Outcome} (r : Runs p k s ps o) (x : Task)
       (end : ℕ → State → Type 0) (n : ℕ) → Holds p law x end n s k → law.AreKnown (visits r)
       → Obeys law x end n ps o (visits r)
-  Runs-obeys done x end n h known = nothing_obeys x end n _ h
-  Runs-obeys refused x end n h known = nothing_obeys x end n _ tt
+  Runs-obeys done x end n h known = Obeys-none x end n _ h
+  Runs-obeys refused x end n h known = Obeys-none x end n _ tt
   Runs-obeys (wrote {xs = xs} {ps = ps} r) x end n h known =
       let rest = Runs-obeys r x end n h.1 known in record {
         to = rest.to;
@@ -170,8 +172,8 @@ module _ (p : Setting) (law : Law) (sound : IsSound law) (plan : PlanHolds p law
       }
   Runs-obeys (looked r) x end n h known = Runs-obeys r x end n h known
   Runs-obeys (has_room lt r) x end n h known = Runs-obeys r x end n h known
-  Runs-obeys (has_none le) x end n h known = nothing_obeys x end n _ tt
-  Runs-obeys stop x end n h known = nothing_obeys x end n _ tt
+  Runs-obeys (has_none le) x end n h known = Obeys-none x end n _ tt
+  Runs-obeys stop x end n h known = Obeys-none x end n _ tt
   Runs-obeys (cut {at_word = w} {o = o} i f) x end n h known = record {
     to = n;
     le = omega arith;

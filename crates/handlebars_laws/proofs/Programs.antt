@@ -33,8 +33,8 @@ module _ (p : Setting) (law : Law) (x : Task) where
   Leads n to s m = law.IsWell s → (end : ℕ → State → Type 0) (i : ℕ) → i ≤ n → (next : Unit {0} → Steps)
       → After end to s (next tt) → Holds p law x end i s (m next)
 
-  pub any_leads : {n m : ℕ} {s : State} (k : Prog (Unit {0})) → Leads n (upto m) s k → Leads n any s k
-  any_leads k f h end i le next g = f h end i le next (λ j z to is. g j z tt is)
+  pub Leads-any : {n m : ℕ} {s : State} (k : Prog (Unit {0})) → Leads n (upto m) s k → Leads n any s k
+  Leads-any k f h end i le next g = f h end i le next (λ j z to is. g j z tt is)
 
   pub answer-holds : (end : ℕ → State → Type 0) (n : ℕ) (s : State) (q : Question) (f : Reply q → Steps)
       → ((v : Reply q) → IsAnswered p s q (gives v) → Holds p law x end n s (f v))

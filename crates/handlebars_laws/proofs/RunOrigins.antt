@@ -46,12 +46,12 @@ is_raw_site-at : (u : Tree) (site : Site) (e : Element) → element_at u site �
 is_raw_site-at u (element_in at i) e is = ap (λ (o : Option Element). with_or o is_html false || is_raw_tree u at) is
 
 -- what is read of the element at a site
-read_at : {A : Type 0} (u : Tree) (site : Site) (read : Element → Option A) (e : Element) (x : Option A)
+element_at-read : {A : Type 0} (u : Tree) (site : Site) (read : Element → Option A) (e : Element) (x : Option A)
     → element_at u site ≡ Some e → read e ≡ x → option_and_then read (element_at u site) ≡ x
-read_at u site read e x stands is = ap (option_and_then read) stands ∙ is
+element_at-read u site read e x stands is = ap (option_and_then read) stands ∙ is
 
-is_visited : {vs : List Visit} {site : Site} {s : State} → IsReached vs site s → IsVisited vs site
-is_visited reached = record { state = reached.first; comes = reached.comes }
+IsReached-visited : {vs : List Visit} {site : Site} {s : State} → IsReached vs site s → IsVisited vs site
+IsReached-visited reached = record { state = reached.first; comes = reached.comes }
 
 module _ (p : Setting) (u : Tree) (blocks : List Frame) (vs : List Visit) where
   -- ---- trees that stand in those of the run
@@ -121,30 +121,30 @@ module _ (p : Setting) (u : Tree) (blocks : List Frame) (vs : List Visit) where
     join_in = λ x n m i xs ys le far a b. All-append _ xs ys a b;
   }
 
-  same_escapes : {s n : State} → n.escapes ≡ s.escapes → IsOfRun p u blocks vs n → IsBehind p u blocks vs s n
-  same_escapes is h = record { escapes = is; of_run = h }
+  behind : {s n : State} → n.escapes ≡ s.escapes → IsOfRun p u blocks vs n → IsBehind p u blocks vs s n
+  behind is h = record { escapes = is; of_run = h }
 
   -- ---- what is written
 
-  is_called : {site : Site} {e : Element} {block : Bool} {c : Call} {s : State} {v : CallView}
+  ComesToCall-called : {site : Site} {e : Element} {block : Bool} {c : Call} {s : State} {v : CallView}
       → ComesToCall p has_origins site e block c s v → IsCalled p u vs site block c s v
-  is_called {site = site} {e = e} {block = block} {c = c} called = record {
-    stands = read_at u site shown_call e (Some (block, c)) called.comes.stands called.shown;
+  ComesToCall-called {site = site} {e = e} {block = block} {c = c} called = record {
+    stands = element_at-read u site shown_call e (Some (block, c)) called.comes.stands called.shown;
     reached = called.comes.reached;
     viewed = called.viewed;
   }
 
-  is_of_shown : {site : Site} {e : Element} {block : Bool} {c : Call} {before : State} {v : CallView} {found : Found}
+  WritesValue-shown : {site : Site} {e : Element} {block : Bool} {c : Call} {before : State} {v : CallView} {found : Found}
       {all : Text} (s : State) (escapes : Bool) → ComesToCall p has_origins site e block c before v
       → WritesValue p block c before v found → s.escapes ≡ not (is_raw_site u site) → s.escapes ≡ escapes
       → Shows p before escapes found all → (a : Text) → IsWithin a all → IsOfShown p u vs escapes site found a
-  is_of_shown {site = site} {block = block} {c = c} {before = before} {v = v} {all = all} s escapes called has fits is shows
-      a within = record {
+  WritesValue-shown {site = site} {block = block} {c = c} {before = before} {v = v} {all = all} s escapes called has fits is
+      shows a within = record {
         block = block;
         helper = c;
         state = before;
         view = v;
-        called = is_called called;
+        called = ComesToCall-called called;
         is_raw = raw-not (is_raw_site u site) escapes (sym is ∙ fits);
         writes = has;
         all = all;
@@ -156,29 +156,30 @@ module _ (p : Setting) (u : Tree) (blocks : List Frame) (vs : List Visit) where
 
   has_origins-closed : Closed p has_origins
   has_origins-closed = record {
-    same_next = λ h. same_escapes refl h;
-    then_next = λ a b. same_escapes (b.escapes ∙ a.escapes) b.of_run;
+    same_next = λ h. behind refl h;
+    then_next = λ a b. behind (b.escapes ∙ a.escapes) b.of_run;
     next_well = λ h. h.of_run;
     next_fits = λ h is. is.escapes ∙ h;
-    line_next = λ l h. same_escapes refl h;
-    name_next = λ name h. same_escapes refl h;
-    data_next = λ d h. same_escapes refl h;
-    local_next = λ name l h. same_escapes refl h;
-    no_local_next = λ name h. same_escapes refl h;
-    turn_next = λ {s = s} path b t h. same_escapes refl (record {
+    line_next = λ l h. behind refl h;
+    name_next = λ name h. behind refl h;
+    data_next = λ d h. behind refl h;
+    local_next = λ name l h. behind refl h;
+    no_local_next = λ name h. behind refl h;
+    turn_next = λ {s = s} path b t h. behind refl (record {
       kept = h.kept;
       indents = h.indents;
       frames = nearest_as-frames p u blocks vs (turned path b t) s.blocks (turned-frame p u blocks vs path b t) h.frames;
     });
-    partial_next = λ {s = s} {site = site} {e = e} {t = t} {x = x} name at tag is h. same_escapes refl (record {
+    partial_next = λ {s = s} {site = site} {e = e} {t = t} {x = x} name at tag is h. behind refl (record {
       kept = h.kept;
       indents = h.indents;
       frames = nearest_as-frames p u blocks vs (with_partial name x) s.blocks (with_partial-frame p u blocks vs name x
-          (set_by site t (read_at u site decorator_tag e (Some t) at.stands tag) is (is_visited at.reached))) h.frames;
+          (set_by site t (element_at-read u site decorator_tag e (Some t) at.stands tag) is
+          (IsReached-visited at.reached))) h.frames;
     });
     block_well = λ may h. record { kept = h.kept; indents = h.indents; frames = (may, h.frames) };
     block_fits = λ h. h;
-    block_next = λ {n = n} is. same_escapes is.escapes (record {
+    block_next = λ {n = n} is. behind is.escapes (record {
       kept = is.of_run.kept;
       indents = is.of_run.indents;
       frames = outer-frames p u blocks vs n.blocks is.of_run.frames;
@@ -193,7 +194,7 @@ module _ (p : Setting) (u : Tree) (blocks : List Frame) (vs : List Visit) where
           helper = c;
           state = s;
           view = v;
-          called = is_called called;
+          called = ComesToCall-called called;
           steps = all;
           answers = answers;
           index = i;
@@ -209,18 +210,18 @@ module _ (p : Setting) (u : Tree) (blocks : List Frame) (vs : List Visit) where
         is = ap (λ (z : State). record z { escapes = false }) at.reached.is;
       };
     };
-    raw_next = λ is. same_escapes refl is.of_run;
-    own_next = λ h is. same_escapes is.escapes
+    raw_next = λ is. behind refl is.of_run;
+    own_next = λ h is. behind is.escapes
         (record { kept = is.of_run.kept; indents = h.indents; frames = is.of_run.frames });
     newest_keeps = λ {s = s} h. newest-origins p u blocks vs s.kept h.kept;
     begun_well = λ {s = s} {site = site} {e = e} {t = t} tagged h is may. record {
       kept = (may, is.of_run.kept);
-      indents = joined_indent-indents site t (read_at u site inclusion_tag e (Some t) tagged.comes.stands tagged.tag)
-          (is_visited tagged.comes.reached) s.indent (decorator_marks t).indent refl h.indents;
+      indents = joined_indent-indents site t (element_at-read u site inclusion_tag e (Some t) tagged.comes.stands tagged.tag)
+          (IsReached-visited tagged.comes.reached) s.indent (decorator_marks t).indent refl h.indents;
       frames = is.of_run.frames;
     };
     begun_fits = λ h. h;
-    over_next = λ {z = z} h first last. same_escapes (last.escapes ∙ first.escapes) (record {
+    over_next = λ {z = z} h first last. behind (last.escapes ∙ first.escapes) (record {
       kept = h.kept;
       indents = h.indents;
       frames = outer-frames p u blocks vs z.blocks last.of_run.frames;
@@ -234,18 +235,18 @@ module _ (p : Setting) (u : Tree) (blocks : List Frame) (vs : List Visit) where
     begins_fits = λ {site = site} {e = e} h is.
         h.raw ∙ ap not (sym (is_raw_site-at u site e h.stands.1 ∙ ap (λ (b : Bool). b || is_raw_around u site) is));
     begins_raw = λ {site = site} {c = c} h. ap not (sym (is_raw_site-at u site (html_expression c) h.stands.1));
-    element_part = λ i h is behind. record {
+    element_part = λ i h is is_behind. record {
       stands = (h.stands.0, ap (λ (o : Option Tree). nth_in o i) h.stands.1 ∙ is);
-      raw = behind.escapes ∙ h.raw;
-      of_run = behind.of_run;
+      raw = is_behind.escapes ∙ h.raw;
+      of_run = is_behind.of_run;
     };
     body_part = λ {site = site} {e = e} {t = t} i at is fits h. record {
-      stands = (body_at-of_run site i at.of_run, read_at u site body_of e (Some t) at.stands is);
+      stands = (body_at-of_run site i at.of_run, element_at-read u site body_of e (Some t) at.stands is);
       raw = fits;
       of_run = h;
     };
     inverse_part = λ {site = site} {e = e} {t = t} i at is fits h. record {
-      stands = (inverse_at-of_run site i at.of_run, read_at u site inverse_of e (Some t) at.stands is);
+      stands = (inverse_at-of_run site i at.of_run, element_at-read u site inverse_of e (Some t) at.stands is);
       raw = fits;
       of_run = h;
     };
@@ -260,16 +261,16 @@ module _ (p : Setting) (u : Tree) (blocks : List Frame) (vs : List Visit) where
     registered_part = λ {site = site} {t = t} name at is fits h.
         record { stands = (included_at-stored site name t at.of_run is, refl); raw = fits; of_run = h };
     text_written = λ {site = site} {t = t} {s = s} at h.
-        put-origins p u vs (of_text site) s.indent t s.line _ at.stands (is_visited at.reached) h.indents
+        put-origins p u vs (of_text site) s.indent t s.line _ at.stands (IsReached-visited at.reached) h.indents
         (λ a within. record { all = t; stands = at.stands; state = s; reached = at.reached; is = within });
     value_written = λ {site = site} {s = s} {found = found} t called has fits is shows h.
-        put-origins p u vs (of_value site found) s.indent t s.line _ called.comes.stands (is_visited called.comes.reached)
-        h.indents (is_of_shown s true called has fits is shows);
+        put-origins p u vs (of_value site found) s.indent t s.line _ called.comes.stands
+        (IsReached-visited called.comes.reached) h.indents (WritesValue-shown s true called has fits is shows);
     raw_written = λ {site = site} {s = s} {found = found} called has fits is h.
         put-origins p u vs (of_raw site found) s.indent (rendered_if_any (present_in found)) s.line _ called.comes.stands
-        (is_visited called.comes.reached) h.indents (is_of_shown s false called has fits is refl);
+        (IsReached-visited called.comes.reached) h.indents (WritesValue-shown s false called has fits is refl);
     word_written = λ {c = c} {s = s} {v = v} b called says. (
-      record { helper = c; state = s; view = v; called = is_called called; says = says; is = all_begins (word b) },
+      record { helper = c; state = s; view = v; called = ComesToCall-called called; says = says; is = all_begins (word b) },
       tt,
     );
     step_written = λ {site = site} {block = block} {c = c} {s = s} {v = v} {all = all} i t called answers is.
@@ -278,7 +279,7 @@ module _ (p : Setting) (u : Tree) (blocks : List Frame) (vs : List Visit) where
           helper = c;
           state = s;
           view = v;
-          called = is_called called;
+          called = ComesToCall-called called;
           steps = all;
           answers = answers;
           all = t;
@@ -290,10 +291,10 @@ module _ (p : Setting) (u : Tree) (blocks : List Frame) (vs : List Visit) where
 -- ---- runs
 
 -- a run of a part alone, from a plain state on, which stands where escaping is on
-part-obeys : (p : Setting) (u : Tree) (t : Task) (s : State) (ps : List Piece) (o : Outcome) → IsPlain s
+Do-obeys : (p : Setting) (u : Tree) (t : Task) (s : State) (ps : List Piece) (o : Outcome) → IsPlain s
     → s.escapes ≡ not (is_raw_before u t) → (r : Runs p (Do t Done) s ps o) → Stands p u s.blocks (visits r) t
     → Obeys (has_origins p u s.blocks (visits r)) (Whole first_tree u) (λ j z. Unit {0}) 0 ps o (visits r)
-part-obeys p u t s ps o plain raw r stands =
+Do-obeys p u t s ps o plain raw r stands =
     let law = has_origins p u s.blocks (visits r) in
     Runs-obeys p law (has_origins-sound p u s.blocks (visits r))
     (todo-holds p law (has_origins-closed p u s.blocks (visits r))) r (Whole first_tree u) (λ j z. Unit {0}) 0 (
@@ -306,14 +307,14 @@ part-obeys p u t s ps o plain raw r stands =
 pub all_have_origins : (p : Setting) (t : Tree) (s : State) (ps : List Piece) (o : Outcome) → IsPlain s
     → (r : Means p t s ps o) → HaveOrigins p t (visits r) ps
 all_have_origins p t s ps o plain r =
-    (part-obeys p t (Whole first_tree t) s ps o plain plain.escapes r (is_first, refl)).written
+    (Do-obeys p t (Whole first_tree t) s ps o plain plain.escapes r (is_first, refl)).written
 
 pub comes_in_trees : (p : Setting) (t : Tree) (s : State) (ps : List Piece) (o : Outcome) → IsPlain s
     → (r : Means p t s ps o) → StandInTrees p t s.blocks (visits r) (visits r)
 comes_in_trees p t s ps o plain r =
-    (part-obeys p t (Whole first_tree t) s ps o plain plain.escapes r (is_first, refl)).are_in
+    (Do-obeys p t (Whole first_tree t) s ps o plain plain.escapes r (is_first, refl)).are_in
 
 pub element_has_origins : (p : Setting) (e : Element) (s : State) (ps : List Piece) (o : Outcome) → IsPlain s
     → (r : Runs p (render_alone e) s ps o) → HaveOrigins p (alone e) (visits r) ps
 element_has_origins p e s ps o plain r =
-    (part-obeys p (alone e) (One (element_in first_tree 0) None e) s ps o plain plain.escapes r (is_first, refl)).written
+    (Do-obeys p (alone e) (One (element_in first_tree 0) None e) s ps o plain plain.escapes r (is_first, refl)).written
