@@ -57,6 +57,7 @@ module _ (p : Setting) (law : Law) (closed : Closed p law) (site : Site) (place 
   abbrev this : Task
   this = One site place e
 
+  -- steps of the element
   abbrev Goes : ℕ → (ℕ → Type 0) → State → Prog (Unit {0}) → Type 1
   Goes n to s m = Leads p law this n to s m
 
@@ -81,6 +82,7 @@ module _ (p : Setting) (law : Law) (closed : Closed p law) (site : Site) (place 
           render_branch-holds p law closed this i (inverse_at site i) (call_inverse c) s
           (λ t is h. closed.inverse_part i comes (inverse_of-call e block c shown ∙ ap tree_in is) fits h)
 
+      -- as the one part that is rendered
       render_body-any : (s : State) → law.Fits site s → Goes 0 any s (render_body site 0 view)
       render_body-any s fits = Leads-any p law this (render_body site 0 view) (render_body-holds 0 s fits)
 

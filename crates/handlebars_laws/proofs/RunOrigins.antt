@@ -82,11 +82,13 @@ module _ (p : Setting) (u : Tree) (blocks : List Frame) (vs : List Visit) where
 
   -- ---- the law
 
+  -- A part begins at its site, with escaping as the tree has it there.
   record BeginsAt (t : Task) (s : State) : Type 0 where
     stands : Stands t
     raw : s.escapes ≡ not (is_raw_before u t)
     of_run : IsOfRun p u blocks vs s
 
+  -- The run comes to an element at its site.
   record ComesAt (site : Site) (e : Element) (s : State) : Type 0 where
     of_run : IsSiteOfRun p u blocks vs site
     stands : element_at u site ≡ Some e
@@ -134,6 +136,7 @@ module _ (p : Setting) (u : Tree) (blocks : List Frame) (vs : List Visit) where
     viewed = called.viewed;
   }
 
+  -- a part of the text of the value that a call writes, escaped or not
   WritesValue-shown : {site : Site} {e : Element} {block : Bool} {c : Call} {before : State} {v : CallView} {found : Found}
       {all : Text} (s : State) (escapes : Bool) → ComesToCall p has_origins site e block c before v
       → WritesValue p block c before v found → s.escapes ≡ not (is_raw_site u site) → s.escapes ≡ escapes

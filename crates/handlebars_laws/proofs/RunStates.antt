@@ -34,8 +34,8 @@ no_indent-indents (Some t) is = cc
 
 -- ---- partials
 
-Some≢None : {P : Type 0} {t : Tree} → None ≡ Some t → P
-Some≢None e = cc
+None≢Some : {P : Type 0} {t : Tree} → None ≡ Some t → P
+None≢Some e = cc
 
 tree_or : Tree → Option Tree → Tree
 tree_or d None = d
@@ -53,9 +53,11 @@ based-partial (at_value d) f n = refl
 -- ---- states
 
 module _ (p : Setting) (u : Tree) (blocks : List Frame) (vs : List Visit) where
+  -- a block of scope with no other partials than those of the run
   abbrev pub IsFrameOfRun : Frame → Type 0
   IsFrameOfRun f = (n : Text) (t : Tree) → f.partial n ≡ Some t → IsLocalOfRun p u blocks vs t
 
+  -- Of the fields that matter, so that a change of any other keeps it.
   pub record AreOfRun (ks : Kept) (indent : Option Text) (fs : List Frame) : Type 0 where
     pub kept : AllByRecursion (MayKeep (HaveOrigins p u vs)) ks
     pub indents : AreIndents u vs (unwrap_or indent [])
@@ -111,7 +113,7 @@ module _ (p : Setting) (u : Tree) (blocks : List Frame) (vs : List Visit) where
 
   pub with_block-frame : (base : Base) (b : Binding) (variables : Text → Option Data)
       → IsFrameOfRun (with_block base b variables)
-  with_block-frame base b variables = λ n x is. Some≢None (sym (based-partial base empty_frame n) ∙ is)
+  with_block-frame base b variables = λ n x is. None≢Some (sym (based-partial base empty_frame n) ∙ is)
 
   -- ---- where a run begins
 
