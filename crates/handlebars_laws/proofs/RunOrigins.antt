@@ -1,213 +1,323 @@
 -- All that a run writes has an origin, and each site to which it comes stands in a tree of the run.
-use Rattle.std.proofs.Common.{◌≡◌, ℕ, suc, ◌+◌, List, [], ◌∷◌, Bool, true, false, not, refl, sym, ap, ◌∙◌, Option, Some, None, unwrap_or, option_and_then, arith}
-use Rattle.handlebars_base.specs.Answers.{Answer, gives, refuses}
+use Rattle.std.proofs.Common.{◌≡◌, ℕ, List, Bool, true, false, not, ◌||◌, refl, sym, ap, ◌∙◌, Option, Some, None, option_and_then, arith}
+use Rattle.std.specs.List.{Contains}
+use Rattle.std.proofs.lemmas.List.Elements.{Contains-append_left, Contains-append_right}
 use Rattle.handlebars_base.specs.Bytes.{Text}
-use Rattle.handlebars_template.specs.Place.{Place}
-use Rattle.handlebars_template.specs.Tree.{Tree, tree, Elements, no_elements, element, Element, raw_string, html_expression, expression, helper_block, decorator_expression, decorator_block, partial_expression, partial_block, comment, Decorator, decorator_body, Body, no_body, body}
+use Rattle.handlebars_base.specs.Optional.{with_or}
+use Rattle.handlebars_base.specs.Scoped.{Found, present_in}
+use Rattle.handlebars_base.specs.Values.{word}
+use Rattle.handlebars_template.specs.Tree.{Tree, Element, html_expression, Call, decorator_marks}
 use Rattle.handlebars_scope.specs.Scopes.{Frame}
 use Rattle.handlebars_helpers.specs.CallView.{CallView}
-use Rattle.handlebars_helpers.specs.Decoration.{DecoratorKind, Deed, sets_data, binds, unbinds, sets_partial}
-use Rattle.handlebars_meaning.specs.State.{Setting, State, with_nearest, with_partial, with_data, with_local, without_local}
-use Rattle.handlebars_meaning.specs.Steps.{Task, One, Whole, Steps, Done, Get, Set, Prog, ◌>>=◌, ◌>>◌, answer, ask}
-use Rattle.handlebars_meaning.specs.Pieces.{of_text, Piece}
-use Rattle.handlebars_meaning.specs.Questions.{decorator_of, deeds_of}
-use Rattle.handlebars_meaning.specs.Sites.{TreeSite, Site, element_in}
-use Rattle.handlebars_meaning.specs.Visits.{Visit, arrival, visits}
-use Rattle.handlebars_meaning.specs.Means.{shown_tag, set_partial, do_deed, do_deeds, render_decorator, render_element, render_elements, render_whole, render_alone, todo}
-use Rattle.handlebars_meaning.specs.Runs.{Outcome, Runs, Means}
-use Rattle.handlebars_meaning.specs.Origins.{nth, nth_in, body_of, inverse_of, decorator_tag, inclusion_tag, tree_at, element_at, shown_call, is_raw_tree, IsReached, IsVisited, AreIndents, no_indents, HaveOrigins, set_by, is_first, IsTreeOfRun, IsSiteOfRun, StandInTrees}
+use Rattle.handlebars_helpers.specs.Turns.{turned}
 use Rattle.handlebars_meaning.specs.Laws.{IsPlain, alone}
-use Rattle.handlebars_laws.proofs.GoodRuns.{StateGood, IsNext, nearest_good, partial_good, Stands, is_raw_around, is_raw_before, Good, first_visit, AreVisits, IsGoodFrom, origins_of, begins_good}
-use Rattle.handlebars_laws.proofs.InclusionOrigins.{inclusion_good}
-use Rattle.handlebars_laws.proofs.CallOrigins.{write_text_good, raw_at, call_good, expression_good}
+use Rattle.handlebars_meaning.specs.Means.{render_alone}
+use Rattle.handlebars_meaning.specs.Origins.{IsWithin, nth_in, body_of, inverse_of, decorator_tag, inclusion_tag, tree_at, element_at, shown_call, is_html, is_raw_tree, is_raw_site, WritesValue, IsReached, IsVisited, IsCalled, Shows, IsOfShown, HaveOrigins, set_by, handed_over, IsLocalOfRun, IsTreeOfRun, is_first, is_body, is_inverse, is_local_of, is_stored, IsSiteOfRun, StandInTrees}
+use Rattle.handlebars_meaning.specs.Pieces.{of_text, of_value, of_raw, of_step, Piece}
+use Rattle.handlebars_meaning.specs.Runs.{Outcome, Runs, Means}
+use Rattle.handlebars_meaning.specs.Sites.{first_tree, body_at, inverse_at, included_at, Site, element_in}
+use Rattle.handlebars_meaning.specs.State.{Setting, State, with_partial}
+use Rattle.handlebars_meaning.specs.Steps.{Task, One, Whole, Done, Do}
+use Rattle.handlebars_meaning.specs.Visits.{Visit, arrival, visits}
+use Rattle.handlebars_meaning.specs.Writing.{rendered_if_any}
+use Rattle.handlebars_laws.proofs.Closed.{ComesToCall, Closed}
+use Rattle.handlebars_laws.proofs.Law.{Law, Obeys, IsSound, Runs-obeys}
+use Rattle.handlebars_laws.proofs.Lists.{All-append}
+use Rattle.handlebars_laws.proofs.OriginPieces.{HaveOrigins-front, pieces_of-origins, put-origins}
+use Rattle.handlebars_laws.proofs.RunStates.{joined_indent-indents, IsFrameOfRun, IsOfRun, IsBehind, newest-origins, outer-frames, nearest_as-frames, partial_in-local, with_partial-frame, turned-frame, with_block-frame, first-of_run}
+use Rattle.handlebars_laws.proofs.Walk.{todo-holds}
+use Rattle.handlebars_laws.proofs.Within.{all_begins}
+
+raw-not : (raw b : Bool) → b ≡ not raw → raw ≡ not b
+raw-not true b is = ap not (sym is)
+raw-not false b is = ap not (sym is)
+
+-- whether escaping is off around an element
+abbrev is_raw_around : Tree → Site → Bool
+is_raw_around u (element_in at i) = is_raw_tree u at
+
+-- whether it is off where a part begins
+abbrev is_raw_before : Tree → Task → Bool
+is_raw_before u (One site place e) = is_raw_around u site
+is_raw_before u (Whole at t) = is_raw_tree u at
+
+is_raw_site-at : (u : Tree) (site : Site) (e : Element) → element_at u site ≡ Some e
+    → is_raw_site u site ≡ (is_html e || is_raw_around u site)
+is_raw_site-at u (element_in at i) e is = ap (λ (o : Option Element). with_or o is_html false || is_raw_tree u at) is
+
+-- what is read of the element at a site
+element_at-read : {A : Type 0} (u : Tree) (site : Site) (read : Element → Option A) (e : Element) (x : Option A)
+    → element_at u site ≡ Some e → read e ≡ x → option_and_then read (element_at u site) ≡ x
+element_at-read u site read e x stands is = ap (option_and_then read) stands ∙ is
+
+IsReached-visited : {vs : List Visit} {site : Site} {s : State} → IsReached vs site s → IsVisited vs site
+IsReached-visited reached = record { state = reached.first; comes = reached.comes }
 
 module _ (p : Setting) (u : Tree) (blocks : List Frame) (vs : List Visit) where
-  -- short words for what holds of this run: of a state, of a state behind another, of steps, and of programs
-  abbrev IsWell : State → Type 0
-  IsWell s = StateGood p u blocks vs s
+  -- ---- trees that stand in those of the run
 
-  abbrev IsAfter : State → State → Type 0
-  IsAfter s n = IsNext p u blocks vs s n
+  body_at-of_run : (site : Site) (i : ℕ) → IsSiteOfRun p u blocks vs site → IsTreeOfRun p u blocks vs (body_at site i)
+  body_at-of_run (element_in at j) i h = is_body h
 
-  abbrev AreSound : Bool → State → Steps → Type 0
-  AreSound on s k = Good p u blocks vs on s k
+  inverse_at-of_run : (site : Site) (i : ℕ) → IsSiteOfRun p u blocks vs site
+      → IsTreeOfRun p u blocks vs (inverse_at site i)
+  inverse_at-of_run (element_in at j) i h = is_inverse h
 
-  abbrev IsSound : State → Prog (Unit {0}) → Type 0
-  IsSound s m = IsGoodFrom p u blocks vs s m
+  included_at-local : (site : Site) (t : Tree) → IsSiteOfRun p u blocks vs site → IsLocalOfRun p u blocks vs t
+      → IsTreeOfRun p u blocks vs (included_at site t)
+  included_at-local (element_in at j) t h is = is_local_of h is
 
-  after : {s n : State} → n.escapes ≡ s.escapes → IsWell n → IsAfter s n
-  after is h = record { escapes = is; good = h }
+  included_at-stored : (site : Site) (n : Text) (t : Tree) → IsSiteOfRun p u blocks vs site
+      → p.parts.template n ≡ Some t → IsTreeOfRun p u blocks vs (included_at site t)
+  included_at-stored (element_in at j) n t h is = is_stored h is
 
-  after_after : {s n z : State} → IsAfter s n → IsAfter n z → IsAfter s z
-  after_after a b = record { escapes = b.escapes ∙ a.escapes; good = b.good }
+  -- an element or a tree that stands at its site, in a tree of the run
+  abbrev Stands : Task → Type 0
+  Stands (One site place e) = IsSiteOfRun p u blocks vs site × (element_at u site ≡ Some e)
+  Stands (Whole at t) = IsTreeOfRun p u blocks vs at × (tree_at u at ≡ Some t)
 
-  -- ---- decorators: none changes whether escaping is on
+  arrival-stands : (t : Task) (s : State) → Stands t → StandInTrees p u blocks vs (arrival t s)
+  arrival-stands (One site place e) s h = (h.0, tt)
+  arrival-stands (Whole at t) s h = tt
 
-  module _ (site : Site) (t : Decorator) (stands : option_and_then decorator_tag (element_at u site) ≡ Some t)
-      (visited : IsVisited vs site) where
-    partial_set_good : (name : Text) (b : Body) → decorator_body t ≡ b → (s : State) → IsSound s (set_partial name b)
-    unfolding ◌>>=◌
-    partial_set_good name no_body same s h on next g = tt
-    partial_set_good name (body x) same s h on next g = g (with_nearest (with_partial name x) s) (after refl (record {
+  -- ---- the law
+
+  -- A part begins at its site, with escaping as the tree has it there.
+  record BeginsAt (t : Task) (s : State) : Type 0 where
+    stands : Stands t
+    raw : s.escapes ≡ not (is_raw_before u t)
+    of_run : IsOfRun p u blocks vs s
+
+  -- The run comes to an element at its site.
+  record ComesAt (site : Site) (e : Element) (s : State) : Type 0 where
+    of_run : IsSiteOfRun p u blocks vs site
+    stands : element_at u site ≡ Some e
+    reached : IsReached vs site s
+
+  -- Escaping is on but at html expressions and within them, and states are of the run; so each part stands in a tree of the
+  -- run, and each piece has an origin.
+  abbrev has_origins : Law
+  has_origins = record {
+    IsWell = λ s. IsOfRun p u blocks vs s;
+    IsNext = λ s n. IsBehind p u blocks vs s n;
+    MayEnter = λ f. IsFrameOfRun p u blocks vs f;
+    ComesTo = λ site e s. ComesAt site e s;
+    Fits = λ site s. s.escapes ≡ not (is_raw_site u site);
+    Begins = λ t s. BeginsAt t s;
+    IsPart = λ x m s t. BeginsAt t s;
+    MayWrite = λ ps. HaveOrigins p u vs ps;
+    AreKnown = λ xs. (v : Visit) → Contains xs v → Contains vs v;
+    AreIn = λ x n m xs. StandInTrees p u blocks vs xs;
+  }
+
+  has_origins-sound : IsSound has_origins
+  has_origins-sound = record {
+    part_begins = λ h. h;
+    none_written = tt;
+    join_written = λ xs ys a b. All-append _ xs ys a b;
+    front_written = λ f h. HaveOrigins-front p u vs f h;
+    first_known = λ xs ys are v has. are v (Contains-append_left xs ys v has);
+    later_known = λ xs ys are v has. are v (Contains-append_right xs ys v has);
+    none_in = λ x n. tt;
+    part_in = λ x t n m i s xs le h are. All-append _ (arrival t s) xs (arrival-stands t s h.stands) are;
+    join_in = λ x n m i xs ys le far a b. All-append _ xs ys a b;
+  }
+
+  behind : {s n : State} → n.escapes ≡ s.escapes → IsOfRun p u blocks vs n → IsBehind p u blocks vs s n
+  behind is h = record { escapes = is; of_run = h }
+
+  -- ---- what is written
+
+  ComesToCall-called : {site : Site} {e : Element} {block : Bool} {c : Call} {s : State} {v : CallView}
+      → ComesToCall p has_origins site e block c s v → IsCalled p u vs site block c s v
+  ComesToCall-called {site = site} {e = e} {block = block} {c = c} called = record {
+    stands = element_at-read u site shown_call e (Some (block, c)) called.comes.stands called.shown;
+    reached = called.comes.reached;
+    viewed = called.viewed;
+  }
+
+  -- a part of the text of the value that a call writes, escaped or not
+  WritesValue-shown : {site : Site} {e : Element} {block : Bool} {c : Call} {before : State} {v : CallView} {found : Found}
+      {all : Text} (s : State) (escapes : Bool) → ComesToCall p has_origins site e block c before v
+      → WritesValue p block c before v found → s.escapes ≡ not (is_raw_site u site) → s.escapes ≡ escapes
+      → Shows p before escapes found all → (a : Text) → IsWithin a all → IsOfShown p u vs escapes site found a
+  WritesValue-shown {site = site} {block = block} {c = c} {before = before} {v = v} {all = all} s escapes called has fits is
+      shows a within = record {
+        block = block;
+        helper = c;
+        state = before;
+        view = v;
+        called = ComesToCall-called called;
+        is_raw = raw-not (is_raw_site u site) escapes (sym is ∙ fits);
+        writes = has;
+        all = all;
+        shows = shows;
+        is = within;
+      }
+
+  -- ---- all that templates do is as the law says
+
+  has_origins-closed : Closed p has_origins
+  has_origins-closed = record {
+    same_next = λ h. behind refl h;
+    then_next = λ a b. behind (b.escapes ∙ a.escapes) b.of_run;
+    next_well = λ h. h.of_run;
+    next_fits = λ h is. is.escapes ∙ h;
+    line_next = λ l h. behind refl h;
+    name_next = λ name h. behind refl h;
+    data_next = λ d h. behind refl h;
+    local_next = λ name l h. behind refl h;
+    no_local_next = λ name h. behind refl h;
+    turn_next = λ {s = s} path b t h. behind refl (record {
       kept = h.kept;
       indents = h.indents;
-      frames = nearest_good p u blocks vs (with_partial name x) s.blocks
-          (partial_good p u blocks vs name x (set_by site t stands same visited)) h.frames;
-    }))
-
-    deed_good : (deed : Deed) (s : State) → IsSound s (do_deed (decorator_body t) deed)
-    unfolding ◌>>=◌
-    deed_good (sets_data d) s h on next g = g (with_data d s) (after refl h)
-    deed_good (binds name l) s h on next g = g (with_local name l s) (after refl h)
-    deed_good (unbinds name) s h on next g = g (without_local name s) (after refl h)
-    deed_good (sets_partial name) s h on next g = partial_set_good name (decorator_body t) refl s h on next g
-
-    deeds_good : (deeds : List Deed) (s : State) → IsSound s (do_deeds (decorator_body t) deeds)
-    unfolding ◌>>◌
-    deeds_good [] s h on next g = g s (after refl h)
-    deeds_good (deed ∷ deeds) s h on next g = deed_good deed s h on (λ z. do_deeds (decorator_body t) deeds next)
-        (λ n same. deeds_good deeds n same.good on next (λ i is. g i (after_after same is)))
-
-    module _ (s : State) (h : IsWell s) (on : Bool) (next : Unit {0} → Steps)
-        (g : (n : State) → IsAfter s n → AreSound on n (next tt)) where
-      done_as : (a : Answer (List Deed)) → AreSound on s (answer a (λ deeds. do_deeds (decorator_body t) deeds next))
-      done_as (gives deeds) = deeds_good deeds s h on next g
-      done_as (refuses r) = tt
-
-      decorator_as : (v : CallView) (a : Answer DecoratorKind)
-          → AreSound on s (answer a (λ k. (ask (deeds_of k (shown_tag s.indent t v)) >>= do_deeds (decorator_body t)) next))
-      unfolding ◌>>=◌
-      decorator_as v (gives k) = λ a is. done_as a
-      decorator_as v (refuses r) = tt
-
-      shown_as : (a : Answer CallView)
-          → AreSound on s (answer a (λ v. Get (λ z. (ask (decorator_of v.name) >>= (λ k.
-          ask (deeds_of k (shown_tag z.indent t v)) >>= do_deeds (decorator_body t))) next)))
-      unfolding ◌>>=◌
-      shown_as (gives v) = λ a is. decorator_as v a
-      shown_as (refuses r) = tt
-
-    decorator_good : (s : State) → IsSound s (render_decorator t)
-    unfolding ◌>>=◌
-    decorator_good s h on next g = λ a viewed. shown_as s h on next g a
-
-  -- ---- elements and trees
-
-  module _ (site : Site) (of_run : IsSiteOfRun p u blocks vs site) (s : State) (are : AreVisits p u blocks vs
-      (record { site = site; state = s } ∷ [])) where
-    reached_first : IsReached vs site s
-    reached_first = record { first = s; comes = are _ (first_visit p u blocks vs _); is = refl }
-
-    visited_first : IsVisited vs site
-    visited_first = record { state = s; comes = are _ (first_visit p u blocks vs _) }
-
-    element_good : (e : Element) → element_at u site ≡ Some e → s.escapes ≡ not (is_raw_around p u blocks vs site)
-        → IsSound s (render_element site e)
-    unfolding ◌>>=◌ ◌>>◌
-    element_good (raw_string t) is raw = write_text_good p u blocks vs s (of_text site) t
-        (record { writer = raw_string t; stands = is; visited = visited_first })
-        (λ a within. record { all = t; stands = is; state = s; reached = reached_first; is = within })
-    element_good (html_expression c) is raw = λ h on next g.
-        expression_good p u blocks vs site c of_run (ap (λ (o : Option Element). option_and_then body_of o) is)
-        (ap (λ (o : Option Element). option_and_then inverse_of o) is)
-        (ap (λ (o : Option Element). option_and_then shown_call o) is) (record s { escapes = false })
-        (ap not (sym (raw_at p u blocks vs site (html_expression c) is)))
-        (record { first = s; comes = are _ (first_visit p u blocks vs _); is = refl }) h on
-        (λ i. Get (λ n. Set (record n { escapes = s.escapes }) (next tt))) (λ n same. g _ (after refl same.good))
-    element_good (expression c) is raw =
-        expression_good p u blocks vs site c of_run (ap (λ (o : Option Element). option_and_then body_of o) is)
-        (ap (λ (o : Option Element). option_and_then inverse_of o) is)
-        (ap (λ (o : Option Element). option_and_then shown_call o) is) s
-        (raw ∙ ap not (sym (raw_at p u blocks vs site (expression c) is))) reached_first
-    element_good (helper_block c) is raw = λ h on next g.
-        call_good p u blocks vs site true c of_run (ap (λ (o : Option Element). option_and_then body_of o) is)
-        (ap (λ (o : Option Element). option_and_then inverse_of o) is)
-        (ap (λ (o : Option Element). option_and_then shown_call o) is) s
-        (raw ∙ ap not (sym (raw_at p u blocks vs site (helper_block c) is))) reached_first h refl on next g
-    element_good (decorator_expression t) is raw =
-        decorator_good site t (ap (λ (o : Option Element). option_and_then decorator_tag o) is) visited_first s
-    element_good (decorator_block t) is raw =
-        decorator_good site t (ap (λ (o : Option Element). option_and_then decorator_tag o) is) visited_first s
-    element_good (partial_expression t) is raw =
-        inclusion_good p u blocks vs site t of_run (ap (λ (o : Option Element). option_and_then inclusion_tag o) is)
-        (ap (λ (o : Option Element). option_and_then body_of o) is) visited_first s
-        (raw ∙ ap not (sym (raw_at p u blocks vs site (partial_expression t) is)))
-    element_good (partial_block t) is raw =
-        inclusion_good p u blocks vs site t of_run (ap (λ (o : Option Element). option_and_then inclusion_tag o) is)
-        (ap (λ (o : Option Element). option_and_then body_of o) is) visited_first s
-        (raw ∙ ap not (sym (raw_at p u blocks vs site (partial_block t) is)))
-    element_good (comment t) is raw = λ h on next g. g s (after refl h)
-
-  -- the elements from an index on stand there in the tree
-  StandFrom : TreeSite → ℕ → Elements → Type 0
-  StandFrom at i es = (k : ℕ) → nth es k ≡ element_at u (element_in at (i + k))
-
-  elements_good : (at : TreeSite) (i : ℕ) (es : Elements) (places : List Place) (s : State)
-      → IsTreeOfRun p u blocks vs at → StandFrom at i es → s.escapes ≡ not (is_raw_tree u at)
-      → IsSound s (render_elements at i es places)
-  unfolding StandFrom ◌>>◌
-  elements_good at i no_elements places s of_run stand raw h on next g = g s (after refl h)
-  elements_good at i (element e es) places s of_run stand raw h on next g =
-      let here : element_at u (element_in at i) ≡ Some e =
-      ap (λ (n : ℕ). element_at u (element_in at n)) (omega arith) ∙ sym (stand 0) in (
-        (of_run, here),
-        raw,
-        h,
-        λ n is. elements_good at (i + 1) es places n of_run
-            (λ k. stand (suc k) ∙ ap (λ (m : ℕ). element_at u (element_in at m)) (omega arith))
-            (is.escapes ∙ raw) is.good on next (λ z same. g z (after_after is same)),
-      )
-
-  whole_good : (at : TreeSite) (t : Tree) (s : State) → IsTreeOfRun p u blocks vs at → tree_at u at ≡ Some t
-      → s.escapes ≡ not (is_raw_tree u at) → IsSound s (render_whole at t)
-  unfolding ◌>>=◌ ◌>>◌ StandFrom
-  whole_good at (tree n es places) s of_run is raw h on next g = elements_good at 0 es places (record s { current = n })
-      of_run (λ k. ap (λ (i : ℕ). nth es i) (omega arith) ∙ ap (λ (o : Option Tree). nth_in o (0 + k)) (sym is)) raw h
-      on next (λ z same. g z (after same.escapes same.good))
-
-  plan_good : (t : Task) (s : State) → Stands p u blocks vs t → s.escapes ≡ not (is_raw_before p u blocks vs t)
-      → IsWell s → AreVisits p u blocks vs (arrival t s) → AreSound s.escapes s (todo t)
-  plan_good (One site place e) s stands raw h are =
-      element_good site stands.0 s are e stands.1 raw h s.escapes (λ i. Done) (λ n is. (is.escapes, is.good))
-  plan_good (Whole at t) s stands raw h are =
-      whole_good at t s stands.0 stands.1 raw h s.escapes (λ i. Done) (λ n is. (is.escapes, is.good))
+      frames = nearest_as-frames p u blocks vs (turned path b t) s.blocks (turned-frame p u blocks vs path b t) h.frames;
+    });
+    partial_next = λ {s = s} {site = site} {e = e} {t = t} {x = x} name at tag is h. behind refl (record {
+      kept = h.kept;
+      indents = h.indents;
+      frames = nearest_as-frames p u blocks vs (with_partial name x) s.blocks (with_partial-frame p u blocks vs name x
+          (set_by site t (element_at-read u site decorator_tag e (Some t) at.stands tag) is
+          (IsReached-visited at.reached))) h.frames;
+    });
+    block_well = λ may h. record { kept = h.kept; indents = h.indents; frames = (may, h.frames) };
+    block_fits = λ h. h;
+    block_next = λ {n = n} is. behind is.escapes (record {
+      kept = is.of_run.kept;
+      indents = is.of_run.indents;
+      frames = outer-frames p u blocks vs n.blocks is.of_run.frames;
+    });
+    empty_enters = λ n t is. cc;
+    with_enters = with_block-frame p u blocks vs;
+    inclusion_enters = λ d hs variables n t is. cc;
+    handed_enters = λ {site = site} {block = block} {c = c} {s = s} {v = v} {all = all} {f = f} i called answers is n t has.
+        handed_over f n (record {
+          site = site;
+          block = block;
+          helper = c;
+          state = s;
+          view = v;
+          called = ComesToCall-called called;
+          steps = all;
+          answers = answers;
+          index = i;
+          step = is;
+        }) has;
+    raw_well = λ h. h;
+    raw_comes = λ at. record {
+      of_run = at.of_run;
+      stands = at.stands;
+      reached = record {
+        first = at.reached.first;
+        comes = at.reached.comes;
+        is = ap (λ (z : State). record z { escapes = false }) at.reached.is;
+      };
+    };
+    raw_next = λ is. behind refl is.of_run;
+    own_next = λ h is. behind is.escapes
+        (record { kept = is.of_run.kept; indents = h.indents; frames = is.of_run.frames });
+    newest_keeps = λ {s = s} h. newest-origins p u blocks vs s.kept h.kept;
+    begun_well = λ {s = s} {site = site} {e = e} {t = t} tagged h is may. record {
+      kept = (may, is.of_run.kept);
+      indents = joined_indent-indents site t (element_at-read u site inclusion_tag e (Some t) tagged.comes.stands tagged.tag)
+          (IsReached-visited tagged.comes.reached) s.indent (decorator_marks t).indent refl h.indents;
+      frames = is.of_run.frames;
+    };
+    begun_fits = λ h. h;
+    over_next = λ {z = z} h first last. behind (last.escapes ∙ first.escapes) (record {
+      kept = h.kept;
+      indents = h.indents;
+      frames = outer-frames p u blocks vs z.blocks last.of_run.frames;
+    });
+    begins_well = λ h. h.of_run;
+    begins_comes = λ {s = s} h known. record {
+      of_run = h.stands.0;
+      stands = h.stands.1;
+      reached = record { first = s; comes = known _ (0, omega arith, refl); is = refl };
+    };
+    begins_fits = λ {site = site} {e = e} h is.
+        h.raw ∙ ap not (sym (is_raw_site-at u site e h.stands.1 ∙ ap (λ (b : Bool). b || is_raw_around u site) is));
+    begins_raw = λ {site = site} {c = c} h. ap not (sym (is_raw_site-at u site (html_expression c) h.stands.1));
+    element_part = λ i h is is_behind. record {
+      stands = (h.stands.0, ap (λ (o : Option Tree). nth_in o i) h.stands.1 ∙ is);
+      raw = is_behind.escapes ∙ h.raw;
+      of_run = is_behind.of_run;
+    };
+    body_part = λ {site = site} {e = e} {t = t} i at is fits h. record {
+      stands = (body_at-of_run site i at.of_run, element_at-read u site body_of e (Some t) at.stands is);
+      raw = fits;
+      of_run = h;
+    };
+    inverse_part = λ {site = site} {e = e} {t = t} i at is fits h. record {
+      stands = (inverse_at-of_run site i at.of_run, element_at-read u site inverse_of e (Some t) at.stands is);
+      raw = fits;
+      of_run = h;
+    };
+    local_part = λ {site = site} {t = t} {z = z} name at well is fits h. record {
+      stands = (
+        included_at-local site t at.of_run (partial_in-local p u blocks vs z.blocks well.frames name t is),
+        refl,
+      );
+      raw = fits;
+      of_run = h;
+    };
+    registered_part = λ {site = site} {t = t} name at is fits h.
+        record { stands = (included_at-stored site name t at.of_run is, refl); raw = fits; of_run = h };
+    text_written = λ {site = site} {t = t} {s = s} at h.
+        put-origins p u vs (of_text site) s.indent t s.line _ at.stands (IsReached-visited at.reached) h.indents
+        (λ a within. record { all = t; stands = at.stands; state = s; reached = at.reached; is = within });
+    value_written = λ {site = site} {s = s} {found = found} t called has fits is shows h.
+        put-origins p u vs (of_value site found) s.indent t s.line _ called.comes.stands
+        (IsReached-visited called.comes.reached) h.indents (WritesValue-shown s true called has fits is shows);
+    raw_written = λ {site = site} {s = s} {found = found} called has fits is h.
+        put-origins p u vs (of_raw site found) s.indent (rendered_if_any (present_in found)) s.line _ called.comes.stands
+        (IsReached-visited called.comes.reached) h.indents (WritesValue-shown s false called has fits is refl);
+    word_written = λ {c = c} {s = s} {v = v} b called says. (
+      record { helper = c; state = s; view = v; called = ComesToCall-called called; says = says; is = all_begins (word b) },
+      tt,
+    );
+    step_written = λ {site = site} {block = block} {c = c} {s = s} {v = v} {all = all} i t called answers is.
+        pieces_of-origins p u vs (of_step site i) t (record {
+          block = block;
+          helper = c;
+          state = s;
+          view = v;
+          called = ComesToCall-called called;
+          steps = all;
+          answers = answers;
+          all = t;
+          step = is;
+          is = all_begins t;
+        });
+  }
 
 -- ---- runs
 
-no_indent : {u : Tree} {vs : List Visit} (i : Option Text) → i ≡ None → AreIndents u vs (unwrap_or i [])
-no_indent None is = no_indents
-no_indent (Some t) is = cc
-
-begins_well : (p : Setting) (u : Tree) (vs : List Visit) (s : State) → IsPlain s → StateGood p u s.blocks vs s
-begins_well p u vs s plain = begins_good p u s.blocks vs s (no_indent s.indent plain.indent) plain.kept refl
-
-tree_comes : (p : Setting) (t : Tree) (s : State) (ps : List Piece) (o : Outcome) → IsPlain s → (r : Means p t s ps o)
-    → HaveOrigins p t (visits r) ps × StandInTrees p t s.blocks (visits r) (visits r)
-tree_comes p t s ps o plain r =
-    let h = origins_of p t s.blocks (visits r) (plan_good p t s.blocks (visits r)) r true (
-      (is_first, refl),
-      plain.escapes,
-      begins_well p t (visits r) s plain,
-      λ n same.
-          (same.escapes ∙ plain.escapes, same.good),
-    ) (λ v has. has) in
-    (h.0, h.2)
+-- a run of a part alone, from a plain state on, which stands where escaping is on
+Do-obeys : (p : Setting) (u : Tree) (t : Task) (s : State) (ps : List Piece) (o : Outcome) → IsPlain s
+    → s.escapes ≡ not (is_raw_before u t) → (r : Runs p (Do t Done) s ps o) → Stands p u s.blocks (visits r) t
+    → Obeys (has_origins p u s.blocks (visits r)) (Whole first_tree u) (λ j z. Unit {0}) 0 ps o (visits r)
+Do-obeys p u t s ps o plain raw r stands =
+    let law = has_origins p u s.blocks (visits r) in
+    Runs-obeys p law (has_origins-sound p u s.blocks (visits r))
+    (todo-holds p law (has_origins-closed p u s.blocks (visits r))) r (Whole first_tree u) (λ j z. Unit {0}) 0 (
+      0,
+      omega arith,
+      record { stands = stands; raw = raw; of_run = first-of_run p u s.blocks (visits r) s plain (λ f has. has) },
+      λ z is. tt,
+    ) (λ v has. has)
 
 pub all_have_origins : (p : Setting) (t : Tree) (s : State) (ps : List Piece) (o : Outcome) → IsPlain s
     → (r : Means p t s ps o) → HaveOrigins p t (visits r) ps
-all_have_origins p t s ps o plain r = (tree_comes p t s ps o plain r).0
+all_have_origins p t s ps o plain r =
+    (Do-obeys p t (Whole first_tree t) s ps o plain plain.escapes r (is_first, refl)).written
 
 pub comes_in_trees : (p : Setting) (t : Tree) (s : State) (ps : List Piece) (o : Outcome) → IsPlain s
     → (r : Means p t s ps o) → StandInTrees p t s.blocks (visits r) (visits r)
-comes_in_trees p t s ps o plain r = (tree_comes p t s ps o plain r).1
+comes_in_trees p t s ps o plain r =
+    (Do-obeys p t (Whole first_tree t) s ps o plain plain.escapes r (is_first, refl)).are_in
 
 pub element_has_origins : (p : Setting) (e : Element) (s : State) (ps : List Piece) (o : Outcome) → IsPlain s
     → (r : Runs p (render_alone e) s ps o) → HaveOrigins p (alone e) (visits r) ps
 element_has_origins p e s ps o plain r =
-    (origins_of p (alone e) s.blocks (visits r) (plan_good p (alone e) s.blocks (visits r)) r true (
-      (is_first, refl),
-      plain.escapes,
-      begins_well p (alone e) (visits r) s plain,
-      λ n same.
-          (same.escapes ∙ plain.escapes, same.good),
-    ) (λ v has. has)).0
+    (Do-obeys p (alone e) (One (element_in first_tree 0) None e) s ps o plain plain.escapes r (is_first, refl)).written

@@ -1,0 +1,255 @@
+-- What a law says holds of calls: of what helpers choose, and of lone expressions.
+use Rattle.std.proofs.Common.{◌≡◌, ℕ, ◌+◌, List, [], ◌∷◌, Bool, true, false, refl, ap, ◌∙◌, subst, Option, Some, None, arith}
+use Rattle.std.specs.List.{slice_get}
+use Rattle.handlebars_base.specs.Answers.{Answer, gives}
+use Rattle.handlebars_base.specs.Bytes.{Text}
+use Rattle.handlebars_base.specs.Scoped.{Found, walked, value, missing, present_in}
+use Rattle.handlebars_base.specs.Values.{word}
+use Rattle.handlebars_template.specs.Place.{Place}
+use Rattle.handlebars_template.specs.Tree.{Element, Call, call_name, call_args, call_body, call_inverse, call_marks, is_value}
+use Rattle.handlebars_scope.specs.LineState.{LineState}
+use Rattle.handlebars_scope.specs.Scopes.{empty_frame, Base}
+use Rattle.handlebars_helpers.specs.CallView.{CallView, HelperView}
+use Rattle.handlebars_helpers.specs.Callee.{Callee, built, own, Target, calls_registered, calls_local}
+use Rattle.handlebars_helpers.specs.Choice.{Choice, the_body, the_inverse, body_in_block, body_in_turns, the_value, the_word, the_line, the_steps, nothing}
+use Rattle.handlebars_helpers.specs.Own.{Step, writes, renders_body, renders_inverse, renders_body_in}
+use Rattle.handlebars_helpers.specs.Turns.{Turn, turned, with_block}
+use Rattle.handlebars_meaning.specs.Asks.{goes_on, is_refused}
+use Rattle.handlebars_meaning.specs.CarryOut.{helper_call, render_branch, render_body, take_turns, render_with, render_word, take_step, take_steps, carry_out}
+use Rattle.handlebars_meaning.specs.Means.{line_in, render_chosen, render_helped, render_call, render_hook, render_found, render_lone_as, render_lone, render_expression}
+use Rattle.handlebars_meaning.specs.Origins.{tree_in, shown_call, is_lone, IsValue, Calls, by_name, by_name_or_hook, by_hook, Chooses, WritesValue, of_itself, of_helper}
+use Rattle.handlebars_meaning.specs.Pieces.{of_value, of_raw, of_word}
+use Rattle.handlebars_meaning.specs.Questions.{IsAnswered, value_of, view_of, helper_of, called_as, hook_for, choice_of, escape_of, steps_or_offer, HasRegisteredChoice, HasChoice}
+use Rattle.handlebars_meaning.specs.Sites.{body_at, inverse_at, Site}
+use Rattle.handlebars_meaning.specs.State.{Setting, State, entered, with_nearest, nearest_variables}
+use Rattle.handlebars_meaning.specs.Steps.{Task, One, Prog, ◌>>=◌, ◌>>◌}
+use Rattle.handlebars_meaning.specs.Writing.{rendered_if_any, write_rendered, write_value}
+use Rattle.handlebars_laws.proofs.Closed.{ComesToCall, body_of-call, inverse_of-call, Closed}
+use Rattle.handlebars_laws.proofs.Law.{Law}
+use Rattle.handlebars_laws.proofs.Programs.{upto, any, Leads, Leads-any, answer-holds, return-holds, write_text-holds, in_block-holds, on_line-holds, render_branch-holds}
+use Rattle.handlebars_laws.proofs.Within.{StepsFrom, step_there, steps_behind}
+
+-- ---- what a helper chooses doesn't depend on the line
+
+module _ (p : Setting) (s : State) (line : LineState) where
+  steps_or_offer-line : (called : Text) (h : HelperView) (steps : Option (List Step)) (a : Answer Choice)
+      → steps_or_offer p (record s { line = line }) called h steps a → steps_or_offer p s called h steps a
+  steps_or_offer-line called h None a is = is
+  steps_or_offer-line called h (Some steps) a is = is
+
+  HasRegisteredChoice-line : (k : Callee) (h : HelperView) (a : Answer Choice)
+      → HasRegisteredChoice p (record s { line = line }) k h a → HasRegisteredChoice p s k h a
+  HasRegisteredChoice-line (built kind) h a is = is
+  HasRegisteredChoice-line (own called) h _ (goes_on {x = steps} {a = a} is next) =
+      goes_on is (steps_or_offer-line called h steps a next)
+  HasRegisteredChoice-line (own called) h _ (is_refused is) = is_refused is
+
+  HasChoice-line : (k : Target) (h : HelperView) (a : Answer Choice)
+      → HasChoice p (record s { line = line }) k h a → HasChoice p s k h a
+  HasChoice-line (calls_registered k) h a is = HasRegisteredChoice-line k h a is
+  HasChoice-line (calls_local called) h _ (goes_on {x = c} {a = a} is next) =
+      goes_on is (HasRegisteredChoice-line c.0 c.1 a next)
+  HasChoice-line (calls_local called) h _ (is_refused is) = is_refused is
+
+-- ---- calls, by the element at a site to which the run came in a state before
+
+module _ (p : Setting) (law : Law) (closed : Closed p law) (site : Site) (place : Option Place) (e : Element) where
+  abbrev this : Task
+  this = One site place e
+
+  -- steps of the element
+  abbrev Goes : ℕ → (ℕ → Type 0) → State → Prog (Unit {0}) → Type 1
+  Goes n to s m = Leads p law this n to s m
+
+  module _ (block : Bool) (c : Call) (shown : shown_call e ≡ Some (block, c)) (before : State)
+      (comes : law.ComesTo site e before) where
+    module _ (v : CallView) (viewed : IsAnswered p before (view_of (call_name c) (call_args c)) (gives v)) where
+      abbrev view : HelperView
+      view = helper_call block c v
+
+      called : ComesToCall p law site e block c before v
+      called = record { comes = comes; shown = shown; viewed = viewed }
+
+      -- ---- bodies
+
+      render_body-holds : (i : ℕ) (s : State) → law.Fits site s → Goes i (upto (i + 1)) s (render_body site i view)
+      render_body-holds i s fits = render_branch-holds p law closed this i (body_at site i) (call_body c) s
+          (λ t is h. closed.body_part i comes (body_of-call e block c shown ∙ ap tree_in is) fits h)
+
+      render_inverse-holds : (i : ℕ) (s : State) → law.Fits site s
+          → Goes i (upto (i + 1)) s (render_branch (inverse_at site i) (call_inverse c))
+      render_inverse-holds i s fits =
+          render_branch-holds p law closed this i (inverse_at site i) (call_inverse c) s
+          (λ t is h. closed.inverse_part i comes (inverse_of-call e block c shown ∙ ap tree_in is) fits h)
+
+      -- as the one part that is rendered
+      render_body-any : (s : State) → law.Fits site s → Goes 0 any s (render_body site 0 view)
+      render_body-any s fits = Leads-any p law this (render_body site 0 view) (render_body-holds 0 s fits)
+
+      render_inverse-any : (s : State) → law.Fits site s → Goes 0 any s (render_branch (inverse_at site 0) (call_inverse c))
+      render_inverse-any s fits = Leads-any p law this (render_branch (inverse_at site 0) (call_inverse c))
+          (render_inverse-holds 0 s fits)
+
+      render_with-holds : (s : State) (base : Base) → law.Fits site s → Goes 0 any s (render_with site view base)
+      unfolding ◌>>=◌
+      render_with-holds s base fits h end i le next g =
+          in_block-holds p law closed this s (with_block base view.binding (nearest_variables s.blocks))
+          (render_body site 0 view) (closed.with_enters _ _ _) (render_body-any _ (closed.block_fits fits)) h end i le next g
+
+      take_turns-hold : (i : ℕ) (path : Option (List Text)) (ts : List Turn) (s : State) → law.Fits site s
+          → Goes i any s (take_turns site i view path ts)
+      unfolding ◌>>=◌ ◌>>◌
+      take_turns-hold i path [] s fits h end l le next g = g l s tt (closed.same_next h)
+      take_turns-hold i path (t ∷ ts) s fits h end l le next g =
+          let first = closed.turn_next path view.binding t h in
+          render_body-holds i (with_nearest (turned path view.binding t) s) (closed.next_fits fits first)
+          (closed.next_well first) end l le (λ u. take_turns site (i + 1) view path ts next) (λ j n far is.
+          take_turns-hold (i + 1) path ts n (closed.next_fits fits (closed.then_next first is)) (closed.next_well is) end j
+          far next (λ k z to same. g k z to (closed.then_next first (closed.then_next is same))))
+
+      -- ---- values
+
+      write_rendered-holds : (s : State) (found : Found) (b : Bool) → s.escapes ≡ b → law.Fits site s
+          → WritesValue p block c before v found → Goes 0 any s (write_rendered site found b)
+      unfolding ◌>>=◌
+      write_rendered-holds s found true is fits has = λ h end i le next g.
+          answer-holds p law this end i s (escape_of (rendered_if_any (present_in found))) _ (λ t shows.
+          write_text-holds p law closed this s (of_value site found) t
+          (closed.value_written t called has fits is shows) h end i le next g)
+      write_rendered-holds s found false is fits has =
+          write_text-holds p law closed this s (of_raw site found) (rendered_if_any (present_in found))
+          (closed.raw_written called has fits is)
+
+      write_value-holds : (s : State) (found : Found) → law.Fits site s → WritesValue p block c before v found
+          → Goes 0 any s (write_value site found)
+      unfolding ◌>>=◌
+      write_value-holds s found fits has = write_rendered-holds s found s.escapes refl fits has
+
+      -- ---- what the helper that is called chose
+
+      module _ (k : Target) (calls : Calls p block c before v k) where
+        abbrev Chose : Choice → Type 0
+        Chose choice = IsAnswered p before (choice_of k view) (gives choice)
+
+        chooses : (choice : Choice) → Chose choice → Chooses p block c before v choice
+        chooses choice chose = record { target = k; calls = calls; chooses = chose }
+
+        -- only an expression writes a word
+        MayWrite-word : (b : Bool) → block ≡ false → Chose (the_word b)
+            → law.MayWrite (record { origin = of_word site b; text = word b } ∷ [])
+        MayWrite-word b plain chose =
+            closed.word_written b (subst (λ (z : Bool). ComesToCall p law site e z c before v) plain called)
+            (subst (λ (z : Bool). Chooses p z c before v (the_word b)) plain (chooses (the_word b) chose))
+
+        render_word-holds : (s : State) (tag b : Bool) → block ≡ tag → law.Fits site s → Chose (the_word b)
+            → Goes 0 any s (render_word site view tag b)
+        render_word-holds s false b is fits chose = λ h end i le next g.
+            (MayWrite-word b is chose, g i s tt (closed.same_next h))
+        render_word-holds s true true is fits chose = render_body-any s fits
+        render_word-holds s true false is fits chose = render_inverse-any s fits
+
+        module _ (all : List Step) (chose : Chose (the_steps all)) where
+          take_step-holds : (s : State) (i : ℕ) (step : Step) → law.Fits site s → slice_get all i ≡ Some step
+              → Goes i (upto (i + 1)) s (take_step site view i step)
+          take_step-holds s i (writes t) fits is = λ h end l le next g. (
+            closed.step_written i t called (chooses (the_steps all) chose) is,
+            g l s (omega (arith, le)) (closed.same_next h),
+          )
+          take_step-holds s i renders_body fits is = render_body-holds i s fits
+          take_step-holds s i renders_inverse fits is = render_inverse-holds i s fits
+          take_step-holds s i (renders_body_in f) fits is =
+              in_block-holds p law closed this s f (render_body site i view)
+              (closed.handed_enters i called (chooses (the_steps all) chose) is)
+              (render_body-holds i (entered f s) (closed.block_fits fits))
+
+          take_steps-hold : (s : State) (i : ℕ) (steps : List Step) → law.Fits site s → StepsFrom all i steps
+              → Goes i any s (take_steps site view i steps)
+          unfolding ◌>>◌
+          take_steps-hold s i [] fits from h end l le next g = g l s tt (closed.same_next h)
+          take_steps-hold s i (step ∷ steps) fits from h end l le next g =
+              take_step-holds s i step fits (step_there all i step steps from) h end l le
+              (λ u. take_steps site view (i + 1) steps next) (λ j n far is.
+              take_steps-hold n (i + 1) steps (closed.next_fits fits is) (steps_behind all i step steps from)
+              (closed.next_well is) end j far next (λ k z to same. g k z to (closed.then_next is same)))
+
+        carry_out-holds : (s : State) (choice : Choice) → law.Fits site s → Chose choice
+            → Goes 0 any s (carry_out site view choice)
+        carry_out-holds s the_body fits chose = render_body-any s fits
+        carry_out-holds s the_inverse fits chose = render_inverse-any s fits
+        carry_out-holds s (body_in_block base) fits chose = render_with-holds s base fits
+        carry_out-holds s (body_in_turns path ts) fits chose =
+            in_block-holds p law closed this s empty_frame (take_turns site 0 view path ts)
+            closed.empty_enters (take_turns-hold 0 path ts (entered empty_frame s) (closed.block_fits fits))
+        carry_out-holds s (the_value d) fits chose =
+            write_value-holds s (value d) fits (of_helper (chooses (the_value d) chose))
+        carry_out-holds s (the_word b) fits chose = render_word-holds s block b refl fits chose
+        carry_out-holds s (the_line level text) fits chose = return-holds p law closed this s
+        carry_out-holds s (the_steps steps) fits chose = take_steps-hold steps chose s 0 steps fits ([], refl, refl)
+        carry_out-holds s nothing fits chose = return-holds p law closed this s
+
+        -- asked in a state in which it chooses as in the one before
+        render_chosen-holds : (s : State) → law.Fits site s
+            → ((a : Answer Choice) → IsAnswered p s (choice_of k view) a → IsAnswered p before (choice_of k view) a)
+            → Goes 0 any s (render_chosen site k view)
+        unfolding ◌>>=◌
+        render_chosen-holds s fits same h end i le next g =
+            answer-holds p law this end i s (choice_of k view) _ (λ choice chose.
+            carry_out-holds s choice fits (same _ chose) h end i le next g)
+
+        render_helped-holds : law.Fits site before → Goes 0 any before (render_helped site block c k v)
+        render_helped-holds fits h =
+            let enter = line_in (call_marks c).indent_before_write in
+            on_line-holds p law closed this before enter (render_chosen site k view)
+            (render_chosen-holds (record before { line = enter before.line })
+            (closed.next_fits fits (closed.line_next _ h)) (HasChoice-line p before (enter before.line) k view)) h
+
+    pub render_call-holds : is_lone block c ≡ false → law.Fits site before → Goes 0 any before (render_call site block c)
+    unfolding ◌>>=◌
+    render_call-holds not_lone fits h end i le next g =
+        answer-holds p law this end i before (view_of (call_name c) (call_args c)) _ (λ v viewed.
+        answer-holds p law this end i before (called_as block v.name) _ (λ k is.
+        render_helped-holds v viewed k (by_name_or_hook not_lone is) fits h end i le next g))
+
+  -- ---- expressions
+
+  module _ (c : Call) (shown : shown_call e ≡ Some (false, c)) (s : State) (comes : law.ComesTo site e s)
+      (fits : law.Fits site s) where
+    module _ (lone : is_value c ≡ true) where
+      module _ (v : CallView) (viewed : IsAnswered p s (view_of (call_name c) (call_args c)) (gives v)) where
+        render_hook-holds : (o : Option Target) → IsAnswered p s (hook_for (call_name c)) (gives o)
+            → IsValue p false c s v missing → Goes 0 any s (render_hook site c v o)
+        render_hook-holds None is has = return-holds p law closed this s
+        render_hook-holds (Some k) is has =
+            render_chosen-holds false c shown s comes v viewed k (by_hook has is) s fits (λ a same. same)
+
+        render_found-holds : (found : Found) → IsValue p false c s v found → Goes 0 any s (render_found site c v found)
+        unfolding ◌>>=◌
+        render_found-holds (walked d path) has =
+            write_value-holds false c shown s comes v viewed s (walked d path) fits (of_itself has)
+        render_found-holds (value d) has = write_value-holds false c shown s comes v viewed s (value d) fits (of_itself has)
+        render_found-holds missing has = λ h end i le next g.
+            answer-holds p law this end i s (hook_for (call_name c)) _ (λ o is.
+            render_hook-holds o is has h end i le next g)
+
+        render_lone_as-holds : (o : Option Target) → IsAnswered p s (helper_of v.name) (gives o)
+            → Goes 0 any s (render_lone_as site c v o)
+        unfolding ◌>>=◌
+        render_lone_as-holds None without = λ h end i le next g.
+            answer-holds p law this end i s (value_of (call_name c)) _ (λ found has.
+            render_found-holds found (record { lone = lone; no_helper = without; has = has }) h end i le next g)
+        render_lone_as-holds (Some k) helps = render_helped-holds false c shown s comes v viewed k (by_name lone helps) fits
+
+      render_lone-holds : Goes 0 any s (render_lone site c)
+      unfolding ◌>>=◌
+      render_lone-holds h end i le next g =
+          answer-holds p law this end i s (view_of (call_name c) (call_args c)) _ (λ v viewed.
+          answer-holds p law this end i s (helper_of v.name) _ (λ o is.
+          render_lone_as-holds v viewed o is h end i le next g))
+
+    render_expression-as : (b : Bool) → is_value c ≡ b → Goes 0 any s (render_expression site c)
+    render_expression-as true is h end i le next g = rw is (render_lone-holds is h end i le next g)
+    render_expression-as false is h end i le next g =
+        rw is (render_call-holds false c shown s comes is fits h end i le next g)
+
+    pub render_expression-holds : Goes 0 any s (render_expression site c)
+    render_expression-holds = render_expression-as (is_value c) refl

@@ -1,0 +1,164 @@
+-- Under what a law must be closed, so that all that templates do is as it says: a field for each thing that they do.
+use Rattle.std.proofs.Common.{◌≡◌, ℕ, List, [], ◌∷◌, Bool, true, false, ap, Option, None, Some, option_map, option_and_then}
+use Rattle.std.specs.List.{slice_get}
+use Rattle.serde_json.specs.Data.{Data}
+use Rattle.handlebars_base.specs.Answers.{gives}
+use Rattle.handlebars_base.specs.Bytes.{Text}
+use Rattle.handlebars_base.specs.Optional.{with_or}
+use Rattle.handlebars_base.specs.Scoped.{Found, present_in}
+use Rattle.handlebars_base.specs.Values.{word}
+use Rattle.handlebars_template.specs.Place.{Place}
+use Rattle.handlebars_template.specs.Tree.{Tree, tree, Elements, Element, raw_string, html_expression, partial_expression, partial_block, Call, call_name, call_args, call_body, call_inverse, Decorator, decorator_body, decorator_marks, body, Binding}
+use Rattle.handlebars_scope.specs.LineState.{LineState}
+use Rattle.handlebars_scope.specs.Scopes.{Frame, empty_frame, Base}
+use Rattle.handlebars_helpers.specs.Callee.{LocalHelper}
+use Rattle.handlebars_helpers.specs.CallView.{CallView}
+use Rattle.handlebars_helpers.specs.Choice.{the_word, the_steps}
+use Rattle.handlebars_helpers.specs.Own.{Step, writes, renders_body_in}
+use Rattle.handlebars_helpers.specs.Turns.{Turn, turned, with_block}
+use Rattle.handlebars_meaning.specs.Inclusion.{newest, inclusion_block, joined_indent, begun, named_as_before, over}
+use Rattle.handlebars_meaning.specs.Origins.{nth, tree_in, call_of, tag_of, is_block, body_of, inverse_of, decorator_tag, inclusion_tag, shown_call, is_html, Chooses, WritesValue, Shows}
+use Rattle.handlebars_meaning.specs.Pieces.{of_text, of_value, of_raw, of_word, of_step, Piece, pieces_of, put}
+use Rattle.handlebars_meaning.specs.Questions.{view_of, IsAnswered}
+use Rattle.handlebars_meaning.specs.Sites.{TreeSite, body_at, inverse_at, included_at, Site, element_in}
+use Rattle.handlebars_meaning.specs.State.{Setting, State, entered, left, with_nearest, partial_in, with_partial, with_data, with_local, without_local}
+use Rattle.handlebars_meaning.specs.Steps.{Task, One, Whole}
+use Rattle.handlebars_meaning.specs.Visits.{arrival}
+use Rattle.handlebars_meaning.specs.Writing.{rendered_if_any}
+use Rattle.handlebars_laws.proofs.Law.{Law}
+
+-- ---- elements to which a run comes
+
+-- The run comes to a call, of a block or of an expression, in a state in which it has this view.
+pub record ComesToCall (p : Setting) (law : Law) (site : Site) (e : Element) (block : Bool) (c : Call) (s : State)
+    (v : CallView) : Type 0 where
+  pub comes : law.ComesTo site e s
+  pub shown : shown_call e ≡ Some (block, c)
+  pub viewed : IsAnswered p s (view_of (call_name c) (call_args c)) (gives v)
+
+-- The run comes to the tag of an inclusion.
+pub record ComesToTag (law : Law) (site : Site) (e : Element) (t : Decorator) (s : State) : Type 0 where
+  pub comes : law.ComesTo site e s
+  pub tag : inclusion_tag e ≡ Some t
+
+-- the body and the inverse of an element are those of its call or of its tag
+
+call_in : Option (Bool × Call) → Option Call
+call_in o = option_map (λ x. x.1) o
+
+call_of-shown : (b block : Bool) (o : Option Call) (c : Call)
+    → option_map {U = Bool × Call} (λ d. (b, d)) o ≡ Some (block, c) → o ≡ Some c
+unfolding call_in
+call_of-shown b block None c is = cc
+call_of-shown b block (Some d) c is = ap call_in is
+
+pub body_of-call : (e : Element) (block : Bool) (c : Call) → shown_call e ≡ Some (block, c)
+    → body_of e ≡ tree_in (call_body c)
+body_of-call e block c is = ap (λ (o : Option Call). with_or o (λ d. tree_in (call_body d))
+    (option_and_then (λ t. tree_in (decorator_body t)) (tag_of e))) (call_of-shown (is_block e) block (call_of e) c is)
+
+pub inverse_of-call : (e : Element) (block : Bool) (c : Call) → shown_call e ≡ Some (block, c)
+    → inverse_of e ≡ tree_in (call_inverse c)
+inverse_of-call e block c is =
+    ap (option_and_then (λ d. tree_in (call_inverse d))) (call_of-shown (is_block e) block (call_of e) c is)
+
+pub body_of-tag : (e : Element) (t : Decorator) → inclusion_tag e ≡ Some t → body_of e ≡ tree_in (decorator_body t)
+body_of-tag (partial_expression d) t is = ap (option_and_then (λ x. tree_in (decorator_body x))) is
+body_of-tag (partial_block d) t is = ap (option_and_then (λ x. tree_in (decorator_body x))) is
+body_of-tag e t is = cc
+
+-- ---- what is closed
+
+-- what is kept of a block, if anything is, may be written
+abbrev pub MayKeep : (List Piece → Type 0) → Option (List Piece) → Type 0
+MayKeep may_write None = Unit {0}
+MayKeep may_write (Some ps) = may_write ps
+
+pub MayKeep-any : (kept : Option (List Piece)) → MayKeep (λ ps. Unit {0}) kept
+MayKeep-any None = tt
+MayKeep-any (Some ps) = tt
+
+pub record Closed (p : Setting) (law : Law) : Type 0 where
+  -- states that are next to others
+  pub same_next : {s : State} → law.IsWell s → law.IsNext s s
+  pub then_next : {s n z : State} → law.IsNext s n → law.IsNext n z → law.IsNext s z
+  pub next_well : {s n : State} → law.IsNext s n → law.IsWell n
+  pub next_fits : {site : Site} {s n : State} → law.Fits site s → law.IsNext s n → law.Fits site n
+  pub line_next : {s : State} (l : LineState) → law.IsWell s → law.IsNext s (record s { line = l })
+  pub name_next : {s : State} (name : Option Text) → law.IsWell s → law.IsNext s (record s { current = name })
+  pub data_next : {s : State} (d : Data) → law.IsWell s → law.IsNext s (with_data d s)
+  pub local_next : {s : State} (name : Text) (l : LocalHelper) → law.IsWell s → law.IsNext s (with_local name l s)
+  pub no_local_next : {s : State} (name : Text) → law.IsWell s → law.IsNext s (without_local name s)
+  pub turn_next : {s : State} (path : Option (List Text)) (b : Binding) (t : Turn) → law.IsWell s
+      → law.IsNext s (with_nearest (turned path b t) s)
+  pub partial_next : {s before : State} {site : Site} {e : Element} {t : Decorator} {x : Tree} (name : Text)
+      → law.ComesTo site e before → decorator_tag e ≡ Some t → decorator_body t ≡ body x → law.IsWell s
+      → law.IsNext s (with_nearest (with_partial name x) s)
+  -- blocks of scope, and those that are entered
+  pub block_well : {s : State} {f : Frame} → law.MayEnter f → law.IsWell s → law.IsWell (entered f s)
+  pub block_fits : {site : Site} {s : State} {f : Frame} → law.Fits site s → law.Fits site (entered f s)
+  pub block_next : {s n : State} {f : Frame} → law.IsNext (entered f s) n → law.IsNext s (left n)
+  pub empty_enters : law.MayEnter empty_frame
+  pub with_enters : (base : Base) (b : Binding) (variables : Text → Option Data)
+      → law.MayEnter (with_block base b variables)
+  pub inclusion_enters : (d : Data) (hs : List (Text × Data)) (variables : Text → Option Data)
+      → law.MayEnter (inclusion_block d hs variables)
+  pub handed_enters : {site : Site} {e : Element} {block : Bool} {c : Call} {s : State} {v : CallView} {all : List Step}
+      {f : Frame} (i : ℕ) → ComesToCall p law site e block c s v → Chooses p block c s v (the_steps all)
+      → slice_get all i ≡ Some (renders_body_in f) → law.MayEnter f
+  -- with escaping off
+  pub raw_well : {s : State} → law.IsWell s → law.IsWell (record s { escapes = false })
+  pub raw_comes : {site : Site} {e : Element} {s : State} → law.ComesTo site e s
+      → law.ComesTo site e (record s { escapes = false })
+  pub raw_next : {s n : State} → law.IsNext (record s { escapes = false }) n
+      → law.IsNext s (record n { escapes = s.escapes })
+  -- inclusions: the block of a tag, what is kept of it, and a partial that is begun and is over
+  pub own_next : {s n : State} → law.IsWell s → law.IsNext s n → law.IsNext s (named_as_before s n)
+  pub newest_keeps : {s : State} → law.IsWell s → MayKeep law.MayWrite (newest s.kept)
+  pub begun_well : {s n before : State} {site : Site} {e : Element} {t : Decorator} {f : Frame} {k : Option (List Piece)}
+      → ComesToTag law site e t before → law.IsWell s → law.IsNext (entered f s) n → MayKeep law.MayWrite k
+      → law.IsWell (begun (joined_indent s.indent (decorator_marks t).indent) k n)
+  pub begun_fits : {site : Site} {s : State} {i : Option Text} {k : Option (List Piece)} → law.Fits site s
+      → law.Fits site (begun i k s)
+  pub over_next : {s n z : State} {f : Frame} {i : Option Text} {k : Option (List Piece)} → law.IsWell s
+      → law.IsNext (entered f s) n → law.IsNext (begun i k n) z → law.IsNext s (over s z)
+  -- parts that begin, and parts of them
+  pub begins_well : {t : Task} {s : State} → law.Begins t s → law.IsWell s
+  pub begins_comes : {site : Site} {place : Option Place} {e : Element} {s : State} → law.Begins (One site place e) s
+      → law.AreKnown (arrival (One site place e) s) → law.ComesTo site e s
+  pub begins_fits : {site : Site} {place : Option Place} {e : Element} {s : State} → law.Begins (One site place e) s
+      → is_html e ≡ false → law.Fits site s
+  pub begins_raw : {site : Site} {place : Option Place} {c : Call} {s : State}
+      → law.Begins (One site place (html_expression c)) s → law.Fits site (record s { escapes = false })
+  pub element_part : {at : TreeSite} {n : Option Text} {es : Elements} {places : List Place} {e : Element}
+      {place : Option Place} {s z : State} (i : ℕ) → law.Begins (Whole at (tree n es places)) s → nth es i ≡ Some e
+      → law.IsNext s z → law.IsPart (Whole at (tree n es places)) i z (One (element_in at i) place e)
+  pub body_part : {site : Site} {place : Option Place} {e : Element} {t : Tree} {before s : State} (i : ℕ)
+      → law.ComesTo site e before → body_of e ≡ Some t → law.Fits site s → law.IsWell s
+      → law.IsPart (One site place e) i s (Whole (body_at site i) t)
+  pub inverse_part : {site : Site} {place : Option Place} {e : Element} {t : Tree} {before s : State} (i : ℕ)
+      → law.ComesTo site e before → inverse_of e ≡ Some t → law.Fits site s → law.IsWell s
+      → law.IsPart (One site place e) i s (Whole (inverse_at site i) t)
+  pub local_part : {site : Site} {place : Option Place} {e : Element} {t : Tree} {before z s : State} (name : Text)
+      → law.ComesTo site e before → law.IsWell z → partial_in z.blocks name ≡ Some t → law.Fits site s → law.IsWell s
+      → law.IsPart (One site place e) 1 s (Whole (included_at site t) t)
+  pub registered_part : {site : Site} {place : Option Place} {e : Element} {t : Tree} {before s : State} (name : Text)
+      → law.ComesTo site e before → p.parts.template name ≡ Some t → law.Fits site s → law.IsWell s
+      → law.IsPart (One site place e) 1 s (Whole (included_at site t) t)
+  -- what is written
+  pub text_written : {site : Site} {t : Text} {s : State} → law.ComesTo site (raw_string t) s → law.IsWell s
+      → law.MayWrite (put (of_text site) s.indent t s.line).0
+  pub value_written : {site : Site} {e : Element} {block : Bool} {c : Call} {before s : State} {v : CallView}
+      {found : Found} (t : Text) → ComesToCall p law site e block c before v → WritesValue p block c before v found
+      → law.Fits site s → s.escapes ≡ true → Shows p s true found t → law.IsWell s
+      → law.MayWrite (put (of_value site found) s.indent t s.line).0
+  pub raw_written : {site : Site} {e : Element} {block : Bool} {c : Call} {before s : State} {v : CallView} {found : Found}
+      → ComesToCall p law site e block c before v → WritesValue p block c before v found → law.Fits site s
+      → s.escapes ≡ false → law.IsWell s
+      → law.MayWrite (put (of_raw site found) s.indent (rendered_if_any (present_in found)) s.line).0
+  pub word_written : {site : Site} {e : Element} {c : Call} {s : State} {v : CallView} (b : Bool)
+      → ComesToCall p law site e false c s v → Chooses p false c s v (the_word b)
+      → law.MayWrite (record { origin = of_word site b; text = word b } ∷ [])
+  pub step_written : {site : Site} {e : Element} {block : Bool} {c : Call} {s : State} {v : CallView} {all : List Step}
+      (i : ℕ) (t : Text) → ComesToCall p law site e block c s v → Chooses p block c s v (the_steps all)
+      → slice_get all i ≡ Some (writes t) → law.MayWrite (pieces_of (of_step site i) t)

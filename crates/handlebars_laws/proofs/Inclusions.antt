@@ -1,0 +1,179 @@
+-- What a law says holds of inclusions. The block of a tag is its part 0, and the tree that was found is its part 1.
+use Rattle.std.proofs.Common.{◌≡◌, ℕ, ◌+◌, ◌≤◌, List, [], ◌∷◌, Bool, true, false, refl, ap, ◌∙◌, Option, Some, None, arith}
+use Rattle.std.specs.Str.{bytes_eq}
+use Rattle.serde_json.specs.Data.{Data}
+use Rattle.handlebars_base.specs.PathAndData.{PathAndData}
+use Rattle.handlebars_base.specs.Scoped.{data_in}
+use Rattle.handlebars_template.specs.Place.{Place}
+use Rattle.handlebars_template.specs.Tree.{Tree, Element, Decorator, decorator_name, decorator_args, decorator_body, decorator_marks, Body, no_body, body}
+use Rattle.handlebars_helpers.specs.CallView.{CallView}
+use Rattle.handlebars_helpers.specs.Decoration.{DecoratorView}
+use Rattle.handlebars_meaning.specs.Inclusion.{Partial, is_local, is_registered, is_own_block, is_nowhere, is_current, newest, pair_values, inclusion_block, begun, named_as_before, over, found_by, local_or_other}
+use Rattle.handlebars_meaning.specs.Including.{render_own_block, write_kept, partial_block_name, here, base_value, render_ahead, include_tree, include_partial, include_other, include_named}
+use Rattle.handlebars_meaning.specs.Means.{line_at, shown_tag, include_tag, render_partial}
+use Rattle.handlebars_meaning.specs.Origins.{tree_in, inclusion_tag}
+use Rattle.handlebars_meaning.specs.Pieces.{Piece}
+use Rattle.handlebars_meaning.specs.Questions.{value_of, view_of}
+use Rattle.handlebars_meaning.specs.Sites.{TreeSite, body_at, included_at, Site}
+use Rattle.handlebars_meaning.specs.State.{Setting, State, entered, nearest_variables, partial_in}
+use Rattle.handlebars_meaning.specs.Steps.{Task, One, Whole, Steps, Get, Set, Do, Prog, return, ◌>>=◌, ◌>>◌}
+use Rattle.handlebars_laws.proofs.Closed.{ComesToTag, MayKeep, body_of-tag, Closed}
+use Rattle.handlebars_laws.proofs.Law.{Law, Holds}
+use Rattle.handlebars_laws.proofs.Programs.{upto, any, After, Leads, answer-holds, on_line-holds}
+
+-- ---- what is found: a local partial, a registered tree, or the tag's own block
+
+local_found : Partial → Option Tree
+local_found (is_local t) = Some t
+local_found found = None
+
+registered_found : Partial → Option Tree
+registered_found (is_registered t) = Some t
+registered_found found = None
+
+own_found : Partial → Body
+own_found (is_own_block t) = body t
+own_found found = no_body
+
+local_or_other-local : (l o : Option Tree) (b : Body) (t : Tree) → local_or_other l o b ≡ is_local t → l ≡ Some t
+unfolding local_found
+local_or_other-local (Some x) o b t is = ap local_found is
+local_or_other-local None (Some x) b t is = ap local_found is
+local_or_other-local None None no_body t is = ap local_found is
+local_or_other-local None None (body x) t is = ap local_found is
+
+local_or_other-registered : (l o : Option Tree) (b : Body) (t : Tree) → local_or_other l o b ≡ is_registered t
+    → o ≡ Some t
+unfolding registered_found
+local_or_other-registered (Some x) o b t is = cc
+local_or_other-registered None (Some x) b t is = ap registered_found is
+local_or_other-registered None None no_body t is = ap registered_found is
+local_or_other-registered None None (body x) t is = ap registered_found is
+
+local_or_other-own : (l o : Option Tree) (b : Body) (t : Tree) → local_or_other l o b ≡ is_own_block t → b ≡ body t
+unfolding own_found
+local_or_other-own (Some x) o b t is = cc
+local_or_other-own None (Some x) b t is = cc
+local_or_other-own None None no_body t is = ap own_found is
+local_or_other-own None None (body x) t is = ap own_found is
+
+-- ---- the tag of an inclusion, to which the run came in a state before
+
+module _ (p : Setting) (law : Law) (closed : Closed p law) (site : Site) (place : Option Place) (e : Element)
+    (t : Decorator) (tag : inclusion_tag e ≡ Some t) (before : State) (comes : law.ComesTo site e before) where
+  abbrev this : Task
+  this = One site place e
+
+  abbrev Goes : State → Prog (Unit {0}) → Type 1
+  Goes s m = Leads p law this 0 any s m
+
+  tagged : ComesToTag law site e t before
+  tagged = record { comes = comes; tag = tag }
+
+  -- ---- the block of the tag
+
+  block_part : (x : Tree) → decorator_body t ≡ body x → (s : State) → law.Fits site s → law.IsWell s
+      → law.IsPart this 0 s (Whole (body_at site 0) x)
+  block_part x is s fits h = closed.body_part 0 comes (body_of-tag e t tag ∙ ap tree_in is) fits h
+
+  render_own_block-holds : (b : Body) → decorator_body t ≡ b → (s : State) → law.Fits site s
+      → Goes s (render_own_block site b s)
+  unfolding ◌>>=◌ ◌>>◌
+  render_own_block-holds no_body is s fits h end i le next g = tt
+  render_own_block-holds (body x) is s fits h end i le next g =
+      (0, le, block_part x is s fits h, λ n same. g 1 (named_as_before s n) tt (closed.own_next h same))
+
+  write_kept-holds : (s : State) (kept : Option (List Piece)) → law.Fits site s → MayKeep law.MayWrite kept
+      → Goes s (write_kept site (decorator_body t) s kept)
+  write_kept-holds s None fits may = render_own_block-holds (decorator_body t) refl s fits
+  write_kept-holds s (Some ps) fits may = λ h end i le next g. (may, g i s tt (closed.same_next h))
+
+  -- The block is rendered ahead, or none is, and the number is then up to this one.
+  abbrev LeadsAhead : ℕ → Prog (Option (List Piece)) → Type 1
+  LeadsAhead m ahead = (s : State) → law.Fits site s → law.IsWell s → (end : ℕ → State → Type 0) (i : ℕ) → i ≤ 0
+      → (next : Option (List Piece) → Steps)
+      → ((kept : Option (List Piece)) → MayKeep law.MayWrite kept → After p law this end (upto m) s (next kept))
+      → Holds p law this end i s (ahead next)
+
+  render_ahead-leads : (b : Body) → decorator_body t ≡ b → LeadsAhead 1 (render_ahead site b)
+  unfolding ◌>>=◌
+  render_ahead-leads no_body is s fits h end i le next g = g None tt i s (omega (arith, le)) (closed.same_next h)
+  render_ahead-leads (body x) is s fits h end i le next g =
+      (0, le, block_part x is s fits h, λ n same ps written. g (Some ps) written 1 n (omega arith) same)
+
+  return-leads : LeadsAhead 0 (return None)
+  return-leads s fits h end i le next g = g None tt i s le (closed.same_next h)
+
+  -- ---- what is included
+
+  base_value-holds : (s : State) (xs : List PathAndData) (end : ℕ → State → Type 0) (i : ℕ) (next : Data → Steps)
+      → ((d : Data) → Holds p law this end i s (next d)) → Holds p law this end i s (base_value xs next)
+  unfolding ◌>>=◌
+  base_value-holds s [] end i next g = answer-holds p law this end i s (value_of here) _ (λ found is. g (data_in found))
+  base_value-holds s (x ∷ xs) end i next g = g (data_in x.found)
+
+  module _ (s : State) (v : CallView) where
+    abbrev view : DecoratorView
+    view = shown_tag s.indent t v
+
+    -- the block of the inclusion is entered, at this value; and what follows the block that was rendered ahead
+    abbrev block_of : Data → State → State
+    block_of d z = entered (inclusion_block d (pair_values v.pairs) (nearest_variables z.blocks)) z
+
+    abbrev behind_ahead : TreeSite → Tree → (Unit {0} → Steps) → Option (List Piece) → Steps
+    behind_ahead at x next kept =
+        Get (λ n. Set (begun view.indent kept n) (Do (Whole at x) (Get (λ z. Set (over s z) (next tt)))))
+
+    include_tree-holds : (m : ℕ) (at : TreeSite) (x : Tree) (ahead : Prog (Option (List Piece)))
+        → ((n : State) → law.Fits site n → law.IsWell n → law.IsPart this m n (Whole at x)) → law.Fits site s
+        → LeadsAhead m ahead → Goes s (include_tree view at x ahead)
+    unfolding ◌>>=◌ ◌>>◌
+    include_tree-holds m at x ahead part fits leads h end i le next g =
+        base_value-holds s v.params end i (λ d. Get (λ z. Set (block_of d z) (ahead (behind_ahead at x next)))) (λ d.
+        leads (block_of d s) (closed.block_fits fits)
+        (closed.block_well (closed.inclusion_enters d (pair_values v.pairs) (nearest_variables s.blocks)) h) end i le
+        (behind_ahead at x next) (λ kept may j n far is. (
+          m,
+          far,
+          part (begun view.indent kept n) (closed.begun_fits (closed.next_fits (closed.block_fits fits) is))
+              (closed.begun_well tagged h is may),
+          λ z last. g (m + 1) (over s z) tt (closed.over_next h is last),
+        )))
+
+    include_partial-holds : (found : Partial) → found_by p.parts s v.name (decorator_body t) ≡ found → law.IsWell s
+        → law.Fits site s → Goes s (include_partial site view found)
+    include_partial-holds (is_local x) is well fits =
+        include_tree-holds 1 (included_at site x) x (render_ahead site (decorator_body t))
+        (λ n fit h. closed.local_part v.name comes well (local_or_other-local (partial_in s.blocks v.name)
+        (p.parts.template v.name) (decorator_body t) x is) fit h) fits
+        (render_ahead-leads (decorator_body t) refl)
+    include_partial-holds (is_registered x) is well fits =
+        include_tree-holds 1 (included_at site x) x (render_ahead site (decorator_body t))
+        (λ n fit h. closed.registered_part v.name comes (local_or_other-registered (partial_in s.blocks v.name)
+        (p.parts.template v.name) (decorator_body t) x is) fit h) fits
+        (render_ahead-leads (decorator_body t) refl)
+    include_partial-holds (is_own_block x) is well fits = include_tree-holds 0 (body_at site 0) x (return None)
+        (λ n fit h. block_part x (local_or_other-own (partial_in s.blocks v.name) (p.parts.template v.name)
+        (decorator_body t) x is) n fit h) fits return-leads
+    include_partial-holds is_nowhere is well fits = λ h end i le next g. tt
+
+    include_other-holds : (is_kept : Bool) → law.IsWell s → law.Fits site s
+        → Goes s (include_other site view (found_by p.parts s v.name (decorator_body t)) s is_kept)
+    include_other-holds true well fits = write_kept-holds s (newest s.kept) fits (closed.newest_keeps well)
+    include_other-holds false well fits = include_partial-holds _ refl well fits
+
+    include_named-holds : (is_itself : Bool) → law.IsWell s → law.Fits site s
+        → Goes s (include_named site view (found_by p.parts s v.name (decorator_body t)) s is_itself)
+    include_named-holds true well fits = λ h end i le next g. tt
+    include_named-holds false well fits = include_other-holds (bytes_eq partial_block_name v.name) well fits
+
+  include_tag-holds : (s : State) (v : CallView) → law.Fits site s → Goes s (include_tag site t v)
+  unfolding ◌>>=◌
+  include_tag-holds s v fits h = include_named-holds s v (is_current v.name s.current) h fits h
+
+  pub render_partial-holds : law.Fits site before → Goes before (render_partial site t)
+  unfolding ◌>>=◌
+  render_partial-holds fits h end i le next g =
+      answer-holds p law this end i before (view_of (decorator_name t) (decorator_args t)) _ (λ v viewed.
+      on_line-holds p law closed this before (line_at (decorator_marks t)) (include_tag site t v)
+      (include_tag-holds _ v (closed.next_fits fits (closed.line_next _ h))) h end i le next g)

@@ -1,0 +1,121 @@
+-- Pieces that have origins: fronts of them, and those of a text that is put.
+use Rattle.std.proofs.Common.{◌≡◌, List, [], ◌∷◌, Bool, true, false, Option, Some, unwrap_or, if◌then◌else◌}
+use Rattle.std.specs.List.{AllByRecursion}
+use Rattle.handlebars_base.specs.Bytes.{Text}
+use Rattle.handlebars_base.specs.Outputs.{IsBeginning}
+use Rattle.handlebars_base.specs.Values.{word}
+use Rattle.handlebars_template.specs.Tree.{Tree, Element}
+use Rattle.handlebars_scope.specs.Indentation.{lines_of, takes_indent}
+use Rattle.handlebars_scope.specs.LineState.{LineState}
+use Rattle.handlebars_meaning.specs.Origins.{IsWithin, element_at, IsVisited, AreIndents, ComesFrom, HasOrigin, HaveOrigins}
+use Rattle.handlebars_meaning.specs.Pieces.{Origin, of_text, of_value, of_raw, of_word, of_step, of_indent, site_of, Piece, pieces_of, indent_pieces, pieces_between, pieces_before, put}
+use Rattle.handlebars_meaning.specs.Runs.{Front, none, cut_off, more}
+use Rattle.handlebars_meaning.specs.State.{Setting}
+use Rattle.handlebars_meaning.specs.Visits.{Visit}
+use Rattle.handlebars_laws.proofs.Lists.{All-weaker, All-append}
+use Rattle.handlebars_laws.proofs.Within.{beginning_within, all_begins, beginning_beginning, lines_within}
+
+module _ (p : Setting) (u : Tree) (vs : List Visit) where
+  -- ---- fronts
+
+  ComesFrom-front : (o : Origin) (a b : Text) → IsBeginning a b → ComesFrom p u vs o b → ComesFrom p u vs o a
+  ComesFrom-front (of_text site) a b c h = record {
+    all = h.all;
+    stands = h.stands;
+    state = h.state;
+    reached = h.reached;
+    is = beginning_within a b h.all c h.is;
+  }
+  ComesFrom-front (of_value site v) a b c h = record {
+    block = h.block;
+    helper = h.helper;
+    state = h.state;
+    view = h.view;
+    called = h.called;
+    is_raw = h.is_raw;
+    writes = h.writes;
+    all = h.all;
+    shows = h.shows;
+    is = beginning_within a b h.all c h.is;
+  }
+  ComesFrom-front (of_raw site v) a b c h = record {
+    block = h.block;
+    helper = h.helper;
+    state = h.state;
+    view = h.view;
+    called = h.called;
+    is_raw = h.is_raw;
+    writes = h.writes;
+    all = h.all;
+    shows = h.shows;
+    is = beginning_within a b h.all c h.is;
+  }
+  ComesFrom-front (of_word site w) a b c h = record {
+    helper = h.helper;
+    state = h.state;
+    view = h.view;
+    called = h.called;
+    says = h.says;
+    is = beginning_beginning a b (word w) c h.is;
+  }
+  ComesFrom-front (of_step site i) a b c h = record {
+    block = h.block;
+    helper = h.helper;
+    state = h.state;
+    view = h.view;
+    called = h.called;
+    steps = h.steps;
+    answers = h.answers;
+    all = h.all;
+    step = h.step;
+    is = beginning_beginning a b h.all c h.is;
+  }
+  ComesFrom-front (of_indent site) a b c h = record {
+    writer = h.writer;
+    stands = h.stands;
+    visited = h.visited;
+    all = h.all;
+    indents = h.indents;
+    is = beginning_beginning a b h.all c h.is;
+  }
+
+  pub HaveOrigins-front : {xs ys : List Piece} → Front xs ys → HaveOrigins p u vs ys → HaveOrigins p u vs xs
+  HaveOrigins-front none h = tt
+  HaveOrigins-front (cut_off {p = x} {t = t} b) h = (ComesFrom-front x.origin t x.text b h.0, tt)
+  HaveOrigins-front (more f) h = (h.0, HaveOrigins-front f h.1)
+
+  -- ---- texts that are put
+
+  pub pieces_of-origins : (o : Origin) (t : Text) → ComesFrom p u vs o t → HaveOrigins p u vs (pieces_of o t)
+  pieces_of-origins o [] h = tt
+  pieces_of-origins o (b ∷ t) h = (h, tt)
+
+  pieces_between-origins : (o : Origin) (ps : List Piece) (ls : List Text) → HaveOrigins p u vs ps
+      → AllByRecursion (ComesFrom p u vs o) ls → HaveOrigins p u vs (pieces_between o ps ls)
+  pieces_between-origins o ps [] h are = tt
+  pieces_between-origins o ps (l ∷ []) h are = (are.0, tt)
+  pieces_between-origins o ps (l ∷ m ∷ ls) h are = (
+    are.0,
+    All-append (HasOrigin p u vs) ps (pieces_between o ps (m ∷ ls)) h (pieces_between-origins o ps (m ∷ ls) h are.1),
+  )
+
+  pieces_if-origins : (b : Bool) (ps : List Piece) → HaveOrigins p u vs ps → HaveOrigins p u vs (if b then ps else [])
+  pieces_if-origins true ps h = h
+  pieces_if-origins false ps h = tt
+
+  -- by an element that stands at its site, to which the run comes
+  pub put-origins : (o : Origin) (i : Option Text) (t : Text) (line : LineState) (e : Element)
+      → element_at u (site_of o) ≡ Some e → IsVisited vs (site_of o) → AreIndents u vs (unwrap_or i [])
+      → ((a : Text) → IsWithin a t → ComesFrom p u vs o a) → HaveOrigins p u vs (put o i t line).0
+  put-origins o i t line e stands visited indents comes =
+      let own = pieces_of-origins (of_indent (site_of o)) (unwrap_or i []) (record {
+        writer = e;
+        stands = stands;
+        visited = visited;
+        all = unwrap_or i [];
+        indents = indents;
+        is = all_begins (unwrap_or i []);
+      }) in
+      All-append (HasOrigin p u vs) (pieces_before o i t line) (pieces_between o (indent_pieces o i) (lines_of t))
+      (pieces_if-origins (takes_indent line t) (indent_pieces o i) own)
+      (pieces_between-origins o (indent_pieces o i) (lines_of t) own (All-weaker (lines_of t) comes (lines_within t)))

@@ -1,0 +1,112 @@
+-- The walk through all that a template can say: what a closed law says holds of each element and of each tree.
+use Rattle.std.proofs.Common.{◌≡◌, ℕ, suc, ◌+◌, List, [], ◌∷◌, true, false, refl, sym, ap, ◌∙◌, Option, Some, arith}
+use Rattle.handlebars_base.specs.Bytes.{Text}
+use Rattle.handlebars_template.specs.Place.{Place}
+use Rattle.handlebars_template.specs.Tree.{tree, Elements, no_elements, element, Element, raw_string, html_expression, expression, helper_block, decorator_expression, decorator_block, partial_expression, partial_block, comment, Decorator, decorator_name, decorator_args, decorator_body, Body, no_body, body}
+use Rattle.handlebars_helpers.specs.Decoration.{Deed, sets_data, binds, unbinds, sets_partial}
+use Rattle.handlebars_meaning.specs.Means.{shown_tag, set_partial, do_deed, do_deeds, render_expression, render_decorator, render_element, render_elements}
+use Rattle.handlebars_meaning.specs.Origins.{nth, decorator_tag}
+use Rattle.handlebars_meaning.specs.Pieces.{of_text}
+use Rattle.handlebars_meaning.specs.Questions.{view_of, decorator_of, deeds_of}
+use Rattle.handlebars_meaning.specs.Sites.{TreeSite, Site}
+use Rattle.handlebars_meaning.specs.State.{Setting, State}
+use Rattle.handlebars_meaning.specs.Steps.{Task, One, Whole, Done, ◌>>=◌, ◌>>◌}
+use Rattle.handlebars_laws.proofs.Calls.{render_call-holds, render_expression-holds}
+use Rattle.handlebars_laws.proofs.Closed.{Closed}
+use Rattle.handlebars_laws.proofs.Inclusions.{render_partial-holds}
+use Rattle.handlebars_laws.proofs.Law.{Law, PlanHolds}
+use Rattle.handlebars_laws.proofs.Programs.{upto, any, Leads, answer-holds, return-holds, write_text-holds, unescaped-holds}
+
+module _ (p : Setting) (law : Law) (closed : Closed p law) where
+  -- ---- decorators
+
+  module _ (site : Site) (place : Option Place) (e : Element) (t : Decorator) (before : State)
+      (comes : law.ComesTo site e before) (tag : decorator_tag e ≡ Some t) where
+    abbrev this : Task
+    this = One site place e
+
+    set_partial-holds : (name : Text) (b : Body) → decorator_body t ≡ b → (s : State)
+        → Leads p law this 0 (upto 0) s (set_partial name b)
+    unfolding ◌>>=◌
+    set_partial-holds name no_body is s h end i le next g = tt
+    set_partial-holds name (body x) is s h end i le next g = g i _ le (closed.partial_next name comes tag is h)
+
+    do_deed-holds : (deed : Deed) (s : State) → Leads p law this 0 (upto 0) s (do_deed (decorator_body t) deed)
+    unfolding ◌>>=◌
+    do_deed-holds (sets_data d) s h end i le next g = g i _ le (closed.data_next d h)
+    do_deed-holds (binds name l) s h end i le next g = g i _ le (closed.local_next name l h)
+    do_deed-holds (unbinds name) s h end i le next g = g i _ le (closed.no_local_next name h)
+    do_deed-holds (sets_partial name) s h end i le next g =
+        set_partial-holds name (decorator_body t) refl s h end i le next g
+
+    do_deeds-hold : (deeds : List Deed) (s : State) → Leads p law this 0 any s (do_deeds (decorator_body t) deeds)
+    unfolding ◌>>◌
+    do_deeds-hold [] s h end i le next g = g i s tt (closed.same_next h)
+    do_deeds-hold (deed ∷ deeds) s h end i le next g =
+        do_deed-holds deed s h end i le (λ u. do_deeds (decorator_body t) deeds next) (λ j n to is.
+        do_deeds-hold deeds n (closed.next_well is) end j to next (λ k z far same. g k z far (closed.then_next is same)))
+
+    render_decorator-holds : (s : State) → Leads p law this 0 any s (render_decorator t)
+    unfolding ◌>>=◌
+    render_decorator-holds s h end i le next g =
+        answer-holds p law this end i s (view_of (decorator_name t) (decorator_args t)) _ (λ v viewed.
+        answer-holds p law this end i s (decorator_of v.name) _ (λ k is.
+        answer-holds p law this end i s (deeds_of k (shown_tag s.indent t v)) _ (λ deeds done.
+        do_deeds-hold deeds s h end i le next g)))
+
+  -- ---- elements
+
+  render_element-holds : (site : Site) (place : Option Place) (e : Element) (s : State) → law.Begins (One site place e) s
+      → law.ComesTo site e s → Leads p law (One site place e) 0 any s (render_element site e)
+  render_element-holds site place (raw_string t) s begins comes =
+      write_text-holds p law closed (One site place (raw_string t)) s (of_text site) t (closed.text_written comes)
+  render_element-holds site place (html_expression c) s begins comes =
+      unescaped-holds p law closed (One site place (html_expression c)) s (render_expression site c)
+      (render_expression-holds p law closed site place (html_expression c) c refl (record s { escapes = false })
+      (closed.raw_comes comes) (closed.begins_raw begins))
+  render_element-holds site place (expression c) s begins comes =
+      render_expression-holds p law closed site place (expression c) c refl s comes (closed.begins_fits begins refl)
+  render_element-holds site place (helper_block c) s begins comes =
+      render_call-holds p law closed site place (helper_block c) true c refl s comes refl (closed.begins_fits begins refl)
+  render_element-holds site place (decorator_expression t) s begins comes =
+      render_decorator-holds site place (decorator_expression t) t s comes refl s
+  render_element-holds site place (decorator_block t) s begins comes =
+      render_decorator-holds site place (decorator_block t) t s comes refl s
+  render_element-holds site place (partial_expression t) s begins comes =
+      render_partial-holds p law closed site place (partial_expression t) t refl s comes (closed.begins_fits begins refl)
+  render_element-holds site place (partial_block t) s begins comes =
+      render_partial-holds p law closed site place (partial_block t) t refl s comes (closed.begins_fits begins refl)
+  render_element-holds site place (comment t) s begins comes =
+      return-holds p law closed (One site place (comment t)) s
+
+  -- ---- trees
+
+  -- these are the elements from an index on
+  AreFrom : Elements → ℕ → Elements → Type 0
+  AreFrom all i es = (k : ℕ) → nth es k ≡ nth all (i + k)
+
+  render_elements-hold : (at : TreeSite) (n : Option Text) (all : Elements) (places : List Place) (s : State)
+      → law.Begins (Whole at (tree n all places)) s → (i : ℕ) (es : Elements) → AreFrom all i es → (z : State)
+      → law.IsNext s z → Leads p law (Whole at (tree n all places)) i any z (render_elements at i es places)
+  unfolding AreFrom ◌>>◌
+  render_elements-hold at n all places s begins i no_elements are z is h end l le next g =
+      g l z tt (closed.same_next h)
+  render_elements-hold at n all places s begins i (element e es) are z is h end l le next g = (
+    i,
+    le,
+    closed.element_part i begins (ap (nth all) (omega arith) ∙ sym (are 0)) is,
+    λ y same. render_elements-hold at n all places s begins (i + 1) es (λ k. are (suc k) ∙ ap (nth all) (omega arith)) y
+        (closed.then_next is same) (closed.next_well same) end (i + 1) (omega arith) next
+        (λ j x to last. g j x to (closed.then_next same last)),
+  )
+
+  pub todo-holds : PlanHolds p law
+  unfolding ◌>>=◌ ◌>>◌ AreFrom
+  todo-holds (One site place e) s begins known =
+      render_element-holds site place e s begins (closed.begins_comes begins known) (closed.begins_well begins)
+      (λ n z. law.IsNext s z) 0 (omega arith) (λ u. Done) (λ j z to is. is)
+  todo-holds (Whole at (tree n es places)) s begins known =
+      let first = closed.name_next n (closed.begins_well begins) in
+      render_elements-hold at n es places s begins 0 es (λ k. ap (nth es) (omega arith)) (record s { current = n }) first
+      (closed.next_well first) (λ j z. law.IsNext s z) 0 (omega arith) (λ u. Done)
+      (λ j z to is. closed.then_next first is)
