@@ -97,9 +97,7 @@ fn answers(rt: &impl Abort, alloc: Global, registry: &Registry, source: &str, wa
 // What is registered keeps the indentation that it was compiled with.
 fn indentation_changes(rt: &impl Abort, alloc: Global, registry: &mut Registry) {
     keep(rt, registry, "old", "a\n  {{> p}}\nb");
-    assert!(rt; !registry.prevent_indent());
     registry.set_prevent_indent(true);
-    assert!(rt; registry.prevent_indent());
     keep(rt, registry, "new", "a\n  {{> p}}\nb");
     answers(rt, alloc, registry, "{{> old}}", r#"Ok("a\n  x\n  y\nb")"#);
     answers(rt, alloc, registry, "{{> new}}", r#"Ok("a\n  x\ny\nb")"#);
@@ -112,9 +110,7 @@ const TOO_MANY: &str =
     r#"Err(RenderError { template_name: None, line_no: Some(1), column_no: Some(1), reason: InclusionLimit(0) })"#;
 
 fn limit_changes(rt: &impl Abort, alloc: Global, registry: &mut Registry) {
-    assert!(rt; registry.inclusion_limit() == 64);
     registry.set_inclusion_limit(0);
-    assert!(rt; registry.inclusion_limit() == 0);
     answers(rt, alloc, registry, "{{> p}}", TOO_MANY);
     registry.set_inclusion_limit(1);
     answers(rt, alloc, registry, "{{> p}}", r#"Ok("x\ny\n")"#);

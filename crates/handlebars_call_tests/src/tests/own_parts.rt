@@ -24,6 +24,10 @@ use log::sink::Discard;
 use std::alloc::Global;
 use std::process::Abort;
 
+fn boxed<T: Drop>(rt: &impl Abort, alloc: Global, part: T) -> Box<T> {
+    Box::new(alloc, part).expect(rt, "memory")
+}
+
 fn puts(rt: &impl Abort, registry: &mut Registry, name: &str, helper: Box<dyn HelperDef>) {
     let answer = registry.register_helper(name, HelperEntry::Own(helper));
     answer.expect(rt, "memory");
@@ -34,22 +38,36 @@ fn decorates(rt: &impl Abort, registry: &mut Registry, name: &str, own: Box<dyn 
     answer.expect(rt, "memory");
 }
 
+// A helper that offers a text.
+fn puts_offered(rt: &impl Abort, alloc: Global, registry: &mut Registry, name: &str, text: &str) {
+    let text = text_of(rt, alloc, text);
+    puts(rt, registry, name, boxed(rt, alloc, Offered { text }));
+}
+
+// A helper that writes a text.
+fn puts_marked(rt: &impl Abort, alloc: Global, registry: &mut Registry) {
+    let text = text_of(rt, alloc, "<");
+    puts(
+        rt,
+        registry,
+        "marked",
+        boxed(rt, alloc, Marked { alloc, text }),
+    );
+}
+
 // What a source gives over the data of a text in JSON.
 fn answers(
     rt: &impl Abort,
     alloc: Global,
     registry: &Registry,
-    source: &str,
     data: &str,
+    source: &str,
     wanted: &str,
 ) {
     let data = data_of(rt, alloc, data);
     let answer = registry.render_template_with_context(source, &data, &Discard, &mut NoFiles);
     is_shown(rt, alloc, answer, wanted);
 }
-
-const MISSING: &str =
-    r#"Err(RenderError { template_name: None, line_no: Some(1), column_no: Some(1), reason: MissingVariable(None) })"#;
 
 // What is asked first in each place, and what comes of it.
 fn are_asked(rt: &impl Abort, alloc: Global, registry: &Registry) {
@@ -70,157 +88,187 @@ fn are_asked(rt: &impl Abort, alloc: Global, registry: &Registry) {
         ("[{{(absent)}}]", r#"Ok("[]")"#),
         ("[{{len (twice)}}]", r#"Ok("[0]")"#),
     ];
-    for (source, wanted) in &rows {
-        answers(rt, alloc, registry, source, "null", wanted);
+    for (source, wanted) in rows {
+        answers(rt, alloc, registry, "null", source, wanted);
     }
+}
+
+const MISSING: &str =
+    r#"Err(RenderError { template_name: None, line_no: Some(1), column_no: Some(1), reason: MissingVariable(None) })"#;
+
+// The hook that is asked in the place of a helper that is not there, or no more.
+fn hook_is_asked(rt: &impl Abort, alloc: Global, registry: &mut Registry) {
+    puts_offered(rt, alloc, registry, "helperMissing", "!");
+    answers(
+        rt,
+        alloc,
+        registry,
+        "null",
+        "{{nope 1}}{{nope}}",
+        r#"Ok("!!")"#,
+    );
+    registry.unregister_helper("twice");
+    answers(rt, alloc, registry, "null", "{{twice}}", r#"Ok("!")"#);
 }
 
 #[test]
 fn helpers_are_asked(rt: HostRuntime) {
     let alloc = rt.alloc();
     let mut registry = Registry::new(alloc).expect(&rt, "memory");
-    let twice: Box<dyn HelperDef> = Box::new(alloc, Twice { alloc }).expect(&rt, "memory");
-    puts(&rt, &mut registry, "twice", twice);
-    let text = text_of(&rt, alloc, "<");
-    let marked: Box<dyn HelperDef> = Box::new(alloc, Marked { alloc, text }).expect(&rt, "memory");
-    puts(&rt, &mut registry, "marked", marked);
-    let text = text_of(&rt, alloc, "<");
-    let offered: Box<dyn HelperDef> = Box::new(alloc, Offered { text }).expect(&rt, "memory");
-    puts(&rt, &mut registry, "offered", offered);
-    let absent: Box<dyn HelperDef> = Box::new(alloc, Absent { alloc }).expect(&rt, "memory");
-    puts(&rt, &mut registry, "absent", absent);
+    puts(
+        &rt,
+        &mut registry,
+        "twice",
+        boxed(&rt, alloc, Twice { alloc }),
+    );
+    puts_marked(&rt, alloc, &mut registry);
+    puts_offered(&rt, alloc, &mut registry, "offered", "<");
+    puts(
+        &rt,
+        &mut registry,
+        "absent",
+        boxed(&rt, alloc, Absent { alloc }),
+    );
     are_asked(&rt, alloc, &registry);
     registry.set_strict_mode(true);
-    answers(&rt, alloc, &registry, "{{absent}}", "null", MISSING);
-    let text = text_of(&rt, alloc, "!");
-    let hook: Box<dyn HelperDef> = Box::new(alloc, Offered { text }).expect(&rt, "memory");
-    puts(&rt, &mut registry, "helperMissing", hook);
+    answers(&rt, alloc, &registry, "null", "{{absent}}", MISSING);
     registry.set_strict_mode(false);
-    answers(
-        &rt,
-        alloc,
-        &registry,
-        "{{nope 1}}{{nope}}",
-        "null",
-        r#"Ok("!!")"#,
-    );
-    registry.unregister_helper("twice");
-    answers(&rt, alloc, &registry, "{{twice}}", "null", r#"Ok("!")"#);
+    hook_is_asked(&rt, alloc, &mut registry);
 }
 
 const GONE: &str =
     r#"Err(RenderError { template_name: None, line_no: Some(1), column_no: Some(7), reason: HelperNotFound("none") })"#;
 
+// A decorator that makes the first name one of the other one.
+fn binds_name(
+    rt: &impl Abort,
+    alloc: Global,
+    registry: &mut Registry,
+    name: &str,
+    names: (&str, &str),
+) {
+    let (local, registered) = names;
+    let binding = Binding {
+        alloc,
+        local: text_of(rt, alloc, local),
+        registered: text_of(rt, alloc, registered),
+    };
+    decorates(rt, registry, name, boxed(rt, alloc, binding));
+}
+
+fn unbinds_name(rt: &impl Abort, alloc: Global, registry: &mut Registry, name: &str, local: &str) {
+    let local = text_of(rt, alloc, local);
+    decorates(
+        rt,
+        registry,
+        name,
+        boxed(rt, alloc, Unbinding { alloc, local }),
+    );
+}
+
+fn are_bound(rt: &impl Abort, alloc: Global, registry: &Registry) {
+    let rows = [
+        (
+            r#"{{distance 4}},{{*foo "miles"}}{{distance 10}},{{*bar}}{{distance 3}}"#,
+            r#"Ok("4m,10miles,3m")"#,
+        ),
+        (
+            r#"{{*foo "miles"}}{{len (distance 10)}}{{#distance 1}}{{/distance}}"#,
+            r#"Ok("71miles")"#,
+        ),
+        ("{{*b}}{{q}}", GONE),
+    ];
+    for (source, wanted) in rows {
+        answers(rt, alloc, registry, "null", source, wanted);
+    }
+}
+
 #[test]
 fn helpers_are_bound(rt: HostRuntime) {
     let alloc = rt.alloc();
     let mut registry = Registry::new(alloc).expect(&rt, "memory");
-    let distance: Box<dyn HelperDef> = Box::new(alloc, Distance { alloc }).expect(&rt, "memory");
-    puts(&rt, &mut registry, "distance", distance);
-    let binding = Binding {
-        alloc,
-        local: text_of(&rt, alloc, "distance"),
-        registered: text_of(&rt, alloc, "distance"),
-    };
-    let foo: Box<dyn DecoratorDef> = Box::new(alloc, binding).expect(&rt, "memory");
-    decorates(&rt, &mut registry, "foo", foo);
-    let local = text_of(&rt, alloc, "distance");
-    let bar: Box<dyn DecoratorDef> = Box::new(alloc, Unbinding { alloc, local }).expect(
-        &rt, "memory",
-    );
-    decorates(&rt, &mut registry, "bar", bar);
-    let source = r#"{{distance 4}},{{*foo "miles"}}{{distance 10}},{{*bar}}{{distance 3}}"#;
-    answers(
+    puts(
         &rt,
-        alloc,
-        &registry,
-        source,
-        "null",
-        r#"Ok("4m,10miles,3m")"#,
+        &mut registry,
+        "distance",
+        boxed(&rt, alloc, Distance { alloc }),
     );
-    let source = r#"{{*foo "miles"}}{{len (distance 10)}}{{#distance 1}}{{/distance}}"#;
-    answers(&rt, alloc, &registry, source, "null", r#"Ok("71miles")"#);
-    let gone = Binding {
-        alloc,
-        local: text_of(&rt, alloc, "q"),
-        registered: text_of(&rt, alloc, "none"),
-    };
-    let b: Box<dyn DecoratorDef> = Box::new(alloc, gone).expect(&rt, "memory");
-    decorates(&rt, &mut registry, "b", b);
-    answers(&rt, alloc, &registry, "{{*b}}{{q}}", "null", GONE);
+    binds_name(&rt, alloc, &mut registry, "foo", ("distance", "distance"));
+    unbinds_name(&rt, alloc, &mut registry, "bar", "distance");
+    binds_name(&rt, alloc, &mut registry, "b", ("q", "none"));
+    are_bound(&rt, alloc, &registry);
 }
 
 const NO_BODY: &str =
     r#"Err(RenderError { template_name: None, line_no: Some(1), column_no: Some(1), reason: BlockContentRequired })"#;
 
+fn sets_data(rt: &impl Abort, alloc: Global, registry: &mut Registry, name: &str, data: &str) {
+    let data = data_of(rt, alloc, data);
+    decorates(
+        rt,
+        registry,
+        name,
+        boxed(rt, alloc, Setting { alloc, data }),
+    );
+}
+
+fn keeps_partial(rt: &impl Abort, alloc: Global, registry: &mut Registry, name: &str) {
+    let partial = text_of(rt, alloc, "p");
+    let keeping = Keeping {
+        alloc,
+        name: partial,
+    };
+    decorates(rt, registry, name, boxed(rt, alloc, keeping));
+}
+
+const WORLD: &str = r#"{"hello":"world","a":{"x":1}}"#;
+
+fn set_data(rt: &impl Abort, alloc: Global, registry: &Registry) {
+    let rows = [
+        ("{{hello}}{{*foo}}{{hello}}", r#"Ok("worldwar")"#),
+        (
+            "{{#with a}}{{x}}{{*foo}}{{x}}{{@root.hello}}{{/with}}",
+            r#"Ok("1war")"#,
+        ),
+        ("{{*keep}}", NO_BODY),
+        ("a{{#*keep}}b{{/keep}}c", r#"Ok("ac")"#),
+    ];
+    for (source, wanted) in rows {
+        answers(rt, alloc, registry, WORLD, source, wanted);
+    }
+}
+
 #[test]
 fn decorators_set_data(rt: HostRuntime) {
     let alloc = rt.alloc();
     let mut registry = Registry::new(alloc).expect(&rt, "memory");
-    let data = data_of(&rt, alloc, r#"{"hello":"war"}"#);
-    let foo: Box<dyn DecoratorDef> = Box::new(alloc, Setting { alloc, data }).expect(&rt, "memory");
-    decorates(&rt, &mut registry, "foo", foo);
-    let name = text_of(&rt, alloc, "p");
-    let keep: Box<dyn DecoratorDef> = Box::new(alloc, Keeping { alloc, name }).expect(
-        &rt, "memory",
-    );
-    decorates(&rt, &mut registry, "keep", keep);
-    let world = r#"{"hello":"world","a":{"x":1}}"#;
-    answers(
-        &rt,
-        alloc,
-        &registry,
-        "{{hello}}{{*foo}}{{hello}}",
-        world,
-        r#"Ok("worldwar")"#,
-    );
-    answers(
-        &rt,
-        alloc,
-        &registry,
-        "{{#with a}}{{x}}{{*foo}}{{x}}{{@root.hello}}{{/with}}",
-        world,
-        r#"Ok("1war")"#,
-    );
-    answers(&rt, alloc, &registry, "{{*keep}}", world, NO_BODY);
-    answers(
-        &rt,
-        alloc,
-        &registry,
-        "a{{#*keep}}b{{/keep}}c",
-        world,
-        r#"Ok("ac")"#,
-    );
+    sets_data(&rt, alloc, &mut registry, "foo", r#"{"hello":"war"}"#);
+    keeps_partial(&rt, alloc, &mut registry, "keep");
+    set_data(&rt, alloc, &registry);
     registry.set_strict_mode(true);
-    answers(&rt, alloc, &registry, "{{*foo}}{{x}}", world, r#"Ok("")"#);
+    answers(&rt, alloc, &registry, WORLD, "{{*foo}}{{x}}", r#"Ok("")"#);
+}
+
+fn doubles(rt: &impl Abort, alloc: Global, registry: &mut Registry) {
+    let doubled: Box<dyn EscapeFn> = boxed(rt, alloc, Doubled { alloc });
+    registry.register_escape_fn(EscapeKind::Own(doubled));
 }
 
 #[test]
 fn escape_functions_are_asked(rt: HostRuntime) {
     let alloc = rt.alloc();
     let mut registry = Registry::new(alloc).expect(&rt, "memory");
-    let doubled: Box<dyn EscapeFn> = Box::new(alloc, Doubled { alloc }).expect(&rt, "memory");
-    registry.register_escape_fn(EscapeKind::Own(doubled));
-    let text = text_of(&rt, alloc, "o");
-    let offered: Box<dyn HelperDef> = Box::new(alloc, Offered { text }).expect(&rt, "memory");
-    puts(&rt, &mut registry, "offered", offered);
+    doubles(&rt, alloc, &mut registry);
+    puts_offered(&rt, alloc, &mut registry, "offered", "o");
     let data = r#"{"x":"<","a":[1,"b"]}"#;
-    answers(
-        &rt,
-        alloc,
-        &registry,
-        "{{x}}{{{x}}} {{a}} {{offered}}",
-        data,
-        r#"Ok("<<< [1, b][1, b] oo")"#,
-    );
+    let source = "{{x}}{{{x}}} {{a}} {{offered}}";
+    let wanted = r#"Ok("<<< [1, b][1, b] oo")"#;
+    answers(&rt, alloc, &registry, data, source, wanted);
     registry.unregister_escape_fn();
-    answers(&rt, alloc, &registry, "{{x}}", data, r#"Ok("&lt;")"#);
+    answers(&rt, alloc, &registry, data, "{{x}}", r#"Ok("&lt;")"#);
 }
 
-#[test]
-fn functions_are_asked(rt: HostRuntime) {
-    let alloc = rt.alloc();
-    let mut registry = Registry::new(alloc).expect(&rt, "memory");
+fn puts_function(rt: &impl Abort, alloc: Global, registry: &mut Registry) {
     let f: HelperFn = Box::new(
         alloc,
         move |h: &Helper, _data: &Context, _changed: &Option<&Context>, _strict: bool| -> FnSteps
@@ -228,9 +276,12 @@ fn functions_are_asked(rt: HostRuntime) {
                 (λ e. refused_for e ≡ out_of_memory) }
         { written(alloc, h) },
     )
-    .expect(&rt, "memory");
+    .expect(rt, "memory");
     let answer = registry.register_helper("written", HelperEntry::Function(FnHelper::new(f)));
-    answer.expect(&rt, "memory");
+    answer.expect(rt, "memory");
+}
+
+fn decorates_with_function(rt: &impl Abort, alloc: Global, registry: &mut Registry) {
     let f: DecoratorFn = Box::new(
         alloc,
         move |_d: &Decorator, _data: &Context, _changed: &Option<
@@ -242,12 +293,18 @@ fn functions_are_asked(rt: HostRuntime) {
                 (λ e. refused_for e ≡ out_of_memory) }
         { renamed(alloc) },
     )
-    .expect(&rt, "memory");
-    let answer = registry.register_decorator(
-        "renamed",
-        DecoratorEntry::Function(FnDecorator::new(f)),
-    );
-    answer.expect(&rt, "memory");
+    .expect(rt, "memory");
+    let entry = DecoratorEntry::Function(FnDecorator::new(f));
+    let answer = registry.register_decorator("renamed", entry);
+    answer.expect(rt, "memory");
+}
+
+#[test]
+fn functions_are_asked(rt: HostRuntime) {
+    let alloc = rt.alloc();
+    let mut registry = Registry::new(alloc).expect(&rt, "memory");
+    puts_function(&rt, alloc, &mut registry);
+    decorates_with_function(&rt, alloc, &mut registry);
     let source = r#"{{written "<"}}{{*renamed}}{{size "abc"}}"#;
-    answers(&rt, alloc, &registry, source, "null", r#"Ok("<3")"#);
+    answers(&rt, alloc, &registry, "null", source, r#"Ok("<3")"#);
 }

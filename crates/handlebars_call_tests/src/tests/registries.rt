@@ -47,14 +47,30 @@ const MISSING: &str =
         reason: MissingVariable(Some(\"no\")) })";
 
 fn mode_changes(rt: &impl Abort, alloc: Global, registry: &mut Registry) {
-    assert!(rt; !registry.strict_mode());
     answers(rt, alloc, registry, "{{no}}", r#"Ok("")"#);
     registry.set_strict_mode(true);
-    assert!(rt; registry.strict_mode());
     answers(rt, alloc, registry, "{{no}}", MISSING);
     registry.set_strict_mode(false);
-    assert!(rt; !registry.strict_mode());
     answers(rt, alloc, registry, "{{no}}", r#"Ok("")"#);
+}
+
+// Whether it is strict, in dev mode, and without indentation, and how many inclusions nest.
+fn is_set(rt: &impl Abort, alloc: Global, registry: &Registry, wanted: &str) {
+    let modes = (registry.strict_mode(), registry.dev_mode());
+    let set = (modes, registry.prevent_indent(), registry.inclusion_limit());
+    is_shown(rt, alloc, set, wanted);
+}
+
+fn settings_are_read_back(rt: &impl Abort, alloc: Global, registry: &mut Registry) {
+    is_set(rt, alloc, registry, "((false, false), false, 64)");
+    registry.set_strict_mode(true);
+    registry.set_dev_mode(true);
+    registry.set_prevent_indent(true);
+    registry.set_inclusion_limit(0);
+    registry.clear_templates();
+    is_set(rt, alloc, registry, "((true, true), true, 0)");
+    registry.set_strict_mode(false);
+    is_set(rt, alloc, registry, "((false, true), true, 0)");
 }
 
 // A call that renders adds no name of its own to the error of its source.
@@ -72,4 +88,5 @@ fn registries_change(rt: HostRuntime) {
     helpers_change(&rt, alloc, &mut registry);
     mode_changes(&rt, alloc, &mut registry);
     source_has_its_own(&rt, alloc, &registry);
+    settings_are_read_back(&rt, alloc, &mut registry);
 }
