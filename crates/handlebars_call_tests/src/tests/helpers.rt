@@ -3,7 +3,8 @@
 //! a value is let go by one call, and so is one that is `Held`.
 
 use handlebars::{
-    Context, JsonValue, Registry, RenderContext, RenderError, Renderable, StringOutput, Template,
+    Context, JsonValue, NoFiles, Registry, RenderContext, RenderError, Renderable, StringOutput,
+    Template,
 };
 use log::sink::Discard;
 use std::alloc::Global;
@@ -46,6 +47,13 @@ impl Bench {
             data: data_of(rt, alloc, data),
             rc: RenderContext::new(alloc, None).expect(rt, "memory"),
         }
+    }
+
+    /// What the registry answers to a source over the data, by its constructors.
+    pub fn answers(&self, rt: &impl Abort, alloc: Global, source: &str, wanted: &str) {
+        let (registry, data) = (&self.registry, &self.data);
+        let answer = registry.render_template_with_context(source, data, &Discard, &mut NoFiles);
+        is_shown(rt, alloc, answer, wanted);
     }
 
     /// The text, or the refusal, that is wanted, by its constructors.
@@ -125,6 +133,11 @@ pub fn prints<T: Display + Drop>(rt: &impl Abort, alloc: Global, value: T, wante
 pub fn is_shown<T: Debug + Drop>(rt: &impl Abort, alloc: Global, value: T, wanted: &str) {
     let text = format!(in alloc; "{value:?}").expect(rt, "memory");
     is_same(rt, text.as_str(), wanted);
+}
+
+/// That there was memory enough.
+pub fn is_taken<T: Drop, E: Drop>(rt: &impl Abort, answer: Result<T, E>) {
+    assert!(rt; answer.is_ok(), "memory");
 }
 
 /// The refusal where there is to be one.

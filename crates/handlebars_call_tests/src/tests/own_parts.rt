@@ -14,13 +14,11 @@ use crate::parts::decorators::{Binding, Keeping, Setting, Unbinding};
 use crate::parts::escape::Doubled;
 use crate::parts::functions::{renamed, written};
 use crate::parts::helpers::{Absent, Distance, Marked, Offered, Twice};
-use crate::tests::helpers::{data_of, is_shown, text_of};
+use crate::tests::helpers::{Bench, data_of, text_of};
 use handlebars::{
     Context, Decorator, DecoratorDef, DecoratorEntry, DecoratorFn, EscapeFn, EscapeKind,
-    FnDecorator, FnDeeds, FnHelper, FnSteps, Helper, HelperDef, HelperEntry, HelperFn, NoFiles,
-    Registry,
+    FnDecorator, FnDeeds, FnHelper, FnSteps, Helper, HelperDef, HelperEntry, HelperFn, Registry,
 };
-use log::sink::Discard;
 use std::alloc::Global;
 use std::process::Abort;
 
@@ -55,22 +53,8 @@ fn puts_marked(rt: &impl Abort, alloc: Global, registry: &mut Registry) {
     );
 }
 
-// What a source gives over the data of a text in JSON.
-fn answers(
-    rt: &impl Abort,
-    alloc: Global,
-    registry: &Registry,
-    data: &str,
-    source: &str,
-    wanted: &str,
-) {
-    let data = data_of(rt, alloc, data);
-    let answer = registry.render_template_with_context(source, &data, &Discard, &mut NoFiles);
-    is_shown(rt, alloc, answer, wanted);
-}
-
 // What is asked first in each place, and what comes of it.
-fn are_asked(rt: &impl Abort, alloc: Global, registry: &Registry) {
+fn are_asked(rt: &impl Abort, alloc: Global, bench: &Bench) {
     let rows = [
         ("{{#twice}}a{{/twice}}", r#"Ok("aa")"#),
         ("[{{twice}}]", r#"Ok("[]")"#),
@@ -89,7 +73,7 @@ fn are_asked(rt: &impl Abort, alloc: Global, registry: &Registry) {
         ("[{{len (twice)}}]", r#"Ok("[0]")"#),
     ];
     for (source, wanted) in rows {
-        answers(rt, alloc, registry, "null", source, wanted);
+        bench.answers(rt, alloc, source, wanted);
     }
 }
 
@@ -97,43 +81,36 @@ const MISSING: &str =
     r#"Err(RenderError { template_name: None, line_no: Some(1), column_no: Some(1), reason: MissingVariable(None) })"#;
 
 // The hook that is asked in the place of a helper that is not there, or no more.
-fn hook_is_asked(rt: &impl Abort, alloc: Global, registry: &mut Registry) {
-    puts_offered(rt, alloc, registry, "helperMissing", "!");
-    answers(
-        rt,
-        alloc,
-        registry,
-        "null",
-        "{{nope 1}}{{nope}}",
-        r#"Ok("!!")"#,
-    );
-    registry.unregister_helper("twice");
-    answers(rt, alloc, registry, "null", "{{twice}}", r#"Ok("!")"#);
+fn hook_is_asked(rt: &impl Abort, alloc: Global, bench: &mut Bench) {
+    puts_offered(rt, alloc, &mut bench.registry, "helperMissing", "!");
+    bench.answers(rt, alloc, "{{nope 1}}{{nope}}", r#"Ok("!!")"#);
+    bench.registry.unregister_helper("twice");
+    bench.answers(rt, alloc, "{{twice}}", r#"Ok("!")"#);
 }
 
 #[test]
 fn helpers_are_asked(rt: HostRuntime) {
     let alloc = rt.alloc();
-    let mut registry = Registry::new(alloc).expect(&rt, "memory");
+    let mut bench = Bench::new(&rt, alloc, "null");
     puts(
         &rt,
-        &mut registry,
+        &mut bench.registry,
         "twice",
         boxed(&rt, alloc, Twice { alloc }),
     );
-    puts_marked(&rt, alloc, &mut registry);
-    puts_offered(&rt, alloc, &mut registry, "offered", "<");
+    puts_marked(&rt, alloc, &mut bench.registry);
+    puts_offered(&rt, alloc, &mut bench.registry, "offered", "<");
     puts(
         &rt,
-        &mut registry,
+        &mut bench.registry,
         "absent",
         boxed(&rt, alloc, Absent { alloc }),
     );
-    are_asked(&rt, alloc, &registry);
-    registry.set_strict_mode(true);
-    answers(&rt, alloc, &registry, "null", "{{absent}}", MISSING);
-    registry.set_strict_mode(false);
-    hook_is_asked(&rt, alloc, &mut registry);
+    are_asked(&rt, alloc, &bench);
+    bench.registry.set_strict_mode(true);
+    bench.answers(&rt, alloc, "{{absent}}", MISSING);
+    bench.registry.set_strict_mode(false);
+    hook_is_asked(&rt, alloc, &mut bench);
 }
 
 const GONE: &str =
@@ -166,7 +143,7 @@ fn unbinds_name(rt: &impl Abort, alloc: Global, registry: &mut Registry, name: &
     );
 }
 
-fn are_bound(rt: &impl Abort, alloc: Global, registry: &Registry) {
+fn are_bound(rt: &impl Abort, alloc: Global, bench: &Bench) {
     let rows = [
         (
             r#"{{distance 4}},{{*foo "miles"}}{{distance 10}},{{*bar}}{{distance 3}}"#,
@@ -179,24 +156,30 @@ fn are_bound(rt: &impl Abort, alloc: Global, registry: &Registry) {
         ("{{*b}}{{q}}", GONE),
     ];
     for (source, wanted) in rows {
-        answers(rt, alloc, registry, "null", source, wanted);
+        bench.answers(rt, alloc, source, wanted);
     }
 }
 
 #[test]
 fn helpers_are_bound(rt: HostRuntime) {
     let alloc = rt.alloc();
-    let mut registry = Registry::new(alloc).expect(&rt, "memory");
+    let mut bench = Bench::new(&rt, alloc, "null");
     puts(
         &rt,
-        &mut registry,
+        &mut bench.registry,
         "distance",
         boxed(&rt, alloc, Distance { alloc }),
     );
-    binds_name(&rt, alloc, &mut registry, "foo", ("distance", "distance"));
-    unbinds_name(&rt, alloc, &mut registry, "bar", "distance");
-    binds_name(&rt, alloc, &mut registry, "b", ("q", "none"));
-    are_bound(&rt, alloc, &registry);
+    binds_name(
+        &rt,
+        alloc,
+        &mut bench.registry,
+        "foo",
+        ("distance", "distance"),
+    );
+    unbinds_name(&rt, alloc, &mut bench.registry, "bar", "distance");
+    binds_name(&rt, alloc, &mut bench.registry, "b", ("q", "none"));
+    are_bound(&rt, alloc, &bench);
 }
 
 const NO_BODY: &str =
@@ -223,7 +206,7 @@ fn keeps_partial(rt: &impl Abort, alloc: Global, registry: &mut Registry, name: 
 
 const WORLD: &str = r#"{"hello":"world","a":{"x":1}}"#;
 
-fn set_data(rt: &impl Abort, alloc: Global, registry: &Registry) {
+fn set_data(rt: &impl Abort, alloc: Global, bench: &Bench) {
     let rows = [
         ("{{hello}}{{*foo}}{{hello}}", r#"Ok("worldwar")"#),
         (
@@ -234,19 +217,19 @@ fn set_data(rt: &impl Abort, alloc: Global, registry: &Registry) {
         ("a{{#*keep}}b{{/keep}}c", r#"Ok("ac")"#),
     ];
     for (source, wanted) in rows {
-        answers(rt, alloc, registry, WORLD, source, wanted);
+        bench.answers(rt, alloc, source, wanted);
     }
 }
 
 #[test]
 fn decorators_set_data(rt: HostRuntime) {
     let alloc = rt.alloc();
-    let mut registry = Registry::new(alloc).expect(&rt, "memory");
-    sets_data(&rt, alloc, &mut registry, "foo", r#"{"hello":"war"}"#);
-    keeps_partial(&rt, alloc, &mut registry, "keep");
-    set_data(&rt, alloc, &registry);
-    registry.set_strict_mode(true);
-    answers(&rt, alloc, &registry, WORLD, "{{*foo}}{{x}}", r#"Ok("")"#);
+    let mut bench = Bench::new(&rt, alloc, WORLD);
+    sets_data(&rt, alloc, &mut bench.registry, "foo", r#"{"hello":"war"}"#);
+    keeps_partial(&rt, alloc, &mut bench.registry, "keep");
+    set_data(&rt, alloc, &bench);
+    bench.registry.set_strict_mode(true);
+    bench.answers(&rt, alloc, "{{*foo}}{{x}}", r#"Ok("")"#);
 }
 
 fn doubles(rt: &impl Abort, alloc: Global, registry: &mut Registry) {
@@ -257,15 +240,14 @@ fn doubles(rt: &impl Abort, alloc: Global, registry: &mut Registry) {
 #[test]
 fn escape_functions_are_asked(rt: HostRuntime) {
     let alloc = rt.alloc();
-    let mut registry = Registry::new(alloc).expect(&rt, "memory");
-    doubles(&rt, alloc, &mut registry);
-    puts_offered(&rt, alloc, &mut registry, "offered", "o");
-    let data = r#"{"x":"<","a":[1,"b"]}"#;
+    let mut bench = Bench::new(&rt, alloc, r#"{"x":"<","a":[1,"b"]}"#);
+    doubles(&rt, alloc, &mut bench.registry);
+    puts_offered(&rt, alloc, &mut bench.registry, "offered", "o");
     let source = "{{x}}{{{x}}} {{a}} {{offered}}";
     let wanted = r#"Ok("<<< [1, b][1, b] oo")"#;
-    answers(&rt, alloc, &registry, data, source, wanted);
-    registry.unregister_escape_fn();
-    answers(&rt, alloc, &registry, data, "{{x}}", r#"Ok("&lt;")"#);
+    bench.answers(&rt, alloc, source, wanted);
+    bench.registry.unregister_escape_fn();
+    bench.answers(&rt, alloc, "{{x}}", r#"Ok("&lt;")"#);
 }
 
 fn puts_function(rt: &impl Abort, alloc: Global, registry: &mut Registry) {
@@ -302,9 +284,9 @@ fn decorates_with_function(rt: &impl Abort, alloc: Global, registry: &mut Regist
 #[test]
 fn functions_are_asked(rt: HostRuntime) {
     let alloc = rt.alloc();
-    let mut registry = Registry::new(alloc).expect(&rt, "memory");
-    puts_function(&rt, alloc, &mut registry);
-    decorates_with_function(&rt, alloc, &mut registry);
+    let mut bench = Bench::new(&rt, alloc, "null");
+    puts_function(&rt, alloc, &mut bench.registry);
+    decorates_with_function(&rt, alloc, &mut bench.registry);
     let source = r#"{{written "<"}}{{*renamed}}{{size "abc"}}"#;
-    answers(&rt, alloc, &registry, "null", source, r#"Ok("<3")"#);
+    bench.answers(&rt, alloc, source, r#"Ok("<3")"#);
 }

@@ -2,7 +2,7 @@
 
 use crate::memory::Texts;
 use crate::pages::{rendered_anew, rendered_as_registered, write_page};
-use crate::tests::helpers::{is_same, is_shown};
+use crate::tests::helpers::{is_same, is_shown, is_taken};
 use handlebars::{Context, FileReader, Registry, TemplateReader};
 use log::sink::Discard;
 use std::collections::BTreeMap;
@@ -25,8 +25,7 @@ fn page_is_written(rt: HostRuntime) {
 fn put(rt: &impl Abort, files: &mut Texts, path: &str, text: &str) {
     let path = String::from_str(files.alloc, path).expect(rt, "memory");
     let text = String::from_str(files.alloc, text).expect(rt, "memory");
-    let before: Result<_, _> = files.texts.insert(path, text);
-    let _ = before.expect(rt, "memory");
+    is_taken(rt, files.texts.insert(path, text));
 }
 
 #[test]

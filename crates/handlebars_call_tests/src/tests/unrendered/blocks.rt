@@ -31,8 +31,7 @@ fn variables(rt: &impl Abort, alloc: Global) -> LocalVars {
     variables
 }
 
-fn variables_are_read_back(rt: &impl Abort, alloc: Global) {
-    let copy = variables(rt, alloc).clone().expect(rt, "memory");
+fn are_set(rt: &impl Abort, alloc: Global, variables: &LocalVars) {
     let rows = [
         ("first", r#"Some(String("first"))"#),
         ("last", r#"Some(String("last"))"#),
@@ -43,8 +42,13 @@ fn variables_are_read_back(rt: &impl Abort, alloc: Global) {
         ("none", "None"),
     ];
     for (name, wanted) in rows {
-        is_shown(rt, alloc, copy.get(name), wanted);
+        is_shown(rt, alloc, variables.get(name), wanted);
     }
+}
+
+fn variables_are_read_back(rt: &impl Abort, alloc: Global) {
+    let copy = variables(rt, alloc).clone().expect(rt, "memory");
+    are_set(rt, alloc, &copy);
 }
 
 // What a name is bound to: a path or a value.

@@ -16,14 +16,19 @@ fn data_are_wrapped(rt: &impl Abort, alloc: Global) {
     says(rt, alloc, error, OUTSIDE);
 }
 
-// Refused data changes nothing, and other data of a copy nothing of what was copied.
+// Refused data changes nothing.
+fn data_are_set(rt: &impl Abort, alloc: Global, data: &mut Context) {
+    let error = refused(rt, data.set_data(json_of(rt, alloc, "1.5")));
+    says(rt, alloc, error, OUTSIDE);
+    is_shown(rt, alloc, data.data(), r#"String("a")"#);
+    data.set_data(JsonValue::Bool(true)).expect(rt, "data");
+}
+
+// Other data of a copy change nothing of what was copied.
 fn data_are_kept(rt: &impl Abort, alloc: Global) {
     let data = Context::wraps(alloc, &"a").expect(rt, "data");
     let mut copy = data.clone(alloc).expect(rt, "memory");
-    let error = refused(rt, copy.set_data(json_of(rt, alloc, "1.5")));
-    says(rt, alloc, error, OUTSIDE);
-    is_shown(rt, alloc, copy.data(), r#"String("a")"#);
-    copy.set_data(JsonValue::Bool(true)).expect(rt, "data");
+    data_are_set(rt, alloc, &mut copy);
     let both = (data.data(), copy.data());
     is_shown(rt, alloc, both, r#"(String("a"), Bool(true))"#);
 }

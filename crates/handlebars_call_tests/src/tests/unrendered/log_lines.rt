@@ -1,6 +1,6 @@
 //! The line of a call of `log` that is made by hand; other lines are rows.
 
-use crate::tests::helpers::{is_shown, text_of};
+use crate::tests::helpers::{is_shown, is_taken, text_of};
 use handlebars::{Helper, JsonValue, PathAndJson, ScopedJson, log_record};
 use std::alloc::Global;
 use std::borrow::CowStr;
@@ -20,11 +20,10 @@ fn number_at(rt: &impl Abort, alloc: Global, path: &str) -> PathAndJson<'static>
 // `{{log a "b" level="warn"}}`, where `a` is 1.
 fn log_call(rt: &impl Abort, alloc: Global) -> Helper<'static> {
     let mut hash = BTreeMap::new(alloc);
-    let set: Result<_, _> = hash.insert("level", text_at(rt, alloc, "warn"));
-    set.expect(rt, "memory");
+    is_taken(rt, hash.insert("level", text_at(rt, alloc, "warn")));
     let mut params = Vec::new(alloc);
-    params.push(number_at(rt, alloc, "a")).expect(rt, "memory");
-    params.push(text_at(rt, alloc, "b")).expect(rt, "memory");
+    is_taken(rt, params.push(number_at(rt, alloc, "a")));
+    is_taken(rt, params.push(text_at(rt, alloc, "b")));
     let name = CowStr::Borrowed("log");
     Helper::new(name, params, hash, None, None, None, false)
 }

@@ -1,6 +1,6 @@
 //! Trees that are made by hand.
 
-use crate::tests::helpers::{Held, compiled, is_shown, text_of};
+use crate::tests::helpers::{Held, compiled, is_shown, is_taken, text_of};
 use handlebars::{
     DecoratorTemplate, ExpressionSpec, HelperTemplate, Parameter, Subexpression, Template,
     TemplateElement,
@@ -16,8 +16,8 @@ fn parsed(rt: &impl Abort, alloc: Global, text: &str) -> Parameter {
 // A pair of `k` with 1.
 fn pair(rt: &impl Abort, alloc: Global) -> BTreeMap<String, Parameter> {
     let mut hash = BTreeMap::new(alloc);
-    let set: Result<_, _> = hash.insert(text_of(rt, alloc, "k"), parsed(rt, alloc, "1"));
-    set.expect(rt, "memory");
+    let (key, value) = (text_of(rt, alloc, "k"), parsed(rt, alloc, "1"));
+    is_taken(rt, hash.insert(key, value));
     hash
 }
 
