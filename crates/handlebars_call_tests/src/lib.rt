@@ -1,4 +1,4 @@
-//! A caller of the engine, proved, and tests of calls.
+//! Callers of the engine, proved, and tests of what no row says.
 #![tactic(auto)]
 
 pub mod caller;

@@ -1,10 +1,10 @@
-//! What no row says: renderings of trees by hand, contexts that are used again, a caller's own readers.
+//! What no row says: renderings of trees by hand, contexts that are used again, a caller's own readers and parts; and
+//! what calls give that render nothing.
 
 mod blocks_of_scope;
 mod changes;
 mod contexts;
 mod decorators;
-mod files;
 mod helpers;
 mod inclusions;
 mod names;
@@ -12,4 +12,5 @@ mod own_parts;
 mod pages;
 mod registries;
 mod trees;
+mod unrendered;
 mod writers;

@@ -1,11 +1,9 @@
 //! Render contexts that are used more than once.
 
 use crate::caller::rendered_again;
-use crate::tests::helpers::{Bench, Held, compiled, is_same, is_shown, refuses, text_of};
+use crate::tests::helpers::{Bench, Held, compiled, is_same, is_shown, refused, says, text_of};
 use handlebars::template::{Parameter, TemplateElement};
-use handlebars::{
-    Expand, Output, PathAndJson, RenderContext, StringOutput, Template, indent_aware_write,
-};
+use handlebars::{Expand, Output, RenderContext, StringOutput, Template, indent_aware_write};
 use log::sink::Discard;
 use std::alloc::Global;
 use std::process::Abort;
@@ -136,40 +134,26 @@ fn fails_alone(rt: &impl Abort, alloc: Global, good: &Template, bad: &Template) 
 }
 
 // Its path as written, its place in the data, its value, the constant, and whether it is missing.
-fn tells(rt: &impl Abort, alloc: Global, given: &PathAndJson<'_>, wanted: &str) {
-    let places = (given.relative_path(), given.context_path());
-    let constant = given.try_get_constant_value();
-    let missing = given.is_value_missing();
-    is_shown(
-        rt,
-        alloc,
-        (places, given.value(), constant, missing),
-        wanted,
-    );
-}
-
 fn expands(rt: &impl Abort, alloc: Global, bench: &mut Bench, name: &Parameter) {
     let given = name.expand(alloc, &bench.registry, &bench.data, &mut bench.rc, &Discard);
     let given = given.expect(rt, "no refusal");
+    let places = (given.relative_path(), given.context_path());
+    let constant = given.try_get_constant_value();
+    let told = (places, given.value(), constant, given.is_value_missing());
     let wanted = r#"((Some("n"), None), Null, None, true)"#;
-    tells(rt, alloc, &given, wanted);
+    is_shown(rt, alloc, told, wanted);
 }
-
-const NO_HELPER: &str =
-    r#"RenderError { template_name: None, line_no: None, column_no: None, reason: HelperNotFound("f") }"#;
 
 fn expands_no_call(rt: &impl Abort, alloc: Global, bench: &mut Bench, call: &Parameter) {
     let answer = call.expand(alloc, &bench.registry, &bench.data, &mut bench.rc, &Discard);
-    refuses(rt, alloc, answer, NO_HELPER);
+    let wanted = r#"(HelperNotFound("f"), None, None, None)"#;
+    says(rt, alloc, refused(rt, answer), wanted);
     assert!(rt; bench.rc.has_failed());
 }
 
-const HAS_FAILED: &str =
-    "RenderError { template_name: None, line_no: None, column_no: None, reason: Failed }";
-
 fn expands_no_name(rt: &impl Abort, alloc: Global, bench: &mut Bench, name: &Parameter) {
     let answer = name.expand_as_name(alloc, &bench.registry, &bench.data, &mut bench.rc, &Discard);
-    refuses(rt, alloc, answer, HAS_FAILED);
+    says(rt, alloc, refused(rt, answer), "(Failed, None, None, None)");
 }
 
 // A name is a parameter that no text is read as; it has no value. A failed context expands none.

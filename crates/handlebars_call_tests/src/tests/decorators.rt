@@ -1,42 +1,24 @@
-//! Decorators in trees by hand, and what evaluating them leaves in a render context.
+//! Elements that are evaluated alone, and what that leaves in a render context.
 
-use crate::tests::helpers::{Bench, Held, is_shown, text_of};
-use handlebars::template::{DecoratorTemplate, Parameter, Template, TemplateElement};
+use crate::tests::helpers::{Bench, Held, compiled, is_shown};
 use handlebars::{DecoratorEntry, Evaluable};
 use log::sink::Discard;
 use std::alloc::Global;
-use std::collections::BTreeMap;
 use std::process::Abort;
 
-// The tag of a decorator that makes its body the partial `p`: `{{#*NAME "p"}}BODY{{/NAME}}`.
-fn tag(rt: &impl Abort, alloc: Global, name: &str, body: &str) -> Held<TemplateElement> {
-    let mut params = Vec::new(alloc);
-    let partial = Parameter::parse(alloc, r#""p""#).expect(rt, "a parameter");
-    params.push(partial).expect(rt, "memory");
-    let tag = DecoratorTemplate {
-        name: Parameter::Name(text_of(rt, alloc, name)),
-        params,
-        hash: BTreeMap::new(alloc),
-        template: Some(Template::compile(alloc, body).expect(rt, "a template")),
-        indent: None,
-        indent_before_write: false,
-    };
-    Held {
-        value: TemplateElement::DecoratorBlock(Box::new(alloc, tag).expect(rt, "memory")),
-    }
-}
-
-// What an element alone is evaluated to.
-fn evals(
-    rt: &impl Abort,
-    alloc: Global,
-    bench: &mut Bench,
-    element: &TemplateElement,
-    wanted: &str,
-) {
+// What the first element of a source is evaluated to, alone.
+fn evals(rt: &impl Abort, alloc: Global, bench: &mut Bench, source: &str, wanted: &str) {
+    let template = compiled(rt, alloc, source);
     let (registry, data, rc) = (&bench.registry, &bench.data, &mut bench.rc);
-    let answer = element.eval(alloc, registry, data, rc, &Discard);
-    is_shown(rt, alloc, answer, wanted);
+    match template.value.elements.first() {
+        Some(tag) => is_shown(
+            rt,
+            alloc,
+            tag.eval(alloc, registry, data, rc, &Discard),
+            wanted,
+        ),
+        None => panic!(rt; "no element"),
+    }
 }
 
 // What the partial `p` renders.
@@ -60,39 +42,24 @@ const UNKNOWN: &str =
 fn evaluating_sets_partials(rt: HostRuntime) {
     let alloc = rt.alloc();
     let mut bench = Bench::new(&rt, alloc, "null");
-    evals(
-        &rt,
-        alloc,
-        &mut bench,
-        &tag(&rt, alloc, "inline", "x").value,
-        "Ok(())",
-    );
+    let source = r#"{{#*inline "p"}}x{{/inline}}"#;
+    evals(&rt, alloc, &mut bench, source, "Ok(())");
     has_partial(&rt, alloc, &bench, r#"Ok("x")"#);
-    bench
+    let answer = bench
         .registry
-        .register_decorator("own", DecoratorEntry::Inline)
-        .expect(&rt, "memory");
-    evals(
-        &rt,
-        alloc,
-        &mut bench,
-        &tag(&rt, alloc, "own", "y").value,
-        "Ok(())",
-    );
+        .register_decorator("own", DecoratorEntry::Inline);
+    answer.expect(&rt, "memory");
+    let source = r#"{{#*own "p"}}y{{/own}}"#;
+    evals(&rt, alloc, &mut bench, source, "Ok(())");
     has_partial(&rt, alloc, &bench, r#"Ok("y")"#);
 }
 
-// A name that no decorator has is refused, alone or in a tree.
+// A name that no decorator has is refused, and no partial is set.
 #[test]
 fn evaluating_refuses_names(rt: HostRuntime) {
     let alloc = rt.alloc();
     let mut bench = Bench::new(&rt, alloc, "null");
-    evals(
-        &rt,
-        alloc,
-        &mut bench,
-        &tag(&rt, alloc, "own", "x").value,
-        UNKNOWN,
-    );
+    let source = r#"{{#*own "p"}}x{{/own}}"#;
+    evals(&rt, alloc, &mut bench, source, UNKNOWN);
     assert!(rt; bench.rc.get_partial("p").is_none());
 }

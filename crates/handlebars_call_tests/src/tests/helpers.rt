@@ -3,11 +3,12 @@
 //! a value is let go by one call, and so is one that is `Held`.
 
 use handlebars::{
-    Context, JsonValue, Registry, RenderContext, RenderError, Renderable, StringOutput, Template,
+    Context, JsonValue, NoFiles, Registry, RenderContext, RenderError, Renderable, StringOutput,
+    Template,
 };
 use log::sink::Discard;
 use std::alloc::Global;
-use std::fmt::Debug;
+use std::fmt::{Debug, Display};
 use std::process::Abort;
 
 /// A value that is let go by one call, whatever it is made of.
@@ -46,6 +47,13 @@ impl Bench {
             data: data_of(rt, alloc, data),
             rc: RenderContext::new(alloc, None).expect(rt, "memory"),
         }
+    }
+
+    /// What the registry answers to a source over the data, by its constructors.
+    pub fn answers(&self, rt: &impl Abort, alloc: Global, source: &str, wanted: &str) {
+        let (registry, data) = (&self.registry, &self.data);
+        let answer = registry.render_template_with_context(source, data, &Discard, &mut NoFiles);
+        is_shown(rt, alloc, answer, wanted);
     }
 
     /// The text, or the refusal, that is wanted, by its constructors.
@@ -93,10 +101,14 @@ pub fn text_of(rt: &impl Abort, alloc: Global, text: &str) -> String {
     String::from_str(alloc, text).expect(rt, "memory")
 }
 
+/// The value of a text in JSON.
+pub fn json_of(rt: &impl Abort, alloc: Global, text: &str) -> JsonValue {
+    JsonValue::from_str(alloc, text).expect(rt, "a value")
+}
+
 /// The data of a text in JSON.
 pub fn data_of(rt: &impl Abort, alloc: Global, text: &str) -> Context {
-    let value = JsonValue::from_str(alloc, text).expect(rt, "a value");
-    Context::try_from(value).expect(rt, "data")
+    Context::try_from(json_of(rt, alloc, text)).expect(rt, "data")
 }
 
 /// The template of a source.
@@ -111,21 +123,35 @@ pub fn is_same(rt: &impl Abort, text: &str, wanted: &str) {
     assert!(rt; text == wanted, "{text} in place of {wanted}");
 }
 
+/// What a value is printed as.
+pub fn prints<T: Display + Drop>(rt: &impl Abort, alloc: Global, value: T, wanted: &str) {
+    let text = value.to_string(alloc).expect(rt, "memory");
+    is_same(rt, text.as_str(), wanted);
+}
+
 /// What a value is, by its constructors.
 pub fn is_shown<T: Debug + Drop>(rt: &impl Abort, alloc: Global, value: T, wanted: &str) {
     let text = format!(in alloc; "{value:?}").expect(rt, "memory");
     is_same(rt, text.as_str(), wanted);
 }
 
-/// The refusal where there is to be one, by its constructors.
-pub fn refuses<T: Drop>(
-    rt: &impl Abort,
-    alloc: Global,
-    answer: Result<T, RenderError>,
-    wanted: &str,
-) {
+/// That there was memory enough.
+pub fn is_taken<T: Drop, E: Drop>(rt: &impl Abort, answer: Result<T, E>) {
+    assert!(rt; answer.is_ok(), "memory");
+}
+
+/// The refusal where there is to be one.
+pub fn refused<T: Drop>(rt: &impl Abort, answer: Result<T, RenderError>) -> RenderError {
     match answer {
         Ok(_) => panic!(rt; "no refusal"),
-        Err(error) => is_shown(rt, alloc, error, wanted),
+        Err(error) => error,
     }
+}
+
+/// What an error says: its reason, its line, its column and its name, by their constructors.
+pub fn says(rt: &impl Abort, alloc: Global, error: RenderError, wanted: &str) {
+    let line = error.line_no;
+    let column = error.column_no;
+    let said = (error.reason(), line, column, &error.template_name);
+    is_shown(rt, alloc, said, wanted);
 }

@@ -1,6 +1,6 @@
 //! Inclusions by a view that a caller makes, and what a registry keeps for inclusions.
 
-use crate::tests::helpers::{Bench, compiled, data_of, is_shown, text_of};
+use crate::tests::helpers::{Bench, compiled, data_of, is_shown, is_taken, text_of};
 use handlebars::{
     Decorator, JsonValue, NoFiles, PathAndJson, Registry, ScopedJson, StringOutput, Template,
     expand_partial,
@@ -24,8 +24,7 @@ fn shown_with<'a>(rt: &impl Abort, alloc: Global, value: &'a JsonValue) -> Decor
     params.push(param).expect(rt, "memory");
     let mut pairs = BTreeMap::new(alloc);
     let pair = PathAndJson::new(None, ScopedJson::Derived(3.into()));
-    let kept: Result<_, _> = pairs.insert("k", pair);
-    assert!(rt; kept.is_ok());
+    is_taken(rt, pairs.insert("k", pair));
     let indent = CowStr::Borrowed("  ");
     Decorator::new(CowStr::Borrowed("lines"), params, pairs, None, Some(indent))
 }
@@ -87,48 +86,37 @@ fn includes_by_a_view(rt: HostRuntime) {
     refuses_itself(&rt, alloc, &mut bench);
 }
 
-// What a source gives over no data.
-fn answers(rt: &impl Abort, alloc: Global, registry: &Registry, source: &str, wanted: &str) {
-    let data = data_of(rt, alloc, "null");
-    let answer = registry.render_template_with_context(source, &data, &Discard, &mut NoFiles);
-    is_shown(rt, alloc, answer, wanted);
-}
-
 // What is registered keeps the indentation that it was compiled with.
-fn indentation_changes(rt: &impl Abort, alloc: Global, registry: &mut Registry) {
-    keep(rt, registry, "old", "a\n  {{> p}}\nb");
-    assert!(rt; !registry.prevent_indent());
-    registry.set_prevent_indent(true);
-    assert!(rt; registry.prevent_indent());
-    keep(rt, registry, "new", "a\n  {{> p}}\nb");
-    answers(rt, alloc, registry, "{{> old}}", r#"Ok("a\n  x\n  y\nb")"#);
-    answers(rt, alloc, registry, "{{> new}}", r#"Ok("a\n  x\ny\nb")"#);
-    answers(rt, alloc, registry, "  {{> p}}", r#"Ok("  x\ny\n")"#);
-    registry.set_prevent_indent(false);
-    answers(rt, alloc, registry, "  {{> p}}", r#"Ok("  x\n  y\n")"#);
+fn indentation_changes(rt: &impl Abort, alloc: Global, bench: &mut Bench) {
+    keep(rt, &mut bench.registry, "old", "a\n  {{> p}}\nb");
+    bench.registry.set_prevent_indent(true);
+    keep(rt, &mut bench.registry, "new", "a\n  {{> p}}\nb");
+    bench.answers(rt, alloc, "{{> old}}", r#"Ok("a\n  x\n  y\nb")"#);
+    bench.answers(rt, alloc, "{{> new}}", r#"Ok("a\n  x\ny\nb")"#);
+    bench.answers(rt, alloc, "  {{> p}}", r#"Ok("  x\ny\n")"#);
+    bench.registry.set_prevent_indent(false);
+    bench.answers(rt, alloc, "  {{> p}}", r#"Ok("  x\n  y\n")"#);
 }
 
 const TOO_MANY: &str =
     r#"Err(RenderError { template_name: None, line_no: Some(1), column_no: Some(1), reason: InclusionLimit(0) })"#;
 
-fn limit_changes(rt: &impl Abort, alloc: Global, registry: &mut Registry) {
-    assert!(rt; registry.inclusion_limit() == 64);
-    registry.set_inclusion_limit(0);
-    assert!(rt; registry.inclusion_limit() == 0);
-    answers(rt, alloc, registry, "{{> p}}", TOO_MANY);
-    registry.set_inclusion_limit(1);
-    answers(rt, alloc, registry, "{{> p}}", r#"Ok("x\ny\n")"#);
+fn limit_changes(rt: &impl Abort, alloc: Global, bench: &mut Bench) {
+    bench.registry.set_inclusion_limit(0);
+    bench.answers(rt, alloc, "{{> p}}", TOO_MANY);
+    bench.registry.set_inclusion_limit(1);
+    bench.answers(rt, alloc, "{{> p}}", r#"Ok("x\ny\n")"#);
 }
 
 // A tree takes the place of another one; a refused source takes none.
-fn partial_changes(rt: &impl Abort, alloc: Global, registry: &mut Registry) {
-    let answer = registry.register_partial("p", "{{");
+fn partial_changes(rt: &impl Abort, alloc: Global, bench: &mut Bench) {
+    let answer = bench.registry.register_partial("p", "{{");
     assert!(rt; answer.is_err());
-    answers(rt, alloc, registry, "{{> p}}", r#"Ok("x\ny\n")"#);
+    bench.answers(rt, alloc, "{{> p}}", r#"Ok("x\ny\n")"#);
     let tree = Template::compile(alloc, "z").expect(rt, "a template");
-    let answer = registry.register_template("p", tree);
+    let answer = bench.registry.register_template("p", tree);
     answer.expect(rt, "memory");
-    answers(rt, alloc, registry, "{{> p}}", r#"Ok("z")"#);
+    bench.answers(rt, alloc, "{{> p}}", r#"Ok("z")"#);
 }
 
 #[test]
@@ -136,9 +124,9 @@ fn registries_keep_partials(rt: HostRuntime) {
     let alloc = rt.alloc();
     let mut bench = Bench::new(&rt, alloc, "null");
     keep(&rt, &mut bench.registry, "p", "x\ny\n");
-    indentation_changes(&rt, alloc, &mut bench.registry);
-    limit_changes(&rt, alloc, &mut bench.registry);
-    partial_changes(&rt, alloc, &mut bench.registry);
+    indentation_changes(&rt, alloc, &mut bench);
+    limit_changes(&rt, alloc, &mut bench);
+    partial_changes(&rt, alloc, &mut bench);
 }
 
 // A text so often one after another.

@@ -14,15 +14,17 @@ use crate::parts::decorators::{Binding, Keeping, Setting, Unbinding};
 use crate::parts::escape::Doubled;
 use crate::parts::functions::{renamed, written};
 use crate::parts::helpers::{Absent, Distance, Marked, Offered, Twice};
-use crate::tests::helpers::{data_of, is_shown, text_of};
+use crate::tests::helpers::{Bench, data_of, text_of};
 use handlebars::{
     Context, Decorator, DecoratorDef, DecoratorEntry, DecoratorFn, EscapeFn, EscapeKind,
-    FnDecorator, FnDeeds, FnHelper, FnSteps, Helper, HelperDef, HelperEntry, HelperFn, NoFiles,
-    Registry,
+    FnDecorator, FnDeeds, FnHelper, FnSteps, Helper, HelperDef, HelperEntry, HelperFn, Registry,
 };
-use log::sink::Discard;
 use std::alloc::Global;
 use std::process::Abort;
+
+fn boxed<T: Drop>(rt: &impl Abort, alloc: Global, part: T) -> Box<T> {
+    Box::new(alloc, part).expect(rt, "memory")
+}
 
 fn puts(rt: &impl Abort, registry: &mut Registry, name: &str, helper: Box<dyn HelperDef>) {
     let answer = registry.register_helper(name, HelperEntry::Own(helper));
@@ -34,25 +36,25 @@ fn decorates(rt: &impl Abort, registry: &mut Registry, name: &str, own: Box<dyn 
     answer.expect(rt, "memory");
 }
 
-// What a source gives over the data of a text in JSON.
-fn answers(
-    rt: &impl Abort,
-    alloc: Global,
-    registry: &Registry,
-    source: &str,
-    data: &str,
-    wanted: &str,
-) {
-    let data = data_of(rt, alloc, data);
-    let answer = registry.render_template_with_context(source, &data, &Discard, &mut NoFiles);
-    is_shown(rt, alloc, answer, wanted);
+// A helper that offers a text.
+fn puts_offered(rt: &impl Abort, alloc: Global, registry: &mut Registry, name: &str, text: &str) {
+    let text = text_of(rt, alloc, text);
+    puts(rt, registry, name, boxed(rt, alloc, Offered { text }));
 }
 
-const MISSING: &str =
-    r#"Err(RenderError { template_name: None, line_no: Some(1), column_no: Some(1), reason: MissingVariable(None) })"#;
+// A helper that writes a text.
+fn puts_marked(rt: &impl Abort, alloc: Global, registry: &mut Registry) {
+    let text = text_of(rt, alloc, "<");
+    puts(
+        rt,
+        registry,
+        "marked",
+        boxed(rt, alloc, Marked { alloc, text }),
+    );
+}
 
 // What is asked first in each place, and what comes of it.
-fn are_asked(rt: &impl Abort, alloc: Global, registry: &Registry) {
+fn are_asked(rt: &impl Abort, alloc: Global, bench: &Bench) {
     let rows = [
         ("{{#twice}}a{{/twice}}", r#"Ok("aa")"#),
         ("[{{twice}}]", r#"Ok("[]")"#),
@@ -70,157 +72,185 @@ fn are_asked(rt: &impl Abort, alloc: Global, registry: &Registry) {
         ("[{{(absent)}}]", r#"Ok("[]")"#),
         ("[{{len (twice)}}]", r#"Ok("[0]")"#),
     ];
-    for (source, wanted) in &rows {
-        answers(rt, alloc, registry, source, "null", wanted);
+    for (source, wanted) in rows {
+        bench.answers(rt, alloc, source, wanted);
     }
+}
+
+const MISSING: &str =
+    r#"Err(RenderError { template_name: None, line_no: Some(1), column_no: Some(1), reason: MissingVariable(None) })"#;
+
+// The hook that is asked in the place of a helper that is not there, or no more.
+fn hook_is_asked(rt: &impl Abort, alloc: Global, bench: &mut Bench) {
+    puts_offered(rt, alloc, &mut bench.registry, "helperMissing", "!");
+    bench.answers(rt, alloc, "{{nope 1}}{{nope}}", r#"Ok("!!")"#);
+    bench.registry.unregister_helper("twice");
+    bench.answers(rt, alloc, "{{twice}}", r#"Ok("!")"#);
 }
 
 #[test]
 fn helpers_are_asked(rt: HostRuntime) {
     let alloc = rt.alloc();
-    let mut registry = Registry::new(alloc).expect(&rt, "memory");
-    let twice: Box<dyn HelperDef> = Box::new(alloc, Twice { alloc }).expect(&rt, "memory");
-    puts(&rt, &mut registry, "twice", twice);
-    let text = text_of(&rt, alloc, "<");
-    let marked: Box<dyn HelperDef> = Box::new(alloc, Marked { alloc, text }).expect(&rt, "memory");
-    puts(&rt, &mut registry, "marked", marked);
-    let text = text_of(&rt, alloc, "<");
-    let offered: Box<dyn HelperDef> = Box::new(alloc, Offered { text }).expect(&rt, "memory");
-    puts(&rt, &mut registry, "offered", offered);
-    let absent: Box<dyn HelperDef> = Box::new(alloc, Absent { alloc }).expect(&rt, "memory");
-    puts(&rt, &mut registry, "absent", absent);
-    are_asked(&rt, alloc, &registry);
-    registry.set_strict_mode(true);
-    answers(&rt, alloc, &registry, "{{absent}}", "null", MISSING);
-    let text = text_of(&rt, alloc, "!");
-    let hook: Box<dyn HelperDef> = Box::new(alloc, Offered { text }).expect(&rt, "memory");
-    puts(&rt, &mut registry, "helperMissing", hook);
-    registry.set_strict_mode(false);
-    answers(
+    let mut bench = Bench::new(&rt, alloc, "null");
+    puts(
         &rt,
-        alloc,
-        &registry,
-        "{{nope 1}}{{nope}}",
-        "null",
-        r#"Ok("!!")"#,
+        &mut bench.registry,
+        "twice",
+        boxed(&rt, alloc, Twice { alloc }),
     );
-    registry.unregister_helper("twice");
-    answers(&rt, alloc, &registry, "{{twice}}", "null", r#"Ok("!")"#);
+    puts_marked(&rt, alloc, &mut bench.registry);
+    puts_offered(&rt, alloc, &mut bench.registry, "offered", "<");
+    puts(
+        &rt,
+        &mut bench.registry,
+        "absent",
+        boxed(&rt, alloc, Absent { alloc }),
+    );
+    are_asked(&rt, alloc, &bench);
+    bench.registry.set_strict_mode(true);
+    bench.answers(&rt, alloc, "{{absent}}", MISSING);
+    bench.registry.set_strict_mode(false);
+    hook_is_asked(&rt, alloc, &mut bench);
 }
 
 const GONE: &str =
     r#"Err(RenderError { template_name: None, line_no: Some(1), column_no: Some(7), reason: HelperNotFound("none") })"#;
 
+// A decorator that makes the first name one of the other one.
+fn binds_name(
+    rt: &impl Abort,
+    alloc: Global,
+    registry: &mut Registry,
+    name: &str,
+    names: (&str, &str),
+) {
+    let (local, registered) = names;
+    let binding = Binding {
+        alloc,
+        local: text_of(rt, alloc, local),
+        registered: text_of(rt, alloc, registered),
+    };
+    decorates(rt, registry, name, boxed(rt, alloc, binding));
+}
+
+fn unbinds_name(rt: &impl Abort, alloc: Global, registry: &mut Registry, name: &str, local: &str) {
+    let local = text_of(rt, alloc, local);
+    decorates(
+        rt,
+        registry,
+        name,
+        boxed(rt, alloc, Unbinding { alloc, local }),
+    );
+}
+
+fn are_bound(rt: &impl Abort, alloc: Global, bench: &Bench) {
+    let rows = [
+        (
+            r#"{{distance 4}},{{*foo "miles"}}{{distance 10}},{{*bar}}{{distance 3}}"#,
+            r#"Ok("4m,10miles,3m")"#,
+        ),
+        (
+            r#"{{*foo "miles"}}{{len (distance 10)}}{{#distance 1}}{{/distance}}"#,
+            r#"Ok("71miles")"#,
+        ),
+        ("{{*b}}{{q}}", GONE),
+    ];
+    for (source, wanted) in rows {
+        bench.answers(rt, alloc, source, wanted);
+    }
+}
+
 #[test]
 fn helpers_are_bound(rt: HostRuntime) {
     let alloc = rt.alloc();
-    let mut registry = Registry::new(alloc).expect(&rt, "memory");
-    let distance: Box<dyn HelperDef> = Box::new(alloc, Distance { alloc }).expect(&rt, "memory");
-    puts(&rt, &mut registry, "distance", distance);
-    let binding = Binding {
-        alloc,
-        local: text_of(&rt, alloc, "distance"),
-        registered: text_of(&rt, alloc, "distance"),
-    };
-    let foo: Box<dyn DecoratorDef> = Box::new(alloc, binding).expect(&rt, "memory");
-    decorates(&rt, &mut registry, "foo", foo);
-    let local = text_of(&rt, alloc, "distance");
-    let bar: Box<dyn DecoratorDef> = Box::new(alloc, Unbinding { alloc, local }).expect(
-        &rt, "memory",
+    let mut bench = Bench::new(&rt, alloc, "null");
+    puts(
+        &rt,
+        &mut bench.registry,
+        "distance",
+        boxed(&rt, alloc, Distance { alloc }),
     );
-    decorates(&rt, &mut registry, "bar", bar);
-    let source = r#"{{distance 4}},{{*foo "miles"}}{{distance 10}},{{*bar}}{{distance 3}}"#;
-    answers(
+    binds_name(
         &rt,
         alloc,
-        &registry,
-        source,
-        "null",
-        r#"Ok("4m,10miles,3m")"#,
+        &mut bench.registry,
+        "foo",
+        ("distance", "distance"),
     );
-    let source = r#"{{*foo "miles"}}{{len (distance 10)}}{{#distance 1}}{{/distance}}"#;
-    answers(&rt, alloc, &registry, source, "null", r#"Ok("71miles")"#);
-    let gone = Binding {
-        alloc,
-        local: text_of(&rt, alloc, "q"),
-        registered: text_of(&rt, alloc, "none"),
-    };
-    let b: Box<dyn DecoratorDef> = Box::new(alloc, gone).expect(&rt, "memory");
-    decorates(&rt, &mut registry, "b", b);
-    answers(&rt, alloc, &registry, "{{*b}}{{q}}", "null", GONE);
+    unbinds_name(&rt, alloc, &mut bench.registry, "bar", "distance");
+    binds_name(&rt, alloc, &mut bench.registry, "b", ("q", "none"));
+    are_bound(&rt, alloc, &bench);
 }
 
 const NO_BODY: &str =
     r#"Err(RenderError { template_name: None, line_no: Some(1), column_no: Some(1), reason: BlockContentRequired })"#;
 
+fn sets_data(rt: &impl Abort, alloc: Global, registry: &mut Registry, name: &str, data: &str) {
+    let data = data_of(rt, alloc, data);
+    decorates(
+        rt,
+        registry,
+        name,
+        boxed(rt, alloc, Setting { alloc, data }),
+    );
+}
+
+fn keeps_partial(rt: &impl Abort, alloc: Global, registry: &mut Registry, name: &str) {
+    let partial = text_of(rt, alloc, "p");
+    let keeping = Keeping {
+        alloc,
+        name: partial,
+    };
+    decorates(rt, registry, name, boxed(rt, alloc, keeping));
+}
+
+const WORLD: &str = r#"{"hello":"world","a":{"x":1}}"#;
+
+fn set_data(rt: &impl Abort, alloc: Global, bench: &Bench) {
+    let rows = [
+        ("{{hello}}{{*foo}}{{hello}}", r#"Ok("worldwar")"#),
+        (
+            "{{#with a}}{{x}}{{*foo}}{{x}}{{@root.hello}}{{/with}}",
+            r#"Ok("1war")"#,
+        ),
+        ("{{*keep}}", NO_BODY),
+        ("a{{#*keep}}b{{/keep}}c", r#"Ok("ac")"#),
+    ];
+    for (source, wanted) in rows {
+        bench.answers(rt, alloc, source, wanted);
+    }
+}
+
 #[test]
 fn decorators_set_data(rt: HostRuntime) {
     let alloc = rt.alloc();
-    let mut registry = Registry::new(alloc).expect(&rt, "memory");
-    let data = data_of(&rt, alloc, r#"{"hello":"war"}"#);
-    let foo: Box<dyn DecoratorDef> = Box::new(alloc, Setting { alloc, data }).expect(&rt, "memory");
-    decorates(&rt, &mut registry, "foo", foo);
-    let name = text_of(&rt, alloc, "p");
-    let keep: Box<dyn DecoratorDef> = Box::new(alloc, Keeping { alloc, name }).expect(
-        &rt, "memory",
-    );
-    decorates(&rt, &mut registry, "keep", keep);
-    let world = r#"{"hello":"world","a":{"x":1}}"#;
-    answers(
-        &rt,
-        alloc,
-        &registry,
-        "{{hello}}{{*foo}}{{hello}}",
-        world,
-        r#"Ok("worldwar")"#,
-    );
-    answers(
-        &rt,
-        alloc,
-        &registry,
-        "{{#with a}}{{x}}{{*foo}}{{x}}{{@root.hello}}{{/with}}",
-        world,
-        r#"Ok("1war")"#,
-    );
-    answers(&rt, alloc, &registry, "{{*keep}}", world, NO_BODY);
-    answers(
-        &rt,
-        alloc,
-        &registry,
-        "a{{#*keep}}b{{/keep}}c",
-        world,
-        r#"Ok("ac")"#,
-    );
-    registry.set_strict_mode(true);
-    answers(&rt, alloc, &registry, "{{*foo}}{{x}}", world, r#"Ok("")"#);
+    let mut bench = Bench::new(&rt, alloc, WORLD);
+    sets_data(&rt, alloc, &mut bench.registry, "foo", r#"{"hello":"war"}"#);
+    keeps_partial(&rt, alloc, &mut bench.registry, "keep");
+    set_data(&rt, alloc, &bench);
+    bench.registry.set_strict_mode(true);
+    bench.answers(&rt, alloc, "{{*foo}}{{x}}", r#"Ok("")"#);
+}
+
+fn doubles(rt: &impl Abort, alloc: Global, registry: &mut Registry) {
+    let doubled: Box<dyn EscapeFn> = boxed(rt, alloc, Doubled { alloc });
+    registry.register_escape_fn(EscapeKind::Own(doubled));
 }
 
 #[test]
 fn escape_functions_are_asked(rt: HostRuntime) {
     let alloc = rt.alloc();
-    let mut registry = Registry::new(alloc).expect(&rt, "memory");
-    let doubled: Box<dyn EscapeFn> = Box::new(alloc, Doubled { alloc }).expect(&rt, "memory");
-    registry.register_escape_fn(EscapeKind::Own(doubled));
-    let text = text_of(&rt, alloc, "o");
-    let offered: Box<dyn HelperDef> = Box::new(alloc, Offered { text }).expect(&rt, "memory");
-    puts(&rt, &mut registry, "offered", offered);
-    let data = r#"{"x":"<","a":[1,"b"]}"#;
-    answers(
-        &rt,
-        alloc,
-        &registry,
-        "{{x}}{{{x}}} {{a}} {{offered}}",
-        data,
-        r#"Ok("<<< [1, b][1, b] oo")"#,
-    );
-    registry.unregister_escape_fn();
-    answers(&rt, alloc, &registry, "{{x}}", data, r#"Ok("&lt;")"#);
+    let mut bench = Bench::new(&rt, alloc, r#"{"x":"<","a":[1,"b"]}"#);
+    doubles(&rt, alloc, &mut bench.registry);
+    puts_offered(&rt, alloc, &mut bench.registry, "offered", "o");
+    let source = "{{x}}{{{x}}} {{a}} {{offered}}";
+    let wanted = r#"Ok("<<< [1, b][1, b] oo")"#;
+    bench.answers(&rt, alloc, source, wanted);
+    bench.registry.unregister_escape_fn();
+    bench.answers(&rt, alloc, "{{x}}", r#"Ok("&lt;")"#);
 }
 
-#[test]
-fn functions_are_asked(rt: HostRuntime) {
-    let alloc = rt.alloc();
-    let mut registry = Registry::new(alloc).expect(&rt, "memory");
+fn puts_function(rt: &impl Abort, alloc: Global, registry: &mut Registry) {
     let f: HelperFn = Box::new(
         alloc,
         move |h: &Helper, _data: &Context, _changed: &Option<&Context>, _strict: bool| -> FnSteps
@@ -228,9 +258,12 @@ fn functions_are_asked(rt: HostRuntime) {
                 (λ e. refused_for e ≡ out_of_memory) }
         { written(alloc, h) },
     )
-    .expect(&rt, "memory");
+    .expect(rt, "memory");
     let answer = registry.register_helper("written", HelperEntry::Function(FnHelper::new(f)));
-    answer.expect(&rt, "memory");
+    answer.expect(rt, "memory");
+}
+
+fn decorates_with_function(rt: &impl Abort, alloc: Global, registry: &mut Registry) {
     let f: DecoratorFn = Box::new(
         alloc,
         move |_d: &Decorator, _data: &Context, _changed: &Option<
@@ -242,12 +275,18 @@ fn functions_are_asked(rt: HostRuntime) {
                 (λ e. refused_for e ≡ out_of_memory) }
         { renamed(alloc) },
     )
-    .expect(&rt, "memory");
-    let answer = registry.register_decorator(
-        "renamed",
-        DecoratorEntry::Function(FnDecorator::new(f)),
-    );
-    answer.expect(&rt, "memory");
+    .expect(rt, "memory");
+    let entry = DecoratorEntry::Function(FnDecorator::new(f));
+    let answer = registry.register_decorator("renamed", entry);
+    answer.expect(rt, "memory");
+}
+
+#[test]
+fn functions_are_asked(rt: HostRuntime) {
+    let alloc = rt.alloc();
+    let mut bench = Bench::new(&rt, alloc, "null");
+    puts_function(&rt, alloc, &mut bench.registry);
+    decorates_with_function(&rt, alloc, &mut bench.registry);
     let source = r#"{{written "<"}}{{*renamed}}{{size "abc"}}"#;
-    answers(&rt, alloc, &registry, source, "null", r#"Ok("<3")"#);
+    bench.answers(&rt, alloc, source, r#"Ok("<3")"#);
 }

@@ -2,11 +2,11 @@
 
 use crate::memory::Texts;
 use crate::pages::{rendered_anew, rendered_as_registered, write_page};
-use crate::tests::files::put;
-use crate::tests::helpers::{is_same, is_shown};
+use crate::tests::helpers::{is_same, is_shown, is_taken};
 use handlebars::{Context, FileReader, Registry, TemplateReader};
 use log::sink::Discard;
 use std::collections::BTreeMap;
+use std::process::Abort;
 
 #[test]
 fn page_is_written(rt: HostRuntime) {
@@ -19,6 +19,13 @@ fn page_is_written(rt: HostRuntime) {
     is_shown(&rt, alloc, written, "Ok(())");
     let text = FileReader::new(&rt, alloc).read("page.html");
     is_same(&rt, text.expect(&rt, "a text").as_str(), "<p></p>\n");
+}
+
+// Puts a text under a path in memory.
+fn put(rt: &impl Abort, files: &mut Texts, path: &str, text: &str) {
+    let path = String::from_str(files.alloc, path).expect(rt, "memory");
+    let text = String::from_str(files.alloc, text).expect(rt, "memory");
+    is_taken(rt, files.texts.insert(path, text));
 }
 
 #[test]

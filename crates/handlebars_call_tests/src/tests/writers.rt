@@ -2,8 +2,10 @@
 
 use crate::tests::helpers::is_same;
 use handlebars::{Output, StringWriter, WriteOutput};
+use std::alloc::Global;
 use std::io;
 use std::io::{ErrorKind, Write};
+use std::process::Abort;
 
 // Takes at most two bytes a write, and after so many writes nothing. It tells nothing of what it holds.
 struct Slow {
@@ -33,6 +35,13 @@ impl Write for Slow {
     }
 }
 
+// What a writer of strings holds: the text of its bytes, where they are one.
+fn holds(rt: &impl Abort, alloc: Global, bytes: &[u8], wanted: &str) {
+    let mut writer = StringWriter::new(alloc);
+    writer.write_all(bytes).expect(rt, "memory");
+    is_same(rt, writer.into_string().as_str(), wanted);
+}
+
 #[test]
 fn outputs_write(rt: HostRuntime) {
     let alloc = rt.alloc();
@@ -45,8 +54,6 @@ fn outputs_write(rt: HostRuntime) {
     let error = out.write("def").expect_err(&rt, "a fault");
     assert!(rt; error.kind() == ErrorKind::WriteZero);
     assert!(rt; writer.taken.as_slice() == b"abcde".as_slice());
-
-    let mut bytes = StringWriter::new(alloc);
-    bytes.write_all(b"a\xff").expect(&rt, "memory");
-    is_same(&rt, bytes.into_string().as_str(), "");
+    holds(&rt, alloc, "é<".as_bytes(), "é<");
+    holds(&rt, alloc, b"a\xff", "");
 }

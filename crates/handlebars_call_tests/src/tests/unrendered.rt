@@ -3,7 +3,6 @@
 mod blocks;
 mod data;
 mod errors;
-mod helpers;
 mod log_lines;
 mod trees;
 mod values;

@@ -1,7 +1,7 @@
 //! Values with where they came from.
 
 use crate::tests::helpers::{Held, is_same, is_shown, json_of, text_of};
-use handlebars_base::json::value::{Json, JsonRender, PathAndJson, ScopedJson};
+use handlebars::{JsonRender, JsonValue, PathAndJson, ScopedJson};
 use std::alloc::Global;
 use std::process::Abort;
 
@@ -14,7 +14,7 @@ fn renders_as(rt: &impl Abort, alloc: Global, scoped: ScopedJson<'_>, wanted: &s
 }
 
 // Of a number outside the range, which no data has, nothing is rendered.
-fn values_render(rt: &impl Abort, alloc: Global, value: &Json) {
+fn values_render(rt: &impl Abort, alloc: Global, value: &JsonValue) {
     renders_as(rt, alloc, ScopedJson::Constant(value), TEXT);
     let derived = ScopedJson::Constant(value).into_derived(alloc);
     renders_as(rt, alloc, derived.expect(rt, "memory"), TEXT);
@@ -45,13 +45,19 @@ fn place(rt: &impl Abort, alloc: Global) -> Vec<String> {
 }
 
 // A derived value has no place in the data, and what was missing is null.
-fn values_lose_their_place(rt: &impl Abort, alloc: Global, value: &Json) {
+fn values_lose_their_place(rt: &impl Abort, alloc: Global, value: &JsonValue) {
     let found = ScopedJson::Context(value, place(rt, alloc));
     let before = r#"(Some(["a"]), Some(Array [Number(1)]), false)"#;
     let behind = "(None, Some(Array [Number(1)]), false)";
     derives(rt, alloc, found, before, behind);
     let made = "(None, Some(Bool(true)), false)";
-    derives(rt, alloc, ScopedJson::from(Json::Bool(true)), made, made);
+    derives(
+        rt,
+        alloc,
+        ScopedJson::from(JsonValue::Bool(true)),
+        made,
+        made,
+    );
     let missing = "(None, None, true)";
     let null = "(None, Some(Null), false)";
     derives(rt, alloc, ScopedJson::Missing, missing, null);
@@ -79,7 +85,7 @@ fn tells(rt: &impl Abort, alloc: Global, scoped: ScopedJson<'_>, wanted: &str) {
 }
 
 // Only what the template holds is a constant, and a missing value is null.
-fn values_tell_their_place(rt: &impl Abort, alloc: Global, value: &Json) {
+fn values_tell_their_place(rt: &impl Abort, alloc: Global, value: &JsonValue) {
     let wanted =
         r#"((Some("./a"), None), Some(Array [Number(1)]), false, Array [Number(1)], "[1]", "[1]")"#;
     tells(rt, alloc, ScopedJson::Constant(value), wanted);
@@ -87,7 +93,7 @@ fn values_tell_their_place(rt: &impl Abort, alloc: Global, value: &Json) {
     let wanted = r#"((Some("./a"), Some(["a"])), None, false, Array [Number(1)], "[1]", "[1]")"#;
     tells(rt, alloc, found, wanted);
     let wanted = r#"((Some("./a"), None), None, false, Bool(true), "true", "true")"#;
-    tells(rt, alloc, ScopedJson::from(Json::Bool(true)), wanted);
+    tells(rt, alloc, ScopedJson::from(JsonValue::Bool(true)), wanted);
     let wanted = r#"((Some("./a"), None), None, true, Null, "", "")"#;
     tells(rt, alloc, ScopedJson::Missing, wanted);
     let unnamed = PathAndJson::new(None, ScopedJson::Missing);

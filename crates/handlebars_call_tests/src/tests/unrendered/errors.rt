@@ -1,18 +1,18 @@
 //! What errors print as, and what they keep.
 
-use crate::tests::helpers::{is_shown, is_shown_from, prints, says, text_of};
-use handlebars_base::error::{
-    RenderError, RenderErrorReason as Reason, TemplateError, TemplateErrorReason as Broken,
+use crate::tests::helpers::{prints, says, text_of};
+use handlebars::{
+    JsonValue, RenderError, RenderErrorReason as Reason, TemplateError,
+    TemplateErrorReason as Broken,
 };
-use handlebars_base::json::value::Json;
 use handlebars_base::output::output_fault;
 use std::alloc::{AllocError, Global};
 use std::fmt::Display;
 use std::io;
 use std::process::Abort;
 
-// Of what was asked for and isn't there, and of use.
-fn calls_print(rt: &impl Abort, alloc: Global) {
+// Of what the engine never makes.
+fn kept_reasons_print(rt: &impl Abort, alloc: Global) {
     let a = text_of(rt, alloc, "a");
     let reason = Reason::ParamTypeMismatchForName("len", a, text_of(rt, alloc, "b"));
     let wanted = "Helper/Decorator len param with name a type mismatch for b";
@@ -21,42 +21,24 @@ fn calls_print(rt: &impl Abort, alloc: Global) {
     let reason = Reason::HashTypeMismatchForName("len", a, text_of(rt, alloc, "b"));
     let wanted = "Helper/Decorator len hash with name a type mismatch for b";
     prints(rt, alloc, reason, wanted);
-    let wanted = "Invalid param type, String expected";
-    prints(rt, alloc, Reason::InvalidParamType("String"), wanted);
-    let reason = Reason::PartialNotFound(text_of(rt, alloc, "a"));
-    prints(rt, alloc, reason, "Partial not found a");
-    let reason = Reason::DecoratorNotFound(text_of(rt, alloc, "a"));
-    prints(rt, alloc, reason, "Decorator not found a");
     let reason = Reason::NestedError(text_of(rt, alloc, "a"));
     prints(rt, alloc, reason, "Nested error: a");
-}
-
-fn inclusions_print(rt: &impl Abort, alloc: Global) {
-    let wanted = "Partial block cound not be found";
-    prints(rt, alloc, Reason::PartialBlockNotFound, wanted);
-    let wanted = "Can not include current template in partial";
-    prints(rt, alloc, Reason::CannotIncludeSelf, wanted);
-    let wanted = "Inclusions nest deeper than 64";
-    prints(rt, alloc, Reason::InclusionLimit(64), wanted);
-    let wanted = "Block content required";
-    prints(rt, alloc, Reason::BlockContentRequired, wanted);
     prints(rt, alloc, Reason::Unimplemented, "Unimplemented");
-    prints(rt, alloc, Reason::Failed, "Render context has failed");
-}
-
-fn templates_print(rt: &impl Abort, alloc: Global) {
-    let a = text_of(rt, alloc, "a");
-    let reason = Broken::MismatchingClosedDecorator(a, text_of(rt, alloc, "b"));
-    let wanted = r#"decorator "a" was opened, but "b" is closing"#;
-    prints(rt, alloc, reason, wanted);
-    let reason = Broken::IoError(io::Error::other("disk"), text_of(rt, alloc, "a"));
-    prints(rt, alloc, reason, r#"Template "a": disk"#);
     let reason = Broken::WalkdirError(text_of(rt, alloc, "a"));
     prints(rt, alloc, reason, "Walk dir error: a");
-    prints(rt, alloc, Broken::OutOfMemory, "Out of memory");
+}
+
+// Of what no rendering of a row comes to.
+fn other_reasons_print(rt: &impl Abort, alloc: Global) {
+    prints(rt, alloc, Reason::Failed, "Render context has failed");
+    let reason = Broken::IoError(io::Error::other("disk"), text_of(rt, alloc, "a"));
+    prints(rt, alloc, reason, r#"Template "a": disk"#);
     let cause = TemplateError::of(Broken::NestedSubexpression);
     let wanted = "Failed to parse template nested subexpression is not supported";
     prints(rt, alloc, Reason::from(cause), wanted);
+    let fault = output_fault(io::Error::other("disk"));
+    assert!(rt; matches!(fault.reason(), Reason::IOError(_)));
+    prints(rt, alloc, fault, "IO Error: disk");
 }
 
 // A cause is printed behind what it is.
@@ -69,20 +51,19 @@ where
 }
 
 fn causes_print(rt: &impl Abort, alloc: Global) {
-    let cause = Json::from_str(alloc, "{").expect_err(rt, "a refusal");
+    let cause = JsonValue::from_str(alloc, "{").expect_err(rt, "a refusal");
     prints_behind(rt, alloc, "Failed to access JSON data", cause);
     let bytes = vec![in alloc; 255].expect(rt, "memory");
     let cause = String::from_utf8(bytes).expect_err(rt, "a refusal");
     prints_behind(rt, alloc, "FromUtf8Error", cause);
 }
 
-// Those of renderings are printed in rows.
+// All others are printed in rows.
 #[test]
 fn reasons_print(rt: HostRuntime) {
     let alloc = rt.alloc();
-    calls_print(&rt, alloc);
-    inclusions_print(&rt, alloc);
-    templates_print(&rt, alloc);
+    kept_reasons_print(&rt, alloc);
+    other_reasons_print(&rt, alloc);
     causes_print(&rt, alloc);
 }
 
@@ -119,32 +100,12 @@ fn keep_their_place(rt: &impl Abort, alloc: Global) {
     let error = RenderError::new(alloc, "bad");
     prints(rt, alloc, &error, "bad");
     let error = error.at(1, 2).at(3, 4);
-    let wanted = r#"Error rendering "Unnamed template" line 1, col 2: bad"#;
-    prints(rt, alloc, &error, wanted);
     let error = error.in_template(alloc, &text_of(rt, alloc, "inner"));
     let error = error.in_template(alloc, &text_of(rt, alloc, "outer"));
     let wanted = r#"Error rendering "inner" line 1, col 2: bad"#;
     prints(rt, alloc, &error, wanted);
     let wanted = r#"(Other("bad"), Some(1), Some(2), Some("inner"))"#;
     says(rt, alloc, error, wanted);
-}
-
-const CLOSED_BY_ANOTHER: &str = r#"Template error: helper "if" was opened, but "unless" is closing
-    --> Template error in "t":1:11
-     |
-   0 | {{#if a}}x{{/unless}}
-     |-----------^---------
-     |
-     = reason: helper "if" was opened, but "unless" is closing
-"#;
-
-fn show_their_lines(rt: &impl Abort, alloc: Global) {
-    let opened = text_of(rt, alloc, "if");
-    let reason = Broken::MismatchingClosedHelper(opened, text_of(rt, alloc, "unless"));
-    let error = TemplateError::of(reason).at(alloc, "{{#if a}}x{{/unless}}", 1, 11);
-    let error = error.in_template(text_of(rt, alloc, "t"));
-    is_shown(rt, alloc, error.pos(), "Some((1, 11))");
-    prints(rt, alloc, error, CLOSED_BY_ANOTHER);
 }
 
 const SIX_LINES: &str = "ab\ncd\nef\ngh\nij\nkl";
@@ -204,19 +165,11 @@ fn show_lines_of_any_place(rt: &impl Abort, alloc: Global) {
     shows_at(rt, alloc, usize::MAX, 1, PAST_THE_SOURCE);
 }
 
-fn fault_of_disk(rt: &impl Abort, alloc: Global) {
-    let fault = output_fault(io::Error::other("disk"));
-    is_shown_from(rt, alloc, fault.reason(), "IOError(");
-    prints(rt, alloc, fault.reason(), "IO Error: disk");
-}
-
 #[test]
 fn errors_are_made(rt: HostRuntime) {
     let alloc = rt.alloc();
     are_made(&rt, alloc);
     are_made_of_want(&rt, alloc);
     keep_their_place(&rt, alloc);
-    show_their_lines(&rt, alloc);
     show_lines_of_any_place(&rt, alloc);
-    fault_of_disk(&rt, alloc);
 }
