@@ -1,0 +1,53 @@
+//! Why a run ends, as a person reads it.
+
+use handlebars::{RenderError, TemplateError};
+use std::alloc::{AllocError, AllocFailed};
+use std::{fmt, io};
+
+/// Why a run ends, or a page isn't written.
+#[derive(Drop)]
+pub enum Failure {
+    Usage,
+    /// A template that isn't one, with the lines around the fault, or a file that can't be read.
+    Template(TemplateError),
+    /// The page of this path is refused: the template's name, the line and the column, and the reason.
+    Page(String, RenderError),
+    Io(io::Error),
+    OutOfMemory,
+}
+
+impl fmt::Display for Failure {
+    fn fmt<W: fmt::Write>(&self, f: &mut fmt::Formatter<W>) -> fmt::Result {
+        match self {
+            Failure::Usage => write!(f, "usage: catalog [--dev] TEMPLATES PAGES"),
+            Failure::Template(cause) => write!(f, "{cause}"),
+            Failure::Page(path, cause) => write!(f, "{path} is not whole. {cause}"),
+            Failure::Io(cause) => write!(f, "catalog: {cause}"),
+            Failure::OutOfMemory => write!(f, "catalog: out of memory"),
+        }
+    }
+}
+
+impl From<TemplateError> for Failure {
+    fn from(cause: TemplateError) -> Self {
+        Failure::Template(cause)
+    }
+}
+
+impl From<io::Error> for Failure {
+    fn from(cause: io::Error) -> Self {
+        Failure::Io(cause)
+    }
+}
+
+impl From<AllocError> for Failure {
+    fn from(_cause: AllocError) -> Self {
+        Failure::OutOfMemory
+    }
+}
+
+impl<T: Drop> From<AllocFailed<T>> for Failure {
+    fn from(_cause: AllocFailed<T>) -> Self {
+        Failure::OutOfMemory
+    }
+}
