@@ -1,5 +1,7 @@
 //! Why a run ends, as a person reads it.
 
+ghost use Rattle.std.specs.Prelude.{◌≡◌};
+
 use handlebars::{RenderError, TemplateError};
 use std::alloc::{AllocError, AllocFailed};
 use std::{fmt, io};
@@ -29,25 +31,33 @@ impl fmt::Display for Failure {
 }
 
 impl From<TemplateError> for Failure {
-    fn from(cause: TemplateError) -> Self {
+    fn from(cause: TemplateError) -> Self
+        ensures { result ≡ Failure.Template cause }
+    {
         Failure::Template(cause)
     }
 }
 
 impl From<io::Error> for Failure {
-    fn from(cause: io::Error) -> Self {
+    fn from(cause: io::Error) -> Self
+        ensures { result ≡ Failure.Io cause }
+    {
         Failure::Io(cause)
     }
 }
 
 impl From<AllocError> for Failure {
-    fn from(_cause: AllocError) -> Self {
+    fn from(_cause: AllocError) -> Self
+        ensures { result ≡ Failure.OutOfMemory }
+    {
         Failure::OutOfMemory
     }
 }
 
 impl<T: Drop> From<AllocFailed<T>> for Failure {
-    fn from(_cause: AllocFailed<T>) -> Self {
+    fn from(_cause: AllocFailed<T>) -> Self
+        ensures { result ≡ Failure.OutOfMemory }
+    {
         Failure::OutOfMemory
     }
 }
