@@ -54,11 +54,6 @@ pub option_map-cond : {A B : Type 0} (f : A → B) (b : Bool) (x : A) (o : Optio
 option_map-cond f true x o = refl
 option_map-cond f false x o = refl
 
-pub option_map-cond_none : {A B : Type 0} (f : A → B) (b : Bool) (o : Option A)
-    → option_map f (cond b None o) ≡ cond b None (option_map f o)
-option_map-cond_none f true o = refl
-option_map-cond_none f false o = refl
-
 -- ---- what `is_empty` says
 
 pub empty : {A : Type 0} (t : List A) → true ≡ eqb (length t) 0 → length t ≡ 0

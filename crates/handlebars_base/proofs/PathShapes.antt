@@ -1,5 +1,5 @@
 -- A path in front of a text: what is read is spelled so, and what is spelled so is read where no reference goes on.
-use Rattle.std.proofs.Common.{◌≡◌, ℕ, zero, suc, ◌+◌, Bool, true, false, cond, List, [], ◌∷◌, ◌++◌, length, Some, None, refl, sym, ap, subst, ◌∙◌, append_assoc, append-nil, arith, inl, inr}
+use Rattle.std.proofs.Common.{◌≡◌, ℕ, zero, suc, ◌+◌, Bool, true, false, cond, List, [], ◌∷◌, ◌++◌, length, Option, Some, None, refl, sym, ap, subst, ◌∙◌, append_assoc, append-nil, arith, inl, inr}
 use Rattle.std.specs.Prelude.{codes, ◌==◌, ◌&&◌}
 use Rattle.std.specs.List.{prefix_len}
 use Rattle.std.specs.Str.{bytes_eq}
@@ -10,8 +10,8 @@ use Rattle.std.proofs.lemmas.Option.{same_Some, cond_some}
 use Rattle.std.proofs.lemmas.List.{take-append-drop, take_at, drop_at, nil_from_length}
 use Rattle.std.proofs.lemmas.Slice.Eq.{bytes_eq-Decides}
 use Rattle.handlebars_base.specs.Path.{Reference, meaning, IsPath, IsIdentifier, Part, dots, plain, bracketed, spelled_part, IsPart, is_dots, Link, spelled_links, AreLinks, ups, Shape, itself, at_root, at_name, in_parts, spelled, IsShape}
-use Rattle.handlebars_base.specs.PathReading.{is_up_mark, after_up, ups_at, part_at, link_at, links_of, Start, here, from_root, from_variable, from_part, is_no_name, named_start, at_sign_start, part_start, dot_start, start_without_at_sign, start_at, links_behind, is_dotted, shape_from, shape_at, shape_of, path_of, reference_from, reference_len}
-use Rattle.handlebars_base.specs.Optional.{◌>>=◌}
+use Rattle.handlebars_base.specs.PathReading.{is_up_mark, after_up, ups_at, part_at, link_at, links_of, Start, here, from_root, from_variable, from_part, is_no_name, named_start, at_sign_start, part_start, start_without_at_sign, start_at, links_behind, is_dotted, shape_from, shape_at, shape_of, path_of, reference_from, reference_len}
+use Rattle.handlebars_base.specs.Optional.{◌>>=◌, with_or}
 use Rattle.handlebars_base.specs.Texts.{after, symbols_of, behind_symbols}
 use Rattle.handlebars_base.specs.Bytes.{is_symbol}
 use Rattle.handlebars_base.proofs.OptionBinds.{bind_some, with_or_is, guard_some, map_some}
@@ -159,6 +159,9 @@ dotted_takes t p e =
     record { parts = ap (λ (r : List ℕ). 46 ∷ 47 ∷ r) taken.parts; fits = (taken.fits, taken.links) }
 
 -- behind a `.`
+abbrev dot_start : List ℕ → Option (Start × List ℕ)
+dot_start r = with_or (after 47 r) (λ r. part_at r >>= part_start) (Some (here, r))
+
 dot_takes : (r : List ℕ) (x : Start × List ℕ) → dot_start r ≡ Some x →
     TakesFront (46 ∷ r) (shape_behind (is_dotted (46 ∷ r)) x)
 dot_takes r x e =

@@ -6,13 +6,13 @@ use Rattle.std.specs.Str.{IsCharBoundary}
 use Rattle.std.proofs.lemmas.List.{take-append-drop, take_at, drop_at, length-take, nil_from_length}
 use Rattle.std.proofs.lemmas.Option.{same_Some, none-some}
 use Rattle.handlebars_base.specs.Path.{Reference, raw_of, IsPath, meaning, Link, Shape, itself, at_root, at_name, in_parts, spelled}
-use Rattle.handlebars_base.specs.PathReading.{Start, here, from_root, from_variable, from_part, start_at, links_behind, is_dotted, shape_from, start_segments, start_meaning, shape_at, IsLeft, path_of, path_at, slice_at, reference_from, reference_len, stops}
+use Rattle.handlebars_base.specs.PathReading.{Start, here, from_root, from_variable, from_part, start_at, links_behind, is_dotted, shape_from, start_segments, start_meaning, shape_at, path_of, path_at, slice_at, reference_from, reference_len}
 use Rattle.handlebars_base.specs.Optional.{◌>>=◌}
 use Rattle.handlebars_base.specs.Laws.{IsInFront}
 use Rattle.handlebars_base.proofs.OptionBinds.{bind_some, map_some, none_or_some}
 use Rattle.handlebars_base.proofs.PathShapes.{shape_at_takes, shape_at_again, path_known, path_is}
 use Rattle.handlebars_base.proofs.ReferenceLength.{reference_len-le, reference_len_boundary}
-use Rattle.handlebars_base.proofs.References.{reference_len-append, reference_len-stops}
+use Rattle.handlebars_base.proofs.References.{reference_len-append, reference_len-stops, stops}
 
 -- ---- a path, and what follows it
 
@@ -170,7 +170,7 @@ shape_at-start t s r e = rw e refl
 
 -- what follows the links is left
 pub is_left : (t : List ℕ) (s : Start) (r rest : List ℕ) → start_at t ≡ Some (s, r) → rest ≡ (links_behind s r).1 →
-    IsLeft t rest
+    (shape : Shape) × (shape_at t ≡ Some (shape, rest))
 is_left t s r rest start same =
     (shape_from (is_dotted t) s (links_behind s r).0, shape_at-start t s r start ∙ rw same refl)
 

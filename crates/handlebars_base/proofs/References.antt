@@ -1,11 +1,11 @@
 -- Paths within longer texts: what a path's text is like, and that a front that goes as far as it can ends with it.
 use Rattle.std.proofs.Common.{◌≡◌, ℕ, zero, suc, ◌+◌, Bool, true, false, not, List, [], ◌∷◌, ◌++◌, length, refl, sym, ap, subst, ◌∙◌, append_assoc, arith, inl, inr, length-append}
-use Rattle.std.specs.Prelude.{◌==◌, codes}
+use Rattle.std.specs.Prelude.{◌==◌, ◌||◌, codes}
 use Rattle.std.specs.List.{AllByRecursion}
 use Rattle.std.proofs.lemmas.Bool.{not-true, or_parts}
 use Rattle.handlebars_base.specs.Path.{Reference, IsPath, IsIdentifier, Part, dots, plain, bracketed, spelled_part, IsPart, is_dots, Link, spelled_links, AreLinks, ups, Shape, itself, at_root, at_name, in_parts, spelled, IsShape}
-use Rattle.handlebars_base.specs.PathReading.{is_reference_byte, starts_reference, stops, reference_from, reference_len}
-use Rattle.handlebars_base.specs.Bytes.{is_symbol}
+use Rattle.handlebars_base.specs.PathReading.{is_reference_byte, reference_from, reference_len}
+use Rattle.handlebars_base.specs.Bytes.{is_symbol, left_bracket}
 use Rattle.handlebars_base.proofs.PathParts.{joins_cases}
 use Rattle.handlebars_base.proofs.Bytes.{other_byte}
 
@@ -99,6 +99,15 @@ pub reference_len-append : (text follow : List ℕ) (means : Reference) → IsPa
 reference_len-append text follow means h =
     let passed : IsPassed text = subst IsPassed (sym h.spells) (passed_shape h.shape h.fits) in
     passed.passes follow
+
+-- a byte that a reference begins with: one of those, or an opening bracket
+abbrev pub starts_reference : ℕ → Bool
+starts_reference b = is_reference_byte b || b == left_bracket
+
+-- the text goes on with none of these, or ends
+abbrev pub stops : List ℕ → Bool
+stops [] = true
+stops (x ∷ xs) = not (starts_reference x)
 
 -- where the text stops, no reference goes on
 pub reference_len-stops : (t : List ℕ) → stops t ≡ true → reference_len t ≡ 0

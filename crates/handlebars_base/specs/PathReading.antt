@@ -1,5 +1,5 @@
 -- Reading a path from left to right, and how far a reference goes, as functions on lists.
-use Rattle.std.specs.Prelude.{◌≡◌, ℕ, zero, suc, ◌+◌, Bool, true, false, not, ◌&&◌, ◌||◌, ◌==◌, nat_lt, if◌then◌else◌, List, [], ◌∷◌, ◌++◌, length, take, drop, Option, Some, None, is_some, codes}
+use Rattle.std.specs.Prelude.{ℕ, zero, suc, ◌+◌, Bool, true, false, ◌&&◌, ◌||◌, ◌==◌, nat_lt, if◌then◌else◌, List, [], ◌∷◌, ◌++◌, length, take, drop, Option, Some, None, is_some, codes}
 use Rattle.std.specs.List.{prefix_len, position_or_len, before_first, after_first}
 use Rattle.std.specs.Str.{bytes_eq}
 use Rattle.std.specs.Option.{option_map}
@@ -99,13 +99,11 @@ at_sign_start u =
 abbrev pub part_start : Part × Text → Option (Start × Text)
 part_start p = Some (from_part p.0, p.1)
 
--- what follows a `.` that begins no `..`: a `/` and a part, or nothing of the path
-abbrev pub dot_start : Text → Option (Start × Text)
-dot_start r = with_or (after slash r) (λ r. part_at r >>= part_start) (Some (here, r))
-
--- a path with no `@`
+-- A path with no `@`. A `.` that begins no `..` is followed by a `/` and a part, or by nothing of the path.
 unfoldable pub start_without_at_sign : Text → Option (Start × Text)
-start_without_at_sign t = with_or (part_at t) part_start (after dot t >>= dot_start)
+start_without_at_sign t =
+    with_or (part_at t) part_start
+    (after dot t >>= λ r. with_or (after slash r) (λ r. part_at r >>= part_start) (Some (here, r)))
 
 unfoldable pub start_at : Text → Option (Start × Text)
 start_at t = with_or (after at_sign t) (λ r. at_sign_start (ups_at 0 r)) (start_without_at_sign t)
@@ -147,10 +145,6 @@ unfoldable pub shape_at : Text → Option (Shape × Text)
 shape_at t = start_at t >>= λ s.
     Some (shape_from (is_dotted t) s.0 (links_behind s.0 s.1).0, (links_behind s.0 s.1).1)
 
--- a shape was read in front, and this is left
-abbrev pub IsLeft : Text → Text → Type 0
-IsLeft t rest = (s : Shape) × (shape_at t ≡ Some (s, rest))
-
 -- the path that the whole text is
 unfoldable pub shape_of : Text → Option Shape
 shape_of t = shape_at t >>= λ s. if length s.1 == 0 then Some s.0 else None
@@ -163,15 +157,6 @@ path_of t = option_map (meaning t) (shape_of t)
 -- a byte that stands in a path outside brackets: a symbol, `.`, `/` or `@`
 abbrev pub is_reference_byte : ℕ → Bool
 is_reference_byte b = is_symbol b || (b == dot || (b == slash || b == at_sign))
-
--- a byte that a reference begins with: one of those, or an opening bracket
-abbrev pub starts_reference : ℕ → Bool
-starts_reference b = is_reference_byte b || b == left_bracket
-
--- the text goes on with none of these, or ends
-abbrev pub stops : Text → Bool
-stops [] = true
-stops (x ∷ xs) = not (starts_reference x)
 
 -- one more, where there is any
 abbrev pub one_more : ℕ → ℕ

@@ -5,7 +5,8 @@ use Rattle.std.specs.List.{prefix_len, list_all}
 use Rattle.std.proofs.lemmas.List.{take-append-drop, append-nil}
 use Rattle.handlebars_base.specs.Bytes.{dot, slash, at_sign, left_bracket, is_symbol, is_white, behind_white}
 use Rattle.handlebars_base.specs.Path.{IsIdentifier, IsPath, plain, in_parts, meaning}
-use Rattle.handlebars_base.specs.PathReading.{slice_at, stops}
+use Rattle.handlebars_base.specs.PathReading.{slice_at}
+use Rattle.handlebars_base.proofs.References.{stops}
 use Rattle.handlebars_base.specs.Texts.{starts, symbols_of, behind_symbols}
 use Rattle.handlebars_base.proofs.Fronts.{behind_white-skips, white_some, dark_behind}
 use Rattle.handlebars_base.proofs.Runs.{prefix_pass, behind_symbols-stops}

@@ -1,10 +1,10 @@
 -- Block parameters: what is read is what is spelled, and at most one way.
-use Rattle.std.proofs.Common.{◌≡◌, ◌≢◌, ℕ, ◌+◌, true, false, List, [], ◌∷◌, ◌++◌, Option, Some, None, refl, sym, ap, subst, ◌∙◌, append_assoc, arith, inl, inr}
-use Rattle.std.specs.Prelude.{◌==◌, is_some, codes, MatchOption}
+use Rattle.std.proofs.Common.{◌≡◌, ◌≢◌, ℕ, ◌+◌, ◌<◌, length, true, false, List, [], ◌∷◌, ◌++◌, Option, Some, None, refl, sym, ap, subst, ◌∙◌, append_assoc, arith, inl, inr}
+use Rattle.std.specs.Prelude.{◌==◌, is_some, codes}
 use Rattle.std.specs.List.{prefix_len}
-use Rattle.std.specs.Option.{option_map}
 use Rattle.std.specs.Str.{bytes_eq}
-use Rattle.std.proofs.lemmas.Bool.{ne_eqb}
+use Rattle.std.proofs.lemmas.Bool.{ne_eqb, eq-eqb}
+use Rattle.std.proofs.lemmas.List.Folds.{length-prefix_len}
 use Rattle.std.proofs.lemmas.List.{take-append-drop}
 use Rattle.std.proofs.lemmas.Option.{same_Some, none-some}
 use Rattle.std.proofs.lemmas.Slice.Eq.{bytes_eq-Decides}
@@ -17,9 +17,7 @@ use Rattle.handlebars_base.proofs.Runs.{prefix_pass, behind_symbols-stops, symbo
 use Rattle.handlebars_base.specs.Texts.{IsWhite, starts, after, symbols_of, behind_symbols}
 use Rattle.handlebars_base.proofs.Bytes.{other_byte, symbol_dark, white_symbol}
 use Rattle.handlebars_lines.specs.Binding.{behind_bar, behind_beginning, begins_binding, BoundNames, unbound, bound, both_bound, Names, one_name, two_names, spelled_names, AreNames, bound_by, IsBound, IsBinding, is_unbound, is_bound, NoBinding, OneBinding}
-use Rattle.handlebars_lines.specs.BindingReading.{symbols_at, name_at, behind_last, other_at, names_at, binding_at}
-use Rattle.handlebars_lines.specs.BindingView.{bound_names_of, binding_slice_of}
-use Rattle.handlebars_lines.specs.declared.binding.BindingSlice.{BindingSlice}
+use Rattle.handlebars_lines.proofs.BindingReading.{symbols_at, name_at, behind_last, other_at, names_at, binding_at}
 
 -- ---- where they begin
 
@@ -280,11 +278,22 @@ one_binding t a b r r' h g =
 
 -- ---- what the program reads
 
--- where block parameters are begun, what the names give is what all gives
-pub names-answer : (t r : List ℕ) (read : Option BindingSlice) → Some r ≡ behind_beginning t → option_map binding_slice_of read ≡ names_at r
-    → MatchOption read (NoBinding t) (λ slice. IsBinding t (bound_names_of slice.means) slice.rest.now)
-names-answer t r read begun gives = on read gives
-  where
-    on : (read : Option BindingSlice) → option_map binding_slice_of read ≡ names_at r → MatchOption read (NoBinding t) (λ slice. IsBinding t (bound_names_of slice.means) slice.rest.now)
-    on None gives = no_binding t (rw (sym begun) (sym gives))
-    on (Some slice) gives = binding_at-takes t (binding_slice_of slice) (rw (sym begun) (sym gives))
+pub name_at-none : (t : List ℕ) {u name : List ℕ} → u ≡ behind_white t → name ≡ symbols_of u → length name ≡ 0 → name_at t ≡ None
+unfolding symbols_at
+name_at-none t {u = u} white front none =
+    let empty : (prefix_len is_symbol u == 0) ≡ true = eq-eqb (prefix_len is_symbol u) 0 (omega (arith, none, ap length front, length-prefix_len is_symbol u)) in
+    rw (← white, empty) refl
+
+pub name_at-is : (t : List ℕ) {u name rest : List ℕ} → u ≡ behind_white t → name ≡ symbols_of u → rest ≡ behind_symbols u → 0 < length name →
+    name_at t ≡ Some (name, rest)
+unfolding symbols_at
+name_at-is t {u = u} white front behind some =
+    let any : (prefix_len is_symbol u == 0) ≡ false = ne_eqb (prefix_len is_symbol u) 0 (λ e. absurd (omega (arith, e, some, ap length front, length-prefix_len is_symbol u))) in
+    rw (← white, any, front, behind) refl
+
+pub none_bound : {t r : List ℕ} → Some r ≡ behind_beginning t → names_at r ≡ None → NoBinding t
+none_bound {t = t} begun none = no_binding t (rw (← begun) none)
+
+pub names_bound : {t r : List ℕ} {means : BoundNames} {rest : List ℕ} → Some r ≡ behind_beginning t → names_at r ≡ Some (means, rest) →
+    IsBinding t means rest
+names_bound {t = t} {means = means} {rest = rest} begun gives = binding_at-takes t (means, rest) (rw (← begun) gives)

@@ -55,9 +55,6 @@ runs-stuck step s t _ _ (onward y r u {xs = ys} {e = d} is h) e = goes-not_stuck
 pub record Through {E S Y : Type 0} (step : S → List ℕ → ReadingStep E S) (s0 : S) (t0 : List ℕ) (f0 : List E → Y) (s : S) (t : List ℕ) (f : List E → Y) : Type 0 where
   pub passes : (ys : List E) (e : List ℕ) → Runs step s0 t0 ys e → (xs : List E) × (Runs step s t xs e) × (f0 ys ≡ f xs)
 
-pub through-starts : {E S Y : Type 0} (step : S → List ℕ → ReadingStep E S) (s : S) (t : List ℕ) (f : List E → Y) → Through step s t f s t f
-through-starts step s t f = record { passes = λ ys e h. (ys, h, refl) }
-
 pub through-goes : {E S Y : Type 0} (step : S → List ℕ → ReadingStep E S) (s0 : S) (t0 : List ℕ) (f0 : List E → Y) (s : S) (t : List ℕ) (f : List E → Y) (x : E) (s' : S) (t' : List ℕ) (f' : List E → Y)
     → step s t ≡ goes x s' t' → ((xs : List E) → f (x ∷ xs) ≡ f' xs) → Through step s0 t0 f0 s t f → Through step s0 t0 f0 s' t' f'
 through-goes step s0 t0 f0 s t f x s' t' f' is same h = record {

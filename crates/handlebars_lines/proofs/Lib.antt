@@ -13,6 +13,7 @@ pub mod LiteralNames
 pub mod Endings
 pub mod LineMarks
 pub mod CloseNames
+pub mod BindingReading
 pub mod Bindings
 pub mod LineFronts
 pub mod LineEnds

@@ -4,7 +4,8 @@ use Rattle.std.specs.Prelude.{◌==◌}
 use Rattle.std.proofs.lemmas.Bool.{cases_Bool}
 use Rattle.handlebars_base.specs.Bytes.{behind_white, is_symbol}
 use Rattle.handlebars_base.specs.Path.{plain, in_parts, IsPath, Reference, meaning}
-use Rattle.handlebars_base.specs.PathReading.{stops, slice_at}
+use Rattle.handlebars_base.specs.PathReading.{slice_at}
+use Rattle.handlebars_base.proofs.References.{stops}
 use Rattle.handlebars_base.specs.Texts.{IsWhite, starts, behind_symbols}
 use Rattle.handlebars_base.proofs.Fronts.{behind_white-append, starts-other, after-not}
 use Rattle.handlebars_base.proofs.Bytes.{other_byte}

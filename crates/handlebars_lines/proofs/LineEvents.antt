@@ -2,9 +2,29 @@
 use Rattle.std.proofs.Common.{◌≡◌, ℕ, suc, ◌+◌, ◌≤◌, List, [], ◌∷◌, ◌++◌, Option, Some, None, refl, sym, ap, ◌∙◌, append_assoc, arith, max}
 use Rattle.handlebars_base.proofs.PathShapes.{path_known}
 use Rattle.handlebars_lines.specs.Parameter.{Term, Terms, no_terms, term, name_term, TermShape, literal_shape, path_shape, nested_shape, Items, no_items, parameter_item, pair_item, Fits, AreItems, term_of, terms_of, depth_of, items_depth}
-use Rattle.handlebars_lines.specs.Line.{NameMode, NameShape, plain_name, term_name, IsName, term_of_name, name_depth}
-use Rattle.handlebars_lines.specs.LineReading.{Event, closed, most_open, OpenLine, joined, begun_line, add_term, OpenLines, first_lines, build_all}
+use Rattle.handlebars_lines.specs.Line.{NameMode, NameShape, plain_name, term_name, IsName, term_of_name, name_depth, Line}
+use Rattle.handlebars_lines.specs.LineReading.{Event, closed, OpenLine, joined, begun_line, add_term, OpenLines, first_lines, height, build}
 use Rattle.handlebars_lines.proofs.LinesRead.{events, item_events, name_events}
+use Rattle.handlebars_base.specs.Optional.{◌>>=◌}
+use Rattle.std.specs.Option.{option_map}
+
+-- ---- what steps find
+
+-- the most parentheses and brackets open at once
+abbrev pub most_open : ℕ → List Event → ℕ
+most_open m [] = m
+most_open m (x ∷ xs) = most_open (max m (height x)) xs
+
+abbrev pub build_all : OpenLines → List Event → Option OpenLines
+build_all fs [] = Some fs
+build_all fs (x ∷ xs) = build fs x >>= λ gs. build_all gs xs
+
+-- the line that the events are
+abbrev pub line_in : ℕ → OpenLines → Option Line
+line_in depth fs = option_map (λ name. record { name = name; terms = fs.top.terms; depth = depth }) fs.top.name
+
+abbrev pub line_from : List Event → Option Line
+line_from xs = build_all first_lines xs >>= line_in (most_open 0 xs)
 
 -- ---- what is found of a line in parentheses, in front of more
 

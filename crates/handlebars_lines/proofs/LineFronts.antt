@@ -5,8 +5,8 @@ use Rattle.std.specs.List.{AllByRecursion}
 use Rattle.std.proofs.lemmas.Bool.{eqb-true, cases_Bool, or_cases, or_parts, not-false}
 use Rattle.handlebars_base.specs.Bytes.{is_white, behind_white, is_symbol}
 use Rattle.handlebars_base.specs.Path.{IsIdentifier, Reference, IsPath}
-use Rattle.handlebars_base.specs.PathReading.{is_reference_byte, starts_reference, stops, reference_from, reference_len}
-use Rattle.handlebars_base.proofs.References.{stops-path, reference_len-append}
+use Rattle.handlebars_base.specs.PathReading.{is_reference_byte, reference_from, reference_len}
+use Rattle.handlebars_base.proofs.References.{stops-path, reference_len-append, starts_reference, stops}
 use Rattle.handlebars_base.specs.Texts.{IsWhite, starts, after, behind_symbols}
 use Rattle.handlebars_base.proofs.Fronts.{behind_white-dark, behind_white-append, starts-other, starts-append, after-not, starts-more}
 use Rattle.handlebars_base.proofs.Bytes.{other_byte}

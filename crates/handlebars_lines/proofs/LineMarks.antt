@@ -8,7 +8,8 @@ use Rattle.std.proofs.lemmas.List.{take-append-drop, append_cancel_right}
 use Rattle.std.proofs.lemmas.Option.{same_Some}
 use Rattle.handlebars_base.specs.Bytes.{is_white, behind_white, is_symbol}
 use Rattle.handlebars_base.specs.Path.{IsIdentifier, Reference, raw_of, IsPath}
-use Rattle.handlebars_base.specs.PathReading.{slice_at, path_at, stops}
+use Rattle.handlebars_base.specs.PathReading.{slice_at, path_at}
+use Rattle.handlebars_base.proofs.References.{stops}
 use Rattle.handlebars_base.specs.Optional.{◌>>=◌}
 use Rattle.handlebars_base.proofs.OptionBinds.{bind_some, map_some, guard_bind}
 use Rattle.handlebars_base.proofs.PathsInFront.{path_at-some, path_at-stops}

@@ -5,13 +5,13 @@ use Rattle.std.proofs.lemmas.Option.{same_Some}
 use Rattle.handlebars_lines.specs.Runs.{goes, ends, stuck}
 use Rattle.handlebars_lines.specs.Parameter.{Term, Terms, Items, terms_of, items_depth}
 use Rattle.handlebars_lines.specs.Line.{NameMode, NameShape, term_of_name, name_depth, Enclosure, Line, IsLine, NoLine}
-use Rattle.handlebars_lines.specs.LineReading.{Event, at_name, LineStand, line_stand, line_step, height, most_open, first_lines, build_all, line_from}
+use Rattle.handlebars_lines.specs.LineReading.{Event, at_name, LineStand, line_stand, line_step, height, first_lines}
 use Rattle.handlebars_lines.specs.LineLaws.{HasLine, OneLine}
 use Rattle.handlebars_lines.proofs.Stepping.{Runs, last, none, Still, still-goes}
 use Rattle.handlebars_lines.proofs.Endings.{one_end, not_both}
 use Rattle.handlebars_lines.proofs.LinesRead.{name_events, item_events, runs_read}
 use Rattle.handlebars_lines.proofs.LinesFound.{line_runs}
-use Rattle.handlebars_lines.proofs.LineEvents.{most_open-line, whole_lines, build-line}
+use Rattle.handlebars_lines.proofs.LineEvents.{most_open-line, whole_lines, build-line, most_open, build_all, line_from}
 use Rattle.handlebars_lines.proofs.LineBounds.{line_bounds, line_shortens}
 
 -- ---- a line is what the steps find

@@ -8,8 +8,8 @@ use Rattle.std.proofs.lemmas.List.{take_at, drop_at, get_or-drop, reverse-append
 use Rattle.handlebars_base.specs.Texts.{starts}
 use Rattle.handlebars_lines.specs.Runs.{goes, ends, stuck}
 use Rattle.handlebars_lines.specs.Literal.{Bracket, goes_on}
-use Rattle.handlebars_lines.specs.LiteralReading.{Token, token_at, LiteralPlace, ahead, innermost, outer, Find, taken, literal_step, most, all_kept, slice_to, literal_at}
-use Rattle.handlebars_lines.specs.LiteralView.{bracket_of, stack_of, place_of, literal_slice_of}
+use Rattle.handlebars_lines.specs.LiteralReading.{Token, token_at, LiteralPlace, ahead, innermost, outer, Find, taken, literal_step, most, all_kept, slice_to, literal_at, behind}
+use Rattle.handlebars_lines.specs.LiteralView.{bracket_of, stack_of, literal_slice_of}
 use Rattle.handlebars_lines.specs.Laws.{HasLiteral, NoLiteral}
 use Rattle.handlebars_lines.specs.declared.literal.Bracket.{Bracket as ReadBracket}
 use Rattle.handlebars_lines.specs.declared.literal.LiteralSlice.{LiteralSlice}
@@ -55,6 +55,10 @@ stack-pop items = elim (snoc items) [
       take_at some.0 (some.1 ∷ []) (length (some.0 ++ some.1 ∷ []) - 1) (omega (arith, length-append some.0 (some.1 ∷ []))) in
       rw some.2 (ap stack_of front ∙ sym (ap outer (stack-push some.0 some.1)))
 ]
+
+abbrev pub place_of : Bool → List ReadBracket → LiteralPlace
+place_of true ks = ahead (stack_of ks)
+place_of false ks = behind (stack_of ks)
 
 -- ---- a turn of the loop
 

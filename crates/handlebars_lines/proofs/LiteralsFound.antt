@@ -10,7 +10,7 @@ use Rattle.handlebars_base.proofs.Bytes.{other_byte}
 use Rattle.handlebars_base.proofs.Ends.{take-front}
 use Rattle.handlebars_lines.specs.Runs.{goes, run}
 use Rattle.handlebars_lines.specs.Literal.{is_inner, is_number, is_kept, is_word, Bracket, array, object, opener, closer, Lead, unnamed, keyed, spelled_lead, IsLead, Literal, quoted, single_quoted, number, word, empty, filled, Entries, closing, another, spelled_literal, spelled_entries, is_element, IsLiteral, AreEntries, literal_depth, entries_depth, keeps_numbers, keeps_numbers_in, goes_on}
-use Rattle.handlebars_lines.specs.LiteralReading.{behind_quote, plain_at, undoubled_at, unbracketed_at, keeps_at, behind_key, behind_lead, Token, unbracketed, empty_brackets, opening_bracket, another_entry, closing_bracket, literal_end, no_token, bracket_token, value_token, entry_token, LiteralPlace, ahead, behind, innermost, Find, opens, reads, taken, literal_step, most, all_kept, LiteralSlice, cut_to, slice_in, literal_at}
+use Rattle.handlebars_lines.specs.LiteralReading.{behind_quote, plain_at, undoubled_at, unbracketed_at, keeps_at, behind_key, behind_lead, Token, unbracketed, empty_brackets, opening_bracket, another_entry, closing_bracket, literal_end, no_token, bracket_token, value_token, entry_token, LiteralPlace, ahead, behind, innermost, Find, opens, reads, taken, literal_step, most, all_kept, LiteralSlice, slice_to, literal_at}
 use Rattle.handlebars_lines.specs.Laws.{HasLiteral, NoLiteral}
 use Rattle.handlebars_lines.proofs.Fronts.{run_of-append, behind_run-append, behind_quote-append, white_goes_on}
 use Rattle.handlebars_lines.proofs.Stepping.{Runs, last, onward, Shortens, run-runs, run-some}
@@ -275,9 +275,9 @@ kept-whole l = kept-literal l 0 true []
 pub literal_at-some : (t : List ℕ) (f : LiteralSlice) → literal_at t ≡ Some f → HasLiteral t f
 unfolding literal_at
 literal_at-some t f e =
-    let b = bind_some (run literal_step (length t + 1) (ahead []) t) (slice_in t) f e in
+    let b = bind_some (run literal_step (length t + 1) (ahead []) t) (λ r. slice_to t r.1 (most 0 r.0) (all_kept true r.0)) f e in
     let h = runs-spelled (ahead []) t b.0.0 b.0.1 (run-runs literal_step (length t + 1) (ahead []) t b.0 b.1) in
-    let made : LiteralSlice = cut_to t b.0.1 (most 0 b.0.0) (all_kept true b.0.0) in
+    let made : LiteralSlice = record { raw = take (length t - length b.0.1) t; rest = b.0.1; depth = most 0 b.0.0; kept = all_kept true b.0.0 } in
     let g = guard_some (starts goes_on b.0.1) made f b.2 in
     let whole : t ≡ spelled_literal h.literal ++ b.0.1 = h.whole ∙ ap (λ (z : List ℕ). spelled_literal h.literal ++ z) h.closes.0 in
     let found : b.0.0 ≡ heights 0 h.literal ++ [] = h.found ∙ ap (λ (z : List Find). heights 0 h.literal ++ z) h.closes.1 in

@@ -10,7 +10,7 @@ use Rattle.handlebars_base.proofs.Fronts.{after_takes, behind_white-skips}
 use Rattle.handlebars_base.specs.Texts.{IsWhite, after}
 use Rattle.handlebars_base.specs.Bytes.{behind_white}
 use Rattle.handlebars_lines.specs.Literal.{is_number, is_word, Bracket, array, object, opener, closer, Lead, unnamed, keyed, spelled_lead, IsLead, Literal, quoted, single_quoted, number, word, empty, filled, spelled_literal, is_element, IsLiteral, is_kept, keeps_numbers, goes_on}
-use Rattle.handlebars_lines.specs.LiteralReading.{behind_quote, run_of, behind_run, plain_at, undoubled_at, unbracketed_at, keeps_at, behind_colon, behind_key, behind_lead, Token, unbracketed, empty_brackets, opening_bracket, another_entry, closing_bracket, literal_end, no_token, bracket_token, value_token, comma_token, entry_token}
+use Rattle.handlebars_lines.specs.LiteralReading.{behind_quote, run_of, behind_run, plain_at, undoubled_at, unbracketed_at, keeps_at, behind_key, behind_lead, Token, unbracketed, empty_brackets, opening_bracket, another_entry, closing_bracket, literal_end, no_token, bracket_token, value_token, entry_token}
 use Rattle.handlebars_lines.proofs.Fronts.{behind_quote-takes, run_of-append}
 use Rattle.handlebars_lines.proofs.Plain.{plain_goes_on, word_no_number}
 
@@ -114,6 +114,9 @@ pub record TakesLead (k : Bracket) (t r : List ℕ) : Type 0 where
 
 pub lead_regroup : (w key u v r : List ℕ) → w ++ 34 ∷ (key ++ 34 ∷ (u ++ 58 ∷ (v ++ r))) ≡ (w ++ 34 ∷ (key ++ 34 ∷ (u ++ 58 ∷ v))) ++ r
 lead_regroup w key u v r = simp append_assoc
+
+abbrev behind_colon : List ℕ → Option (List ℕ)
+behind_colon t = after 58 (behind_white t) >>= λ r. Some (behind_white r)
 
 lead_takes : (k : Bracket) (t r : List ℕ) → behind_lead k (behind_white t) ≡ Some r → TakesLead k t r
 unfolding behind_key
@@ -222,6 +225,9 @@ EntryTells k t (another_entry r) = TakesNext k t r
 EntryTells k t (closing_bracket r) = TakesShutting k t r
 EntryTells k t literal_end = ⊥
 EntryTells k t no_token = Unit {0}
+
+abbrev comma_token : Bracket → List ℕ → Token
+comma_token k t = with_or (behind_lead k (behind_white t)) another_entry no_token
 
 comma_tells : (k : Bracket) (t u : List ℕ) → behind_white t ≡ 44 ∷ u → EntryTells k t (comma_token k u)
 comma_tells k t u first = on (behind_lead k (behind_white u)) refl

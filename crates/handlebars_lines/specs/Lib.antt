@@ -9,7 +9,6 @@ pub mod Laws
 pub mod Parameter
 pub mod CloseName
 pub mod Binding
-pub mod BindingReading
 pub mod BindingView
 pub mod Line
 pub mod LineReading

@@ -1,5 +1,5 @@
 -- Reading a line from left to right, step by step, with a count of the open parentheses, as functions on lists.
-use Rattle.std.specs.Prelude.{ℕ, suc, ◌+◌, ◌-◌, Bool, true, false, ◌&&◌, ◌==◌, if◌then◌else◌, max, length, List, [], ◌∷◌, Option, Some, None}
+use Rattle.std.specs.Prelude.{ℕ, suc, ◌+◌, ◌-◌, Bool, false, ◌==◌, if◌then◌else◌, length, List, [], ◌∷◌, Option, Some, None}
 use Rattle.std.specs.Option.{option_map}
 use Rattle.std.specs.List.{prefix_len, list_all}
 use Rattle.handlebars_base.specs.Bytes.{Text, equals_sign, is_white, behind_white, is_symbol}
@@ -10,7 +10,7 @@ use Rattle.handlebars_lines.specs.Runs.{ReadingStep, goes, ends, stuck}
 use Rattle.handlebars_lines.specs.LiteralReading.{literal_at}
 use Rattle.handlebars_lines.specs.Parameter.{left_parenthesis, right_parenthesis, Term, literal_term, path_term, name_term, call_term, Terms, no_terms, term, is_reserved}
 use Rattle.handlebars_lines.specs.CloseName.{close_name_at}
-use Rattle.handlebars_lines.specs.Line.{NameMode, identifier_name, value_name, close_name, Enclosure, is_end, Line}
+use Rattle.handlebars_lines.specs.Line.{NameMode, identifier_name, value_name, close_name, Enclosure, is_end}
 
 -- ---- what steps take
 
@@ -60,13 +60,11 @@ open_step key n r = goes (opened key (suc n)) (line_stand (at_name value_name) (
 abbrev pub plain_step : ℕ → Text × Text → ReadingStep Event LineStand
 plain_step n p = if length p.0 == 0 then stuck else goes (name_event p.0) (line_stand at_items n) p.1
 
-abbrev pub value_step : ℕ → Text → ReadingStep Event LineStand
-value_step n t =
-    with_or (slice_at t) (λ p. goes (path_event None p.0 n) (line_stand (behind_name p.0) n) p.1) stuck
-
 unfoldable pub name_step : NameMode → ℕ → Text → ReadingStep Event LineStand
 name_step identifier_name n t = plain_step n (symbols_of t, behind_symbols t)
-name_step value_name n t = with_or (after left_parenthesis t) (open_step None n) (value_step n t)
+name_step value_name n t =
+    with_or (after left_parenthesis t) (open_step None n)
+    (with_or (slice_at t) (λ p. goes (path_event None p.0 n) (line_stand (behind_name p.0) n) p.1) stuck)
 name_step close_name n t = with_or (after left_parenthesis t) (open_step None n) (plain_step n (close_name_at t))
 
 -- a reserved word behind no key
@@ -88,26 +86,20 @@ parameter_step key n t =
 unfoldable pub item_step : ℕ → Text → ReadingStep Event LineStand
 item_step n t = with_or (key_and_equals_at t) (λ k. parameter_step (Some k.0) n k.1) (parameter_step None n t)
 
-abbrev pub may_follow : Stand → Bool
-may_follow (at_name mode) = false
-may_follow at_items = true
-may_follow at_end = false
-
 -- an item behind white, where items may follow
 abbrev pub next_step : Stand → ℕ → Text → ReadingStep Event LineStand
-next_step s n t = if may_follow s && starts is_white t then item_step n (behind_white t) else stuck
+next_step (at_name mode) n t = stuck
+next_step at_items n t = if starts is_white t then item_step n (behind_white t) else stuck
+next_step at_end n t = stuck
 
--- the end, where no parenthesis is open
-abbrev pub outer_step : Enclosure → Stand → Text → ReadingStep Event LineStand
-outer_step around s t = if is_end around t then ends else next_step s 0 t
-
--- a closing parenthesis, where one is open
-abbrev pub inner_step : Stand → ℕ → Text → ReadingStep Event LineStand
-inner_step s n t =
-    with_or (after right_parenthesis (behind_white t)) (λ r. goes closed (line_stand at_items (n - 1)) r) (next_step s n t)
-
+-- the end where no parenthesis is open, a closing one where one is, or an item
 unfoldable pub behind_step : Enclosure → Stand → ℕ → Text → ReadingStep Event LineStand
-behind_step around s n t = if n == 0 then outer_step around s t else inner_step s n t
+behind_step around s n t =
+    if n == 0
+    then (if is_end around t then ends else next_step s 0 t)
+    else
+    with_or (after right_parenthesis (behind_white t))
+    (λ r. goes closed (line_stand at_items (n - 1)) r) (next_step s n t)
 
 abbrev pub step_at : Enclosure → Stand → ℕ → Text → ReadingStep Event LineStand
 step_at around (at_name mode) n t = name_step mode n t
@@ -125,11 +117,6 @@ height (literal_event key raw n) = n
 height (path_event key raw n) = n
 height (name_event raw) = 0
 height closed = 0
-
--- the most parentheses and brackets open at once
-abbrev pub most_open : ℕ → List Event → ℕ
-most_open m [] = m
-most_open m (x ∷ xs) = most_open (max m (height x)) xs
 
 -- a line that is not yet closed: the key before it, its name, and the terms so far
 pub record OpenLine : Type 0 where
@@ -177,14 +164,3 @@ build fs (literal_event key raw n) = Some (added_in key (literal_term raw) fs)
 build fs (path_event key raw n) = option_map (λ means. added_in key (path_term means) fs) (path_of raw)
 build fs (name_event raw) = Some (added_in None (name_term raw) fs)
 build fs closed = closed_in fs.top fs.around
-
-abbrev pub build_all : OpenLines → List Event → Option OpenLines
-build_all fs [] = Some fs
-build_all fs (x ∷ xs) = build fs x >>= λ gs. build_all gs xs
-
--- the line that the events are
-abbrev pub line_in : ℕ → OpenLines → Option Line
-line_in depth fs = option_map (λ name. record { name = name; terms = fs.top.terms; depth = depth }) fs.top.name
-
-abbrev pub line_from : List Event → Option Line
-line_from xs = build_all first_lines xs >>= line_in (most_open 0 xs)

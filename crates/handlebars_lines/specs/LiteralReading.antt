@@ -50,13 +50,11 @@ unbracketed_at inside t = with_or (after double_quote t) (behind_quote double_qu
 unfoldable pub keeps_at : Text → Bool
 keeps_at t = not (is_number (run_of t)) || is_kept (run_of t)
 
--- what follows a key's colon and white
-abbrev pub behind_colon : Text → Option Text
-behind_colon t = after colon (behind_white t) >>= λ r. Some (behind_white r)
-
 -- what follows a key, its colon and white
 unfoldable pub behind_key : Text → Option Text
-behind_key t = after double_quote t >>= behind_quote double_quote false >>= behind_colon
+behind_key t =
+    after double_quote t >>= behind_quote double_quote false >>= λ r.
+    after colon (behind_white r) >>= λ r. Some (behind_white r)
 
 -- where an entry's literal stands
 abbrev pub behind_lead : Bracket → Text → Option Text
@@ -84,13 +82,11 @@ value_token inside t =
     with_or (after left_bracket t) (λ r. bracket_token array (behind_white r))
     (with_or (after left_brace t) (λ r. bracket_token object (behind_white r)) (with_or (unbracketed_at inside t) (unbracketed (keeps_at t)) no_token))
 
--- behind a comma
-abbrev pub comma_token : Bracket → Text → Token
-comma_token k t = with_or (behind_lead k (behind_white t)) another_entry no_token
-
 -- behind an entry and white
 unfoldable pub entry_token : Bracket → Text → Token
-entry_token k t = with_or (after comma t) (comma_token k) (with_or (after (closer k) t) closing_bracket no_token)
+entry_token k t =
+    with_or (after comma t) (λ r. with_or (behind_lead k (behind_white r)) another_entry no_token)
+    (with_or (after (closer k) t) closing_bracket no_token)
 
 -- behind a literal, in brackets or not
 abbrev pub behind_token : Option Bracket → Text → Token
@@ -160,15 +156,13 @@ pub record LiteralSlice : Type 0 where
   pub depth : ℕ
   pub kept : Bool
 
-abbrev pub cut_to : Text → Text → ℕ → Bool → LiteralSlice
-cut_to t rest depth kept = record { raw = take (length t - length rest) t; rest = rest; depth = depth; kept = kept }
-
 -- the literal that ends ahead of this rest, unless its last word goes on there
 abbrev pub slice_to : Text → Text → ℕ → Bool → Option LiteralSlice
-slice_to t rest depth kept = if starts goes_on rest then None else Some (cut_to t rest depth kept)
-
-abbrev pub slice_in : Text → List Find × Text → Option LiteralSlice
-slice_in t r = slice_to t r.1 (most 0 r.0) (all_kept true r.0)
+slice_to t rest depth kept =
+    if starts goes_on rest
+    then None
+    else Some (record { raw = take (length t - length rest) t; rest = rest; depth = depth; kept = kept })
 
 unfoldable pub literal_at : Text → Option LiteralSlice
-literal_at t = run literal_step (length t + 1) (ahead []) t >>= slice_in t
+literal_at t =
+    run literal_step (length t + 1) (ahead []) t >>= λ r. slice_to t r.1 (most 0 r.0) (all_kept true r.0)

@@ -1,7 +1,7 @@
 -- What the program's tokens and slices of literals stand for.
-use Rattle.std.specs.Prelude.{Bool, true, false, List, map, reverse}
+use Rattle.std.specs.Prelude.{List, map, reverse}
 use Rattle.handlebars_lines.specs.Literal.{Bracket, array, object}
-use Rattle.handlebars_lines.specs.LiteralReading.{Token, unbracketed, empty_brackets, opening_bracket, another_entry, closing_bracket, literal_end, no_token, LiteralPlace, ahead, behind, LiteralSlice}
+use Rattle.handlebars_lines.specs.LiteralReading.{Token, unbracketed, empty_brackets, opening_bracket, another_entry, closing_bracket, literal_end, no_token, LiteralSlice}
 use Rattle.handlebars_lines.specs.declared.literal.Bracket.{Bracket as ReadBracket}
 use Rattle.handlebars_lines.specs.declared.literal.Bracket.TheVariants.{Array, Object}
 use Rattle.handlebars_lines.specs.declared.literal.Token.{Token as ReadToken}
@@ -15,10 +15,6 @@ bracket_of Object = object
 -- open brackets, the outermost first, seen from the innermost
 abbrev pub stack_of : List ReadBracket → List Bracket
 stack_of ks = map bracket_of (reverse ks)
-
-abbrev pub place_of : Bool → List ReadBracket → LiteralPlace
-place_of true ks = ahead (stack_of ks)
-place_of false ks = behind (stack_of ks)
 
 abbrev pub token_of : ReadToken → Token
 token_of (token.Unbracketed kept rest) = unbracketed kept rest.now

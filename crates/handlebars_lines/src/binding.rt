@@ -3,9 +3,7 @@
 ghost use Rattle.std.specs.Prelude.{◌≡◌, MatchOption};
 ghost use Rattle.std.specs.Option.{option_map};
 ghost use Rattle.handlebars_lines.specs.Binding.{behind_bar, behind_beginning, IsBinding, NoBinding};
-ghost use Rattle.handlebars_lines.specs.BindingReading.{symbols_at, other_at, names_at};
-ghost use Rattle.handlebars_lines.specs.BindingView.{bound_names_of, binding_slice_of};
-ghost use Rattle.handlebars_lines.specs.LineView.{texts_of};
+ghost use Rattle.handlebars_lines.specs.BindingView.{bound_names_of};
 
 use handlebars_base::json::path::marks::{after, behind_white, starts_white, symbols};
 
@@ -48,54 +46,35 @@ pub(crate) fn behind_beginning(text: &str) -> Option<&str>
     }
 }
 
-#[tactic(auto, unfolding(crate::specs::BindingReading::symbols_at))]
-fn symbols_at(text: &str) -> Option<(&str, &str)>
-    ensures { option_map texts_of result ≡ symbols_at text.now }
-{
-    let (name, rest) = symbols(text);
-    if name.is_empty() {
-        None
-    } else {
-        Some((name, rest))
-    }
-}
-
-/// The name behind another.
-fn other_at<'a>(name: &'a str, text: &'a str) -> Option<BindingSlice<'a>>
-    ensures { option_map binding_slice_of result ≡ other_at name.now text.now }
-{
-    let (other, behind) = symbols_at(behind_white(text))?;
-    let rest = after(b'|', behind_white(behind))?;
-    Some(BindingSlice {
-        means: BoundNames::BothBound(name, other),
-        rest,
-    })
-}
-
-/// The names behind the first bar, with the last one.
-fn names_at(text: &str) -> Option<BindingSlice<'_>>
-    ensures { option_map binding_slice_of result ≡ names_at text.now }
-{
-    let (name, behind) = symbols_at(behind_white(text))?;
-    match after(b'|', behind_white(behind)) {
-        Some(rest) => Some(BindingSlice {
-            means: BoundNames::Bound(name),
-            rest,
-        }),
-        None => other_at(name, behind),
-    }
-}
-
 /// The block parameters that a text begins with, where it begins behind the items of a line: none where none are begun.
 pub fn split_binding(text: &str) -> Option<BindingSlice<'_>>
     ensures { MatchOption result (NoBinding text.now)
         (λ slice. IsBinding text.now (bound_names_of slice.means) slice.rest.now) }
 {
-    match behind_beginning(text) {
-        Some(rest) => names_at(rest),
-        None => Some(BindingSlice {
+    let Some(rest) = behind_beginning(text) else {
+        return Some(BindingSlice {
             means: BoundNames::Unbound,
             rest: text,
-        }),
+        });
+    };
+    let (name, rest) = symbols(behind_white(rest));
+    if name.is_empty() {
+        return None;
     }
+    let rest = behind_white(rest);
+    if let Some(rest) = after(b'|', rest) {
+        return Some(BindingSlice {
+            means: BoundNames::Bound(name),
+            rest,
+        });
+    }
+    let (other, rest) = symbols(rest);
+    if other.is_empty() {
+        return None;
+    }
+    let rest = after(b'|', behind_white(rest))?;
+    Some(BindingSlice {
+        means: BoundNames::BothBound(name, other),
+        rest,
+    })
 }

@@ -6,7 +6,7 @@ ghost use Rattle.std.specs.Char.{is_ascii_digit};
 ghost use Rattle.std.specs.Option.{option_map};
 ghost use Rattle.handlebars_base.specs.Texts.{IsEnd, starts};
 ghost use Rattle.handlebars_lines.specs.Literal.{is_digits, is_integer, is_decimal, is_number, number_of, is_kept_below, is_kept, is_word, closer};
-ghost use Rattle.handlebars_lines.specs.LiteralReading.{begins_number, begins_name, plain_at, undoubled_at, unbracketed_at, keeps_at, behind_colon, behind_key, behind_lead, bracket_token, value_token, comma_token, entry_token, token_at, innermost, slice_to, literal_at};
+ghost use Rattle.handlebars_lines.specs.LiteralReading.{begins_number, begins_name, plain_at, undoubled_at, unbracketed_at, keeps_at, behind_key, behind_lead, bracket_token, value_token, entry_token, token_at, innermost, slice_to, literal_at};
 ghost use Rattle.handlebars_lines.specs.LiteralView.{bracket_of, stack_of, token_of, literal_slice_of};
 ghost use Rattle.handlebars_lines.specs.Laws.{HasLiteral, NoLiteral};
 
@@ -204,19 +204,13 @@ fn keeps_at(text: &str) -> bool
     is_kept(front) || !is_number(front)
 }
 
-fn behind_colon(text: &str) -> Option<&str>
-    ensures { option_map (λ rest. rest.now) result ≡ behind_colon text.now }
-{
-    let rest = after(b':', behind_white(text))?;
-    Some(behind_white(rest))
-}
-
 #[tactic(auto, unfolding(crate::specs::LiteralReading::behind_key))]
 fn behind_key(text: &str) -> Option<&str>
     ensures { option_map (λ rest. rest.now) result ≡ behind_key text.now }
 {
     let rest = behind_quote(b'"', after(b'"', text)?)?;
-    behind_colon(rest)
+    let rest = after(b':', behind_white(rest))?;
+    Some(behind_white(rest))
 }
 
 fn behind_lead(bracket: Bracket, text: &str) -> Option<&str>
@@ -270,22 +264,16 @@ fn value_token(inside: bool, text: &str) -> Token<'_>
     }
 }
 
-fn comma_token(bracket: Bracket, text: &str) -> Token<'_>
-    ensures { token_of result ≡ comma_token (bracket_of bracket) text.now }
-{
-    match behind_lead(bracket, behind_white(text)) {
-        Some(rest) => Token::AnotherEntry(rest),
-        None => Token::NoToken,
-    }
-}
-
 /// Behind an entry and white.
 #[tactic(auto, unfolding(crate::specs::LiteralReading::entry_token))]
 fn entry_token(bracket: Bracket, text: &str) -> Token<'_>
     ensures { token_of result ≡ entry_token (bracket_of bracket) text.now }
 {
     if let Some(rest) = after(b',', text) {
-        return comma_token(bracket, rest);
+        return match behind_lead(bracket, behind_white(rest)) {
+            Some(behind) => Token::AnotherEntry(behind),
+            None => Token::NoToken,
+        };
     }
     match after(closer(bracket), text) {
         Some(rest) => Token::ClosingBracket(rest),

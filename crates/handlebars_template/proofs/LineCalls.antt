@@ -18,7 +18,8 @@ use Rattle.handlebars_lines.specs.Line.{NameMode, identifier_name, value_name, E
 use Rattle.handlebars_lines.specs.Parameter.{path_term, name_term, Terms, no_terms, term}
 use Rattle.handlebars_lines.specs.Alone.{IsAlone, IsNamed}
 use Rattle.handlebars_lines.proofs.Alone.{name_path, alone_line, named_line}
-use Rattle.handlebars_lines.specs.LineReading.{Event, at_name, LineStand, line_stand, line_step, OpenLines, first_lines, build, build_all}
+use Rattle.handlebars_lines.specs.LineReading.{Event, at_name, LineStand, line_stand, line_step, OpenLines, first_lines, build}
+use Rattle.handlebars_lines.proofs.LineEvents.{build_all}
 use Rattle.handlebars_lines.proofs.Endings.{Through, through-goes, runs-goes, runs-ends, runs-stuck}
 use Rattle.handlebars_lines.proofs.Lines.{line_found, one_line}
 use Rattle.handlebars_template.specs.LineBuildingView.{OpenCalls, AreCallsOf, IsTaken, whole_line, IsPathAlone, HasArguments}

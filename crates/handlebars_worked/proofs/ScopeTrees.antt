@@ -6,7 +6,7 @@ use Rattle.handlebars_base.specs.Path.{Segment, named, up, relative, variable}
 use Rattle.handlebars_base.specs.PathReading as path
 use Rattle.handlebars_base.specs.Texts as texts
 use Rattle.handlebars_lines.specs.Binding.{behind_bar, behind_beginning}
-use Rattle.handlebars_lines.specs.BindingReading.{symbols_at}
+use Rattle.handlebars_lines.proofs.BindingReading.{symbols_at}
 use Rattle.handlebars_lines.specs.LineReading as line
 use Rattle.handlebars_lines.specs.LiteralReading as literal
 use Rattle.handlebars_tags.specs.Kind.{beginning_of, closing_of}

@@ -4,7 +4,7 @@ ghost use Rattle.std.specs.Prelude.{◌≡◌, ◌<◌, ◌^◌, IfOk};
 ghost use Rattle.handlebars_base.specs.Texts.{symbols_of, behind_symbols};
 ghost use Rattle.handlebars_lines.specs.CloseName.{close_name_at};
 ghost use Rattle.handlebars_lines.specs.Parameter.{is_reserved};
-ghost use Rattle.handlebars_lines.specs.LineReading.{at_name, line_stand, behind_name, open_step, plain_step, value_step, name_step, is_excluded, path_step, parameter_step, item_step, may_follow, next_step, outer_step, inner_step, behind_step, line_step};
+ghost use Rattle.handlebars_lines.specs.LineReading.{at_name, line_stand, behind_name, open_step, plain_step, name_step, is_excluded, path_step, parameter_step, item_step, next_step, behind_step, line_step};
 ghost use Rattle.handlebars_lines.specs.LineView.{mode_of, enclosure_of, key_of, stand_of, line_stand_of, step_of, height_of};
 
 use super::alone::path_slice;
@@ -142,49 +142,33 @@ fn plain_step<'a>(level: usize, name: &'a str, rest: &'a str) -> Step<'a>
 }
 
 #[inline(always)]
-fn identifier_step(level: usize, text: &str) -> Step<'_>
-    ensures { step_of result ≡ plain_step level (symbols_of text.now, behind_symbols text.now) }
-{
-    let (name, rest) = symbols(text);
-    plain_step(level, name, rest)
-}
-
-fn close_step(level: usize, text: &str) -> Step<'_>
-    ensures { step_of result ≡ plain_step level (close_name_at text.now) }
-{
-    let (name, rest) = close_name_at(text);
-    plain_step(level, name, rest)
-}
-
-#[inline(always)]
-fn value_step(level: usize, text: &str) -> Step<'_>
-    ensures { step_of result ≡ value_step level text.now }
-{
-    match path_slice(text) {
-        Some(slice) => {
-            let stand = behind_name(slice.raw);
-            let event = Event::Path(None, slice.raw, level);
-            Step::Goes(event, LineStand { stand, level }, slice.rest)
-        }
-        None => Step::Stuck,
-    }
-}
-
-#[inline(always)]
 #[tactic(auto, unfolding(crate::specs::LineReading::name_step))]
 fn name_step(mode: NameMode, level: usize, text: &str) -> Step<'_>
     requires { level < 2 ^ 63 }
     ensures { step_of result ≡ name_step (mode_of mode) level text.now }
 {
     match mode {
-        NameMode::Identifier => identifier_step(level, text),
+        NameMode::Identifier => {
+            let (name, rest) = symbols(text);
+            plain_step(level, name, rest)
+        }
         NameMode::Value => match after(b'(', text) {
             Some(rest) => open_step(None, level, rest),
-            None => value_step(level, text),
+            None => match path_slice(text) {
+                Some(slice) => {
+                    let stand = behind_name(slice.raw);
+                    let event = Event::Path(None, slice.raw, level);
+                    Step::Goes(event, LineStand { stand, level }, slice.rest)
+                }
+                None => Step::Stuck,
+            },
         },
         NameMode::Close => match after(b'(', text) {
             Some(rest) => open_step(None, level, rest),
-            None => close_step(level, text),
+            None => {
+                let (name, rest) = close_name_at(text);
+                plain_step(level, name, rest)
+            }
         },
     }
 }
@@ -266,65 +250,25 @@ fn item_step(alloc: Global, level: usize, text: &str) -> Result<Step<'_>, AllocE
     }
 }
 
-#[inline(always)]
-fn may_follow(stand: Stand) -> bool
-    ensures { result ≡ may_follow (stand_of stand) }
-{
-    match stand {
-        Stand::Name(_) | Stand::End => false,
-        Stand::Items => true,
-    }
-}
-
 /// An item stands behind white, where items may follow.
 #[inline(always)]
 fn next_step(alloc: Global, stand: Stand, level: usize, text: &str) -> Result<Step<'_>, AllocError>
     requires { level < 2 ^ 63 }
     ensures { IfOk result (λ step. step_of step ≡ next_step (stand_of stand) level text.now) }
 {
-    if may_follow(stand) && starts_white(text) {
-        item_step(alloc, level, behind_white(text))
-    } else {
-        Ok(Step::Stuck)
-    }
-}
-
-/// Where no parenthesis is open.
-#[inline(always)]
-fn outer_step(
-    alloc: Global,
-    around: Enclosure,
-    stand: Stand,
-    text: &str,
-) -> Result<Step<'_>, AllocError>
-    ensures { IfOk result (λ step. step_of step ≡ outer_step (enclosure_of around) (stand_of stand) text.now) }
-{
-    if is_end(around, text) {
-        Ok(Step::Ends)
-    } else {
-        next_step(alloc, stand, 0, text)
-    }
-}
-
-/// Where a parenthesis is open.
-#[inline(always)]
-fn inner_step(alloc: Global, stand: Stand, level: usize, text: &str) -> Result<Step<'_>, AllocError>
-    requires inside { 0 < level }
-    requires bounded { level < 2 ^ 63 }
-    ensures { IfOk result (λ step. step_of step ≡ inner_step (stand_of stand) level text.now) }
-{
-    match after(b')', behind_white(text)) {
-        Some(rest) => {
-            let state = LineStand {
-                stand: Stand::Items,
-                level: level - 1,
-            };
-            Ok(Step::Goes(Event::Closed, state, rest))
+    match stand {
+        Stand::Name(_) | Stand::End => Ok(Step::Stuck),
+        Stand::Items => {
+            if starts_white(text) {
+                item_step(alloc, level, behind_white(text))
+            } else {
+                Ok(Step::Stuck)
+            }
         }
-        None => next_step(alloc, stand, level, text),
     }
 }
 
+/// The end, where no parenthesis is open, or a closing one; or an item.
 #[tactic(auto, unfolding(crate::specs::LineReading::behind_step))]
 fn behind_step(
     alloc: Global,
@@ -337,9 +281,21 @@ fn behind_step(
     ensures { IfOk result (λ step. step_of step ≡ behind_step (enclosure_of around) (stand_of stand) level text.now) }
 {
     if level == 0 {
-        outer_step(alloc, around, stand, text)
-    } else {
-        inner_step(alloc, stand, level, text)
+        return if is_end(around, text) {
+            Ok(Step::Ends)
+        } else {
+            next_step(alloc, stand, 0, text)
+        };
+    }
+    match after(b')', behind_white(text)) {
+        Some(rest) => {
+            let state = LineStand {
+                stand: Stand::Items,
+                level: level - 1,
+            };
+            Ok(Step::Goes(Event::Closed, state, rest))
+        }
+        None => next_step(alloc, stand, level, text),
     }
 }
 

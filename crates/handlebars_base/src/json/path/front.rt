@@ -1,10 +1,11 @@
 //! Paths in front of longer texts.
 
-ghost use Rattle.std.specs.Prelude.{◌≡◌, ◌==◌, ◌+◌, ◌<◌, ◌≤◌, IfOk, IfSome, IsNone, length, drop, not};
+ghost use Rattle.std.specs.Prelude.{◌≡◌, ◌==◌, IfOk, Some, not};
 ghost use Rattle.std.specs.List.{position};
 ghost use Rattle.std.specs.Option.{option_map};
+ghost use Rattle.handlebars_base.specs.Path.{Shape};
 ghost use Rattle.handlebars_base.specs.PathView.{front_of, slice_of};
-ghost use Rattle.handlebars_base.specs.PathReading.{is_reference_byte, reference_len, IsLeft, path_at, slice_at};
+ghost use Rattle.handlebars_base.specs.PathReading.{is_reference_byte, reference_len, shape_at, path_at, slice_at};
 
 use super::Path;
 use super::marks::is_symbol;
@@ -54,7 +55,7 @@ pub fn read_front(alloc: Global, text: &str) -> Result<Option<PathFront<'_>>, Al
 
 /// The text up to the rest that its links leave, unless a reference goes on there.
 fn cut<'a>(text: &'a str, rest: &'a str) -> Option<PathSlice<'a>>
-    requires { IsLeft text.now rest.now }
+    requires { (shape : Shape) × (shape_at text.now ≡ Some (shape, rest.now)) }
     ensures { option_map slice_of result ≡ slice_at text.now }
 {
     if goes_on(rest) {

@@ -3,7 +3,7 @@
 ghost use Rattle.std.specs.Prelude.{◌≡◌, ◌++◌, IfOk, OnOk};
 ghost use Rattle.std.specs.Option.{option_map};
 ghost use Rattle.handlebars_base.specs.PathView.{segments_of, start_of, started_at, reference_of};
-ghost use Rattle.handlebars_base.specs.PathReading.{at_sign_start, start_without_at_sign, dot_start, start_at, links_behind, start_segments, start_meaning, ups_at};
+ghost use Rattle.handlebars_base.specs.PathReading.{at_sign_start, start_without_at_sign, start_at, links_behind, start_segments, start_meaning, ups_at};
 
 use super::links::{Part, behind_links, is_up, part_at, push, push_links};
 use super::marks::{after, symbols, ups};
@@ -36,18 +36,7 @@ fn at_sign_start(text: &str) -> Option<(Start<'_>, &str)>
     Some((Start::Variable(level, name), rest))
 }
 
-/// What follows a `.` that begins no `..`.
-fn dot_start(text: &str) -> Option<(Start<'_>, &str)>
-    ensures { option_map started_at result ≡ dot_start text.now }
-{
-    let Some(rest) = after(b'/', text) else {
-        return Some((Start::Here, text));
-    };
-    let (first, rest) = part_at(rest)?;
-    Some((Start::Part(first), rest))
-}
-
-/// The start of a path with no `@`.
+/// The start of a path with no `@`. A `.` that begins no `..` is followed by a `/` and a part, or by nothing of the path.
 #[tactic(auto, unfolding(crate::specs::PathReading::start_without_at_sign))]
 fn start_without_at_sign(text: &str) -> Option<(Start<'_>, &str)>
     ensures { option_map started_at result ≡ start_without_at_sign text.now }
@@ -55,7 +44,12 @@ fn start_without_at_sign(text: &str) -> Option<(Start<'_>, &str)>
     if let Some((first, rest)) = part_at(text) {
         return Some((Start::Part(first), rest));
     }
-    dot_start(after(b'.', text)?)
+    let behind = after(b'.', text)?;
+    let Some(rest) = after(b'/', behind) else {
+        return Some((Start::Here, behind));
+    };
+    let (first, rest) = part_at(rest)?;
+    Some((Start::Part(first), rest))
 }
 
 /// The start of the path at the front, and what follows it.

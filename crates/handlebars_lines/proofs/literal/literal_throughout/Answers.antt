@@ -3,9 +3,9 @@ use Rattle.std.proofs.lemmas.List.{length-take}
 use Rattle.handlebars_lines.specs.Runs.{goes}
 use Rattle.handlebars_lines.specs.Literal.{Bracket}
 use Rattle.handlebars_lines.specs.LiteralReading.{outer, opens, reads, unbracketed, empty_brackets, opening_bracket, another_entry, closing_bracket, literal_end, no_token, ahead, behind}
-use Rattle.handlebars_lines.specs.LiteralView.{bracket_of, stack_of, place_of}
+use Rattle.handlebars_lines.specs.LiteralView.{bracket_of, stack_of}
 use Rattle.handlebars_lines.proofs.LiteralsFound.{step_shorter, and_true}
-use Rattle.handlebars_lines.proofs.LiteralLoop.{stack-push, stack-pop, stack-length, loop_step, Holds, loop_goes, loop_ends, ends_within, loop_misfit}
+use Rattle.handlebars_lines.proofs.LiteralLoop.{stack-push, stack-pop, stack-length, loop_step, Holds, loop_goes, loop_ends, ends_within, loop_misfit, place_of}
 use Rattle.handlebars_lines.proofs.literal.literal_throughout.Goals as goal
 
 pub reading-smaller-in-Unbracketed : goal.reading-smaller-in-Unbracketed

@@ -2,9 +2,8 @@ use Rattle.std.proofs.Common.{◌≡◌, ◌≤◌, ◌+◌, length, ℕ, List, 
 use denote.Text.{Utf8}
 use denote.Shadow.{shadow}
 use Rattle.handlebars_lines.specs.LiteralReading.{ahead, literal_step}
-use Rattle.handlebars_lines.specs.LiteralView.{place_of}
 use Rattle.handlebars_lines.proofs.Stepping.{Still}
-use Rattle.handlebars_lines.proofs.LiteralLoop.{tally}
+use Rattle.handlebars_lines.proofs.LiteralLoop.{tally, place_of}
 use Rattle.handlebars_lines.proofs.literal.literal_throughout.Given as goal
 
 abbrev pub invariant-reading : goal.invariant-reading

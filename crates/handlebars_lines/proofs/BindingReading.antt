@@ -26,5 +26,6 @@ other_at name t = name_at t >>= λ p. behind_last p.1 >>= λ r. Some (both_bound
 abbrev pub names_at : Text → Option (BoundNames × Text)
 names_at t = name_at t >>= λ p. with_or (behind_last p.1) (λ r. Some (bound p.0, r)) (other_at p.0 p.1)
 
+-- the block parameters in front, as they are read
 abbrev pub binding_at : Text → Option (BoundNames × Text)
 binding_at t = with_or (behind_beginning t) names_at (Some (unbound, t))
