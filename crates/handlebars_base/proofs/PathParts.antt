@@ -1,5 +1,5 @@
 -- A part, and a link: what is read is spelled so, and what is spelled so is read.
-use Rattle.std.proofs.Common.{◌≡◌, ℕ, ◌+◌, ◌<◌, Bool, true, false, cond, not, ◌||◌, ltb, List, [], ◌∷◌, ◌++◌, length, get_or, drop, Some, None, refl, sym, ap, subst, ◌∙◌, append_assoc, arith, ◌⊎◌, inl, inr, length-append}
+use Rattle.std.proofs.Common.{◌≡◌, ℕ, ◌+◌, ◌<◌, Bool, true, false, cond, not, ◌||◌, ltb, List, [], ◌∷◌, ◌++◌, length, get_or, drop, Option, Some, None, refl, sym, ap, subst, ◌∙◌, append_assoc, arith, ◌⊎◌, inl, inr, length-append}
 use Rattle.std.specs.Prelude.{◌==◌}
 use Rattle.std.specs.List.{prefix_len, position_or_len, before_first, after_first, AllByRecursion}
 use Rattle.std.proofs.lemmas.Bool.{eqb-true, ltb-true, or_parts, or_cases, and_parts, not-true, not-false, ne_eqb, lt-ltb}
@@ -7,7 +7,7 @@ use Rattle.std.proofs.lemmas.Option.{cond_some}
 use Rattle.std.proofs.lemmas.List.{take-append-drop, take_at, drop_at, nil_from_length}
 use Rattle.std.proofs.lemmas.List.Sums.{prefix_len_stops, split_at_first}
 use Rattle.handlebars_base.specs.Path.{IsIdentifier, Part, dots, plain, bracketed, spelled_part, IsPart, is_dots, Link, joins}
-use Rattle.handlebars_base.specs.PathReading.{bracketed_at, plain_at, part_at, link_by, slash_link, dot_link, link_at}
+use Rattle.handlebars_base.specs.PathReading.{bracketed_at, plain_at, part_at, link_by, link_at}
 use Rattle.handlebars_base.specs.Optional.{◌>>=◌, with_or}
 use Rattle.handlebars_base.specs.Texts.{after, symbols_of, behind_symbols}
 use Rattle.handlebars_base.specs.Bytes.{is_symbol}
@@ -81,6 +81,12 @@ pub record TakesLink (before : Bool) (t : List ℕ) (q : Link × List ℕ) : Typ
 
 dot_joins : (before behind : Bool) → before ≡ false → behind ≡ false → joins before 46 behind ≡ true
 dot_joins before behind x y = rw (x, y) refl
+
+abbrev slash_link : List ℕ → Option (Link × List ℕ)
+slash_link r = part_at r >>= λ p. Some (link_by 47 p)
+
+abbrev dot_link : Bool → List ℕ → Option (Link × List ℕ)
+dot_link before r = part_at r >>= λ p. cond (before || is_dots p.0) None (Some (link_by 46 p))
 
 pub link_takes : (before : Bool) (t : List ℕ) (q : Link × List ℕ) → link_at before t ≡ Some q → TakesLink before t q
 unfolding link_at

@@ -15,10 +15,10 @@ use Rattle.handlebars_base.proofs.EscapedBytes.{escaped-append}
 use Rattle.handlebars_base.proofs.EscapedNumbers.{escaped-numeric, numeric-decimal, numeric-signed_decimal}
 
 -- a value by what it is in the code
-view-Null : view Null ≡ null
+pub view-Null : view Null ≡ null
 view-Null = search (rules, the_lemmas)
 
-view-Bool : (b : Bool) → view (BoolOf b) ≡ boolean b
+pub view-Bool : (b : Bool) → view (BoolOf b) ≡ boolean b
 view-Bool b = search (rules, the_lemmas)
 
 view-Object : (m : BTreeMap (String Global) Value) → view (Object m) ≡ object (members_view m.entries)

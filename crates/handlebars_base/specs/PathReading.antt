@@ -45,17 +45,11 @@ part_at t =
 abbrev pub link_by : ℕ → Part × Text → Link × Text
 link_by sep p = (record { sep = sep; part = p.0 }, p.1)
 
--- a link behind its `/`
-abbrev pub slash_link : Text → Option (Link × Text)
-slash_link r = part_at r >>= λ p. Some (link_by slash p)
-
--- a link behind its `.`, which joins no `..`
-abbrev pub dot_link : Bool → Text → Option (Link × Text)
-dot_link before r = part_at r >>= λ p. if before || is_dots p.0 then None else Some (link_by dot p)
-
--- a link behind a part, which is `..` or not
+-- A link behind a part, which is `..` or not. A `.` joins no `..`.
 unfoldable pub link_at : Bool → Text → Option (Link × Text)
-link_at before t = with_or (after slash t) slash_link (after dot t >>= dot_link before)
+link_at before t =
+    with_or (after slash t) (λ r. part_at r >>= λ p. Some (link_by slash p))
+    (after dot t >>= λ r. part_at r >>= λ p. if before || is_dots p.0 then None else Some (link_by dot p))
 
 abbrev pub part_of_link : Link × Text → Part × Text
 part_of_link q = (q.0.part, q.1)

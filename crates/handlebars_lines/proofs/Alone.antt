@@ -3,6 +3,7 @@ use Rattle.std.proofs.Common.{◌≡◌, ℕ, ◌<◌, Bool, true, false, List, 
 use Rattle.std.specs.Prelude.{◌||◌, ◌==◌, not}
 use Rattle.std.specs.List.{prefix_len, list_all}
 use Rattle.std.proofs.lemmas.List.{take-append-drop, append-nil}
+use Rattle.std.proofs.lemmas.Bool.{or_right}
 use Rattle.handlebars_base.specs.Bytes.{dot, slash, at_sign, left_bracket, is_symbol, is_white, behind_white}
 use Rattle.handlebars_base.specs.Path.{IsIdentifier, IsPath, plain, in_parts, meaning}
 use Rattle.handlebars_base.specs.PathReading.{slice_at}
@@ -50,17 +51,13 @@ is_alone around t raw rest e closes =
     let takes = slice_at-some t (raw, rest) e in
     record { means = takes.means; whole = takes.whole; is_path = takes.is; closes = closes }
 
-either-true : (b : Bool) → (b || true) ≡ true
-either-true true = refl
-either-true false = refl
-
 pub alone_line : (around : Enclosure) (t raw rest : List ℕ) (h : IsAlone around t raw rest)
     → IsLine value_name around t (record { name = path_term h.means; terms = no_terms; depth = 0 }) rest
 alone_line around t raw rest h = record {
   name = term_name (path_shape raw h.means);
   items = no_items;
   whole = h.whole;
-  is_name = (either-true (list_all is_symbol raw), h.is_path);
+  is_name = (or_right (list_all is_symbol raw) true refl, h.is_path);
   are_items = tt;
   closes = h.closes;
   gives = refl;

@@ -20,6 +20,7 @@ use Rattle.serde_json.specs.View.{view}
 use Rattle.serde_json.specs.declared.value.Value.{Null, Bool as BoolOf, the_lemmas}
 use Rattle.serde_json.proofs.Numbers.{number_of-decimal}
 use Rattle.handlebars_base.proofs.Fronts.{after_other}
+use Rattle.handlebars_base.proofs.ShownValues.{view-Null, view-Bool}
 use Rattle.handlebars_lines.specs.Literal.{is_inner, is_digits, number_of, is_kept, quoted as quoted_literal, single_quoted, number as number_literal, word as word_literal}
 use Rattle.handlebars_lines.specs.CommonJson.{has_leading_zero, is_plain_byte, is_not_single}
 use Rattle.handlebars_lines.specs.Worth.{escaped_doubles, double_quoted}
@@ -87,12 +88,6 @@ if_digits t None single e = tt
 if_digits t (Some n) single e = worth-digits t n single (sym e)
 
 -- ---- words
-
-view-Null : view Null ≡ null
-view-Null = search (rules, the_lemmas)
-
-view-Bool : (b : Bool) → view (BoolOf b) ≡ boolean b
-view-Bool b = search (rules, the_lemmas)
 
 read-true : read_text (codes "true") ≡ Some (boolean true)
 unfolding lex punctuate word json.value

@@ -9,7 +9,7 @@ use Rattle.handlebars_base.specs.Texts.{after}
 use Rattle.handlebars_base.proofs.Fronts.{after-not, after-same}
 use Rattle.handlebars_lines.specs.Literal.{array, object, Literal, quoted, single_quoted, number, word, empty, filled, spelled_literal, literal_depth, keeps_numbers, IsLiteral}
 use Rattle.handlebars_lines.specs.Worth.{json_of}
-use Rattle.handlebars_lines.specs.WorthReading.{before, json_text, slice_worth, worth_of}
+use Rattle.handlebars_lines.specs.WorthReading.{before, json_text, worth_of}
 use Rattle.serde_json.specs.Data.{Data}
 use Rattle.serde_json.specs.Read.{read as read_text}
 use Rattle.handlebars_lines.specs.Laws.{HasLiteral, WorthOfLiteral, WorthOfOther}
@@ -65,6 +65,9 @@ worth_of_literal l fits =
     on : (b : Bool) → cond (b && true) (read_text (json_text (spelled_literal l))) None ≡ cond b (read_text (json_of l)) None
     on true = ap read_text (json_text-literal l fits)
     on false = refl
+
+abbrev slice_worth : LiteralSlice → Option Data
+slice_worth slice = cond (slice.kept && (length slice.rest == 0)) (read_text (json_text slice.raw)) None
 
 pub worth_of_other : WorthOfOther
 unfolding worth_of

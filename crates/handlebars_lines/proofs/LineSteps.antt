@@ -17,7 +17,7 @@ use Rattle.handlebars_lines.specs.Runs.{ReadingStep, goes, ends, stuck}
 use Rattle.handlebars_lines.specs.Literal.{Literal, spelled_literal, literal_depth, IsLiteralAt}
 use Rattle.handlebars_lines.specs.LiteralReading.{LiteralSlice, literal_at}
 use Rattle.handlebars_lines.specs.Line.{NameMode, identifier_name, value_name, close_name, IsPlainName, Enclosure, is_end, Closes}
-use Rattle.handlebars_lines.specs.LineReading.{Event, opened, literal_event, path_event, name_event, closed, Stand, at_name, at_items, at_end, LineStand, line_stand, key_and_equals_at, behind_name, open_step, plain_step, name_step, is_excluded, path_step, parameter_step, item_step, next_step, behind_step, line_step}
+use Rattle.handlebars_lines.specs.LineReading.{Event, opened, literal_event, path_event, name_event, closed, Stand, at_name, at_items, at_end, LineStand, line_stand, key_and_equals_at, behind_name, open_step, plain_step, name_step, is_excluded, parameter_step, item_step, next_step, behind_step, line_step}
 use Rattle.handlebars_lines.specs.CloseName.{close_name_at}
 use Rattle.handlebars_lines.proofs.CloseNames.{close_name-whole}
 use Rattle.handlebars_lines.proofs.Stepping.{goes-parts}
@@ -64,6 +64,9 @@ name_goes n p = goes (path_event None p.0 n) (line_stand (behind_name p.0) n) p.
 
 abbrev value_step : ℕ → List ℕ → ReadingStep Event LineStand
 value_step n t = with_or (slice_at t) (name_goes n) stuck
+
+abbrev path_step : Option (List ℕ) → ℕ → List ℕ → ReadingStep Event LineStand
+path_step key n t = with_or (slice_at t) (λ p. cond (is_excluded key p.0) stuck (path_goes key n p)) stuck
 
 abbrev outer_step : Enclosure → Stand → List ℕ → ReadingStep Event LineStand
 outer_step around s t = cond (is_end around t) ends (next_step s 0 t)

@@ -2,6 +2,7 @@
 use Rattle.std.proofs.Common.{is_some, ◌≡◌, ℕ, suc, ◌+◌, ◌-◌, ◌≤◌, Bool, true, false, not, ◌&&◌, ◌||◌, List, [], ◌∷◌, ◌++◌, length, take, Some, None, refl, sym, ap, subst, ◌∙◌, append_assoc, arith, max}
 use Rattle.std.specs.Prelude.{◌==◌}
 use Rattle.std.proofs.lemmas.Option.{same_Some}
+use Rattle.std.proofs.lemmas.Bool.{or_right}
 use Rattle.handlebars_base.specs.Bytes.{is_white, behind_white}
 use Rattle.handlebars_base.proofs.OptionBinds.{bind_some, guard_some}
 use Rattle.handlebars_base.specs.Texts.{IsWhite, starts, after}
@@ -10,7 +11,7 @@ use Rattle.handlebars_base.proofs.Bytes.{other_byte}
 use Rattle.handlebars_base.proofs.Ends.{take-front}
 use Rattle.handlebars_lines.specs.Runs.{goes, run}
 use Rattle.handlebars_lines.specs.Literal.{is_inner, is_number, is_kept, is_word, Bracket, array, object, opener, closer, Lead, unnamed, keyed, spelled_lead, IsLead, Literal, quoted, single_quoted, number, word, empty, filled, Entries, closing, another, spelled_literal, spelled_entries, is_element, IsLiteral, AreEntries, literal_depth, entries_depth, keeps_numbers, keeps_numbers_in, goes_on}
-use Rattle.handlebars_lines.specs.LiteralReading.{behind_quote, plain_at, undoubled_at, unbracketed_at, keeps_at, behind_key, behind_lead, Token, unbracketed, empty_brackets, opening_bracket, another_entry, closing_bracket, literal_end, no_token, bracket_token, value_token, entry_token, LiteralPlace, ahead, behind, innermost, Find, opens, reads, taken, literal_step, most, all_kept, LiteralSlice, slice_to, literal_at}
+use Rattle.handlebars_lines.specs.LiteralReading.{behind_quote, plain_at, undoubled_at, unbracketed_at, keeps_at, behind_lead, Token, unbracketed, empty_brackets, opening_bracket, another_entry, closing_bracket, literal_end, no_token, bracket_token, value_token, entry_token, LiteralPlace, ahead, behind, innermost, Find, opens, reads, taken, literal_step, most, all_kept, LiteralSlice, slice_to, literal_at}
 use Rattle.handlebars_lines.specs.Laws.{HasLiteral, NoLiteral}
 use Rattle.handlebars_lines.proofs.Fronts.{run_of-append, behind_run-append, behind_quote-append, white_goes_on}
 use Rattle.handlebars_lines.proofs.Stepping.{Runs, last, onward, Shortens, run-runs, run-some}
@@ -127,8 +128,7 @@ record ReadsLead (k : Bracket) (u t : List ℕ) : Type 0 where
   leads : behind_lead k u ≡ Some t
   no_closer : after (closer k) u ≡ None
 
-reads_key : (key u v t : List ℕ) → is_inner 34 false key ≡ true → IsWhite u → IsWhite v → starts is_white t ≡ false → behind_key (34 ∷ (key ++ 34 ∷ (u ++ 58 ∷ (v ++ t)))) ≡ Some t
-unfolding behind_key
+reads_key : (key u v t : List ℕ) → is_inner 34 false key ≡ true → IsWhite u → IsWhite v → starts is_white t ≡ false → behind_lead object (34 ∷ (key ++ 34 ∷ (u ++ 58 ∷ (v ++ t)))) ≡ Some t
 reads_key key u v t fits white white' dark =
     rw (after-same 34 (key ++ 34 ∷ (u ++ 58 ∷ (v ++ t))), behind_quote-append 34 false key (u ++ 58 ∷ (v ++ t)) fits, behind_white-append u (58 ∷ (v ++ t)) white refl, after-same 58 (v ++ t), behind_white-append v t white' dark) refl
 
@@ -144,7 +144,7 @@ reads_lead object (keyed w key u v) t fits begins =
     let dark : behind_white ((w ++ 34 ∷ (key ++ 34 ∷ (u ++ 58 ∷ v))) ++ t) ≡ 34 ∷ (key ++ 34 ∷ (u ++ 58 ∷ (v ++ t))) =
     ap behind_white (sym (lead_regroup w key u v t)) ∙ behind_white-append w (34 ∷ (key ++ 34 ∷ (u ++ 58 ∷ (v ++ t)))) fits.0 refl in
     record {
-      leads = ap behind_key dark ∙ reads_key key u v t fits.1 fits.2 fits.3 (starts-other begins_literal is_white t begins_dark begins);
+      leads = ap (behind_lead object) dark ∙ reads_key key u v t fits.1 fits.2 fits.3 (starts-other begins_literal is_white t begins_dark begins);
       no_closer = ap (after 125) dark ∙ after-not 125 (34 ∷ (key ++ 34 ∷ (u ++ 58 ∷ (v ++ t)))) refl;
     }
 
@@ -172,16 +172,12 @@ atom_single_in (k ∷ ks) s rest fits element = let never : false ≡ true = ele
 
 -- ---- whole literals
 
-or_true : (b : Bool) → (b || true) ≡ true
-or_true true = refl
-or_true false = refl
-
 mutual
   literal_runs : (l : Literal) (ks : List Bracket) (rest : List ℕ) (xs : List Find) (e : List ℕ) → IsLiteral l → (is_some (innermost ks) ≡ true → is_element l ≡ true) → starts goes_on rest ≡ false → Runs literal_step (behind ks) rest xs e → Runs literal_step (ahead ks) (spelled_literal l ++ rest) (heights (length ks) l ++ xs) e
   literal_runs (quoted s) ks rest xs e fits element stop h = onward (opens 0) (behind ks) rest (ap (taken ks) (atom_quoted (is_some (innermost ks)) s rest fits)) h
   literal_runs (single_quoted s) ks rest xs e fits element stop h = onward (opens 0) (behind ks) rest (ap (taken ks) (atom_single_in ks s rest fits element)) h
   literal_runs (number t) ks rest xs e fits element stop h = onward (reads (is_kept t)) (behind ks) rest (ap (taken ks) (atom_plain (is_some (innermost ks)) (is_kept t) t rest (rw fits refl) (rw fits refl) stop)) h
-  literal_runs (word t) ks rest xs e fits element stop h = onward (opens 0) (behind ks) rest (ap (taken ks) (atom_plain (is_some (innermost ks)) true t rest (rw fits (or_true (is_number t))) (rw (word_no_number t fits) refl) stop)) h
+  literal_runs (word t) ks rest xs e fits element stop h = onward (opens 0) (behind ks) rest (ap (taken ks) (atom_plain (is_some (innermost ks)) true t rest (rw fits (or_right (is_number t) true refl)) (rw (word_no_number t fits) refl) stop)) h
   literal_runs (empty k w) ks rest xs e fits element stop h = onward (opens (suc (length ks))) (behind ks) rest (ap (taken ks) (value_bracket (is_some (innermost ks)) k ((w ++ closer k ∷ []) ++ rest) ∙ token_hollow k w rest fits)) h
   literal_runs (filled k lead l v more) ks rest xs e fits element stop h =
       let follow = v ++ (spelled_entries k more ++ rest) in

@@ -10,7 +10,7 @@ use Rattle.handlebars_base.proofs.Fronts.{after_takes, behind_white-skips}
 use Rattle.handlebars_base.specs.Texts.{IsWhite, after}
 use Rattle.handlebars_base.specs.Bytes.{behind_white}
 use Rattle.handlebars_lines.specs.Literal.{is_number, is_word, Bracket, array, object, opener, closer, Lead, unnamed, keyed, spelled_lead, IsLead, Literal, quoted, single_quoted, number, word, empty, filled, spelled_literal, is_element, IsLiteral, is_kept, keeps_numbers, goes_on}
-use Rattle.handlebars_lines.specs.LiteralReading.{behind_quote, run_of, behind_run, plain_at, undoubled_at, unbracketed_at, keeps_at, behind_key, behind_lead, Token, unbracketed, empty_brackets, opening_bracket, another_entry, closing_bracket, literal_end, no_token, bracket_token, value_token, entry_token}
+use Rattle.handlebars_lines.specs.LiteralReading.{behind_quote, run_of, behind_run, plain_at, undoubled_at, unbracketed_at, keeps_at, behind_lead, Token, unbracketed, empty_brackets, opening_bracket, another_entry, closing_bracket, literal_end, no_token, bracket_token, value_token, entry_token}
 use Rattle.handlebars_lines.proofs.Fronts.{behind_quote-takes, run_of-append}
 use Rattle.handlebars_lines.proofs.Plain.{plain_goes_on, word_no_number}
 
@@ -119,7 +119,6 @@ abbrev behind_colon : List ℕ → Option (List ℕ)
 behind_colon t = after 58 (behind_white t) >>= λ r. Some (behind_white r)
 
 lead_takes : (k : Bracket) (t r : List ℕ) → behind_lead k (behind_white t) ≡ Some r → TakesLead k t r
-unfolding behind_key
 lead_takes array t r e =
     let white = behind_white-skips t in
     let rest : behind_white t ≡ r = same_Some (behind_white t) r e in

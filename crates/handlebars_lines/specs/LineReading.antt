@@ -72,16 +72,12 @@ abbrev pub is_excluded : Option Text → Text → Bool
 is_excluded None raw = is_reserved raw
 is_excluded (Some key) raw = false
 
-abbrev pub path_step : Option Text → ℕ → Text → ReadingStep Event LineStand
-path_step key n t =
-    with_or (slice_at t)
-    (λ p. if is_excluded key p.0 then stuck else goes (path_event key p.0 n) (line_stand at_items n) p.1) stuck
-
 unfoldable pub parameter_step : Option Text → ℕ → Text → ReadingStep Event LineStand
 parameter_step key n t =
     with_or (after left_parenthesis t) (open_step key n)
     (with_or (literal_at t) (λ l. goes (literal_event key l.raw (n + l.depth)) (line_stand at_items n) l.rest)
-    (path_step key n t))
+    (with_or (slice_at t)
+    (λ p. if is_excluded key p.0 then stuck else goes (path_event key p.0 n) (line_stand at_items n) p.1) stuck))
 
 unfoldable pub item_step : ℕ → Text → ReadingStep Event LineStand
 item_step n t = with_or (key_and_equals_at t) (λ k. parameter_step (Some k.0) n k.1) (parameter_step None n t)

@@ -50,16 +50,12 @@ unbracketed_at inside t = with_or (after double_quote t) (behind_quote double_qu
 unfoldable pub keeps_at : Text → Bool
 keeps_at t = not (is_number (run_of t)) || is_kept (run_of t)
 
--- what follows a key, its colon and white
-unfoldable pub behind_key : Text → Option Text
-behind_key t =
-    after double_quote t >>= behind_quote double_quote false >>= λ r.
-    after colon (behind_white r) >>= λ r. Some (behind_white r)
-
--- where an entry's literal stands
+-- where an entry's literal stands: in an object behind a key, its colon and white
 abbrev pub behind_lead : Bracket → Text → Option Text
 behind_lead array t = Some t
-behind_lead object t = behind_key t
+behind_lead object t =
+    after double_quote t >>= behind_quote double_quote false >>= λ r.
+    after colon (behind_white r) >>= λ r. Some (behind_white r)
 
 -- what stands next, and what follows it: a literal with no brackets, its number kept or not; empty brackets; an opening bracket and what
 -- leads to its first entry; a comma and what leads to another; or a closing bracket

@@ -5,7 +5,7 @@ use Rattle.serde_json.specs.Read.{read as read_text}
 use Rattle.handlebars_base.specs.Bytes.{Text, single_quote}
 use Rattle.handlebars_base.specs.Optional.{◌>>=◌, with_or}
 use Rattle.handlebars_base.specs.Texts.{after}
-use Rattle.handlebars_lines.specs.LiteralReading.{LiteralSlice, literal_at}
+use Rattle.handlebars_lines.specs.LiteralReading.{literal_at}
 use Rattle.handlebars_lines.specs.Worth.{double_quoted}
 
 -- what stands in front of the mark c at the end
@@ -13,18 +13,12 @@ unfoldable pub before : ℕ → Text → Option Text
 before c t =
     if nat_lt 0 (length t) && (slice_index t (length t - 1) == c) then Some (take (length t - 1) t) else None
 
--- what stands between single quotes
-abbrev pub unquoted : Text → Option Text
-unquoted t = after single_quote t >>= before single_quote
-
 -- the JSON that the text of a literal is read as
 abbrev pub json_text : Text → Text
-json_text t = with_or (unquoted t) double_quoted t
+json_text t = with_or (after single_quote t >>= before single_quote) double_quoted t
 
--- what a literal in front of a text is worth, where it is the whole text and its numbers are kept
-abbrev pub slice_worth : LiteralSlice → Option Data
-slice_worth slice = if slice.kept && (length slice.rest == 0) then read_text (json_text slice.raw) else None
-
--- what the literal is worth that a text is; a text that is none is worth nothing
+-- What the literal is worth that a text is, where its numbers are kept. A text that is none is worth nothing.
 unfoldable pub worth_of : Text → Option Data
-worth_of raw = literal_at raw >>= slice_worth
+worth_of raw =
+    literal_at raw >>= λ slice.
+    if slice.kept && (length slice.rest == 0) then read_text (json_text slice.raw) else None

@@ -6,7 +6,7 @@ ghost use Rattle.std.specs.Char.{is_ascii_digit};
 ghost use Rattle.std.specs.Option.{option_map};
 ghost use Rattle.handlebars_base.specs.Texts.{IsEnd, starts};
 ghost use Rattle.handlebars_lines.specs.Literal.{is_digits, is_integer, is_decimal, is_number, number_of, is_kept_below, is_kept, is_word, closer};
-ghost use Rattle.handlebars_lines.specs.LiteralReading.{begins_number, begins_name, plain_at, undoubled_at, unbracketed_at, keeps_at, behind_key, behind_lead, bracket_token, value_token, entry_token, token_at, innermost, slice_to, literal_at};
+ghost use Rattle.handlebars_lines.specs.LiteralReading.{begins_number, begins_name, plain_at, undoubled_at, unbracketed_at, keeps_at, behind_lead, bracket_token, value_token, entry_token, token_at, innermost, slice_to, literal_at};
 ghost use Rattle.handlebars_lines.specs.LiteralView.{bracket_of, stack_of, token_of, literal_slice_of};
 ghost use Rattle.handlebars_lines.specs.Laws.{HasLiteral, NoLiteral};
 
@@ -204,21 +204,17 @@ fn keeps_at(text: &str) -> bool
     is_kept(front) || !is_number(front)
 }
 
-#[tactic(auto, unfolding(crate::specs::LiteralReading::behind_key))]
-fn behind_key(text: &str) -> Option<&str>
-    ensures { option_map (λ rest. rest.now) result ≡ behind_key text.now }
-{
-    let rest = behind_quote(b'"', after(b'"', text)?)?;
-    let rest = after(b':', behind_white(rest))?;
-    Some(behind_white(rest))
-}
-
+/// Where an entry's literal stands: in an object behind a key, its colon and white.
 fn behind_lead(bracket: Bracket, text: &str) -> Option<&str>
     ensures { option_map (λ rest. rest.now) result ≡ behind_lead (bracket_of bracket) text.now }
 {
     match bracket {
         Bracket::Array => Some(text),
-        Bracket::Object => behind_key(text),
+        Bracket::Object => {
+            let rest = behind_quote(b'"', after(b'"', text)?)?;
+            let rest = after(b':', behind_white(rest))?;
+            Some(behind_white(rest))
+        }
     }
 }
 

@@ -1,19 +1,18 @@
 //! What literals are worth, by JSON.
 
-ghost use Rattle.std.specs.Prelude.{◌≡◌, ◌==◌, ◌<◌, ◌++◌, ◌∷◌, [], true, Some, IfOk, OnOk, IfSome, string_bytes};
+ghost use Rattle.std.specs.Prelude.{◌≡◌, ◌==◌, ◌<◌, ◌++◌, ◌∷◌, [], true, Some, IfOk, OnOk, IfSome, option_and_then, string_bytes};
 ghost use Rattle.std.specs.List.{list_all};
 ghost use Rattle.std.specs.Option.{option_map};
 ghost use Rattle.serde_json.specs.Data.{number, string, unsigned};
 ghost use Rattle.serde_json.specs.Read.{read as read_text};
 ghost use Rattle.serde_json.specs.View.{view};
 ghost use Rattle.handlebars_base.specs.Bytes.{double_quote, single_quote};
-ghost use Rattle.handlebars_base.specs.Texts.{starts};
+ghost use Rattle.handlebars_base.specs.Texts.{starts, after};
 ghost use Rattle.handlebars_lines.specs.CommonJson.{has_leading_zero, is_plain_byte, is_not_single};
-ghost use Rattle.handlebars_lines.specs.LiteralView.{literal_slice_of};
 ghost use Rattle.handlebars_lines.specs.Worth.{plain_singles, escaped_doubles, double_quoted};
-ghost use Rattle.handlebars_lines.specs.WorthReading.{before, unquoted, slice_worth, worth_of};
+ghost use Rattle.handlebars_lines.specs.WorthReading.{before, worth_of};
 
-use crate::literal::{LiteralSlice, literal_at, number_of};
+use crate::literal::{literal_at, number_of};
 use handlebars_base::json::path::marks::after;
 use handlebars_base::json::value::Json;
 use std::alloc::{AllocError, Global};
@@ -46,15 +45,9 @@ fn common_value(alloc: Global, raw: &str) -> Result<Option<Json>, AllocError>
 fn scanned_value(alloc: Global, raw: &str) -> Result<Option<Json>, AllocError>
     ensures { IfOk result (λ read. option_map view read ≡ worth_of raw.now) }
 {
-    match literal_at(alloc, raw)? {
-        Some(slice) => slice_value(alloc, slice),
-        None => Ok(None),
-    }
-}
-
-fn slice_value(alloc: Global, slice: LiteralSlice<'_>) -> Result<Option<Json>, AllocError>
-    ensures { IfOk result (λ read. option_map view read ≡ slice_worth (literal_slice_of slice.entry)) }
-{
+    let Some(slice) = literal_at(alloc, raw)? else {
+        return Ok(None);
+    };
     if !(slice.kept && slice.rest.is_empty()) {
         return Ok(None);
     }
@@ -196,7 +189,7 @@ fn before(mark: u8, text: &str) -> Option<&str>
 }
 
 fn unquoted(text: &str) -> Option<&str>
-    ensures { option_map (λ inner. inner.now) result ≡ unquoted text.now }
+    ensures { option_map (λ inner. inner.now) result ≡ option_and_then (before single_quote) (after single_quote text.now) }
 {
     before(b'\'', after(b'\'', text)?)
 }

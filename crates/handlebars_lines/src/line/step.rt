@@ -4,7 +4,7 @@ ghost use Rattle.std.specs.Prelude.{◌≡◌, ◌<◌, ◌^◌, IfOk};
 ghost use Rattle.handlebars_base.specs.Texts.{symbols_of, behind_symbols};
 ghost use Rattle.handlebars_lines.specs.CloseName.{close_name_at};
 ghost use Rattle.handlebars_lines.specs.Parameter.{is_reserved};
-ghost use Rattle.handlebars_lines.specs.LineReading.{at_name, line_stand, behind_name, open_step, plain_step, name_step, is_excluded, path_step, parameter_step, item_step, next_step, behind_step, line_step};
+ghost use Rattle.handlebars_lines.specs.LineReading.{at_name, line_stand, behind_name, open_step, plain_step, name_step, is_excluded, parameter_step, item_step, next_step, behind_step, line_step};
 ghost use Rattle.handlebars_lines.specs.LineView.{mode_of, enclosure_of, key_of, stand_of, line_stand_of, step_of, height_of};
 
 use super::alone::path_slice;
@@ -195,23 +195,6 @@ fn is_excluded(key: Option<&str>, raw: &str) -> bool
 }
 
 #[inline(always)]
-fn path_step<'a>(key: Option<&'a str>, level: usize, text: &'a str) -> Step<'a>
-    ensures { step_of result ≡ path_step (key_of key.entry) level text.now }
-{
-    let Some(slice) = path_slice(text) else {
-        return Step::Stuck;
-    };
-    if is_excluded(key, slice.raw) {
-        return Step::Stuck;
-    }
-    let state = LineStand {
-        stand: Stand::Items,
-        level,
-    };
-    Step::Goes(Event::Path(key, slice.raw, level), state, slice.rest)
-}
-
-#[inline(always)]
 #[tactic(auto, unfolding(crate::specs::LineReading::parameter_step))]
 fn parameter_step<'a>(
     alloc: Global,
@@ -225,16 +208,26 @@ fn parameter_step<'a>(
     if let Some(rest) = after(b'(', text) {
         return Ok(open_step(key, level, rest));
     }
-    match literal_at(alloc, text)? {
+    let state = LineStand {
+        stand: Stand::Items,
+        level,
+    };
+    if let Some(slice) = literal_at(alloc, text)? {
+        let event = Event::Literal(key, slice.raw, level + slice.depth);
+        return Ok(Step::Goes(event, state, slice.rest));
+    }
+    match path_slice(text) {
         Some(slice) => {
-            let state = LineStand {
-                stand: Stand::Items,
-                level,
-            };
-            let event = Event::Literal(key, slice.raw, level + slice.depth);
-            Ok(Step::Goes(event, state, slice.rest))
+            if is_excluded(key, slice.raw) {
+                return Ok(Step::Stuck);
+            }
+            Ok(Step::Goes(
+                Event::Path(key, slice.raw, level),
+                state,
+                slice.rest,
+            ))
         }
-        None => Ok(path_step(key, level, text)),
+        None => Ok(Step::Stuck),
     }
 }
 
