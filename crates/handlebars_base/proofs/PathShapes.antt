@@ -1,6 +1,6 @@
 -- A path in front of a text: what is read is spelled so, and what is spelled so is read where no reference goes on.
 use Rattle.std.proofs.Common.{◌≡◌, ℕ, zero, suc, ◌+◌, Bool, true, false, cond, List, [], ◌∷◌, ◌++◌, length, Option, Some, None, refl, sym, ap, subst, ◌∙◌, append_assoc, append-nil, arith, inl, inr}
-use Rattle.std.specs.Prelude.{codes, ◌==◌, ◌&&◌}
+use Rattle.std.specs.Prelude.{codes, ◌==◌, ◌&&◌, ◌||◌}
 use Rattle.std.specs.List.{prefix_len}
 use Rattle.std.specs.Str.{bytes_eq}
 use Rattle.std.specs.Option.{option_map}
@@ -10,7 +10,7 @@ use Rattle.std.proofs.lemmas.Option.{same_Some, cond_some}
 use Rattle.std.proofs.lemmas.List.{take-append-drop, take_at, drop_at, nil_from_length}
 use Rattle.std.proofs.lemmas.Slice.Eq.{bytes_eq-Decides}
 use Rattle.handlebars_base.specs.Path.{Reference, meaning, IsPath, IsIdentifier, Part, dots, plain, bracketed, spelled_part, IsPart, is_dots, Link, spelled_links, AreLinks, ups, Shape, itself, at_root, at_name, in_parts, spelled, IsShape}
-use Rattle.handlebars_base.specs.PathReading.{is_up_mark, after_up, ups_at, part_at, link_at, links_of, Start, here, from_root, from_variable, from_part, is_no_name, named_start, at_sign_start, part_start, start_without_at_sign, start_at, links_behind, is_dotted, shape_from, shape_at, shape_of, path_of, reference_from, reference_len}
+use Rattle.handlebars_base.specs.PathReading.{is_up_mark, after_up, ups_at, part_at, link_at, links_of, Start, here, from_root, from_variable, from_part, named_start, at_sign_start, part_start, start_without_at_sign, start_at, links_behind, is_dotted, shape_from, shape_at, shape_of, path_of, reference_from, reference_len}
 use Rattle.handlebars_base.specs.Optional.{◌>>=◌, with_or}
 use Rattle.handlebars_base.specs.Texts.{after, symbols_of, behind_symbols}
 use Rattle.handlebars_base.specs.Bytes.{is_symbol}
@@ -91,7 +91,7 @@ name_takes : (dotted : Bool) (n : ℕ) (r : List ℕ) (x : Start × List ℕ) �
 unfolding at_sign_start
 name_takes dotted n r x e =
     let name = symbols_of r in
-    let g = guard_some (is_no_name name) (named_start n name, behind_symbols r) x e in
+    let g = guard_some (bytes_eq name [] || bytes_eq name (codes "this")) (named_start n name, behind_symbols r) x e in
     let tests = or_parts (bytes_eq name []) (bytes_eq name (codes "this")) g.0 in
     let others = links_of_take false (behind_symbols r) in
     let read = links_of false (behind_symbols r) in

@@ -77,16 +77,13 @@ pub data Start : Type 0 where
   from_variable : ℕ → Text → Start
   from_part : Part → Start
 
-abbrev pub is_no_name : Text → Bool
-is_no_name name = bytes_eq name [] || bytes_eq name (codes "this")
-
 abbrev pub named_start : ℕ → Text → Start
 named_start level name = if (level == 0) && bytes_eq name (codes "root") then from_root else from_variable level name
 
 -- a name behind an `@`, given as the number of `../` and the text behind them
 unfoldable pub at_sign_start : ℕ × Text → Option (Start × Text)
 at_sign_start u =
-    if is_no_name (symbols_of u.1)
+    if bytes_eq (symbols_of u.1) [] || bytes_eq (symbols_of u.1) (codes "this")
     then None
     else Some (named_start u.0 (symbols_of u.1), behind_symbols u.1)
 

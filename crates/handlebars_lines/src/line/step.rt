@@ -221,11 +221,7 @@ fn parameter_step<'a>(
             if is_excluded(key, slice.raw) {
                 return Ok(Step::Stuck);
             }
-            Ok(Step::Goes(
-                Event::Path(key, slice.raw, level),
-                state,
-                slice.rest,
-            ))
+            Ok(Step::Goes(Event::Path(key, slice.raw, level), state, slice.rest))
         }
         None => Ok(Step::Stuck),
     }
