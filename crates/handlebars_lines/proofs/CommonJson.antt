@@ -1,5 +1,5 @@
 -- What JSON reads in the commonest texts.
-use Rattle.std.proofs.Common.{codes, rules, cond, ◌≡◌, ℕ, ◌<◌, ◌≤◌, not, ◌++◌, ap₂, ◌^◌, Bool, true, false, ◌&&◌, List, [], ◌∷◌, length, get_or, Option, Some, None, IfSome, option_map, option_and_then, decimal, refl, sym, ap, ◌∙◌, arith, append-nil}
+use Rattle.std.proofs.Common.{codes, cond, ◌≡◌, ℕ, ◌<◌, ◌≤◌, not, ◌++◌, ap₂, ◌^◌, true, false, ◌&&◌, List, [], ◌∷◌, length, get_or, Option, Some, None, IfSome, option_map, option_and_then, decimal, refl, sym, ap, ◌∙◌, arith, append-nil}
 use Rattle.std.specs.Prelude.{◌==◌, nat_lt, nat_le}
 use Rattle.std.specs.List.{list_all}
 use Rattle.std.specs.Str.Parse.{digits_value}
@@ -17,7 +17,7 @@ use Rattle.json.proofs.Printed.Tokens.{tokens-print}
 use Rattle.serde_json.specs.Data.{Data, null, boolean, number, string, unsigned}
 use Rattle.serde_json.specs.Read.{of_json, max_depth, read as read_text}
 use Rattle.serde_json.specs.View.{view}
-use Rattle.serde_json.specs.declared.value.Value.{Null, Bool as BoolOf, the_lemmas}
+use Rattle.serde_json.specs.declared.value.Value.{Null, Bool as BoolOf}
 use Rattle.serde_json.proofs.Numbers.{number_of-decimal}
 use Rattle.handlebars_base.proofs.Fronts.{after_other}
 use Rattle.handlebars_base.proofs.ShownValues.{view-Null, view-Bool}

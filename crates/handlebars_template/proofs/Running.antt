@@ -15,7 +15,8 @@ use Rattle.handlebars_lines.specs.Binding.{BoundNames, unbound, bound, both_boun
 use Rattle.handlebars_lines.proofs.Stepping.{run-runs, run-some}
 use Rattle.handlebars_lines.proofs.Lines.{line_made, line_found}
 use Rattle.handlebars_lines.proofs.LineBounds.{line_shortens}
-use Rattle.handlebars_lines.proofs.Bindings.{binding_at-takes, binding_at}
+use Rattle.handlebars_lines.proofs.BindingReading.{binding_at}
+use Rattle.handlebars_lines.proofs.Bindings.{binding_at-takes}
 use Rattle.handlebars_tags.specs.Text.{Braces, IsText, at_end, at_tag, a_byte, braces, before_braces}
 use Rattle.handlebars_tags.specs.Kind.{TagKind, expression_kind, html_kind, html_sign_kind, block_kind, close_kind, inverse_kind, else_kind, raw_kind, raw_close_kind, decorator_kind, decorator_block_kind, partial_kind, partial_block_kind, comment_kind, TagBeginning, beginning, beginning_of, closing_of}
 use Rattle.handlebars_tags.specs.Tag.{BlockLine, Tag, expression_tag, html_tag, block_tag, inverse_tag, chain_tag, close_tag, raw_tag, raw_close_tag, decorator_tag, decorator_block_tag, partial_tag, partial_block_tag, Tildes, IsBlockLine, IsDecoratorLine, Says, a_value, a_raw_value, a_signed_value, a_block, a_close, an_inverse, an_else, a_chain, a_raw_block, a_raw_close, a_decorator, a_decorator_block, a_partial, a_partial_block, IsTag, NoTag}

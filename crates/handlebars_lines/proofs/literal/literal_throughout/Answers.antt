@@ -5,7 +5,7 @@ use Rattle.handlebars_lines.specs.Literal.{Bracket}
 use Rattle.handlebars_lines.specs.LiteralReading.{outer, opens, reads, unbracketed, empty_brackets, opening_bracket, another_entry, closing_bracket, literal_end, no_token, ahead, behind}
 use Rattle.handlebars_lines.specs.LiteralView.{bracket_of, stack_of}
 use Rattle.handlebars_lines.proofs.LiteralsFound.{step_shorter, and_true}
-use Rattle.handlebars_lines.proofs.LiteralLoop.{stack-push, stack-pop, stack-length, loop_step, Holds, loop_goes, loop_ends, ends_within, loop_misfit, place_of}
+use Rattle.handlebars_lines.proofs.LiteralLoop.{stack-push, stack-pop, stack-length, loop_step, loop_goes, loop_ends, ends_within, loop_misfit, place_of}
 use Rattle.handlebars_lines.proofs.literal.literal_throughout.Goals as goal
 
 pub reading-smaller-in-Unbracketed : goal.reading-smaller-in-Unbracketed
@@ -16,10 +16,8 @@ reading-smaller-in-Unbracketed c =
 pub reading-preserved-in-Unbracketed : goal.reading-preserved-in-Unbracketed
 reading-preserved-in-Unbracketed c =
     let at = loop_step c.reading.ahead c.reading.around.items c.reading.rest.now (unbracketed c.in-Unbracketed.keeps c.in-Unbracketed.behind.now) c.in-Unbracketed.ensures in
-    let held : Holds c.args.text.now (place_of c.reading.ahead c.reading.around.items) (length c.reading.around.items) c.reading.rest.now c.reading.depth c.reading.kept =
-    record { still = c.reading.invariant.still; within = c.reading.invariant.within; deep = c.reading.invariant.deep; whole = c.reading.invariant.whole } in
-    let h = loop_goes c.args.text.now (place_of c.reading.ahead c.reading.around.items) (length c.reading.around.items) c.reading.rest.now c.reading.depth c.reading.kept (reads c.in-Unbracketed.keeps) (behind (stack_of c.reading.around.items)) (length c.reading.around.items) c.in-Unbracketed.behind.now c.reading.depth (c.reading.kept && c.in-Unbracketed.keeps) at (omega arith) refl (omega arith) (omega arith) held in
-    record { text = search rules; still = h.still; within = h.within; deep = h.deep; whole = h.whole }
+    let h = loop_goes c.args.text.now (place_of c.reading.ahead c.reading.around.items) (length c.reading.around.items) c.reading.rest.now c.reading.depth c.reading.kept (reads c.in-Unbracketed.keeps) (behind (stack_of c.reading.around.items)) (length c.reading.around.items) c.in-Unbracketed.behind.now c.reading.depth (c.reading.kept && c.in-Unbracketed.keeps) at (omega arith) refl (omega arith) (omega arith) c.reading.invariant.holds in
+    record { text = search rules; holds = h }
 
 pub reading-smaller-in-EmptyBrackets : goal.reading-smaller-in-EmptyBrackets
 reading-smaller-in-EmptyBrackets c =
@@ -32,10 +30,8 @@ reading-preserved-in-EmptyBrackets c =
     let long = stack-length c.reading.around.items in
     let deeper = c.larger-depth.ensures in
     let count = c.len.ensures in
-    let held : Holds c.args.text.now (place_of c.reading.ahead c.reading.around.items) (length c.reading.around.items) c.reading.rest.now c.reading.depth c.reading.kept =
-    record { still = c.reading.invariant.still; within = c.reading.invariant.within; deep = c.reading.invariant.deep; whole = c.reading.invariant.whole } in
-    let h = loop_goes c.args.text.now (place_of c.reading.ahead c.reading.around.items) (length c.reading.around.items) c.reading.rest.now c.reading.depth c.reading.kept (opens (suc (length (stack_of c.reading.around.items)))) (behind (stack_of c.reading.around.items)) (length c.reading.around.items) c.in-EmptyBrackets.behind.now c.larger-depth.result c.reading.kept at (omega arith) (sym (and_true c.reading.kept)) (omega arith) (omega arith) held in
-    record { text = search rules; still = h.still; within = h.within; deep = h.deep; whole = h.whole }
+    let h = loop_goes c.args.text.now (place_of c.reading.ahead c.reading.around.items) (length c.reading.around.items) c.reading.rest.now c.reading.depth c.reading.kept (opens (suc (length (stack_of c.reading.around.items)))) (behind (stack_of c.reading.around.items)) (length c.reading.around.items) c.in-EmptyBrackets.behind.now c.larger-depth.result c.reading.kept at (omega arith) (sym (and_true c.reading.kept)) (omega arith) (omega arith) c.reading.invariant.holds in
+    record { text = search rules; holds = h }
 
 pub reading-smaller-in-OpeningBracket : goal.reading-smaller-in-OpeningBracket
 reading-smaller-in-OpeningBracket c =
@@ -49,10 +45,8 @@ reading-preserved-in-OpeningBracket c =
     let pushed : stack_of c.open_bracket.new.around.items ≡ bracket_of c.in-OpeningBracket.bracket ∷ (stack_of c.reading.around.items) = ap stack_of c.in_ok-depth-in-OpeningBracket.ensures.around ∙ stack-push c.reading.around.items c.in-OpeningBracket.bracket in
     let longer : length c.open_bracket.new.around.items ≡ length c.reading.around.items + 1 = ap length c.in_ok-depth-in-OpeningBracket.ensures.around ∙ length-append c.reading.around.items (c.in-OpeningBracket.bracket ∷ []) in
     let deeper = c.in_ok-depth-in-OpeningBracket.ensures.depth in
-    let held : Holds c.args.text.now (place_of c.reading.ahead c.reading.around.items) (length c.reading.around.items) c.reading.rest.now c.reading.depth c.reading.kept =
-    record { still = c.reading.invariant.still; within = c.reading.invariant.within; deep = c.reading.invariant.deep; whole = c.reading.invariant.whole } in
-    let h = loop_goes c.args.text.now (place_of c.reading.ahead c.reading.around.items) (length c.reading.around.items) c.reading.rest.now c.reading.depth c.reading.kept (opens (suc (length (stack_of c.reading.around.items)))) (ahead (stack_of c.open_bracket.new.around.items)) (length c.open_bracket.new.around.items) c.in-OpeningBracket.behind.now c.in_ok-depth-in-OpeningBracket.depth c.reading.kept (at ∙ ap (λ (z : List Bracket). goes (opens (suc (length (stack_of c.reading.around.items)))) (ahead z) c.in-OpeningBracket.behind.now) (sym pushed)) (omega arith) (sym (and_true c.reading.kept)) (omega arith) (omega arith) held in
-    record { text = search rules; still = h.still; within = h.within; deep = h.deep; whole = h.whole }
+    let h = loop_goes c.args.text.now (place_of c.reading.ahead c.reading.around.items) (length c.reading.around.items) c.reading.rest.now c.reading.depth c.reading.kept (opens (suc (length (stack_of c.reading.around.items)))) (ahead (stack_of c.open_bracket.new.around.items)) (length c.open_bracket.new.around.items) c.in-OpeningBracket.behind.now c.in_ok-depth-in-OpeningBracket.depth c.reading.kept (at ∙ ap (λ (z : List Bracket). goes (opens (suc (length (stack_of c.reading.around.items)))) (ahead z) c.in-OpeningBracket.behind.now) (sym pushed)) (omega arith) (sym (and_true c.reading.kept)) (omega arith) (omega arith) c.reading.invariant.holds in
+    record { text = search rules; holds = h }
 
 pub reading-smaller-in-AnotherEntry : goal.reading-smaller-in-AnotherEntry
 reading-smaller-in-AnotherEntry c =
@@ -62,10 +56,8 @@ reading-smaller-in-AnotherEntry c =
 pub reading-preserved-in-AnotherEntry : goal.reading-preserved-in-AnotherEntry
 reading-preserved-in-AnotherEntry c =
     let at = loop_step c.reading.ahead c.reading.around.items c.reading.rest.now (another_entry c.in-AnotherEntry.behind.now) c.in-AnotherEntry.ensures in
-    let held : Holds c.args.text.now (place_of c.reading.ahead c.reading.around.items) (length c.reading.around.items) c.reading.rest.now c.reading.depth c.reading.kept =
-    record { still = c.reading.invariant.still; within = c.reading.invariant.within; deep = c.reading.invariant.deep; whole = c.reading.invariant.whole } in
-    let h = loop_goes c.args.text.now (place_of c.reading.ahead c.reading.around.items) (length c.reading.around.items) c.reading.rest.now c.reading.depth c.reading.kept (opens 0) (ahead (stack_of c.reading.around.items)) (length c.reading.around.items) c.in-AnotherEntry.behind.now c.reading.depth c.reading.kept at (omega arith) (sym (and_true c.reading.kept)) (omega arith) (omega arith) held in
-    record { text = search rules; still = h.still; within = h.within; deep = h.deep; whole = h.whole }
+    let h = loop_goes c.args.text.now (place_of c.reading.ahead c.reading.around.items) (length c.reading.around.items) c.reading.rest.now c.reading.depth c.reading.kept (opens 0) (ahead (stack_of c.reading.around.items)) (length c.reading.around.items) c.in-AnotherEntry.behind.now c.reading.depth c.reading.kept at (omega arith) (sym (and_true c.reading.kept)) (omega arith) (omega arith) c.reading.invariant.holds in
+    record { text = search rules; holds = h }
 
 pub reading-smaller : goal.reading-smaller
 reading-smaller c =
@@ -79,23 +71,21 @@ reading-preserved c =
     let left : c.pop.new.self.items ≡ take (length c.reading.around.items - 1) c.reading.around.items = c.pop.ensures.rest ∙ ap (λ (z : ℕ). take (z - 1) c.reading.around.items) count in
     let popped : stack_of c.pop.new.self.items ≡ outer (stack_of c.reading.around.items) = ap stack_of left ∙ stack-pop c.reading.around.items in
     let fewer : length c.pop.new.self.items ≤ length c.reading.around.items = omega (arith, ap length left, length-take (length c.reading.around.items - 1) c.reading.around.items) in
-    let held : Holds c.args.text.now (place_of c.reading.ahead c.reading.around.items) (length c.reading.around.items) c.reading.rest.now c.reading.depth c.reading.kept =
-    record { still = c.reading.invariant.still; within = c.reading.invariant.within; deep = c.reading.invariant.deep; whole = c.reading.invariant.whole } in
-    let h = loop_goes c.args.text.now (place_of c.reading.ahead c.reading.around.items) (length c.reading.around.items) c.reading.rest.now c.reading.depth c.reading.kept (opens 0) (behind (stack_of c.pop.new.self.items)) (length c.pop.new.self.items) c.in-ClosingBracket.behind.now c.reading.depth c.reading.kept (at ∙ ap (λ (z : List Bracket). goes (opens 0) (behind z) c.in-ClosingBracket.behind.now) (sym popped)) (omega arith) (sym (and_true c.reading.kept)) (omega arith) (omega arith) held in
-    record { text = search rules; still = h.still; within = h.within; deep = h.deep; whole = h.whole }
+    let h = loop_goes c.args.text.now (place_of c.reading.ahead c.reading.around.items) (length c.reading.around.items) c.reading.rest.now c.reading.depth c.reading.kept (opens 0) (behind (stack_of c.pop.new.self.items)) (length c.pop.new.self.items) c.in-ClosingBracket.behind.now c.reading.depth c.reading.kept (at ∙ ap (λ (z : List Bracket). goes (opens 0) (behind z) c.in-ClosingBracket.behind.now) (sym popped)) (omega arith) (sym (and_true c.reading.kept)) (omega arith) (omega arith) c.reading.invariant.holds in
+    record { text = search rules; holds = h }
 
 pub slice_to-requires : goal.slice_to-requires
-slice_to-requires c = c.reading.invariant.whole
+slice_to-requires c = c.reading.invariant.holds.whole
 
 pub returns-in-LiteralEnd-clause-reads : goal.returns-in-LiteralEnd-clause-reads
 returns-in-LiteralEnd-clause-reads c =
     let at = loop_step c.reading.ahead c.reading.around.items c.reading.rest.now literal_end c.in-LiteralEnd.ensures in
-    c.slice_to.ensures.reads ∙ sym (loop_ends c.args.text.now c.reading.rest.now (place_of c.reading.ahead c.reading.around.items) c.reading.depth c.reading.kept c.reading.invariant.still at)
+    c.slice_to.ensures.reads ∙ sym (loop_ends c.args.text.now c.reading.rest.now (place_of c.reading.ahead c.reading.around.items) c.reading.depth c.reading.kept c.reading.invariant.holds.still at)
 
 pub returns-in-LiteralEnd-clause-depth : goal.returns-in-LiteralEnd-clause-depth
-returns-in-LiteralEnd-clause-depth c = ends_within (length c.args.text.now) c.reading.depth c.slice_to.result (omega (arith, c.reading.invariant.deep)) c.slice_to.ensures.depth
+returns-in-LiteralEnd-clause-depth c = ends_within (length c.args.text.now) c.reading.depth c.slice_to.result (omega (arith, c.reading.invariant.holds.deep)) c.slice_to.ensures.depth
 
 pub returns-in-NoToken-clause-reads : goal.returns-in-NoToken-clause-reads
 returns-in-NoToken-clause-reads c =
     let at = loop_step c.reading.ahead c.reading.around.items c.reading.rest.now no_token c.in-NoToken.ensures in
-    sym (loop_misfit c.args.text.now c.reading.rest.now (place_of c.reading.ahead c.reading.around.items) c.reading.depth c.reading.kept c.reading.invariant.still at)
+    sym (loop_misfit c.args.text.now c.reading.rest.now (place_of c.reading.ahead c.reading.around.items) c.reading.depth c.reading.kept c.reading.invariant.holds.still at)
