@@ -1,7 +1,7 @@
 //! Paths into the data, as templates write them: `@root` and links from there, a variable of a block behind `@`, or
 //! names, names in brackets and `..`, joined by `/` or `.`.
 
-ghost use Rattle.std.specs.Prelude.{◌≡◌, ◌≢◌, ◌↔◌, IfOk, IfErr, IfSome, IsNone, List, ℕ};
+ghost use Rattle.std.specs.Prelude.{◌≡◌, ◌≢◌, ◌↔◌, IfOk, IfErr, IfSome, IsNone};
 ghost use Rattle.handlebars_base.specs.Path.{IsPath, Reference, raw_of};
 ghost use Rattle.handlebars_base.specs.PathView.{reference_of};
 ghost use Rattle.handlebars_base.specs.Reasons.{out_of_memory, invalid_json_path};

@@ -1,8 +1,6 @@
 //! One step through a line: what stands next.
 
 ghost use Rattle.std.specs.Prelude.{◌≡◌, ◌<◌, ◌^◌, IfOk};
-ghost use Rattle.handlebars_base.specs.Texts.{symbols_of, behind_symbols};
-ghost use Rattle.handlebars_lines.specs.CloseName.{close_name_at};
 ghost use Rattle.handlebars_lines.specs.Parameter.{is_reserved};
 ghost use Rattle.handlebars_lines.specs.LineReading.{at_name, line_stand, behind_name, open_step, plain_step, name_step, is_excluded, parameter_step, item_step, next_step, behind_step, line_step};
 ghost use Rattle.handlebars_lines.specs.LineView.{mode_of, enclosure_of, key_of, stand_of, line_stand_of, step_of, height_of};
