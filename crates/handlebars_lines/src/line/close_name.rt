@@ -1,8 +1,7 @@
 //! The names in closing tags, by which lines may be named too.
 
-ghost use Rattle.std.specs.Prelude.{◌≡◌, ◌==◌, ◌<◌, ◌≤◌, drop, length};
+ghost use Rattle.std.specs.Prelude.{◌≡◌, ◌==◌, ◌<◌, drop};
 ghost use Rattle.std.specs.List.{prefix_len, position};
-ghost use Rattle.handlebars_base.specs.Texts.{starts};
 ghost use Rattle.handlebars_lines.specs.CloseName.{is_close_symbol, enclosed_at, close_name_at};
 ghost use Rattle.handlebars_lines.specs.LineView.{texts_of};
 
