@@ -65,16 +65,6 @@ one_text n source slice slice' follows follows' kept kept' e f h g =
     let slices : slice ≡ slice' = append_cancel_right slice slice' follows' (ap (λ (z : Text). slice ++ z) (sym rests) ∙ sym e ∙ f) in
     (slices, rests, ap (λ (q : Text × Text). q.0) both)
 
--- ---- for the layers above
-
--- behind a text the source ends, or braces stand
-pub IsText-ends : {w : Braces} {follows slice kept : Text} → IsText w follows slice kept → (follows ≡ []) ⊎ (braces w follows ≡ true)
-IsText-ends (at_end over) = inl over
-IsText-ends (at_tag run marks more) = inr marks
-IsText-ends (a_byte b clear h) = IsText-ends h
-IsText-ends (two_escaped two clear h) = IsText-ends h
-IsText-ends (four_escaped h) = IsText-ends h
-
 -- ---- texts without backslashes
 
 no_run : (run : ℕ) → list_any is_backslash (replicate run backslash) ≡ false → run ≡ 0

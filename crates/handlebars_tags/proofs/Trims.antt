@@ -35,9 +35,3 @@ breaks-behind (b ∷ t) = elim (cases_Bool (is_blank b)) [
   | inl blank ↦ rw (no_break b blank, blank) (breaks-behind t)
   | inr dark ↦ rw dark (or_false (is_break b))
 ]
-
--- ---- for the layers above
-
--- from one part of a source to the next
-pub is_fresh-append : (x y : Text) → is_fresh (x ++ y) ≡ fold is_fresh_behind (is_fresh x) y
-is_fresh-append x y = fold-append is_fresh_behind true x y
