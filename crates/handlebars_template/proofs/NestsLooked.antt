@@ -1,5 +1,5 @@
 -- What is said of a chained inverse before it stands: what is said of an inverse, and then what of a block.
-use Rattle.std.proofs.Common.{◌≡◌, refl, ℕ, suc, ◌+◌, List, [], ◌∷◌, Bool, true, false, Option, None, Some, nat_lt}
+use Rattle.std.proofs.Common.{ℕ, suc, ◌+◌, List, [], ◌∷◌, Bool, true, false, Option, None, Some, nat_lt}
 use Rattle.std.specs.Option.{option_or}
 use Rattle.handlebars_base.specs.Bytes.{Text}
 use Rattle.handlebars_template.specs.Place.{Place}
@@ -22,6 +22,3 @@ module _ (p : Place) where
       → Looks p (early_in d fs (chains p o n r)) (option_or misplaced deep)
   Looks-chained o r d n [] misplaced deep h k = Looks-both false (nat_lt max_nesting (d + suc n)) misplaced deep h k
   Looks-chained o r d n (f ∷ fs) misplaced deep h k = Looks-both (takes_inverse f) (nat_lt max_nesting (d + suc n)) misplaced deep h k
-
-try_zero : (m : ℕ) → nat_lt m 0 ≡ false
-try_zero m = refl
