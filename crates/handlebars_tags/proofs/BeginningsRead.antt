@@ -1,13 +1,25 @@
 -- What the table comes to by the bytes behind the braces: one lemma for each branch of the code.
-use Rattle.std.proofs.Common.{◌≡◌, ◌≢◌, ℕ, Bool, true, false, [], ◌∷◌, ◌++◌, Option, Some, None, refl, sym, ap, ◌∙◌, codes, ne_eqb}
+use Rattle.std.proofs.Common.{◌≡◌, ◌≢◌, ℕ, Bool, true, false, [], ◌∷◌, ◌++◌, List, Option, Some, None, drop, refl, sym, ap, ◌∙◌, codes, ne_eqb}
 use Rattle.std.specs.Char.{is_ascii}
 use Rattle.std.proofs.lemmas.Bool.{true≢false}
 use Rattle.handlebars_base.specs.Bytes.{Text, slash, left_brace, behind_white}
 use Rattle.handlebars_base.specs.Texts.{starts, after}
 use Rattle.handlebars_base.specs.Optional.{with_or}
 use Rattle.handlebars_lines.specs.Line.{tilde}
-use Rattle.handlebars_tags.specs.Kind.{beginning, tilde_at, expression_kind, html_kind, html_sign_kind, block_kind, close_kind, inverse_kind, raw_kind, raw_close_kind, decorator_kind, decorator_block_kind, partial_kind, partial_block_kind, comment_kind, first_of, beginning_of}
-use Rattle.handlebars_tags.specs.KindReading.{two_rows, sign_rows, word_rows, signed_by}
+use Rattle.handlebars_tags.specs.Kind.{beginning, tilde_at, expression_kind, html_kind, html_sign_kind, block_kind, close_kind, inverse_kind, raw_kind, raw_close_kind, decorator_kind, decorator_block_kind, partial_kind, partial_block_kind, comment_kind, Row, rows, first_of, beginning_of}
+use Rattle.handlebars_tags.specs.KindView.{signed_by}
+
+-- the rows of two braces and no comment's mark
+abbrev pub two_rows : List Row
+two_rows = drop 4 rows
+
+-- those of them with a tilde or none
+abbrev pub sign_rows : List Row
+sign_rows = drop 5 rows
+
+-- those of them with no mark
+abbrev pub word_rows : List Row
+word_rows = drop 13 rows
 
 -- ---- bytes
 

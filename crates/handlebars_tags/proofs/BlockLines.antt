@@ -8,7 +8,6 @@ use Rattle.handlebars_lines.specs.Binding.{BoundNames, IsBinding, NoBinding}
 use Rattle.handlebars_lines.proofs.Lines.{one_line}
 use Rattle.handlebars_lines.proofs.Bindings.{one_binding}
 use Rattle.handlebars_tags.specs.Tag.{BlockLine, IsBlockLine}
-use Rattle.handlebars_tags.specs.TagReading.{NoBlockLine}
 use Rattle.handlebars_tags.proofs.LineNames.{line-identifier}
 
 -- ---- what is read is one
@@ -25,6 +24,9 @@ block_line-is t left rest line binding is binds =
     }
 
 -- ---- where none is read, none is
+
+abbrev pub NoBlockLine : Text → Type 0
+NoBlockLine t = (line : BlockLine) (rest : Text) → IsBlockLine t line rest → ⊥
 
 pub none-line : (t : Text) → NoLine identifier_name in_block t → NoBlockLine t
 none-line t none line rest h = none _ h.behind h.is_line

@@ -16,7 +16,6 @@ use Rattle.handlebars_base.proofs.Ends.{end-behind, end-white}
 use Rattle.handlebars_base.proofs.Bytes.{other_byte}
 use Rattle.handlebars_tags.specs.Kind.{past}
 use Rattle.handlebars_tags.specs.Comment.{behind_mark, behind_long, behind_compact, long_text, compact_text, HasNoLong, IsComment, long, compact, OneComment}
-use Rattle.handlebars_tags.specs.CommentReading.{EndsComment, comment_text}
 use Rattle.handlebars_tags.proofs.Marks.{past-takes, behind_mark-cut, behind_mark-end}
 
 -- ---- ends of a text
@@ -29,23 +28,23 @@ behind_long-end t rest e =
     let b = bind_some (past (codes "--") (behind_white t)) (behind_mark (codes "--}}")) rest e in
     end-behind t b.0 rest (dashes-end t b.0 b.1) (behind_mark-cut (codes "--}}") b.0 rest b.2)
 
-pub EndsComment-end : (inside : Text) (is_long : Bool) (rest : Text) → EndsComment inside is_long rest → IsEnd inside rest
-EndsComment-end inside true rest e = behind_long-end inside rest e
-EndsComment-end inside false rest e = behind_mark-cut (codes "}}") inside rest e.1
-
 -- ---- what stands here
 
 -- behind its mark, a slice spells the comment
-IsComment-made : (source inside slice rest : Text) (is_long : Bool) → source ≡ codes "{{!" ++ inside → source ≡ slice ++ rest → EndsComment inside is_long rest
-    → IsComment inside (comment_text is_long slice) rest
-IsComment-made source inside slice rest is_long begins whole ends =
-    let cut = EndsComment-end inside is_long rest ends in
-    let spelled : codes "{{!" ++ cut.0 ≡ slice = append_cancel_right (codes "{{!" ++ cut.0) slice rest (append_assoc (codes "{{!") cut.0 rest ∙ ap (λ (z : Text). codes "{{!" ++ z) (sym cut.1) ∙ sym begins ∙ whole) in
-    subst (λ (z : Text). IsComment inside (comment_text is_long z) rest) spelled (by_length is_long cut.0 cut.1 ends)
-  where
-    by_length : (is_long : Bool) (body : Text) → inside ≡ body ++ rest → EndsComment inside is_long rest → IsComment inside (comment_text is_long (codes "{{!" ++ body)) rest
-    by_length true body e ends = long body e ends
-    by_length false body e ends = compact body e ends.0 ends.1
+spelled : (source inside slice rest : Text) → past (codes "{{!") source ≡ Some inside → source ≡ slice ++ rest → (cut : IsEnd inside rest) → codes "{{!" ++ cut.0 ≡ slice
+spelled source inside slice rest e whole cut =
+    append_cancel_right (codes "{{!" ++ cut.0) slice rest (append_assoc (codes "{{!") cut.0 rest ∙ ap (λ (z : Text). codes "{{!" ++ z) (sym cut.1) ∙ sym (past-takes (codes "{{!") source inside e) ∙ whole)
+
+pub IsComment-long : (source inside slice rest : Text) → past (codes "{{!") source ≡ Some inside → source ≡ slice ++ rest → behind_long inside ≡ Some rest → IsComment inside (long_text slice) rest
+IsComment-long source inside slice rest e whole ends =
+    let cut = behind_long-end inside rest ends in
+    subst (λ (z : Text). IsComment inside (long_text z) rest) (spelled source inside slice rest e whole cut) (long cut.0 cut.1 ends)
+
+pub IsComment-compact : (source inside slice rest : Text) → past (codes "{{!") source ≡ Some inside → source ≡ slice ++ rest → behind_long inside ≡ None → behind_compact inside ≡ Some rest
+    → IsComment inside (compact_text slice) rest
+IsComment-compact source inside slice rest e whole none ends =
+    let cut = behind_mark-cut (codes "}}") inside rest ends in
+    subst (λ (z : Text). IsComment inside (compact_text z) rest) (spelled source inside slice rest e whole cut) (compact cut.0 cut.1 none ends)
 
 same_body : (inside body body' rest rest' : Text) → inside ≡ body ++ rest → inside ≡ body' ++ rest' → rest ≡ rest' → body ≡ body'
 same_body inside body body' rest rest' e e' same = append_cancel_right body body' rest' (ap (λ (z : Text). body ++ z) (sym same) ∙ sym e ∙ e')
@@ -62,22 +61,18 @@ one_comment inside _ _ _ _ (compact {rest = rest} body e none is) (compact {rest
 
 -- ---- what begins with the mark
 
-begins-whole : (source : Text) → past (codes "{{!") source ≡ Some (drop 3 source) → source ≡ codes "{{!" ++ drop 3 source
-begins-whole source e = past-takes (codes "{{!") source (drop 3 source) e
-
 pub begins-boundary : (source : Text) → IsUtf8 source → past (codes "{{!") source ≡ Some (drop 3 source) → IsCharBoundary source 3
 begins-boundary source utf8 e =
-    let whole = begins-whole source e in
+    let whole = past-takes (codes "{{!") source (drop 3 source) e in
     let long : 2 < length source = omega (arith, ap length whole) in
     let low : get_or source 2 0 < 128 = omega (arith, ap (λ (z : Text). get_or z 2 0) whole) in
     IsCharBoundary-after_ascii source 2 utf8 long low
 
-pub inside-end : (source rest : Text) → past (codes "{{!") source ≡ Some (drop 3 source) → IsEnd (drop 3 source) rest → IsEnd source rest
-inside-end source rest e cut = end-behind source (drop 3 source) rest (codes "{{!", begins-whole source e) cut
+pub inside-end : (source inside rest : Text) → past (codes "{{!") source ≡ Some inside → IsEnd inside rest → IsEnd source rest
+inside-end source inside rest e cut = end-behind source inside rest (codes "{{!", past-takes (codes "{{!") source inside e) cut
 
-pub IsComment-begins : (source slice rest : Text) (is_long : Bool) → past (codes "{{!") source ≡ Some (drop 3 source) → source ≡ slice ++ rest → EndsComment (drop 3 source) is_long rest
-    → IsComment (drop 3 source) (comment_text is_long slice) rest
-IsComment-begins source slice rest is_long e whole ends = IsComment-made source (drop 3 source) slice rest is_long (begins-whole source e) whole ends
+pub long-end : (source rest : Text) → past (codes "{{!") source ≡ Some (drop 3 source) → behind_long (drop 3 source) ≡ Some rest → IsEnd source rest
+long-end source rest e is = inside-end source (drop 3 source) rest e (behind_long-end (drop 3 source) rest is)
 
 -- ---- where no long comment ends further on
 

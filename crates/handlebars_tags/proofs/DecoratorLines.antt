@@ -5,11 +5,13 @@ use Rattle.handlebars_base.specs.Bytes.{Text}
 use Rattle.handlebars_lines.specs.Binding.{unbound, bound, both_bound}
 use Rattle.handlebars_lines.specs.BindingView.{bound_names_of}
 use Rattle.handlebars_lines.specs.declared.binding.BoundNames.TheVariants.{Bound, BothBound}
-use Rattle.handlebars_tags.specs.Tag.{BlockLine, IsBlockLine}
-use Rattle.handlebars_tags.specs.TagReading.{NoBlockLine, NoDecoratorLine}
+use Rattle.handlebars_tags.specs.Tag.{BlockLine, IsBlockLine, IsDecoratorLine}
 use Rattle.handlebars_tags.specs.TagView.{HasBlock}
 use Rattle.handlebars_tags.specs.declared.tag.inside.BlockRead.{BlockRead}
-use Rattle.handlebars_tags.proofs.BlockLines.{one_block_line}
+use Rattle.handlebars_tags.proofs.BlockLines.{NoBlockLine, one_block_line}
+
+abbrev pub NoDecoratorLine : Text → Type 0
+NoDecoratorLine t = (line : BlockLine) (rest : Text) → IsDecoratorLine t line rest → ⊥
 
 pub no_line : (t : Text) → NoBlockLine t → NoDecoratorLine t
 no_line t none line rest h = none line rest h.is_line

@@ -6,8 +6,7 @@ use denote.Ref.{Bor}
 use Rattle.handlebars_base.specs.Bytes.{Text}
 use Rattle.handlebars_lines.specs.Line.{value_name, close_name}
 use Rattle.handlebars_tags.specs.Kind.{TagKind, expression_kind, html_kind, html_sign_kind, partial_kind, partial_block_kind, past}
-use Rattle.handlebars_tags.specs.TagReading.{NoClosedLine, NoneClosed}
-use Rattle.handlebars_tags.specs.TagView.{HasClosedLine, HasInside}
+use Rattle.handlebars_tags.specs.TagView.{NoClosedLine, NoneClosed, HasClosedLine, HasInside}
 use Rattle.handlebars_tags.specs.declared.tag.inside.Inside.{Inside}
 use Rattle.handlebars_tags.specs.declared.tag.inside.Content.TheVariants.{Expression, Html, Partial, PartialBlock}
 use Rattle.handlebars_tags.proofs.Marks.{past-takes}

@@ -9,8 +9,9 @@ use Rattle.handlebars_tags.specs.Kind.{TagKind, expression_kind, html_kind, html
 use Rattle.handlebars_tags.specs.Comment.{IsComment, NoComment}
 use Rattle.handlebars_lines.specs.CloseName.{close_name_at}
 use Rattle.handlebars_tags.specs.Tag.{Tag, expression_tag, html_tag, block_tag, inverse_tag, chain_tag, close_tag, raw_tag, raw_close_tag, decorator_tag, decorator_block_tag, partial_tag, partial_block_tag, comment_tag, BlockLine, IsBlockLine, IsDecoratorLine, Says, a_value, a_raw_value, a_signed_value, a_block, a_close, an_inverse, an_else, a_chain, a_raw_block, a_raw_close, a_decorator, a_decorator_block, a_partial, a_partial_block, a_comment}
-use Rattle.handlebars_tags.specs.TagReading.{NoBlockLine, NoDecoratorLine, NoClosedLine, IsClosed, NoneClosed}
-use Rattle.handlebars_tags.proofs.BlockLines.{one_block_line}
+use Rattle.handlebars_tags.specs.TagView.{NoClosedLine, IsClosed, NoneClosed}
+use Rattle.handlebars_tags.proofs.BlockLines.{NoBlockLine, one_block_line}
+use Rattle.handlebars_tags.proofs.DecoratorLines.{NoDecoratorLine}
 
 -- ---- what is said, kind by kind
 

@@ -8,8 +8,7 @@ use Rattle.handlebars_tags.specs.Kind.{TagKind, expression_kind, html_kind, html
 use Rattle.handlebars_lines.specs.CloseName.{close_name_at}
 use Rattle.handlebars_tags.specs.Tag.{Tag, tag_depth, expression_tag, html_tag, BlockLine, IsBlockLine, Says, a_value, a_raw_value, a_signed_value, inverse_tag, close_tag, raw_close_tag, a_close, a_raw_close, an_inverse, partial_tag, partial_block_tag, a_partial, a_partial_block, comment_tag, a_comment}
 use Rattle.handlebars_tags.specs.Comment.{IsComment}
-use Rattle.handlebars_tags.specs.TagReading.{NoClosedLine, NoneClosed}
-use Rattle.handlebars_tags.specs.TagView.{Holds, HoldsLine, HoldsBlock, HasBlock, HasClosing, HasClosedLine, HasInside}
+use Rattle.handlebars_tags.specs.TagView.{NoClosedLine, NoneClosed, Holds, HoldsLine, HoldsBlock, HasBlock, HasClosing, HasClosedLine, HasInside}
 use Rattle.handlebars_tags.specs.declared.tag.inside.Inside.{Inside}
 use Rattle.handlebars_tags.specs.declared.tag.inside.Content.{Content}
 use Rattle.handlebars_tags.specs.declared.tag.inside.Content.TheVariants.{Expression, Html, Inverse, Close, RawClose, Partial, PartialBlock, Comment}

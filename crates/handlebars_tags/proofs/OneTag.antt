@@ -12,7 +12,7 @@ use Rattle.handlebars_lines.proofs.LineFronts.{begins}
 use Rattle.handlebars_lines.proofs.Lines.{one_line}
 use Rattle.handlebars_tags.specs.Kind.{TagKind, expression_kind, html_kind, html_sign_kind, block_kind, close_kind, inverse_kind, else_kind, raw_kind, raw_close_kind, decorator_kind, decorator_block_kind, partial_kind, partial_block_kind, comment_kind, beginning_of, closing_of}
 use Rattle.handlebars_tags.specs.Tag.{Tag, comment_tag, BlockLine, IsBlockLine, Tildes, OneTag}
-use Rattle.handlebars_tags.specs.TagReading.{IsClosed}
+use Rattle.handlebars_tags.specs.TagView.{IsClosed}
 use Rattle.handlebars_tags.proofs.LineNames.{line_starts}
 use Rattle.handlebars_tags.proofs.BlockLines.{one_block_line}
 use Rattle.handlebars_tags.proofs.Comments.{one_comment}

@@ -1,5 +1,5 @@
 -- At most one text stands in front, and where it holds no braces.
-use Rattle.std.proofs.Common.{◌≡◌, ◌≢◌, ℕ, zero, suc, ◌-◌, ◌<◌, [], ◌∷◌, ◌++◌, length, drop, true, false, cond, Bool, refl, sym, ap, ◌∙◌, subst, arith, ◌⊎◌, inl, inr, length-append}
+use Rattle.std.proofs.Common.{◌≡◌, ◌≢◌, ℕ, zero, suc, ◌-◌, ◌<◌, [], ◌∷◌, ◌++◌, length, drop, true, false, cond, Bool, refl, sym, ap, ◌∙◌, subst, arith, length-append}
 use Rattle.std.specs.Prelude.{◌==◌, ◌||◌, replicate}
 use Rattle.std.specs.List.{list_any}
 use Rattle.std.proofs.lemmas.List.{append_cancel_right}
@@ -64,16 +64,6 @@ one_text n source slice slice' follows follows' kept kept' e f h g =
     let rests : follows ≡ follows' = ap (λ (q : Text × Text). q.1) both in
     let slices : slice ≡ slice' = append_cancel_right slice slice' follows' (ap (λ (z : Text). slice ++ z) (sym rests) ∙ sym e ∙ f) in
     (slices, rests, ap (λ (q : Text × Text). q.0) both)
-
--- ---- for the layers above
-
--- behind a text the source ends, or braces stand
-pub IsText-ends : {w : Braces} {follows slice kept : Text} → IsText w follows slice kept → (follows ≡ []) ⊎ (braces w follows ≡ true)
-IsText-ends (at_end over) = inl over
-IsText-ends (at_tag run marks more) = inr marks
-IsText-ends (a_byte b clear h) = IsText-ends h
-IsText-ends (two_escaped two clear h) = IsText-ends h
-IsText-ends (four_escaped h) = IsText-ends h
 
 -- ---- texts without backslashes
 

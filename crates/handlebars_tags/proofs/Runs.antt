@@ -16,14 +16,6 @@ take-backslashes (b ∷ t) =
     ]
 
 -- behind a run no backslash stands
-pub backslashes-drop : (t : Text) → backslashes (drop (backslashes t) t) ≡ 0
-backslashes-drop [] = refl
-backslashes-drop (b ∷ t) =
-    let more : 1 + prefix_len is_backslash t ≡ suc (prefix_len is_backslash t) = omega arith in
-    elim (cases_Bool (is_backslash b)) [
-      | inl slash ↦ rw (slash, more) (backslashes-drop t)
-      | inr other ↦ rw (other, other) refl
-    ]
 
 pub backslashes-run : (run : ℕ) (y : Text) → backslashes y ≡ 0 → backslashes (replicate run backslash ++ y) ≡ run
 backslashes-run zero y stop = stop

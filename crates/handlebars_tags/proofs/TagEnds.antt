@@ -15,7 +15,7 @@ use Rattle.handlebars_tags.specs.Kind.{TagKind, expression_kind, html_kind, html
 use Rattle.handlebars_tags.specs.Comment.{IsComment, long, compact}
 use Rattle.handlebars_lines.specs.CloseName.{close_name_at}
 use Rattle.handlebars_tags.specs.Tag.{Tag, BlockLine, IsBlockLine, Says}
-use Rattle.handlebars_tags.specs.TagReading.{IsClosed}
+use Rattle.handlebars_tags.specs.TagView.{IsClosed}
 use Rattle.handlebars_tags.proofs.Beginnings.{end-past, end-tilde}
 use Rattle.handlebars_tags.proofs.Insides.{said}
 

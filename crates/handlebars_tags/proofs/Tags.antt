@@ -6,8 +6,7 @@ use Rattle.handlebars_base.specs.Texts.{IsEnd}
 use Rattle.handlebars_base.proofs.Ends.{end-behind}
 use Rattle.handlebars_tags.specs.Kind.{TagBeginning, beginning_of}
 use Rattle.handlebars_tags.specs.Tag.{Tag, Tildes, IsTag, NoTag}
-use Rattle.handlebars_tags.specs.TagReading.{IsClosed, NoneClosed}
-use Rattle.handlebars_tags.specs.TagView.{HasInside, HasTag}
+use Rattle.handlebars_tags.specs.TagView.{IsClosed, NoneClosed, HasInside, HasTag}
 use Rattle.handlebars_tags.specs.declared.tag.inside.Inside.{Inside}
 use Rattle.handlebars_tags.proofs.Beginnings.{begun}
 use Rattle.handlebars_tags.proofs.TagEnds.{end-closed}

@@ -1,14 +1,14 @@
 -- Reading a text part by part.
 use Rattle.std.proofs.Common.{◌≡◌, ◌≢◌, ℕ, zero, suc, ◌+◌, ◌-◌, ◌<◌, ◌≤◌, Bool, true, false, [], ◌∷◌, ◌++◌, length, get_or, take, drop, refl, sym, ap, subst, ◌∙◌, append_assoc, arith, add-zero, add-one, drop-cons, ◌⊎◌, inl, inr, length-append}
-use Rattle.std.specs.Prelude.{◌==◌, not, replicate}
-use Rattle.std.specs.List.{prefix_len}
+use Rattle.std.specs.Prelude.{◌==◌, not, replicate, if◌then◌else◌}
+use Rattle.std.specs.List.{prefix_len, before_first}
 use Rattle.std.proofs.lemmas.Bool.{eqb-true, eqb-false, ne_eqb, cases_Bool, false≢true}
 use Rattle.std.proofs.lemmas.List.{get_or-drop, take-append-drop, append-nil, take_at, drop_at, length-drop, nil_from_length}
 use Rattle.std.specs.Str.{IsCharBoundary, IsUtf8}
 use Rattle.std.proofs.lemmas.Str.{IsCharBoundary-at_seam}
 use Rattle.handlebars_tags.specs.Text.{Braces, two_braces, four_braces, IsText, at_end, at_tag, a_byte, two_escaped, four_escaped, is_backslash, backslashes, two_in_front, braces, before_braces}
 use Rattle.handlebars_base.specs.Bytes.{Text, backslash, left_brace}
-use Rattle.handlebars_tags.specs.TextReading.{before_brace, ends_with_backslash, clear_len, escaped_len, GoesOn, Ends}
+use Rattle.handlebars_tags.specs.TextReading.{ends_with_backslash, clear_len, GoesOn, Ends}
 use Rattle.handlebars_tags.proofs.Runs.{take-backslashes, backslashes-other, before_braces-run, backslashes-braces, braces-none, two_in_front-shape, braces-shape, escape_at}
 
 -- ---- clear bytes, with which no tag and no escape begins
@@ -123,6 +123,9 @@ ClearUpTo-other w t clear at h lt other none =
 
 -- ---- before the next brace
 
+abbrev before_brace : Text → Text
+before_brace t = before_first (λ b. b == left_brace) t
+
 abbrev pub is_other : ℕ → Bool
 is_other b = not (b == left_brace)
 
@@ -194,12 +197,11 @@ clear_len-before_brace w (b ∷ t) h = elim (cases_Bool (b == left_brace)) [
       rw is all
 ]
 
-pub before_brace-within : (t : Text) → length (before_brace t) ≤ length t
-before_brace-within [] = omega arith
-before_brace-within (b ∷ t) = elim (cases_Bool (b == left_brace)) [
-  | inl mark ↦ rw (before_brace-mark b t mark) (omega arith)
-  | inr other ↦ let more = before_brace-within t in rw (before_brace-other b t other) (omega arith)
-]
+-- ---- escapes
+
+-- how many of the braces in front one backslash makes text
+abbrev pub escaped_len : Text → ℕ
+escaped_len t = if two_in_front (drop 2 t) then 4 else 2
 
 GoesOn-four : (w : Braces) (r : Text) → GoesOn w (backslash ∷ left_brace ∷ left_brace ∷ left_brace ∷ left_brace ∷ r) (left_brace ∷ left_brace ∷ left_brace ∷ left_brace ∷ []) r
 GoesOn-four w r = record { taken = backslash ∷ left_brace ∷ left_brace ∷ left_brace ∷ left_brace ∷ []; whole = refl; on = λ follows slice more e h. four_escaped h }

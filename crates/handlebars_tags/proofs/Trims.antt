@@ -1,13 +1,11 @@
 -- Blanks and lines' ends.
-use Rattle.std.proofs.Common.{◌≡◌, ℕ, ◌<◌, ◌≤◌, Bool, true, false, length, get_or, [], ◌∷◌, ◌++◌, refl, ap, arith, inl, inr}
+use Rattle.std.proofs.Common.{◌≡◌, ℕ, ◌<◌, ◌≤◌, Bool, true, false, length, get_or, [], ◌∷◌, refl, ap, arith, inl, inr}
 use Rattle.std.specs.Prelude.{◌==◌, ◌||◌}
-use Rattle.std.specs.List.{fold}
 use Rattle.std.specs.Str.{IsCharBoundary}
 use Rattle.std.proofs.lemmas.Bool.{or_cases, eqb-true, cases_Bool}
-use Rattle.std.proofs.lemmas.List.Sums.{fold-append}
 use Rattle.handlebars_base.specs.Bytes.{Text, space, tab}
 use Rattle.handlebars_base.specs.Texts.{starts}
-use Rattle.handlebars_tags.specs.Trim.{is_blank, is_break, is_fresh_behind, is_fresh, breaks, behind_blanks}
+use Rattle.handlebars_tags.specs.Trim.{is_blank, is_break, breaks, behind_blanks}
 
 pub is_blank-ascii : (b : ℕ) → is_blank b ≡ true → b < 128
 is_blank-ascii b h = elim (or_cases (b == space) (b == tab) h) [
@@ -35,9 +33,3 @@ breaks-behind (b ∷ t) = elim (cases_Bool (is_blank b)) [
   | inl blank ↦ rw (no_break b blank, blank) (breaks-behind t)
   | inr dark ↦ rw dark (or_false (is_break b))
 ]
-
--- ---- for the layers above
-
--- from one part of a source to the next
-pub is_fresh-append : (x y : Text) → is_fresh (x ++ y) ≡ fold is_fresh_behind (is_fresh x) y
-is_fresh-append x y = fold-append is_fresh_behind true x y

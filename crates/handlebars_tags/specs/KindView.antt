@@ -1,8 +1,9 @@
 -- What the program's kinds and beginnings stand for.
-use Rattle.std.specs.Prelude.{Bool}
+use Rattle.std.specs.Prelude.{Bool, List, [], ◌∷◌, Option, Some, None}
 use denote.Ref.{Bor}
 use Rattle.handlebars_base.specs.Bytes.{Text}
-use Rattle.handlebars_tags.specs.Kind.{TagKind, expression_kind, html_kind, html_sign_kind, block_kind, close_kind, inverse_kind, else_kind, raw_kind, raw_close_kind, decorator_kind, decorator_block_kind, partial_kind, partial_block_kind, comment_kind, TagBeginning, beginning}
+use Rattle.handlebars_base.specs.Optional.{◌>>=◌, with_or}
+use Rattle.handlebars_tags.specs.Kind.{TagKind, expression_kind, html_kind, html_sign_kind, block_kind, close_kind, inverse_kind, else_kind, raw_kind, raw_close_kind, decorator_kind, decorator_block_kind, partial_kind, partial_block_kind, comment_kind, TagBeginning, beginning, Row, behind_sign}
 use Rattle.handlebars_tags.specs.declared.tag.beginning.TagKind.{TagKind as ReadKind}
 use Rattle.handlebars_tags.specs.declared.tag.beginning.TagKind.TheVariants as kind
 use Rattle.handlebars_tags.specs.declared.tag.beginning.TagBeginning.{TagBeginning as ReadBeginning}
@@ -29,3 +30,9 @@ beginning_view b = beginning (kind_of b.kind) b.tilde b.inside.now
 -- a tilde or none, and a text, wherever it lies
 abbrev pub tilded : Bool × Bor Text → Bool × Text
 tilded x = (x.0, x.1.now)
+
+-- behind two braces, and a tilde or none, the beginning by the first of these rows whose sign stands there
+abbrev pub signed_by : List Row → Bool → Text → Option TagBeginning
+signed_by [] tilde t = None
+signed_by (row ∷ rest) tilde t =
+    with_or (behind_sign row.sign t >>= λ inside. Some (beginning row.kind tilde inside)) Some (signed_by rest tilde t)

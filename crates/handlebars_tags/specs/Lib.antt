@@ -3,12 +3,9 @@ pub mod Text
 pub mod TextReading
 pub mod TextView
 pub mod Kind
-pub mod KindReading
 pub mod KindView
 pub mod Comment
-pub mod CommentReading
 pub mod Tag
-pub mod TagReading
 pub mod TagView
 pub mod Trim
 pub mod TrimView

@@ -1,18 +1,36 @@
 -- What the program's tags stand for.
-use Rattle.std.specs.Prelude.{◌≡◌, ℕ, true, ◌++◌, Some}
+use Rattle.std.specs.Prelude.{◌≡◌, ℕ, Bool, true, ◌++◌, Some}
 use Rattle.handlebars_base.specs.Bytes.{Text}
 use Rattle.handlebars_lines.specs.Line.{NameMode, value_name, close_name, Line, in_tag, IsLine}
 use Rattle.handlebars_lines.specs.Binding.{unbound}
 use Rattle.handlebars_lines.specs.BindingView.{bound_names_of}
 use Rattle.handlebars_tags.specs.Kind.{TagKind, closing_of}
-use Rattle.handlebars_tags.specs.Tag.{BlockLine, IsBlockLine, Tag, expression_tag, html_tag, block_tag, inverse_tag, chain_tag, close_tag, raw_tag, raw_close_tag, decorator_tag, decorator_block_tag, partial_tag, partial_block_tag, comment_tag, tag_depth, IsTag}
-use Rattle.handlebars_tags.specs.TagReading.{IsClosed}
+use Rattle.handlebars_tags.specs.Tag.{BlockLine, IsBlockLine, Tag, expression_tag, html_tag, block_tag, inverse_tag, chain_tag, close_tag, raw_tag, raw_close_tag, decorator_tag, decorator_block_tag, partial_tag, partial_block_tag, comment_tag, tag_depth, Says, IsTag}
 use Rattle.handlebars_tags.specs.declared.tag.inside.BlockSlice.{BlockSlice}
 use Rattle.handlebars_tags.specs.declared.tag.inside.Content.{Content}
 use Rattle.handlebars_tags.specs.declared.tag.inside.Content.TheVariants as content
 use Rattle.handlebars_tags.specs.declared.tag.inside.BlockRead.{BlockRead}
 use Rattle.handlebars_tags.specs.declared.tag.inside.Inside.{Inside}
 use Rattle.handlebars_tags.specs.declared.tag.TagSlice.{TagSlice}
+
+-- ---- what stands inside tags, with what closes it
+
+-- What is inside a tag of this kind says so much, and is closed with a tilde or without, and the rest follows.
+pub record IsClosed (kind : TagKind) (inside : Text) (tag : Tag) (right : Bool) (rest : Text) : Type 0 where
+  pub behind : Text
+  pub says : Says kind inside tag behind
+  pub closes : closing_of kind behind ≡ Some (right, rest)
+
+-- nothing is said there and closed
+abbrev pub NoneClosed : TagKind → Text → Type 0
+NoneClosed kind inside = (tag : Tag) (right : Bool) (rest : Text) → IsClosed kind inside tag right rest → ⊥
+
+-- no line with a name of this mode is there, or it isn't closed
+abbrev pub NoClosedLine : TagKind → NameMode → Text → Type 0
+NoClosedLine kind mode t = (line : Line) (behind : Text) (right : Bool) (rest : Text) →
+    IsLine mode in_tag t line behind → closing_of kind behind ≡ Some (right, rest) → ⊥
+
+-- ---- what the program reads
 
 -- A text, which begins with a line of a tag, with a name of this mode, is that of the tag.
 pub record HoldsLine (mode : NameMode) (of : Line → Tag) (text : Text) (tag : Tag) : Type 0 where

@@ -1,26 +1,17 @@
 -- How a text is read part by part. Only the code's own contracts cite this.
-use Rattle.std.specs.Prelude.{◌≡◌, ℕ, suc, Bool, false, ◌==◌, [], ◌∷◌, ◌++◌, drop, if◌then◌else◌}
-use Rattle.std.specs.List.{before_first}
-use Rattle.handlebars_base.specs.Bytes.{Text, left_brace}
-use Rattle.handlebars_tags.specs.Text.{Braces, IsText, is_backslash, two_in_front, before_braces}
+use Rattle.std.specs.Prelude.{◌≡◌, ℕ, suc, Bool, false, [], ◌∷◌, ◌++◌, if◌then◌else◌}
+use Rattle.handlebars_base.specs.Bytes.{Text}
+use Rattle.handlebars_tags.specs.Text.{Braces, IsText, is_backslash, before_braces}
 
 -- how many bytes stand before the next braces, and before the backslashes directly before these
 abbrev pub clear_len : Braces → Text → ℕ
 clear_len w [] = 0
 clear_len w (b ∷ t) = if before_braces w (b ∷ t) then 0 else suc (clear_len w t)
 
--- what stands before the next opening brace, or the whole
-abbrev pub before_brace : Text → Text
-before_brace t = before_first (λ b. b == left_brace) t
-
 abbrev pub ends_with_backslash : Text → Bool
 ends_with_backslash [] = false
 ends_with_backslash (b ∷ []) = is_backslash b
 ends_with_backslash (b ∷ c ∷ t) = ends_with_backslash (c ∷ t)
-
--- how many of the braces in front one backslash makes text
-abbrev pub escaped_len : Text → ℕ
-escaped_len t = if two_in_front (drop 2 t) then 4 else 2
 
 -- what was taken from the front keeps this, whatever text goes on behind it
 pub record GoesOn (w : Braces) (source kept rest : Text) : Type 0 where

@@ -5,8 +5,7 @@ ghost use Rattle.std.specs.Option.{option_map};
 ghost use Rattle.handlebars_base.specs.Bytes.{behind_white};
 ghost use Rattle.handlebars_base.specs.Texts.{IsEnd};
 ghost use Rattle.handlebars_tags.specs.Kind.{past};
-ghost use Rattle.handlebars_tags.specs.Comment.{behind_mark, behind_long, HasNoLong, IsComment, NoComment};
-ghost use Rattle.handlebars_tags.specs.CommentReading.{EndsComment, comment_text};
+ghost use Rattle.handlebars_tags.specs.Comment.{behind_mark, behind_long, long_text, compact_text, HasNoLong, IsComment, NoComment};
 
 use handlebars_base::json::path::marks::behind_white;
 
@@ -16,14 +15,6 @@ pub struct CommentSlice<'a> {
     pub text: &'a str,
     pub rest: &'a str,
     pub long_ahead: bool,
-}
-
-// Where a comment ends: what follows it.
-#[derive(Clone, Copy)]
-struct CommentEnd<'a> {
-    rest: &'a str,
-    is_long: bool,
-    long_ahead: bool,
 }
 
 /// The comment in front of a source, which begins with `{{!`. Once a search for the end of a long one was in vain,
@@ -36,43 +27,33 @@ pub fn split_comment<'a>(source: &'a str, long_ahead: bool) -> Option<CommentSli
     ensures still { IfSome result (λ slice. HasNoLong slice.long_ahead slice.rest.now) }
 {
     let (_mark, inside) = source.split_at(3);
-    match comment_end(inside, long_ahead) {
-        Some(end) => Some(CommentSlice {
-            text: comment_text(end.is_long, before(source, end.rest)),
-            rest: end.rest,
-            long_ahead: end.long_ahead,
-        }),
-        None => None,
-    }
-}
-
-fn comment_end<'a>(inside: &'a str, long_ahead: bool) -> Option<CommentEnd<'a>>
-    requires { HasNoLong long_ahead inside.now }
-    ensures ends { MatchOption result (NoComment inside.now)
-        (λ end. EndsComment inside.now end.is_long end.rest.now) }
-    ensures still { IfSome result (λ end. HasNoLong end.long_ahead end.rest.now) }
-{
     match behind_long(inside, long_ahead) {
-        Some(rest) => Some(CommentEnd {
+        Some(rest) => Some(CommentSlice {
+            text: long_text(before(source, rest)),
             rest,
-            is_long: true,
             long_ahead,
         }),
-        None => compact_end(inside, long_ahead),
+        None => compact_comment(source, inside, long_ahead),
     }
 }
 
-fn compact_end<'a>(inside: &'a str, long_ahead: bool) -> Option<CommentEnd<'a>>
+// The comment, where no long one stands there.
+fn compact_comment<'a>(
+    source: &'a str,
+    inside: &'a str,
+    long_ahead: bool,
+) -> Option<CommentSlice<'a>>
+    requires begins { past (codes "{{!") source.now ≡ Some inside.now }
     requires none { behind_long inside.now ≡ None }
     requires ahead { HasNoLong long_ahead inside.now }
-    ensures ends { MatchOption result (NoComment inside.now)
-        (λ end. EndsComment inside.now end.is_long end.rest.now) }
-    ensures still { IfSome result (λ end. HasNoLong end.long_ahead end.rest.now) }
+    ensures comment { MatchOption result (NoComment inside.now)
+        (λ slice. IsComment inside.now slice.text.now slice.rest.now) }
+    ensures still { IfSome result (λ slice. HasNoLong slice.long_ahead slice.rest.now) }
 {
     match behind_mark("}}", inside) {
-        Some(rest) => Some(CommentEnd {
+        Some(rest) => Some(CommentSlice {
+            text: compact_text(before(source, rest)),
             rest,
-            is_long: false,
             long_ahead: long_ahead && behind_dashes(inside).is_none(),
         }),
         None => None,
@@ -122,13 +103,16 @@ fn before<'a>(source: &'a str, rest: &str) -> &'a str
     source.split_at(source.len() - rest.len()).0
 }
 
-// The slice of a comment less its marks, as often as they stand there.
-fn comment_text(is_long: bool, slice: &str) -> &str
-    ensures { result.now ≡ comment_text is_long slice.now }
+// The slice of a long comment less its marks, as often as they stand there.
+fn long_text(slice: &str) -> &str
+    ensures { result.now ≡ long_text slice.now }
 {
-    if is_long {
-        slice.trim_start_matches("{{!--").trim_end_matches("--}}")
-    } else {
-        slice.trim_start_matches("{{!").trim_end_matches("}}")
-    }
+    slice.trim_start_matches("{{!--").trim_end_matches("--}}")
+}
+
+// That of a compact one.
+fn compact_text(slice: &str) -> &str
+    ensures { result.now ≡ compact_text slice.now }
+{
+    slice.trim_start_matches("{{!").trim_end_matches("}}")
 }

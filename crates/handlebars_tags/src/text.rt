@@ -1,10 +1,10 @@
 //! Texts: what a source holds up to the next tag, and what is kept of it.
 
-ghost use Rattle.std.specs.Prelude.{◌≡◌, ◌≢◌, ◌+◌, ◌-◌, ◌<◌, ◌≤◌, ◌++◌, ◌==◌, IfOk, length, take, drop, slice_index, string_bytes, true, false};
-ghost use Rattle.std.specs.List.{position_or_len};
+ghost use Rattle.std.specs.Prelude.{◌≡◌, ◌≢◌, ◌+◌, ◌-◌, ◌<◌, ◌≤◌, ◌++◌, ◌==◌, IfOk, length, take, drop, slice_index, string_bytes, true, false, if◌then◌else◌};
+ghost use Rattle.std.specs.List.{before_first, position_or_len};
 ghost use Rattle.handlebars_base.specs.Bytes.{left_brace};
 ghost use Rattle.handlebars_tags.specs.Text.{IsText, backslashes, two_in_front, braces, before_braces};
-ghost use Rattle.handlebars_tags.specs.TextReading.{GoesOn, Ends, before_brace, ends_with_backslash, clear_len, escaped_len};
+ghost use Rattle.handlebars_tags.specs.TextReading.{GoesOn, Ends, ends_with_backslash, clear_len};
 ghost use Rattle.handlebars_tags.specs.TextView.{braces_of};
 
 use std::alloc::{AllocError, Global};
@@ -130,7 +130,7 @@ fn escape<'a>(until: Braces, source: &'a str, run: usize) -> Chunk<'a>
 // How many of the braces in front one backslash makes text.
 fn escaped_len(text: &[u8]) -> usize
     requires { 2 ≤ length text.now }
-    ensures { result ≡ escaped_len text.now }
+    ensures { result ≡ if two_in_front (drop 2 text.now) then 4 else 2 }
 {
     if two_in_front(tail(text, 2)) { 4 } else { 2 }
 }
@@ -168,7 +168,7 @@ fn clear_len(until: Braces, text: &[u8]) -> usize
 
 // What stands before the next opening brace, or the whole.
 fn before_brace(text: &[u8]) -> &[u8]
-    ensures { result.now ≡ before_brace text.now }
+    ensures { result.now ≡ before_first (λ b. b == left_brace) text.now }
 {
     text.split_at(brace_len(text)).0
 }

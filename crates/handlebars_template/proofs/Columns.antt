@@ -1,15 +1,21 @@
 -- Lines and columns, byte by byte: of a character's bytes only the first is a column.
 use Rattle.std.proofs.Math.Dec.{ltb}
 use Rattle.std.proofs.Common.{◌≡◌, ℕ, Bool, length, ◌+◌, ◌/◌, ◌<◌, ◌≤◌, [], ◌∷◌, true, false, refl, sym, ap, ◌∙◌, arith, inl, inr}
-use Rattle.std.specs.Prelude.{◌==◌, not, cond, nat_lt, fold}
+use Rattle.std.specs.Prelude.{◌==◌, ◌&&◌, not, cond, nat_lt, fold}
 use Rattle.std.specs.Str.{IsUtf8, chars}
 use Rattle.std.proofs.Math.Utf8.{next, encode, encodes}
 use Rattle.std.proofs.lemmas.Bool.{cases_Bool, and_parts, eqb-false, false≢true, lt-ltb, le-ltb, ltb-true, ltb-false}
 use Rattle.std.proofs.lemmas.List.Sums.{fold-append}
 use Rattle.std.proofs.lemmas.Str.{encode_ascii, encodes-chars}
-use Rattle.handlebars_base.specs.Bytes.{Text}
+use Rattle.handlebars_base.specs.Bytes.{Text, newline}
 use Rattle.handlebars_template.specs.Place.{Place, behind_char, behind}
-use Rattle.handlebars_template.specs.PlaceReading.{is_column, still_columns}
+
+-- a byte that is a column and ends no line
+abbrev is_column : ℕ → Bool
+is_column b = nat_lt b 128 && not (b == newline)
+
+abbrev pub still_columns : Bool → ℕ → Bool
+still_columns all b = all && is_column b
 
 -- behind one column
 abbrev pub one_more : Place → Place

@@ -1,7 +1,7 @@
 -- The views, one level at a time.
 use Rattle.std.proofs.Common.{◌≡◌, ◌&&◌, suc, ◌==◌, List, [], ◌∷◌, Option, None, Some, length, refl, sym, ap, ◌∙◌, rules, arith, Box, Global, String}
 use Rattle.std.proofs.lemmas.Bool.{ne_eqb}
-use Rattle.handlebars_template.specs.Tree.{Tree, Element, Call, call, Decorator, Param, Binding, both, args, bodies, call_name, call_params, call_pairs, call_binding, call_body, call_inverse, call_marks, decorator_name, decorator_params, decorator_pairs, lacks_params, lacks_pairs, is_value, expression, helper_block, decorator_expression, decorator_block, partial_expression, partial_block, comment, raw_string, name, path, literal, subexpression}
+use Rattle.handlebars_template.specs.Tree.{Tree, Element, Call, call, Decorator, Param, Binding, both, args, bodies, call_name, call_params, call_pairs, call_binding, call_body, call_inverse, call_marks, args_params, args_pairs, decorator_name, decorator_args, lacks_params, lacks_pairs, is_value, expression, helper_block, decorator_expression, decorator_block, partial_expression, partial_block, comment, raw_string, name, path, literal, subexpression}
 use Rattle.handlebars_template.specs.TreeView.{binding_of, body_of, binding_layer, param_layer, element_layer, decorator_layer, call_layer, subexpression_layer, tree_layer, binding_view, tree_view, text, element_view, call_view, decorator_view, param_view, params_view, pairs_view, body_view, block_param_view, subexpression_view}
 use Rattle.handlebars_template.specs.declared.template.tree.BlockParam.{BlockParam, the_lemmas}
 use Rattle.handlebars_template.specs.declared.template.tree.BlockParam.TheShapes.{former-HelperTemplate-block_param, former-DecoratorTemplate-template}
@@ -93,10 +93,10 @@ subexpression_view-roll b = search (rules, the_lemmas)
 pub decorator_name-view : (t : DecoratorTemplate) → decorator_name (decorator_view t) ≡ param_view (out-DecoratorTemplate t).name
 decorator_name-view t = search (rules, the_lemmas)
 
-pub decorator_params-view : (t : DecoratorTemplate) → decorator_params (decorator_view t) ≡ params_view (out-DecoratorTemplate t).params.items
+pub decorator_params-view : (t : DecoratorTemplate) → args_params (decorator_args (decorator_view t)) ≡ params_view (out-DecoratorTemplate t).params.items
 decorator_params-view t = search (rules, the_lemmas)
 
-pub decorator_pairs-view : (t : DecoratorTemplate) → decorator_pairs (decorator_view t) ≡ pairs_view (out-DecoratorTemplate t).hash.entries
+pub decorator_pairs-view : (t : DecoratorTemplate) → args_pairs (decorator_args (decorator_view t)) ≡ pairs_view (out-DecoratorTemplate t).hash.entries
 decorator_pairs-view t = search (rules, the_lemmas)
 
 -- ---- values

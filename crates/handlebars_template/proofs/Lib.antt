@@ -16,6 +16,7 @@ pub mod NestsBuilt
 pub mod NestsLooked
 pub mod NestsDone
 pub mod NestsOpen
+pub mod Machine
 pub mod NestsFits
 pub mod NestsSteps
 pub mod NestsStates

@@ -1,13 +1,12 @@
 -- What the program builds of blocks, and what stands for it.
-use Rattle.std.proofs.Common.{◌≡◌, ◌∙◌, suc, Bool, true, List, [], ◌∷◌, ◌++◌, map, length, refl, sym, ap, arith}
+use Rattle.std.proofs.Common.{◌≡◌, suc, Bool, List, [], ◌∷◌, ◌++◌, map, length, refl, ap, arith}
 use Rattle.std.specs.Prelude.{◌==◌, not}
 use Rattle.std.proofs.lemmas.Bool.{ne_eqb}
 use Rattle.std.proofs.lemmas.List.{reverse-append, map-append}
 use Rattle.handlebars_template.specs.Place.{Place}
-use Rattle.handlebars_template.specs.Tree.{Element, Call, Body, no_body}
+use Rattle.handlebars_template.specs.Tree.{Element, Body}
 use Rattle.handlebars_template.specs.TreeView.{place_of, element_view}
-use Rattle.handlebars_template.specs.Nest.{Opening, Placed, Branch, body_with, block_call, inverse_of, is_chain}
-use Rattle.handlebars_template.specs.Machine.{in_branch, in_inverse, closed_call}
+use Rattle.handlebars_template.specs.Nest.{Opening, Placed, Branch, block_call, inverse_of, is_chain}
 use Rattle.handlebars_template.specs.NestView.{paired, branch_view, open_block_view, stack_view}
 use Rattle.handlebars_template.specs.declared.template.tree.TemplateMapping.{TemplateMapping}
 use Rattle.handlebars_template.specs.declared.template.tree.TemplateElement.{TemplateElement}
@@ -25,26 +24,8 @@ inverse_of_pop bs b last = rw (map-append) (inverse_of-append (map branch_view b
 pub stack_view_push : (os : List BuiltBlock) (o : BuiltBlock) → stack_view (os ++ o ∷ []) ≡ open_block_view o ∷ stack_view os
 stack_view_push os o = rw (map-append) (reverse-append (map open_block_view os) (open_block_view o ∷ []))
 
-is_chain-append : (bs : List Branch) (b : Branch) → is_chain (bs ++ b ∷ []) ≡ true
-is_chain-append [] b = refl
-is_chain-append (a ∷ bs) b = refl
-
-pub closed_call-chained : (h : Call) (o g : Opening) (first es : List Placed) (bs cs : List Branch) (inverse : Body)
-    → h ≡ block_call o first inverse true → inverse ≡ inverse_of cs no_body → cs ≡ bs ++ record { opening = g; elements = es } ∷ []
-    → h ≡ closed_call (in_branch g) o first bs es
-closed_call-chained h o g first es bs cs inverse is chained more =
-    let last : Branch = record { opening = g; elements = es } in
-    is
-    ∙ ap (λ (i : Body). block_call o first i true) (chained ∙ ap (λ (x : List Branch). inverse_of x no_body) more)
-    ∙ ap (λ (b : Bool). block_call o first (inverse_of (bs ++ last ∷ []) no_body) b) (sym (is_chain-append bs last))
-
-pub closed_call-inverse : (h : Call) (o : Opening) (first es : List Placed) (bs : List Branch) (inverse last : Body) (chain : Bool)
-    → h ≡ block_call o first inverse chain → inverse ≡ inverse_of bs last → last ≡ body_with es → chain ≡ is_chain bs
-    → h ≡ closed_call in_inverse o first bs es
-closed_call-inverse h o first es bs inverse last chain is chained whole same =
-    is
-    ∙ ap (λ (i : Body). block_call o first i chain) (chained ∙ ap (inverse_of bs) whole)
-    ∙ ap (λ (b : Bool). block_call o first (inverse_of bs (body_with es)) b) same
+pub block_call-along : {i j : Body} {b c : Bool} (o : Opening) (first : List Placed) → i ≡ j → b ≡ c → block_call o first i b ≡ block_call o first j c
+block_call-along o first inverses chains = rw (inverses, chains) refl
 
 pub is_chain-view : (bs : List BuiltBranch) → not (length bs == 0) ≡ is_chain (map branch_view bs)
 is_chain-view [] = refl

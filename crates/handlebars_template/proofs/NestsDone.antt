@@ -17,7 +17,7 @@ one_deeper : (d n e : ℕ) → (d < max_nesting → e ≡ suc d) → d + suc n �
 one_deeper d n e more le = sym (more (omega (arith, le)))
 
 pub chains-goes : (p : Place) (o : Opening) (n : ℕ) (r : Option Text) (d e : ℕ) (f g : BlockSoFar) (all fs : List BlockSoFar) (es : List Placed)
-    → all ≡ f ∷ fs → g ≡ next_stage f.stage f es (in_branch o) → (d < max_nesting → e ≡ suc d)
+    → all ≡ f ∷ fs → g ≡ next_stage f es (in_branch o) → (d < max_nesting → e ≡ suc d)
     → early_in d (open_in all) (chains p o n r) ≡ None → behind_piece (chains p o n r) d all es ≡ goes e (g ∷ fs) []
 chains-goes p o n r d e f g all fs es front next more may =
     ap (λ (z : List BlockSoFar). behind_piece (chains p o n r) d z es) front

@@ -1,5 +1,6 @@
 -- When a piece may stand next, and what the machine does then; and why it is refused, by the machine and by the relation.
-use Rattle.std.proofs.Common.{◌≡◌, ℕ, suc, ◌+◌, ◌<◌, ◌≤◌, nat_lt, sym, List, [], ◌∷◌, Bool, true, false, Option, None, Some, refl, ap, ◌∙◌, subst, arith}
+use Rattle.std.proofs.Common.{◌≡◌, ℕ, suc, ◌+◌, ◌<◌, ◌≤◌, List, [], ◌∷◌, Bool, true, false, Option, None, Some, refl, ap, ◌∙◌, subst, arith}
+use Rattle.std.specs.Prelude.{if◌then◌else◌, option_map}
 use Rattle.std.specs.Option.{option_or}
 use Rattle.std.proofs.lemmas.Bool.{lt-ltb, le-ltb}
 use Rattle.std.proofs.lemmas.Option.{same_Some, none-some}
@@ -9,16 +10,10 @@ use Rattle.handlebars_template.specs.Place.{Place}
 use Rattle.handlebars_template.specs.Tree.{Element}
 use Rattle.handlebars_template.specs.Calls.{max_nesting}
 use Rattle.handlebars_template.specs.Nest.{BlockKind, Opening, SourcePiece, leaf, opens, inverts, chains, closes, place_in, refused_in, may_end, NestFault, unexpected, too_deep, mismatched, no_value, Placed, Tried, syntax_alone, names_and_literals, may_close, has_values, OpenBlock, takes_inverse, may_stand_in, cost, RefusesAt, out_of_place, past_limit, without_value, other_name}
-use Rattle.handlebars_template.specs.Machine.{BlockSoFar, open_in, Moved, stops, behind_piece, syntax_fault_by, early_in, literal_fault, name_fault, name_fault_in, late_in, tried, fault_in, unless_fault, moved_by, apply}
+use Rattle.handlebars_template.specs.Machine.{BlockSoFar, open_in, Moved, stops, behind_piece, syntax_fault_by, is_too_deep, early_in, name_fault_in, late_in}
+use Rattle.handlebars_template.proofs.Machine.{tried, fault_in, unless_fault, moved_by, apply}
 
 -- ---- how deep
-
-abbrev pub is_too_deep : ℕ → SourcePiece → Bool
-is_too_deep d (leaf p e n r) = nat_lt max_nesting (d + n)
-is_too_deep d (opens p o n r) = nat_lt max_nesting (d + suc n)
-is_too_deep d (inverts p) = false
-is_too_deep d (chains p o n r) = nat_lt max_nesting (d + suc n)
-is_too_deep d (closes p raw m) = false
 
 deep-past : (d : ℕ) (x : SourcePiece) → is_too_deep d x ≡ true → max_nesting < d + cost x
 deep-past d (leaf p e n r) is = ltb-true _ _ is
@@ -54,20 +49,23 @@ tried-none : (t : Tried) → tried t None ≡ None
 tried-none syntax_alone = refl
 tried-none names_and_literals = refl
 
-tried-values : (t : Tried) (r : Option Text) → has_values t r ≡ true → tried t (option_or (literal_fault r) None) ≡ None
+tried-values : (t : Tried) (r : Option Text) → has_values t r ≡ true → tried t (option_or (option_map no_value r) None) ≡ None
 tried-values syntax_alone r fair = refl
 tried-values names_and_literals None fair = refl
 tried-values names_and_literals (Some raw) fair = absurd cc
 
-values-tried : (t : Tried) (r : Option Text) → tried t (option_or (literal_fault r) None) ≡ None → has_values t r ≡ true
+pub values-tried : (t : Tried) (r : Option Text) → tried t (option_or (option_map no_value r) None) ≡ None → has_values t r ≡ true
 values-tried syntax_alone r none = refl
 values-tried names_and_literals None none = refl
 values-tried names_and_literals (Some raw) none = absurd cc
 
 tried-worthless : (t : Tried) (r : Option Text) (raw : Text) (f : Option NestFault) → r ≡ Some raw → has_values t (Some raw) ≡ false
-    → tried t (option_or (literal_fault r) f) ≡ Some (no_value raw)
+    → tried t (option_or (option_map no_value r) f) ≡ Some (no_value raw)
 tried-worthless syntax_alone r raw f is bad = absurd cc
-tried-worthless names_and_literals r raw f is bad = ap (λ (z : Option Text). option_or (literal_fault z) f) is
+tried-worthless names_and_literals r raw f is bad = ap (λ (z : Option Text). option_or (option_map no_value z) f) is
+
+abbrev name_fault : Bool → BlockKind → Text → Text → Place → Option NestFault
+name_fault b k n m p = if b then None else Some (mismatched k n m p)
 
 module _ (k : BlockKind) (n m : Text) (p : Place) where
   tried-named : (t : Tried) → may_close t n m ≡ true → tried t (name_fault (may_close names_and_literals n m) k n m p) ≡ None
@@ -83,7 +81,7 @@ module _ (k : BlockKind) (n m : Text) (p : Place) where
   name_fault-none true is = refl
   name_fault-none false is = absurd cc
 
-  named-tried : (t : Tried) → tried t (name_fault (may_close names_and_literals n m) k n m p) ≡ None → may_close t n m ≡ true
+  pub named-tried : (t : Tried) → tried t (name_fault (may_close names_and_literals n m) k n m p) ≡ None → may_close t n m ≡ true
   named-tried syntax_alone is = refl
   named-tried names_and_literals is = name_fault-none (may_close names_and_literals n m) is
 
@@ -97,16 +95,6 @@ pub record Fits (t : Tried) (d : ℕ) (fs : List OpenBlock) (x : SourcePiece) : 
 abbrev fault_by : Bool → Bool → Place → Option NestFault → Option NestFault
 fault_by b c p late = option_or (syntax_fault_by b c p) late
 
-early_in-by : (d : ℕ) (fs : List OpenBlock) (x : SourcePiece) → early_in d fs x ≡ syntax_fault_by (may_stand_in fs x) (is_too_deep d x) (place_in x)
-early_in-by d fs (leaf p e n r) = refl
-early_in-by d fs (opens p o n r) = refl
-early_in-by d fs (inverts p) = refl
-early_in-by d fs (chains p o n r) = refl
-early_in-by d fs (closes p raw m) = refl
-
-fault_in-by : (t : Tried) (d : ℕ) (fs : List OpenBlock) (x : SourcePiece) → fault_in t d fs x ≡ fault_by (may_stand_in fs x) (is_too_deep d x) (place_in x) (tried t (late_in fs x))
-fault_in-by t d fs x = ap (λ (f : Option NestFault). option_or f (tried t (late_in fs x))) (early_in-by d fs x)
-
 fault_by-none : (b c : Bool) (p : Place) (late : Option NestFault) → fault_by b c p late ≡ None → (b ≡ true) × (c ≡ false) × (late ≡ None)
 fault_by-none false c p late is = absurd cc
 fault_by-none true true p late is = absurd cc
@@ -114,13 +102,12 @@ fault_by-none true false p late is = (refl, refl, is)
 
 pub fault_in-none : (t : Tried) (d : ℕ) (fs : List OpenBlock) (x : SourcePiece) → fault_in t d fs x ≡ None → Fits t d fs x
 fault_in-none t d fs x is =
-    let all = fault_by-none (may_stand_in fs x) (is_too_deep d x) (place_in x) (tried t (late_in fs x)) (sym (fault_in-by t d fs x) ∙ is) in
+    let all = fault_by-none (may_stand_in fs x) (is_too_deep d x) (place_in x) (tried t (late_in fs x)) (is) in
     record { stands = all.0; shallow = all.1; fair = all.2 }
 
 none-fault_in : (t : Tried) (d : ℕ) (fs : List OpenBlock) (x : SourcePiece) → Fits t d fs x → fault_in t d fs x ≡ None
 none-fault_in t d fs x h =
-    fault_in-by t d fs x
-    ∙ ap (λ (b : Bool). fault_by b (is_too_deep d x) (place_in x) (tried t (late_in fs x))) h.stands
+    ap (λ (b : Bool). fault_by b (is_too_deep d x) (place_in x) (tried t (late_in fs x))) h.stands
     ∙ ap (λ (b : Bool). fault_by true b (place_in x) (tried t (late_in fs x))) h.shallow ∙ h.fair
 
 pub apply-moved_by : (t : Tried) (x : SourcePiece) (d : ℕ) (fs : List BlockSoFar) (es : List Placed) → apply t x d fs es ≡ moved_by t x d fs es
@@ -162,36 +149,22 @@ pub Fits-closes : (t : Tried) (d : ℕ) (f : OpenBlock) (fs : List OpenBlock) (p
     → Fits t d (f ∷ fs) (closes p raw m)
 Fits-closes t d f fs p raw m ends is = record { stands = ends; shallow = refl; fair = tried-named f.opening.kind f.opening.closing m p t is }
 
-pub leaf-values : (t : Tried) (d : ℕ) (fs : List OpenBlock) (p : Place) (e : Element) (n : ℕ) (r : Option Text) → Fits t d fs (leaf p e n r) → has_values t r ≡ true
-leaf-values t d fs p e n r h = values-tried t r h.fair
-
-pub opens-values : (t : Tried) (d : ℕ) (fs : List OpenBlock) (p : Place) (o : Opening) (n : ℕ) (r : Option Text) → Fits t d fs (opens p o n r) → has_values t r ≡ true
-opens-values t d fs p o n r h = values-tried t r h.fair
-
-pub chains-values : (t : Tried) (d : ℕ) (fs : List OpenBlock) (p : Place) (o : Opening) (n : ℕ) (r : Option Text) → Fits t d fs (chains p o n r) → has_values t r ≡ true
-chains-values t d fs p o n r h = values-tried t r h.fair
-
-pub closes-name : (t : Tried) (d : ℕ) (f : OpenBlock) (fs : List OpenBlock) (p : Place) (raw : Bool) (m : Text) → Fits t d (f ∷ fs) (closes p raw m) → may_close t f.opening.closing m ≡ true
-closes-name t d f fs p raw m h = named-tried f.opening.kind f.opening.closing m p t h.fair
-
 -- ---- refusals
 
 pub RefusesAt-fault : {t : Tried} {d : ℕ} {fs : List OpenBlock} {x : SourcePiece} {f : NestFault} → d ≤ max_nesting → RefusesAt t d fs x f → fault_in t d fs x ≡ Some f
 RefusesAt-fault {t} {d} {fs} {x} le (out_of_place is) =
-    fault_in-by t d fs x ∙ ap (λ (b : Bool). fault_by b (is_too_deep d x) (place_in x) (tried t (late_in fs x))) is
+    ap (λ (b : Bool). fault_by b (is_too_deep d x) (place_in x) (tried t (late_in fs x))) is
 RefusesAt-fault {t} {d} {fs} {x} le (past_limit is deep) =
-    fault_in-by t d fs x
-    ∙ ap (λ (b : Bool). fault_by b (is_too_deep d x) (place_in x) (tried t (late_in fs x))) is
+    ap (λ (b : Bool). fault_by b (is_too_deep d x) (place_in x) (tried t (late_in fs x))) is
     ∙ ap (λ (b : Bool). fault_by true b (place_in x) (tried t (late_in fs x))) (past-deep d x le deep)
 RefusesAt-fault {t} {d} {fs} {x} le (without_value {raw = raw} is fits refused bad) =
-    fault_in-by t d fs x
-    ∙ ap (λ (b : Bool). fault_by b (is_too_deep d x) (place_in x) (tried t (late_in fs x))) is
+    ap (λ (b : Bool). fault_by b (is_too_deep d x) (place_in x) (tried t (late_in fs x))) is
     ∙ ap (λ (b : Bool). fault_by true b (place_in x) (tried t (late_in fs x))) (fits-shallow d x fits)
-    ∙ tried-worthless t (refused_in x) raw (name_fault_in fs x) refused bad
+    ∙ tried-worthless t (refused_in x) raw (name_fault_in x fs) refused bad
 RefusesAt-fault {t} {d} le (other_name {f = f} {fs = fs} {p = p} {raw = raw} {m = m} is other) =
     ap (λ (b : Bool). fault_by b false p (tried t (late_in (f ∷ fs) (closes p raw m)))) is ∙ tried-other f.opening.kind f.opening.closing m p t other
 
-RefusesAt-name : (d : ℕ) (fs : List OpenBlock) (x : SourcePiece) (f : NestFault) → may_stand_in fs x ≡ true → name_fault_in fs x ≡ Some f → RefusesAt names_and_literals d fs x f
+RefusesAt-name : (d : ℕ) (fs : List OpenBlock) (x : SourcePiece) (f : NestFault) → may_stand_in fs x ≡ true → name_fault_in x fs ≡ Some f → RefusesAt names_and_literals d fs x f
 RefusesAt-name d fs (leaf p e n r) f stands is = absurd (none-some f is)
 RefusesAt-name d fs (opens p o n r) f stands is = absurd (none-some f is)
 RefusesAt-name d fs (inverts p) f stands is = absurd (none-some f is)
@@ -205,7 +178,7 @@ RefusesAt-name d (g ∷ fs) (closes p raw m) f stands is = by_name (may_close na
     by_name false other is = subst (RefusesAt names_and_literals d (g ∷ fs) (closes p raw m)) (same_Some _ f is) (other_name stands other)
 
 RefusesAt-late : (t : Tried) (d : ℕ) (fs : List OpenBlock) (x : SourcePiece) (f : NestFault) (r : Option Text) → refused_in x ≡ r → may_stand_in fs x ≡ true → d + cost x ≤ max_nesting
-    → tried t (option_or (literal_fault r) (name_fault_in fs x)) ≡ Some f → RefusesAt t d fs x f
+    → tried t (option_or (option_map no_value r) (name_fault_in x fs)) ≡ Some f → RefusesAt t d fs x f
 RefusesAt-late syntax_alone d fs x f r refused stands fits is = absurd (none-some f is)
 RefusesAt-late names_and_literals d fs x f None refused stands fits is = RefusesAt-name d fs x f stands is
 RefusesAt-late names_and_literals d fs x f (Some raw) refused stands fits is = subst (RefusesAt names_and_literals d fs x) (same_Some (no_value raw) f is) (without_value stands fits refused refl)
@@ -217,4 +190,4 @@ RefusesAt-by t d fs x f true true le stands deep is = subst (RefusesAt t d fs x)
 RefusesAt-by t d fs x f true false le stands deep is = RefusesAt-late t d fs x f (refused_in x) refl stands (shallow-fits d x le deep) is
 
 pub fault-RefusesAt : (t : Tried) (d : ℕ) (fs : List OpenBlock) (x : SourcePiece) (f : NestFault) → d ≤ max_nesting → fault_in t d fs x ≡ Some f → RefusesAt t d fs x f
-fault-RefusesAt t d fs x f le is = RefusesAt-by t d fs x f (may_stand_in fs x) (is_too_deep d x) le refl refl (sym (fault_in-by t d fs x) ∙ is)
+fault-RefusesAt t d fs x f le is = RefusesAt-by t d fs x f (may_stand_in fs x) (is_too_deep d x) le refl refl (is)

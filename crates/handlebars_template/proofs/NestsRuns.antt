@@ -6,7 +6,8 @@ use Rattle.handlebars_template.specs.Place.{Place}
 use Rattle.handlebars_template.specs.Tree.{Element, Body}
 use Rattle.handlebars_template.specs.Calls.{max_nesting}
 use Rattle.handlebars_template.specs.Nest.{may_end, Opening, SourcePiece, leaf, opens, inverts, chains, closes, NestFault, Placed, Branch, block_of, Tried, may_close, has_values, Nests, nothing, a_leaf, a_block, Chains, no_more, a_branch, Inverts, no_inverse, an_inverse, OpenBlock, takes_inverse, BeginsBlock, in_a_body, in_its_inverse, Opens, none_open, one_more, Refuses, refuses_at}
-use Rattle.handlebars_template.specs.Machine.{Stage, in_first, in_branch, in_inverse, BlockSoFar, without_elements, open_in, closed, next_stage, new_open_block, Moved, goes, stops, behind_piece, fault_in, unless_fault, apply}
+use Rattle.handlebars_template.specs.Machine.{Stage, in_first, in_branch, in_inverse, BlockSoFar, without_elements, open_in, closed, next_stage, new_open_block, Moved, goes, stops, behind_piece}
+use Rattle.handlebars_template.proofs.Machine.{fault_in, unless_fault, apply}
 use Rattle.handlebars_template.proofs.NestsFits.{apply-moved_by, Fits, apply-fits, Fits-leaf, Fits-opens, Fits-inverts, Fits-chains, Fits-closes, RefusesAt-fault}
 use Rattle.handlebars_template.proofs.NestsSteps.{Opens-shallow}
 
@@ -46,11 +47,11 @@ module _ (t : Tried) (xs : List SourcePiece) where
   run-opens p o n r d fs es fits fair = moves (opens p o n r) d fs es (Fits-opens t d (open_in fs) p o n r fits fair)
 
   run-inverts : (p : Place) (d : ℕ) (f : BlockSoFar) (fs : List BlockSoFar) (es : List Placed) → takes_inverse (without_elements f) ≡ true
-      → run t (inverts p ∷ xs) d (f ∷ fs) es ≡ run t xs d (next_stage f.stage f es in_inverse ∷ fs) []
+      → run t (inverts p ∷ xs) d (f ∷ fs) es ≡ run t xs d (next_stage f es in_inverse ∷ fs) []
   run-inverts p d f fs es takes = moves (inverts p) d (f ∷ fs) es (Fits-inverts t d (without_elements f) (open_in fs) p takes)
 
   run-chains : (p : Place) (o : Opening) (n : ℕ) (r : Option Text) (d : ℕ) (f : BlockSoFar) (fs : List BlockSoFar) (es : List Placed) → takes_inverse (without_elements f) ≡ true → d + suc n ≤ max_nesting → has_values t r ≡ true
-      → run t (chains p o n r ∷ xs) d (f ∷ fs) es ≡ run t xs (suc d) (next_stage f.stage f es (in_branch o) ∷ fs) []
+      → run t (chains p o n r ∷ xs) d (f ∷ fs) es ≡ run t xs (suc d) (next_stage f es (in_branch o) ∷ fs) []
   run-chains p o n r d f fs es takes fits fair = moves (chains p o n r) d (f ∷ fs) es (Fits-chains t d (without_elements f) (open_in fs) p o n r takes fits fair)
 
   run-closes : (p : Place) (raw : Bool) (m : Text) (d : ℕ) (f : BlockSoFar) (fs : List BlockSoFar) (es : List Placed) → may_end f.opening.kind raw m ≡ true → may_close t f.opening.closing m ≡ true

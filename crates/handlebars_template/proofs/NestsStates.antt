@@ -3,7 +3,8 @@ use Rattle.std.proofs.Common.{◌≡◌, ℕ, List, [], ◌∷◌, ◌++◌, Opt
 use Rattle.std.specs.Prelude.{⊤}
 use Rattle.std.specs.Option.{option_or}
 use Rattle.handlebars_template.specs.Nest.{SourcePiece, NestFault, not_closed, Placed, syntax_alone, names_and_literals, Nests, nothing, Refuses, LeavesOpen, left_open}
-use Rattle.handlebars_template.specs.Machine.{BlockSoFar, open_in, Moved, goes, stops, behind_piece, early_in, late_in, late_after, unless_fault, apply}
+use Rattle.handlebars_template.specs.Machine.{BlockSoFar, open_in, Moved, goes, stops, behind_piece, early_in, late_in}
+use Rattle.handlebars_template.proofs.Machine.{late_after, unless_fault, apply}
 use Rattle.handlebars_template.proofs.NestsOpen.{OpensSoFar, no_block}
 use Rattle.handlebars_template.proofs.NestsFits.{apply-moved_by}
 use Rattle.handlebars_template.proofs.NestsSteps.{OpensSoFar-opens, OpensSoFar-step, Refuses-step, Refuses-append}

@@ -7,9 +7,10 @@ use Rattle.handlebars_base.specs.Bytes.{Text}
 use Rattle.handlebars_template.specs.Place.{Place}
 use Rattle.handlebars_template.specs.Calls.{max_nesting}
 use Rattle.handlebars_template.specs.Nest.{BlockKind, admits_inverse, may_end, Opening, SourcePiece, leaf, opens, inverts, chains, closes, NestFault, Placed, Branch, Tried, may_close, has_values, Nests, nothing, a_leaf, a_block, Chains, no_more, a_branch, no_inverse, an_inverse, OpenBlock, takes_inverse, BeginsBlock, in_a_body, in_its_inverse, Opens, none_open, one_more, RefusesAt, Refuses, refuses_at}
-use Rattle.handlebars_template.specs.Machine.{BlockSoFar, without_elements, open_in, closed, Moved, goes, stops, behind_piece, fault_in, unless_fault, apply}
+use Rattle.handlebars_template.specs.Machine.{BlockSoFar, without_elements, open_in, closed, Moved, goes, stops, behind_piece}
+use Rattle.handlebars_template.proofs.Machine.{fault_in, unless_fault, apply}
 use Rattle.handlebars_template.proofs.NestsOpen.{BeginsSoFar, in_its_body, in_a_branch, in_an_inverse, OpensSoFar, no_block, a_block_more}
-use Rattle.handlebars_template.proofs.NestsFits.{apply-moved_by, Fits, fault_in-none, leaf-values, opens-values, chains-values, closes-name, fault-RefusesAt}
+use Rattle.handlebars_template.proofs.NestsFits.{apply-moved_by, Fits, fault_in-none, values-tried, named-tried, fault-RefusesAt}
 
 -- ---- along an equation
 
@@ -110,15 +111,15 @@ Leaves-chains q g k u takes deep worth o (in_a_branch p q' x g' n k' r u' fits f
 Leaves-chains q g k u takes deep worth o (in_an_inverse p q' x n r fits fair nb ch may ng) = absurd (false≢true takes)
 
 leaves : {t : Tried} {d : ℕ} {ps : List SourcePiece} {fs : List BlockSoFar} {es : List Placed} → (x : SourcePiece) → Fits t d (open_in fs) x → OpensSoFar t d ps fs es → Leaves t (ps ++ (x ∷ [])) (behind_piece x d fs es)
-leaves {t} {d} {fs = fs} (leaf p e n r) h o = OpensSoFar-append o (a_leaf p e n r (ltb-false _ _ h.shallow) (leaf-values t d (open_in fs) p e n r h) nothing)
-leaves {t} {d} {fs = fs} (opens p x n r) h o = a_block_more o (in_its_body p x n r (ltb-false _ _ h.shallow) (opens-values t d (open_in fs) p x n r h) nothing)
+leaves {t} {d} {fs = fs} (leaf p e n r) h o = OpensSoFar-append o (a_leaf p e n r (ltb-false _ _ h.shallow) (values-tried t r h.fair) nothing)
+leaves {t} {d} {fs = fs} (opens p x n r) h o = a_block_more o (in_its_body p x n r (ltb-false _ _ h.shallow) (values-tried t r h.fair) nothing)
 leaves {fs = []} (inverts p) h o = absurd (false≢true h.stands)
 leaves {fs = f ∷ fs} (inverts p) h (a_block_more o i) = Leaves-inverts p h.stands o i
 leaves {fs = []} (chains p x n r) h o = absurd (false≢true h.stands)
-leaves {t} {d} {fs = f ∷ fs} (chains p x n r) h (a_block_more o i) = Leaves-chains p x n r h.stands (ltb-false _ _ h.shallow) (chains-values t d (open_in (f ∷ fs)) p x n r h) o i
+leaves {t} {d} {fs = f ∷ fs} (chains p x n r) h (a_block_more o i) = Leaves-chains p x n r h.stands (ltb-false _ _ h.shallow) (values-tried t r h.fair) o i
 leaves {fs = []} (closes p raw m) h o = absurd (false≢true h.stands)
 leaves {t} {d} {fs = f ∷ fs} (closes p raw m) h (a_block_more o i) =
-    opens_at (OpensSoFar-append o (BeginsSoFar-closed p raw m h.stands (closes-name t d (without_elements f) (open_in fs) p raw m h) i)) (sym (simp append_assoc))
+    opens_at (OpensSoFar-append o (BeginsSoFar-closed p raw m h.stands (named-tried f.opening.kind f.opening.closing m p t h.fair) i)) (sym (simp append_assoc))
 
 -- ---- a step
 

@@ -1,5 +1,6 @@
 -- What the code's open calls are of a line's open lines: step by step they stay that.
 use Rattle.std.proofs.Common.{◌≡◌, ◌∙◌, Bool, true, false, cond, List, [], ◌∷◌, ◌++◌, map, Option, Some, None, refl, sym, ap, append_assoc}
+use Rattle.std.proofs.lemmas.List.{append-nil}
 use Rattle.std.proofs.lemmas.Option.{same_Some, none-some}
 use Rattle.std.specs.Prelude.{is_some, option_map, unwrap_or}
 use Rattle.serde_json.specs.Data.{Data, null}
@@ -24,18 +25,14 @@ arguments_in_joined (term k u ts) xs key t = arguments_in_joined ts (add_argumen
 
 -- ---- literals
 
-append-none : (xs : List Text) → xs ++ [] ≡ xs
-append-none [] = refl
-append-none (x ∷ xs) = ap (λ (z : List Text). x ∷ z) (append-none xs)
-
 literals_in-joined : (ts : Terms) (key : Option Text) (t : Term) → literals_in (joined ts (term key t no_terms)) ≡ literals_in ts ++ literals_of t
-literals_in-joined no_terms key t = append-none (literals_of t)
+literals_in-joined no_terms key t = append-nil (literals_of t)
 literals_in-joined (term k u ts) key t =
     ap (λ (z : List Text). literals_of u ++ z) (literals_in-joined ts key t) ∙ sym (append_assoc (literals_of u) (literals_in ts) (literals_of t))
 
 open_literals-by : (own : Option Text) (n : Option Term) (ts : Terms) (key : Option Text) (t : Term) → is_in_order (open_line own n ts) ≡ true
     → open_literals (add_term key t (open_line own n ts)) ≡ open_literals (open_line own n ts) ++ literals_of t
-open_literals-by own None no_terms key t h = append-none (literals_of t)
+open_literals-by own None no_terms key t h = append-nil (literals_of t)
 open_literals-by own None (term k u ts) key t h = absurd cc
 open_literals-by own (Some n) ts key t h =
     ap (λ (z : List Text). literals_of n ++ z) (literals_in-joined ts key t) ∙ sym (append_assoc (literals_of n) (literals_in ts) (literals_of t))

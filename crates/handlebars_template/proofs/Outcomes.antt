@@ -14,7 +14,8 @@ use Rattle.handlebars_tags.specs.Trim.{Edge, no_edge, edge_of, braces_behind}
 use Rattle.handlebars_tags.specs.Options.{Options}
 use Rattle.handlebars_template.specs.Place.{place}
 use Rattle.handlebars_template.specs.Nest.{SourcePiece, NestFault, not_closed, Placed, Tried, syntax_alone, names_and_literals, Nests, nothing, none_open, Refuses, left_open as still_open}
-use Rattle.handlebars_template.specs.Machine.{BlockSoFar, Moved, goes, stops, apply}
+use Rattle.handlebars_template.specs.Machine.{BlockSoFar, Moved, goes, stops}
+use Rattle.handlebars_template.proofs.Machine.{apply}
 use Rattle.handlebars_template.specs.Cut.{Slice, text_slice, tag_slice, may_follow, TextAndTag, Reads, starts, goes_on, IsCut}
 use Rattle.handlebars_template.specs.Compile.{pieces_in, tree_of, refusal_for, Compilation, compiled, refused, unreadable_tag, Compiles, whole, no_tag, misplaced, left_open, late}
 use Rattle.handlebars_template.proofs.NestsOpen.{OpensSoFar, no_block}

@@ -19,10 +19,11 @@ use Rattle.handlebars_tags.specs.Options.{Options}
 use Rattle.handlebars_template.specs.Place.{Place, origin, behind_char, behind, place}
 use Rattle.handlebars_template.specs.Tree.{raw_string}
 use Rattle.handlebars_template.specs.Nest.{SourcePiece, leaf, NestFault, Placed, syntax_alone, Refuses}
-use Rattle.handlebars_template.specs.Machine.{BlockSoFar, open_in, goes, stops, apply, late_after, at_end as ended, End}
+use Rattle.handlebars_template.specs.Machine.{BlockSoFar, open_in, goes, stops}
+use Rattle.handlebars_template.proofs.Machine.{apply, late_after}
 use Rattle.handlebars_template.specs.Cut.{Slice, text_slice, tag_slice, may_follow, Reads, starts, goes_on, IsCut}
-use Rattle.handlebars_template.specs.Compile.{tag_piece, text_pieces, pieces_in, unreadable_tag, refusal_for, NoTagBehind, Compiles, refused, whole, no_tag, misplaced, left_open, late}
-use Rattle.handlebars_template.specs.ScanView.{text_placed, EndsWith}
+use Rattle.handlebars_template.specs.Compile.{tag_piece, text_pieces, pieces_in, unreadable_tag, refusal_for, NoTagBehind, Compilation, Compiles, refused, whole, no_tag, misplaced, left_open, late}
+use Rattle.handlebars_template.specs.ScanView.{text_placed, at_end as ended}
 use Rattle.handlebars_template.proofs.NestsDone.{option_or-none}
 use Rattle.handlebars_template.proofs.NestsFits.{apply-fits, Fits-leaf}
 use Rattle.handlebars_template.proofs.NestsSteps.{Opens-shallow, OpensSoFar-opens}
@@ -263,17 +264,17 @@ Scans-cut {source} {options} {slice} {kept} {left} {at} {fresh} {e} h over =
 pieces_in-last : (options : Options) (ps : List Slice) (p : Place) (e : Edge) (x k : Text) (n : Edge) → pieces_in options (ps ++ text_slice p e x k n ∷ []) ≡ pieces_in options ps ++ text_pieces options p e x k n
 pieces_in-last options ps p e x k n = pieces_in-append options ps (text_slice p e x k n ∷ []) ∙ ap (λ (z : List SourcePiece). pieces_in options ps ++ z) (append-nil (text_pieces options p e x k n))
 
-Cut-comes : {source : Text} {options : Options} {ps : List Slice} {d : ℕ} {es : List Placed} → (late : Option NestFault) (fs : List BlockSoFar) → IsCut source options ps → State late (pieces_in options ps) d fs es → EndsWith source options (ended fs late es)
+Cut-comes : {source : Text} {options : Options} {ps : List Slice} {d : ℕ} {es : List Placed} → (late : Option NestFault) (fs : List BlockSoFar) → IsCut source options ps → State late (pieces_in options ps) d fs es → Compiles source options (ended options fs late es)
 Cut-comes late' (f ∷ fs) cut s = left_open cut (State-open s)
 Cut-comes (Some f) [] cut s = (let both = State-late s in late cut both.0 both.1)
 Cut-comes None [] cut s = whole cut (State-whole s)
 
 pub Scans-end : {source : Text} {options : Options} {slice kept left : Text} {at : Place} {fresh : Bool} {e : Edge} {late : Option NestFault} {d : ℕ} {fs : List BlockSoFar} {es : List Placed}
     → (h : Scans source options slice kept left at fresh e late d fs es) → length left ≡ 0 → (n : Edge) → n ≡ no_edge → (late' : Option NestFault) (d' : ℕ) (fs' : List BlockSoFar) (es' : List Placed) → Mid h n late' d' fs' es'
-    → (end : End) → end ≡ ended fs' late' es' → EndsWith source options end
+    → (end : Compilation) → end ≡ ended options fs' late' es' → Compiles source options end
 Scans-end {source} {options} {slice} {kept} {left} {at} {fresh} {e} h over n ne late' d' fs' es' m end is =
     let state : State late' (pieces_in options h.slices ++ text_pieces options at e slice kept no_edge) d' fs' es' = subst (λ (z : Edge). State late' (pieces_in options h.slices ++ text_pieces options at e slice kept z) d' fs' es') ne (Mid-state h n late' d' fs' es' m) in
-    subst (EndsWith source options) (sym is) (Cut-comes late' fs' (Scans-cut h over) (subst (λ (z : List SourcePiece). State late' z d' fs' es') (sym (pieces_in-last options h.slices at e slice kept no_edge)) state))
+    subst (Compiles source options) (sym is) (Cut-comes late' fs' (Scans-cut h over) (subst (λ (z : List SourcePiece). State late' z d' fs' es') (sym (pieces_in-last options h.slices at e slice kept no_edge)) state))
 
 -- ---- lines and columns fit
 

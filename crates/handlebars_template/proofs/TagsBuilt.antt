@@ -1,7 +1,5 @@
 -- What is built of tags, and what it stands for.
-use Rattle.std.proofs.Common.{◌≡◌, ℕ, Bool, true, false, cond, refl, sym, ap, subst, ◌∙◌, rules, Option, option_map}
-use Rattle.std.specs.Prelude.{String}
-use Rattle.std.specs.declared.alloc.Global.{Global}
+use Rattle.std.proofs.Common.{◌≡◌, ℕ, Bool, true, false, cond, refl, sym, ap, subst, ◌∙◌, Option, option_map}
 use Rattle.handlebars_base.specs.Bytes.{Text}
 use Rattle.handlebars_lines.specs.Binding as means
 use Rattle.handlebars_lines.specs.Parameter.{TermShape, literal_shape, path_shape, nested_shape, Items, term_of}
@@ -13,24 +11,18 @@ use Rattle.handlebars_tags.specs.Trim.{Edge}
 use Rattle.handlebars_tags.specs.TagView.{HoldsLine, HoldsBlock, IsBlockSlice}
 use Rattle.handlebars_tags.specs.declared.tag.inside.BlockSlice.{BlockSlice}
 use Rattle.handlebars_template.specs.Place.{Place}
-use Rattle.handlebars_template.specs.Tree.{Element, decorator, Args, no_arguments, lacks_arguments, Param, name, no_binding, both, no_body, call_name, call_args}
-use Rattle.handlebars_template.specs.TreeView.{text, binding_view, param_view, arguments_view}
-use Rattle.handlebars_template.specs.Calls.{named, name_before, param_of, arguments_in, first_refused, line_literals}
+use Rattle.handlebars_template.specs.Tree.{Element, decorator, Args, no_arguments, lacks_arguments, Param, name, no_binding, no_body, call_name, call_args}
+use Rattle.handlebars_template.specs.TreeView.{param_view, arguments_view}
+use Rattle.handlebars_template.specs.Calls.{named, name_before, param_of, arguments_in, first_refused, literals_in, line_literals}
 use Rattle.handlebars_template.specs.Nest.{BlockKind, helper_opening, partial_opening, Opening as Said, SourcePiece, leaf, opens, chains}
 use Rattle.handlebars_template.specs.NestView.{opening_view, early, Looks, Does}
 use Rattle.handlebars_template.specs.Compile.{block_binding, is_indented, opening_of, closing_name, partial_opening_of, indentation, partial_of, tag_piece}
-use Rattle.handlebars_template.specs.ScanView.{block_piece, chain_piece, HasOpening}
+use Rattle.handlebars_template.specs.ScanView.{HasOpening}
 use Rattle.handlebars_template.specs.LineBuildingView.{IsCallOf}
 use Rattle.handlebars_template.specs.declared.template.line.BuiltLine.{BuiltLine}
 use Rattle.handlebars_template.specs.declared.template.nest.Nesting.{Nesting}
 use Rattle.handlebars_template.specs.declared.template.nest.SyntaxFault.{SyntaxFault}
 use Rattle.handlebars_template.specs.declared.template.tags.BuiltOpening.{BuiltOpening}
-use Rattle.handlebars_template.specs.declared.template.tree.BlockParam.{the_lemmas}
-use Rattle.handlebars_template.specs.declared.template.tree.BlockParam.TheViews.{Pair}
-use Rattle.handlebars_template.specs.declared.template.tree.BlockParam.TheBlock.{Name}
-
-pub binding_view-Pair : (x y : String Global) → binding_view (Pair (Name x, Name y)) ≡ both (name (text x)) (name (text y))
-binding_view-Pair x y = search (rules, the_lemmas)
 
 abbrev said : BlockKind → Text → Args → means.BoundNames → Bool → Said
 said k n xs b indent =
@@ -106,11 +98,11 @@ Does-opening old new p n x y refused r one two does =
     subst (λ (z : Option Text). Does old (opens p y n z) new) two (subst (λ (z : Said). Does old (opens p z n refused) new) one (does n))
 
 pub Does-opens : (old new : Nesting) (p : Place) (e : Edge) (line : BlockLine) (kind : BlockKind) (built : BuiltOpening) → HasOpening kind e line built
-    → ((n : ℕ) → Does old (opens p (opening_view built.opening) n (option_map (λ t. t.now) built.refused)) new) → Does old (block_piece kind p e line) new
+    → ((n : ℕ) → Does old (opens p (opening_view built.opening) n (option_map (λ t. t.now) built.refused)) new) → Does old (opens p (opening_of kind e line) line.depth (first_refused (literals_in line.terms))) new
 Does-opens old new p e line kind built o does = Does-opening old new p line.depth (opening_view built.opening) (opening_of kind e line) _ _ o.opening o.refused does
 
 pub Does-chains : (old new : Nesting) (p : Place) (e : Edge) (line : BlockLine) (built : BuiltOpening) → HasOpening helper_opening e line built
-    → ((n : ℕ) → Does old (chains p (opening_view built.opening) n (option_map (λ t. t.now) built.refused)) new) → Does old (chain_piece p e line) new
+    → ((n : ℕ) → Does old (chains p (opening_view built.opening) n (option_map (λ t. t.now) built.refused)) new) → Does old (chains p (opening_of helper_opening e line) line.depth (first_refused (literals_in line.terms))) new
 Does-chains old new p e line built o does =
     subst (λ (r : Option Text). Does old (chains p (opening_of helper_opening e line) line.depth r) new) o.refused
     (subst (λ (x : Said). Does old (chains p x line.depth (option_map (λ t. t.now) built.refused)) new) o.opening (does line.depth))
@@ -125,10 +117,13 @@ Does-block options old new p e of slice tag h does = subst (λ (z : Tag). Does o
 
 -- ---- what is said of a tag before it stands
 
-pub Looks-at : (options : Options) (old : Nesting) (p : Place) (e : Edge) (seen : Option SyntaxFault) (tag same : Tag) (x : ℕ → SourcePiece) (depth : ℕ) → tag ≡ same → tag_depth tag ≡ depth
-    → tag_piece options p e same ≡ x (tag_depth same) → Looks p (early old (x depth)) seen → Looks p (early old (tag_piece options p e tag)) seen
-Looks-at options old p e seen tag same x depth is deep piece looks =
-    let deeper : tag_depth same ≡ depth = ap tag_depth (sym is) ∙ deep in
-    subst (λ (z : Tag). Looks p (early old (tag_piece options p e z)) seen) (sym is)
-    (subst (λ (y : SourcePiece). Looks p (early old y) seen) (sym piece)
-    (subst (λ (n : ℕ). Looks p (early old (x n)) seen) (sym deeper) looks))
+pub Looks-same : (options : Options) (old : Nesting) (p : Place) (e : Edge) (seen : Option SyntaxFault) (tag same : Tag) → tag ≡ same → Looks p (early old (tag_piece options p e same)) seen
+    → Looks p (early old (tag_piece options p e tag)) seen
+Looks-same options old p e seen tag same is = subst (λ (z : Tag). Looks p (early old (tag_piece options p e z)) seen) (sym is)
+
+pub Looks-at : {A : Type 0} (options : Options) (old : Nesting) (p : Place) (e : Edge) (seen : Option SyntaxFault) (tag same : Tag) (piece : A → ℕ → Option Text → SourcePiece) (x : A) (r : Option Text) (depth : ℕ)
+    → tag ≡ same → tag_depth tag ≡ depth → tag_piece options p e same ≡ piece x (tag_depth same) r → ((x : A) (r : Option Text) → Looks p (early old (piece x depth r)) seen)
+    → Looks p (early old (tag_piece options p e tag)) seen
+Looks-at options old p e seen tag same piece x r depth is deep stands looks =
+    let at : tag_piece options p e same ≡ piece x depth r = stands ∙ ap (λ (n : ℕ). piece x n r) (ap tag_depth (sym is) ∙ deep) in
+    Looks-same options old p e seen tag same is (subst (λ (y : SourcePiece). Looks p (early old y) seen) (sym at) (looks x r))

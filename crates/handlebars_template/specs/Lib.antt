@@ -1,5 +1,4 @@
 pub mod Place
-pub mod PlaceReading
 pub mod Tree
 pub mod Calls
 pub mod Nest

@@ -1,10 +1,11 @@
 -- What the program's open blocks stand for.
 use Rattle.std.specs.Prelude.{◌≡◌, List, [], ◌∷◌, map, reverse, Option, None, Some, option_map}
+use Rattle.std.specs.Option.{option_or}
 use Rattle.handlebars_template.specs.Place.{Place}
 use Rattle.handlebars_template.specs.Tree.{name, Binding, no_binding, single, both}
 use Rattle.handlebars_template.specs.TreeView.{text, place_of, element_view, param_view, arguments_view}
 use Rattle.handlebars_template.specs.Nest.{BlockKind, helper_opening, raw_opening, decorator_opening, partial_opening, Opening, SourcePiece, NestFault, unexpected, too_deep, mismatched, no_value, Placed, Branch}
-use Rattle.handlebars_template.specs.Machine.{Stage, in_first, in_branch, in_inverse, BlockSoFar, open_in, goes, behind_piece, early_in, late_after, End, complete, unclosed, refused}
+use Rattle.handlebars_template.specs.Machine.{Stage, in_first, in_branch, in_inverse, BlockSoFar, open_in, goes, behind_piece, early_in, late_in}
 use Rattle.handlebars_template.specs.declared.template.tree.TemplateMapping.{TemplateMapping}
 use Rattle.handlebars_template.specs.declared.template.tree.TemplateElement.{TemplateElement}
 use Rattle.handlebars_template.specs.declared.template.placed.PlacedElements.{PlacedElements}
@@ -22,8 +23,6 @@ use Rattle.handlebars_template.specs.declared.template.nest.SyntaxFault.TheVaria
 use Rattle.handlebars_template.specs.declared.template.nest.Late.{Late}
 use Rattle.handlebars_template.specs.declared.template.nest.Late.TheVariants as late
 use Rattle.handlebars_template.specs.declared.template.nest.Nesting.{Nesting}
-use Rattle.handlebars_template.specs.declared.template.nest.Nested.{Nested}
-use Rattle.handlebars_template.specs.declared.template.nest.Nested.TheVariants as nested
 
 -- each element with its place
 abbrev pub paired : List TemplateElement → List TemplateMapping → List Placed
@@ -108,13 +107,8 @@ Looks p fault seen = option_map (syntax_fault p) seen ≡ fault
 pub record IsBehind (old : Nesting) (x : SourcePiece) (new : Nesting) : Type 0 where
   pub goes_on : behind_piece x old.depth (open_blocks old) (placed_view old.elements)
       ≡ goes new.depth (open_blocks new) (placed_view new.elements)
-  pub late : late_of new ≡ late_after (late_of old) x (open_in (open_blocks old))
+  pub late : late_of new ≡ option_or (late_of old) (late_in (open_in (open_blocks old)) x)
 
 -- It does what the piece does, where that may stand.
 abbrev pub Does : Nesting → SourcePiece → Nesting → Type 0
 Does old x new = early old x ≡ None → IsBehind old x new
-
-abbrev pub end_view : Nested → End
-end_view (nested.Whole elements) = complete (placed_view elements)
-end_view (nested.NotClosed p) = unclosed (place_of p)
-end_view (nested.Late l) = refused (late_fault l)

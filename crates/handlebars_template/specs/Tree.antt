@@ -151,12 +151,6 @@ decorator_name (decorator n xs t marks) = n
 abbrev pub decorator_args : Decorator → Args
 decorator_args (decorator n xs t marks) = xs
 
-abbrev pub decorator_params : Decorator → Params
-decorator_params t = args_params (decorator_args t)
-
-abbrev pub decorator_pairs : Decorator → Pairs
-decorator_pairs t = args_pairs (decorator_args t)
-
 abbrev pub decorator_body : Decorator → Body
 decorator_body (decorator n xs t marks) = t
 

@@ -1,13 +1,12 @@
 //! How tags begin.
 
-ghost use Rattle.std.specs.Prelude.{◌≡◌, ◌||◌, ◌==◌, ◌∷◌, ◌++◌, false, MatchOption, Some, codes};
+ghost use Rattle.std.specs.Prelude.{◌≡◌, ◌||◌, ◌==◌, ◌∷◌, ◌++◌, false, MatchOption, Some, codes, drop};
 ghost use Rattle.std.specs.Char.{is_ascii};
 ghost use Rattle.std.specs.Option.{option_map};
 ghost use Rattle.handlebars_base.specs.Bytes.{is_white, behind_white};
 ghost use Rattle.handlebars_base.specs.Texts.{starts};
-ghost use Rattle.handlebars_tags.specs.Kind.{expression_kind, beginning, word, behind_sign, ends_word, first_of, beginning_of};
-ghost use Rattle.handlebars_tags.specs.KindReading.{two_rows, sign_rows, word_rows, signed_by};
-ghost use Rattle.handlebars_tags.specs.KindView.{kind_of, beginning_view};
+ghost use Rattle.handlebars_tags.specs.Kind.{expression_kind, beginning, word, rows, behind_sign, ends_word, first_of, beginning_of};
+ghost use Rattle.handlebars_tags.specs.KindView.{kind_of, beginning_view, signed_by};
 
 use crate::front::{past, tilde_at};
 use handlebars_base::json::path::marks::{after, behind_white, is_white};
@@ -94,9 +93,10 @@ fn behind_four(text: &str) -> TagBeginning<'_>
     }
 }
 
-/// Behind two braces, in front of no third and no comment: behind a tilde a third counts again.
+/// Behind two braces, in front of no third and no comment, so by the rows behind these: behind a tilde a third counts
+/// again.
 fn tilded_at(text: &str) -> TagBeginning<'_>
-    ensures { first_of two_rows (codes "{{" ++ text.now) ≡ Some (beginning_view result) }
+    ensures { first_of (drop 4 rows) (codes "{{" ++ text.now) ≡ Some (beginning_view result) }
 {
     let (tilde, inside) = tilde_at(text);
     if !tilde {
@@ -108,9 +108,9 @@ fn tilded_at(text: &str) -> TagBeginning<'_>
     }
 }
 
-/// Behind two braces and a tilde, if any: by the byte in front.
+/// Behind two braces and a tilde, if any: by the byte in front, and the rows whose tilde may be missing.
 fn signed_at(tilde: bool, text: &str) -> TagBeginning<'_>
-    ensures { signed_by sign_rows tilde text.now ≡ Some (beginning_view result) }
+    ensures { signed_by (drop 5 rows) tilde text.now ≡ Some (beginning_view result) }
 {
     let Some((sign, behind)) = first_byte(text) else {
         return unsigned(tilde, text);
@@ -129,7 +129,7 @@ fn signed_at(tilde: bool, text: &str) -> TagBeginning<'_>
 
 /// Behind `#`, where the sign of a decorator or of an inclusion may follow.
 fn block_at(tilde: bool, text: &str) -> TagBeginning<'_>
-    ensures { signed_by sign_rows tilde (codes "#" ++ text.now) ≡ Some (beginning_view result) }
+    ensures { signed_by (drop 5 rows) tilde (codes "#" ++ text.now) ≡ Some (beginning_view result) }
 {
     let Some((sign, inside)) = first_byte(text) else {
         return marked(TagKind::Block, tilde, text);
@@ -141,9 +141,9 @@ fn block_at(tilde: bool, text: &str) -> TagBeginning<'_>
     }
 }
 
-/// In front of `e`: the word, or a value.
+/// In front of `e`, by the rows without a mark: the word, or a value.
 fn worded_at(tilde: bool, text: &str) -> TagBeginning<'_>
-    ensures { signed_by word_rows tilde text.now ≡ Some (beginning_view result) }
+    ensures { signed_by (drop 13 rows) tilde text.now ≡ Some (beginning_view result) }
 {
     match else_at(text) {
         Some(inside) => TagBeginning {

@@ -1,13 +1,14 @@
 //! What stands inside tags, with what closes it.
 
 ghost use Rattle.std.specs.Prelude.{◌≡◌, true, IfOk, IfSome, MatchOption, Some, None, codes, drop};
+ghost use Rattle.handlebars_base.specs.Bytes.{Text};
 ghost use Rattle.handlebars_lines.specs.Line.{value_name, close_name};
 ghost use Rattle.handlebars_lines.specs.LineView.{mode_of};
 ghost use Rattle.handlebars_tags.specs.Comment.{HasNoLong};
 ghost use Rattle.handlebars_tags.specs.Kind.{past, closing_of, comment_kind, else_kind, block_kind, raw_kind, raw_close_kind, close_kind, decorator_kind, decorator_block_kind};
 ghost use Rattle.handlebars_tags.specs.KindView.{kind_of};
-ghost use Rattle.handlebars_tags.specs.TagReading.{NoBlockLine, NoDecoratorLine, NoneClosed, NoClosedLine};
-ghost use Rattle.handlebars_tags.specs.TagView.{HasBlock, HasDecorator, HasClosing, HasClosedLine, HasInside};
+ghost use Rattle.handlebars_tags.specs.Tag.{BlockLine, IsBlockLine, IsDecoratorLine};
+ghost use Rattle.handlebars_tags.specs.TagView.{NoneClosed, NoClosedLine, HasBlock, HasDecorator, HasClosing, HasClosedLine, HasInside};
 
 use super::beginning::{TagBeginning, TagKind};
 use super::closing::closing_of;
@@ -296,7 +297,8 @@ pub struct BlockRead<'a> {
 
 /// A line whose name is an identifier, and the block parameters behind it, if any.
 fn block_line(alloc: Global, text: &str) -> Result<Option<BlockRead<'_>>, AllocError>
-    ensures { IfOk result (λ read. MatchOption read (NoBlockLine text.now) (λ read. HasBlock text.now read)) }
+    ensures { IfOk result (λ read. MatchOption read ((line : BlockLine) (rest : Text) → IsBlockLine text.now line rest → ⊥)
+        (λ read. HasBlock text.now read)) }
 {
     let Some(line) = split_line(alloc, NameMode::Identifier, Enclosure::Block, text)? else {
         return Ok(None);
@@ -318,7 +320,8 @@ fn block_line(alloc: Global, text: &str) -> Result<Option<BlockRead<'_>>, AllocE
 
 /// The line of a decorator: that of a block, with no block parameters.
 fn decorator_line(alloc: Global, text: &str) -> Result<Option<BlockRead<'_>>, AllocError>
-    ensures { IfOk result (λ read. MatchOption read (NoDecoratorLine text.now) (λ read. HasDecorator text.now read)) }
+    ensures { IfOk result (λ read. MatchOption read ((line : BlockLine) (rest : Text) → IsDecoratorLine text.now line rest → ⊥)
+        (λ read. HasDecorator text.now read)) }
 {
     let Some(line) = block_line(alloc, text)? else {
         return Ok(None);

@@ -3,9 +3,8 @@
 ghost use Rattle.std.specs.Prelude.{◌≡◌, ◌∷◌, [], IfOk, map};
 ghost use Rattle.handlebars_template.specs.Tree.{helper_block, body};
 ghost use Rattle.handlebars_template.specs.TreeView.{tree_view, call_view, decorator_view, element_view, body_view, block_param_view};
-ghost use Rattle.handlebars_template.specs.Nest.{admits_inverse, admits_no_name, has_close, may_end, block_call, inverse_of, decorator_with};
-ghost use Rattle.handlebars_template.specs.Machine.{in_branch, in_inverse, closed_block, closed_call, first_body};
-ghost use Rattle.handlebars_template.specs.NestView.{placed_view, names_view, kind_view, opening_view, branch_view, stage_view};
+ghost use Rattle.handlebars_template.specs.Nest.{admits_inverse, admits_no_name, has_close, may_end, block_call, inverse_of, helper_call, block_of, decorator_with};
+ghost use Rattle.handlebars_template.specs.NestView.{placed_view, names_view, kind_view, opening_view, branch_view};
 
 use crate::template::arguments::Arguments;
 use crate::template::placed::PlacedElements;
@@ -224,118 +223,58 @@ fn nested_inverse(
     Ok(inverse)
 }
 
-// A block whose last chained inverse is this one.
-#[inline(never)]
-fn chained_block(
-    alloc: Global,
-    last: Branch,
-    opening: BlockOpening,
-    first: PlacedElements,
-    branches: Vec<Branch>,
-) -> Result<HelperTemplate, AllocError>
-    ensures { IfOk result (λ h. call_view h
-        ≡ closed_call (in_branch (opening_view last.opening)) (opening_view opening) (placed_view first)
-        (map branch_view branches.items) (placed_view last.elements)) }
-{
-    let mut branches = branches;
-    branches.push(last)?;
-    let inverse = nested_inverse(alloc, branches, None)?;
-    Ok(opening.block(first, inverse, true))
-}
-
-// A block whose inverse these elements are.
+// The call that the block of a helper or a raw block is.
 #[inline(always)]
-fn inverse_block(
+fn helper_call(
     alloc: Global,
     opening: BlockOpening,
     first: PlacedElements,
     branches: Vec<Branch>,
-    elements: PlacedElements,
+    last: Option<Template>,
 ) -> Result<HelperTemplate, AllocError>
     ensures { IfOk result (λ h. call_view h
-        ≡ closed_call in_inverse (opening_view opening) (placed_view first) (map branch_view branches.items)
-        (placed_view elements)) }
+        ≡ helper_call (opening_view opening) (placed_view first) (map branch_view branches.items) (body_view last)) }
 {
     let chain = !branches.is_empty();
-    let inverse = nested_inverse(alloc, branches, Some(elements.template()))?;
+    let inverse = nested_inverse(alloc, branches, last)?;
     Ok(opening.block(first, inverse, chain))
-}
-
-// The whole block of a helper.
-#[inline(always)]
-fn closed_call(
-    alloc: Global,
-    stage: Stage,
-    opening: BlockOpening,
-    first: PlacedElements,
-    branches: Vec<Branch>,
-    elements: PlacedElements,
-) -> Result<HelperTemplate, AllocError>
-    ensures { IfOk result (λ h. call_view h
-        ≡ closed_call (stage_view stage) (opening_view opening) (placed_view first) (map branch_view branches.items)
-        (placed_view elements)) }
-{
-    match stage {
-        Stage::First => Ok(opening.block(elements, None, false)),
-        Stage::Chained(last) => {
-            let last = Branch {
-                opening: last,
-                elements,
-            };
-            chained_block(alloc, last, opening, first, branches)
-        }
-        Stage::Inverse => inverse_block(alloc, opening, first, branches, elements),
-    }
 }
 
 fn helper_block(
     alloc: Global,
-    stage: Stage,
     opening: BlockOpening,
     first: PlacedElements,
     branches: Vec<Branch>,
-    elements: PlacedElements,
+    last: Option<Template>,
 ) -> Result<TemplateElement, AllocError>
     ensures { IfOk result (λ e. element_view e
-        ≡ helper_block (closed_call (stage_view stage) (opening_view opening) (placed_view first) (map branch_view branches.items)
-        (placed_view elements))) }
+        ≡ helper_block (helper_call (opening_view opening) (placed_view first) (map branch_view branches.items)
+        (body_view last))) }
 {
-    let call = closed_call(alloc, stage, opening, first, branches, elements)?;
+    let call = helper_call(alloc, opening, first, branches, last)?;
     Ok(TemplateElement::HelperBlock(Box::new(alloc, call)?))
 }
 
-fn first_body(stage: Stage, first: PlacedElements, elements: PlacedElements) -> PlacedElements
-    ensures { placed_view result ≡ first_body (stage_view stage) (placed_view first) (placed_view elements) }
-{
-    match stage {
-        Stage::First => elements,
-        Stage::Chained(_) => first,
-        Stage::Inverse => first,
-    }
-}
-
-/// The whole block, from what was kept of it and the elements that stand behind that. In time linear in its branches.
-pub fn closed_block(
+/// The whole block, from its first body, its chained inverses and its inverse. In time linear in its branches.
+pub fn whole_block(
     alloc: Global,
-    stage: Stage,
     opening: BlockOpening,
     first: PlacedElements,
     branches: Vec<Branch>,
-    elements: PlacedElements,
+    last: Option<Template>,
 ) -> Result<TemplateElement, AllocError>
     ensures { IfOk result (λ e. element_view e
-        ≡ closed_block (stage_view stage) (opening_view opening) (placed_view first) (map branch_view branches.items)
-        (placed_view elements)) }
+        ≡ block_of (opening_view opening) (placed_view first) (map branch_view branches.items) (body_view last)) }
 {
     match opening.kind {
-        BlockKind::Helper => helper_block(alloc, stage, opening, first, branches, elements),
-        BlockKind::Raw => helper_block(alloc, stage, opening, first, branches, elements),
+        BlockKind::Helper => helper_block(alloc, opening, first, branches, last),
+        BlockKind::Raw => helper_block(alloc, opening, first, branches, last),
         BlockKind::Decorator => {
-            let tag = opening.decorator(Some(first_body(stage, first, elements).template()));
+            let tag = opening.decorator(Some(first.template()));
             Ok(TemplateElement::DecoratorBlock(Box::new(alloc, tag)?))
         }
         BlockKind::Partial => {
-            let tag = opening.decorator(Some(first_body(stage, first, elements).template()));
+            let tag = opening.decorator(Some(first.template()));
             Ok(TemplateElement::PartialBlock(Box::new(alloc, tag)?))
         }
     }

@@ -6,8 +6,8 @@ ghost use Rattle.handlebars_base.specs.TemplateRefusals.{template_reason_of, tem
 ghost use Rattle.handlebars_template.specs.Compile.{Compiles, compiled, refused, syntax_refusal, mismatch, refusal_for};
 ghost use Rattle.handlebars_tags.specs.Options.{Options, no_options, named_options};
 ghost use Rattle.handlebars_template.specs.OptionsView.{options_view};
-ghost use Rattle.handlebars_template.specs.NestView.{kind_view, late_fault, syntax_fault, end_view};
-ghost use Rattle.handlebars_template.specs.ScanView.{EndsWith};
+ghost use Rattle.handlebars_template.specs.NestView.{kind_view, late_fault, syntax_fault};
+ghost use Rattle.handlebars_template.specs.ScanView.{nested_outcome};
 ghost use Rattle.handlebars_template.specs.Place.{Place};
 ghost use Rattle.handlebars_template.specs.TreeView.{tree_view, place_of};
 
@@ -106,11 +106,9 @@ fn nested_tree(
     options: TemplateOptions,
     nested: Nested,
 ) -> Result<Template, TemplateError>
-    ensures ok { IfOk result (λ template. EndsWith source.now (options_view options) (end_view nested)
-        → Compiles source.now (options_view options) (compiled (tree_view template))) }
+    ensures ok { IfOk result (λ template. nested_outcome (options_view options) nested ≡ compiled (tree_view template)) }
     ensures err { IfErr result (λ e. (template_refusal_of e).reason ≢ template_out_of_memory
-        → EndsWith source.now (options_view options) (end_view nested)
-        → Compiles source.now (options_view options) (refused (template_refusal_of e))) }
+        → nested_outcome (options_view options) nested ≡ refused (template_refusal_of e)) }
     ensures shown { IfErr result (λ e. IsSome (template_refusal_of e).position → IsSome (shown_lines e)) }
 {
     match nested {

@@ -1,17 +1,19 @@
 //! The open blocks, and how each element and tag changes them.
 
-ghost use Rattle.std.specs.Prelude.{◌≡◌, ◌+◌, ◌<◌, ◌∷◌, ◌++◌, suc, ℕ, [], None, Option, IfOk, OnOk, nat_lt, option_map};
+ghost use Rattle.std.specs.Prelude.{◌≡◌, ◌+◌, ◌<◌, ◌∷◌, ◌++◌, suc, ℕ, [], None, Some, Option, IfOk, OnOk, if◌then◌else◌, nat_lt, option_map};
 ghost use Rattle.std.specs.Option.{option_or};
 ghost use Rattle.handlebars_base.specs.Bytes.{Text};
+ghost use Rattle.handlebars_tags.specs.Options.{Options};
 ghost use Rattle.handlebars_template.specs.Place.{Place};
 ghost use Rattle.handlebars_template.specs.Tree.{Element};
 ghost use Rattle.handlebars_template.specs.Calls.{max_nesting};
 ghost use Rattle.handlebars_template.specs.TreeView.{element_view, place_of};
-ghost use Rattle.handlebars_template.specs.Nest.{Opening, leaf, opens, inverts, chains, closes, names_and_literals, may_close, takes_inverse};
-ghost use Rattle.handlebars_template.specs.Machine.{is_in_inverse, without_elements, at_end, closed, new_open_block, next_stage, literal_fault, name_fault};
-ghost use Rattle.handlebars_template.specs.NestView.{placed_view, kind_view, opening_view, stage_view, open_block_view, open_blocks, late_view, late_of, early, Looks, Does, end_view};
+ghost use Rattle.handlebars_template.specs.Nest.{Opening, leaf, opens, inverts, chains, closes, mismatched, no_value, names_and_literals, may_close, takes_inverse};
+ghost use Rattle.handlebars_template.specs.Machine.{is_in_inverse, without_elements, closed, new_open_block, next_stage};
+ghost use Rattle.handlebars_template.specs.NestView.{placed_view, kind_view, opening_view, stage_view, open_block_view, open_blocks, late_view, late_of, early, Looks, Does};
+ghost use Rattle.handlebars_template.specs.ScanView.{at_end, nested_outcome};
 
-use crate::template::chain::{BlockKind, BlockOpening, Branch, Stage, closed_block};
+use crate::template::chain::{BlockKind, BlockOpening, Branch, Stage, whole_block};
 use crate::template::line::MAX_NESTING;
 use crate::template::placed::PlacedElements;
 use crate::template::tree::{TemplateElement, TemplateMapping};
@@ -128,8 +130,9 @@ fn name_fault(
     place: TemplateMapping,
 ) -> Result<Option<Late>, AllocError>
     ensures { IfOk result (λ late. late_view late
-        ≡ name_fault (may_close names_and_literals opened.now name.now) (kind_view kind) opened.now name.now
-        (place_of place)) }
+        ≡ if may_close names_and_literals opened.now name.now
+        then None
+        else Some (mismatched (kind_view kind) opened.now name.now (place_of place))) }
 {
     if may_close(opened, name) {
         return Ok(None);
@@ -181,8 +184,7 @@ impl OpenBlock {
     // In this stage next.
     fn enter(&mut self, elements: PlacedElements, next: Stage) -> Result<(), AllocError>
         ensures { OnOk result (open_block_view self.new
-            ≡ next_stage (stage_view self.old.stage) (open_block_view self.old) (placed_view elements)
-            (stage_view next)) }
+            ≡ next_stage (open_block_view self.old) (placed_view elements) (stage_view next)) }
     {
         match mem::replace(&mut self.stage, next) {
             Stage::First => {
@@ -206,11 +208,23 @@ impl OpenBlock {
             opening,
             around: _,
             first,
-            branches,
+            mut branches,
             stage,
             outside: _,
         } = self;
-        closed_block(alloc, stage, opening, first, branches, elements)
+        match stage {
+            Stage::First => whole_block(alloc, opening, elements, branches, None),
+            Stage::Chained(last) => {
+                branches.push(Branch {
+                    opening: last,
+                    elements,
+                })?;
+                whole_block(alloc, opening, first, branches, None)
+            }
+            Stage::Inverse => {
+                whole_block(alloc, opening, first, branches, Some(elements.template()))
+            }
+        }
     }
 
     // It stands next in what is outside, at its place.
@@ -325,7 +339,7 @@ impl Nesting {
     // What a literal that is refused brings late, if there is one.
     fn keep_literal(&mut self, alloc: Global, refused: Option<&str>) -> Result<(), AllocError>
         ensures late { OnOk result (late_of self.new
-            ≡ option_or (late_of self.old) (literal_fault (option_map (λ t. t.now) refused.entry))) }
+            ≡ option_or (late_of self.old) (option_map no_value (option_map (λ t. t.now) refused.entry))) }
         ensures depth { OnOk result (self.new.depth ≡ self.old.depth) }
         ensures open_blocks { OnOk result (open_blocks self.new ≡ open_blocks self.old) }
         ensures elements { OnOk result (placed_view self.new.elements ≡ placed_view self.old.elements) }
@@ -438,7 +452,8 @@ impl Nesting {
 
     /// What stands at the end of the source.
     pub fn finish(self) -> Nested
-        ensures { end_view result ≡ at_end (open_blocks self) (late_of self) (placed_view self.elements) }
+        ensures { (options : Options) → nested_outcome options result
+            ≡ at_end options (open_blocks self) (late_of self) (placed_view self.elements) }
     {
         let Nesting {
             depth: _,

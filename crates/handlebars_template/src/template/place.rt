@@ -1,8 +1,8 @@
 //! Lines and columns.
 
-ghost use Rattle.std.specs.Prelude.{◌≡◌, ◌+◌, ◌<◌, ◌^◌, true, fold, length};
+ghost use Rattle.std.specs.Prelude.{◌≡◌, ◌+◌, ◌<◌, ◌^◌, ◌&&◌, ◌==◌, true, not, nat_lt, fold, length};
+ghost use Rattle.handlebars_base.specs.Bytes.{newline};
 ghost use Rattle.handlebars_template.specs.Place.{behind};
-ghost use Rattle.handlebars_template.specs.PlaceReading.{is_column, still_columns};
 ghost use Rattle.handlebars_template.specs.TreeView.{place_of};
 
 use crate::template::tree::TemplateMapping;
@@ -22,14 +22,14 @@ pub fn advance(place: TemplateMapping, text: &str) -> TemplateMapping
 
 // Whether a byte is a column and ends no line.
 fn is_column(byte: u8) -> bool
-    ensures { result ≡ is_column byte }
+    ensures { result ≡ nat_lt byte 128 && not (byte == newline) }
 {
     byte < 128 && byte != b'\n'
 }
 
 // Whether each byte is such a one. It doesn't stop early, so that many bytes can be tested at once.
 fn are_columns(bytes: &[u8]) -> bool
-    ensures { result ≡ fold still_columns true bytes.now }
+    ensures { result ≡ fold (λ all b. all && (nat_lt b 128 && not (b == newline))) true bytes.now }
 {
     let mut all = true;
     'bytes: for byte in bytes {

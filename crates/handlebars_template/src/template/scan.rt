@@ -1,12 +1,13 @@
 //! From a source to its elements, in one pass over its texts and tags.
 
-ghost use Rattle.std.specs.Prelude.{◌≡◌, ◌++◌, IfOk, OnOk, string_bytes};
+ghost use Rattle.std.specs.Prelude.{◌≡◌, ◌++◌, ◌||◌, not, IfOk, OnOk, string_bytes};
 ghost use Rattle.handlebars_tags.specs.TrimView.{edge_view};
 ghost use Rattle.handlebars_template.specs.OptionsView.{options_view};
 ghost use Rattle.handlebars_template.specs.TreeView.{place_of};
 ghost use Rattle.handlebars_template.specs.NestView.{placed_view, open_blocks, late_of};
 ghost use Rattle.handlebars_tags.specs.Trim.{trimmed};
-ghost use Rattle.handlebars_template.specs.ScanView.{keeps_all, text_placed, ScansTo};
+ghost use Rattle.handlebars_template.specs.Compile.{Compiles};
+ghost use Rattle.handlebars_template.specs.ScanView.{text_placed, scanned_outcome};
 
 use crate::template::compile::TemplateOptions;
 use crate::template::nest::{Nested, Nesting, SyntaxFault};
@@ -31,7 +32,8 @@ pub enum Scanned {
 /// The elements of a source, or what is refused first. In time linear in the source, but for the order of keys and the
 /// values of literals.
 pub fn scan(alloc: Global, source: &str, options: &TemplateOptions) -> Result<Scanned, AllocError>
-    ensures { IfOk result (λ scanned. ScansTo source.now (options_view options.now) scanned) }
+    ensures { IfOk result (λ scanned.
+        Compiles source.now (options_view options.now) (scanned_outcome (options_view options.now) scanned)) }
 {
     let mut nesting = Nesting::new(alloc);
     let mut place = TemplateMapping(1, 1);
@@ -84,7 +86,7 @@ fn trimmed_text<'a>(
 // Whether these edges take nothing from the text between them.
 #[inline(always)]
 fn keeps_all(before: Edge<'_>, behind: Edge<'_>) -> bool
-    ensures { result ≡ keeps_all (edge_view before.entry) (edge_view behind.entry) }
+    ensures { result ≡ not (before.entry.right || (before.entry.standalone || (behind.entry.left || behind.entry.standalone))) }
 {
     !(before.right || before.standalone || behind.left || behind.standalone)
 }

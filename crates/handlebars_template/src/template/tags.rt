@@ -5,7 +5,7 @@ ghost use Rattle.handlebars_base.specs.Bytes.{Text};
 ghost use Rattle.handlebars_base.specs.PathView.{reference_of};
 ghost use Rattle.handlebars_lines.specs.Line.{value_name, close_name, Line, in_tag, IsLine};
 ghost use Rattle.handlebars_lines.specs.BindingView.{bound_names_of};
-ghost use Rattle.handlebars_tags.specs.Tag.{Tag, tag_depth, is_raw_close, BlockLine};
+ghost use Rattle.handlebars_tags.specs.Tag.{Tag, chain_tag, decorator_tag, partial_tag, partial_block_tag, tag_depth, is_raw_close, BlockLine};
 ghost use Rattle.handlebars_tags.specs.Options.{Options};
 ghost use Rattle.handlebars_tags.specs.Trim.{Edge as TextEdge, may_stand_alone, opens_raw, takes_blanks, edge_with};
 ghost use Rattle.handlebars_tags.specs.TrimView.{edge_view};
@@ -15,11 +15,12 @@ ghost use Rattle.handlebars_template.specs.OptionsView.{options_view};
 ghost use Rattle.handlebars_template.specs.Place.{Place};
 ghost use Rattle.handlebars_template.specs.TreeView.{call_view, element_view, param_view, place_of};
 ghost use Rattle.handlebars_template.specs.Tree.{comment, name, no_arguments};
-ghost use Rattle.handlebars_template.specs.Nest.{leaf};
+ghost use Rattle.handlebars_template.specs.Calls.{first_refused, literals_in};
+ghost use Rattle.handlebars_template.specs.Nest.{leaf, opens};
 ghost use Rattle.handlebars_template.specs.NestView.{names_view, kind_view, opening_view, early, Looks, Does};
 ghost use Rattle.handlebars_template.specs.Cut.{may_follow};
-ghost use Rattle.handlebars_template.specs.ScanView.{value_element, value_piece, block_piece, chain_piece, decorator_piece, partial_piece, partial_block_piece, IsOpening};
-ghost use Rattle.handlebars_template.specs.Compile.{block_binding, is_indented, closing_name, indentation, tag_piece};
+ghost use Rattle.handlebars_template.specs.ScanView.{value_element, value_piece, IsOpening};
+ghost use Rattle.handlebars_template.specs.Compile.{block_binding, is_indented, opening_of, closing_name, indentation, tag_piece};
 
 use crate::template::arguments::Arguments;
 use crate::template::chain::{BlockKind, BlockNames, BlockOpening};
@@ -331,7 +332,8 @@ fn begin(
     edge: Edge<'_>,
 ) -> Result<(), AllocError>
     ensures { OnOk result ((line : BlockLine) (rest : Text) → IsBlockSlice block.entry line rest
-        → Does nesting.old (block_piece (kind_view kind) (place_of at) (edge_view edge.entry) line) nesting.new) }
+        → Does nesting.old (opens (place_of at) (opening_of (kind_view kind) (edge_view edge.entry) line) line.depth
+        (first_refused (literals_in line.terms))) nesting.new) }
 {
     match opening(alloc, block, kind, edge)? {
         Some(built) => nesting.begin(alloc, at, built.opening, built.refused),
@@ -347,8 +349,8 @@ fn chain(
     block: BlockSlice<'_>,
     edge: Edge<'_>,
 ) -> Result<(), AllocError>
-    ensures { OnOk result ((line : BlockLine) (rest : Text) → IsBlockSlice block.entry line rest
-        → Does nesting.old (chain_piece (place_of at) (edge_view edge.entry) line) nesting.new) }
+    ensures { OnOk result ((options : Options) (line : BlockLine) (rest : Text) → IsBlockSlice block.entry line rest
+        → Does nesting.old (tag_piece options (place_of at) (edge_view edge.entry) (chain_tag line)) nesting.new) }
 {
     match opening(alloc, block, BlockKind::Helper, edge)? {
         Some(built) => nesting.chain(alloc, at, built.opening, built.refused),
@@ -364,8 +366,8 @@ fn add_decorator(
     block: BlockSlice<'_>,
     edge: Edge<'_>,
 ) -> Result<(), AllocError>
-    ensures { OnOk result ((line : BlockLine) (rest : Text) → IsBlockSlice block.entry line rest
-        → Does nesting.old (decorator_piece (place_of at) (edge_view edge.entry) line) nesting.new) }
+    ensures { OnOk result ((options : Options) (line : BlockLine) (rest : Text) → IsBlockSlice block.entry line rest
+        → Does nesting.old (tag_piece options (place_of at) (edge_view edge.entry) (decorator_tag line)) nesting.new) }
 {
     let Some(built) = opening(alloc, block, BlockKind::Decorator, edge)? else {
         return Ok(());
@@ -405,7 +407,7 @@ fn add_partial(
     edge: Edge<'_>,
 ) -> Result<(), AllocError>
     ensures { OnOk result ((line : Line) (rest : Text) → IsLine close_name in_tag text.now line rest
-        → Does nesting.old (partial_piece (options_view options.now) (place_of at) (edge_view edge.entry) line) nesting.new) }
+        → Does nesting.old (tag_piece (options_view options.now) (place_of at) (edge_view edge.entry) (partial_tag line)) nesting.new) }
 {
     let Some(line) = build_terms(alloc, NameMode::Close, Enclosure::Tag, text)? else {
         return Ok(());
@@ -432,8 +434,8 @@ fn begin_partial(
     text: &str,
     edge: Edge<'_>,
 ) -> Result<(), AllocError>
-    ensures { OnOk result ((line : Line) (rest : Text) → IsLine close_name in_tag text.now line rest
-        → Does nesting.old (partial_block_piece (place_of at) (edge_view edge.entry) line) nesting.new) }
+    ensures { OnOk result ((options : Options) (line : Line) (rest : Text) → IsLine close_name in_tag text.now line rest
+        → Does nesting.old (tag_piece options (place_of at) (edge_view edge.entry) (partial_block_tag line)) nesting.new) }
 {
     let Some(line) = build_terms(alloc, NameMode::Close, Enclosure::Tag, text)? else {
         return Ok(());

@@ -1,6 +1,6 @@
 use Rattle.std.proofs.Common.{◌≡◌, ◌∙◌, ap, sym, drop}
 use Rattle.handlebars_tags.specs.Text.{backslashes}
-use Rattle.handlebars_tags.specs.TextReading.{escaped_len}
+use Rattle.handlebars_tags.proofs.Texts.{escaped_len}
 use Rattle.handlebars_tags.proofs.Texts.{GoesOn-escape, Ends-run, more_ascii}
 use Rattle.handlebars_tags.specs.TextView.{braces_of}
 use Rattle.handlebars_tags.proofs.text.escape.Goals as goal

@@ -1,8 +1,7 @@
 use Rattle.std.proofs.Common.{◌∙◌, sym, ap, true}
 use Rattle.std.specs.Prelude.{fold}
-use Rattle.handlebars_template.specs.PlaceReading.{still_columns}
 use Rattle.handlebars_template.specs.TreeView.{place_of}
-use Rattle.handlebars_template.proofs.Columns.{behind-columns}
+use Rattle.handlebars_template.proofs.Columns.{still_columns, behind-columns}
 use Rattle.handlebars_template.proofs.template.place.advance.Goals as goal
 
 pub returns-then-are_columns : goal.returns-then-are_columns

@@ -6,7 +6,7 @@ use Rattle.handlebars_template.specs.Place.{Place}
 use Rattle.handlebars_template.specs.TreeView.{place_of}
 use Rattle.handlebars_template.proofs.Columns.{behind_byte, behind-bytes, same_place, one_more, newline_byte, ascii_byte, goes_on, leads}
 use Rattle.handlebars_template.proofs.template.place.advance_by_bytes.Goals as goal
-use Rattle.handlebars_template.proofs.template.place.advance_by_bytes.Goals.{then-byte-lt11+then-byte-eq10, then-byte-lt11-via-then-byte-lt11, then-byte-lt11-via-else-byte-lt11+then-byte-gt127, then-byte-lt11+else-byte-eq10+then-byte-gt127-2+then-byte-lt192, then-byte-lt11+else-byte-eq10+else-byte-gt127-2, else-byte-gt127-2-via-then-byte-gt127-2+else-byte-lt192, else-byte-gt127-2-via-else-byte-gt127-2, else-byte-lt11+else-byte-gt127}
+use Rattle.handlebars_template.proofs.template.place.advance_by_bytes.Goals.{then-byte-lt11+then-byte-eq10, then-byte-lt11+else-byte-eq10+then-byte-gt127-2+then-byte-lt192, then-byte-lt11+else-byte-eq10+else-byte-gt127-2, else-byte-gt127-2-via-then-byte-gt127-2+else-byte-lt192, else-byte-gt127-2-via-else-byte-gt127-2, else-byte-lt11+else-byte-gt127}
 
 pub returns : goal.returns
 returns c =

@@ -1,6 +1,6 @@
 use Rattle.std.proofs.Common.{◌≡◌, true, take}
 use Rattle.std.specs.Prelude.{fold}
-use Rattle.handlebars_template.specs.PlaceReading.{still_columns}
+use Rattle.handlebars_template.proofs.Columns.{still_columns}
 use Rattle.handlebars_template.proofs.template.place.are_columns.Given as goal
 
 abbrev pub invariant-bytes : goal.invariant-bytes

@@ -11,7 +11,8 @@ use Rattle.handlebars_template.specs.OptionsView.{options_view}
 use Rattle.handlebars_template.specs.TreeView.{place_of}
 use Rattle.handlebars_template.specs.Machine.{open_in, early_in}
 use Rattle.handlebars_template.specs.Compile.{tag_piece}
-use Rattle.handlebars_template.specs.NestView.{placed_view, open_blocks, late_of, syntax_fault, end_view}
+use Rattle.handlebars_template.specs.NestView.{placed_view, open_blocks, late_of, syntax_fault}
+use Rattle.handlebars_template.specs.ScanView.{nested_outcome}
 use Rattle.handlebars_template.proofs.NestsFits.{apply-early, apply-stops}
 use Rattle.handlebars_template.proofs.Scan.{HasNoLong-behind, Scans-at, Scans-fits, Scans-fits_behind, Scans-step, Scans-end, Compiles-unreadable, Compiles-misplaced, NoTagBehind-none, NoTagBehind-other, IsCharBoundary-seam, IsUtf8-front, length-rest, fresh-split, edge-split}
 use Rattle.handlebars_template.proofs.template.scan.scan.Goals as goal
@@ -130,4 +131,4 @@ returns c =
     let state = c.add_text-2.new.nesting in
     Scans-end c.tags.invariant.scans (empty c.tags.front.rest.now c.tags-test.ensures) (edge_view c.no_edge.result) c.no_edge.ensures (late_of state) state.depth (open_blocks state) (placed_view state.elements)
     (record { depth = c.in_ok-add_text-2.ensures.depth; open_blocks = c.in_ok-add_text-2.ensures.open_blocks; kept_late = c.in_ok-add_text-2.ensures.late; elements = c.in_ok-add_text-2.ensures.elements })
-    (end_view c.finish.result) c.finish.ensures
+    (nested_outcome (options_view c.args.options.now) c.finish.result) (c.finish.ensures (options_view c.args.options.now))

@@ -9,11 +9,11 @@ use Rattle.handlebars_template.proofs.template.tags.add_decorator.Goals as goal
 
 -- A line stands there, so the tag's opening was built.
 pub returns-in_default : goal.returns-in_default
-returns-in_default c line rest is may = absurd (rw c.in_default.is at c.in_ok-built.ensures line rest is)
+returns-in_default c options line rest is may = absurd (rw c.in_default.is at c.in_ok-built.ensures line rest is)
 
 pub returns : goal.returns
 returns c = on_ok_weaker c.add.result
-    (λ does line rest is.
+    (λ does options line rest is.
     let built = rw c.in-Some.is at c.in_ok-built.ensures line rest is in
     Does-leaf c.args.nesting.now c.add.new.self (place_of c.args.at) line.depth _ _ _ _
     (element_view-DecoratorExpression c.in_ok-tag.tag ∙ ap decorator_expression (ap decorator_view c.in_ok-tag.ensures.ok ∙ c.decorator.ensures ∙ ap (λ o. decorator_with o no_body) built.opening))

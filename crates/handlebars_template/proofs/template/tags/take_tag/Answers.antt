@@ -17,13 +17,13 @@ pub returns-in-Block : goal.returns-in-Block
 returns-in-Block c = on_ok_weaker c.begin.result (λ does tag holds. Does-block (options_view c.args.options.now) c.args.nesting.now c.begin.new.nesting (place_of c.args.at) (edge_view c.args.edge) block_tag _ tag (rw c.in-Block.is at holds) does) c.begin.ensures
 
 pub returns-in-Chain : goal.returns-in-Chain
-returns-in-Chain c = on_ok_weaker c.chain.result (λ does tag holds. Does-block (options_view c.args.options.now) c.args.nesting.now c.chain.new.nesting (place_of c.args.at) (edge_view c.args.edge) chain_tag _ tag (rw c.in-Chain.is at holds) does) c.chain.ensures
+returns-in-Chain c = on_ok_weaker c.chain.result (λ does tag holds. Does-block (options_view c.args.options.now) c.args.nesting.now c.chain.new.nesting (place_of c.args.at) (edge_view c.args.edge) chain_tag _ tag (rw c.in-Chain.is at holds) (does (options_view c.args.options.now))) c.chain.ensures
 
 pub returns-in-RawBlock : goal.returns-in-RawBlock
 returns-in-RawBlock c = on_ok_weaker c.begin-in-RawBlock.result (λ does tag holds. Does-block (options_view c.args.options.now) c.args.nesting.now c.begin-in-RawBlock.new.nesting (place_of c.args.at) (edge_view c.args.edge) raw_tag _ tag (rw c.in-RawBlock.is at holds) does) c.begin-in-RawBlock.ensures
 
 pub returns-in-Decorator : goal.returns-in-Decorator
-returns-in-Decorator c = on_ok_weaker c.add_decorator.result (λ does tag holds. Does-block (options_view c.args.options.now) c.args.nesting.now c.add_decorator.new.nesting (place_of c.args.at) (edge_view c.args.edge) decorator_tag _ tag (rw c.in-Decorator.is at holds) does) c.add_decorator.ensures
+returns-in-Decorator c = on_ok_weaker c.add_decorator.result (λ does tag holds. Does-block (options_view c.args.options.now) c.args.nesting.now c.add_decorator.new.nesting (place_of c.args.at) (edge_view c.args.edge) decorator_tag _ tag (rw c.in-Decorator.is at holds) (does (options_view c.args.options.now))) c.add_decorator.ensures
 
 pub returns-in-DecoratorBlock : goal.returns-in-DecoratorBlock
 returns-in-DecoratorBlock c = on_ok_weaker c.begin-in-DecoratorBlock.result (λ does tag holds. Does-block (options_view c.args.options.now) c.args.nesting.now c.begin-in-DecoratorBlock.new.nesting (place_of c.args.at) (edge_view c.args.edge) decorator_block_tag _ tag (rw c.in-DecoratorBlock.is at holds) does) c.begin-in-DecoratorBlock.ensures
@@ -32,4 +32,4 @@ pub returns-in-Partial : goal.returns-in-Partial
 returns-in-Partial c = on_ok_weaker c.add_partial.result (λ does tag holds. Does-line (options_view c.args.options.now) c.args.nesting.now c.add_partial.new.nesting (place_of c.args.at) (edge_view c.args.edge) close_name partial_tag _ tag (rw c.in-Partial.is at holds) does) c.add_partial.ensures
 
 pub returns-in-PartialBlock : goal.returns-in-PartialBlock
-returns-in-PartialBlock c = on_ok_weaker c.begin_partial.result (λ does tag holds. Does-line (options_view c.args.options.now) c.args.nesting.now c.begin_partial.new.nesting (place_of c.args.at) (edge_view c.args.edge) close_name partial_block_tag _ tag (rw c.in-PartialBlock.is at holds) does) c.begin_partial.ensures
+returns-in-PartialBlock c = on_ok_weaker c.begin_partial.result (λ does tag holds. Does-line (options_view c.args.options.now) c.args.nesting.now c.begin_partial.new.nesting (place_of c.args.at) (edge_view c.args.edge) close_name partial_block_tag _ tag (rw c.in-PartialBlock.is at holds) (does (options_view c.args.options.now))) c.begin_partial.ensures

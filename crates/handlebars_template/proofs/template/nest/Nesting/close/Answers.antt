@@ -1,9 +1,10 @@
 use Rattle.std.proofs.Common.{◌≡◌, ◌∙◌, List, ◌∷◌, ◌++◌, [], ap, sym, rules}
+use Rattle.std.specs.Prelude.{None, Some, if◌then◌else◌}
 use Rattle.std.specs.Option.{option_or}
 use Rattle.handlebars_base.specs.Bytes.{Text}
 use Rattle.handlebars_template.specs.TreeView.{place_of}
-use Rattle.handlebars_template.specs.Nest.{Placed, closes, names_and_literals, may_close}
-use Rattle.handlebars_template.specs.Machine.{BlockSoFar, open_in, goes, closed, late_in, name_fault}
+use Rattle.handlebars_template.specs.Nest.{Placed, closes, mismatched, names_and_literals, may_close}
+use Rattle.handlebars_template.specs.Machine.{BlockSoFar, open_in, goes, closed, late_in}
 use Rattle.handlebars_template.specs.NestView.{placed_view, open_block_view, stack_view, open_blocks, late_of, late_view}
 use Rattle.handlebars_template.proofs.NestsBuilt.{stack_view_push}
 use Rattle.handlebars_template.proofs.NestsDone.{closes-goes}
@@ -22,7 +23,7 @@ returns c =
     let m = c.args.name.now in
     let p = place_of c.args.place in
     let name : late_view c.in_ok-name_fault.field-0 ≡ late_in (open_in (open_blocks old)) (closes p c.args.is_raw m) =
-    c.in_ok-name_fault.ensures ∙ ap (λ (n : Text). name_fault (may_close names_and_literals n m) f.opening.kind n m p) c.as_str.ensures.value
+    c.in_ok-name_fault.ensures ∙ ap (λ (n : Text). if may_close names_and_literals n m then None else Some (mismatched f.opening.kind n m p)) c.as_str.ensures.value
     ∙ ap (λ (z : List BlockSoFar). late_in (open_in z) (closes p c.args.is_raw m)) (sym front) in
     on_ok_weaker c.end.result
     (λ made may.
