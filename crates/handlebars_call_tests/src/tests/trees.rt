@@ -180,9 +180,7 @@ fn path(rt: &impl Abort, alloc: Global, text: &str) -> Parameter {
 // What `each` gives over the data where it has this to bind.
 fn gives_bound(rt: &impl Abort, alloc: Global, binding: BlockParam, wanted: &str) {
     let mut params = Vec::new(alloc);
-    params
-        .push(path(rt, alloc, "this"))
-        .expect(rt, "memory");
+    params.push(path(rt, alloc, "this")).expect(rt, "memory");
     let mut call = call_of(rt, alloc, "each", params, true);
     call.block_param = Some(binding);
     let element = TemplateElement::HelperBlock(with_body(rt, alloc, call, "[{{v}}{{k}}]"));
