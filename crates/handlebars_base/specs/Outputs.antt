@@ -44,4 +44,4 @@ held_of o = record { text = string_bytes o.text; faults = o.faults }
 -- why a rendering is refused whose output failed: memory keeps its name, and all else is a fault of the output
 abbrev pub write_reason : ErrorKind → Reason
 write_reason OutOfMemory = out_of_memory
-write_reason _ = io_error
+write_reason kind = io_error kind

@@ -1,5 +1,7 @@
--- Why something is refused: the reasons as plain data. A cause that comes from outside has no parts here.
+-- Why something is refused: the reasons as plain data. Of a cause that comes from outside the system's kind is all that
+-- stands here.
 use Rattle.std.specs.Prelude.{ℕ, Option, None}
+use Rattle.std.specs.declared.io.ErrorKind.{ErrorKind}
 use Rattle.handlebars_base.specs.Bytes.{Text}
 
 -- why a template has no tree
@@ -39,7 +41,7 @@ pub data Reason : Type 0 where
   invalid_json_path : Text → Reason
   invalid_json_index : Text → Reason
   serde_error : Reason
-  io_error : Reason
+  io_error : ErrorKind → Reason
   utf8_error : Reason
   nested_error : Text → Reason
   unimplemented : Reason

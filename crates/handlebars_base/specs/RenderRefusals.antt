@@ -1,5 +1,6 @@
 -- What the errors of rendering stand for.
 use Rattle.std.specs.Prelude.{ℕ, Option, Some, None, option_map, Result, Ok, Err, string_bytes}
+use Rattle.std.specs.IoError.{error_kind}
 use Rattle.std.specs.Option.{option_or}
 use Rattle.std.specs.declared.alloc.AllocError.{AllocError}
 use Rattle.handlebars_base.specs.Bytes.{Text}
@@ -28,7 +29,7 @@ reason_of BlockContentRequired = block_content_required
 reason_of (InvalidJsonPath a) = invalid_json_path (string_bytes a)
 reason_of (InvalidJsonIndex a) = invalid_json_index (string_bytes a)
 reason_of (SerdeError e) = serde_error
-reason_of (IOError e) = io_error
+reason_of (IOError e) = io_error (error_kind e)
 reason_of (Utf8Error e) = utf8_error
 reason_of (NestedError a) = nested_error (string_bytes a)
 reason_of Unimplemented = unimplemented

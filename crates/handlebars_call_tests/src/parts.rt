@@ -4,3 +4,4 @@ pub mod decorators;
 pub mod escape;
 pub mod functions;
 pub mod helpers;
+pub mod refusing;

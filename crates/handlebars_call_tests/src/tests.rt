@@ -9,6 +9,7 @@ mod helpers;
 mod inclusions;
 mod names;
 mod own_parts;
+mod own_refusals;
 mod pages;
 mod registries;
 mod trees;

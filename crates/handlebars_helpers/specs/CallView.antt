@@ -8,7 +8,7 @@ use Rattle.handlebars_base.specs.Bytes.{Text}
 use Rattle.handlebars_base.specs.PathAndData.{PathAndData}
 use Rattle.handlebars_base.specs.Scoped.{value}
 use Rattle.handlebars_base.specs.Optional.{◌>>=◌}
-use Rattle.handlebars_template.specs.Tree.{Binding, no_binding, single, both, Body, as_name}
+use Rattle.handlebars_template.specs.Tree.{Binding, no_binding, single, both, Body, Param, name}
 
 -- The view of a call or of another tag: its name, and the values of its parameters in order and of its pairs in order of
 -- key.
@@ -33,23 +33,28 @@ param_at i v = slice_get v.params i
 abbrev pub pair_at : Text → CallView → Option PathAndData
 pair_at key v = lookup (bytes_eq key) v.pairs
 
--- whether any name is bound
+-- whether any name is given to bind, be it one or not
 abbrev pub binds : Binding → Bool
 binds no_binding = false
 binds (single p) = true
 binds (both p q) = true
 
--- the name that is bound alone: a name or a path, as written
+-- The name that a parameter binds. Only a tree by hand has others here, and those bind nothing.
+abbrev pub bound_name : Param → Option Text
+bound_name (name n) = Some n
+bound_name p = None
+
+-- the name that is bound alone
 abbrev pub single_name : Binding → Option Text
 single_name no_binding = None
-single_name (single p) = as_name p
+single_name (single p) = bound_name p
 single_name (both p q) = None
 
 -- the two names that are bound together
 abbrev pub both_names : Binding → Option (Text × Text)
 both_names no_binding = None
 both_names (single p) = None
-both_names (both p q) = as_name p >>= λ first. as_name q >>= λ second. Some (first, second)
+both_names (both p q) = bound_name p >>= λ first. bound_name q >>= λ second. Some (first, second)
 
 -- ---- values that a local helper has
 

@@ -1,4 +1,5 @@
 -- What the refusals of functions stand for.
+use Rattle.std.specs.IoError.{error_kind}
 use Rattle.std.specs.Prelude.{option_map, string_bytes}
 use Rattle.handlebars_base.specs.Reasons.{Reason, of_template, template_not_found, missing_variable, partial_not_found, partial_block_not_found, helper_not_found, decorator_not_found, cannot_include_self, invalid_logging_level, block_content_required, invalid_json_path, invalid_json_index, serde_error, io_error, utf8_error, nested_error, unimplemented, other, inclusion_limit, invalid_number, failed, out_of_memory}
 use Rattle.handlebars_base.specs.TemplateRefusals.{template_refusal_of}
@@ -19,7 +20,7 @@ refused_for BlockContentRequired = block_content_required
 refused_for (InvalidJsonPath path) = invalid_json_path (string_bytes path)
 refused_for (InvalidJsonIndex index) = invalid_json_index (string_bytes index)
 refused_for (SerdeError cause) = serde_error
-refused_for (IOError cause) = io_error
+refused_for (IOError cause) = io_error (error_kind cause)
 refused_for (Utf8Error cause) = utf8_error
 refused_for (NestedError cause) = nested_error (string_bytes cause)
 refused_for Unimplemented = unimplemented

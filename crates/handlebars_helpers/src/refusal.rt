@@ -2,7 +2,7 @@
 
 ghost use Rattle.std.specs.Prelude.{◌≡◌};
 ghost use Rattle.handlebars_base.specs.Reasons.{out_of_memory};
-ghost use Rattle.handlebars_base.specs.RenderRefusals.{plain_refusal, reason_of, refusal_of};
+ghost use Rattle.handlebars_base.specs.RenderRefusals.{cause_of, plain_refusal, reason_of, refusal_of};
 ghost use Rattle.handlebars_helpers.specs.FnRefusals.{refused_for};
 
 use handlebars_base::error::{RenderError, RenderErrorReason, TemplateError};
@@ -42,18 +42,27 @@ impl From<FnRefusal> for RenderError {
     ghost from_gives = { λ r e. refusal_of e ≡ plain_refusal (refused_for r) };
 
     fn from(refusal: FnRefusal) -> RenderError
-        ensures { refusal_of result ≡ plain_refusal (refused_for refusal) }
+        ensures refusal { refusal_of result ≡ plain_refusal (refused_for refusal) }
+
+        // A cause that comes from outside is kept.
+        ensures json { (cause : _) → refusal ≡ FnRefusal.SerdeError cause → cause_of result ≡ RenderErrorReason.SerdeError cause }
+        ensures io { (cause : _) → refusal ≡ FnRefusal.IOError cause → cause_of result ≡ RenderErrorReason.IOError cause }
+        ensures utf8 { (cause : _) → refusal ≡ FnRefusal.Utf8Error cause → cause_of result ≡ RenderErrorReason.Utf8Error cause }
     {
-        reason(refusal).into()
+        RenderError::from(reason(refusal))
     }
 }
 
 fn reason(refusal: FnRefusal) -> RenderErrorReason
-    ensures { reason_of result ≡ refused_for refusal }
+    ensures reason { reason_of result ≡ refused_for refusal }
+    ensures json { (cause : _) → refusal ≡ FnRefusal.SerdeError cause → result ≡ RenderErrorReason.SerdeError cause }
+    ensures io { (cause : _) → refusal ≡ FnRefusal.IOError cause → result ≡ RenderErrorReason.IOError cause }
+    ensures utf8 { (cause : _) → refusal ≡ FnRefusal.Utf8Error cause → result ≡ RenderErrorReason.Utf8Error cause }
 {
     match refusal {
         FnRefusal::TemplateNotFound(name) => RenderErrorReason::TemplateNotFound(name),
-        FnRefusal::TemplateError(cause) => RenderErrorReason::TemplateError(cause),
+        // Want of memory isn't wrapped.
+        FnRefusal::TemplateError(cause) => cause.into(),
         FnRefusal::MissingVariable(path) => RenderErrorReason::MissingVariable(path),
         FnRefusal::PartialNotFound(name) => RenderErrorReason::PartialNotFound(name),
         FnRefusal::PartialBlockNotFound => RenderErrorReason::PartialBlockNotFound,

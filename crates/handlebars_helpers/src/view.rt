@@ -3,12 +3,12 @@
 ghost use Rattle.std.specs.Prelude.{◌≡◌, option_map, map};
 ghost use Rattle.std.specs.Cow.{cow_str_bytes};
 ghost use Rattle.handlebars_base.specs.PathAndData.{path_and_data};
-ghost use Rattle.handlebars_template.specs.TreeView.{tree_view, binding_view, body_of, binding_of};
-ghost use Rattle.handlebars_helpers.specs.CallView.{binds, both_names, pair_at, param_at, single_name};
+ghost use Rattle.handlebars_template.specs.TreeView.{tree_view, binding_view, body_of, binding_of, param_view};
+ghost use Rattle.handlebars_helpers.specs.CallView.{binds, both_names, bound_name, pair_at, param_at, single_name};
 ghost use Rattle.handlebars_helpers.specs.View.{helper_view};
 
 use handlebars_base::json::value::PathAndJson;
-use handlebars_template::template::{BlockParam, Template};
+use handlebars_template::template::{BlockParam, Parameter, Template};
 use std::borrow::CowStr;
 use std::collections::BTreeMap;
 
@@ -128,7 +128,7 @@ impl<'rc> Helper<'rc> {
         self.block
     }
 
-    /// Whether it binds names.
+    /// Whether names are given to bind. Of a tree by hand one that is no name binds nothing.
     pub fn has_block_param(&self) -> bool
         ensures { result ≡ binds (helper_view self.now).binding }
     {
@@ -156,7 +156,7 @@ pub(crate) fn single_name<'t>(binding: Option<&'t BlockParam>) -> Option<&'t str
         ≡ single_name (binding_of (option_map (λ b. binding_view b.now) binding.entry)) }
 {
     match binding {
-        Some(BlockParam::Single(name)) => name.as_name(),
+        Some(BlockParam::Single(name)) => bound_name(name),
         Some(BlockParam::Pair(_)) => None,
         None => None,
     }
@@ -168,11 +168,23 @@ pub(crate) fn both_names<'t>(binding: Option<&'t BlockParam>) -> Option<(&'t str
         ≡ both_names (binding_of (option_map (λ b. binding_view b.now) binding.entry)) }
 {
     match binding {
-        Some(BlockParam::Pair(names)) => match (names.0.as_name(), names.1.as_name()) {
+        Some(BlockParam::Pair(names)) => match (bound_name(&names.0), bound_name(&names.1)) {
             (Some(first), Some(second)) => Some((first, second)),
             _ => None,
         },
         Some(BlockParam::Single(_)) => None,
         None => None,
+    }
+}
+
+// The name that a parameter binds.
+fn bound_name(parameter: &Parameter) -> Option<&str>
+    ensures { option_map (λ name. name.now) result ≡ bound_name (param_view parameter.now) }
+{
+    match parameter {
+        Parameter::Name(name) => Some(name.as_str()),
+        Parameter::Path(_) => None,
+        Parameter::Literal(_) => None,
+        Parameter::Subexpression(_) => None,
     }
 }

@@ -1,7 +1,11 @@
 //! The data of a template, and the ways into it.
 
-ghost use Rattle.std.specs.Prelude.{◌≡◌, false};
+ghost use Rattle.std.specs.Prelude.{◌≡◌, ◌⊎◌, [], false, IfErr, IfOk, Err, None, Ok, Some, String, string_bytes};
+ghost use Rattle.std.specs.Global.{Global};
+ghost use Rattle.serde.specs.Event.{Log};
 ghost use Rattle.serde_json.specs.Errors.{IsMemory};
+ghost use Rattle.serde_json.specs.Read.{read};
+ghost use Rattle.serde_json.specs.Sent.{IsTextOf};
 ghost use Rattle.serde_json.specs.View.{view};
 ghost use Rattle.serde_json.specs.Written.{has_float};
 ghost use Rattle.handlebars_base.specs.Reasons.{nowhere, out_of_memory, serde_error};
@@ -64,11 +68,7 @@ impl Context {
             → IsConversion T.writes source.now (refuses_for (reason_in e))) }
         ensures plain { IfErr result (λ e. spot_of e ≡ nowhere) }
     {
-        let text = match serde_json::to_string(alloc, source) {
-            Ok(text) => text,
-            Err(cause) => return Err(refused(cause)),
-        };
-        match Json::from_str(alloc, text.as_str()) {
+        match read_back(alloc, source, written) {
             Ok(value) => Context::try_from(value),
             Err(cause) => Err(refused(cause)),
         }
@@ -121,6 +121,35 @@ impl Context {
     {
         *self = Context::try_from(given)?;
         Ok(())
+    }
+}
+
+// What serde writes of a value, where it does.
+fn written<T: Serialize>(alloc: Global, source: &T) -> Result<String, serde_json::Error>
+    ensures { IfOk result (λ text. (log : Log) × T.writes source.now (Some []) log × IsTextOf log (string_bytes text)) }
+{
+    serde_json::to_string(alloc, source)
+}
+
+// What JSON reads of what a value is written as. `write` may refuse for reasons of its own; a text that it gave is
+// refused only where it isn't read, but for want of memory.
+fn read_back<T, F: FnOnce(Global, &T) -> Result<String, serde_json::Error>>(
+    alloc: Global,
+    source: &T,
+    write: F,
+) -> Result<Json, serde_json::Error>
+    requires { F.IsAlwaysCallable write }
+    ensures ok { IfOk result (λ value. (text : String Global) × F.post write alloc source.entry (Ok text)
+        × (read (string_bytes text) ≡ Some (view value))) }
+    ensures err { IfErr result (λ e. ¬ IsMemory e → F.post write alloc source.entry (Err e)
+        ⊎ ((text : String Global) × F.post write alloc source.entry (Ok text) × (read (string_bytes text) ≡ None))) }
+{
+    match write(alloc, source) {
+        Ok(text) => match Json::from_str(alloc, text.as_str()) {
+            Ok(value) => Ok(value),
+            Err(cause) => Err(cause),
+        },
+        Err(cause) => Err(cause),
     }
 }
 

@@ -1,6 +1,7 @@
 //! Why a rendering, a registration or a reading is refused, and where.
 
 ghost use Rattle.std.specs.Prelude.{◌≡◌, ◌≢◌, Some, None, option_map, string_bytes, IfOk, IfSome};
+ghost use Rattle.std.specs.IoError.{error_kind};
 ghost use Rattle.handlebars_base.specs.Bytes.{Text};
 ghost use Rattle.handlebars_base.specs.Reasons.{Reason, out_of_memory, io_error, utf8_error, serde_error, of_template, other, missing_variable, nested_error};
 
@@ -288,10 +289,10 @@ impl From<TemplateError> for RenderError {
 impl From<io::Error> for RenderError {
     ghost use Rattle.handlebars_base.specs.RenderRefusals.{cause_of, plain_refusal, refusal_of};
 
-    ghost from_gives = { λ _ e. refusal_of e ≡ plain_refusal io_error };
+    ghost from_gives = { λ cause e. refusal_of e ≡ plain_refusal (io_error (error_kind cause)) };
 
     fn from(cause: io::Error) -> RenderError
-        ensures refusal { refusal_of result ≡ plain_refusal io_error }
+        ensures refusal { refusal_of result ≡ plain_refusal (io_error (error_kind cause)) }
         ensures cause { cause_of result ≡ RenderErrorReason.IOError cause }
     {
         RenderError::from(RenderErrorReason::IOError(cause))
@@ -373,10 +374,10 @@ impl From<TemplateError> for RenderErrorReason {
 impl From<io::Error> for RenderErrorReason {
     ghost use Rattle.handlebars_base.specs.RenderRefusals.{reason_of};
 
-    ghost from_gives = { λ _ r. reason_of r ≡ io_error };
+    ghost from_gives = { λ cause r. reason_of r ≡ io_error (error_kind cause) };
 
     fn from(cause: io::Error) -> RenderErrorReason
-        ensures reason { reason_of result ≡ io_error }
+        ensures reason { reason_of result ≡ io_error (error_kind cause) }
         ensures cause { result ≡ RenderErrorReason.IOError cause }
     {
         RenderErrorReason::IOError(cause)

@@ -1,9 +1,10 @@
 //! Trees that are made by hand, and how they render.
 
 use crate::tests::helpers::{Bench, Held, text_of};
+use handlebars::Path;
 use handlebars::template::{
-    DecoratorTemplate, ExpressionSpec, HelperTemplate, Parameter, Template, TemplateElement,
-    TemplateMapping,
+    BlockParam, DecoratorTemplate, ExpressionSpec, HelperTemplate, Parameter, Template,
+    TemplateElement, TemplateMapping,
 };
 use std::alloc::Global;
 use std::collections::BTreeMap;
@@ -166,4 +167,42 @@ fn the_kind_says_what_is_a_block(rt: HostRuntime) {
     gives_its_body(&rt, alloc);
     gives_by_kind(&rt, alloc, false);
     gives_by_kind(&rt, alloc, true);
+}
+
+fn name(rt: &impl Abort, alloc: Global, text: &str) -> Parameter {
+    Parameter::Name(text_of(rt, alloc, text))
+}
+
+fn path(rt: &impl Abort, alloc: Global, text: &str) -> Parameter {
+    Parameter::Path(Path::parse(alloc, text).expect(rt, "a path"))
+}
+
+// What `each` gives over the data where it has this to bind.
+fn gives_bound(rt: &impl Abort, alloc: Global, binding: BlockParam, wanted: &str) {
+    let mut params = Vec::new(alloc);
+    params.push(path(rt, alloc, "this")).expect(rt, "memory");
+    let mut call = call_of(rt, alloc, "each", params, true);
+    call.block_param = Some(binding);
+    let element = TemplateElement::HelperBlock(with_body(rt, alloc, call, "[{{v}}{{k}}]"));
+    gives_alone(rt, alloc, element, wanted);
+}
+
+fn gives_bound_pair(rt: &impl Abort, alloc: Global, pair: (Parameter, Parameter), wanted: &str) {
+    gives_bound(rt, alloc, BlockParam::Pair(pair), wanted);
+}
+
+// In the place of a name a path binds nothing, and neither does the name beside it.
+#[test]
+fn names_alone_are_bound(rt: HostRuntime) {
+    let alloc = rt.alloc();
+    let single = BlockParam::Single(name(&rt, alloc, "v"));
+    gives_bound(&rt, alloc, single, r#"Ok("[1]")"#);
+    let single = BlockParam::Single(path(&rt, alloc, "v"));
+    gives_bound(&rt, alloc, single, r#"Ok("[]")"#);
+    let pair = (name(&rt, alloc, "v"), name(&rt, alloc, "k"));
+    gives_bound_pair(&rt, alloc, pair, r#"Ok("[1x]")"#);
+    let pair = (name(&rt, alloc, "v"), path(&rt, alloc, "k"));
+    gives_bound_pair(&rt, alloc, pair, r#"Ok("[]")"#);
+    let pair = (path(&rt, alloc, "v"), name(&rt, alloc, "k"));
+    gives_bound_pair(&rt, alloc, pair, r#"Ok("[]")"#);
 }

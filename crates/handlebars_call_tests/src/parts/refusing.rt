@@ -1,0 +1,84 @@
+//! Parts of a caller's own that refuse with an error of the system's.
+
+ghost use Rattle.std.specs.Prelude.{◌≡◌};
+ghost use Rattle.std.proofs.Common.{sym, ◌∙◌};
+ghost use Rattle.handlebars_base.specs.Answers.{refuses_for};
+ghost use Rattle.handlebars_base.specs.Reasons.{io_error};
+ghost use Rattle.handlebars_base.specs.RenderRefusals.{plain_refusal, refusal_of};
+
+use handlebars::{
+    Context, Decorator, DecoratorDef, DecoratorResult, EscapeFn, Helper, HelperDef, HelperResult,
+    HelperValue, RenderError,
+};
+use std::io;
+use std::io::ErrorKind;
+
+/// Refuses whatever it is asked, with an error of this kind.
+#[derive(Drop)]
+pub struct Refusing {
+    pub kind: ErrorKind,
+}
+
+impl Refusing {
+    fn refusal(&self) -> RenderError
+        ensures { refusal_of result ≡ plain_refusal (io_error self.now.kind) }
+    {
+        RenderError::from(io::Error::from(self.kind))
+    }
+}
+
+impl HelperDef for Refusing {
+    ghost has_steps = { λ h q a. a ≡ refuses_for (io_error h.kind) };
+
+    ghost has_offer = { λ h q a. a ≡ refuses_for (io_error h.kind) };
+
+    fn call_inner(
+        &self,
+        _h: &Helper,
+        _data: &Context,
+        _changed: Option<&Context>,
+        _strict: bool,
+    ) -> Result<HelperValue, RenderError> {
+        Err(self.refusal())
+    }
+
+    fn call(
+        &self,
+        _h: &Helper,
+        _data: &Context,
+        _changed: Option<&Context>,
+        _strict: bool,
+    ) -> HelperResult {
+        Err(self.refusal())
+    }
+
+    ghost one_steps = { λ h q a b i j. ∣ i ∙ sym j ∣₁ };
+
+    ghost one_offer = { λ h q a b i j. ∣ i ∙ sym j ∣₁ };
+}
+
+impl DecoratorDef for Refusing {
+    ghost has_deeds = { λ d q a. a ≡ refuses_for (io_error d.kind) };
+
+    fn call(
+        &self,
+        _d: &Decorator,
+        _data: &Context,
+        _changed: Option<&Context>,
+        _strict: bool,
+    ) -> DecoratorResult {
+        Err(self.refusal())
+    }
+
+    ghost one_deeds = { λ d q a b i j. ∣ i ∙ sym j ∣₁ };
+}
+
+impl EscapeFn for Refusing {
+    ghost has_escaped = { λ e t a. a ≡ refuses_for (io_error e.kind) };
+
+    fn escape(&self, _text: &str) -> Result<String, RenderError> {
+        Err(self.refusal())
+    }
+
+    ghost one_escaped = { λ e t a b i j. ∣ i ∙ sym j ∣₁ };
+}
