@@ -146,7 +146,7 @@ unless_fault (Some f) m = stops f
 abbrev pub moved_by : Tried → SourcePiece → ℕ → List BlockSoFar → List Placed → Moved
 moved_by t x d fs es = unless_fault (fault_in t d (open_in fs) x) (behind_piece x d fs es)
 
--- The same by cases, so that where it is run a tag is read once.
+-- what a piece does, by cases, so that where it is run a tag is read once
 abbrev pub apply : Tried → SourcePiece → ℕ → List BlockSoFar → List Placed → Moved
 apply t (leaf p e n r) d fs es = moved_by t (leaf p e n r) d fs es
 apply t (opens p o n r) d fs es = moved_by t (opens p o n r) d fs es
