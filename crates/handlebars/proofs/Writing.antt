@@ -64,7 +64,7 @@ pub Writes-begun : (p : Setting) (begins : Beginning → Type 0) (one : IsOne be
 Writes-begun p begins one t begun w =
     Writes-map p (λ b is. subst begins (sym is) begun) (λ b is. one b (a_tree t) is begun) w
 
--- The same writers at the two moments.
+-- What a call says of a writer holds of any two writers that equal it before and behind the call.
 pub Writes-at : {W : Type 0} (p : Setting) (begins : Beginning → Type 0) (contents : W → Option Text) {before first after last : W}
     {r : Answered} → first ≡ before → last ≡ after → Writes p begins (contents first) (contents after) r
     → Writes p begins (contents before) (contents last) r

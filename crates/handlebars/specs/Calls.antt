@@ -82,7 +82,8 @@ module _ {S : Type 0} (reads : S → Text → Result (String Global) Error → S
     no_room_to_read : {e : RenderError} → reason_in e ≡ out_of_memory → Appends first last []
         → WritesReading asked before after to first last (Err e)
 
-  -- The same of a source. Where that doesn't compile, or there is no memory for it, no file is asked for and nothing is written.
+  -- What a call with a source says of a writer and of the reader. Where the source doesn't compile, or there is no memory
+  -- for it, no file is asked for and nothing is written.
   pub data WritesSource (options : Options) (source : Text) (before after : S)
       (to : List Loaded → Option Text → Option Text → Answered → Type 0) (first last : Option Text) : Answered → Type 0 where
     compiled_so : {t : Tree} {a : Answered} → Compiles source options (compiled t) → WritesReading None before after to first last a

@@ -86,7 +86,7 @@ module _ {S : Type 0} (reads : S → Text → Result (String Global) Error → S
     pub reads_up_to : ReadsFiles fs before read (Err why) after
     pub stop : IsStopFor e why
 
-  -- The same for a rendering, whose error tells why.
+  -- The files are read and compiled in turn, up to one that is refused, as the error of a rendering tells.
   pub record FailsRendering (fs : List (Text × Text)) (before after : S) (e : RenderError) : Type 0 where
     pub read : List Loaded
     pub why : Stop

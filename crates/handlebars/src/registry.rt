@@ -155,7 +155,7 @@ impl<E: Drop> RegistryOf<E> {
         Ok(())
     }
 
-    /// The same: a partial is a template.
+    /// Compiles a source and registers its tree under the name of a partial, which is a template.
     pub fn register_partial(&mut self, name: &str, source: &str) -> Result<(), TemplateError>
         ensures ok { OnOk result ((t : Tree)
             × Compiles source.now (named (modes_of self.old).prevent_indent name.now) (compiled t)

@@ -27,7 +27,7 @@ pub trait TemplateReader {
     // From this state the reader may answer a read of this path so, and is in that state then.
     ghost reads: { Self → List ℕ → Result (String Global) Error → Self → Type 0 };
 
-    // The same for a list of a folder.
+    // From this state the reader may answer so what is in this folder, and is in that state then.
     ghost lists: { Self → List ℕ → Result (Vec (String Global × EntryKind)) Error → Self → Type 0 };
 
     /// The text of a file.

@@ -61,7 +61,7 @@ pub fn rendered_with_helper<
     registry.render_template_with_context(source, data, log, &mut NoFiles)
 }
 
-/// The same with a decorator of one's own.
+/// The text of a source over a context, with a decorator of one's own under a name. It does the deeds that it states.
 pub fn rendered_with_decorator<
     L: Log,
     B: HelperPart,
@@ -89,7 +89,7 @@ pub fn rendered_with_decorator<
     registry.render_template_with_context(source, data, log, &mut NoFiles)
 }
 
-/// The same with an escape function of one's own.
+/// The text of a source over a context, with an escape function of one's own, which gives the texts that it states.
 pub fn rendered_with_escape<
     L: Log,
     B: HelperPart,

@@ -29,8 +29,8 @@ pub fn write_page<F: Files + AllocGlobal, E: OwnParts, L: Log>(
     Ok(page.flush()?)
 }
 
-/// The same to any writer. Of one that tells what it holds it is known what it holds then: the text of the definition
-/// behind what it held before, or where the call is refused a beginning of it.
+/// Writes a registered template over data to any writer. Of one that tells what it holds it is known what it holds then:
+/// the text of the definition behind what it held before, or where the call is refused a beginning of it.
 pub fn write_to<E: OwnParts, W: Write, L: Log, R: TemplateReader>(
     registry: &RegistryOf<E>,
     name: &str,

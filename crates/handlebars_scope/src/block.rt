@@ -146,7 +146,7 @@ impl BlockContext {
         }
     }
 
-    /// The same with the variables of another block.
+    /// A block at the root of the data, in which the variables of another block are set.
     pub fn with_variables_of(block: &BlockContext) -> Result<BlockContext, AllocError>
         ensures { IfOk result (λ b. frame_of b ≡ record empty_frame { variable = (frame_of block.now).variable }) }
     {

@@ -82,7 +82,7 @@ impl Context {
         &self.value
     }
 
-    /// The same data once more.
+    /// A copy of the context.
     pub fn clone(&self, _alloc: Global) -> Result<Context, AllocError>
         ensures { IfOk result (λ copy. data_of copy ≡ data_of self.now) }
     {

@@ -32,7 +32,7 @@ pub fn write_indented<O: Output>(text: &str, indent: &str, out: &mut O) -> Resul
     write_lines(text, indent, false, out)
 }
 
-/// The same of what a text is escaped to, or of the text.
+/// Writes a text, escaped where that is asked, with the indentation behind each newline that isn't its last character.
 pub fn write_lines<O: Output>(
     text: &str,
     indent: &str,

@@ -97,7 +97,7 @@ impl LocalVars {
         set(&mut self.key, key);
     }
 
-    /// The same variables once more.
+    /// A copy of the variables.
     pub fn clone(&self) -> Result<LocalVars, AllocError>
         ensures { IfOk result (λ copy. variables_of copy ≡ variables_of self.now) }
     {
@@ -125,7 +125,7 @@ fn set(place: &mut Option<Json>, value: Json)
     *place = Some(value);
 }
 
-// The same with a boolean, for which there is room where one stands already.
+// Sets a boolean; where one stands already, in its place.
 fn set_truth(place: &mut Option<Json>, truth: bool)
     ensures { place.new ≡ Some (held.Bool truth) }
 {
@@ -136,7 +136,7 @@ fn set_truth(place: &mut Option<Json>, truth: bool)
     set(place, Json::Bool(truth));
 }
 
-// The same with a number.
+// Sets a number; where one stands already, in its place.
 fn set_number(place: &mut Option<Json>, number: Number)
     ensures { place.new ≡ Some (held.Number number) }
 {

@@ -48,7 +48,7 @@ pub fn text<'a>(alloc: Global, until: Braces, source: &'a str) -> Result<TextFro
     Ok(TextFront { kept, slice, rest })
 }
 
-// The same, part by part.
+// The text in front of a source, gathered part by part, for a text in which something is escaped.
 #[inline(never)]
 fn text_by_chunks<'a>(
     alloc: Global,
@@ -194,7 +194,7 @@ fn ends_with_backslash(text: &[u8]) -> bool
     }
 }
 
-// The same, where that many in front are clear.
+// How many bytes are clear, where it is known that so many in front are.
 fn clear_from(until: Braces, text: &[u8], from: usize) -> usize
     requires within { from ≤ length text.now }
     requires clear { clear_len (braces_of until) text.now ≡ from + clear_len (braces_of until) (drop from text.now) }

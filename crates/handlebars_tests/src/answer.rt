@@ -24,13 +24,13 @@ use std::fmt;
 pub struct Answer {
     /// What the registry hands out over a context.
     pub registry: Option<Handed>,
-    /// The same over data that it converts.
+    /// What the registry hands out over data that it converts.
     pub converted: Option<Handed>,
     /// What the template writes to an output.
     pub template: Option<Written>,
     /// What the registry writes to a writer, over a context.
     pub writer: Option<Written>,
-    /// The same over data that it converts.
+    /// What the registry writes to a writer, over data that it converts.
     pub converting: Option<Written>,
 }
 

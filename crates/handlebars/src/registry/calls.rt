@@ -74,7 +74,7 @@ impl<E: OwnParts> RegistryOf<E> {
         }
     }
 
-    /// The same over a context.
+    /// Renders the template under the name over a context.
     pub fn render_with_context<L: Log, R: TemplateReader>(
         &self,
         name: &str,
@@ -112,9 +112,9 @@ impl<E: OwnParts> RegistryOf<E> {
         renders_over(template, self.alloc, self, &read, ctx, &mut rc, log)
     }
 
-    /// The same to a writer, which is written to as the pieces come. A refusal leaves what was written before it, and
-    /// so does a fault of the writer, which is `IOError`, but for want of memory; while a boolean helper's word is
-    /// written it is `Other`.
+    /// Renders the template under the name to a writer, which is written to as the pieces come. A refusal leaves what
+    /// was written before it, and so does a fault of the writer, which is `IOError`, but for want of memory; while a
+    /// boolean helper's word is written it is `Other`.
     pub fn render_to_write<T: Serialize, W: Write, L: Log, R: TemplateReader>(
         &self,
         name: &str,
@@ -143,7 +143,7 @@ impl<E: OwnParts> RegistryOf<E> {
         }
     }
 
-    /// The same over a context.
+    /// Renders the template under the name to a writer, over a context.
     pub fn render_with_context_to_write<W: Write, L: Log, R: TemplateReader>(
         &self,
         name: &str,
@@ -244,7 +244,7 @@ impl<E: OwnParts> RegistryOf<E> {
         }
     }
 
-    /// The same over a context.
+    /// Renders a source over a context.
     pub fn render_template_with_context<L: Log, R: TemplateReader>(
         &self,
         source: &str,
@@ -284,7 +284,7 @@ impl<E: OwnParts> RegistryOf<E> {
         renders_over(&template, self.alloc, self, &read, ctx, &mut rc, log)
     }
 
-    /// The same to a writer, as by name.
+    /// Renders a source over data to a writer, which is written to as for a template by name.
     pub fn render_template_to_write<T: Serialize, W: Write, L: Log, R: TemplateReader>(
         &self,
         source: &str,
@@ -313,7 +313,7 @@ impl<E: OwnParts> RegistryOf<E> {
         }
     }
 
-    /// The same over a context.
+    /// Renders a source over a context to a writer.
     pub fn render_template_with_context_to_write<W: Write, L: Log, R: TemplateReader>(
         &self,
         source: &str,

@@ -70,7 +70,7 @@ impl<E: Drop> RegistryOf<E> {
         Ok(trees)
     }
 
-    // The same for a rendering, whose error tells why.
+    // The trees of the files that are remembered, for a rendering, whose error tells why one was refused.
     pub(crate) fn read_for<R: TemplateReader>(
         &self,
         asked: Option<&str>,

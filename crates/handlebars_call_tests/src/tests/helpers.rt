@@ -82,7 +82,7 @@ impl Bench {
         is_shown(rt, alloc, answer, wanted);
     }
 
-    /// The same of the template of a source.
+    /// What the template of a source writes into an output, or the refusal, by its constructors.
     pub fn compiles(
         &mut self,
         rt: &impl Abort,

@@ -42,7 +42,7 @@ pub fn resolve<'v>(
     answered(alloc, reach(given, path, blocks, bases, recursive))
 }
 
-/// The same, before a refusal is made of it.
+/// The value that a path leads to, or why there is none, of which no refusal is made yet.
 pub fn reach<'v: 'n, 'n>(
     given: &'v Json,
     path: &'n Path,
@@ -60,7 +60,7 @@ pub fn reach<'v: 'n, 'n>(
     }
 }
 
-/// The same, with the full path of a value of the data. A value that a block holds is copied.
+/// What a path leads to, with the full path of a value of the data. A value that a block holds is copied.
 pub fn find<'a>(
     alloc: Global,
     given: &'a Json,
@@ -80,7 +80,7 @@ pub fn find<'a>(
     }
 }
 
-/// The same, before a refusal is made of it.
+/// What a path leads to with its full path, or why there is none, of which no refusal is made yet.
 pub fn seek<'a, 'n>(
     alloc: Global,
     given: &'a Json,
@@ -121,7 +121,7 @@ pub fn current<'v>(
     }
 }
 
-// The same for a block that nothing is lent to.
+// The value of the data that a block stands at, where nothing is lent to it.
 fn current_in<'v>(given: &'v Json, block: &BlockContext) -> Option<&'v Json>
     ensures value { IfSome result (λ v. value_at (view given.now) (frame_of block.now).base_path ≡ gives (Some (view v.now))) }
     ensures path { IfSome result (λ v. (frame_of block.now).base_value ≡ None) }
@@ -132,7 +132,7 @@ fn current_in<'v>(given: &'v Json, block: &BlockContext) -> Option<&'v Json>
     }
 }
 
-/// The same where the data itself may not be lent: what is lent to the nearest block.
+/// What is lent to the nearest block, for where the data itself may not be lent.
 pub fn lent<'v>(blocks: &VecDeque<BlockContext>, bases: &'v Bases<'v>) -> Option<&'v Json>
     ensures { IfSome result (λ v. (d : Data) → IsCurrent (lend (bases_of bases.now) (frames_of blocks.now.items)) d
         (view v.now)) }
@@ -143,7 +143,7 @@ pub fn lent<'v>(blocks: &VecDeque<BlockContext>, bases: &'v Bases<'v>) -> Option
     }
 }
 
-// The same, for the segments of a path.
+// What the segments of a path lead to, with its full path.
 pub(crate) fn navigate<'a>(
     alloc: Global,
     given: &'a Json,
@@ -280,7 +280,7 @@ fn along<'v, 'n>(
     }
 }
 
-// The same, where it isn't known yet what is there.
+// What a base path, what is bound below it and segments lead to, name by name, or why there is no value.
 #[inline(never)]
 fn along_each<'v, 'n>(
     given: &'v Json,
@@ -345,7 +345,7 @@ fn member<'v, 'n>(value: &'v Json, name: &'n String) -> Reached<'v, 'n>
     }
 }
 
-// The same, where all names lead to a value.
+// The value that a base path, what is bound below it and segments lead to, where all names lead to one.
 fn along_values<'v>(
     given: &'v Json,
     base: &[String],
@@ -413,7 +413,7 @@ fn index_of(text: &str) -> Option<usize>
     }
 }
 
-// The same for the usual names, of one to four digits.
+// The index that a usual name is, which has one to four digits.
 fn short_index(name: &[u8]) -> Option<usize>
     ensures { IfSome result (λ index. index_of name.now ≡ Some index) }
 {

@@ -220,7 +220,7 @@ pub fn path_of(alloc: Global, raw: &str) -> Result<Option<Path>, AllocError>
     known_path(alloc, raw, is_name(raw))
 }
 
-/// The same, where it is known whether it is surely symbols alone.
+/// The path that the whole text is, where it is known whether it is surely symbols alone.
 pub fn known_path(alloc: Global, raw: &str, is_name: bool) -> Result<Option<Path>, AllocError>
     requires { is_name ≡ true → IsIdentifier raw.now }
     ensures { IfOk result (λ read. option_map reference_of read ≡ path_of raw.now) }

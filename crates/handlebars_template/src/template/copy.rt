@@ -13,7 +13,7 @@ use std::alloc::{AllocError, Global};
 use std::collections::BTreeMap;
 
 impl Template {
-    /// The same tree once more, in time linear in its size.
+    /// A copy of the tree, in time linear in its size.
     pub fn clone(&self, alloc: Global) -> Result<Template, AllocError>
         ensures { IfOk result (λ copy. tree_view copy ≡ tree_view self.now) }
     {

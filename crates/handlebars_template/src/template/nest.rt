@@ -96,7 +96,7 @@ fn is_too_deep(around: usize, number: usize) -> bool
     around > MAX_NESTING || number > MAX_NESTING - around
 }
 
-// The same in a block more.
+// Whether this many are too many inside one more block, with others open around it.
 fn is_too_deep_inside(around: usize, number: usize) -> bool
     ensures { result ≡ nat_lt max_nesting (around + suc number) }
 {

@@ -241,7 +241,7 @@ fn opening<'a>(
     }))
 }
 
-// The same, term by term.
+// What opens a block, built term by term, for a line of any parameters.
 #[inline(never)]
 fn opening_by_terms<'a>(
     alloc: Global,
