@@ -4,7 +4,7 @@ use Rattle.std.proofs.Math.Logic.{∥∥₁_elim, ∥∥₁_map, ∥∥₁_prop}
 use Rattle.handlebars_base.specs.Answers.{Answer, gives, refuses}
 use Rattle.handlebars_base.specs.Reasons.{Refusal}
 use Rattle.handlebars_helpers.specs.Own.{HasOne}
-use Rattle.handlebars_meaning.specs.Asks.{Asks, only, ◌>>=◌, goes_on, is_refused}
+use Rattle.handlebars_meaning.specs.Asks.{Asks, ◌>>=◌, goes_on, is_refused}
 use Rattle.handlebars_meaning.specs.State.{IsLawful, Setting, State}
 use Rattle.handlebars_meaning.specs.Questions.{Question, IsAnswered}
 use Rattle.handlebars_laws.proofs.RelatedAnswers.{Relation, IsAnswered-related}
@@ -31,9 +31,6 @@ refuses-injective A {r = r} e = ap (refusal_or r) e
 gives≢refuses : {A : Type 0} {x : A} {r : Refusal} → gives x ≡ no_value A r → ⊥
 gives≢refuses e = cc
 
-only-one : {A : Type 0} (x : Answer A) → HasOne (only x)
-only-one x a b e g = ∣ e ∙ sym g ∣₁
-
 then-one : {A B : Type 0} (m : Asks A) (f : A → Asks B) → HasOne m → ((x : A) → HasOne (f x)) → HasOne (m >>= f)
 then-one m f one ones _ _ (goes_on {x = x} {a = a} i h) (goes_on {x = y} {a = b} j g) =
     ∥∥₁_elim (one (gives x) (gives y) i j) ∥∥₁_prop
@@ -49,7 +46,7 @@ then-one {A = A} {B = B} m f one ones _ _ (is_refused {r = r} i) (is_refused {r 
 abbrev first_has_one : Relation
 first_has_one = record {
   Relates = λ m n. HasOne m;
-  only_related = λ x. only-one x;
+  only_related = λ x a b e g. ∣ e ∙ sym g ∣₁;
   then_related = λ m n f g. then-one m f;
 }
 
