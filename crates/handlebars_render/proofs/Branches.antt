@@ -2,7 +2,7 @@
 use Rattle.std.proofs.Common.{◌≡◌, ◌≢◌, Bool, true, false, [], ◌∷◌, None, Some, Ok, Err, refl, sym, ap, ◌∙◌, subst}
 use Rattle.std.specs.Prelude.{if◌then◌else◌, not}
 use Rattle.serde_json.specs.Data.{Data, null}
-use Rattle.handlebars_base.specs.Answers.{answer_map, gives, refuses}
+use Rattle.handlebars_base.specs.Answers.{Answer, answer_map, gives, refuses}
 use Rattle.handlebars_base.specs.Bytes.{Text}
 use Rattle.handlebars_base.specs.Path.{Reference}
 use Rattle.handlebars_base.specs.Reasons.{Refusal, out_of_memory}
@@ -14,17 +14,16 @@ use Rattle.handlebars_template.specs.Tree.{Args, Call, call_args, call_name, pat
 use Rattle.handlebars_helpers.specs.CallView.{CallView}
 use Rattle.handlebars_helpers.specs.Callee.{built, calls_registered}
 use Rattle.handlebars_helpers.specs.Choice.{body_if, chosen}
-use Rattle.handlebars_meaning.specs.Asks.{goes_on, is_refused}
-use Rattle.handlebars_meaning.specs.CarryOut.{carry_out, helper_call, render_word}
+use Rattle.handlebars_meaning.specs.Asks.{goes_on, is_refused, only}
+use Rattle.handlebars_meaning.specs.CarryOut.{helper_call}
 use Rattle.handlebars_meaning.specs.Means.{render_call}
 use Rattle.handlebars_meaning.specs.Sites.{Site}
 use Rattle.handlebars_meaning.specs.State.{Setting, State, helper_for}
 use Rattle.handlebars_meaning.specs.Values.{HasName, HasValue, HasView, as_written, value_at}
-use Rattle.handlebars_render.specs.Next.{Judges, Takes, path_alone, wanting}
-use Rattle.handlebars_render.specs.View.{Answered, CarriesOn, Moment, RefusesValue}
+use Rattle.handlebars_render.specs.Next.{Judges, LeavesCall, path_alone, wanting}
+use Rattle.handlebars_render.specs.View.{RefusesValue}
 use Rattle.handlebars_render.proofs.Leaves.{leaves-called, refuses-view}
 use Rattle.handlebars_render.proofs.LoneValues.{reached-none, reached-value}
-use Rattle.std.specs.declared.io.Error.{Error}
 
 data-seen : (found : Found) (d : Data) → present_in found ≡ Some d → data_in found ≡ d
 data-seen (walked e p) d is = cc
@@ -69,17 +68,17 @@ module _ (p : Setting) where
       (named : HasName p s (call_name c) (gives t)) (alone : call_args c ≡ path_alone r) where
     pub takes-path : (wanted b truth : Bool) → Some (calls_registered (built (wanting wanted))) ≡ helper_for p.parts s block t
         → Judges p s r (Ok b) → truth ≡ (if wanted then b else not b)
-        → Takes p site block c (render_call site block c) s truth
+        → LeavesCall p site block c (render_call site block c) s true (only (gives (body_if truth)))
     takes-path wanted b truth is judged same = record {
-      kind = wanting wanted;
+      target = calls_registered (built (wanting wanted));
       view = record { name = t; params = as_written (path r) judged.0 ∷ []; pairs = [] };
       leaves = leaves-called p site block c (record { name = t; params = as_written (path r) judged.0 ∷ []; pairs = [] })
           (calls_registered (built (wanting wanted)))
           (subst (λ (z : Args). HasView p s (call_name c) z
           (gives (record { name = t; params = as_written (path r) judged.0 ∷ []; pairs = [] }))) (sym alone)
           (goes_on named (goes_on (goes_on (goes_on judged.1 refl) (goes_on refl refl)) (goes_on refl refl)))) is;
-      chooses = chooses-wanted p.parts.strict block wanted b c t r judged.0 judged.2
-          ∙ ap (λ (z : Bool). gives (body_if z)) (sym same);
+      chooses = λ a chosen. chosen ∙ sym (chooses-wanted p.parts.strict block wanted b c t r judged.0 judged.2
+          ∙ ap (λ (z : Bool). gives (body_if z)) (sym same));
     }
 
     pub refuses-path : (e : RenderError) → Judges p s r (Err e) → reason_in e ≢ out_of_memory
@@ -87,11 +86,3 @@ module _ (p : Setting) where
     refuses-path e judged other = refuses-view p site block c
         (subst (λ (z : Args). HasView p s (call_name c) z (refuses (refusal_of e))) (sym alone)
         (goes_on named (is_refused (is_refused (is_refused (judged other))))))
-
-  -- a body or an inverse is what a block renders for a word
-  pub carries-branch : (may : Error → Type 0) (site : Site) (block : Bool) (c : Call) (v : CallView) (b : Bool)
-      {before after : Moment} {x : Answered}
-      → CarriesOn p (render_word site (helper_call true c v) true b) may before x after
-      → CarriesOn p (carry_out site (helper_call block c v) (body_if b)) may before x after
-  carries-branch may site block c v true a = a
-  carries-branch may site block c v false a = a

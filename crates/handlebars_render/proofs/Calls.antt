@@ -68,40 +68,6 @@ module _ (p : Setting) where
       (subst (λ (z : Found). HasValue p s r (gives z)) (missing-seen v is) g)
 
 module _ (p : Setting) (may : Error → Type 0) where
-  -- ---- bodies, and values that are chosen
-
-  -- a body that isn't there
-  pub branch_none : (there : TreeSite) (b : Body) {s : State} {h : Held} {u : Unit {0}} → b ≡ no_body
-      → CarriesOn p (render_branch there b) may (at s h) (Ok u) (at s h)
-  branch_none there b {s = s} {h = h} {u = u} is =
-      subst (λ (z : Body). CarriesOn p (render_branch there z) may (at s h) (Ok u) (at s h)) (sym is)
-      (carries_on-done p may)
-
-  -- ---- what is chosen, and by whom
-
-  pub chosen_ok : (strict : Bool) (site : Site) (k : Kind) (v w : HelperView) (x : Choice) {s : State} {h : Held}
-      {after : Moment} {r : Answered} → strict ≡ p.parts.strict → v ≡ w → chosen strict k v ≡ gives x
-      → CarriesOn p (carry_out site w x) may (at s h) r after
-      → CarriesOn p (render_chosen site (calls_registered (built k)) w) may (at s h) r after
-  chosen_ok strict site k v w x same_mode same is a =
-      carries_on-value p may (ask (choice_of (calls_registered (built k)) w)) (carry_out site w)
-      (gives-ask p (choice_of (calls_registered (built k)) w) x
-      (sym is ∙ ap (λ (z : Bool). chosen z k v) same_mode ∙ ap (chosen p.parts.strict k) same)) a
-
-  -- what is chosen by whatever is called
-  pub choice_ok : (site : Site) (target : Target) (w : HelperView) (x : Choice) {s : State} {h : Held} {after : Moment}
-      {r : Answered} → HasChoice p s target w (gives x) → CarriesOn p (carry_out site w x) may (at s h) r after
-      → CarriesOn p (render_chosen site target w) may (at s h) r after
-  choice_ok site target w x has a =
-      carries_on-value p may (ask (choice_of target w)) (carry_out site w) (gives-ask p (choice_of target w) x has) a
-
-  pub choice_err : (site : Site) (target : Target) (w : HelperView) {s next : State} {h : Held} (e : RenderError)
-      → (reason_in e ≢ out_of_memory → HasChoice p s target w (refuses (refusal_of e)))
-      → CarriesOn p (render_chosen site target w) may (at s h) (Err e) (at next h)
-  choice_err site target w e is =
-      carries_on-no_value p may (ask (choice_of target w)) (carry_out site w) e
-      (λ other. refuses-ask p (choice_of target w) (is other))
-
   -- ---- lone expressions
 
   found_there : (site : Site) (c : Call) (w : CallView) (v : Found) (d : Data) {before after : Moment} {r : Answered}

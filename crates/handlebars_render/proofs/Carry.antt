@@ -10,13 +10,14 @@ use Rattle.handlebars_base.specs.Values.{word}
 use Rattle.handlebars_base.specs.declared.error.render_error.RenderError.{RenderError}
 use Rattle.handlebars_base.specs.Outputs.{Held, IsWhole, IsCutOff}
 use Rattle.handlebars_meaning.specs.Pieces.{Origin, of_step, of_word, Piece, join, pieces_of, put}
+use Rattle.handlebars_scope.specs.LineState.{LineState}
 use Rattle.handlebars_scope.specs.Scopes.{Frame}
 use Rattle.handlebars_meaning.specs.Sites.{Site}
 use Rattle.handlebars_meaning.specs.State.{Setting, State, entered, left}
-use Rattle.handlebars_meaning.specs.Steps.{Task, Steps, Done, Refuse, Write, Get, Set, Do, Prog, return, run, refuse_for, state, write, perform, ◌>>=◌, ◌>>◌}
+use Rattle.handlebars_meaning.specs.Steps.{Task, Steps, Done, Refuse, Write, Get, Set, Do, Prog, return, run, refuse_for, state, become, write, perform, ◌>>=◌, ◌>>◌}
 use Rattle.handlebars_meaning.specs.Writing.{write_text, write_step, write_word}
 use Rattle.handlebars_meaning.specs.CarryOut.{change, in_block}
-use Rattle.handlebars_meaning.specs.Means.{unescaped, line_in, line_out, in_bracket, todo}
+use Rattle.handlebars_meaning.specs.Means.{unescaped, line_out, on_line, todo}
 use Rattle.handlebars_meaning.specs.Runs.{Fault, plain_fault, Outcome, Ended, Refused, Faulted, NoMemory, Stops, Front, none, mark, Runs, done, refused, wrote, got, set, did, did_over, stop, cut}
 use Rattle.handlebars_render.specs.View.{Moment, GivesValue, RefusesValue, TellsCause, TellsFault, Answered, Tells, ended, refusal, fault, no_memory, CarriesOut, CarriesOn, goes_on, is_over, IsPart, Puts, all_put, front_put, part_put, PutsStep, step_put, step_cut, step_part, PutsWord, word_put, word_cut, word_part}
 use Rattle.handlebars_render.specs.Boxed.{IsHandedOn, answer_of, error_of}
@@ -263,7 +264,7 @@ module _ (p : Setting) (may : Error → Type 0) where
 
   -- ---- values, and what is done with them
 
-  carries-value : {A : Type 0} (m : Prog A) (k : A → Steps) {s : State} {a : A} {h : Held} {after : Moment} {r : Answered}
+  pub carries-value : {A : Type 0} (m : Prog A) (k : A → Steps) {s : State} {a : A} {h : Held} {after : Moment} {r : Answered}
       → GivesValue p m s a → CarriesOut p (k a) may (at s h) r after → CarriesOut p (m k) may (at s h) r after
   carries-value m k g c = record {
     pieces = c.pieces;
@@ -388,34 +389,36 @@ module _ (p : Setting) (may : Error → Type 0) where
       → CarriesOn p m may before (Err e) (at next new) → CarriesOn p m may before (Err e) (at other new)
   carries_on-elsewhere (is_over c) = is_over (λ k. carries-elsewhere (c k))
 
-  pub carries-unescaped : {m : Prog (Unit {0})} {s off next last : State} {h new : Held} {r : Answered}
-      → off ≡ record s { escapes = false } → last ≡ record next { escapes = s.escapes }
-      → CarriesOn p m may (at off h) r (at next new) → CarriesOut p (run (unescaped m)) may (at s h) r (at last new)
-  unfolding ◌>>=◌ ◌>>◌
-  carries-unescaped {m = m} {s = s} {last = last} {h = h} {new = new} starts ends (goes_on {u = u} c) =
-      let restore : Unit {0} → Steps = λ v. Get (λ z. Set (record z { escapes = s.escapes }) Done) in
-      let over : CarriesOut p Done may (at last new) (Ok u) (at last new) = carries-done in
-      let restored = carries-get (carries-set (subst (λ (z : State). CarriesOut p Done may (at z new) (Ok u) (at last new)) ends over)) in
-      carries-get (carries-set (subst (λ (z : State). CarriesOut p (m restore) may (at z h) (Ok u) (at last new)) starts
-      (c restore (Ok u) (at last new) restored)))
-  carries-unescaped {m = m} {s = s} {last = last} {h = h} {new = new} starts ends (is_over {e = e} c) =
-      let restore : Unit {0} → Steps = λ v. Get (λ z. Set (record z { escapes = s.escapes }) Done) in
-      carries-get (carries-set (subst (λ (z : State). CarriesOut p (m restore) may (at z h) (Err e) (at last new)) starts
-      (carries-elsewhere (c restore))))
+  -- what is done in a state that is entered, and at the end changed by what it was before
+  abbrev pub around : (State → State) → (State → State → State) → Prog (Unit {0}) → Prog (Unit {0})
+  around enter leave m = state >>= (λ s. become (enter s) >> (m >> (state >>= (λ z. become (leave s z)))))
 
-  -- the line around a call
-  pub carries_on-bracket : (marked : Bool) (m : Prog (Unit {0})) {s mid next last : State} {h new : Held} {r : Answered}
-      → mid ≡ record s { line = line_in marked s.line } → last ≡ record next { line = line_out s.line next.line }
-      → CarriesOn p m may (at mid h) r (at next new) → CarriesOn p (in_bracket marked m) may (at s h) r (at last new)
+  pub carries_on-around : (enter : State → State) (leave : State → State → State) (m : Prog (Unit {0})) {s mid next last : State}
+      {h new : Held} {r : Answered} → mid ≡ enter s → last ≡ leave s next
+      → CarriesOn p m may (at mid h) r (at next new) → CarriesOn p (around enter leave m) may (at s h) r (at last new)
   unfolding ◌>>=◌ ◌>>◌
-  carries_on-bracket marked m {s = s} {h = h} {new = new} starts ends (goes_on c) = goes_on (λ k r last d.
-      let back : Unit {0} → Steps = λ v. Get (λ z. Set (record z { line = line_out s.line z.line }) (k tt)) in
+  carries_on-around enter leave m {s = s} {h = h} {new = new} starts ends (goes_on c) = goes_on (λ k r last d.
+      let back : Unit {0} → Steps = λ v. Get (λ z. Set (leave s z) (k tt)) in
       let behind = carries-get (carries-set (subst (λ (z : State). CarriesOut p (k tt) may (at z new) r last) ends d)) in
       carries-get (carries-set (subst (λ (z : State). CarriesOut p (m back) may (at z h) r last) starts (c back r last behind))))
-  carries_on-bracket marked m {s = s} {last = last} {h = h} {new = new} starts ends (is_over {e = e} c) = is_over (λ k.
-      let back : Unit {0} → Steps = λ v. Get (λ z. Set (record z { line = line_out s.line z.line }) (k tt)) in
+  carries_on-around enter leave m {s = s} {last = last} {h = h} {new = new} starts ends (is_over {e = e} c) = is_over (λ k.
+      let back : Unit {0} → Steps = λ v. Get (λ z. Set (leave s z) (k tt)) in
       carries-get (carries-set (subst (λ (z : State). CarriesOut p (m back) may (at z h) (Err e) (at last new)) starts
       (carries-elsewhere (c back)))))
+
+  -- with escaping off
+  pub carries_on-unescaped : (m : Prog (Unit {0})) {s off next last : State} {h new : Held} {r : Answered}
+      → off ≡ record s { escapes = false } → last ≡ record next { escapes = s.escapes }
+      → CarriesOn p m may (at off h) r (at next new) → CarriesOn p (unescaped m) may (at s h) r (at last new)
+  carries_on-unescaped m starts ends c =
+      carries_on-around (λ s. record s { escapes = false }) (λ s z. record z { escapes = s.escapes }) m starts ends c
+
+  -- on another line
+  pub carries_on-line : (enter : LineState → LineState) (m : Prog (Unit {0})) {s mid next last : State} {h new : Held} {r : Answered}
+      → mid ≡ record s { line = enter s.line } → last ≡ record next { line = line_out s.line next.line }
+      → CarriesOn p m may (at mid h) r (at next new) → CarriesOn p (on_line enter m) may (at s h) r (at last new)
+  carries_on-line enter m starts ends c =
+      carries_on-around (λ s. record s { line = enter s.line }) (λ s z. record z { line = line_out s.line z.line }) m starts ends c
 
   -- ---- another state
 

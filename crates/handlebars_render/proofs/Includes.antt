@@ -28,7 +28,7 @@ use Rattle.handlebars_meaning.specs.Steps.{Whole, Steps, Done, Do, Room, Get, Se
 use Rattle.handlebars_meaning.specs.Values.{HasView}
 use Rattle.handlebars_render.specs.View.{Answered, KeptIn, keeping, CarriesAhead, has_text, no_text, CarriesOn, CarriesOut, goes_on, is_over, GivesValue, Moment, PutsStep, RefusesValue, Tells, refusal, fault, no_memory, called}
 use Rattle.handlebars_render.proofs.Asked.{gives-ask}
-use Rattle.handlebars_render.proofs.Carry.{at, ends, memory_or, carries-elsewhere, carries-get, carries-run, carries-set, carries_on-change, carries_on-changed, carries_on-elsewhere, carries_on-get, carries_on-no_memory, carries_on-no_value, carries_on-over, carries_on-pieces, carries_on-refuse, carries_on-then, carries_on-value}
+use Rattle.handlebars_render.proofs.Carry.{at, ends, memory_or, carries-elsewhere, carries-get, carries-run, carries-set, carries_on-change, carries_on-changed, carries_on-elsewhere, carries_on-get, carries_on-line, carries_on-no_memory, carries_on-no_value, carries_on-over, carries_on-pieces, carries_on-refuse, carries_on-then, carries_on-value}
 
 -- a state, with what holds within an inclusion
 abbrev pub placed : Option Text → Kept → ℕ → State → State
@@ -198,20 +198,6 @@ module _ (p : Setting) (may : Error → Type 0) where
   then_change m f is (goes_on {u = u} c) = carries_on-then p may m (change f) (goes_on {u = u} c) (carries_on-change p may f is)
   then_change m f is (is_over c) = carries_on-over p may m (change f) (carries_on-elsewhere p may (is_over c))
 
-  -- the line around an inclusion
-  pub carries_on-line : (enter : LineState → LineState) (m : Prog (Unit {0})) {s mid next last : State} {h new : Held} {r : Answered}
-      → mid ≡ record s { line = enter s.line } → last ≡ record next { line = line_out s.line next.line }
-      → CarriesOn p m may (at mid h) r (at next new) → CarriesOn p (on_line enter m) may (at s h) r (at last new)
-  unfolding ◌>>=◌ ◌>>◌
-  carries_on-line enter m {s = s} {h = h} {new = new} starts behind_it (goes_on c) = goes_on (λ k r last d.
-      let back : Unit {0} → Steps = λ v. Get (λ z. Set (record z { line = line_out s.line z.line }) (k tt)) in
-      let behind = carries-get p may (carries-set p may (subst (λ (z : State). CarriesOut p (k tt) may (at z new) r last) behind_it d)) in
-      carries-get p may (carries-set p may (subst (λ (z : State). CarriesOut p (m back) may (at z h) r last) starts (c back r last behind))))
-  carries_on-line enter m {s = s} {last = last} {h = h} {new = new} starts behind_it (is_over {e = e} c) = is_over (λ k.
-      let back : Unit {0} → Steps = λ v. Get (λ z. Set (record z { line = line_out s.line z.line }) (k tt)) in
-      carries-get p may (carries-set p may (subst (λ (z : State). CarriesOut p (m back) may (at z h) (Err e) (at last new)) starts
-      (carries-elsewhere p may (c back)))))
-
   -- what is carried out under an indentation that is said otherwise
   pub under-same : (text : Option Text) (n : ℕ) (bs : List (Option Data)) {i j : Option Text} (m : Prog (Unit {0})) (s next : State)
       {h new : Held} {r : Answered} → i ≡ j
@@ -230,7 +216,7 @@ module _ (p : Setting) (may : Error → Type 0) where
   tag-includes site t v w {s = s} {mid = mid} {next = next} {last = last} {h = h} {new = new} {r = r} has same starts ends x =
       carries_on-value p may (ask (view_of (decorator_name t) (decorator_args t))) (λ y. on_line (line_at (decorator_marks t)) (include_tag site t y))
       (gives-ask p (view_of (decorator_name t) (decorator_args t)) v has)
-      (carries_on-line (line_at (decorator_marks t)) (include_tag site t v) {next = next} starts ends
+      (carries_on-line p may (line_at (decorator_marks t)) (include_tag site t v) {next = next} starts ends
       (carries_on-get p may (λ z. include site (shown_tag z.indent t v))
       (subst (λ (z : DecoratorView). CarriesOn p (include site z) may (at mid h) r (at next new)) (same ∙ ap (λ (z : State). shown_tag z.indent t v) (sym starts)) x)))
 
@@ -277,38 +263,38 @@ module _ (p : Setting) (may : Error → Type 0) where
         (subst (λ (z : State). CarriesOn p (perform (Whole site t)) may (at z h) r (at next new)) starts x)))))
 
     -- with a block rendered ahead
-    pub inclusion-ahead : (site : Site) (t b : Tree) (d : Data) {text : String Global} {c : Option Text}
+    pub inclusion-ahead : (site : Site) (there : TreeSite) (t b : Tree) (d : Data) {text : String Global} {c : Option Text}
         {s mid behind last : State} (began next : List Piece → State) {h between new : Held} {r : Answered}
         → s.inclusions < p.parts.limit → GivesValue p (base_value v.call.params) s d
         → mid ≡ called c (in_block_of d s)
         → CarriesAhead p (capture (perform (Whole (body_at site 0) b))) may (at mid h) (Ok text) (at behind between)
         → ((ps : List Piece) → began ps ≡ begun v.indent (Some ps) behind) → ((ps : List Piece) → last ≡ over s (next ps))
         → ((ps : List Piece) → string_bytes text ≡ join ps
-        → CarriesOn p (perform (Whole (included_at site t) t)) may (at (began ps) between) r (at (next ps) new))
-        → CarriesOn p (include_tree v (included_at site t) t (render_ahead site (body b))) may (at s h) r (at last new)
+        → CarriesOn p (perform (Whole there t)) may (at (began ps) between) r (at (next ps) new))
+        → CarriesOn p (include_tree v there t (render_ahead site (body b))) may (at s h) r (at last new)
     unfolding ◌>>=◌
-    inclusion-ahead site t b d {text = text} {c = c} {s = s} {behind = behind} began next {h = h} {between = between} lt valued starts ahead counts ends x =
+    inclusion-ahead site there t b d {text = text} {c = c} {s = s} {behind = behind} began next {h = h} {between = between} lt valued starts ahead counts ends x =
         let m : Prog (List Piece) = capture (perform (Whole (body_at site 0) b)) in
-        let f : List Piece → Prog (Unit {0}) = λ ps. rest (included_at site t) t s (Some ps) in
-        carries_on-room (state >>= inside (included_at site t) t (render_ahead site (body b))) lt
-        (carries_on-get p may (inside (included_at site t) t (render_ahead site (body b)))
+        let f : List Piece → Prog (Unit {0}) = λ ps. rest there t s (Some ps) in
+        carries_on-room (state >>= inside there t (render_ahead site (body b))) lt
+        (carries_on-get p may (inside there t (render_ahead site (body b)))
         (carries_on-then p may (enter_block v) (m >>= f) (enters d {u = tt} valued)
         (ahead-then m f (ahead-renamed (body_at site 0) b
         (subst (λ (z : State). CarriesAhead p m may (at z h) (Ok text) (at behind between)) starts ahead))
-        (λ ps is. rest-carries (included_at site t) t s (Some ps) (counts ps) (ends ps) (x ps is)))))
+        (λ ps is. rest-carries there t s (Some ps) (counts ps) (ends ps) (x ps is)))))
 
-    pub inclusion-ahead_over : (site : Site) (t b : Tree) (d : Data) {e : RenderError} {c : Option Text}
+    pub inclusion-ahead_over : (site : Site) (there : TreeSite) (t b : Tree) (d : Data) {e : RenderError} {c : Option Text}
         {s mid behind last : State} {h new : Held}
         → s.inclusions < p.parts.limit → GivesValue p (base_value v.call.params) s d
         → mid ≡ called c (in_block_of d s)
         → CarriesAhead p (capture (perform (Whole (body_at site 0) b))) may (at mid h) (Err e) (at behind new)
-        → CarriesOn p (include_tree v (included_at site t) t (render_ahead site (body b))) may (at s h) (Err e) (at last new)
+        → CarriesOn p (include_tree v there t (render_ahead site (body b))) may (at s h) (Err e) (at last new)
     unfolding ◌>>=◌
-    inclusion-ahead_over site t b d {e = e} {c = c} {s = s} {behind = behind} {h = h} {new = new} lt valued starts ahead =
+    inclusion-ahead_over site there t b d {e = e} {c = c} {s = s} {behind = behind} {h = h} {new = new} lt valued starts ahead =
         let m : Prog (List Piece) = capture (perform (Whole (body_at site 0) b)) in
-        let f : List Piece → Prog (Unit {0}) = λ ps. rest (included_at site t) t s (Some ps) in
-        carries_on-room (state >>= inside (included_at site t) t (render_ahead site (body b))) lt
-        (carries_on-get p may (inside (included_at site t) t (render_ahead site (body b)))
+        let f : List Piece → Prog (Unit {0}) = λ ps. rest there t s (Some ps) in
+        carries_on-room (state >>= inside there t (render_ahead site (body b))) lt
+        (carries_on-get p may (inside there t (render_ahead site (body b)))
         (carries_on-then p may (enter_block v) (m >>= f) (enters d {u = tt} valued)
         (carries_on-elsewhere p may (ahead-over m f (ahead-renamed (body_at site 0) b
         (subst (λ (z : State). CarriesAhead p m may (at z h) (Err e) (at behind new)) starts ahead))))))
@@ -401,18 +387,6 @@ module _ (p : Setting) (may : Error → Type 0) where
           → CarriesOn p (include_partial site v (own_block b)) may before r after
       own-some b t {before = before} {after = after} {r = r} is x =
           subst (λ (z : Body). CarriesOn p (include_partial site v (own_block z)) may before r after) is x
-
-      pub found-some : (t b : Tree) {before after : Moment} {r : Answered} → body b ≡ v.body
-          → CarriesOn p (include_tree v (included_at site t) t (render_ahead site (body b))) may before r after
-          → CarriesOn p (include_found site v t) may before r after
-      found-some t b {before = before} {after = after} {r = r} is x =
-          subst (λ (z : Body). CarriesOn p (include_tree v (included_at site t) t (render_ahead site z)) may before r after) is x
-
-      pub found-none : (t : Tree) {before after : Moment} {r : Answered} → no_body ≡ v.body
-          → CarriesOn p (include_tree v (included_at site t) t (return None)) may before r after
-          → CarriesOn p (include_found site v t) may before r after
-      found-none t {before = before} {after = after} {r = r} is x =
-          subst (λ (z : Body). CarriesOn p (include_tree v (included_at site t) t (render_ahead site z)) may before r after) is x
 
       -- ---- the kept text
 

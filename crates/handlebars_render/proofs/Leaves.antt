@@ -8,28 +8,29 @@ use Rattle.handlebars_base.specs.Reasons.{Refusal, helper_not_found, missing_var
 use Rattle.handlebars_base.specs.RenderRefusals.{plain_refusal, reason_in, refusal_of}
 use Rattle.handlebars_base.specs.Scoped.{missing}
 use Rattle.handlebars_base.specs.declared.error.render_error.RenderError.{RenderError}
-use Rattle.handlebars_template.specs.Tree.{Param, as_name, Call, call_name, call_args, is_value}
+use Rattle.handlebars_template.specs.Tree.{Param, as_name, Call, call_marks, call_name, call_args, is_value}
 use Rattle.handlebars_scope.specs.LineView.{line_of}
 use Rattle.handlebars_scope.specs.LineState.{LineState}
 use Rattle.handlebars_base.specs.Outputs.{Held}
 use Rattle.handlebars_helpers.specs.CallView.{CallView}
 use Rattle.handlebars_helpers.specs.Callee.{Target}
-use Rattle.handlebars_meaning.specs.Asks.{is_refused}
+use Rattle.handlebars_helpers.specs.Choice.{Choice}
+use Rattle.handlebars_meaning.specs.Asks.{Asks, is_refused}
 use Rattle.handlebars_meaning.specs.CarryOut.{helper_call}
-use Rattle.handlebars_meaning.specs.Means.{render_chosen, render_helped, render_call, render_hook, render_found, render_lone_as, render_lone, render_expression}
-use Rattle.handlebars_meaning.specs.Questions.{value_of, view_of, helper_of, called_as, hook_for, helper_or_refusal}
-use Rattle.handlebars_meaning.specs.Runs.{Runs, Refused}
+use Rattle.handlebars_meaning.specs.Means.{line_in, render_chosen, render_helped, render_call, render_hook, render_found, render_lone_as, render_lone, render_expression}
+use Rattle.handlebars_meaning.specs.Questions.{HasChoice, value_of, view_of, helper_of, called_as, hook_for, helper_or_refusal}
+use Rattle.handlebars_meaning.specs.Runs.{Runs, Refused, asked, got, refused, set}
 use Rattle.handlebars_meaning.specs.Sites.{Site}
 use Rattle.handlebars_meaning.specs.State.{Setting, State, hook, helper_for, helper_named, registered_target}
-use Rattle.handlebars_meaning.specs.Steps.{Steps, Prog, ask, ◌>>=◌}
+use Rattle.handlebars_meaning.specs.Steps.{Steps, Prog, ask, ◌>>=◌, ◌>>◌}
 use Rattle.handlebars_meaning.specs.Values.{HasName, HasValue, HasView}
 use Rattle.handlebars_render.specs.Boxed.{answer_of, error_of}
 use Rattle.handlebars_render.specs.declared.boxed.BoxedError.{BoxedError}
-use Rattle.handlebars_render.specs.Next.{ComesTo, IsCall, Leaves, Settles, Takes, render_next}
+use Rattle.handlebars_render.specs.Next.{ComesTo, IsCall, Leaves, LeavesCall, Settles}
 use Rattle.handlebars_render.specs.View.{Moment, Answered, CarriesOn, CarriesOut, GivesValue, RefusesValue, goes_on, is_over, name_alone, with_line}
 use Rattle.handlebars_render.specs.declared.next.Next.{Next}
-use Rattle.handlebars_render.specs.declared.next.ToCall.{ToCall}
-use Rattle.handlebars_render.specs.declared.next.Next.TheVariants.{Done, Branch, Call as Calls}
+use Rattle.handlebars_render.specs.declared.next.Next.TheVariants.{Done, Branch, Call as Calls, Hook as Hooks}
+use Rattle.handlebars_render.proofs.BoundCalls.{choice-line}
 use Rattle.handlebars_render.proofs.Asked.{gives-ask, refuses-ask, refuses-bind}
 use Rattle.handlebars_render.proofs.Carry.{at, carries-no_value}
 use Rattle.handlebars_render.proofs.LoneValues.{view-alone}
@@ -53,10 +54,10 @@ module _ (p : Setting) where
   leaves-trans : (m n q : Prog (Unit {0})) {s : State} → Leaves p m s n → Leaves p n s q → Leaves p m s q
   leaves-trans m n q x y k ps o r = x k ps o (y k ps o r)
 
-  takes-leaves : (site : Site) (block : Bool) (c : Call) (m n : Prog (Unit {0})) {s : State} {b : Bool}
-      → Leaves p m s n → Takes p site block c n s b → Takes p site block c m s b
-  takes-leaves site block c m n leaves a = record {
-    kind = a.kind;
+  call-leaves : (site : Site) (block : Bool) (c : Call) (m n : Prog (Unit {0})) {s : State} {bracket : Bool} {chosen : Asks Choice}
+      → Leaves p m s n → LeavesCall p site block c n s bracket chosen → LeavesCall p site block c m s bracket chosen
+  call-leaves site block c m n leaves a = record {
+    target = a.target;
     view = a.view;
     leaves = λ k ps o r. leaves k ps o (a.leaves k ps o r);
     chooses = a.chooses;
@@ -227,8 +228,9 @@ module _ (p : Setting) (may : Error → Type 0) where
     pub comes_to-leaves : (m n : Prog (Unit {0})) (s : State) (h new : Held) (r : Result Next RenderError)
         → Leaves p m s n → ComesTo p site block c n may (at s h) r new → ComesTo p site block c m may (at s h) r new
     comes_to-leaves m n s h new (Ok (Done line)) leaves a = leaves-carries_on m n leaves a
-    comes_to-leaves m n s h new (Ok (Branch b)) leaves a = (takes-leaves p site block c m n leaves a.0, a.1)
-    comes_to-leaves m n s h new (Ok (Calls x)) leaves a = ((λ k ps o r. leaves k ps o (a.0 k ps o r)), a.1)
+    comes_to-leaves m n s h new (Ok (Branch b)) leaves a = (call-leaves p site block c m n leaves a.0, a.1)
+    comes_to-leaves m n s h new (Ok (Calls x)) leaves a = (call-leaves p site block c m n leaves a.0, a.1)
+    comes_to-leaves m n s h new (Ok (Hooks x)) leaves a = (call-leaves p site block c m n leaves a.0, a.1)
     comes_to-leaves m n s h new (Err e) leaves a = leaves-carries_on m n leaves a
 
     -- what settles with nothing written
@@ -240,6 +242,7 @@ module _ (p : Setting) (may : Error → Type 0) where
         (carries_on-gives m a.0))
     comes_to-settles m s h new (Ok (Branch b)) same a = (a, same)
     comes_to-settles m s h new (Ok (Calls x)) same a = (a, same)
+    comes_to-settles m s h new (Ok (Hooks x)) same a = (a, same)
     comes_to-settles m s h new (Err e) same a =
         subst (λ (z : Held). CarriesOn p m may (at s h) (Err e) (at s z)) (sym same) (carries_on-refuses m e a)
 
@@ -250,19 +253,28 @@ module _ (p : Setting) (may : Error → Type 0) where
     comes_to-no_memory m s h (Err e) is = carries_on-refuses m (error_of e) (λ other. absurd (other is))
 
 module _ (p : Setting) (site : Site) (block : Bool) (c : Call) where
-  -- a call that is in its box
-  pub settles-call : (m : Prog (Unit {0})) (x : ToCall) (r : Result Next RenderError) {s : State} → IsCall x r
-      → Leaves p m s (render_next site block c x) → Settles p site block c m s r
-  settles-call m x (Ok (Done line)) is leaves = absurd is
-  settles-call m x (Ok (Branch b)) is leaves = absurd is
-  settles-call m x (Ok (Calls y)) {s = s} is leaves =
-      subst (λ (z : ToCall). Leaves p m s (render_next site block c z)) (sym is) leaves
-  settles-call m x (Err e) is leaves = λ other. absurd (other is)
+  -- a helper whose choice is refused, in the bracket of a call
+  refuses-helped : (k : Target) (v : CallView) {s : State} {r : Refusal} → HasChoice p s k (helper_call block c v) (refuses r)
+      → RefusesValue p (render_helped site block c k v) s r
+  unfolding ◌>>=◌ ◌>>◌
+  refuses-helped k v {s = s} {r = r} has next =
+      got (set (asked (refuses r) (choice-line p s (line_in (call_marks c).indent_before_write s.line) k (helper_call block c v) (refuses r) has) refused))
+
+  -- a call that was bound
+  pub settles-call : (m : Prog (Unit {0})) (k : Target) (v : CallView) (r : Result Next RenderError) {s : State}
+      → IsCall p s block k v r → Leaves p m s (render_helped site block c k v) → Settles p site block c m s r
+  settles-call m k v (Ok (Done line)) is leaves = absurd is
+  settles-call m k v (Ok (Branch b)) is leaves = absurd is
+  settles-call m k v (Ok (Calls b)) is leaves = record { target = k; view = v; leaves = leaves; chooses = is c }
+  settles-call m k v (Ok (Hooks b)) is leaves = absurd is
+  settles-call m k v (Err e) is leaves = λ other.
+      refuses-leaves p m (render_helped site block c k v) leaves (refuses-helped k v (is other c))
 
   -- what leaves another program settles as that one does
   pub settles-leaves : (m n : Prog (Unit {0})) (r : Result Next RenderError) {s : State} → Leaves p m s n
       → Settles p site block c n s r → Settles p site block c m s r
   settles-leaves m n (Ok (Done line)) leaves a = ((λ k ps o r. leaves k ps o (a.0 k ps o r)), a.1)
-  settles-leaves m n (Ok (Branch b)) leaves a = takes-leaves p site block c m n leaves a
-  settles-leaves m n (Ok (Calls x)) leaves a = λ k ps o r. leaves k ps o (a k ps o r)
+  settles-leaves m n (Ok (Branch b)) leaves a = call-leaves p site block c m n leaves a
+  settles-leaves m n (Ok (Calls x)) leaves a = call-leaves p site block c m n leaves a
+  settles-leaves m n (Ok (Hooks x)) leaves a = call-leaves p site block c m n leaves a
   settles-leaves m n (Err e) leaves a = λ other. refuses-leaves p m n leaves (a other)

@@ -13,7 +13,8 @@ mod Ordered
 mod Values
 mod OwnSteps
 mod Shows
-mod LocalCalls
+mod BoundCalls
+mod Leads
 mod Changed
 mod Turns
 pub mod Silent

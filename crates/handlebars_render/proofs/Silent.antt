@@ -22,7 +22,7 @@ use Rattle.std.specs.Result.{IsErrAnd}
 use Rattle.handlebars_render.specs.Boxed.{IsHandedOn, answer_of, error_of}
 use Rattle.handlebars_render.specs.declared.boxed.BoxedError.{BoxedError}
 use Rattle.handlebars_render.specs.Silent.{Does, Evals, decorate_as, decorate_tag}
-use Rattle.handlebars_render.specs.View.{Answered, CarriesOut, ended}
+use Rattle.handlebars_render.specs.View.{Answered, CarriesOn, goes_on, is_over}
 use Rattle.handlebars_render.proofs.Asked.{refuses-ask, refuses-bind}
 use Rattle.handlebars_render.proofs.Carry.{at, carries-no_value, handed-refusal, refuses-handed}
 
@@ -119,16 +119,16 @@ module _ (p : Setting) where
       (subst (λ (ds : List Deed). Runs p (do_deeds b ds k) now ps o) (sym is) r)
 
 -- what is done is carried out, and the output holds what it held
-pub carries-does : (p : Setting) (may : Error → Type 0) (m : Prog (Unit {0})) {s next : State} {h : Held} (r : Answered)
-    → Does p m s r next → CarriesOut p (run m) may (at s h) r (at next h)
-carries-does p may m {next = next} {h = h} (Ok u) d = record {
-  pieces = [];
-  outcome = Ended next;
-  runs = d (λ v. Done) [] (Ended next) done;
-  text = sym (append-nil h.text);
-  tells = ended refl;
-}
-carries-does p may m (Err e) d = carries-no_value p may m (λ v. Done) e d
+pub carries_on-does : (p : Setting) (may : Error → Type 0) (m : Prog (Unit {0})) {s next : State} {h : Held} (r : Answered)
+    → Does p m s r next → CarriesOn p m may (at s h) r (at next h)
+carries_on-does p may m (Ok u) d = goes_on (λ k r last c. record {
+  pieces = c.pieces;
+  outcome = c.outcome;
+  runs = d k c.pieces c.outcome c.runs;
+  text = c.text;
+  tells = c.tells;
+})
+carries_on-does p may m (Err e) d = is_over (λ k. carries-no_value p may m k e d)
 
 -- an element alone, which leaves its refusals as they are
 pub evals-does : (p : Setting) (site : Site) (x : Element) (s next : State) (r : Answered)

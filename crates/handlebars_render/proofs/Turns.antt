@@ -37,13 +37,6 @@ pub binding-seen : (h : HelperTemplate) (o : Option (Bor BlockParam))
 binding-seen h None is = ap block_param_view is ∙ sym (call_binding-view h)
 binding-seen h (Some b) is = ap block_param_view is ∙ sym (call_binding-view h)
 
--- a block of `with` that is entered, by what its parts stand for
-pub entered-with : {s mid : State} {f : Frame} (base : Base) {b c : Binding} {vs ws : Text → Option Data}
-    → mid ≡ entered f s → f ≡ with_block base b vs → b ≡ c → vs ≡ ws → mid ≡ entered (with_block base c ws) s
-entered-with {s = s} base {c = c} {vs = vs} is block binding variables =
-    is ∙ ap (λ (f : Frame). entered f s)
-    (block ∙ ap (λ (z : Binding). with_block base z vs) binding ∙ ap (with_block base c) variables)
-
 -- ---- where the nearest block stands
 
 stands-turned : (path : Option (List Text)) (b : Binding) (t : Turn) (f : Frame)
@@ -147,14 +140,3 @@ module _ (p : Setting) (may : Error → Type 0) where
       → CarriesOn p (take_turn site i h path t) may (at s held) r after
   carries_on-turn site i h path t is c =
       carries_on-changed p may (with_nearest (turned path h.binding t)) (render_body site i h) is c
-
-  -- the block of `with`
-  pub carries_on-with : (site : Site) (h : HelperView) (base : Base)
-      {s mid next last : State} {held new : Held} {r : Answered}
-      → mid ≡ entered (with_block base h.binding (nearest_variables s.blocks)) s → last ≡ left next
-      → CarriesOn p (render_body site 0 h) may (at mid held) r (at next new)
-      → CarriesOn p (render_with site h base) may (at s held) r (at last new)
-  carries_on-with site h base {s = s} starts ends c =
-      carries_on-get p may (λ z. in_block (with_block base h.binding (nearest_variables z.blocks)) (render_body site 0 h))
-      (carries_on-in_block p may (with_block base h.binding (nearest_variables s.blocks)) (render_body site 0 h)
-      starts ends c)

@@ -1,6 +1,8 @@
 pub mod View
 pub mod Boxed
 pub mod Targets
+pub mod Judgement
+pub mod Chosen
 pub mod Bound
 pub mod Asking
 pub mod Shows

@@ -41,14 +41,14 @@ use Rattle.handlebars_meaning.specs.Values.{as_read}
 use Rattle.handlebars_meaning.specs.Runs.{Fault, plain_fault, Outcome, Ended, Refused, Faulted, NoMemory, Runs}
 use Rattle.handlebars_render.specs.declared.context.RenderContext.{RenderContext}
 use Rattle.handlebars_render.specs.declared.called.Called.{Called}
-use Rattle.handlebars_render.specs.declared.setting.Setting as declared
+use Rattle.handlebars_render.specs.declared.environment.Environment as declared
 use Rattle.handlebars_render.specs.declared.sink.Sink.{Sink}
 use Rattle.handlebars_render.specs.declared.sink.Sink.TheVariants.{Out, Ahead}
 
 -- ---- what a run reads and changes
 
 -- the setting of a run, as the code of a rendering has it, with what it sees of a registry
-abbrev pub setting_in : {P : Type 0} → (P → Parts) → declared.Setting P → Setting
+abbrev pub setting_in : {P : Type 0} → (P → Parts) → declared.Environment P → Setting
 setting_in parts x = record { given = data_of x.given.now; parts = parts x.parts.now }
 
 -- what a call or another tag shows
@@ -76,7 +76,7 @@ pub record Within : Type 0 where
   pub indent : Option Text
   pub bases : List (Option Data)
 
-abbrev pub within : {P : Type 0} → declared.Setting P → Within
+abbrev pub within : {P : Type 0} → declared.Environment P → Within
 within x = record {
   text = option_map (λ t. t.now) x.kept;
   inclusions = x.inclusions;

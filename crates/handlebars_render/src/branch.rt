@@ -16,8 +16,8 @@ ghost use Rattle.handlebars_render.specs.View.{setting_in, state_with, KeptIn, w
 
 use crate::boxed::BoxedError;
 use crate::context::RenderContext;
+use crate::environment::Environment;
 use crate::registered::{Registered, Target};
-use crate::setting::Setting;
 use handlebars_base::json::path::Path;
 use handlebars_base::json::value::JsonTruthy;
 use handlebars_helpers::built_in::BuiltIn;
@@ -66,16 +66,16 @@ fn lone_path(helper: &HelperTemplate) -> Option<&Path>
 
 /// Whether what a path leads to counts as true; nothing counts as null.
 pub fn condition<P: Registered>(
-    setting: &Setting<P>,
+    environment: &Environment<P>,
     path: &Path,
     rc: &RenderContext,
 ) -> Result<bool, BoxedError>
-    ensures { (kept : KeptIn (within setting.now)) → Judges (setting_in P.parts setting.now) (state_with kept rc.now) (reference_of path.now) (answer_of result) }
+    ensures { (kept : KeptIn (within environment.now)) → Judges (setting_in P.parts environment.now) (state_with kept rc.now) (reference_of path.now) (answer_of result) }
 {
-    match rc.reach(setting.given.data(), path, setting.bases) {
+    match rc.reach(environment.given.data(), path, environment.bases) {
         Reached::Value(value) => Ok(value.is_truthy(false)),
         Reached::Nothing => Ok(false),
-        Reached::NoIndex(name) => Err(not_an_index(setting.alloc, name)),
+        Reached::NoIndex(name) => Err(not_an_index(environment.alloc, name)),
     }
 }
 

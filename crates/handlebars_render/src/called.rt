@@ -11,22 +11,22 @@ ghost use Rattle.handlebars_base.specs.Scoped.{found_of, is_constant, value};
 ghost use Rattle.handlebars_template.specs.Tree.{call_binding, decorator_args, decorator_body, decorator_name};
 ghost use Rattle.handlebars_template.specs.TreeView.{call_view, decorator_view};
 ghost use Rattle.handlebars_helpers.specs.DecoratorsView.{tag_view};
-ghost use Rattle.handlebars_helpers.specs.Callee.{built, calls_local, own};
+ghost use Rattle.handlebars_helpers.specs.Callee.{built};
 ghost use Rattle.handlebars_helpers.specs.View.{choice_of, helper_view, kind_of};
 ghost use Rattle.handlebars_meaning.specs.CarryOut.{helper_call};
 ghost use Rattle.handlebars_meaning.specs.Inclusion.{joined_indent};
 ghost use Rattle.handlebars_meaning.specs.Means.{shown_tag};
 ghost use Rattle.handlebars_meaning.specs.State.{State, helper_for};
 ghost use Rattle.handlebars_meaning.specs.Values.{HasHelpedValue, HasRegisteredValue, HasView, choice_value, inner_call};
-ghost use Rattle.handlebars_render.specs.Bound.{bound_of};
+ghost use Rattle.handlebars_render.specs.Bound.{callee_in};
 ghost use Rattle.handlebars_render.specs.Targets.{target_in};
 ghost use Rattle.handlebars_render.specs.View.{setting_in, called_view, name_alone, Yields, state_with, KeptIn, within};
 
+use crate::bound::{BoundCall, asked_name, bind};
 use crate::context::RenderContext;
-use crate::local::{BoundCall, bind_call};
+use crate::environment::Environment;
 use crate::own::own_value;
-use crate::registered::{Registered, Target, helper_for, hook};
-use crate::setting::Setting;
+use crate::registered::{Registered, Target, helper_for};
 use crate::value::{expand_as_name, pairs_values, params_values};
 use handlebars_base::error::{RenderError, RenderErrorReason};
 use handlebars_base::json::value::{Json, PathAndJson, ScopedJson};
@@ -182,137 +182,96 @@ fn behind(alloc: Global, outer: &str, own: Option<&String>) -> Result<String, Al
 
 /// The view of a decorator or an inclusion.
 pub fn view_of_tag<'a, P: Registered>(
-    setting: &Setting<'_, 'a, P>,
+    environment: &Environment<'_, 'a, P>,
     rc: &RenderContext,
     tag: &'a DecoratorTemplate,
 ) -> Result<Called<'a>, RenderError>
-    ensures { (kept : KeptIn (within setting.now)) → Yields (HasView (setting_in P.parts setting.now) (state_with kept rc.now) (decorator_name (decorator_view tag.now))
+    ensures { (kept : KeptIn (within environment.now)) → Yields (HasView (setting_in P.parts environment.now) (state_with kept rc.now) (decorator_name (decorator_view tag.now))
         (decorator_args (decorator_view tag.now))) called_view result }
 {
-    let name = expand_as_name(setting, rc, &tag.name)?;
-    let params = params_values(setting, rc, &tag.params)?;
-    let hash = pairs_values(setting, rc, &tag.hash)?;
+    let name = expand_as_name(environment, rc, &tag.name)?;
+    let params = params_values(environment, rc, &tag.params)?;
+    let hash = pairs_values(environment, rc, &tag.hash)?;
     Ok(Called { name, params, hash })
 }
 
 /// The value of a call in parentheses: the one that its helper chooses, which is copied; anything
 /// else that it chooses writes nothing there. A line of `log` goes to the logger.
 pub fn helped_value<'a, 'c, P: Registered>(
-    setting: &Setting<P>,
+    environment: &Environment<P>,
     rc: &RenderContext,
     helper: &'c HelperTemplate,
     call: Called<'c>,
 ) -> Result<ScopedJson<'a>, RenderError>
-    ensures value { (kept : KeptIn (within setting.now)) → Yields (HasHelpedValue (setting_in P.parts setting.now) (state_with kept rc.now)
-        (helper_for (P.parts setting.now.parts.now) (state_with kept rc.now) false (called_view call.entry).name)
+    ensures value { (kept : KeptIn (within environment.now)) → Yields (HasHelpedValue (setting_in P.parts environment.now) (state_with kept rc.now)
+        (helper_for (P.parts environment.now.parts.now) (state_with kept rc.now) false (called_view call.entry).name)
         (inner_call (call_binding (call_view helper.now)) (called_view call.entry))) found_of result }
     ensures constant { IfOk result (λ found. is_constant found ≡ false) }
 {
-    match helper_for(setting.parts, rc, false, call.name.as_str()) {
-        Some(target) => target_value(setting, rc, target, helper, call),
-        None => Err(helper_not_found(setting.alloc, call.name.as_str())),
+    match helper_for(environment.parts, rc, false, call.name.as_str()) {
+        Some(target) => target_value(environment, rc, target, helper, call),
+        None => Err(helper_not_found(environment.alloc, call.name.as_str())),
     }
 }
 
-// The value of a call that calls this.
+// The value of a call of this target.
 fn target_value<'a, 'c, P: Registered>(
-    setting: &Setting<P>,
+    environment: &Environment<P>,
     rc: &RenderContext,
     target: Target,
     helper: &'c HelperTemplate,
     call: Called<'c>,
 ) -> Result<ScopedJson<'a>, RenderError>
-    ensures value { (kept : KeptIn (within setting.now)) → Yields (HasHelpedValue (setting_in P.parts setting.now) (state_with kept rc.now)
+    ensures value { (kept : KeptIn (within environment.now)) → Yields (HasHelpedValue (setting_in P.parts environment.now) (state_with kept rc.now)
         (Some (target_in false (called_view call.entry).name target))
         (inner_call (call_binding (call_view helper.now)) (called_view call.entry))) found_of result }
     ensures constant { IfOk result (λ found. is_constant found ≡ false) }
 {
-    match target {
-        Target::Built(kind) => built_value(setting, kind, &call.in_parentheses(helper)),
-        Target::Named => named_value(setting, rc, &call.in_parentheses(helper)),
-        Target::Hooked => own_value(setting, rc, hook(false), &call.in_parentheses(helper)),
-        Target::Local => local_value(setting, rc, helper, call),
-    }
-}
-
-// The value of a call of the helper of one's own under its name.
-fn named_value<'a, P: Registered>(
-    setting: &Setting<P>,
-    rc: &RenderContext,
-    view: &Helper,
-) -> Result<ScopedJson<'a>, RenderError>
-    ensures value { (kept : KeptIn (within setting.now)) → Yields (HasRegisteredValue (setting_in P.parts setting.now) (state_with kept rc.now)
-        (own (helper_view view.now).call.name) (helper_view view.now)) found_of result }
-    ensures constant { IfOk result (λ found. is_constant found ≡ false) }
-{
-    own_value(setting, rc, view.name(), view)
-}
-
-// The value of a call of the local helper of its name.
-fn local_value<'a, 'c, P: Registered>(
-    setting: &Setting<P>,
-    rc: &RenderContext,
-    helper: &'c HelperTemplate,
-    call: Called<'c>,
-) -> Result<ScopedJson<'a>, RenderError>
-    ensures value { (kept : KeptIn (within setting.now)) → Yields (HasHelpedValue (setting_in P.parts setting.now) (state_with kept rc.now)
-        (Some (calls_local (called_view call.entry).name))
-        (inner_call (call_binding (call_view helper.now)) (called_view call.entry))) found_of result }
-    ensures constant { IfOk result (λ found. is_constant found ≡ false) }
-{
-    match bind_call(setting, rc, call) {
-        Ok(bound) => bound_value(setting, rc, helper, bound),
+    match bind(environment, rc, target, false, call) {
+        Ok(bound) => bound_value(environment, rc, helper, bound),
         Err(e) => Err(e),
     }
 }
 
-// The value of what a local helper goes to.
+// The value of what a call goes to.
 fn bound_value<'a, 'c, P: Registered>(
-    setting: &Setting<P>,
+    environment: &Environment<P>,
     rc: &RenderContext,
     helper: &'c HelperTemplate,
     bound: BoundCall<'c>,
 ) -> Result<ScopedJson<'a>, RenderError>
-    ensures value { (kept : KeptIn (within setting.now)) → Yields (HasRegisteredValue (setting_in P.parts setting.now) (state_with kept rc.now)
-        (bound_of bound.entry).0 (inner_call (call_binding (call_view helper.now)) (bound_of bound.entry).1))
+    ensures value { (kept : KeptIn (within environment.now)) → Yields (HasRegisteredValue (setting_in P.parts environment.now) (state_with kept rc.now)
+        (callee_in bound.entry) (inner_call (call_binding (call_view helper.now)) (called_view bound.entry.call)))
         found_of result }
     ensures constant { IfOk result (λ found. is_constant found ≡ false) }
 {
-    let BoundCall {
-        callee,
-        registered,
-        call,
-    } = bound;
+    let (callee, asked_by, call) = bound.into_parts();
+    let view = call.in_parentheses(helper);
     match callee {
-        Callee::Built(kind) => built_value(setting, kind, &call.in_parentheses(helper)),
-        Callee::Own => own_value(
-            setting,
-            rc,
-            registered.as_str(),
-            &call.in_parentheses(helper),
-        ),
+        Callee::Built(kind) => built_value(environment, kind, &view),
+        Callee::Own => own_value(environment, rc, asked_name(&asked_by, &view), &view),
     }
 }
 
 // The value of a call of a built-in helper.
 fn built_value<'a, P: Registered>(
-    setting: &Setting<P>,
+    environment: &Environment<P>,
     kind: BuiltIn,
     view: &Helper,
 ) -> Result<ScopedJson<'a>, RenderError>
     ensures value { (s : State) → Yields
-        (HasRegisteredValue (setting_in P.parts setting.now) s (built (kind_of kind)) (helper_view view.now)) found_of result }
+        (HasRegisteredValue (setting_in P.parts environment.now) s (built (kind_of kind)) (helper_view view.now)) found_of result }
     ensures constant { IfOk result (λ found. is_constant found ≡ false) }
 {
-    match choose(setting.alloc, setting.parts.strict(), kind, view) {
-        Ok(choice) => chosen_value(setting, &choice),
+    match choose(environment.alloc, environment.parts.strict(), kind, view) {
+        Ok(choice) => chosen_value(environment, &choice),
         Err(e) => Err(e),
     }
 }
 
 // The value that is chosen, or the text that another choice writes in parentheses.
 fn chosen_value<'a, P: Registered>(
-    setting: &Setting<P>,
+    environment: &Environment<P>,
     choice: &Choice,
 ) -> Result<ScopedJson<'a>, RenderError>
     ensures value { IfOk result (λ found. found_of found ≡ choice_value (choice_of choice.now)) }
@@ -325,15 +284,15 @@ fn chosen_value<'a, P: Registered>(
         Choice::Count(count) => Ok(ScopedJson::Derived(Json::Number(Number::from(*count)))),
         Choice::Word(word) => Ok(ScopedJson::Derived(Json::Bool(*word))),
         Choice::Line(level, text) => {
-            setting.parts.log(*level, text.as_str());
-            Ok(empty_text(setting.alloc))
+            environment.parts.log(*level, text.as_str());
+            Ok(empty_text(environment.alloc))
         }
-        Choice::Body => Ok(empty_text(setting.alloc)),
-        Choice::Inverse => Ok(empty_text(setting.alloc)),
-        Choice::Block(_) => Ok(empty_text(setting.alloc)),
-        Choice::Items(_, _) => Ok(empty_text(setting.alloc)),
-        Choice::Members(_, _) => Ok(empty_text(setting.alloc)),
-        Choice::Nothing => Ok(empty_text(setting.alloc)),
+        Choice::Body => Ok(empty_text(environment.alloc)),
+        Choice::Inverse => Ok(empty_text(environment.alloc)),
+        Choice::Block(_) => Ok(empty_text(environment.alloc)),
+        Choice::Items(_, _) => Ok(empty_text(environment.alloc)),
+        Choice::Members(_, _) => Ok(empty_text(environment.alloc)),
+        Choice::Nothing => Ok(empty_text(environment.alloc)),
     }
 }
 

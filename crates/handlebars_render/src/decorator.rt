@@ -15,8 +15,8 @@ ghost use Rattle.handlebars_render.specs.View.{IsKept, setting_in, state_with, K
 use crate::boxed::BoxedError;
 use crate::called::view_of_tag;
 use crate::context::RenderContext;
+use crate::environment::Environment;
 use crate::registered::Registered;
-use crate::setting::Setting;
 use handlebars_base::error::{RenderError, RenderErrorReason};
 use handlebars_helpers::decorators::view::Decorator;
 use handlebars_helpers::decorators::{DecoratorKind, DecoratorStep, inline};
@@ -27,89 +27,89 @@ use std::alloc::{AllocError, Global};
 /// Does what the decorator of a tag does. Nothing is written.
 pub fn render_decorator<'a, P: Registered>(
     tag: &'a DecoratorTemplate,
-    setting: &Setting<'_, 'a, P>,
+    environment: &Environment<'_, 'a, P>,
     rc: &mut RenderContext,
 ) -> Result<(), BoxedError>
-    ensures does { (kept : KeptIn (within setting.now)) → Does (setting_in P.parts setting.now) (render_decorator (decorator_view tag.now))
+    ensures does { (kept : KeptIn (within environment.now)) → Does (setting_in P.parts environment.now) (render_decorator (decorator_view tag.now))
         (state_with kept rc.old) (answer_of result) (state_with kept rc.new) }
     ensures kept { IsKept rc.old rc.new }
 {
-    match view_of_tag(setting, rc, tag) {
+    match view_of_tag(environment, rc, tag) {
         Ok(call) => {
-            let view = call.of_tag(setting.alloc, setting.indent, tag)?;
-            decorate(&view, setting, rc)
+            let view = call.of_tag(environment.alloc, environment.indent, tag)?;
+            decorate(&view, environment, rc)
         }
-        Err(e) => Err(BoxedError::new(setting.alloc, e)),
+        Err(e) => Err(BoxedError::new(environment.alloc, e)),
     }
 }
 
 // Asks the decorator of a tag's name for its deeds, and does them.
 fn decorate<P: Registered>(
     tag: &Decorator,
-    setting: &Setting<P>,
+    environment: &Environment<P>,
     rc: &mut RenderContext,
 ) -> Result<(), BoxedError>
-    ensures does { (kept : KeptIn (within setting.now)) → Does (setting_in P.parts setting.now) (decorate_as (tag_view tag.now))
+    ensures does { (kept : KeptIn (within environment.now)) → Does (setting_in P.parts environment.now) (decorate_as (tag_view tag.now))
         (state_with kept rc.old) (answer_of result) (state_with kept rc.new) }
     ensures kept { IsKept rc.old rc.new }
 {
-    match setting.parts.decorator(tag.name()) {
-        Some(DecoratorKind::Inline) => decorate_inline(tag, setting, rc),
-        Some(DecoratorKind::Own) => decorate_own(tag, setting, rc),
-        None => Err(unknown_decorator(setting.alloc, tag.name())),
+    match environment.parts.decorator(tag.name()) {
+        Some(DecoratorKind::Inline) => decorate_inline(tag, environment, rc),
+        Some(DecoratorKind::Own) => decorate_own(tag, environment, rc),
+        None => Err(unknown_decorator(environment.alloc, tag.name())),
     }
 }
 
 // `inline`, which has one deed: nothing is made for it.
 fn decorate_inline<P: Registered>(
     tag: &Decorator,
-    setting: &Setting<P>,
+    environment: &Environment<P>,
     rc: &mut RenderContext,
 ) -> Result<(), BoxedError>
-    ensures does { (kept : KeptIn (within setting.now)) → Does (setting_in P.parts setting.now) (decorate_by kind_inline (tag_view tag.now))
+    ensures does { (kept : KeptIn (within environment.now)) → Does (setting_in P.parts environment.now) (decorate_by kind_inline (tag_view tag.now))
         (state_with kept rc.old) (answer_of result) (state_with kept rc.new) }
     ensures kept { IsKept rc.old rc.new }
 {
     match inline(tag) {
-        Ok(name) => set_partial(tag, setting, name, rc),
-        Err(e) => Err(BoxedError::new(setting.alloc, e)),
+        Ok(name) => set_partial(tag, environment, name, rc),
+        Err(e) => Err(BoxedError::new(environment.alloc, e)),
     }
 }
 
 // The decorator of one's own under the name of a tag.
 fn decorate_own<P: Registered>(
     tag: &Decorator,
-    setting: &Setting<P>,
+    environment: &Environment<P>,
     rc: &mut RenderContext,
 ) -> Result<(), BoxedError>
-    ensures does { (kept : KeptIn (within setting.now)) → Does (setting_in P.parts setting.now)
+    ensures does { (kept : KeptIn (within environment.now)) → Does (setting_in P.parts environment.now)
         (decorate_by (kind_own (tag_view tag.now).call.name) (tag_view tag.now))
         (state_with kept rc.old) (answer_of result) (state_with kept rc.new) }
     ensures kept { IsKept rc.old rc.new }
 {
-    match setting
+    match environment
         .parts
-        .deeds_of(tag.name(), tag, setting.given, rc.context())
+        .deeds_of(tag.name(), tag, environment.given, rc.context())
     {
-        Ok(deeds) => do_deeds(tag, setting, deeds, rc),
-        Err(e) => Err(BoxedError::new(setting.alloc, e)),
+        Ok(deeds) => do_deeds(tag, environment, deeds, rc),
+        Err(e) => Err(BoxedError::new(environment.alloc, e)),
     }
 }
 
 // The deeds, in order.
 fn do_deeds<P: Registered>(
     tag: &Decorator,
-    setting: &Setting<P>,
+    environment: &Environment<P>,
     deeds: Vec<DecoratorStep>,
     rc: &mut RenderContext,
 ) -> Result<(), BoxedError>
-    ensures does { (kept : KeptIn (within setting.now)) → Does (setting_in P.parts setting.now)
+    ensures does { (kept : KeptIn (within environment.now)) → Does (setting_in P.parts environment.now)
         (do_deeds (tag_view tag.now).body (map deed_of deeds.items))
         (state_with kept rc.old) (answer_of result) (state_with kept rc.new) }
     ensures kept { IsKept rc.old rc.new }
 {
     'deeds: for deed in deeds {
-        if let Err(e) = do_deed(tag, setting, deed, rc) {
+        if let Err(e) = do_deed(tag, environment, deed, rc) {
             return Err(e);
         }
     }
@@ -118,11 +118,11 @@ fn do_deeds<P: Registered>(
 
 fn do_deed<P: Registered>(
     tag: &Decorator,
-    setting: &Setting<P>,
+    environment: &Environment<P>,
     deed: DecoratorStep,
     rc: &mut RenderContext,
 ) -> Result<(), BoxedError>
-    ensures does { (kept : KeptIn (within setting.now)) → Does (setting_in P.parts setting.now) (do_deed (tag_view tag.now).body (deed_of deed))
+    ensures does { (kept : KeptIn (within environment.now)) → Does (setting_in P.parts environment.now) (do_deed (tag_view tag.now).body (deed_of deed))
         (state_with kept rc.old) (answer_of result) (state_with kept rc.new) }
     ensures kept { IsKept rc.old rc.new }
 {
@@ -149,18 +149,18 @@ fn do_deed<P: Registered>(
             rc.unregister_local_helper(local.as_str());
             Ok(())
         }
-        DecoratorStep::SetLocalPartial(name) => set_partial(tag, setting, name.as_str(), rc),
+        DecoratorStep::SetLocalPartial(name) => set_partial(tag, environment, name.as_str(), rc),
     }
 }
 
 // The body of the tag is a partial of the nearest block from now on. A tag without one is refused.
 fn set_partial<P: Registered>(
     tag: &Decorator,
-    setting: &Setting<P>,
+    environment: &Environment<P>,
     name: &str,
     rc: &mut RenderContext,
 ) -> Result<(), BoxedError>
-    ensures does { (kept : KeptIn (within setting.now)) → Does (setting_in P.parts setting.now) (set_partial name.now (tag_view tag.now).body)
+    ensures does { (kept : KeptIn (within environment.now)) → Does (setting_in P.parts environment.now) (set_partial name.now (tag_view tag.now).body)
         (state_with kept rc.old) (answer_of result) (state_with kept rc.new) }
     ensures kept { IsKept rc.old rc.new }
 {
@@ -170,7 +170,7 @@ fn set_partial<P: Registered>(
             Ok(())
         }
         None => Err(BoxedError::new(
-            setting.alloc,
+            environment.alloc,
             RenderErrorReason::BlockContentRequired.into(),
         )),
     }

@@ -1,58 +1,49 @@
-//! Rendering in blocks of scope: `each` and `with`.
+//! Rendering in blocks of scope.
 
-ghost use Rattle.std.specs.Prelude.{◌≡◌, Bool};
+ghost use Rattle.std.specs.Prelude.{◌≡◌, ℕ, Bool};
 ghost use Rattle.handlebars_template.specs.TreeView.{call_view};
 ghost use Rattle.handlebars_scope.specs.Scopes.{empty_frame};
+ghost use Rattle.handlebars_scope.specs.ScopeView.{frame_of};
 ghost use Rattle.handlebars_meaning.specs.Sites.{Site};
 ghost use Rattle.handlebars_helpers.specs.CallView.{CallView};
-ghost use Rattle.handlebars_helpers.specs.View.{base_view, path_view, turns_left};
-ghost use Rattle.handlebars_meaning.specs.CarryOut.{helper_call, in_block, render_with, take_turns};
-ghost use Rattle.handlebars_render.specs.Boxed.{answer_of};
-ghost use Rattle.handlebars_render.specs.View.{setting_in, moment, CarriesOn, HasOuter, IsKept, IsUnlent, KeptIn, within, held_in, IsSame};
+ghost use Rattle.handlebars_helpers.specs.View.{path_view, turns_left};
+ghost use Rattle.handlebars_meaning.specs.CarryOut.{helper_call, in_block, render_body, take_turns};
+ghost use Rattle.handlebars_render.specs.Judgement.{Carries, CarriesWith, Stays};
+ghost use Rattle.handlebars_render.specs.View.{HasOuter, IsUnlent, KeptIn, within, IsSame};
 
-use crate::block::render_body;
+use crate::block::render_part;
 use crate::boxed::BoxedError;
 use crate::context::RenderContext;
+use crate::environment::Environment;
 use crate::registered::Registered;
-use crate::setting::Setting;
 use crate::sink::Sink;
 use handlebars_base::output::Output;
 use handlebars_helpers::each_turns::Turns;
-use handlebars_helpers::turn::{Base, with_block};
 use handlebars_scope::block::BlockContext;
 use handlebars_scope::context::bases::Bases;
 use handlebars_template::template::HelperTemplate;
 
-/// The body, in a block that stands at a base.
+/// The body, in a block.
 #[cycle(render)]
-pub fn render_with<'a, O: Output, P: Registered>(
+pub fn render_in<'a, O: Output, P: Registered>(
     helper: &'a HelperTemplate,
-    setting: &Setting<'_, 'a, P>,
-    base: Base,
+    environment: &Environment<'_, 'a, P>,
+    scope: BlockContext,
     rc: &mut RenderContext,
     sink: &mut Sink<'_, O>,
 ) -> Result<(), BoxedError>
-    ensures renders { (site : Site) (kept : KeptIn (within setting.now)) (block : Bool) (v : CallView) → CarriesOn (setting_in P.parts setting.now)
-        (render_with site (helper_call block (call_view helper.now) v) (base_view base.entry))
-        O.may_give (moment kept rc.old (held_in O.held sink.old)) (answer_of result) (moment kept rc.new (held_in O.held sink.new)) }
-    ensures kept { IsKept rc.old rc.new }
-    ensures same { IsSame sink.old sink.new }
+    ensures renders { (site : Site) (i : ℕ) (block : Bool) (v : CallView)
+        → Carries P.parts O.held O.may_give environment.now rc sink result
+        (in_block (frame_of scope) (render_body site i (helper_call block (call_view helper.now) v))) }
+    ensures stays { Stays rc sink }
 {
-    let variables = rc.nearest_variables()?;
-    let block = with_block(setting.alloc, helper.block_param.as_ref(), base, variables)?;
-    rc.push_block(block)?;
-    let bases = Bases::block(None, setting.bases);
-    let nearer = Setting {
-        alloc: setting.alloc,
-        parts: &*setting.parts,
-        given: setting.given,
-        room: setting.room,
-        inclusions: setting.inclusions,
-        kept: setting.kept,
-        indent: setting.indent,
+    rc.push_block(scope)?;
+    let bases = Bases::block(None, environment.bases);
+    let nearer = Environment {
         bases: &bases,
+        ..*environment
     };
-    let answer = render_body(helper, &nearer, rc, sink);
+    let answer = render_part(helper.template.as_ref(), &nearer, rc, sink);
     rc.pop_block();
     answer
 }
@@ -61,30 +52,23 @@ pub fn render_with<'a, O: Output, P: Registered>(
 #[cycle(render)]
 pub fn render_each<'a, O: Output, P: Registered>(
     helper: &'a HelperTemplate,
-    setting: &Setting<'_, 'a, P>,
+    environment: &Environment<'_, 'a, P>,
     path: Option<&Vec<String>>,
     turns: Turns,
     rc: &mut RenderContext,
     sink: &mut Sink<'_, O>,
 ) -> Result<(), BoxedError>
-    ensures renders { (site : Site) (kept : KeptIn (within setting.now)) (block : Bool) (v : CallView) → CarriesOn (setting_in P.parts setting.now)
+    ensures renders { (site : Site) (block : Bool) (v : CallView)
+        → Carries P.parts O.held O.may_give environment.now rc sink result
         (in_block empty_frame (take_turns site 0 (helper_call block (call_view helper.now) v) (path_view path.entry)
-        (turns_left turns.entry)))
-        O.may_give (moment kept rc.old (held_in O.held sink.old)) (answer_of result) (moment kept rc.new (held_in O.held sink.new)) }
-    ensures kept { IsKept rc.old rc.new }
-    ensures same { IsSame sink.old sink.new }
+        (turns_left turns.entry))) }
+    ensures stays { Stays rc sink }
 {
-    rc.push_block(BlockContext::new(setting.alloc))?;
-    let bases = Bases::block(None, setting.bases);
-    let nearer = Setting {
-        alloc: setting.alloc,
-        parts: &*setting.parts,
-        given: setting.given,
-        room: setting.room,
-        inclusions: setting.inclusions,
-        kept: setting.kept,
-        indent: setting.indent,
+    rc.push_block(BlockContext::new(environment.alloc))?;
+    let bases = Bases::block(None, environment.bases);
+    let nearer = Environment {
         bases: &bases,
+        ..*environment
     };
     let answer = take_turns(helper, &nearer, path, turns, rc, sink);
     rc.pop_block();
@@ -96,16 +80,15 @@ pub fn render_each<'a, O: Output, P: Registered>(
 #[cycle(render)]
 fn take_turns<'a, O: Output, P: Registered>(
     helper: &'a HelperTemplate,
-    setting: &Setting<'_, 'a, P>,
+    environment: &Environment<'_, 'a, P>,
     path: Option<&Vec<String>>,
     turns: Turns,
     rc: &mut RenderContext,
     sink: &mut Sink<'_, O>,
 ) -> Result<(), BoxedError>
-    ensures renders { (site : Site) (kept : KeptIn (within setting.now)) (block : Bool) (v : CallView)
-        → IsUnlent kept.bases → CarriesOn (setting_in P.parts setting.now)
-        (take_turns site 0 (helper_call block (call_view helper.now) v) (path_view path.entry) (turns_left turns.entry))
-        O.may_give (moment kept rc.old (held_in O.held sink.old)) (answer_of result) (moment kept rc.new (held_in O.held sink.new)) }
+    ensures renders { (site : Site) (block : Bool) (v : CallView) (kept : KeptIn (within environment.now)) → IsUnlent kept.bases
+        → CarriesWith P.parts O.held O.may_give environment.now rc sink result kept
+        (take_turns site 0 (helper_call block (call_view helper.now) v) (path_view path.entry) (turns_left turns.entry)) }
     ensures outer { HasOuter rc.old rc.new }
     ensures same { IsSame sink.old sink.new }
 {
@@ -114,7 +97,7 @@ fn take_turns<'a, O: Output, P: Registered>(
     'turns: while let Some(turn) = left.next() {
         rc.set_up_turn(first, helper.block_param.as_ref(), path, turn)?;
         first = false;
-        if let Err(e) = render_body(helper, setting, rc, sink) {
+        if let Err(e) = render_part(helper.template.as_ref(), environment, rc, sink) {
             return Err(e);
         }
     }

@@ -12,9 +12,9 @@ ghost use Rattle.handlebars_render.specs.View.{setting_in, moment, CarriesOn, Ca
 use crate::boxed::BoxedError;
 use crate::context::RenderContext;
 use crate::element::render_element;
+use crate::environment::Environment;
 use crate::partial::include;
 use crate::registered::Registered;
-use crate::setting::Setting;
 use crate::sink::Sink;
 use crate::tree::render_tree;
 use handlebars_base::output::Output;
@@ -24,17 +24,17 @@ use handlebars_template::template::{Template, TemplateElement};
 /// Renders a tree into an output.
 pub fn render_into<'a, O: Output, P: Registered>(
     template: &'a Template,
-    setting: &Setting<'_, 'a, P>,
+    environment: &Environment<'_, 'a, P>,
     rc: &mut RenderContext,
     out: &mut O,
 ) -> Result<(), BoxedError>
-    ensures renders { (at : TreeSite) (kept : KeptIn (within setting.now)) → CarriesOn (setting_in P.parts setting.now)
+    ensures renders { (at : TreeSite) (kept : KeptIn (within environment.now)) → CarriesOn (setting_in P.parts environment.now)
         (perform (Whole at (tree_view template.now))) O.may_give (moment kept rc.old (O.held out.old))
         (answer_of result) (moment kept rc.new (O.held out.new)) }
     ensures kept { IsKept rc.old rc.new }
 {
     let mut sink = Sink::Out(out);
-    let answer = render_tree(template, setting, rc, &mut sink);
+    let answer = render_tree(template, environment, rc, &mut sink);
     match sink {
         Sink::Out(_out) => answer,
         Sink::Ahead(_ahead) => answer,
@@ -44,17 +44,17 @@ pub fn render_into<'a, O: Output, P: Registered>(
 /// Renders an element into an output.
 pub fn render_element_into<'a, O: Output, P: Registered>(
     element: &'a TemplateElement,
-    setting: &Setting<'_, 'a, P>,
+    environment: &Environment<'_, 'a, P>,
     rc: &mut RenderContext,
     out: &mut O,
 ) -> Result<(), BoxedError>
-    ensures renders { (site : Site) (kept : KeptIn (within setting.now)) → CarriesOut (setting_in P.parts setting.now)
+    ensures renders { (site : Site) (kept : KeptIn (within environment.now)) → CarriesOut (setting_in P.parts environment.now)
         (run (render_element site (element_view element.now))) O.may_give (moment kept rc.old (O.held out.old))
         (answer_of result) (moment kept rc.new (O.held out.new)) }
     ensures kept { IsKept rc.old rc.new }
 {
     let mut sink = Sink::Out(out);
-    let answer = render_element(element, setting, rc, &mut sink);
+    let answer = render_element(element, environment, rc, &mut sink);
     match sink {
         Sink::Out(_out) => answer,
         Sink::Ahead(_ahead) => answer,
@@ -64,17 +64,17 @@ pub fn render_element_into<'a, O: Output, P: Registered>(
 /// Includes what is found by the name of a tag, into an output.
 pub fn include_into<O: Output, P: Registered>(
     view: &Decorator,
-    setting: &Setting<'_, '_, P>,
+    environment: &Environment<'_, '_, P>,
     rc: &mut RenderContext,
     out: &mut O,
 ) -> Result<(), BoxedError>
-    ensures renders { (site : Site) (kept : KeptIn (within setting.now)) → CarriesOn (setting_in P.parts setting.now)
+    ensures renders { (site : Site) (kept : KeptIn (within environment.now)) → CarriesOn (setting_in P.parts environment.now)
         (include site (tag_view view.now)) O.may_give (moment kept rc.old (O.held out.old))
         (answer_of result) (moment kept rc.new (O.held out.new)) }
     ensures kept { IsKept rc.old rc.new }
 {
     let mut sink = Sink::Out(out);
-    let answer = include(view, setting, rc, &mut sink);
+    let answer = include(view, environment, rc, &mut sink);
     match sink {
         Sink::Out(_out) => answer,
         Sink::Ahead(_ahead) => answer,

@@ -12,24 +12,24 @@ ghost use Rattle.handlebars_render.specs.View.{IsKept, setting_in, state_with, K
 use crate::boxed::BoxedError;
 use crate::context::RenderContext;
 use crate::decorator::render_decorator;
+use crate::environment::Environment;
 use crate::registered::Registered;
-use crate::setting::Setting;
 use crate::tree::placed;
 use handlebars_template::template::{Template, TemplateElement};
 
 /// Carries out the decorators of a tree, in order. The name of the tree takes the place of the one in an error.
 pub fn eval_tree<'a, P: Registered>(
     template: &'a Template,
-    setting: &Setting<'_, 'a, P>,
+    environment: &Environment<'_, 'a, P>,
     rc: &mut RenderContext,
 ) -> Result<(), BoxedError>
-    ensures evals { (kept : KeptIn (within setting.now)) → Evals (setting_in P.parts setting.now) (eval_tree (tree_view template.now))
+    ensures evals { (kept : KeptIn (within environment.now)) → Evals (setting_in P.parts environment.now) (eval_tree (tree_view template.now))
         (renamed (tree_name (tree_view template.now))) (state_with kept rc.old) (answer_of result)
         (state_with kept rc.new) }
     ensures kept { IsKept rc.old rc.new }
 {
     'elements: for (index, element) in template.elements.iter().enumerate() {
-        if let Err(e) = eval_element(element, setting, rc) {
+        if let Err(e) = eval_element(element, environment, rc) {
             return Err(placed(e, template.mapping.get(index)).renamed(&template.name));
         }
     }
@@ -39,17 +39,17 @@ pub fn eval_tree<'a, P: Registered>(
 /// Carries out an element that is a decorator; any other does nothing.
 pub fn eval_element<'a, P: Registered>(
     element: &'a TemplateElement,
-    setting: &Setting<'_, 'a, P>,
+    environment: &Environment<'_, 'a, P>,
     rc: &mut RenderContext,
 ) -> Result<(), BoxedError>
-    ensures does { (site : Site) (kept : KeptIn (within setting.now)) → Does (setting_in P.parts setting.now)
+    ensures does { (site : Site) (kept : KeptIn (within environment.now)) → Does (setting_in P.parts environment.now)
         (render_element site (decorator_alone (element_view element.now)))
         (state_with kept rc.old) (answer_of result) (state_with kept rc.new) }
     ensures kept { IsKept rc.old rc.new }
 {
     match element {
-        TemplateElement::DecoratorExpression(tag) => render_decorator(tag, setting, rc),
-        TemplateElement::DecoratorBlock(tag) => render_decorator(tag, setting, rc),
+        TemplateElement::DecoratorExpression(tag) => render_decorator(tag, environment, rc),
+        TemplateElement::DecoratorBlock(tag) => render_decorator(tag, environment, rc),
         TemplateElement::RawString(_) => Ok(()),
         TemplateElement::HtmlExpression(_) => Ok(()),
         TemplateElement::Expression(_) => Ok(()),

@@ -15,8 +15,8 @@ ghost use Rattle.handlebars_render.specs.Inclusions.{HasBase, StandsAt, lent_fra
 ghost use Rattle.handlebars_render.specs.View.{setting_in, state_of, state_with, GivesValue, KeptIn, within};
 
 use crate::context::RenderContext;
+use crate::environment::Environment;
 use crate::registered::Registered;
-use crate::setting::Setting;
 use handlebars_base::error::RenderError;
 use handlebars_base::json::path::Path;
 use handlebars_base::json::value::{Json, PathAndJson};
@@ -38,18 +38,18 @@ pub struct LentBlock<'v> {
 /// variables of the nearest block. Without pairs the value is lent to it, unless the context holds it.
 pub fn inclusion_block<'v, P: Registered>(
     tag: &'v Decorator,
-    setting: &Setting<'v, 'v, P>,
+    environment: &Environment<'v, 'v, P>,
     rc: &RenderContext,
 ) -> Result<LentBlock<'v>, RenderError>
-    ensures { (kept : KeptIn (within setting.now)) → StandsAt (setting_in P.parts setting.now) (tag_view tag.now)
+    ensures { (kept : KeptIn (within environment.now)) → StandsAt (setting_in P.parts environment.now) (tag_view tag.now)
         (state_with kept rc.now) lent_frame result }
 {
-    match lent_base(tag, setting, rc) {
+    match lent_base(tag, environment, rc) {
         Some(base) => Ok(LentBlock {
-            block: plain_block(setting.alloc, rc)?,
+            block: plain_block(environment.alloc, rc)?,
             base: Some(base),
         }),
-        None => match own_block(tag, setting, rc) {
+        None => match own_block(tag, environment, rc) {
             Ok(block) => Ok(LentBlock { block, base: None }),
             Err(e) => Err(e),
         },
@@ -60,10 +60,10 @@ pub fn inclusion_block<'v, P: Registered>(
 // without one the current one.
 fn lent_base<'v, P: Registered>(
     tag: &'v Decorator,
-    setting: &Setting<'v, 'v, P>,
+    environment: &Environment<'v, 'v, P>,
     rc: &RenderContext,
 ) -> Option<&'v Json>
-    ensures value { IfSome result (λ v. (kept : KeptIn (within setting.now)) → GivesValue (setting_in P.parts setting.now)
+    ensures value { IfSome result (λ v. (kept : KeptIn (within environment.now)) → GivesValue (setting_in P.parts environment.now)
         (base_value (tag_view tag.now).call.params) (state_with kept rc.now) (view v.now)) }
     ensures plain { IfSome result (λ v. (tag_view tag.now).call.pairs ≡ []) }
 {
@@ -72,7 +72,7 @@ fn lent_base<'v, P: Registered>(
     }
     match tag.param(0) {
         Some(value) => Some(value.value()),
-        None => match rc.lent_current(setting.given.data(), setting.bases) {
+        None => match rc.lent_current(environment.given.data(), environment.bases) {
             Some(value) => Some(value),
             None => None,
         },
@@ -94,18 +94,18 @@ fn plain_block(alloc: Global, rc: &RenderContext) -> Result<BlockContext, AllocE
 #[inline(never)]
 fn own_block<P: Registered>(
     tag: &Decorator,
-    setting: &Setting<'_, '_, P>,
+    environment: &Environment<'_, '_, P>,
     rc: &RenderContext,
 ) -> Result<BlockContext, RenderError>
-    ensures { (kept : KeptIn (within setting.now)) → StandsAt (setting_in P.parts setting.now) (tag_view tag.now)
+    ensures { (kept : KeptIn (within environment.now)) → StandsAt (setting_in P.parts environment.now) (tag_view tag.now)
         (state_with kept rc.now) frame_of result }
 {
-    let base = match base(tag, setting, rc) {
+    let base = match base(tag, environment, rc) {
         Ok(base) => base,
         Err(e) => return Err(e),
     };
-    let mut block = plain_block(setting.alloc, rc)?;
-    block.set_block_params(bound_pairs(setting.alloc, tag.hash())?);
+    let mut block = plain_block(environment.alloc, rc)?;
+    block.set_block_params(bound_pairs(environment.alloc, tag.hash())?);
     block.set_base_value(base);
     Ok(block)
 }
@@ -113,32 +113,32 @@ fn own_block<P: Registered>(
 // The value of the first parameter, or without one the current one, merged with the pairs. A missing one counts as null.
 fn base<P: Registered>(
     tag: &Decorator,
-    setting: &Setting<'_, '_, P>,
+    environment: &Environment<'_, '_, P>,
     rc: &RenderContext,
 ) -> Result<Json, RenderError>
-    ensures { (kept : KeptIn (within setting.now)) → HasBase (setting_in P.parts setting.now) (tag_view tag.now)
+    ensures { (kept : KeptIn (within environment.now)) → HasBase (setting_in P.parts environment.now) (tag_view tag.now)
         (state_with kept rc.now) view result }
 {
     match tag.param(0) {
-        Some(value) => Ok(merge(setting.alloc, value.value(), tag.hash())?),
-        None => current(tag, setting, rc),
+        Some(value) => Ok(merge(environment.alloc, value.value(), tag.hash())?),
+        None => current(tag, environment, rc),
     }
 }
 
 // The current value, merged with the pairs.
 fn current<P: Registered>(
     tag: &Decorator,
-    setting: &Setting<'_, '_, P>,
+    environment: &Environment<'_, '_, P>,
     rc: &RenderContext,
 ) -> Result<Json, RenderError>
-    ensures { (kept : KeptIn (within setting.now)) → (tag_view tag.now).call.params ≡ []
-        → HasBase (setting_in P.parts setting.now) (tag_view tag.now) (state_with kept rc.now) view result }
+    ensures { (kept : KeptIn (within environment.now)) → (tag_view tag.now).call.params ≡ []
+        → HasBase (setting_in P.parts environment.now) (tag_view tag.now) (state_with kept rc.now) view result }
 {
-    let here = here(setting.alloc);
-    match rc.reach(setting.given.data(), &here, setting.bases) {
-        Reached::Value(value) => Ok(merge(setting.alloc, value, tag.hash())?),
-        Reached::Nothing => Ok(merge(setting.alloc, &Json::Null, tag.hash())?),
-        Reached::NoIndex(name) => Err(wrong_index(setting.alloc, name)),
+    let here = here(environment.alloc);
+    match rc.reach(environment.given.data(), &here, environment.bases) {
+        Reached::Value(value) => Ok(merge(environment.alloc, value, tag.hash())?),
+        Reached::Nothing => Ok(merge(environment.alloc, &Json::Null, tag.hash())?),
+        Reached::NoIndex(name) => Err(wrong_index(environment.alloc, name)),
     }
 }
 

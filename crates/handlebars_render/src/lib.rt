@@ -3,25 +3,26 @@
 #![tactic(auto)]
 
 mod block;
+mod bound;
 pub mod boxed;
 mod branch;
 mod called;
+mod chosen;
 pub mod context;
 pub mod decorator;
 mod each;
 pub mod element;
 pub mod entry;
+pub mod environment;
 pub mod evaluate;
 pub mod failure;
 mod inclusion;
-mod local;
 mod lone;
 mod next;
 mod null;
 mod own;
 mod partial;
 pub mod registered;
-pub mod setting;
 pub mod sink;
 mod steps;
 pub mod tree;

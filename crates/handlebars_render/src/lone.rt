@@ -19,13 +19,14 @@ ghost use Rattle.handlebars_render.specs.Boxed.{answer_of, error_of};
 ghost use Rattle.handlebars_render.specs.Next.{ComesTo, Settles};
 ghost use Rattle.handlebars_render.specs.View.{name_alone, setting_in, moment, state_with, KeptIn, within, held_in, IsSame};
 
+use crate::bound::bind_boxed;
 use crate::boxed::BoxedError;
 use crate::branch::not_an_index;
 use crate::called::Called;
 use crate::context::RenderContext;
+use crate::environment::Environment;
 use crate::next::{Next, to_call};
 use crate::registered::{Registered, helper_named, hook, hooked};
-use crate::setting::Setting;
 use crate::sink::Sink;
 use crate::value::{inner_value, written};
 use crate::write::write_found;
@@ -42,23 +43,23 @@ use std::borrow::CowStr;
 /// else stays apart, and what it needs isn't made ready for them.
 pub fn settle_lone<'a, O: Output, P: Registered>(
     helper: &'a HelperTemplate,
-    setting: &Setting<'_, 'a, P>,
+    environment: &Environment<'_, 'a, P>,
     rc: &RenderContext,
     sink: &mut Sink<'_, O>,
 ) -> Result<Next<'a>, BoxedError>
-    ensures comes { is_value (call_view helper.now) ≡ true → (site : Site) (kept : KeptIn (within setting.now))
-        → ComesTo (setting_in P.parts setting.now) site false (call_view helper.now)
+    ensures comes { is_value (call_view helper.now) ≡ true → (site : Site) (kept : KeptIn (within environment.now))
+        → ComesTo (setting_in P.parts environment.now) site false (call_view helper.now)
         (render_lone site (call_view helper.now))
         O.may_give (moment kept rc.now (held_in O.held sink.old)) (answer_of result) (held_in O.held sink.new) }
     ensures same { IsSame sink.old sink.new }
 {
     match &helper.name {
-        Parameter::Name(name) => settle_name(helper, setting, name.as_str(), rc),
-        Parameter::Path(path) => settle_path(helper, setting, path, rc, sink),
+        Parameter::Name(name) => settle_name(helper, environment, name.as_str(), rc),
+        Parameter::Path(path) => settle_path(helper, environment, path, rc, sink),
         Parameter::Literal(value) => {
-            settle_value(helper, setting, ScopedJson::Constant(value), rc, sink)
+            settle_value(helper, environment, ScopedJson::Constant(value), rc, sink)
         }
-        Parameter::Subexpression(inner) => settle_inner(helper, setting, inner, rc, sink),
+        Parameter::Subexpression(inner) => settle_inner(helper, environment, inner, rc, sink),
     }
 }
 
@@ -66,21 +67,21 @@ pub fn settle_lone<'a, O: Output, P: Registered>(
 #[inline(never)]
 fn settle_inner<'a, O: Output, P: Registered>(
     helper: &'a HelperTemplate,
-    setting: &Setting<'_, 'a, P>,
+    environment: &Environment<'_, 'a, P>,
     inner: &'a Subexpression,
     rc: &RenderContext,
     sink: &mut Sink<'_, O>,
 ) -> Result<Next<'a>, BoxedError>
     ensures comes { is_value (call_view helper.now) ≡ true
         → call_name (call_view helper.now) ≡ tree.subexpression (subexpression_view inner.now)
-        → (site : Site) (kept : KeptIn (within setting.now)) → ComesTo (setting_in P.parts setting.now) site false (call_view helper.now)
+        → (site : Site) (kept : KeptIn (within environment.now)) → ComesTo (setting_in P.parts environment.now) site false (call_view helper.now)
         (render_lone site (call_view helper.now))
         O.may_give (moment kept rc.now (held_in O.held sink.old)) (answer_of result) (held_in O.held sink.new) }
     ensures same { IsSame sink.old sink.new }
 {
-    match inner_value(setting, rc, inner) {
-        Ok(value) => settle_value(helper, setting, value, rc, sink),
-        Err(e) => Err(BoxedError::new(setting.alloc, e)),
+    match inner_value(environment, rc, inner) {
+        Ok(value) => settle_value(helper, environment, value, rc, sink),
+        Err(e) => Err(BoxedError::new(environment.alloc, e)),
     }
 }
 
@@ -88,50 +89,57 @@ fn settle_inner<'a, O: Output, P: Registered>(
 #[inline(never)]
 fn settle_name<'a, P: Registered>(
     helper: &'a HelperTemplate,
-    setting: &Setting<'_, 'a, P>,
+    environment: &Environment<'_, 'a, P>,
     text: &'a str,
     rc: &RenderContext,
 ) -> Result<Next<'a>, BoxedError>
     ensures { is_value (call_view helper.now) ≡ true → call_name (call_view helper.now) ≡ tree.name text.now
-        → (site : Site) (kept : KeptIn (within setting.now)) → Settles (setting_in P.parts setting.now) site false (call_view helper.now)
+        → (site : Site) (kept : KeptIn (within environment.now)) → Settles (setting_in P.parts environment.now) site false (call_view helper.now)
         (render_lone site (call_view helper.now)) (state_with kept rc.now) (answer_of result) }
 {
-    match helper_named(setting.parts, rc, text) {
+    match helper_named(environment.parts, rc, text) {
         Some(target) => to_call(
-            setting.alloc,
+            environment,
+            rc,
             target,
-            Called::alone(setting.alloc, CowStr::Borrowed(text)),
-            true,
+            false,
+            Called::alone(environment.alloc, CowStr::Borrowed(text)),
         ),
-        None => settle_missing(helper, setting, CowStr::Borrowed(text), rc),
+        None => settle_missing(helper, environment, CowStr::Borrowed(text), rc),
     }
 }
 
 // The value of a path is only looked at, also where a block has it, and its own path isn't told.
 fn settle_path<'a, O: Output, P: Registered>(
     helper: &'a HelperTemplate,
-    setting: &Setting<'_, 'a, P>,
+    environment: &Environment<'_, 'a, P>,
     path: &'a Path,
     rc: &RenderContext,
     sink: &mut Sink<'_, O>,
 ) -> Result<Next<'a>, BoxedError>
     ensures comes { is_value (call_view helper.now) ≡ true → call_name (call_view helper.now) ≡ tree.path (reference_of path.now)
-        → (site : Site) (kept : KeptIn (within setting.now)) → ComesTo (setting_in P.parts setting.now) site false (call_view helper.now)
+        → (site : Site) (kept : KeptIn (within environment.now)) → ComesTo (setting_in P.parts environment.now) site false (call_view helper.now)
         (render_lone site (call_view helper.now))
         O.may_give (moment kept rc.now (held_in O.held sink.old)) (answer_of result) (held_in O.held sink.new) }
     ensures same { IsSame sink.old sink.new }
 {
-    match helper_named(setting.parts, rc, path.raw()) {
+    match helper_named(environment.parts, rc, path.raw()) {
         Some(target) => to_call(
-            setting.alloc,
+            environment,
+            rc,
             target,
-            Called::alone(setting.alloc, CowStr::Borrowed(path.raw())),
-            true,
+            false,
+            Called::alone(environment.alloc, CowStr::Borrowed(path.raw())),
         ),
-        None => match rc.reach(setting.given.data(), path, setting.bases) {
-            Reached::Value(value) => settle_found(setting, value, rc, sink),
-            Reached::Nothing => settle_missing(helper, setting, CowStr::Borrowed(path.raw()), rc),
-            Reached::NoIndex(name) => Err(not_an_index(setting.alloc, name)),
+        None => match rc.reach(environment.given.data(), path, environment.bases) {
+            Reached::Value(value) => settle_found(environment, value, rc, sink),
+            Reached::Nothing => settle_missing(
+                helper,
+                environment,
+                CowStr::Borrowed(path.raw()),
+                rc,
+            ),
+            Reached::NoIndex(name) => Err(not_an_index(environment.alloc, name)),
         },
     }
 }
@@ -140,32 +148,33 @@ fn settle_path<'a, O: Output, P: Registered>(
 #[inline(never)]
 fn settle_value<'a, O: Output, P: Registered>(
     helper: &'a HelperTemplate,
-    setting: &Setting<'_, 'a, P>,
+    environment: &Environment<'_, 'a, P>,
     value: ScopedJson<'a>,
     rc: &RenderContext,
     sink: &mut Sink<'_, O>,
 ) -> Result<Next<'a>, BoxedError>
-    ensures comes { is_value (call_view helper.now) ≡ true → (site : Site) (kept : KeptIn (within setting.now))
-        → HasName (setting_in P.parts setting.now) (state_with kept rc.now) (call_name (call_view helper.now))
+    ensures comes { is_value (call_view helper.now) ≡ true → (site : Site) (kept : KeptIn (within environment.now))
+        → HasName (setting_in P.parts environment.now) (state_with kept rc.now) (call_name (call_view helper.now))
         (gives (called_by (found_of value.entry)))
-        → HasValue (setting_in P.parts setting.now) (state_with kept rc.now) (call_name (call_view helper.now))
+        → HasValue (setting_in P.parts environment.now) (state_with kept rc.now) (call_name (call_view helper.now))
         (gives (found_of value.entry))
-        → ComesTo (setting_in P.parts setting.now) site false (call_view helper.now)
+        → ComesTo (setting_in P.parts environment.now) site false (call_view helper.now)
         (render_lone site (call_view helper.now))
         O.may_give (moment kept rc.now (held_in O.held sink.old)) (answer_of result) (held_in O.held sink.new) }
     ensures same { IsSame sink.old sink.new }
 {
-    let name = value.render(setting.alloc)?;
-    match helper_named(setting.parts, rc, name.as_str()) {
+    let name = value.render(environment.alloc)?;
+    match helper_named(environment.parts, rc, name.as_str()) {
         Some(target) => to_call(
-            setting.alloc,
+            environment,
+            rc,
             target,
-            Called::alone(setting.alloc, CowStr::Owned(name)),
-            true,
+            false,
+            Called::alone(environment.alloc, CowStr::Owned(name)),
         ),
         None => match value.as_json() {
-            Some(value) => settle_found(setting, value, rc, sink),
-            None => settle_missing(helper, setting, CowStr::Owned(name), rc),
+            Some(value) => settle_found(environment, value, rc, sink),
+            None => settle_missing(helper, environment, CowStr::Owned(name), rc),
         },
     }
 }
@@ -173,19 +182,19 @@ fn settle_value<'a, O: Output, P: Registered>(
 // Writes the value of an expression that no helper has the name of.
 #[inline(always)]
 fn settle_found<'a, O: Output, P: Registered>(
-    setting: &Setting<'_, 'a, P>,
+    environment: &Environment<'_, 'a, P>,
     value: &Json,
     rc: &RenderContext,
     sink: &mut Sink<'_, O>,
 ) -> Result<Next<'a>, BoxedError>
-    ensures comes { (c : Call) (v : CallView) (found : Found) (site : Site) (kept : KeptIn (within setting.now))
-        → HasValue (setting_in P.parts setting.now) (state_with kept rc.now) (call_name c) (gives found)
+    ensures comes { (c : Call) (v : CallView) (found : Found) (site : Site) (kept : KeptIn (within environment.now))
+        → HasValue (setting_in P.parts environment.now) (state_with kept rc.now) (call_name c) (gives found)
         → present_in found ≡ Some (view value.now)
-        → ComesTo (setting_in P.parts setting.now) site false c (render_lone_as site c v None)
+        → ComesTo (setting_in P.parts environment.now) site false c (render_lone_as site c v None)
         O.may_give (moment kept rc.now (held_in O.held sink.old)) (answer_of result) (held_in O.held sink.new) }
     ensures same { IsSame sink.old sink.new }
 {
-    match write_found(setting, Some(value), rc, sink) {
+    match write_found(environment, Some(value), rc, sink) {
         Ok(line) => Ok(Next::Done(line)),
         Err(e) => Err(e),
     }
@@ -195,24 +204,25 @@ fn settle_found<'a, O: Output, P: Registered>(
 #[inline(never)]
 fn settle_missing<'a, P: Registered>(
     helper: &'a HelperTemplate,
-    setting: &Setting<'_, 'a, P>,
+    environment: &Environment<'_, 'a, P>,
     name: CowStr<'a>,
     rc: &RenderContext,
 ) -> Result<Next<'a>, BoxedError>
-    ensures { (site : Site) (kept : KeptIn (within setting.now)) → Settles (setting_in P.parts setting.now) site false (call_view helper.now)
+    ensures { (site : Site) (kept : KeptIn (within environment.now)) → Settles (setting_in P.parts environment.now) site false (call_view helper.now)
         (render_found site (call_view helper.now) (name_alone (cow_str_bytes name.entry)) missing)
         (state_with kept rc.now) (answer_of result) }
 {
-    if setting.parts.strict() {
-        return Err(missing_variable(setting.alloc, &helper.name));
+    if environment.parts.strict() {
+        return Err(missing_variable(environment.alloc, &helper.name));
     }
-    match setting.parts.helper(hook(false)) {
-        Some(callee) => to_call(
-            setting.alloc,
-            hooked(callee),
-            Called::alone(setting.alloc, name),
-            false,
-        ),
+    match environment.parts.helper(hook(false)) {
+        Some(callee) => {
+            let call = Called::alone(environment.alloc, name);
+            match bind_boxed(environment, rc, hooked(callee), false, call) {
+                Ok(bound) => Ok(Next::Hook(bound)),
+                Err(e) => Err(e),
+            }
+        }
         None => Ok(Next::Done(rc.line())),
     }
 }

@@ -14,15 +14,16 @@ ghost use Rattle.handlebars_meaning.specs.State.{helper_for};
 ghost use Rattle.handlebars_render.specs.Boxed.{answer_of, error_of};
 ghost use Rattle.handlebars_render.specs.Next.{ComesTo, IsCall, Settles};
 ghost use Rattle.handlebars_render.specs.Targets.{target_in};
-ghost use Rattle.handlebars_render.specs.View.{setting_in, moment, state_with, KeptIn, within, held_in, IsSame};
+ghost use Rattle.handlebars_render.specs.View.{setting_in, called_view, moment, state_with, KeptIn, within, held_in, IsSame};
 
+use crate::bound::{BoundCall, bind_boxed};
 use crate::boxed::BoxedError;
 use crate::branch::{branching, condition};
 use crate::called::{Called, helper_not_found};
 use crate::context::RenderContext;
+use crate::environment::Environment;
 use crate::lone::settle_lone;
 use crate::registered::{Registered, Target, helper_for};
-use crate::setting::Setting;
 use crate::sink::Sink;
 use crate::value::{expand_as_name, pairs_values, params_values};
 use handlebars_base::output::Output;
@@ -38,41 +39,10 @@ pub enum Next<'a> {
     Done(LineState),
     /// The body of the call is to be rendered, or its inverse, in the bracket of a call.
     Branch(bool),
-    /// A helper is to be called. It is in a box, since most answers are of the other kinds.
-    Call(Box<ToCall<'a>>),
-}
-
-/// A helper that is to be called, with what the call shows of itself: in the bracket of a call, or
-/// without it, as the hook of a missing value is.
-pub struct ToCall<'a> {
-    pub target: Target,
-    pub call: Called<'a>,
-    pub bracket: bool,
-}
-
-// By hand, so that each place that lets one go is one call.
-impl<'a> Drop for ToCall<'a> {
-    fn drop(self) {
-        let ToCall {
-            target: _,
-            call: _,
-            bracket: _,
-        } = self;
-    }
-}
-
-impl<'a> ToCall<'a> {
-    /// What the call shows of itself.
-    pub fn into_call(self) -> Called<'a>
-        ensures { result ≡ self.entry.call }
-    {
-        let ToCall {
-            target: _,
-            call,
-            bracket: _,
-        } = self;
-        call
-    }
+    /// A helper is to be called, in the bracket of a call. It is in a box, since most answers are of the other kinds.
+    Call(Box<BoundCall<'a>>),
+    /// The hook of a missing value is to be called, in no bracket.
+    Hook(Box<BoundCall<'a>>),
 }
 
 /// Writes a value, or finds the helper that is to be called for a block or an expression. Its caller recurses, and has no room
@@ -80,38 +50,38 @@ impl<'a> ToCall<'a> {
 #[inline(never)]
 pub fn settle_tag<'a, O: Output, P: Registered>(
     helper: &'a HelperTemplate,
-    setting: &Setting<'_, 'a, P>,
+    environment: &Environment<'_, 'a, P>,
     block: bool,
     rc: &RenderContext,
     sink: &mut Sink<'_, O>,
 ) -> Result<Next<'a>, BoxedError>
-    ensures comes { (site : Site) (kept : KeptIn (within setting.now)) → ComesTo (setting_in P.parts setting.now) site block (call_view helper.now)
+    ensures comes { (site : Site) (kept : KeptIn (within environment.now)) → ComesTo (setting_in P.parts environment.now) site block (call_view helper.now)
         (render_tag site block (call_view helper.now))
         O.may_give (moment kept rc.now (held_in O.held sink.old)) (answer_of result) (held_in O.held sink.new) }
     ensures same { IsSame sink.old sink.new }
 {
     if block {
-        settle_call(helper, setting, true, rc)
+        settle_call(helper, environment, true, rc)
     } else {
-        settle_expression(helper, setting, rc, sink)
+        settle_expression(helper, environment, rc, sink)
     }
 }
 
 fn settle_expression<'a, O: Output, P: Registered>(
     helper: &'a HelperTemplate,
-    setting: &Setting<'_, 'a, P>,
+    environment: &Environment<'_, 'a, P>,
     rc: &RenderContext,
     sink: &mut Sink<'_, O>,
 ) -> Result<Next<'a>, BoxedError>
-    ensures comes { (site : Site) (kept : KeptIn (within setting.now)) → ComesTo (setting_in P.parts setting.now) site false (call_view helper.now)
+    ensures comes { (site : Site) (kept : KeptIn (within environment.now)) → ComesTo (setting_in P.parts environment.now) site false (call_view helper.now)
         (render_expression site (call_view helper.now))
         O.may_give (moment kept rc.now (held_in O.held sink.old)) (answer_of result) (held_in O.held sink.new) }
     ensures same { IsSame sink.old sink.new }
 {
     if helper.is_value() {
-        settle_lone(helper, setting, rc, sink)
+        settle_lone(helper, environment, rc, sink)
     } else {
-        settle_call(helper, setting, false, rc)
+        settle_call(helper, environment, false, rc)
     }
 }
 
@@ -121,44 +91,51 @@ fn settle_expression<'a, O: Output, P: Registered>(
 #[inline(never)]
 fn settle_call<'a, P: Registered>(
     helper: &'a HelperTemplate,
-    setting: &Setting<'_, 'a, P>,
+    environment: &Environment<'_, 'a, P>,
     block: bool,
     rc: &RenderContext,
 ) -> Result<Next<'a>, BoxedError>
-    ensures { (site : Site) (kept : KeptIn (within setting.now)) → Settles (setting_in P.parts setting.now) site block (call_view helper.now)
+    ensures { (site : Site) (kept : KeptIn (within environment.now)) → Settles (setting_in P.parts environment.now) site block (call_view helper.now)
         (render_call site block (call_view helper.now)) (state_with kept rc.now) (answer_of result) }
 {
     if let Some(name) = helper.name.as_name() {
-        return settle_named(helper, setting, block, name, rc);
+        return settle_named(helper, environment, block, name, rc);
     }
-    match expand_as_name(setting, rc, &helper.name) {
+    match expand_as_name(environment, rc, &helper.name) {
         Ok(name) => {
-            let target = helper_for(setting.parts, rc, block, name.as_str());
-            settle_viewed(helper, setting, block, name, target, rc)
+            let target = helper_for(environment.parts, rc, block, name.as_str());
+            settle_viewed(helper, environment, block, name, target, rc)
         }
-        Err(e) => Err(BoxedError::new(setting.alloc, e)),
+        Err(e) => Err(BoxedError::new(environment.alloc, e)),
     }
 }
 
 // A call whose name is written, and not made.
 fn settle_named<'a, P: Registered>(
     helper: &'a HelperTemplate,
-    setting: &Setting<'_, 'a, P>,
+    environment: &Environment<'_, 'a, P>,
     block: bool,
     name: &'a str,
     rc: &RenderContext,
 ) -> Result<Next<'a>, BoxedError>
-    ensures { as_name (call_name (call_view helper.now)) ≡ Some name.now → (site : Site) (kept : KeptIn (within setting.now))
-        → Settles (setting_in P.parts setting.now) site block (call_view helper.now)
+    ensures { as_name (call_name (call_view helper.now)) ≡ Some name.now → (site : Site) (kept : KeptIn (within environment.now))
+        → Settles (setting_in P.parts environment.now) site block (call_view helper.now)
         (render_call site block (call_view helper.now)) (state_with kept rc.now) (answer_of result) }
 {
-    let target = helper_for(setting.parts, rc, block, name);
+    let target = helper_for(environment.parts, rc, block, name);
     match branching(helper, target) {
-        Some((wanted, path)) => match condition(setting, path, rc) {
+        Some((wanted, path)) => match condition(environment, path, rc) {
             Ok(truth) => Ok(Next::Branch(takes(wanted, truth))),
             Err(e) => Err(e),
         },
-        None => settle_viewed(helper, setting, block, CowStr::Borrowed(name), target, rc),
+        None => settle_viewed(
+            helper,
+            environment,
+            block,
+            CowStr::Borrowed(name),
+            target,
+            rc,
+        ),
     }
 }
 
@@ -172,50 +149,47 @@ fn takes(wanted: bool, truth: bool) -> bool
 // A call by this name, which has this helper, if any: its values are made before that is asked.
 fn settle_viewed<'a, P: Registered>(
     helper: &'a HelperTemplate,
-    setting: &Setting<'_, 'a, P>,
+    environment: &Environment<'_, 'a, P>,
     block: bool,
     name: CowStr<'a>,
     target: Option<Target>,
     rc: &RenderContext,
 ) -> Result<Next<'a>, BoxedError>
-    ensures { (site : Site) (kept : KeptIn (within setting.now)) → HasName (setting_in P.parts setting.now) (state_with kept rc.now)
+    ensures { (site : Site) (kept : KeptIn (within environment.now)) → HasName (setting_in P.parts environment.now) (state_with kept rc.now)
         (call_name (call_view helper.now)) (gives (cow_str_bytes name.entry))
-        → option_map (target_in block (cow_str_bytes name.entry)) target ≡ helper_for (P.parts setting.now.parts.now) (state_with kept rc.now) block (cow_str_bytes name.entry)
-        → Settles (setting_in P.parts setting.now) site block (call_view helper.now)
+        → option_map (target_in block (cow_str_bytes name.entry)) target ≡ helper_for (P.parts environment.now.parts.now) (state_with kept rc.now) block (cow_str_bytes name.entry)
+        → Settles (setting_in P.parts environment.now) site block (call_view helper.now)
         (render_call site block (call_view helper.now)) (state_with kept rc.now) (answer_of result) }
 {
-    let params = match params_values(setting, rc, &helper.params) {
+    let params = match params_values(environment, rc, &helper.params) {
         Ok(params) => params,
-        Err(e) => return Err(BoxedError::new(setting.alloc, e)),
+        Err(e) => return Err(BoxedError::new(environment.alloc, e)),
     };
-    let hash = match pairs_values(setting, rc, &helper.hash) {
+    let hash = match pairs_values(environment, rc, &helper.hash) {
         Ok(hash) => hash,
-        Err(e) => return Err(BoxedError::new(setting.alloc, e)),
+        Err(e) => return Err(BoxedError::new(environment.alloc, e)),
     };
+    let call = Called { name, params, hash };
     match target {
-        Some(target) => to_call(setting.alloc, target, Called { name, params, hash }, true),
-        None => Err(unknown_helper(setting.alloc, name.as_str())),
+        Some(target) => to_call(environment, rc, target, block, call),
+        None => Err(unknown_helper(environment.alloc, call.name.as_str())),
     }
 }
 
-/// A helper is to be called.
-#[inline(never)]
-pub fn to_call<'a>(
-    alloc: Global,
+/// A helper is to be called, in the bracket of a call.
+pub fn to_call<'a, P: Registered>(
+    environment: &Environment<P>,
+    rc: &RenderContext,
     target: Target,
+    block: bool,
     call: Called<'a>,
-    bracket: bool,
 ) -> Result<Next<'a>, BoxedError>
-    ensures { IsCall (record { target = target; call = call.entry; bracket = bracket }) (answer_of result) }
+    ensures { (kept : KeptIn (within environment.now)) → IsCall (setting_in P.parts environment.now) (state_with kept rc.now) block
+        (target_in block (called_view call.entry).name target) (called_view call.entry) (answer_of result) }
 {
-    let to_call = ToCall {
-        target,
-        call,
-        bracket,
-    };
-    match Box::new(alloc, to_call) {
-        Ok(to_call) => Ok(Next::Call(to_call)),
-        Err(_) => Err(BoxedError::OutOfMemory),
+    match bind_boxed(environment, rc, target, block, call) {
+        Ok(bound) => Ok(Next::Call(bound)),
+        Err(e) => Err(e),
     }
 }
 

@@ -14,8 +14,8 @@ ghost use Rattle.handlebars_render.specs.View.{setting_in, state_with, Yields, K
 
 use crate::called::empty_text;
 use crate::context::RenderContext;
+use crate::environment::Environment;
 use crate::registered::Registered;
-use crate::setting::Setting;
 use handlebars_base::error::{RenderError, RenderErrorReason};
 use handlebars_base::json::value::{Json, ScopedJson};
 use handlebars_helpers::own::{HelperStep, HelperValue};
@@ -32,25 +32,25 @@ pub enum OwnChoice {
 
 /// What the helper of this name chooses for a call: its steps, or else what it offers.
 pub fn choose_own<P: Registered>(
-    setting: &Setting<P>,
+    environment: &Environment<P>,
     rc: &RenderContext,
     name: &str,
     view: &Helper,
 ) -> Result<OwnChoice, RenderError>
-    ensures { (kept : KeptIn (within setting.now)) → Yields
-        (HasRegisteredChoice (setting_in P.parts setting.now) (state_with kept rc.now) (own name.now) (helper_view view.now))
+    ensures { (kept : KeptIn (within environment.now)) → Yields
+        (HasRegisteredChoice (setting_in P.parts environment.now) (state_with kept rc.now) (own name.now) (helper_view view.now))
         own_choice_of result }
 {
-    match setting
+    match environment
         .parts
-        .steps_of(name, view, setting.given, rc.context())
+        .steps_of(name, view, environment.given, rc.context())
     {
         Ok(Some(steps)) => Ok(OwnChoice::Steps(steps)),
-        Ok(None) => match setting
+        Ok(None) => match environment
             .parts
-            .offer_of(name, view, setting.given, rc.context())
+            .offer_of(name, view, environment.given, rc.context())
         {
-            Ok(offer) => choose_offer(setting.parts.strict(), offer),
+            Ok(offer) => choose_offer(environment.parts.strict(), offer),
             Err(e) => Err(e),
         },
         Err(e) => Err(e),
@@ -76,29 +76,29 @@ fn choose_offer(strict: bool, offer: HelperValue) -> Result<OwnChoice, RenderErr
 
 /// The value of a call of the helper of this name in parentheses: what it offers, or else the text that it writes.
 pub fn own_value<'a, P: Registered>(
-    setting: &Setting<P>,
+    environment: &Environment<P>,
     rc: &RenderContext,
     name: &str,
     view: &Helper,
 ) -> Result<ScopedJson<'a>, RenderError>
-    ensures value { (kept : KeptIn (within setting.now)) → Yields
-        (HasRegisteredValue (setting_in P.parts setting.now) (state_with kept rc.now) (own name.now) (helper_view view.now))
+    ensures value { (kept : KeptIn (within environment.now)) → Yields
+        (HasRegisteredValue (setting_in P.parts environment.now) (state_with kept rc.now) (own name.now) (helper_view view.now))
         found_of result }
     ensures constant { IfOk result (λ found. is_constant found ≡ false) }
 {
-    match setting
+    match environment
         .parts
-        .offer_of(name, view, setting.given, rc.context())
+        .offer_of(name, view, environment.given, rc.context())
     {
         Ok(HelperValue::Value(value)) => Ok(ScopedJson::Derived(value)),
         Ok(HelperValue::Missing) => Ok(ScopedJson::Missing),
         Ok(HelperValue::NotOffered) => {
-            match setting
+            match environment
                 .parts
-                .steps_of(name, view, setting.given, rc.context())
+                .steps_of(name, view, environment.given, rc.context())
             {
-                Ok(None) => Ok(empty_text(setting.alloc)),
-                Ok(Some(steps)) => Ok(text_value(text_written(setting.alloc, &steps)?)),
+                Ok(None) => Ok(empty_text(environment.alloc)),
+                Ok(Some(steps)) => Ok(text_value(text_written(environment.alloc, &steps)?)),
                 Err(e) => Err(e),
             }
         }

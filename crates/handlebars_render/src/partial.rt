@@ -9,22 +9,24 @@ ghost use Rattle.handlebars_base.specs.RenderRefusals.{plain_refusal, reason_of}
 ghost use Rattle.handlebars_template.specs.Tree.{decorator_marks};
 ghost use Rattle.handlebars_template.specs.TreeView.{decorator_view, tree_view};
 ghost use Rattle.handlebars_helpers.specs.DecoratorsView.{tag_view};
-ghost use Rattle.handlebars_meaning.specs.Inclusion.{newest, own_block};
-ghost use Rattle.handlebars_meaning.specs.Including.{include, include_found, include_partial, partial_block_name, write_kept};
+ghost use Rattle.handlebars_meaning.specs.Inclusion.{newest};
+ghost use Rattle.handlebars_meaning.specs.Including.{include, include_tree, partial_block_name, render_ahead, write_kept};
 ghost use Rattle.handlebars_meaning.specs.Means.{line_at, render_partial};
 ghost use Rattle.handlebars_meaning.specs.Sites.{Site, TreeSite};
 ghost use Rattle.handlebars_meaning.specs.Steps.{Whole, capture, perform};
 ghost use Rattle.handlebars_render.specs.Boxed.{answer_of, error_of};
+ghost use Rattle.handlebars_render.specs.Chosen.{part_view};
 ghost use Rattle.handlebars_render.specs.Inclusions.{included};
+ghost use Rattle.handlebars_render.specs.Judgement.{Carries, CarriesWith, Stays};
 ghost use Rattle.handlebars_render.specs.View.{setting_in, state_of, state_with, moment, CarriesAhead, CarriesOn, IsKept, KeptIn, within, held_in, IsSame};
 
 use crate::block::leave_call;
 use crate::boxed::BoxedError;
 use crate::called::view_of_tag;
 use crate::context::RenderContext;
+use crate::environment::Environment;
 use crate::inclusion::{LentBlock, inclusion_block};
 use crate::registered::Registered;
-use crate::setting::Setting;
 use crate::sink::Sink;
 use crate::tree::render_tree;
 use crate::write::write_as_is;
@@ -39,25 +41,23 @@ use std::alloc::{AllocError, Global};
 #[cycle(render)]
 pub fn render_partial<'a, O: Output, P: Registered>(
     tag: &'a DecoratorTemplate,
-    setting: &Setting<'_, 'a, P>,
+    environment: &Environment<'_, 'a, P>,
     rc: &mut RenderContext,
     sink: &mut Sink<'_, O>,
 ) -> Result<(), BoxedError>
-    ensures renders { (site : Site) (kept : KeptIn (within setting.now)) → CarriesOn (setting_in P.parts setting.now)
-        (render_partial site (decorator_view tag.now)) O.may_give (moment kept rc.old (held_in O.held sink.old))
-        (answer_of result) (moment kept rc.new (held_in O.held sink.new)) }
-    ensures same { IsSame sink.old sink.new }
-    ensures kept { IsKept rc.old rc.new }
+    ensures renders { (site : Site) → Carries P.parts O.held O.may_give environment.now rc sink result
+        (render_partial site (decorator_view tag.now)) }
+    ensures stays { Stays rc sink }
 {
-    let call = match view_of_tag(setting, rc, tag) {
+    let call = match view_of_tag(environment, rc, tag) {
         Ok(call) => call,
-        Err(e) => return Err(BoxedError::new(setting.alloc, e)),
+        Err(e) => return Err(BoxedError::new(environment.alloc, e)),
     };
-    let view = call.of_tag(setting.alloc, setting.indent, tag)?;
+    let view = call.of_tag(environment.alloc, environment.indent, tag)?;
     let before = rc.get_indent_before_write();
     let produced = rc.get_content_produced();
     enter_partial(rc, tag);
-    let answer = include(&view, setting, rc, sink);
+    let answer = include(&view, environment, rc, sink);
     leave_call(rc, before, produced);
     answer
 }
@@ -78,38 +78,30 @@ fn enter_partial(rc: &mut RenderContext, tag: &DecoratorTemplate)
 #[cycle(render)]
 pub fn include<O: Output, P: Registered>(
     view: &Decorator,
-    setting: &Setting<'_, '_, P>,
+    environment: &Environment<'_, '_, P>,
     rc: &mut RenderContext,
     sink: &mut Sink<'_, O>,
 ) -> Result<(), BoxedError>
-    ensures renders { (site : Site) (kept : KeptIn (within setting.now)) → CarriesOn (setting_in P.parts setting.now)
-        (include site (tag_view view.now)) O.may_give (moment kept rc.old (held_in O.held sink.old))
-        (answer_of result) (moment kept rc.new (held_in O.held sink.new)) }
-    ensures same { IsSame sink.old sink.new }
-    ensures kept { IsKept rc.old rc.new }
+    ensures renders { (site : Site) → Carries P.parts O.held O.may_give environment.now rc sink result
+        (include site (tag_view view.now)) }
+    ensures stays { Stays rc sink }
 {
     if rc.is_current_template(view.name()) {
-        return Err(refused(setting.alloc, RenderErrorReason::CannotIncludeSelf));
+        return Err(refused(environment.alloc, RenderErrorReason::CannotIncludeSelf));
     }
     if is_partial_block(view.name()) {
-        return render_kept(view, setting, rc, sink);
+        return render_kept(view, environment, rc, sink);
     }
     let found = rc.shared_partial(view.name())?;
-    let nearer = Setting {
-        alloc: setting.alloc,
-        parts: &*setting.parts,
-        given: &*setting.given,
-        room: setting.room,
-        inclusions: setting.inclusions,
-        kept: setting.kept,
-        indent: setting.indent,
-        bases: setting.bases,
-    };
+    let nearer = Environment { ..*environment };
     match &found {
-        Some(tree) => include_found(view, &*tree, &nearer, rc, sink),
-        None => match setting.parts.template(view.name()) {
-            Some(tree) => include_found(view, &*tree, &nearer, rc, sink),
-            None => include_own(view, setting, rc, sink),
+        Some(tree) => include_tree(view, &*tree, view.template(), &nearer, rc, sink),
+        None => match environment.parts.template(view.name()) {
+            Some(tree) => include_tree(view, &*tree, view.template(), &nearer, rc, sink),
+            None => match view.template() {
+                Some(body) => include_tree(view, &*body, None, &nearer, rc, sink),
+                None => Err(no_partial(environment.alloc, view.name())),
+            },
         },
     }
 }
@@ -125,157 +117,89 @@ fn is_partial_block(name: &str) -> bool
 #[cycle(render)]
 fn render_kept<O: Output, P: Registered>(
     view: &Decorator,
-    setting: &Setting<'_, '_, P>,
+    environment: &Environment<'_, '_, P>,
     rc: &mut RenderContext,
     sink: &mut Sink<'_, O>,
 ) -> Result<(), BoxedError>
-    ensures renders { (site : Site) (kept : KeptIn (within setting.now)) → CarriesOn (setting_in P.parts setting.now)
-        (write_kept site (tag_view view.now).body (state_with kept rc.old) (newest kept.pieces))
-        O.may_give (moment kept rc.old (held_in O.held sink.old))
-        (answer_of result) (moment kept rc.new (held_in O.held sink.new)) }
-    ensures same { IsSame sink.old sink.new }
-    ensures kept { IsKept rc.old rc.new }
+    ensures renders { (site : Site) (kept : KeptIn (within environment.now)) → CarriesWith P.parts O.held O.may_give environment.now rc sink result kept
+        (write_kept site (tag_view view.now).body (state_with kept rc.old) (newest kept.pieces)) }
+    ensures stays { Stays rc sink }
 {
-    if let Some(text) = setting.kept {
-        return write_as_is(setting.alloc, text, sink);
+    if let Some(text) = environment.kept {
+        return write_as_is(environment.alloc, text, sink);
     }
     let Some(body) = view.template() else {
-        return Err(refused(setting.alloc, RenderErrorReason::PartialBlockNotFound));
+        return Err(refused(environment.alloc, RenderErrorReason::PartialBlockNotFound));
     };
-    let nearer = Setting {
-        alloc: setting.alloc,
-        parts: &*setting.parts,
-        given: &*setting.given,
-        room: setting.room,
-        inclusions: setting.inclusions,
-        kept: setting.kept,
-        indent: setting.indent,
-        bases: setting.bases,
-    };
+    let nearer = Environment { ..*environment };
     let name = rc.take_name();
     let answer = render_tree(&*body, &nearer, rc, sink);
     rc.set_current_template_name(name);
     answer
 }
 
-// Includes a tree that was found. The tag's block is rendered ahead, and its text is kept for it.
+// Includes a tree, in a block of its own. This body, if there is one, is rendered ahead, and its text is kept for the tree.
 #[cycle(render)]
-fn include_found<'a, O: Output, P: Registered>(
+fn include_tree<'a, O: Output, P: Registered>(
     view: &Decorator,
     tree: &'a Template,
-    setting: &Setting<'_, 'a, P>,
+    body: Option<&Template>,
+    environment: &Environment<'_, 'a, P>,
     rc: &mut RenderContext,
     sink: &mut Sink<'_, O>,
 ) -> Result<(), BoxedError>
-    ensures renders { (site : Site) (kept : KeptIn (within setting.now)) → CarriesOn (setting_in P.parts setting.now)
-        (include_found site (tag_view view.now) (tree_view tree.now))
-        O.may_give (moment kept rc.old (held_in O.held sink.old))
-        (answer_of result) (moment kept rc.new (held_in O.held sink.new)) }
-    ensures same { IsSame sink.old sink.new }
-    ensures kept { IsKept rc.old rc.new }
+    ensures renders { (site : Site) (at : TreeSite) → Carries P.parts O.held O.may_give environment.now rc sink result
+        (include_tree (tag_view view.now) at (tree_view tree.now) (render_ahead site (part_view body.entry))) }
+    ensures stays { Stays rc sink }
 {
-    let count = match one_more(setting) {
+    let count = match one_more(environment) {
         Ok(count) => count,
         Err(e) => return Err(e),
     };
-    let LentBlock { block, base } = match inclusion_block(&*view, &*setting, rc) {
+    let LentBlock { block, base } = match inclusion_block(&*view, &*environment, rc) {
         Ok(lent) => lent,
-        Err(e) => return Err(BoxedError::new(setting.alloc, e)),
+        Err(e) => return Err(BoxedError::new(environment.alloc, e)),
     };
     let name = rc.begin(block)?;
-    let bases = Bases::block(base, setting.bases);
-    let nearer = Setting {
-        alloc: setting.alloc,
-        parts: &*setting.parts,
-        given: setting.given,
-        room: setting.room,
-        inclusions: setting.inclusions,
-        kept: setting.kept,
-        indent: setting.indent,
+    let bases = Bases::block(base, environment.bases);
+    let nearer = Environment {
         bases: &bases,
+        ..*environment
     };
-    let answer = match view.template() {
+    let answer = match body {
         Some(body) => match render_ahead::<O, P>(&*body, &nearer, rc) {
-            Ok(text) => include_tree(tree, count, Some(text.as_str()), view, &nearer, rc, sink),
+            Ok(text) => render_under(tree, count, Some(text.as_str()), view, &nearer, rc, sink),
             Err(e) => Err(e),
         },
-        None => include_tree(tree, count, None, view, &nearer, rc, sink),
+        None => render_under(tree, count, None, view, &nearer, rc, sink),
     };
-    rc.end(name);
-    answer
-}
-
-// Where nothing is found, the tag's own block is included.
-#[cycle(render)]
-fn include_own<O: Output, P: Registered>(
-    view: &Decorator,
-    setting: &Setting<'_, '_, P>,
-    rc: &mut RenderContext,
-    sink: &mut Sink<'_, O>,
-) -> Result<(), BoxedError>
-    ensures renders { (site : Site) (kept : KeptIn (within setting.now)) → CarriesOn (setting_in P.parts setting.now)
-        (include_partial site (tag_view view.now) (own_block (tag_view view.now).body))
-        O.may_give (moment kept rc.old (held_in O.held sink.old))
-        (answer_of result) (moment kept rc.new (held_in O.held sink.new)) }
-    ensures same { IsSame sink.old sink.new }
-    ensures kept { IsKept rc.old rc.new }
-{
-    let Some(body) = view.template() else {
-        return Err(no_partial(setting.alloc, view.name()));
-    };
-    let count = match one_more(setting) {
-        Ok(count) => count,
-        Err(e) => return Err(e),
-    };
-    let LentBlock { block, base } = match inclusion_block(&*view, &*setting, rc) {
-        Ok(lent) => lent,
-        Err(e) => return Err(BoxedError::new(setting.alloc, e)),
-    };
-    let name = rc.begin(block)?;
-    let bases = Bases::block(base, setting.bases);
-    let nearer = Setting {
-        alloc: setting.alloc,
-        parts: &*setting.parts,
-        given: &*setting.given,
-        room: setting.room,
-        inclusions: setting.inclusions,
-        kept: setting.kept,
-        indent: setting.indent,
-        bases: &bases,
-    };
-    let answer = include_tree(&*body, count, None, view, &nearer, rc, sink);
     rc.end(name);
     answer
 }
 
 // Renders a tree as one more inclusion, for which this text is kept, or none, under the indentation of the view.
 #[cycle(render)]
-fn include_tree<'a, O: Output, P: Registered>(
+fn render_under<'a, O: Output, P: Registered>(
     tree: &'a Template,
     count: u16,
     text: Option<&str>,
     view: &Decorator,
-    setting: &Setting<'_, 'a, P>,
+    environment: &Environment<'_, 'a, P>,
     rc: &mut RenderContext,
     sink: &mut Sink<'_, O>,
 ) -> Result<(), BoxedError>
     ensures renders { (at : TreeSite) (kept : KeptIn (included count text.entry (tag_view view.now).indent
-        (within setting.now).bases))
-        → CarriesOn (setting_in P.parts setting.now) (perform (Whole at (tree_view tree.now)))
+        (within environment.now).bases))
+        → CarriesOn (setting_in P.parts environment.now) (perform (Whole at (tree_view tree.now)))
         O.may_give (moment kept rc.old (held_in O.held sink.old))
         (answer_of result) (moment kept rc.new (held_in O.held sink.new)) }
-    ensures same { IsSame sink.old sink.new }
-    ensures kept { IsKept rc.old rc.new }
+    ensures stays { Stays rc sink }
 {
-    let nearer = Setting {
-        alloc: setting.alloc,
-        parts: &*setting.parts,
-        given: setting.given,
-        room: setting.room,
+    let nearer = Environment {
         inclusions: count,
         kept: text,
         indent: view.indent(),
-        bases: setting.bases,
+        ..*environment
     };
     render_tree(tree, &nearer, rc, sink)
 }
@@ -284,25 +208,16 @@ fn include_tree<'a, O: Output, P: Registered>(
 #[cycle(render)]
 fn render_ahead<O: Output, P: Registered>(
     body: &Template,
-    setting: &Setting<'_, '_, P>,
+    environment: &Environment<'_, '_, P>,
     rc: &mut RenderContext,
 ) -> Result<String, BoxedError>
-    ensures ahead { (at : TreeSite) (kept : KeptIn (within setting.now)) (held : Held)
-        → CarriesAhead (setting_in P.parts setting.now) (capture (perform (Whole at (tree_view body.now))))
+    ensures ahead { (at : TreeSite) (kept : KeptIn (within environment.now)) (held : Held)
+        → CarriesAhead (setting_in P.parts environment.now) (capture (perform (Whole at (tree_view body.now))))
         O.may_give (moment kept rc.old held) (answer_of result) (moment kept rc.new held) }
     ensures kept { IsKept rc.old rc.new }
 {
-    let nearer = Setting {
-        alloc: setting.alloc,
-        parts: &*setting.parts,
-        given: &*setting.given,
-        room: setting.room,
-        inclusions: setting.inclusions,
-        kept: setting.kept,
-        indent: setting.indent,
-        bases: setting.bases,
-    };
-    let mut text = StringOutput::new(setting.alloc);
+    let nearer = Environment { ..*environment };
+    let mut text = StringOutput::new(environment.alloc);
     let mut ahead: Sink<'_, O> = Sink::Ahead(&mut text);
     let answer = render_tree(&*body, &nearer, rc, &mut ahead);
     match ahead {
@@ -315,17 +230,17 @@ fn render_ahead<O: Output, P: Registered>(
 }
 
 // How many inclusions are being rendered within one more, where there is room for it.
-fn one_more<P: Registered>(setting: &Setting<'_, '_, P>) -> Result<u16, BoxedError>
-    ensures ok { IfOk result (λ n. ((within setting.now).inclusions < (P.parts setting.now.parts.now).limit)
-        × (n ≡ (within setting.now).inclusions + 1)) }
-    ensures err { IfErr result (λ e. ((P.parts setting.now.parts.now).limit ≤ (within setting.now).inclusions)
-        × IsRefusal (plain_refusal (inclusion_limit (P.parts setting.now.parts.now).limit)) (error_of e)) }
+fn one_more<P: Registered>(environment: &Environment<'_, '_, P>) -> Result<u16, BoxedError>
+    ensures ok { IfOk result (λ n. ((within environment.now).inclusions < (P.parts environment.now.parts.now).limit)
+        × (n ≡ (within environment.now).inclusions + 1)) }
+    ensures err { IfErr result (λ e. ((P.parts environment.now.parts.now).limit ≤ (within environment.now).inclusions)
+        × IsRefusal (plain_refusal (inclusion_limit (P.parts environment.now.parts.now).limit)) (error_of e)) }
 {
-    let limit = setting.parts.limit();
-    if setting.inclusions < limit {
-        Ok(setting.inclusions + 1)
+    let limit = environment.parts.limit();
+    if environment.inclusions < limit {
+        Ok(environment.inclusions + 1)
     } else {
-        Err(refused(setting.alloc, RenderErrorReason::InclusionLimit(limit)))
+        Err(refused(environment.alloc, RenderErrorReason::InclusionLimit(limit)))
     }
 }
 

@@ -14,8 +14,8 @@ ghost use Rattle.handlebars_render.specs.View.{setting_in, called_view, pairs_se
 
 use crate::called::{Called, helped_value};
 use crate::context::RenderContext;
+use crate::environment::Environment;
 use crate::registered::Registered;
-use crate::setting::Setting;
 use handlebars_base::error::RenderError;
 use handlebars_base::json::value::{JsonRender, PathAndJson, ScopedJson};
 use handlebars_template::template::{HelperTemplate, Parameter, Subexpression, TemplateElement};
@@ -26,36 +26,36 @@ use std::collections::BTreeMap;
 /// The value of a parameter.
 #[cycle(value)]
 pub fn expands<'a, P: Registered>(
-    setting: &Setting<'_, 'a, P>,
+    environment: &Environment<'_, 'a, P>,
     rc: &RenderContext,
     parameter: &'a Parameter,
 ) -> Result<ScopedJson<'a>, RenderError>
-    ensures value { (kept : KeptIn (within setting.now)) → Yields
-        (HasValue (setting_in P.parts setting.now) (state_with kept rc.now) (param_view parameter.now))
+    ensures value { (kept : KeptIn (within environment.now)) → Yields
+        (HasValue (setting_in P.parts environment.now) (state_with kept rc.now) (param_view parameter.now))
         found_of result }
     ensures constant { IfOk result (λ found. is_constant found ≡ is_literal (param_view parameter.now)) }
 {
     match parameter {
         Parameter::Name(_) => Ok(ScopedJson::Missing),
-        Parameter::Path(path) => rc.find(setting.given.data(), path, setting.bases),
+        Parameter::Path(path) => rc.find(environment.given.data(), path, environment.bases),
         Parameter::Literal(value) => Ok(ScopedJson::Constant(value)),
-        Parameter::Subexpression(inner) => inner_value(setting, rc, inner),
+        Parameter::Subexpression(inner) => inner_value(environment, rc, inner),
     }
 }
 
 /// The value of a parameter, as it is written.
 #[cycle(value)]
 pub fn expand<'a, P: Registered>(
-    setting: &Setting<'_, 'a, P>,
+    environment: &Environment<'_, 'a, P>,
     rc: &RenderContext,
     parameter: &'a Parameter,
 ) -> Result<PathAndJson<'a>, RenderError>
-    ensures { (kept : KeptIn (within setting.now)) → Yields
-        (HasWrittenValue (setting_in P.parts setting.now) (state_with kept rc.now) (param_view parameter.now))
+    ensures { (kept : KeptIn (within environment.now)) → Yields
+        (HasWrittenValue (setting_in P.parts environment.now) (state_with kept rc.now) (param_view parameter.now))
         path_and_data result }
 {
-    match expands(setting, rc, parameter) {
-        Ok(value) => Ok(PathAndJson::new(written(setting.alloc, parameter)?, value)),
+    match expands(environment, rc, parameter) {
+        Ok(value) => Ok(PathAndJson::new(written(environment.alloc, parameter)?, value)),
         Err(e) => Err(e),
     }
 }
@@ -63,20 +63,20 @@ pub fn expand<'a, P: Registered>(
 /// The text that a parameter is called by, which is borrowed where it is written.
 #[cycle(value)]
 pub fn expand_as_name<'a, P: Registered>(
-    setting: &Setting<'_, 'a, P>,
+    environment: &Environment<'_, 'a, P>,
     rc: &RenderContext,
     parameter: &'a Parameter,
 ) -> Result<CowStr<'a>, RenderError>
-    ensures { (kept : KeptIn (within setting.now)) → Yields
-        (HasName (setting_in P.parts setting.now) (state_with kept rc.now) (param_view parameter.now))
+    ensures { (kept : KeptIn (within environment.now)) → Yields
+        (HasName (setting_in P.parts environment.now) (state_with kept rc.now) (param_view parameter.now))
         cow_str_bytes result }
 {
     match parameter {
         Parameter::Name(text) => Ok(CowStr::Borrowed(text.as_str())),
         Parameter::Path(path) => Ok(CowStr::Borrowed(path.raw())),
-        Parameter::Literal(value) => Ok(CowStr::Owned(value.render(setting.alloc)?)),
-        Parameter::Subexpression(inner) => match inner_value(setting, rc, inner) {
-            Ok(value) => Ok(CowStr::Owned(value.render(setting.alloc)?)),
+        Parameter::Literal(value) => Ok(CowStr::Owned(value.render(environment.alloc)?)),
+        Parameter::Subexpression(inner) => match inner_value(environment, rc, inner) {
+            Ok(value) => Ok(CowStr::Owned(value.render(environment.alloc)?)),
             Err(e) => Err(e),
         },
     }
@@ -85,17 +85,17 @@ pub fn expand_as_name<'a, P: Registered>(
 /// The value of what stands in parentheses: only a call has one.
 #[cycle(value)]
 pub fn inner_value<'a, P: Registered>(
-    setting: &Setting<'_, 'a, P>,
+    environment: &Environment<'_, 'a, P>,
     rc: &RenderContext,
     inner: &'a Subexpression,
 ) -> Result<ScopedJson<'a>, RenderError>
-    ensures value { (kept : KeptIn (within setting.now)) → Yields
-        (HasInnerValue (setting_in P.parts setting.now) (state_with kept rc.now) (subexpression_view inner.now))
+    ensures value { (kept : KeptIn (within environment.now)) → Yields
+        (HasInnerValue (setting_in P.parts environment.now) (state_with kept rc.now) (subexpression_view inner.now))
         found_of result }
     ensures constant { IfOk result (λ found. is_constant found ≡ false) }
 {
     match &*inner.element {
-        TemplateElement::Expression(helper) => call_value(setting, rc, helper),
+        TemplateElement::Expression(helper) => call_value(environment, rc, helper),
         TemplateElement::RawString(_) => Ok(ScopedJson::Missing),
         TemplateElement::HtmlExpression(_) => Ok(ScopedJson::Missing),
         TemplateElement::HelperBlock(_) => Ok(ScopedJson::Missing),
@@ -110,17 +110,17 @@ pub fn inner_value<'a, P: Registered>(
 /// The value of a call in parentheses.
 #[cycle(value)]
 pub fn call_value<'a, P: Registered>(
-    setting: &Setting<'_, 'a, P>,
+    environment: &Environment<'_, 'a, P>,
     rc: &RenderContext,
     helper: &'a HelperTemplate,
 ) -> Result<ScopedJson<'a>, RenderError>
-    ensures value { (kept : KeptIn (within setting.now)) → Yields
-        (HasInnerValue (setting_in P.parts setting.now) (state_with kept rc.now) (expression (call_view helper.now)))
+    ensures value { (kept : KeptIn (within environment.now)) → Yields
+        (HasInnerValue (setting_in P.parts environment.now) (state_with kept rc.now) (expression (call_view helper.now)))
         found_of result }
     ensures constant { IfOk result (λ found. is_constant found ≡ false) }
 {
-    match called(setting, rc, helper) {
-        Ok(call) => helped_value(setting, rc, helper, call),
+    match called(environment, rc, helper) {
+        Ok(call) => helped_value(environment, rc, helper, call),
         Err(e) => Err(e),
     }
 }
@@ -128,18 +128,18 @@ pub fn call_value<'a, P: Registered>(
 /// The name of a call and the values of its parameters and pairs.
 #[cycle(value)]
 pub fn called<'a, P: Registered>(
-    setting: &Setting<'_, 'a, P>,
+    environment: &Environment<'_, 'a, P>,
     rc: &RenderContext,
     helper: &'a HelperTemplate,
 ) -> Result<Called<'a>, RenderError>
-    ensures { (kept : KeptIn (within setting.now)) → Yields
-        (HasView (setting_in P.parts setting.now) (state_with kept rc.now) (call_name (call_view helper.now))
+    ensures { (kept : KeptIn (within environment.now)) → Yields
+        (HasView (setting_in P.parts environment.now) (state_with kept rc.now) (call_name (call_view helper.now))
         (call_args (call_view helper.now)))
         called_view result }
 {
-    let name = expand_as_name(setting, rc, &helper.name)?;
-    let params = params_values(setting, rc, &helper.params)?;
-    let hash = pairs_values(setting, rc, &helper.hash)?;
+    let name = expand_as_name(environment, rc, &helper.name)?;
+    let params = params_values(environment, rc, &helper.params)?;
+    let hash = pairs_values(environment, rc, &helper.hash)?;
     Ok(Called { name, params, hash })
 }
 
@@ -147,17 +147,17 @@ pub fn called<'a, P: Registered>(
 #[cycle(value)]
 #[inline(always)]
 pub fn params_values<'a, P: Registered>(
-    setting: &Setting<'_, 'a, P>,
+    environment: &Environment<'_, 'a, P>,
     rc: &RenderContext,
     params: &'a Vec<Parameter>,
 ) -> Result<Vec<PathAndJson<'a>>, RenderError>
-    ensures { (kept : KeptIn (within setting.now)) → Yields
-        (HaveValues (setting_in P.parts setting.now) (state_with kept rc.now) (params_view params.now.items))
+    ensures { (kept : KeptIn (within environment.now)) → Yields
+        (HaveValues (setting_in P.parts environment.now) (state_with kept rc.now) (params_view params.now.items))
         (λ vs. map path_and_data vs.items) result }
 {
-    let mut values = Vec::new(setting.alloc);
+    let mut values = Vec::new(environment.alloc);
     for parameter in params {
-        values.push(expand(setting, rc, parameter)?)?;
+        values.push(expand(environment, rc, parameter)?)?;
     }
     Ok(values)
 }
@@ -166,17 +166,21 @@ pub fn params_values<'a, P: Registered>(
 #[cycle(value)]
 #[inline(always)]
 pub fn pairs_values<'a, P: Registered>(
-    setting: &Setting<'_, 'a, P>,
+    environment: &Environment<'_, 'a, P>,
     rc: &RenderContext,
     pairs: &'a BTreeMap<String, Parameter>,
 ) -> Result<BTreeMap<&'a str, PathAndJson<'a>>, RenderError>
-    ensures { (kept : KeptIn (within setting.now)) → Yields
-        (PairsHaveValues (setting_in P.parts setting.now) (state_with kept rc.now) (pairs_view pairs.now.entries))
+    ensures { (kept : KeptIn (within environment.now)) → Yields
+        (PairsHaveValues (setting_in P.parts environment.now) (state_with kept rc.now) (pairs_view pairs.now.entries))
         (λ vs. pairs_seen vs.entries) result }
 {
-    let mut values = BTreeMap::new(setting.alloc);
+    let mut values = BTreeMap::new(environment.alloc);
     for (key, parameter) in pairs.iter() {
-        put(&mut values, key.as_str(), expand(setting, rc, parameter)?)?;
+        put(
+            &mut values,
+            key.as_str(),
+            expand(environment, rc, parameter)?,
+        )?;
     }
     Ok(values)
 }

@@ -27,8 +27,8 @@ ghost use Rattle.handlebars_render.specs.View.{setting_in, state_of, moment, fir
 
 use crate::boxed::BoxedError;
 use crate::context::RenderContext;
+use crate::environment::Environment;
 use crate::registered::Registered;
-use crate::setting::Setting;
 use crate::sink::Sink;
 use handlebars_base::error::{RenderError, RenderErrorReason};
 use handlebars_base::json::value::{Json, JsonRender, write_value};
@@ -64,19 +64,19 @@ pub fn indent_aware_write<O: Output>(
 
 /// Writes a text, and takes note of the line behind it.
 pub(super) fn write_text<O: Output, P>(
-    setting: &Setting<P>,
+    environment: &Environment<P>,
     text: &str,
     rc: &mut RenderContext,
     sink: &mut Sink<'_, O>,
 ) -> Result<(), BoxedError>
-    ensures puts { (kept : KeptIn (within setting.now)) → Puts text.now O.may_give
+    ensures puts { (kept : KeptIn (within environment.now)) → Puts text.now O.may_give
         (moment kept rc.old (held_in O.held sink.old)) (answer_of result) (moment kept rc.new (held_in O.held sink.new)) }
     ensures same { IsSame sink.old sink.new }
     ensures kept { IsKept rc.old rc.new }
 {
-    match setting.indent {
-        None => write_text_plainly(setting.alloc, text, rc, sink),
-        Some(_) => write_text_in_line(setting, text, rc, sink),
+    match environment.indent {
+        None => write_text_plainly(environment.alloc, text, rc, sink),
+        Some(_) => write_text_in_line(environment, text, rc, sink),
     }
 }
 
@@ -106,17 +106,17 @@ fn write_text_plainly<O: Output>(
 #[cold]
 #[inline(never)]
 fn write_text_in_line<O: Output, P>(
-    setting: &Setting<P>,
+    environment: &Environment<P>,
     text: &str,
     rc: &mut RenderContext,
     sink: &mut Sink<'_, O>,
 ) -> Result<(), BoxedError>
-    ensures puts { (kept : KeptIn (within setting.now)) → Puts text.now O.may_give
+    ensures puts { (kept : KeptIn (within environment.now)) → Puts text.now O.may_give
         (moment kept rc.old (held_in O.held sink.old)) (answer_of result) (moment kept rc.new (held_in O.held sink.new)) }
     ensures same { IsSame sink.old sink.new }
     ensures kept { IsKept rc.old rc.new }
 {
-    match write_line(setting, text, rc, sink) {
+    match write_line(environment, text, rc, sink) {
         Ok(line) => {
             rc.set_line(line);
             Ok(())
@@ -127,33 +127,33 @@ fn write_text_in_line<O: Output, P>(
 
 // Writes a text, and answers the line behind it.
 fn write_line<O: Output, P>(
-    setting: &Setting<P>,
+    environment: &Environment<P>,
     text: &str,
     rc: &RenderContext,
     sink: &mut Sink<'_, O>,
 ) -> Result<LineState, BoxedError>
-    ensures puts { (kept : KeptIn (within setting.now)) → PutsTo text.now O.may_give
+    ensures puts { (kept : KeptIn (within environment.now)) → PutsTo text.now O.may_give
         (moment kept rc.now (held_in O.held sink.old)) (answer_of result) (held_in O.held sink.new) }
     ensures same { IsSame sink.old sink.new }
 {
     match sink {
-        Sink::Out(out) => write_line_to(setting, text, rc, &mut **out),
-        Sink::Ahead(ahead) => write_line_to(setting, text, rc, &mut **ahead),
+        Sink::Out(out) => write_line_to(environment, text, rc, &mut **out),
+        Sink::Ahead(ahead) => write_line_to(environment, text, rc, &mut **ahead),
     }
 }
 
 fn write_line_to<O: Output, P>(
-    setting: &Setting<P>,
+    environment: &Environment<P>,
     text: &str,
     rc: &RenderContext,
     out: &mut O,
 ) -> Result<LineState, BoxedError>
-    ensures puts { (kept : KeptIn (within setting.now)) → PutsTo text.now O.may_give (moment kept rc.now (O.held out.old))
+    ensures puts { (kept : KeptIn (within environment.now)) → PutsTo text.now O.may_give (moment kept rc.now (O.held out.old))
         (answer_of result) (O.held out.new) }
 {
-    match setting.indent {
-        None => write_line_plainly(setting.alloc, text, rc, out),
-        Some(indent) => write_text_under(setting.alloc, false, text, indent, rc, out),
+    match environment.indent {
+        None => write_line_plainly(environment.alloc, text, rc, out),
+        Some(indent) => write_text_under(environment.alloc, false, text, indent, rc, out),
     }
 }
 
@@ -188,20 +188,20 @@ fn write_fault(alloc: Global, fault: io::Error) -> BoxedError
 /// it. The value may be one of a block, so the context is left to the caller.
 #[inline(always)]
 pub(super) fn write_found<O: Output, P: Registered>(
-    setting: &Setting<P>,
+    environment: &Environment<P>,
     value: Option<&Json>,
     rc: &RenderContext,
     sink: &mut Sink<'_, O>,
 ) -> Result<LineState, BoxedError>
-    ensures shows { (site : Site) (kept : KeptIn (within setting.now)) (found : Found)
+    ensures shows { (site : Site) (kept : KeptIn (within environment.now)) (found : Found)
         → rendered_if_any (present_in found) ≡ rendered_if_any (option_map (λ v. view v.now) value.entry)
-        → ShowsTo (setting_in P.parts setting.now) site found O.may_give (moment kept rc.now (held_in O.held sink.old))
+        → ShowsTo (setting_in P.parts environment.now) site found O.may_give (moment kept rc.now (held_in O.held sink.old))
         (answer_of result) (held_in O.held sink.new) }
     ensures same { IsSame sink.old sink.new }
 {
-    match entities_by(setting.parts.escape(), rc.escapes()) {
-        Some(entities) => write_by(setting, entities, value, rc, sink),
-        None => write_escaped(setting, value, rc, sink),
+    match entities_by(environment.parts.escape(), rc.escapes()) {
+        Some(entities) => write_by(environment, entities, value, rc, sink),
+        None => write_escaped(environment, value, rc, sink),
     }
 }
 
@@ -220,21 +220,21 @@ fn entities_by(escaping: Escaping, escapes: bool) -> Option<bool>
 // Writes a value, with entities or without; nothing where there is none.
 #[inline(always)]
 fn write_by<O: Output, P>(
-    setting: &Setting<P>,
+    environment: &Environment<P>,
     entities: bool,
     value: Option<&Json>,
     rc: &RenderContext,
     sink: &mut Sink<'_, O>,
 ) -> Result<LineState, BoxedError>
-    ensures puts { (kept : KeptIn (within setting.now))
+    ensures puts { (kept : KeptIn (within environment.now))
         → PutsTo (escaped_if entities (rendered_if_any (option_map (λ v. view v.now) value.entry)))
         O.may_give (moment kept rc.now (held_in O.held sink.old)) (answer_of result) (held_in O.held sink.new) }
     ensures same { IsSame sink.old sink.new }
 {
     match value {
         Some(value) => match sink {
-            Sink::Out(out) => write_value_to(setting, entities, value, rc, &mut **out),
-            Sink::Ahead(ahead) => write_value_to(setting, entities, value, rc, &mut **ahead),
+            Sink::Out(out) => write_value_to(environment, entities, value, rc, &mut **out),
+            Sink::Ahead(ahead) => write_value_to(environment, entities, value, rc, &mut **ahead),
         },
         None => Ok(rc.line()),
     }
@@ -242,18 +242,18 @@ fn write_by<O: Output, P>(
 
 #[inline(always)]
 fn write_value_to<O: Output, P>(
-    setting: &Setting<P>,
+    environment: &Environment<P>,
     entities: bool,
     value: &Json,
     rc: &RenderContext,
     out: &mut O,
 ) -> Result<LineState, BoxedError>
-    ensures puts { (kept : KeptIn (within setting.now)) → PutsTo (escaped_if entities (rendered (view value.now)))
+    ensures puts { (kept : KeptIn (within environment.now)) → PutsTo (escaped_if entities (rendered (view value.now)))
         O.may_give (moment kept rc.now (O.held out.old)) (answer_of result) (O.held out.new) }
 {
-    match setting.indent {
-        Some(indent) => write_value_under(setting.alloc, entities, value, indent, rc, out),
-        None => write_value_plainly(setting.alloc, entities, value, rc, out),
+    match environment.indent {
+        Some(indent) => write_value_under(environment.alloc, entities, value, indent, rc, out),
+        None => write_value_plainly(environment.alloc, entities, value, rc, out),
     }
 }
 
@@ -321,32 +321,35 @@ fn write_text_under<O: Output>(
 // Writes what the escape function of one's own answers for a value.
 #[inline(never)]
 fn write_escaped<O: Output, P: Registered>(
-    setting: &Setting<P>,
+    environment: &Environment<P>,
     value: Option<&Json>,
     rc: &RenderContext,
     sink: &mut Sink<'_, O>,
 ) -> Result<LineState, BoxedError>
-    ensures shows { (site : Site) (kept : KeptIn (within setting.now)) (found : Found)
+    ensures shows { (site : Site) (kept : KeptIn (within environment.now)) (found : Found)
         → rendered_if_any (present_in found) ≡ rendered_if_any (option_map (λ v. view v.now) value.entry)
-        → by_own ≡ (P.parts setting.now.parts.now).escape → (state_of rc.now).escapes ≡ true
-        → ShowsTo (setting_in P.parts setting.now) site found O.may_give (moment kept rc.now (held_in O.held sink.old))
+        → by_own ≡ (P.parts environment.now.parts.now).escape → (state_of rc.now).escapes ≡ true
+        → ShowsTo (setting_in P.parts environment.now) site found O.may_give (moment kept rc.now (held_in O.held sink.old))
         (answer_of result) (held_in O.held sink.new) }
     ensures same { IsSame sink.old sink.new }
 {
-    match escaped(setting, value) {
-        Ok(text) => write_line(setting, text.as_str(), rc, sink),
-        Err(e) => Err(BoxedError::new(setting.alloc, e)),
+    match escaped(environment, value) {
+        Ok(text) => write_line(environment, text.as_str(), rc, sink),
+        Err(e) => Err(BoxedError::new(environment.alloc, e)),
     }
 }
 
 // What the escape function of one's own answers for the whole text of a value. It is asked once, also where that
 // is empty.
-fn escaped<P: Registered>(setting: &Setting<P>, value: Option<&Json>) -> Result<String, RenderError>
-    ensures { IsOneOf ((P.parts setting.now.parts.now).own_escape
+fn escaped<P: Registered>(
+    environment: &Environment<P>,
+    value: Option<&Json>,
+) -> Result<String, RenderError>
+    ensures { IsOneOf ((P.parts environment.now.parts.now).own_escape
         (rendered_if_any (option_map (λ v. view v.now) value.entry))) string_bytes result }
 {
-    let text = whole(setting.alloc, value)?;
-    setting.parts.escaped(text.as_str())
+    let text = whole(environment.alloc, value)?;
+    environment.parts.escaped(text.as_str())
 }
 
 // The text of a value, and none where there is none.
@@ -361,19 +364,19 @@ fn whole(alloc: Global, value: Option<&Json>) -> Result<String, AllocError>
 
 /// Writes a value that a helper chose, as one that has no path; a missing one counts as null.
 pub(super) fn write_chosen<O: Output, P: Registered>(
-    setting: &Setting<P>,
+    environment: &Environment<P>,
     value: Option<&Json>,
     rc: &mut RenderContext,
     sink: &mut Sink<'_, O>,
 ) -> Result<(), BoxedError>
-    ensures shows { (site : Site) (kept : KeptIn (within setting.now)) → CarriesOn (setting_in P.parts setting.now)
+    ensures shows { (site : Site) (kept : KeptIn (within environment.now)) → CarriesOn (setting_in P.parts environment.now)
         (meaning.write_value site (scoped.value (unwrap_or (option_map (λ v. view v.now) value.entry) null)))
         O.may_give (moment kept rc.old (held_in O.held sink.old)) (answer_of result)
         (moment kept rc.new (held_in O.held sink.new)) }
     ensures same { IsSame sink.old sink.new }
     ensures kept { IsKept rc.old rc.new }
 {
-    match write_found(setting, value, rc, sink) {
+    match write_found(environment, value, rc, sink) {
         Ok(line) => {
             rc.set_line(line);
             Ok(())
@@ -384,12 +387,12 @@ pub(super) fn write_chosen<O: Output, P: Registered>(
 
 /// Writes a number that a helper chose.
 pub(super) fn write_count<O: Output, P: Registered>(
-    setting: &Setting<P>,
+    environment: &Environment<P>,
     count: usize,
     rc: &mut RenderContext,
     sink: &mut Sink<'_, O>,
 ) -> Result<(), BoxedError>
-    ensures shows { (site : Site) (kept : KeptIn (within setting.now)) → CarriesOn (setting_in P.parts setting.now)
+    ensures shows { (site : Site) (kept : KeptIn (within environment.now)) → CarriesOn (setting_in P.parts environment.now)
         (meaning.write_value site (scoped.value (number (unsigned count))))
         O.may_give (moment kept rc.old (held_in O.held sink.old)) (answer_of result)
         (moment kept rc.new (held_in O.held sink.new)) }
@@ -397,7 +400,7 @@ pub(super) fn write_count<O: Output, P: Registered>(
     ensures kept { IsKept rc.old rc.new }
 {
     let value = Json::Number(Number::from(count));
-    write_chosen(setting, Some(&value), rc, sink)
+    write_chosen(environment, Some(&value), rc, sink)
 }
 
 // ---- texts that the line takes no note of

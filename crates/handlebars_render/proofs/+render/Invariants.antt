@@ -15,101 +15,68 @@ use Rattle.handlebars_render.proofs.+render.Given as goal
 
 -- Each tree within another leaves room for one less; from one tree to the next the functions follow in this order.
 abbrev pub decreases-tree::render_tree : goal.decreases-tree::render_tree
-decreases-tree::render_tree g l = 16 * l.setting.now.room
-
-abbrev pub decreases-tree::render_whole : goal.decreases-tree::render_whole
-decreases-tree::render_whole g l = 16 * l.setting.now.room + 15
+decreases-tree::render_tree g l = 16 * l.environment.now.room
 
 abbrev pub decreases-element::render_element : goal.decreases-element::render_element
-decreases-element::render_element g l = 16 * l.setting.now.room + 14
+decreases-element::render_element g l = 16 * l.environment.now.room + 14
 
 abbrev pub decreases-element::render_unescaped : goal.decreases-element::render_unescaped
-decreases-element::render_unescaped g l = 16 * l.setting.now.room + 13
+decreases-element::render_unescaped g l = 16 * l.environment.now.room + 13
 
 abbrev pub decreases-block::render_tag : goal.decreases-block::render_tag
-decreases-block::render_tag g l = 16 * l.setting.now.room + 12
-
-abbrev pub decreases-block::render_boxed : goal.decreases-block::render_boxed
-decreases-block::render_boxed g l = 16 * l.setting.now.room + 11
-
-abbrev pub decreases-block::render_next : goal.decreases-block::render_next
-decreases-block::render_next g l = 16 * l.setting.now.room + 10
-
-abbrev pub decreases-block::render_chosen : goal.decreases-block::render_chosen
-decreases-block::render_chosen g l = 16 * l.setting.now.room + 9
-
-abbrev pub decreases-block::render_local : goal.decreases-block::render_local
-decreases-block::render_local g l = 16 * l.setting.now.room + 8
-
-abbrev pub decreases-block::render_bound : goal.decreases-block::render_bound
-decreases-block::render_bound g l = 16 * l.setting.now.room + 7
-
-abbrev pub decreases-steps::render_own : goal.decreases-steps::render_own
-decreases-steps::render_own g l = 16 * l.setting.now.room + 6
-
-abbrev pub decreases-steps::carry_out_own : goal.decreases-steps::carry_out_own
-decreases-steps::carry_out_own g l = 16 * l.setting.now.room + 5
-
-abbrev pub decreases-steps::take_steps : goal.decreases-steps::take_steps
-decreases-steps::take_steps g l = 16 * l.setting.now.room + 4
-
-abbrev pub decreases-steps::take_step : goal.decreases-steps::take_step
-decreases-steps::take_step g l = 16 * l.setting.now.room + 3
-
-abbrev pub decreases-steps::render_in : goal.decreases-steps::render_in
-decreases-steps::render_in g l = 16 * l.setting.now.room + 2
-
-abbrev pub decreases-block::render_built : goal.decreases-block::render_built
-decreases-block::render_built g l = 16 * l.setting.now.room + 5
-
-abbrev pub decreases-block::carry_out : goal.decreases-block::carry_out
-decreases-block::carry_out g l = 16 * l.setting.now.room + 4
+decreases-block::render_tag g l = 16 * l.environment.now.room + 12
 
 abbrev pub decreases-block::render_branch : goal.decreases-block::render_branch
-decreases-block::render_branch g l = 16 * l.setting.now.room + 3
+decreases-block::render_branch g l = 16 * l.environment.now.room + 11
 
-abbrev pub decreases-block::render_word : goal.decreases-block::render_word
-decreases-block::render_word g l = 16 * l.setting.now.room + 2
+abbrev pub decreases-block::render_call : goal.decreases-block::render_call
+decreases-block::render_call g l = 16 * l.environment.now.room + 11
 
-abbrev pub decreases-block::render_body : goal.decreases-block::render_body
-decreases-block::render_body g l = 16 * l.setting.now.room + 1
+abbrev pub decreases-block::render_chosen : goal.decreases-block::render_chosen
+decreases-block::render_chosen g l = 16 * l.environment.now.room + 10
 
-abbrev pub decreases-block::render_inverse : goal.decreases-block::render_inverse
-decreases-block::render_inverse g l = 16 * l.setting.now.room + 1
-
-abbrev pub decreases-each::render_with : goal.decreases-each::render_with
-decreases-each::render_with g l = 16 * l.setting.now.room + 2
+abbrev pub decreases-block::render_rest : goal.decreases-block::render_rest
+decreases-block::render_rest g l = 16 * l.environment.now.room + 9
 
 abbrev pub decreases-each::render_each : goal.decreases-each::render_each
-decreases-each::render_each g l = 16 * l.setting.now.room + 3
+decreases-each::render_each g l = 16 * l.environment.now.room + 8
 
 abbrev pub decreases-each::take_turns : goal.decreases-each::take_turns
-decreases-each::take_turns g l = 16 * l.setting.now.room + 2
+decreases-each::take_turns g l = 16 * l.environment.now.room + 7
+
+abbrev pub decreases-steps::take_steps : goal.decreases-steps::take_steps
+decreases-steps::take_steps g l = 16 * l.environment.now.room + 8
+
+abbrev pub decreases-steps::take_step : goal.decreases-steps::take_step
+decreases-steps::take_step g l = 16 * l.environment.now.room + 7
+
+abbrev pub decreases-each::render_in : goal.decreases-each::render_in
+decreases-each::render_in g l = 16 * l.environment.now.room + 6
+
+abbrev pub decreases-block::render_part : goal.decreases-block::render_part
+decreases-block::render_part g l = 16 * l.environment.now.room + 1
 
 abbrev pub decreases-partial::render_partial : goal.decreases-partial::render_partial
-decreases-partial::render_partial g l = 16 * l.setting.now.room + 4
+decreases-partial::render_partial g l = 16 * l.environment.now.room + 6
 
 abbrev pub decreases-partial::include : goal.decreases-partial::include
-decreases-partial::include g l = 16 * l.setting.now.room + 3
-
-abbrev pub decreases-partial::include_found : goal.decreases-partial::include_found
-decreases-partial::include_found g l = 16 * l.setting.now.room + 2
-
-abbrev pub decreases-partial::include_own : goal.decreases-partial::include_own
-decreases-partial::include_own g l = 16 * l.setting.now.room + 2
-
-abbrev pub decreases-partial::render_kept : goal.decreases-partial::render_kept
-decreases-partial::render_kept g l = 16 * l.setting.now.room + 1
+decreases-partial::include g l = 16 * l.environment.now.room + 5
 
 abbrev pub decreases-partial::include_tree : goal.decreases-partial::include_tree
-decreases-partial::include_tree g l = 16 * l.setting.now.room + 1
+decreases-partial::include_tree g l = 16 * l.environment.now.room + 3
+
+abbrev pub decreases-partial::render_kept : goal.decreases-partial::render_kept
+decreases-partial::render_kept g l = 16 * l.environment.now.room + 2
+
+abbrev pub decreases-partial::render_under : goal.decreases-partial::render_under
+decreases-partial::render_under g l = 16 * l.environment.now.room + 1
 
 abbrev pub decreases-partial::render_ahead : goal.decreases-partial::render_ahead
-decreases-partial::render_ahead g l = 16 * l.setting.now.room + 1
+decreases-partial::render_ahead g l = 16 * l.environment.now.room + 1
 
-abbrev pub invariant-tree::render_whole-elements : goal.invariant-tree::render_whole-elements
-invariant-tree::render_whole-elements g l = record {
-  left : (at : TreeSite) (kept : KeptIn (within l.setting)) → Left (setting_in g.P.Registered.parts l.setting) g.O.Output.may_give at (map element_view l.element-items)
+abbrev pub invariant-tree::render_tree-elements : goal.invariant-tree::render_tree-elements
+invariant-tree::render_tree-elements g l = record {
+  left : (at : TreeSite) (kept : KeptIn (within l.environment)) → Left (setting_in g.P.Registered.parts l.environment) g.O.Output.may_give at (map element_view l.element-items)
       (map place_of (out-Template l.template).mapping.items) l.index
       (moment kept l.initial.rc (held_in g.O.Output.held l.initial.sink)) (moment kept l.rc (held_in g.O.Output.held l.sink));
   same : IsSame l.initial.sink l.sink;
@@ -119,7 +86,7 @@ invariant-tree::render_whole-elements g l = record {
 abbrev pub invariant-each::take_turns-turns : goal.invariant-each::take_turns-turns
 invariant-each::take_turns-turns g l = record {
   number : ℕ;
-  left : (site : Site) (kept : KeptIn (within l.setting)) (block : Bool) (v : CallView) → IsUnlent kept.bases → TurnsLeft (setting_in g.P.Registered.parts l.setting) g.O.Output.may_give
+  left : (site : Site) (block : Bool) (v : CallView) (kept : KeptIn (within l.environment)) → IsUnlent kept.bases → TurnsLeft (setting_in g.P.Registered.parts l.environment) g.O.Output.may_give
       site number (helper_call block (call_view l.helper) v) (path_view l.path) (turns_left l.initial.left) (turns_left l.left)
       (moment kept l.initial.rc (held_in g.O.Output.held l.initial.sink)) (moment kept l.rc (held_in g.O.Output.held l.sink));
   same : IsSame l.initial.sink l.sink;
@@ -133,7 +100,7 @@ decreases-each::take_turns-turns g l = length (turns_left l.left)
 abbrev pub invariant-steps::take_steps-steps : goal.invariant-steps::take_steps-steps
 invariant-steps::take_steps-steps g l = record {
   number : ℕ;
-  left : (site : Site) (kept : KeptIn (within l.setting)) (block : Bool) (v : CallView) → StepsLeft (setting_in g.P.Registered.parts l.setting) g.O.Output.may_give
+  left : (site : Site) (block : Bool) (v : CallView) (kept : KeptIn (within l.environment)) → StepsLeft (setting_in g.P.Registered.parts l.environment) g.O.Output.may_give
       site number (helper_call block (call_view l.helper) v) (map step_of (into_iter_items l.initial.step-iterator))
       (map step_of (into_iter_items l.step-iterator))
       (moment kept l.initial.rc (held_in g.O.Output.held l.initial.sink)) (moment kept l.rc (held_in g.O.Output.held l.sink));

@@ -12,14 +12,14 @@ use Rattle.handlebars_render.proofs.branch.condition.Goals as goal
 
 pub returns-in-Value : goal.returns-in-Value
 returns-in-Value g c = λ kept.
-    judges-value (setting_in g.P.Registered.parts c.args.setting.now) (state_with kept c.args.rc.now) (reference_of c.args.path.now) (view c.in-Value.value.now) _ ((rw c.data.ensures.value at c.in-Value.ensures)
-    ∙ ap (answer_map present_in) (read-lent kept (state_of c.args.rc.now) (data_of c.args.setting.now.given.now) (reference_of c.args.path.now))) c.is_truthy.ensures
+    judges-value (setting_in g.P.Registered.parts c.args.environment.now) (state_with kept c.args.rc.now) (reference_of c.args.path.now) (view c.in-Value.value.now) _ ((rw c.data.ensures.value at c.in-Value.ensures)
+    ∙ ap (answer_map present_in) (read-lent kept (state_of c.args.rc.now) (data_of c.args.environment.now.given.now) (reference_of c.args.path.now))) c.is_truthy.ensures
 
 pub returns-in-Nothing : goal.returns-in-Nothing
-returns-in-Nothing g c = λ kept. judges-nothing (setting_in g.P.Registered.parts c.args.setting.now) (state_with kept c.args.rc.now) (reference_of c.args.path.now) ((rw c.data.ensures.value at c.in-Nothing.ensures)
-    ∙ ap (answer_map present_in) (read-lent kept (state_of c.args.rc.now) (data_of c.args.setting.now.given.now) (reference_of c.args.path.now)))
+returns-in-Nothing g c = λ kept. judges-nothing (setting_in g.P.Registered.parts c.args.environment.now) (state_with kept c.args.rc.now) (reference_of c.args.path.now) ((rw c.data.ensures.value at c.in-Nothing.ensures)
+    ∙ ap (answer_map present_in) (read-lent kept (state_of c.args.rc.now) (data_of c.args.environment.now.given.now) (reference_of c.args.path.now)))
 
 pub returns-in-NoIndex : goal.returns-in-NoIndex
 returns-in-NoIndex g c = λ kept.
-    judges-refused (setting_in g.P.Registered.parts c.args.setting.now) (state_with kept c.args.rc.now) (reference_of c.args.path.now) _ (error_of c.not_an_index.result) ((rw c.data.ensures.value at c.in-NoIndex.ensures)
-    ∙ ap (answer_map present_in) (read-lent kept (state_of c.args.rc.now) (data_of c.args.setting.now.given.now) (reference_of c.args.path.now))) c.not_an_index.ensures
+    judges-refused (setting_in g.P.Registered.parts c.args.environment.now) (state_with kept c.args.rc.now) (reference_of c.args.path.now) _ (error_of c.not_an_index.result) ((rw c.data.ensures.value at c.in-NoIndex.ensures)
+    ∙ ap (answer_map present_in) (read-lent kept (state_of c.args.rc.now) (data_of c.args.environment.now.given.now) (reference_of c.args.path.now))) c.not_an_index.ensures

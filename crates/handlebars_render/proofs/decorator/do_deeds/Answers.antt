@@ -10,7 +10,7 @@ use Rattle.handlebars_render.proofs.decorator.do_deeds.Goals as goal
 pub returns-in-Err-clause-does : goal.returns-in-Err-clause-does
 returns-in-Err-clause-does g c = λ kept.
     rw (sym c.into_iter-deed-iterator.ensures.into_iter_gives.0)
-    (deeds-over (setting_in g.P.Registered.parts c.args.setting.now) (tag_view c.args.tag.now).body _ (error_of c.in-Err.e) (ap (map deed_of) c.in-Some.ensures.steps.0)
+    (deeds-over (setting_in g.P.Registered.parts c.args.environment.now) (tag_view c.args.tag.now).body _ (error_of c.in-Err.e) (ap (map deed_of) c.in-Some.ensures.steps.0)
     (c.deeds.invariant.left kept) (c.in-Err.ensures.does kept))
 
 pub deeds-init : goal.deeds-init
@@ -27,7 +27,7 @@ deeds-preserved g c =
     let gone = c.in-Some.ensures.steps.1 in
     let short = ap length c.in-Some.ensures.steps.0 in
     record {
-      left = λ kept. deeds-go (setting_in g.P.Registered.parts c.args.setting.now) (tag_view c.args.tag.now).body _ (ap (map deed_of) c.in-Some.ensures.steps.0)
+      left = λ kept. deeds-go (setting_in g.P.Registered.parts c.args.environment.now) (tag_view c.args.tag.now).body _ (ap (map deed_of) c.in-Some.ensures.steps.0)
           (c.deeds.invariant.left kept) (c.in_default.ensures.does kept);
       sized = omega arith;
       kept = kept-trans c.deeds.invariant.kept c.in_default.ensures.kept;
@@ -36,6 +36,6 @@ deeds-preserved g c =
 pub returns-clause-does : goal.returns-clause-does
 returns-clause-does g c = λ kept.
     rw (sym c.into_iter-deed-iterator.ensures.into_iter_gives.0)
-    (deeds-end (setting_in g.P.Registered.parts c.args.setting.now) (tag_view c.args.tag.now).body _
+    (deeds-end (setting_in g.P.Registered.parts c.args.environment.now) (tag_view c.args.tag.now).body _
     (ap (map deed_of) (nothing_left _ (sym c.deeds.invariant.sized ∙ c.in-None.ensures.steps.0)))
     (c.deeds.invariant.left kept))

@@ -10,11 +10,11 @@ use Rattle.handlebars_render.proofs.decorator.set_partial.Goals as goal
 
 pub returns-in_ok-set_partial-in-Some-clause-does : goal.returns-in_ok-set_partial-in-Some-clause-does
 returns-in_ok-set_partial-in-Some-clause-does g c = λ kept.
-    does-partial (setting_in g.P.Registered.parts c.args.setting.now) c.args.name.now (tag_view c.args.tag.now).body (tree_view c.in-Some.template.now) c.in-Some.ensures
+    does-partial (setting_in g.P.Registered.parts c.args.environment.now) c.args.name.now (tag_view c.args.tag.now).body (tree_view c.in-Some.template.now) c.in-Some.ensures
     (ap (keeping kept) c.in_ok-set_partial-in-Some.ensures.ok
     ∙ partial-lent kept c.args.name.now (tree_view c.in-Some.template.now) (state_of c.args.rc.now))
 
 pub returns-in-None-clause-does : goal.returns-in-None-clause-does
 returns-in-None-clause-does g c = λ kept.
-    refuses-partial (setting_in g.P.Registered.parts c.args.setting.now) c.args.name.now (tag_view c.args.tag.now).body (error_of c.new.result) c.in-None.ensures
+    refuses-partial (setting_in g.P.Registered.parts c.args.environment.now) c.args.name.now (tag_view c.args.tag.now).body (error_of c.new.result) c.in-None.ensures
     (refusal-handed _ c.into.result (error_of c.new.result) c.new.ensures (λ other. c.into.ensures))

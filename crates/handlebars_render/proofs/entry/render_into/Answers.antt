@@ -4,4 +4,4 @@ use Rattle.handlebars_render.proofs.entry.render_into.Goals as goal
 
 pub returns-in-Out-clause-renders : goal.returns-in-Out-clause-renders
 returns-in-Out-clause-renders g c = λ at kept. let z = rw c.in-Out.is at (c.render_tree-answer.ensures.renders at kept) in
-    behind-same _ _ (let same = rw c.in-Out.is at c.render_tree-answer.ensures.same in search rules) z
+    behind-same _ _ (let same = rw c.in-Out.is at c.render_tree-answer.ensures.stays.same in search rules) z

@@ -7,6 +7,6 @@ use Rattle.handlebars_render.proofs.evaluate.eval_tree.Given as goal
 -- What ends so from here ends so from the start, with nothing written.
 abbrev pub invariant-elements : goal.invariant-elements
 invariant-elements g l =
-    ((kept : KeptIn (within l.setting)) → SilentLeft (setting_in g.P.Registered.parts l.setting) (map alone_view l.element-items)
+    ((kept : KeptIn (within l.environment)) → SilentLeft (setting_in g.P.Registered.parts l.environment) (map alone_view l.element-items)
     (map place_of l.template.mapping.items) l.index (state_with kept l.fn.rc) (state_with kept l.rc))
     × IsKept l.fn.rc l.rc

@@ -7,7 +7,7 @@ use Rattle.handlebars_render.proofs.inclusion.base.Goals as goal
 
 pub returns-in_ok-merge-in-Some : goal.returns-in_ok-merge-in-Some
 returns-in_ok-merge-in-Some g c = λ kept.
-    let p = setting_in g.P.Registered.parts c.args.setting.now in
+    let p = setting_in g.P.Registered.parts c.args.environment.now in
     let s = state_with kept c.args.rc.now in
     let q = path_and_data c.in-Some.value.now in (
       data_in q.found,

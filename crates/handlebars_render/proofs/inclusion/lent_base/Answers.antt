@@ -16,7 +16,7 @@ use Rattle.handlebars_render.proofs.inclusion.lent_base.Goals as goal
 
 pub returns-in-Some-clause-value : goal.returns-in-Some-clause-value
 returns-in-Some-clause-value g c = λ kept.
-    let p = setting_in g.P.Registered.parts c.args.setting.now in
+    let p = setting_in g.P.Registered.parts c.args.environment.now in
     let s = state_with kept c.args.rc.now in
     let params = (tag_view c.args.tag.now).call.params in
     let q = path_and_data c.in-Some.value.now in
@@ -28,10 +28,10 @@ returns-in-Some-clause-plain g c =
 
 pub returns-in-Some-lent_current-clause-value : goal.returns-in-Some-lent_current-clause-value
 returns-in-Some-lent_current-clause-value g c = λ kept.
-    let p = setting_in g.P.Registered.parts c.args.setting.now in
+    let p = setting_in g.P.Registered.parts c.args.environment.now in
     let s = state_with kept c.args.rc.now in
     let params = (tag_view c.args.tag.now).call.params in
-    let read = read-lent kept (state_of c.args.rc.now) (data_of c.args.setting.now.given.now) (relative [] []) in
+    let read = read-lent kept (state_of c.args.rc.now) (data_of c.args.environment.now.given.now) (relative [] []) in
     of-none p s params (none-first params c.in-None.ensures)
     (base-value p s (view c.in-Some-lent_current.value.now) (relative [] []) refl
     (sym (rw c.data.ensures.value at c.in-Some-lent_current.ensures) ∙ ap (answer_map present_in) read))

@@ -1,13 +1,19 @@
 use Rattle.std.proofs.Common.{ap, false, option_map, sym, ◌∙◌}
 use Rattle.std.specs.Cow.{cow_str_bytes}
+use Rattle.handlebars_base.specs.Scoped.{missing}
 use Rattle.handlebars_template.specs.TreeView.{call_view}
 use Rattle.handlebars_template.proofs.Levels.{call_name-view}
 use Rattle.handlebars_helpers.specs.Callee.{calls_registered}
 use Rattle.handlebars_helpers.specs.OwnView.{callee_of}
-use Rattle.handlebars_render.specs.Boxed.{answer_of, error_of}
+use Rattle.handlebars_meaning.specs.CarryOut.{helper_call}
+use Rattle.handlebars_meaning.specs.Means.{render_chosen, render_found}
+use Rattle.handlebars_meaning.specs.Questions.{choice_of}
+use Rattle.handlebars_meaning.specs.Steps.{ask}
+use Rattle.handlebars_render.specs.Boxed.{error_of}
 use Rattle.handlebars_render.specs.Targets.{target_in}
 use Rattle.handlebars_render.specs.View.{called_view, name_alone}
-use Rattle.handlebars_render.proofs.Leaves.{leaves-hook, gives-nothing, refuses-missing, settles-call}
+use Rattle.handlebars_render.proofs.Asked.{refuses-ask, refuses-bind}
+use Rattle.handlebars_render.proofs.Leaves.{leaves-hook, gives-nothing, refuses-leaves, refuses-missing}
 use Rattle.handlebars_render.proofs.lone.settle_missing.Goals as goal
 
 pub returns-then-strict : goal.returns-then-strict
@@ -15,21 +21,39 @@ returns-then-strict g c = λ site kept.
     refuses-missing _ site (call_view c.args.helper.now) (name_alone (cow_str_bytes c.args.name)) _ (error_of c.missing_variable.result)
     c.if-strict.ensures (call_name-view c.args.helper.now) c.missing_variable.ensures
 
+pub returns-in-Ok : goal.returns-in-Ok
+returns-in-Ok g c = λ site kept. record {
+  target = target_in false (called_view c.alone-call.result).name c.hooked.result;
+  view = called_view c.alone-call.result;
+  leaves = leaves-hook _ site (call_view c.args.helper.now) (cow_str_bytes c.args.name) (calls_registered (callee_of c.hook.result.now c.in-Some.callee))
+      (target_in false (called_view c.alone-call.result).name c.hooked.result) (called_view c.alone-call.result)
+      c.if-strict.ensures (ap (option_map (λ k. calls_registered k))
+      (c.in-Some.ensures ∙ ap (g.P.Registered.parts c.args.environment.now.parts.now).helper c.hook.ensures))
+      (c.hooked.ensures false (called_view c.alone-call.result).name
+      ∙ ap (λ t. calls_registered (callee_of t c.in-Some.callee)) (sym c.hook.ensures))
+      c.alone-call.ensures;
+  chooses = c.in-Ok.ensures kept (call_view c.args.helper.now);
+}
+
 pub returns-in-Some : goal.returns-in-Some
-returns-in-Some g c = λ site kept.
-    settles-call _ site false (call_view c.args.helper.now) _ _ (answer_of c.to_call.result) c.to_call.ensures
+returns-in-Some g c = λ site kept other.
+    let k = target_in false (called_view c.alone-call.result).name c.hooked.result in
+    let h = helper_call false (call_view c.args.helper.now) (called_view c.alone-call.result) in
+    refuses-leaves _ (render_found site (call_view c.args.helper.now) (name_alone (cow_str_bytes c.args.name)) missing)
+    (render_chosen site k h)
     (leaves-hook _ site (call_view c.args.helper.now) (cow_str_bytes c.args.name) (calls_registered (callee_of c.hook.result.now c.in-Some.callee))
-    (target_in false (called_view c.alone.result).name c.hooked.result) (called_view c.alone.result)
+    (target_in false (called_view c.alone-call.result).name c.hooked.result) (called_view c.alone-call.result)
     c.if-strict.ensures (ap (option_map (λ k. calls_registered k))
-    (c.in-Some.ensures ∙ ap (g.P.Registered.parts c.args.setting.now.parts.now).helper c.hook.ensures))
-    (c.hooked.ensures false (called_view c.alone.result).name
+    (c.in-Some.ensures ∙ ap (g.P.Registered.parts c.args.environment.now.parts.now).helper c.hook.ensures))
+    (c.hooked.ensures false (called_view c.alone-call.result).name
     ∙ ap (λ t. calls_registered (callee_of t c.in-Some.callee)) (sym c.hook.ensures))
-    c.alone.ensures)
+    c.alone-call.ensures)
+    (refuses-bind _ (ask (choice_of k h)) _ (refuses-ask _ (choice_of k h) (c.in-Err.ensures kept other (call_view c.args.helper.now))))
 
 pub returns : goal.returns
 returns g c = λ site kept. (
   gives-nothing _ site (call_view c.args.helper.now) (name_alone (cow_str_bytes c.args.name)) c.if-strict.ensures
       (ap (option_map (λ k. calls_registered k))
-      (c.in-None.ensures ∙ ap (g.P.Registered.parts c.args.setting.now.parts.now).helper c.hook.ensures)),
+      (c.in-None.ensures ∙ ap (g.P.Registered.parts c.args.environment.now.parts.now).helper c.hook.ensures)),
   c.line.ensures,
 )

@@ -14,7 +14,7 @@ use Rattle.handlebars_render.proofs.lone.settle_name.Goals as goal
 
 pub returns-in-Some : goal.returns-in-Some
 returns-in-Some g c = λ lone named site kept.
-    settles-call _ site false (call_view c.args.helper.now) _ _ (answer_of c.to_call.result) c.to_call.ensures
+    settles-call _ site false (call_view c.args.helper.now) _ _ _ (answer_of c.to_call.result) (c.to_call.ensures kept)
     (leaves-named _ site (call_view c.args.helper.now) c.args.text.now (target_in false c.args.text.now c.in-Some.target)
     (target_in false (called_view c.alone.result).name c.in-Some.target) (called_view c.alone.result)
     lone (named-name _ _ (call_name (call_view c.args.helper.now)) c.args.text.now named) (c.in-Some.ensures false)

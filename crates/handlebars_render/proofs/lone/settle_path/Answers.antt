@@ -23,7 +23,7 @@ use Rattle.handlebars_render.proofs.lone.settle_path.Goals as goal
 pub returns-in-Some-clause-comes : goal.returns-in-Some-clause-comes
 returns-in-Some-clause-comes g c = λ lone is site kept.
     comes_to-settles _ _ site false (call_view c.args.helper.now) _ _ _ _ (answer_of c.to_call.result) refl
-    (settles-call _ site false (call_view c.args.helper.now) _ _ (answer_of c.to_call.result) c.to_call.ensures
+    (settles-call _ site false (call_view c.args.helper.now) _ _ _ (answer_of c.to_call.result) (c.to_call.ensures kept)
     (leaves-named _ site (call_view c.args.helper.now) c.raw.result.now (target_in false c.raw.result.now c.in-Some.target)
     (target_in false (called_view c.alone.result).name c.in-Some.target) (called_view c.alone.result)
     lone (named-path _ _ (call_name (call_view c.args.helper.now)) (reference_of c.args.path.now) _ is c.raw.ensures)
@@ -34,8 +34,8 @@ returns-in-Some-clause-comes g c = λ lone is site kept.
 
 pub returns-in-Value-clause-comes : goal.returns-in-Value-clause-comes
 returns-in-Value-clause-comes g c = λ lone is site kept.
-    let has = reached-value (setting_in g.P.Registered.parts c.args.setting.now) (state_with kept c.args.rc.now) (call_name (call_view c.args.helper.now)) (reference_of c.args.path.now) (Some (view c.in-Value.value.now)) is ((rw c.data.ensures.value at c.in-Value.ensures)
-    ∙ ap (answer_map present_in) (read-lent kept (state_of c.args.rc.now) (data_of c.args.setting.now.given.now) (reference_of c.args.path.now))) in
+    let has = reached-value (setting_in g.P.Registered.parts c.args.environment.now) (state_with kept c.args.rc.now) (call_name (call_view c.args.helper.now)) (reference_of c.args.path.now) (Some (view c.in-Value.value.now)) is ((rw c.data.ensures.value at c.in-Value.ensures)
+    ∙ ap (answer_map present_in) (read-lent kept (state_of c.args.rc.now) (data_of c.args.environment.now.given.now) (reference_of c.args.path.now))) in
     comes_to-leaves _ _ site false (call_view c.args.helper.now) _ _ _ _ _ (answer_of c.settle_found.result)
     (leaves-value _ site (call_view c.args.helper.now) c.raw.result.now lone
     (named-path _ _ (call_name (call_view c.args.helper.now)) (reference_of c.args.path.now) _ is c.raw.ensures) (c.in-None.ensures false))
@@ -43,12 +43,12 @@ returns-in-Value-clause-comes g c = λ lone is site kept.
 
 pub returns-in-Nothing-clause-comes : goal.returns-in-Nothing-clause-comes
 returns-in-Nothing-clause-comes g c = λ lone is site kept.
-    let has = reached-value (setting_in g.P.Registered.parts c.args.setting.now) (state_with kept c.args.rc.now) (call_name (call_view c.args.helper.now)) (reference_of c.args.path.now) None is ((rw c.data.ensures.value at c.in-Nothing.ensures)
-    ∙ ap (answer_map present_in) (read-lent kept (state_of c.args.rc.now) (data_of c.args.setting.now.given.now) (reference_of c.args.path.now))) in
+    let has = reached-value (setting_in g.P.Registered.parts c.args.environment.now) (state_with kept c.args.rc.now) (call_name (call_view c.args.helper.now)) (reference_of c.args.path.now) None is ((rw c.data.ensures.value at c.in-Nothing.ensures)
+    ∙ ap (answer_map present_in) (read-lent kept (state_of c.args.rc.now) (data_of c.args.environment.now.given.now) (reference_of c.args.path.now))) in
     comes_to-leaves _ _ site false (call_view c.args.helper.now) _ _ _ _ _ (answer_of c.settle_missing.result)
     (leaves-value _ site (call_view c.args.helper.now) c.raw-in-Nothing.result.now lone
     (named-path _ _ (call_name (call_view c.args.helper.now)) (reference_of c.args.path.now) _ is c.raw-in-Nothing.ensures)
-    (c.in-None.ensures false ∙ ap (helper_named (g.P.Registered.parts c.args.setting.now.parts.now) (state_with kept c.args.rc.now)) (c.raw.ensures ∙ sym c.raw-in-Nothing.ensures)))
+    (c.in-None.ensures false ∙ ap (helper_named (g.P.Registered.parts c.args.environment.now.parts.now) (state_with kept c.args.rc.now)) (c.raw.ensures ∙ sym c.raw-in-Nothing.ensures)))
     (comes_to-leaves _ _ site false (call_view c.args.helper.now) _ _ _ _ _ (answer_of c.settle_missing.result)
     (leaves-missing _ site (call_view c.args.helper.now) (name_alone c.raw-in-Nothing.result.now)
     (value_lacks _ _ _ _ has.0 refl has.1 (sym has.2)))
@@ -61,6 +61,6 @@ returns-in-NoIndex-clause-comes g c = λ lone is site kept.
     (leaves-value _ site (call_view c.args.helper.now) c.raw.result.now lone
     (named-path _ _ (call_name (call_view c.args.helper.now)) (reference_of c.args.path.now) _ is c.raw.ensures) (c.in-None.ensures false))
     (value_err _ _ site (call_view c.args.helper.now) (name_alone c.raw.result.now) _ (error_of c.not_an_index.result) refl
-    (λ other. reached-none-as (setting_in g.P.Registered.parts c.args.setting.now) (state_with kept c.args.rc.now) (call_name (call_view c.args.helper.now)) (reference_of c.args.path.now)
+    (λ other. reached-none-as (setting_in g.P.Registered.parts c.args.environment.now) (state_with kept c.args.rc.now) (call_name (call_view c.args.helper.now)) (reference_of c.args.path.now)
     (plain_refusal (invalid_json_index c.in-NoIndex.name.now)) _ is ((rw c.data.ensures.value at c.in-NoIndex.ensures)
-    ∙ ap (answer_map present_in) (read-lent kept (state_of c.args.rc.now) (data_of c.args.setting.now.given.now) (reference_of c.args.path.now))) (c.not_an_index.ensures other)))
+    ∙ ap (answer_map present_in) (read-lent kept (state_of c.args.rc.now) (data_of c.args.environment.now.given.now) (reference_of c.args.path.now))) (c.not_an_index.ensures other)))

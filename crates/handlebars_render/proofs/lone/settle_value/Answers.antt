@@ -18,11 +18,11 @@ returns-in_err-name-clause-comes g c = λ lone site kept named has.
 pub returns-in-Some-clause-comes : goal.returns-in-Some-clause-comes
 returns-in-Some-clause-comes g c = λ lone site kept named has.
     comes_to-settles _ _ site false (call_view c.args.helper.now) _ _ _ _ (answer_of c.to_call.result) refl
-    (settles-call _ site false (call_view c.args.helper.now) _ _ (answer_of c.to_call.result) c.to_call.ensures
+    (settles-call _ site false (call_view c.args.helper.now) _ _ _ (answer_of c.to_call.result) (c.to_call.ensures kept)
     (leaves-named _ site (call_view c.args.helper.now) (called_by (found_of c.args.value)) (target_in false c.as_str.result.now c.in-Some.target)
     (target_in false (called_view c.alone.result).name c.in-Some.target) (called_view c.alone.result)
     lone named
-    (c.in-Some.ensures false ∙ ap (helper_named (g.P.Registered.parts c.args.setting.now.parts.now) (state_with kept c.args.rc.now)) (c.as_str.ensures.value ∙ c.in_ok-name.ensures))
+    (c.in-Some.ensures false ∙ ap (helper_named (g.P.Registered.parts c.args.environment.now.parts.now) (state_with kept c.args.rc.now)) (c.as_str.ensures.value ∙ c.in_ok-name.ensures))
     (ap (λ (v : CallView). target_in false v.name c.in-Some.target) c.alone.ensures
     ∙ ap (λ t. target_in false t c.in-Some.target) (sym c.as_str.ensures.value))
     (c.alone.ensures ∙ ap (λ t. name_alone t) c.in_ok-name.ensures)))
@@ -31,7 +31,7 @@ pub returns-in-Some-as_json-clause-comes : goal.returns-in-Some-as_json-clause-c
 returns-in-Some-as_json-clause-comes g c = λ lone site kept named has.
     comes_to-leaves _ _ site false (call_view c.args.helper.now) _ _ _ _ _ (answer_of c.settle_found.result)
     (leaves-value _ site (call_view c.args.helper.now) (called_by (found_of c.args.value)) lone named
-    (c.in-None.ensures false ∙ ap (helper_named (g.P.Registered.parts c.args.setting.now.parts.now) (state_with kept c.args.rc.now)) (c.as_str.ensures.value ∙ c.in_ok-name.ensures)))
+    (c.in-None.ensures false ∙ ap (helper_named (g.P.Registered.parts c.args.environment.now.parts.now) (state_with kept c.args.rc.now)) (c.as_str.ensures.value ∙ c.in_ok-name.ensures)))
     (c.settle_found.ensures.comes (call_view c.args.helper.now) (name_alone (called_by (found_of c.args.value))) (found_of c.args.value)
     site kept has (sym c.in-Some-as_json.ensures))
 
@@ -40,7 +40,7 @@ returns-clause-comes g c = λ lone site kept named has.
     let same = c.in_ok-name.ensures in
     comes_to-leaves _ _ site false (call_view c.args.helper.now) _ _ _ _ _ (answer_of c.settle_missing.result)
     (leaves-value _ site (call_view c.args.helper.now) _ lone (rw same named)
-    (c.in-None.ensures false ∙ ap (helper_named (g.P.Registered.parts c.args.setting.now.parts.now) (state_with kept c.args.rc.now)) c.as_str.ensures.value))
+    (c.in-None.ensures false ∙ ap (helper_named (g.P.Registered.parts c.args.environment.now.parts.now) (state_with kept c.args.rc.now)) c.as_str.ensures.value))
     (comes_to-leaves _ _ site false (call_view c.args.helper.now) _ _ _ _ _ (answer_of c.settle_missing.result)
     (leaves-missing _ site (call_view c.args.helper.now) _
     (value_lacks _ _ _ _ (found_of c.args.value) refl has c.in-None-as_json.ensures))

@@ -27,7 +27,7 @@ returns-in-Err-pairs_values g c = λ site kept named is.
 
 pub returns-in-Some : goal.returns-in-Some
 returns-in-Some g c = λ site kept named is.
-    settles-call _ site c.args.block (call_view c.args.helper.now) _ _ (answer_of c.to_call.result) c.to_call.ensures
+    settles-call _ site c.args.block (call_view c.args.helper.now) _ _ _ (answer_of c.to_call.result) (c.to_call.ensures kept)
     (leaves-called _ site c.args.block (call_view c.args.helper.now)
     (record { name = cow_str_bytes c.args.name; params = map path_and_data c.in-Ok.params.items; pairs = pairs_seen c.in-Ok-pairs_values.hash.entries })
     (target_in c.args.block (cow_str_bytes c.args.name) c.in-Some.target)

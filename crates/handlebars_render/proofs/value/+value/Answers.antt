@@ -55,7 +55,7 @@ expand_as_name-returns-in-Err g t c = λ kept other. rw (c.in-Subexpression.is, 
 pub expands-returns-in-Path-clause-value : goal.expands-returns-in-Path-clause-value
 expands-returns-in-Path-clause-value g t c = λ kept. rw (c.in-Path.is, param_view-Path)
     (yields-answer found_of _ _ (subst (λ a. Answers found_of c.find.result a)
-    (read-lent kept (state_of c.args.rc.now) (data_of c.args.setting.now.given.now) (reference_of c.in-Path.path))
+    (read-lent kept (state_of c.args.rc.now) (data_of c.args.environment.now.given.now) (reference_of c.in-Path.path))
     (rw c.data.ensures.value at c.find.ensures.found)))
 
 pub expands-returns-in-Subexpression-clause-value : goal.expands-returns-in-Subexpression-clause-value

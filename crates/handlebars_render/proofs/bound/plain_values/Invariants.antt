@@ -2,7 +2,7 @@ use Rattle.std.proofs.Common.{◌≡◌, ◌++◌, drop, map}
 use Rattle.serde_json.specs.View.{view}
 use Rattle.handlebars_base.specs.PathAndData.{path_and_data}
 use Rattle.handlebars_helpers.specs.CallView.{plain_value}
-use Rattle.handlebars_render.proofs.local.plain_values.Given as goal
+use Rattle.handlebars_render.proofs.bound.plain_values.Given as goal
 
 abbrev pub invariant-constants : goal.invariant-constants
 invariant-constants l =

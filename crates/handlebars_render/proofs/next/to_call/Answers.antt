@@ -1,0 +1,7 @@
+use Rattle.handlebars_render.proofs.next.to_call.Goals as goal
+
+pub returns-in-Ok : goal.returns-in-Ok
+returns-in-Ok g c = λ kept. c.in-Ok.ensures kept
+
+pub returns-in-Err : goal.returns-in-Err
+returns-in-Err g c = λ kept. c.in-Err.ensures kept

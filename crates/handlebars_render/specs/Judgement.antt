@@ -1,0 +1,42 @@
+-- What the calls say that render: one judgement for all.
+use Rattle.std.specs.Prelude.{Result, Ok, Err}
+use Rattle.std.specs.declared.io.Error.{Error}
+use denote.MutBor.{MutBor}
+use denote.Triple.Both.{Both}
+use Rattle.handlebars_base.specs.Outputs.{Held}
+use Rattle.handlebars_base.specs.declared.error.render_error.RenderError.{RenderError}
+use Rattle.handlebars_meaning.specs.State.{Parts, Setting}
+use Rattle.handlebars_meaning.specs.Steps.{Steps, Prog, run}
+use Rattle.handlebars_render.specs.Boxed.{answer_of}
+use Rattle.handlebars_render.specs.View.{Answered, CarriesOn, CarriesOut, IsKept, IsSame, KeptIn, Moment, held_in, moment, setting_in, within}
+use Rattle.handlebars_render.specs.declared.boxed.BoxedError.{BoxedError}
+use Rattle.handlebars_render.specs.declared.context.RenderContext.{RenderContext}
+use Rattle.handlebars_render.specs.declared.environment.Environment as declared
+use Rattle.handlebars_render.specs.declared.sink.Sink.{Sink}
+
+-- The program was carried out, with these pieces kept.
+abbrev pub CarriesWith : {P O : Type 0} → (P → Parts) → (O → Held) → (Error → Type 0) → (x : declared.Environment P)
+    → Both (MutBor RenderContext) (MutBor RenderContext) → Both (MutBor (Sink O)) (MutBor (Sink O))
+    → Result (Unit {0}) BoxedError → KeptIn (within x) → Prog (Unit {0}) → Type 0
+CarriesWith parts held may x rc sink r kept m =
+    CarriesOn (setting_in parts x) m may (moment kept rc.entry.now (held_in held sink.entry.now)) (answer_of r)
+    (moment kept rc.exit.now (held_in held sink.exit.now))
+
+-- The program was carried out, whatever the pieces are that are kept.
+abbrev pub Carries : {P O : Type 0} → (P → Parts) → (O → Held) → (Error → Type 0) → declared.Environment P
+    → Both (MutBor RenderContext) (MutBor RenderContext) → Both (MutBor (Sink O)) (MutBor (Sink O))
+    → Result (Unit {0}) BoxedError → Prog (Unit {0}) → Type 0
+Carries parts held may x rc sink r m = (kept : KeptIn (within x)) → CarriesWith parts held may x rc sink r kept m
+
+-- The context is as it was but for what templates change, and it is the same output.
+pub record Stays {O : Type 0} (rc : Both (MutBor RenderContext) (MutBor RenderContext))
+    (sink : Both (MutBor (Sink O)) (MutBor (Sink O))) : Type 0 where
+  pub kept : IsKept rc.entry.now rc.exit.now
+  pub same : IsSame sink.entry.now sink.exit.now
+
+-- From one moment a program leads to another one, with this program left of it; or it is over before its end.
+abbrev pub LeadsTo : {T : Type 0} → Setting → (Error → Type 0) → Prog (Unit {0}) → Moment → (T → Prog (Unit {0}))
+    → Result T RenderError → Moment → Type 0
+LeadsTo p may m before left (Ok x) after = (next : Unit {0} → Steps) (r : Answered) (last : Moment)
+    → CarriesOut p (left x next) may after r last → CarriesOut p (m next) may before r last
+LeadsTo p may m before left (Err e) after = CarriesOn p m may before (Err e) after
