@@ -4,6 +4,7 @@ pub mod Targets
 pub mod Bound
 pub mod Asking
 pub mod Shows
+pub mod Writes
 pub mod OwnChoice
 pub mod Lending
 pub mod Next
