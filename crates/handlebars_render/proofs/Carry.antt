@@ -19,7 +19,8 @@ use Rattle.handlebars_meaning.specs.Writing.{write_text, write_step, write_word}
 use Rattle.handlebars_meaning.specs.CarryOut.{change, in_block}
 use Rattle.handlebars_meaning.specs.Means.{unescaped, line_out, on_line, todo}
 use Rattle.handlebars_meaning.specs.Runs.{Fault, plain_fault, Outcome, Ended, Refused, Faulted, NoMemory, Stops, Front, none, mark, Runs, done, refused, wrote, got, set, did, did_over, stop, cut}
-use Rattle.handlebars_render.specs.View.{Moment, GivesValue, RefusesValue, TellsCause, TellsFault, Answered, Tells, ended, refusal, fault, no_memory, CarriesOut, CarriesOn, goes_on, is_over, IsPart, Puts, all_put, front_put, part_put, PutsStep, step_put, step_cut, step_part, PutsWord, word_put, word_cut, word_part}
+use Rattle.handlebars_render.specs.View.{Moment, GivesValue, RefusesValue, TellsCause, TellsFault, Answered, Tells, ended, refusal, fault, no_memory, CarriesOut, CarriesOn, goes_on, is_over}
+use Rattle.handlebars_render.specs.Writes.{IsPart, Puts, Writes, all_written, front_written, part_written}
 use Rattle.handlebars_render.specs.Boxed.{IsHandedOn, answer_of, error_of}
 use Rattle.handlebars_render.specs.declared.boxed.BoxedError.{BoxedError}
 use Rattle.handlebars_meaning.proofs.Pieces.{join-pieces_of, join-put, Front-of}
@@ -210,57 +211,53 @@ module _ (p : Setting) (may : Error → Type 0) where
   part-run at_word (x ∷ xs) ys front = cut tt front
 
   pub wrote-part : (at_word : Bool) (xs : List Piece) (t : Text) {k : Steps} {s next : State} {h new : Held} {e : RenderError}
-      → join xs ≡ t → IsPart t h new e → CarriesOut p (Write at_word xs k) may (at s h) (Err e) (at next new)
-  wrote-part at_word xs t {h = h} is part =
+      → join xs ≡ t → IsPart t h new → reason_in e ≡ out_of_memory
+      → CarriesOut p (Write at_word xs k) may (at s h) (Err e) (at next new)
+  wrote-part at_word xs t {h = h} is part memory =
       let f = Front-of xs part.front part.is_front.0 (is ∙ part.is_front.1) in
       record {
         pieces = f.0;
         outcome = NoMemory;
         runs = part-run at_word xs f.0 f.1;
         text = part.text ∙ ap (λ (z : Text). h.text ++ z) (sym f.2);
-        tells = no_memory part.faults part.memory;
+        tells = no_memory part.faults memory;
       }
 
   pub carries_on-puts : (o : Origin) (t : Text) {s next : State} {h new : Held} {r : Answered}
       → Puts t may (at s h) r (at next new) → CarriesOn p (write_text o t) may (at s h) r (at next new)
   unfolding ◌>>=◌ ◌>>◌
-  carries_on-puts o t {s = s} {h = h} {new = new} (all_put is whole) = goes_on (λ k r last c.
+  carries_on-puts o t {s = s} {h = h} {new = new} (all_written is whole) = goes_on (λ k r last c.
       carries-get (wrote-all false (put o s.indent t s.line).0 _ (join-put o s.indent t s.line) whole
       (carries-set (subst (λ (z : State). CarriesOut p (k tt) may (at z new) r last) is c))))
-  carries_on-puts o t {s = s} (front_put cause given cut_short tells) = is_over (λ k.
+  carries_on-puts o t {s = s} (front_written cause given cut_short tells) = is_over (λ k.
       carries-get (wrote-cut false (put o s.indent t s.line).0 _ (join-put o s.indent t s.line) cause given cut_short tells))
-  carries_on-puts o t {s = s} (part_put part) = is_over (λ k.
-      carries-get (wrote-part false (put o s.indent t s.line).0 _ (join-put o s.indent t s.line) part))
+  carries_on-puts o t {s = s} (part_written part memory) = is_over (λ k.
+      carries-get (wrote-part false (put o s.indent t s.line).0 _ (join-put o s.indent t s.line) part memory))
 
   pub carries-puts : (o : Origin) (t : Text) {s next : State} {h new : Held} {r : Answered}
       → Puts t may (at s h) r (at next new) → CarriesOut p (run (write_text o t)) may (at s h) r (at next new)
   carries-puts o t puts = carries-run (carries_on-puts o t puts)
 
-  -- the word of a boolean helper, which the state takes no note of
-  pub carries_on-word : (site : Site) (b : Bool) {s next : State} {h new : Held} {r : Answered}
-      → PutsWord b may (at s h) r (at next new) → CarriesOn p (write_word site b) may (at s h) r (at next new)
-  carries_on-word site b {h = h} {new = new} (word_put is whole) = goes_on (λ k r last c.
-      wrote-all true (record { origin = of_word site b; text = word b } ∷ []) (word b) (append-nil (word b)) whole
-      (subst (λ (z : State). CarriesOut p (k tt) may (at z new) r last) is c))
-  carries_on-word site b (word_cut cause given cut_short tells) = is_over (λ k.
-      wrote-cut true (record { origin = of_word site b; text = word b } ∷ []) (word b) (append-nil (word b)) cause given cut_short tells)
-  carries_on-word site b (word_part part) = is_over (λ k.
-      wrote-part true (record { origin = of_word site b; text = word b } ∷ []) (word b) (append-nil (word b)) part)
-
   -- pieces whose text the state takes no note of
-  pub carries_on-pieces : (xs : List Piece) (t : Text) {s next : State} {h new : Held} {r : Answered} → join xs ≡ t
-      → PutsStep t may (at s h) r (at next new) → CarriesOn p (write false xs) may (at s h) r (at next new)
-  carries_on-pieces xs t {h = h} {new = new} same (step_put is whole) = goes_on (λ k r last c.
-      wrote-all false xs t same whole (subst (λ (z : State). CarriesOut p (k tt) may (at z new) r last) is c))
-  carries_on-pieces xs t same (step_cut cause given cut_short tells) = is_over (λ k.
-      wrote-cut false xs t same cause given cut_short tells)
-  carries_on-pieces xs t same (step_part part) = is_over (λ k. wrote-part false xs t same part)
+  pub carries_on-pieces : (at_word : Bool) (xs : List Piece) (t : Text) {s next : State} {h new : Held} {r : Answered}
+      → join xs ≡ t → Writes t at_word s may h r (at next new)
+      → CarriesOn p (write at_word xs) may (at s h) r (at next new)
+  carries_on-pieces at_word xs t {h = h} {new = new} same (all_written is whole) = goes_on (λ k r last c.
+      wrote-all at_word xs t same whole (subst (λ (z : State). CarriesOut p (k tt) may (at z new) r last) is c))
+  carries_on-pieces at_word xs t same (front_written cause given cut_short tells) = is_over (λ k.
+      wrote-cut at_word xs t same cause given cut_short tells)
+  carries_on-pieces at_word xs t same (part_written part memory) = is_over (λ k.
+      wrote-part at_word xs t same part memory)
+
+  -- the word of a boolean helper
+  pub carries_on-word : (site : Site) (b : Bool) {s next : State} {h new : Held} {r : Answered}
+      → Writes (word b) true s may h r (at next new) → CarriesOn p (write_word site b) may (at s h) r (at next new)
+  carries_on-word site b = carries_on-pieces true (record { origin = of_word site b; text = word b } ∷ []) (word b) (append-nil (word b))
 
   -- the text of a step
   pub carries_on-step : (site : Site) (i : ℕ) (t : Text) {s next : State} {h new : Held} {r : Answered}
-      → PutsStep t may (at s h) r (at next new) → CarriesOn p (write_step site i t) may (at s h) r (at next new)
-  carries_on-step site i t puts =
-      carries_on-pieces (pieces_of (of_step site i) t) t (join-pieces_of (of_step site i) t) puts
+      → Writes t false s may h r (at next new) → CarriesOn p (write_step site i t) may (at s h) r (at next new)
+  carries_on-step site i t = carries_on-pieces false (pieces_of (of_step site i) t) t (join-pieces_of (of_step site i) t)
 
   -- ---- values, and what is done with them
 

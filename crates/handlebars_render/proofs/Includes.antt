@@ -26,7 +26,8 @@ use Rattle.handlebars_meaning.specs.Sites.{Site, TreeSite, body_at, included_at}
 use Rattle.handlebars_meaning.specs.State.{Kept, Setting, State, entered, nearest_variables, partial_in}
 use Rattle.handlebars_meaning.specs.Steps.{Whole, Steps, Done, Do, Room, Get, Set, Prog, return, ask, state, perform, capture, find, room, ◌>>=◌, ◌>>◌}
 use Rattle.handlebars_meaning.specs.Values.{HasView}
-use Rattle.handlebars_render.specs.View.{Answered, KeptIn, keeping, CarriesAhead, has_text, no_text, CarriesOn, CarriesOut, goes_on, is_over, GivesValue, Moment, PutsStep, RefusesValue, Tells, refusal, fault, no_memory, called}
+use Rattle.handlebars_render.specs.View.{Answered, KeptIn, keeping, CarriesAhead, has_text, no_text, CarriesOn, CarriesOut, goes_on, is_over, GivesValue, Moment, RefusesValue, Tells, refusal, fault, no_memory, called}
+use Rattle.handlebars_render.specs.Writes.{Writes}
 use Rattle.handlebars_render.proofs.Asked.{gives-ask}
 use Rattle.handlebars_render.proofs.Carry.{at, ends, memory_or, carries-elsewhere, carries-get, carries-run, carries-set, carries_on-change, carries_on-changed, carries_on-elsewhere, carries_on-get, carries_on-line, carries_on-no_memory, carries_on-no_value, carries_on-over, carries_on-pieces, carries_on-refuse, carries_on-then, carries_on-value}
 
@@ -391,10 +392,10 @@ module _ (p : Setting) (may : Error → Type 0) where
       -- ---- the kept text
 
       pub kept-text : (b : Body) (k : Option (List Piece)) (t : Text) {s next : State} {h new : Held} {r : Answered}
-          → option_map join k ≡ Some t → PutsStep t may (at s h) r (at next new)
+          → option_map join k ≡ Some t → Writes t false s may h r (at next new)
           → CarriesOn p (write_kept site b s k) may (at s h) r (at next new)
       kept-text b None t is puts = cc
-      kept-text b (Some ps) t is puts = carries_on-pieces p may ps t (Some-same is) puts
+      kept-text b (Some ps) t is puts = carries_on-pieces p may false ps t (Some-same is) puts
         where
           Some-same : {x y : Text} → Some x ≡ Some y → x ≡ y
           Some-same e = ap (λ o. unwrap_or o []) e

@@ -18,8 +18,9 @@ use Rattle.handlebars_meaning.specs.State.{Setting, State}
 use Rattle.handlebars_meaning.specs.Steps.{ask}
 use Rattle.handlebars_meaning.specs.Writing.{rendered_if_any, write_rendered, write_text, write_value}
 use Rattle.handlebars_render.specs.Boxed.{IsHandedOn}
-use Rattle.handlebars_render.specs.Shows.{PutsTo, ShowsTo, Told, entities_by}
-use Rattle.handlebars_render.specs.View.{Answered, CarriesOn, Moment, Puts}
+use Rattle.handlebars_render.specs.Shows.{entities_by}
+use Rattle.handlebars_render.specs.View.{Answered, CarriesOn, Moment}
+use Rattle.handlebars_render.specs.Writes.{Puts, TellsLine, Told}
 use Rattle.handlebars_render.proofs.Asked.{gives-ask, refuses-ask}
 use Rattle.handlebars_render.proofs.Carry.{at, carries_on-get, carries_on-handed, carries_on-no_value, carries_on-puts, carries_on-value}
 
@@ -67,7 +68,8 @@ module _ (p : Setting) (may : Error → Type 0) (site : Site) (v : Found) where
   -- a value that is written with entities or without
   pub shows_by : (entities : Bool) (t : Text) (r : Told) (s : State) (h new : Held)
       → Some entities ≡ entities_by p.parts.escape s.escapes → rendered_if_any (present_in v) ≡ t
-      → PutsTo (escaped_if entities t) may (at s h) r new → ShowsTo p site v may (at s h) r new
+      → TellsLine (Puts (escaped_if entities t) may) (at s h) r new
+      → TellsLine (CarriesOn p (write_value site v) may) (at s h) r new
   shows_by entities t (Ok line) s h new is same puts = value_known entities t is same puts
   shows_by entities t (Err e) s h new is same puts = value_known entities t is same puts
 
@@ -92,14 +94,15 @@ module _ (p : Setting) (may : Error → Type 0) (site : Site) (v : Found) where
 
     -- what it answers is written
     pub shows_own : (x : Text) (r : Told) (s : State) (h new : Held) → s.escapes ≡ true
-        → p.parts.own_escape t (gives x) → PutsTo x may (at s h) r new → ShowsTo p site v may (at s h) r new
+        → p.parts.own_escape t (gives x) → TellsLine (Puts x may) (at s h) r new
+        → TellsLine (CarriesOn p (write_value site v) may) (at s h) r new
     shows_own x (Ok line) s h new on has puts = own_text x on has puts
     shows_own x (Err e) s h new on has puts = own_text x on has puts
 
     -- and what it refuses, is refused
     pub shows_refused : (e d : RenderError) {s : State} {h : Held} → s.escapes ≡ true → IsHandedOn e d
         → (reason_in e ≢ out_of_memory → p.parts.own_escape t (refuses (refusal_of e)))
-        → ShowsTo p site v may (at s h) (Err d) h
+        → TellsLine (CarriesOn p (write_value site v) may) (at s h) (Err d) h
     shows_refused e d on handed is =
         let of = rendered_if_any (present_in v) in
         asks_own on (carries_on-handed p may e d handed

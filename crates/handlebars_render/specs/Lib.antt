@@ -6,6 +6,7 @@ pub mod Chosen
 pub mod Bound
 pub mod Asking
 pub mod Shows
+pub mod Writes
 pub mod OwnChoice
 pub mod Lending
 pub mod Next

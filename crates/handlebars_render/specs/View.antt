@@ -19,14 +19,13 @@ use Rattle.handlebars_base.specs.PathAndData.{PathAndData, path_and_data}
 use Rattle.handlebars_base.specs.declared.json.value.path_and_json.PathAndJson.{PathAndJson}
 use Rattle.handlebars_base.specs.declared.error.render_error.RenderErrorReason.TheVariants.{IOError}
 use Rattle.handlebars_base.specs.Scoped.{Found}
-use Rattle.handlebars_base.specs.Values.{word}
 use Rattle.handlebars_scope.specs.Bases.{bases_of, lend}
 use Rattle.handlebars_scope.specs.LineView.{line_of}
 use Rattle.handlebars_scope.specs.Contexts.{data_of}
 use Rattle.handlebars_scope.specs.Resolve.{resolved}
 use Rattle.handlebars_scope.specs.Scopes.{Frame, nothing_at}
 use Rattle.handlebars_scope.specs.ScopeView.{frames_of}
-use Rattle.handlebars_base.specs.Outputs.{Held, held_of, IsBeginning, IsWhole, IsCutOff, write_reason}
+use Rattle.handlebars_base.specs.Outputs.{Held, held_of, write_reason}
 use Rattle.handlebars_scope.specs.Indentation.{written_in}
 use Rattle.handlebars_scope.specs.LineState.{LineState, line_behind}
 use Rattle.handlebars_meaning.specs.Pieces.{Piece, join}
@@ -38,7 +37,7 @@ use Rattle.handlebars_meaning.specs.State.{Kept, Parts, Setting, State, outer}
 use Rattle.handlebars_meaning.specs.Steps.{Steps, Prog}
 use Rattle.handlebars_meaning.specs.Asks.{Asks}
 use Rattle.handlebars_meaning.specs.Values.{as_read}
-use Rattle.handlebars_meaning.specs.Runs.{Fault, plain_fault, Outcome, Ended, Refused, Faulted, NoMemory, Runs}
+use Rattle.handlebars_meaning.specs.Runs.{Fault, Outcome, Ended, Refused, Faulted, NoMemory, Runs}
 use Rattle.handlebars_render.specs.declared.context.RenderContext.{RenderContext}
 use Rattle.handlebars_render.specs.declared.called.Called.{Called}
 use Rattle.handlebars_render.specs.declared.environment.Environment as declared
@@ -291,42 +290,6 @@ behind t s = record s { line = line_behind t s.line }
 -- what is written for a text in a state
 abbrev pub written_at : State → Text → Text
 written_at s t = written_in (unwrap_or s.indent []) s.line t
-
--- A beginning of a text was written, and then there was no memory.
-pub record IsPart (t : Text) (before after : Held) (e : RenderError) : Type 0 where
-  pub front : Text
-  pub is_front : IsBeginning front t
-  pub text : after.text ≡ before.text ++ front
-  pub faults : after.faults ≡ before.faults
-  pub memory : reason_in e ≡ out_of_memory
-
--- A text was written, whatever the setting, or a beginning of it, and the output failed, or memory.
-pub data Puts (t : Text) (may : Error → Type 0) (before : Moment) : Answered → Moment → Type 0 where
-  all_put : {after : Moment} {u : Unit {0}} → after.state ≡ behind t before.state
-      → IsWhole (written_at before.state t) before.held after.held → Puts t may before (Ok u) after
-  front_put : {after : Moment} {e : RenderError} (cause : Error) → may cause
-      → IsCutOff (written_at before.state t) before.held after.held
-      → TellsFault cause (plain_fault false) e → Puts t may before (Err e) after
-  part_put : {after : Moment} {e : RenderError} → IsPart (written_at before.state t) before.held after.held e
-      → Puts t may before (Err e) after
-
--- A text that the line takes no note of was written, or a beginning of it, and the output failed, or memory. The state is
--- as it was.
-pub data PutsStep (t : Text) (may : Error → Type 0) (before : Moment) : Answered → Moment → Type 0 where
-  step_put : {after : Moment} {u : Unit {0}} → after.state ≡ before.state → IsWhole t before.held after.held
-      → PutsStep t may before (Ok u) after
-  step_cut : {after : Moment} {e : RenderError} (cause : Error) → may cause → IsCutOff t before.held after.held
-      → TellsFault cause (plain_fault false) e → PutsStep t may before (Err e) after
-  step_part : {after : Moment} {e : RenderError} → IsPart t before.held after.held e → PutsStep t may before (Err e) after
-
--- The same of a boolean helper's word.
-pub data PutsWord (b : Bool) (may : Error → Type 0) (before : Moment) : Answered → Moment → Type 0 where
-  word_put : {after : Moment} {u : Unit {0}} → after.state ≡ before.state → IsWhole (word b) before.held after.held
-      → PutsWord b may before (Ok u) after
-  word_cut : {after : Moment} {e : RenderError} (cause : Error) → may cause → IsCutOff (word b) before.held after.held
-      → TellsFault cause (plain_fault true) e → PutsWord b may before (Err e) after
-  word_part : {after : Moment} {e : RenderError} → IsPart (word b) before.held after.held e
-      → PutsWord b may before (Err e) after
 
 -- The steps end well from this state, and the text is that of their pieces.
 pub record GivesString (p : Setting) (k : Steps) (s next : State) (text : Text) : Type 0 where

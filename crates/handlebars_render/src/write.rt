@@ -1,18 +1,12 @@
-//! Writing texts and values, by the line's state and the indentation in force: into an output, or where the rendering
-//! writes.
+//! Writing texts and values where the rendering writes, by the line's state and the indentation in force.
 
-ghost use Rattle.std.specs.Prelude.{◌≡◌, ◌≢◌, IfErr, IfOk, OnErr, None, Some, option_map, string_bytes, unwrap_or, false, true};
-ghost use Rattle.std.specs.IoError.{error_kind};
+ghost use Rattle.std.specs.Prelude.{◌≡◌, IfOk, OnErr, None, Some, option_map, string_bytes, unwrap_or, false, true};
 ghost use Rattle.serde_json.specs.Data.{null, number, unsigned};
 ghost use Rattle.serde_json.specs.View.{view};
-ghost use Rattle.handlebars_base.specs.Bytes.{Text};
-ghost use Rattle.handlebars_base.specs.Reasons.{out_of_memory};
-ghost use Rattle.handlebars_base.specs.RenderRefusals.{plain_refusal, reason_in, refusal_of};
 ghost use Rattle.handlebars_base.specs.Scoped as scoped;
 ghost use Rattle.handlebars_base.specs.Scoped.{Found, present_in};
-ghost use Rattle.handlebars_base.specs.Shown.{escaped_if};
+ghost use Rattle.handlebars_base.specs.Shown.{escaped_if, shown};
 ghost use Rattle.handlebars_base.specs.Values as values;
-ghost use Rattle.handlebars_base.specs.Values.{rendered};
 ghost use Rattle.handlebars_helpers.specs.Escaping.{by_own};
 ghost use Rattle.handlebars_helpers.specs.EscapeView.{escaping_of};
 ghost use Rattle.handlebars_helpers.specs.OwnView.{IsOneOf};
@@ -20,21 +14,20 @@ ghost use Rattle.handlebars_meaning.specs.Runs.{plain_fault};
 ghost use Rattle.handlebars_meaning.specs.Sites.{Site};
 ghost use Rattle.handlebars_meaning.specs.Writing as meaning;
 ghost use Rattle.handlebars_meaning.specs.Writing.{rendered_if_any};
-ghost use Rattle.handlebars_meaning.specs.State.{State};
 ghost use Rattle.handlebars_render.specs.Boxed.{answer_of, error_of};
-ghost use Rattle.handlebars_render.specs.Shows.{PutsTo, ShowsTo, entities_by};
-ghost use Rattle.handlebars_render.specs.View.{setting_in, state_of, moment, first_moment, word_reason, Within, CarriesOn, Puts, PutsStep, PutsWord, TellsFault, IsKept, KeptIn, within, held_in, IsSame};
+ghost use Rattle.handlebars_render.specs.Shows.{entities_by};
+ghost use Rattle.handlebars_render.specs.View.{setting_in, state_of, moment, first_moment, Within, CarriesOn, TellsFault, IsKept, KeptIn, within, held_in, IsSame};
+ghost use Rattle.handlebars_render.specs.Writes.{Puts, TellsLine, WritesAsIs};
 
 use crate::boxed::BoxedError;
 use crate::context::RenderContext;
-use crate::environment::Environment;
 use crate::registered::Registered;
+use crate::environment::Environment;
 use crate::sink::Sink;
 use handlebars_base::error::{RenderError, RenderErrorReason};
-use handlebars_base::json::value::{Json, JsonRender, write_value};
+use handlebars_base::json::value::{Json, JsonRender};
 use handlebars_base::output::{Output, output_fault};
 use handlebars_helpers::escape::Escaping;
-use handlebars_scope::indentation::write_in_line;
 use handlebars_scope::line::LineState;
 use serde_json::Number;
 use std::alloc::{AllocError, Global};
@@ -75,48 +68,34 @@ pub(super) fn write_text<O: Output, P>(
     ensures kept { IsKept rc.old rc.new }
 {
     match environment.indent {
-        None => write_text_plainly(environment.alloc, text, rc, sink),
-        Some(_) => write_text_in_line(environment, text, rc, sink),
+        // As most are.
+        None => match write_as_is(environment.alloc, text, sink) {
+            Ok(()) => {
+                rc.pass_text(text);
+                Ok(())
+            }
+            Err(e) => Err(e),
+        },
+        Some(indent) => write_text_in_line(environment.alloc, text, indent, rc, sink),
     }
 }
 
-// Without an indentation, as most are.
-#[inline(always)]
-fn write_text_plainly<O: Output>(
-    alloc: Global,
-    text: &str,
-    rc: &mut RenderContext,
-    sink: &mut Sink<'_, O>,
-) -> Result<(), BoxedError>
-    ensures puts { (a : Within) (kept : KeptIn a) → a.indent ≡ None → Puts text.now O.may_give
-        (moment kept rc.old (held_in O.held sink.old)) (answer_of result) (moment kept rc.new (held_in O.held sink.new)) }
-    ensures same { IsSame sink.old sink.new }
-    ensures kept { IsKept rc.old rc.new }
-{
-    match write_as_is(alloc, text, sink) {
-        Ok(()) => {
-            rc.pass_text(text);
-            Ok(())
-        }
-        Err(e) => Err(e),
-    }
-}
-
-// Under the indentation in force, if there is one.
+// Under the indentation in force.
 #[cold]
 #[inline(never)]
-fn write_text_in_line<O: Output, P>(
-    environment: &Environment<P>,
+fn write_text_in_line<O: Output>(
+    alloc: Global,
     text: &str,
+    indent: &str,
     rc: &mut RenderContext,
     sink: &mut Sink<'_, O>,
 ) -> Result<(), BoxedError>
-    ensures puts { (kept : KeptIn (within environment.now)) → Puts text.now O.may_give
+    ensures puts { (a : Within) (kept : KeptIn a) → a.indent ≡ Some indent.now → Puts text.now O.may_give
         (moment kept rc.old (held_in O.held sink.old)) (answer_of result) (moment kept rc.new (held_in O.held sink.new)) }
     ensures same { IsSame sink.old sink.new }
     ensures kept { IsKept rc.old rc.new }
 {
-    match write_line(environment, text, rc, sink) {
+    match write_text_under(alloc, false, text, indent, rc, sink) {
         Ok(line) => {
             rc.set_line(line);
             Ok(())
@@ -125,51 +104,26 @@ fn write_text_in_line<O: Output, P>(
     }
 }
 
-// Writes a text, and answers the line behind it.
-fn write_line<O: Output, P>(
-    environment: &Environment<P>,
+// Writes a text under an indentation, with entities or without, and answers the line behind it.
+#[cold]
+#[inline(never)]
+fn write_text_under<O: Output>(
+    alloc: Global,
+    entities: bool,
     text: &str,
+    indent: &str,
     rc: &RenderContext,
     sink: &mut Sink<'_, O>,
 ) -> Result<LineState, BoxedError>
-    ensures puts { (kept : KeptIn (within environment.now)) → PutsTo text.now O.may_give
-        (moment kept rc.now (held_in O.held sink.old)) (answer_of result) (held_in O.held sink.new) }
+    ensures puts { (a : Within) (kept : KeptIn a) → a.indent ≡ Some indent.now
+        → TellsLine (Puts (escaped_if entities text.now) O.may_give) (moment kept rc.now (held_in O.held sink.old))
+        (answer_of result) (held_in O.held sink.new) }
     ensures same { IsSame sink.old sink.new }
 {
-    match sink {
-        Sink::Out(out) => write_line_to(environment, text, rc, &mut **out),
-        Sink::Ahead(ahead) => write_line_to(environment, text, rc, &mut **ahead),
-    }
-}
-
-fn write_line_to<O: Output, P>(
-    environment: &Environment<P>,
-    text: &str,
-    rc: &RenderContext,
-    out: &mut O,
-) -> Result<LineState, BoxedError>
-    ensures puts { (kept : KeptIn (within environment.now)) → PutsTo text.now O.may_give (moment kept rc.now (O.held out.old))
-        (answer_of result) (O.held out.new) }
-{
-    match environment.indent {
-        None => write_line_plainly(environment.alloc, text, rc, out),
-        Some(indent) => write_text_under(environment.alloc, false, text, indent, rc, out),
-    }
-}
-
-// Without an indentation, as most are.
-fn write_line_plainly<O: Output>(
-    alloc: Global,
-    text: &str,
-    rc: &RenderContext,
-    out: &mut O,
-) -> Result<LineState, BoxedError>
-    ensures puts { (a : Within) (kept : KeptIn a) → a.indent ≡ None → PutsTo text.now
-        O.may_give (moment kept rc.now (O.held out.old)) (answer_of result) (O.held out.new) }
-{
-    match out.write(text) {
+    match sink.write_in_line(rc.line(), text, indent, entities) {
+        // No entity ends a line.
         Ok(()) => Ok(rc.line().behind(text)),
-        Err(fault) => Err(write_fault(alloc, fault)),
+        Err(cause) => Err(write_fault(alloc, cause)),
     }
 }
 
@@ -195,8 +149,8 @@ pub(super) fn write_found<O: Output, P: Registered>(
 ) -> Result<LineState, BoxedError>
     ensures shows { (site : Site) (kept : KeptIn (within environment.now)) (found : Found)
         → rendered_if_any (present_in found) ≡ rendered_if_any (option_map (λ v. view v.now) value.entry)
-        → ShowsTo (setting_in P.parts environment.now) site found O.may_give (moment kept rc.now (held_in O.held sink.old))
-        (answer_of result) (held_in O.held sink.new) }
+        → TellsLine (CarriesOn (setting_in P.parts environment.now) (meaning.write_value site found) O.may_give)
+        (moment kept rc.now (held_in O.held sink.old)) (answer_of result) (held_in O.held sink.new) }
     ensures same { IsSame sink.old sink.new }
 {
     match entities_by(environment.parts.escape(), rc.escapes()) {
@@ -227,51 +181,35 @@ fn write_by<O: Output, P>(
     sink: &mut Sink<'_, O>,
 ) -> Result<LineState, BoxedError>
     ensures puts { (kept : KeptIn (within environment.now))
-        → PutsTo (escaped_if entities (rendered_if_any (option_map (λ v. view v.now) value.entry)))
-        O.may_give (moment kept rc.now (held_in O.held sink.old)) (answer_of result) (held_in O.held sink.new) }
+        → TellsLine (Puts (escaped_if entities (rendered_if_any (option_map (λ v. view v.now) value.entry))) O.may_give)
+        (moment kept rc.now (held_in O.held sink.old)) (answer_of result) (held_in O.held sink.new) }
     ensures same { IsSame sink.old sink.new }
 {
     match value {
-        Some(value) => match sink {
-            Sink::Out(out) => write_value_to(environment, entities, value, rc, &mut **out),
-            Sink::Ahead(ahead) => write_value_to(environment, entities, value, rc, &mut **ahead),
-        },
+        Some(value) => write_value(environment, entities, value, rc, sink),
         None => Ok(rc.line()),
     }
 }
 
+// Without an indentation piece by piece.
 #[inline(always)]
-fn write_value_to<O: Output, P>(
+fn write_value<O: Output, P>(
     environment: &Environment<P>,
     entities: bool,
     value: &Json,
     rc: &RenderContext,
-    out: &mut O,
+    sink: &mut Sink<'_, O>,
 ) -> Result<LineState, BoxedError>
-    ensures puts { (kept : KeptIn (within environment.now)) → PutsTo (escaped_if entities (rendered (view value.now)))
-        O.may_give (moment kept rc.now (O.held out.old)) (answer_of result) (O.held out.new) }
+    ensures puts { (kept : KeptIn (within environment.now)) → TellsLine (Puts (shown entities (view value.now)) O.may_give)
+        (moment kept rc.now (held_in O.held sink.old)) (answer_of result) (held_in O.held sink.new) }
+    ensures same { IsSame sink.old sink.new }
 {
     match environment.indent {
-        Some(indent) => write_value_under(environment.alloc, entities, value, indent, rc, out),
-        None => write_value_plainly(environment.alloc, entities, value, rc, out),
-    }
-}
-
-// Without an indentation, piece by piece.
-#[inline(always)]
-fn write_value_plainly<O: Output>(
-    alloc: Global,
-    entities: bool,
-    value: &Json,
-    rc: &RenderContext,
-    out: &mut O,
-) -> Result<LineState, BoxedError>
-    ensures puts { (a : Within) (kept : KeptIn a) → a.indent ≡ None → PutsTo (escaped_if entities (rendered (view value.now)))
-        O.may_give (moment kept rc.now (O.held out.old)) (answer_of result) (O.held out.new) }
-{
-    match write_value(out, value, entities) {
-        Ok(()) => Ok(rc.line().behind_value(value)),
-        Err(cause) => Err(write_fault(alloc, cause)),
+        Some(indent) => write_value_under(environment.alloc, entities, value, indent, rc, sink),
+        None => match sink.write_value(value, entities) {
+            Ok(()) => Ok(rc.line().behind_value(value)),
+            Err(cause) => Err(write_fault(environment.alloc, cause)),
+        },
     }
 }
 
@@ -283,38 +221,19 @@ fn write_value_under<O: Output>(
     value: &Json,
     indent: &str,
     rc: &RenderContext,
-    out: &mut O,
+    sink: &mut Sink<'_, O>,
 ) -> Result<LineState, BoxedError>
     ensures puts { (a : Within) (kept : KeptIn a) → a.indent ≡ Some indent.now
-        → PutsTo (escaped_if entities (rendered (view value.now)))
-        O.may_give (moment kept rc.now (O.held out.old)) (answer_of result) (O.held out.new) }
+        → TellsLine (Puts (shown entities (view value.now)) O.may_give) (moment kept rc.now (held_in O.held sink.old))
+        (answer_of result) (held_in O.held sink.new) }
+    ensures same { IsSame sink.old sink.new }
 {
     match value {
-        Json::String(text) => write_text_under(alloc, entities, text.as_str(), indent, rc, out),
+        Json::String(text) => write_text_under(alloc, entities, text.as_str(), indent, rc, sink),
         _ => {
             let text = value.render(alloc)?;
-            write_text_under(alloc, entities, text.as_str(), indent, rc, out)
+            write_text_under(alloc, entities, text.as_str(), indent, rc, sink)
         }
-    }
-}
-
-#[cold]
-#[inline(never)]
-fn write_text_under<O: Output>(
-    alloc: Global,
-    entities: bool,
-    text: &str,
-    indent: &str,
-    rc: &RenderContext,
-    out: &mut O,
-) -> Result<LineState, BoxedError>
-    ensures puts { (a : Within) (kept : KeptIn a) → a.indent ≡ Some indent.now → PutsTo (escaped_if entities text.now)
-        O.may_give (moment kept rc.now (O.held out.old)) (answer_of result) (O.held out.new) }
-{
-    match write_in_line(rc.line(), text, indent, entities, out) {
-        // No entity ends a line.
-        Ok(()) => Ok(rc.line().behind(text)),
-        Err(cause) => Err(write_fault(alloc, cause)),
     }
 }
 
@@ -329,8 +248,8 @@ fn write_escaped<O: Output, P: Registered>(
     ensures shows { (site : Site) (kept : KeptIn (within environment.now)) (found : Found)
         → rendered_if_any (present_in found) ≡ rendered_if_any (option_map (λ v. view v.now) value.entry)
         → by_own ≡ (P.parts environment.now.parts.now).escape → (state_of rc.now).escapes ≡ true
-        → ShowsTo (setting_in P.parts environment.now) site found O.may_give (moment kept rc.now (held_in O.held sink.old))
-        (answer_of result) (held_in O.held sink.new) }
+        → TellsLine (CarriesOn (setting_in P.parts environment.now) (meaning.write_value site found) O.may_give)
+        (moment kept rc.now (held_in O.held sink.old)) (answer_of result) (held_in O.held sink.new) }
     ensures same { IsSame sink.old sink.new }
 {
     match escaped(environment, value) {
@@ -339,12 +258,29 @@ fn write_escaped<O: Output, P: Registered>(
     }
 }
 
+// Writes what the escape function answered, and answers the line behind it.
+fn write_line<O: Output, P>(
+    environment: &Environment<P>,
+    answer: &str,
+    rc: &RenderContext,
+    sink: &mut Sink<'_, O>,
+) -> Result<LineState, BoxedError>
+    ensures puts { (kept : KeptIn (within environment.now)) → TellsLine (Puts answer.now O.may_give)
+        (moment kept rc.now (held_in O.held sink.old)) (answer_of result) (held_in O.held sink.new) }
+    ensures same { IsSame sink.old sink.new }
+{
+    match environment.indent {
+        None => match write_as_is(environment.alloc, answer, sink) {
+            Ok(()) => Ok(rc.line().behind(answer)),
+            Err(e) => Err(e),
+        },
+        Some(indent) => write_text_under(environment.alloc, false, answer, indent, rc, sink),
+    }
+}
+
 // What the escape function of one's own answers for the whole text of a value. It is asked once, also where that
 // is empty.
-fn escaped<P: Registered>(
-    environment: &Environment<P>,
-    value: Option<&Json>,
-) -> Result<String, RenderError>
+fn escaped<P: Registered>(environment: &Environment<P>, value: Option<&Json>) -> Result<String, RenderError>
     ensures { IsOneOf ((P.parts environment.now.parts.now).own_escape
         (rendered_if_any (option_map (λ v. view v.now) value.entry))) string_bytes result }
 {
@@ -413,22 +349,10 @@ pub(super) fn write_as_is<O: Output>(
     text: &str,
     sink: &mut Sink<'_, O>,
 ) -> Result<(), BoxedError>
-    ensures puts { (s : State) → PutsStep text.now O.may_give (record { state = s; held = held_in O.held sink.old })
-        (answer_of result) (record { state = s; held = held_in O.held sink.new }) }
+    ensures puts { WritesAsIs text.now false O.may_give (held_in O.held sink.old) (answer_of result) (held_in O.held sink.new) }
     ensures same { IsSame sink.old sink.new }
 {
-    match sink {
-        Sink::Out(out) => write_as_is_to(alloc, text, &mut **out),
-        Sink::Ahead(ahead) => write_as_is_to(alloc, text, &mut **ahead),
-    }
-}
-
-#[inline(always)]
-fn write_as_is_to<O: Output>(alloc: Global, text: &str, out: &mut O) -> Result<(), BoxedError>
-    ensures { (s : State) → PutsStep text.now O.may_give (record { state = s; held = O.held out.old })
-        (answer_of result) (record { state = s; held = O.held out.new }) }
-{
-    match out.write(text) {
+    match sink.write(text) {
         Ok(()) => Ok(()),
         Err(fault) => Err(write_fault(alloc, fault)),
     }
@@ -442,21 +366,11 @@ pub(super) fn write_word<O: Output>(
     word: bool,
     sink: &mut Sink<'_, O>,
 ) -> Result<(), BoxedError>
-    ensures puts { (s : State) → PutsWord word O.may_give (record { state = s; held = held_in O.held sink.old })
-        (answer_of result) (record { state = s; held = held_in O.held sink.new }) }
+    ensures puts { WritesAsIs (values.word word) true O.may_give (held_in O.held sink.old) (answer_of result)
+        (held_in O.held sink.new) }
     ensures same { IsSame sink.old sink.new }
 {
-    match sink {
-        Sink::Out(out) => write_word_to(alloc, word, &mut **out),
-        Sink::Ahead(ahead) => write_word_to(alloc, word, &mut **ahead),
-    }
-}
-
-fn write_word_to<O: Output>(alloc: Global, word: bool, out: &mut O) -> Result<(), BoxedError>
-    ensures { (s : State) → PutsWord word O.may_give (record { state = s; held = O.held out.old })
-        (answer_of result) (record { state = s; held = O.held out.new }) }
-{
-    match out.write(word_text(word)) {
+    match sink.write(word_text(word)) {
         Ok(()) => Ok(()),
         Err(fault) => Err(BoxedError::new(alloc, word_fault(alloc, fault))),
     }
@@ -471,8 +385,7 @@ fn word_text(word: bool) -> &'static str
 // The refusal for a word that couldn't be written: `OutOfMemory` for want of memory, and else `Other`
 // of the fault's text.
 fn word_fault(alloc: Global, fault: io::Error) -> RenderError
-    ensures { reason_in result ≢ out_of_memory
-        → (text : Text) × (refusal_of result ≡ plain_refusal (word_reason (error_kind fault) text)) }
+    ensures { TellsFault fault (plain_fault true) result }
 {
     match fault.kind() {
         ErrorKind::OutOfMemory => RenderErrorReason::OutOfMemory.into(),

@@ -1,5 +1,10 @@
-use Rattle.handlebars_render.proofs.Sinks.{ahead-step}
+use Rattle.std.proofs.Common.{refl}
+use Rattle.handlebars_render.specs.Writes.{all_written}
+use Rattle.handlebars_render.proofs.Puts.{writes_short}
 use Rattle.handlebars_render.proofs.write.write_as_is.Goals as goal
 
-pub returns-in-Ahead-clause-puts : goal.returns-in-Ahead-clause-puts
-returns-in-Ahead-clause-puts g c = λ s. rw c.in-Ahead.is (ahead-step _ _ (c.write_as_is_to-in-Ahead.ensures s))
+pub returns-in-Ok-clause-puts : goal.returns-in-Ok-clause-puts
+returns-in-Ok-clause-puts g c = λ s. all_written refl c.in-Ok.ensures.takes
+
+pub returns-in-Err-clause-puts : goal.returns-in-Err-clause-puts
+returns-in-Err-clause-puts g c = λ s. writes_short _ refl c.in-Err.ensures.takes c.write_fault.ensures

@@ -1,10 +1,21 @@
-use Rattle.handlebars_base.specs.Outputs.{held_of}
-use Rattle.handlebars_render.specs.Boxed.{answer_of}
-use Rattle.handlebars_render.specs.View.{state_with}
-use Rattle.handlebars_render.proofs.Sinks.{ahead-puts_to}
+use Rattle.std.proofs.Common.{ap, option_map, ◌∙◌}
+use Rattle.handlebars_scope.specs.LineState.{LineState, line_behind}
+use Rattle.handlebars_render.specs.View.{state_with, with_line}
+use Rattle.handlebars_render.proofs.Puts.{plain-at, writes_as}
 use Rattle.handlebars_render.proofs.write.write_line.Goals as goal
 
-pub returns-in-Ahead-clause-puts : goal.returns-in-Ahead-clause-puts
-returns-in-Ahead-clause-puts g c = λ kept. rw c.in-Ahead.is
-    (ahead-puts_to _ c.args.text.now (state_with kept c.args.rc.now) (held_of c.in-Ahead.ahead.now) (held_of c.write_line_to-in-Ahead.new.out)
-    (answer_of c.write_line_to-in-Ahead.result) (c.write_line_to-in-Ahead.ensures.puts kept))
+pub returns-in-Ok-clause-puts : goal.returns-in-Ok-clause-puts
+returns-in-Ok-clause-puts g c = λ kept.
+    let s = state_with kept c.args.rc.now in
+    let t = c.args.answer.now in
+    writes_as _ (plain-at s t (ap (option_map (λ x. x.now)) c.in-None.is))
+    (ap (λ (z : LineState). with_line z s) (c.behind.ensures ∙ ap (λ (z : LineState). line_behind t z) c.line.ensures))
+    (c.in-Ok.ensures.puts s)
+
+pub returns-in-Err-clause-puts : goal.returns-in-Err-clause-puts
+returns-in-Err-clause-puts g c = λ kept.
+    let s = state_with kept c.args.rc.now in
+    writes_as _ (plain-at s c.args.answer.now (ap (option_map (λ x. x.now)) c.in-None.is)) tt (c.in-Err.ensures.puts s)
+
+pub returns-in-Some-clause-puts : goal.returns-in-Some-clause-puts
+returns-in-Some-clause-puts g c = λ kept. c.write_text_under.ensures.puts _ kept (ap (option_map (λ x. x.now)) c.in-Some.is)
