@@ -25,8 +25,8 @@ use handlebars_base::output::{Output, StringOutput};
 use handlebars_helpers::entries::OwnParts;
 use handlebars_render::context::RenderContext;
 use handlebars_render::entry::{render_element_into, render_into};
+use handlebars_render::environment::outside;
 use handlebars_render::failure::{fail_after, ready};
-use handlebars_render::setting::Setting;
 use handlebars_scope::context::Context;
 use handlebars_scope::context::bases::Bases;
 use handlebars_template::template::{Template, TemplateElement};
@@ -108,17 +108,8 @@ impl Renderable for Template {
     ) -> Result<(), RenderError> {
         ready(rc)?;
         let parts = &Logging { registry, log };
-        let setting = Setting {
-            alloc,
-            parts,
-            given: data,
-            room: u64::MAX,
-            inclusions: 0,
-            kept: None,
-            indent: None,
-            bases: &Bases::Outside,
-        };
-        match render_into(self, &setting, rc, out) {
+        let environment = outside(alloc, parts, data, &Bases::Outside);
+        match render_into(self, &environment, rc, out) {
             Ok(()) => Ok(()),
             Err(e) => fail_after(rc, Err(e.into_error())),
         }
@@ -140,17 +131,8 @@ impl Renderable for TemplateElement {
     ) -> Result<(), RenderError> {
         ready(rc)?;
         let parts = &Logging { registry, log };
-        let setting = Setting {
-            alloc,
-            parts,
-            given: data,
-            room: u64::MAX,
-            inclusions: 0,
-            kept: None,
-            indent: None,
-            bases: &Bases::Outside,
-        };
-        match render_element_into(self, &setting, rc, out) {
+        let environment = outside(alloc, parts, data, &Bases::Outside);
+        match render_element_into(self, &environment, rc, out) {
             Ok(()) => Ok(()),
             Err(e) => fail_after(rc, Err(e.into_error())),
         }

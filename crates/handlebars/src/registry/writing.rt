@@ -21,7 +21,7 @@ use handlebars_helpers::entries::OwnParts;
 use handlebars_render::boxed::BoxedError;
 use handlebars_render::context::RenderContext;
 use handlebars_render::entry::render_into;
-use handlebars_render::setting::Setting;
+use handlebars_render::environment::outside;
 use handlebars_scope::context::Context;
 use handlebars_scope::context::bases::Bases;
 use handlebars_template::template::Template;
@@ -144,17 +144,8 @@ fn render_to<E: OwnParts, L: Log, O: Output, X: Kept>(
         read,
         log,
     };
-    let setting = Setting {
-        alloc: registry.alloc,
-        parts,
-        given: ctx,
-        room: u64::MAX,
-        inclusions: 0,
-        kept: None,
-        indent: None,
-        bases: &Bases::Outside,
-    };
-    match render_into(template, &setting, rc, out) {
+    let environment = outside(registry.alloc, parts, ctx, &Bases::Outside);
+    match render_into(template, &environment, rc, out) {
         Ok(()) => Ok(()),
         Err(error) => Err(X::of(error)),
     }

@@ -16,9 +16,9 @@ use crate::render::logging::Logging;
 use handlebars_base::error::RenderError;
 use handlebars_helpers::entries::OwnParts;
 use handlebars_render::context::RenderContext;
+use handlebars_render::environment::outside;
 use handlebars_render::evaluate::{eval_element, eval_tree};
 use handlebars_render::failure::{fail_after, ready};
-use handlebars_render::setting::Setting;
 use handlebars_scope::context::Context;
 use handlebars_scope::context::bases::Bases;
 use handlebars_template::template::{Template, TemplateElement};
@@ -72,17 +72,8 @@ impl Evaluable for Template {
     ) -> Result<(), RenderError> {
         ready(rc)?;
         let parts = &Logging { registry, log };
-        let setting = Setting {
-            alloc,
-            parts,
-            given: data,
-            room: u64::MAX,
-            inclusions: 0,
-            kept: None,
-            indent: None,
-            bases: &Bases::Outside,
-        };
-        match eval_tree(self, &setting, rc) {
+        let environment = outside(alloc, parts, data, &Bases::Outside);
+        match eval_tree(self, &environment, rc) {
             Ok(()) => Ok(()),
             Err(e) => fail_after(rc, Err(e.into_error())),
         }
@@ -106,17 +97,8 @@ impl Evaluable for TemplateElement {
     ) -> Result<(), RenderError> {
         ready(rc)?;
         let parts = &Logging { registry, log };
-        let setting = Setting {
-            alloc,
-            parts,
-            given: data,
-            room: u64::MAX,
-            inclusions: 0,
-            kept: None,
-            indent: None,
-            bases: &Bases::Outside,
-        };
-        match eval_element(self, &setting, rc) {
+        let environment = outside(alloc, parts, data, &Bases::Outside);
+        match eval_element(self, &environment, rc) {
             Ok(()) => Ok(()),
             Err(e) => fail_after(rc, Err(e.into_error())),
         }

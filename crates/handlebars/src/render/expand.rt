@@ -17,8 +17,8 @@ use handlebars_base::error::RenderError;
 use handlebars_base::json::value::PathAndJson;
 use handlebars_helpers::entries::OwnParts;
 use handlebars_render::context::RenderContext;
+use handlebars_render::environment::outside;
 use handlebars_render::failure::{fail_after, ready};
-use handlebars_render::setting::Setting;
 use handlebars_render::value;
 use handlebars_scope::context::Context;
 use handlebars_scope::context::bases::Bases;
@@ -87,16 +87,7 @@ impl Expand for Parameter {
         ready(rc)?;
         let parts = &Logging { registry, log };
         let answer = value::expand(
-            &Setting {
-                alloc,
-                parts,
-                given: data,
-                room: u64::MAX,
-                inclusions: 0,
-                kept: None,
-                indent: None,
-                bases: &Bases::Outside,
-            },
+            &outside(alloc, parts, data, &Bases::Outside),
             rc,
             self,
         );
@@ -114,16 +105,7 @@ impl Expand for Parameter {
         ready(rc)?;
         let parts = &Logging { registry, log };
         let answer = value::expand_as_name(
-            &Setting {
-                alloc,
-                parts,
-                given: data,
-                room: u64::MAX,
-                inclusions: 0,
-                kept: None,
-                indent: None,
-                bases: &Bases::Outside,
-            },
+            &outside(alloc, parts, data, &Bases::Outside),
             rc,
             self,
         );

@@ -21,9 +21,9 @@ use handlebars_helpers::own::{Callee, HelperResult, HelperValue};
 use handlebars_helpers::view::Helper;
 use handlebars_render::context::RenderContext;
 use handlebars_render::entry::render_into;
+use handlebars_render::environment::outside;
 use handlebars_render::failure::{fail_after, ready};
 use handlebars_render::registered::Registered;
-use handlebars_render::setting::Setting;
 use handlebars_scope::context::Context;
 use handlebars_scope::context::bases::Bases;
 use handlebars_template::template::Template;
@@ -143,17 +143,8 @@ pub fn render_over<E: OwnParts, L: Log, O: Output>(
         read,
         log,
     };
-    let setting = Setting {
-        alloc,
-        parts,
-        given: data,
-        room: u64::MAX,
-        inclusions: 0,
-        kept: None,
-        indent: None,
-        bases: &Bases::Outside,
-    };
-    match render_into(template, &setting, rc, out) {
+    let environment = outside(alloc, parts, data, &Bases::Outside);
+    match render_into(template, &environment, rc, out) {
         Ok(()) => Ok(()),
         Err(e) => fail_after(rc, Err(e.into_error())),
     }

@@ -19,8 +19,8 @@ use handlebars_helpers::decorators::view::Decorator;
 use handlebars_helpers::entries::OwnParts;
 use handlebars_render::context::RenderContext;
 use handlebars_render::entry::include_into;
+use handlebars_render::environment::outside;
 use handlebars_render::failure::{fail_after, ready};
-use handlebars_render::setting::Setting;
 use handlebars_scope::context::Context;
 use handlebars_scope::context::bases::Bases;
 use log::Log;
@@ -51,17 +51,8 @@ pub fn expand_partial<E: OwnParts, L: Log, O: Output>(
 {
     ready(rc)?;
     let parts = &Logging { registry, log };
-    let setting = Setting {
-        alloc,
-        parts,
-        given: data,
-        room: u64::MAX,
-        inclusions: 0,
-        kept: None,
-        indent: None,
-        bases: &Bases::Outside,
-    };
-    match include_into(d, &setting, rc, out) {
+    let environment = outside(alloc, parts, data, &Bases::Outside);
+    match include_into(d, &environment, rc, out) {
         Ok(()) => Ok(()),
         Err(e) => fail_after(rc, Err(e.into_error())),
     }

@@ -11,4 +11,4 @@ pub returns-clause-expands : goal.returns-clause-expands
 returns-clause-expands g c = λ ready. subst
     (Yields (HasName (setting_of g.E.OwnParts.registered g.E.OwnParts.own c.args.registry.now c.args.data.now)
     (state_of c.args.rc.now) (param_view c.args.self.now)) cow_str_bytes)
-    (sym c.fail_after.ensures.answer) (c.expand_as_name-answer.ensures kept-outside)
+    (sym c.fail_after.ensures.answer) ((rw c.outside.ensures at c.expand_as_name-answer.ensures) kept-outside)
