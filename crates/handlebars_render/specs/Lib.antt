@@ -4,7 +4,6 @@ pub mod Targets
 pub mod Judgement
 pub mod Chosen
 pub mod Bound
-pub mod Asking
 pub mod Shows
 pub mod Writes
 pub mod OwnChoice

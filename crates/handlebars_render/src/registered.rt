@@ -4,11 +4,10 @@ ghost use Rattle.std.specs.Prelude.{◌≡◌, Bool, map, option_map, string_byt
 ghost use Rattle.handlebars_base.specs.Bytes.{Text};
 ghost use Rattle.handlebars_template.specs.TreeView.{tree_view};
 ghost use Rattle.handlebars_helpers.specs.Callee.{calls_registered};
-ghost use Rattle.handlebars_helpers.specs.DecoratorsView.{decorator_called, deed_of};
+ghost use Rattle.handlebars_helpers.specs.DecoratorsView.{decorator_called, deed_of, tag_asked_with};
 ghost use Rattle.handlebars_helpers.specs.EscapeView.{escaping_of};
-ghost use Rattle.handlebars_helpers.specs.OwnView.{callee_of, offer_of, steps_of, IsOneOf};
+ghost use Rattle.handlebars_helpers.specs.OwnView.{asked_with, callee_of, offer_of, steps_of, IsOneOf};
 ghost use Rattle.handlebars_meaning.specs.State.{IsLawful, Parts, helper_for, helper_named, hook};
-ghost use Rattle.handlebars_render.specs.Asking.{asked_with, tag_asked_with};
 ghost use Rattle.handlebars_render.specs.Targets.{target_in};
 ghost use Rattle.handlebars_render.specs.View.{state_of};
 
