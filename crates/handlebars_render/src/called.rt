@@ -118,7 +118,7 @@ impl<'a> Called<'a> {
         Ok(self.with_indent(tag, indent))
     }
 
-    // The same under this indentation.
+    // What a decorator or an inclusion sees of a tag, under this indentation.
     fn with_indent(self, tag: &'a DecoratorTemplate, indent: Option<CowStr<'a>>) -> Decorator<'a>
         ensures { tag_view result ≡ record {
           call = called_view self.entry;

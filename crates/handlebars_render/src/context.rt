@@ -222,7 +222,8 @@ impl RenderContext {
         }
     }
 
-    // The same, shared with the block that has it, which may be given another one while this is rendered.
+    // The partial of a name that a decorator set, shared with the block that has it, which may be given another one while
+    // this is rendered.
     pub(super) fn shared_partial(&self, name: &str) -> Result<Option<Rc<Template>>, AllocError>
         ensures { IfOk result (λ shared. option_map (λ t. tree_view t.value) shared
             ≡ partial_in (state_of self.now).blocks name.now) }
@@ -297,7 +298,7 @@ impl RenderContext {
         )
     }
 
-    // The same, of texts that nobody else needs.
+    // Binds a name to a helper of its own, both of texts that nobody else needs.
     pub(super) fn bind_helper(
         &mut self,
         name: String,
@@ -351,7 +352,7 @@ impl RenderContext {
         }
     }
 
-    // The same where the data was changed: a missing value is null.
+    // What a path leads to in changed data, where a missing value is null.
     fn reach_changed<'v: 'n, 'n>(
         &'v self,
         context: &'v Context,
@@ -413,7 +414,7 @@ impl RenderContext {
         }
     }
 
-    // The same where the data was changed: no value has a path, and a missing one is null.
+    // What a path leads to in changed data, where no value has a path and a missing one is null.
     fn find_changed<'a>(
         &self,
         context: &Context,
