@@ -5,16 +5,16 @@ use Rattle.serde_json.specs.Data.{Data}
 use Rattle.handlebars_base.specs.Bytes.{Text}
 use Rattle.handlebars_tags.specs.Options.{Options}
 use Rattle.handlebars_template.specs.Tree.{Tree}
-use Rattle.handlebars_helpers.specs.OwnAnswers.{OwnAnswers, Registered}
+use Rattle.handlebars_helpers.specs.OwnAnswers.{OwnAnswers, Registrations}
 use Rattle.handlebars_meaning.specs.Answer.{Beginning, FromName, FromSource}
 use Rattle.handlebars_meaning.specs.State.{Setting}
 use Rattle.handlebars.specs.Dev.{stored_under}
 use Rattle.handlebars.specs.Files.{Loaded}
 use Rattle.handlebars.specs.Over.{HoldsRead, SameAnswers, setting_under}
-use Rattle.handlebars.specs.View.{Modes, modes_of, options_of, setting_over, stored}
+use Rattle.handlebars.specs.View.{Modes, modes_of, options_of, setting_over, stored_tree}
 use Rattle.handlebars.specs.declared.registry.RegistryOf.{RegistryOf}
 
-module _ {E : Type 0} (registered : E → Registered) (own : E → OwnAnswers) (d : Data) (read : List Loaded) (dev plain : RegistryOf E)
+module _ {E : Type 0} (registered : E → Registrations) (own : E → OwnAnswers) (d : Data) (read : List Loaded) (dev plain : RegistryOf E)
     (holds : HoldsRead read dev plain) where
   setting_from : E → Modes → (Text → Option Tree) → Setting
   setting_from e m template = record {
@@ -33,7 +33,7 @@ module _ {E : Type 0} (registered : E → Registered) (own : E → OwnAnswers) (
     };
   }
 
-  trees-same : stored_under read dev ≡ stored plain
+  trees-same : stored_under read dev ≡ stored_tree plain
   trees-same = fun_ext (λ n. sym (holds.trees n))
 
   setting-same : setting_under registered own read dev d ≡ setting_over registered own plain d
@@ -54,7 +54,7 @@ module _ {E : Type 0} (registered : E → Registered) (own : E → OwnAnswers) (
       subst (λ (q : Setting). SameAnswers (setting_under registered own read dev d) begins q begins) setting-same
       (record { to = λ ps o a. a; from = λ ps o a. a })
 
-  pub names-alike : (name : Text) → AnswersAlike (FromName (stored_under read dev) name) (FromName (stored plain) name)
+  pub names-alike : (name : Text) → AnswersAlike (FromName (stored_under read dev) name) (FromName (stored_tree plain) name)
   names-alike name =
       subst (λ (f : Text → Option Tree). AnswersAlike (FromName (stored_under read dev) name) (FromName f name)) trees-same
       (begun-alike (FromName (stored_under read dev) name))

@@ -5,8 +5,8 @@ use Rattle.std.specs.Option.{option_or}
 use Rattle.std.specs.Prelude.{is_some}
 use Rattle.std.specs.Str.{bytes_eq}
 use Rattle.handlebars_base.specs.Bytes.{Text}
-use Rattle.handlebars.specs.Files.{HasLoaded, Loaded, laid_over, last_under, path_in, path_put, path_among, remembered, is_dev}
-use Rattle.handlebars.specs.View.{stored}
+use Rattle.handlebars.specs.Files.{HasLoaded, Loaded, laid_over, last_under, path_in, path_put, path_among, remembered_path, is_dev}
+use Rattle.handlebars.specs.View.{stored_tree}
 use Rattle.handlebars.specs.declared.registry.RegistryOf.{RegistryOf}
 
 pub cond-same : {X : Type 0} (b : Bool) (x : X) → cond b x x ≡ x
@@ -64,7 +64,7 @@ module _ {E : Type 0} where
   pub loaded-none : (r : RegistryOf E) → HasLoaded [] r r
   loaded-none r = record {
     trees = λ n. refl;
-    files = λ n. sym (cond-same (is_dev r) (remembered r n));
+    files = λ n. sym (cond-same (is_dev r) (remembered_path r n));
     entries = refl;
     modes = refl;
     dev = refl;
@@ -73,8 +73,8 @@ module _ {E : Type 0} where
   pub loaded-then : {ls ms : List Loaded} (old mid new : RegistryOf E) → HasLoaded ls old mid → HasLoaded ms mid new
       → HasLoaded (ls ++ ms) old new
   loaded-then {ls = ls} {ms = ms} old mid new a b = record {
-    trees = λ n. laid-twice (λ l. l.tree) ls ms (stored old) (stored mid n) (stored new n) n (a.trees n) (b.trees n);
-    files = λ n. laid-twice-if (is_dev old) (is_dev mid) ls ms (remembered old) (remembered mid n) (remembered new n) n a.dev
+    trees = λ n. laid-twice (λ l. l.tree) ls ms (stored_tree old) (stored_tree mid n) (stored_tree new n) n (a.trees n) (b.trees n);
+    files = λ n. laid-twice-if (is_dev old) (is_dev mid) ls ms (remembered_path old) (remembered_path mid n) (remembered_path new n) n a.dev
         (a.files n) (b.files n);
     entries = b.entries ∙ a.entries;
     modes = b.modes ∙ a.modes;

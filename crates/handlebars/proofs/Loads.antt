@@ -11,7 +11,7 @@ use Rattle.handlebars_base.specs.declared.error.template_error.TemplateError.{Te
 use Rattle.handlebars_template.specs.Compile.{Compiles, compiled, refused}
 use Rattle.handlebars_template.specs.Tree.{Tree}
 use Rattle.handlebars.specs.Files.{HoldsKind, Stop, refusal, no_memory, not_read, IsStopFor, LoadsFile, compiles, does_not, unreadable, in_want, unread}
-use Rattle.handlebars.specs.View.{named}
+use Rattle.handlebars.specs.View.{named_options}
 
 pub memory_or_not : (r : TemplateReason) → (r ≡ template_out_of_memory) ⊎ (r ≢ template_out_of_memory)
 memory_or_not (mismatching_closed_helper a b) = inr (λ e. cc)
@@ -37,22 +37,22 @@ module _ {S : Type 0} (reads : S → Text → Result (String Global) Error → S
   Refuses e = (why : Stop) × IsStopFor e why × LoadsFile reads prevents name path before (Err why) after
 
   pub load-compiled : (t : Tree) (text : String Global) (source : Text) → source ≡ string_bytes text
-      → reads before path (Ok text) after → Compiles source (named prevents name) (compiled t)
+      → reads before path (Ok text) after → Compiles source (named_options prevents name) (compiled t)
       → LoadsFile reads prevents name path before (Ok t) after
-  load-compiled t text source is r c = compiles r (subst (λ z. Compiles z (named prevents name) (compiled t)) is c)
+  load-compiled t text source is r c = compiles r (subst (λ z. Compiles z (named_options prevents name) (compiled t)) is c)
 
   refused-by : (e : TemplateError) (text : String Global) → reads before path (Ok text) after
       → ((template_refusal_of e).reason ≡ template_out_of_memory) ⊎ ((template_refusal_of e).reason ≢ template_out_of_memory)
       → ((template_refusal_of e).reason ≢ template_out_of_memory
-      → Compiles (string_bytes text) (named prevents name) (refused (template_refusal_of e))) → Refuses e
+      → Compiles (string_bytes text) (named_options prevents name) (refused (template_refusal_of e))) → Refuses e
   refused-by e text r (inl m) c = (no_memory, m, in_want r)
   refused-by e text r (inr n) c = (refusal (template_refusal_of e), refl, does_not r (c n))
 
   pub load-refused : (e : TemplateError) (text : String Global) (source : Text) → source ≡ string_bytes text
       → reads before path (Ok text) after → ((template_refusal_of e).reason ≢ template_out_of_memory
-      → Compiles source (named prevents name) (refused (template_refusal_of e))) → Refuses e
+      → Compiles source (named_options prevents name) (refused (template_refusal_of e))) → Refuses e
   load-refused e text source is r c = refused-by e text r (memory_or_not (template_refusal_of e).reason)
-      (λ n. subst (λ z. Compiles z (named prevents name) (refused (template_refusal_of e))) is (c n))
+      (λ n. subst (λ z. Compiles z (named_options prevents name) (refused (template_refusal_of e))) is (c n))
 
   unread-by : (e : TemplateError) (cause : Error) → reads before path (Err cause) after
       → ((template_refusal_of e).reason ≡ template_out_of_memory) ⊎ ((template_refusal_of e).reason ≢ template_out_of_memory)

@@ -12,7 +12,7 @@ use Rattle.std.specs.declared.io.Error.{Error}
 use Rattle.handlebars_base.specs.Bytes.{Text}
 use Rattle.handlebars_template.specs.Tree.{Tree}
 use Rattle.handlebars.specs.Files.{Loaded, Stop, no_memory}
-use Rattle.handlebars.specs.Folder.{Choice, Entry, IsInOrder, Place, Task, a_folder, an_entry, entries_of, Walks, LoadsAt, loaded_at, listed, unlisted, listed_in_want, no_entry, goes_on, ends, takes, refuses, passes, enters, too_deep, in_want, comes_before, folder_at, is_taken, path_at}
+use Rattle.handlebars.specs.Folder.{FileFilter, Entry, IsInOrder, WalkedFolder, Walkable, a_folder, an_entry, entries_of, Walks, LoadsAt, loaded_at, listed, unlisted, listed_in_want, no_entry, goes_on, ends, takes, refuses, passes, enters, too_deep, in_want, comes_before, folder_at, is_taken, path_at}
 use Rattle.handlebars.specs.Readers.{AnswersAlike, HasOneEnd, IsSameList, IsSameRead, entry_seen}
 use Rattle.handlebars.specs.declared.sources.EntryKind.{EntryKind}
 use Rattle.handlebars.specs.declared.sources.EntryKind.TheVariants.{File, Folder}
@@ -42,10 +42,10 @@ in-one-order {es = es} {fs = fs} {xs = xs} {ys = ys} same x y =
 -- ---- walks that are alike
 
 -- the same tasks, as far as entries are seen
-pub data Alike : Task → Task → Type 0 where
-  folders : {p q : Place} → p ≡ q → Alike (a_folder p) (a_folder q)
-  all_entries : {p : Place} {xs ys : List Entry} → map entry_seen xs ≡ map entry_seen ys → Alike (entries_of p xs) (entries_of p ys)
-  one_entry : {p : Place} {x y : Entry} → entry_seen x ≡ entry_seen y → Alike (an_entry p x) (an_entry p y)
+pub data Alike : Walkable → Walkable → Type 0 where
+  folders : {p q : WalkedFolder} → p ≡ q → Alike (a_folder p) (a_folder q)
+  all_entries : {p : WalkedFolder} {xs ys : List Entry} → map entry_seen xs ≡ map entry_seen ys → Alike (entries_of p xs) (entries_of p ys)
+  one_entry : {p : WalkedFolder} {x y : Entry} → entry_seen x ≡ entry_seen y → Alike (an_entry p x) (an_entry p y)
 
 true≢false : true ≡ false → ⊥
 true≢false e = cc
@@ -68,30 +68,30 @@ fewer e d = omega arith
 deep≢level : {n : ℕ} (a : ℕ) → n ≡ 0 → n ≡ a + 1 → ⊥
 deep≢level a e d = omega arith
 
-folder-same : (p : Place) {a b : Text} {m n : ℕ} → a ≡ b → m ≡ n → folder_at p a m ≡ folder_at p b n
+folder-same : (p : WalkedFolder) {a b : Text} {m n : ℕ} → a ≡ b → m ≡ n → folder_at p a m ≡ folder_at p b n
 folder-same p {b = b} {m = m} same levels = ap (λ z. folder_at p z m) same ∙ ap (folder_at p b) levels
 
 module _ {S : Type 0} (reads : S → Text → Result (String Global) Error → S → Type 0)
     (lists : S → Text → Result (Vec Entry) Error → S → Type 0) (one_read : AnswersAlike IsSameRead reads)
-    (one_list : AnswersAlike IsSameList lists) (prevents : Bool) (c : Choice) where
-  list-at : {p q : Place} {s t : S} {answer : Result (Vec Entry) Error} → p ≡ q → lists s q.path answer t
+    (one_list : AnswersAlike IsSameList lists) (prevents : Bool) (c : FileFilter) where
+  list-at : {p q : WalkedFolder} {s t : S} {answer : Result (Vec Entry) Error} → p ≡ q → lists s q.path answer t
       → lists s p.path answer t
   list-at {s = s} {t = t} {answer = answer} same l = subst (λ z. lists s z.path answer t) (sym same) l
 
-  load-at : (p : Place) {a b : Text} {s t : S} {answer : Result Tree Stop} → a ≡ b
+  load-at : (p : WalkedFolder) {a b : Text} {s t : S} {answer : Result Tree Stop} → a ≡ b
       → LoadsAt reads lists prevents c p b s answer t → LoadsAt reads lists prevents c p a s answer t
   load-at p {s = s} {t = t} {answer = answer} same l = subst (λ z. LoadsAt reads lists prevents c p z s answer t) (sym same) l
 
-  loaded-same : (p : Place) {a b : Text} {t u : Tree} → a ≡ b → t ≡ u
+  loaded-same : (p : WalkedFolder) {a b : Text} {t u : Tree} → a ≡ b → t ≡ u
       → loaded_at reads lists prevents c p a t ∷ [] ≡ loaded_at reads lists prevents c p b u ∷ []
   loaded-same p {b = b} {t = t} same tree_same =
       ap (λ z. loaded_at reads lists prevents c p z t ∷ []) same ∙ ap (λ z. loaded_at reads lists prevents c p b z ∷ []) tree_same
 
-  taken≢passed : (p : Place) {a b : Text} → a ≡ b → is_taken c (path_at p a) a ≡ true → is_taken c (path_at p b) b ≡ false → ⊥
+  taken≢passed : (p : WalkedFolder) {a b : Text} → a ≡ b → is_taken c (path_at p a) a ≡ true → is_taken c (path_at p b) b ≡ false → ⊥
   taken≢passed p same g h =
       let here = sym g ∙ ap (λ z. is_taken c (path_at p z) z) same ∙ h in true≢false here
 
-  one-walk : {k j : Task} {s t u : S} {ls ms : List Loaded} {o q : Result (Unit {0}) Stop} → Alike k j
+  one-walk : {k j : Walkable} {s t u : S} {ls ms : List Loaded} {o q : Result (Unit {0}) Stop} → Alike k j
       → Walks reads lists prevents c k s ls o t → Walks reads lists prevents c j s ms q u → o ≢ Err no_memory → q ≢ Err no_memory
       → (ls ≡ ms) × (o ≡ q) × (t ≡ u)
   -- a folder
@@ -172,7 +172,7 @@ module _ {S : Type 0} (reads : S → Text → Result (String Global) Error → S
   one-walk (one_entry same) (too_deep e) in_want m n = absurd (n refl)
   one-walk (one_entry same) in_want w m n = absurd (m refl)
 
-  pub walk-once : (k : Task) (s : S) → HasOneEnd (Walks reads lists prevents c k s)
+  pub walk-once : (k : Walkable) (s : S) → HasOneEnd (Walks reads lists prevents c k s)
   walk-once (a_folder p) s ls ms o q t u w v m n = one-walk (folders refl) w v m n
   walk-once (entries_of p xs) s ls ms o q t u w v m n = one-walk (all_entries refl) w v m n
   walk-once (an_entry p x) s ls ms o q t u w v m n = one-walk (one_entry refl) w v m n

@@ -15,7 +15,7 @@ use Rattle.handlebars_tags.specs.Options.{Options}
 use Rattle.handlebars_template.specs.Compile.{Compiles, compiled, refused}
 use Rattle.handlebars_template.specs.Tree.{Tree}
 use Rattle.handlebars_template.specs.declared.template.tree.Template.{Template}
-use Rattle.handlebars_helpers.specs.OwnAnswers.{HaveOne, OwnAnswers, Registered}
+use Rattle.handlebars_helpers.specs.OwnAnswers.{HaveOne, OwnAnswers, Registrations}
 use Rattle.handlebars_meaning.specs.Answer.{FromName, FromSource, GivesText, RefusesWith, compiles, is_not, is_stored}
 use Rattle.handlebars_meaning.specs.Laws.{with_templates}
 use Rattle.handlebars_meaning.specs.Means.{render_tree}
@@ -24,11 +24,11 @@ use Rattle.handlebars_render.specs.View.{GivesString, RefusesString}
 use Rattle.handlebars.specs.Dev.{FailsRendering, HasRead, HoldsTrees, ReadsFiles, RefusesReading, at_a_file, behind_all, RefusesSource, not_compiled, is_compiled, files_for, stored_under}
 use Rattle.handlebars.specs.Files.{Loaded, laid_over, tree_in}
 use Rattle.handlebars.specs.Over.{setting_under, setting_with}
-use Rattle.handlebars.specs.View.{setting_over, stored}
+use Rattle.handlebars.specs.View.{setting_over, stored_tree}
 use Rattle.handlebars.specs.declared.registry.RegistryOf.{RegistryOf}
 use Rattle.handlebars.proofs.AnswerLaws.{gives_text, refuses_before, refuses_with}
 
-module _ {E : Type 0} (registered : E → Registered) (own : E → OwnAnswers) (r : RegistryOf E) (d : Data) where
+module _ {E : Type 0} (registered : E → Registrations) (own : E → OwnAnswers) (r : RegistryOf E) (d : Data) where
   -- the law of parts of one's own, whatever trees were read
   pub over-lawful : (read : List Loaded) → HaveOne (own r.entries) → IsLawful (setting_under registered own read r d).parts
   over-lawful read one = record { helpers = one.helpers; decorators = one.decorators; escape = one.escape }
@@ -40,7 +40,7 @@ module _ {E : Type 0} (registered : E → Registered) (own : E → OwnAnswers) (
   over-same : (read : List Loaded) (trees : BTreeMap (String Global) Template) → HoldsTrees read trees
       → setting_with registered own trees r d ≡ setting_under registered own read r d
   over-same read trees holds =
-      ap (λ (above : Text → Option Tree). with_templates (laid_over above (stored r)) (setting_over registered own r d))
+      ap (λ (above : Text → Option Tree). with_templates (laid_over above (stored_tree r)) (setting_over registered own r d))
       (fun_ext (λ n. holds n))
 
   module _ {S : Type 0} (reads : S → Text → Result (String Global) Error → S → Type 0) (before after : S)
@@ -49,10 +49,10 @@ module _ {E : Type 0} (registered : E → Registered) (own : E → OwnAnswers) (
 
     module _ (name : Text) (rd : (read : List Loaded)
         × ReadsFiles reads r.prevent_indent (files_for r (Some name)) before read (Ok tt) after × HoldsTrees read trees) where
-      found : (o : Option Tree) → o ≡ laid_over (tree_in trees) (stored r) name → stored_under rd.0 r name ≡ o
-      found o is = ap (λ a. option_or a (stored r name)) (sym (rd.2 name)) ∙ sym is
+      found : (o : Option Tree) → o ≡ laid_over (tree_in trees) (stored_tree r) name → stored_under rd.0 r name ≡ o
+      found o is = ap (λ a. option_or a (stored_tree r name)) (sym (rd.2 name)) ∙ sym is
 
-      pub gives-by-name : (t : Tree) (first next : State) (text : Text) → Some t ≡ laid_over (tree_in trees) (stored r) name
+      pub gives-by-name : (t : Tree) (first next : State) (text : Text) → Some t ≡ laid_over (tree_in trees) (stored_tree r) name
           → first ≡ first_state r.recursive_lookup
           → GivesString (setting_with registered own trees r d) (render_tree t) first next text
           → HasRead reads r (Some name) before after (λ read. GivesText (setting_under registered own read r d)
@@ -65,7 +65,7 @@ module _ {E : Type 0} (registered : E → Registered) (own : E → OwnAnswers) (
             (subst (λ (p : Setting). GivesString p (render_tree t) first next text) (over-same rd.0 trees rd.2) g);
       }
 
-      pub refuses-by-name : (t : Tree) (first : State) (e : RenderError) → Some t ≡ laid_over (tree_in trees) (stored r) name
+      pub refuses-by-name : (t : Tree) (first : State) (e : RenderError) → Some t ≡ laid_over (tree_in trees) (stored_tree r) name
           → first ≡ first_state r.recursive_lookup
           → RefusesString (setting_with registered own trees r d) (render_tree t) first (refusal_of e)
           → RefusesReading reads r (Some name) before after (λ read q. RefusesWith (setting_under registered own read r d)
@@ -75,7 +75,7 @@ module _ {E : Type 0} (registered : E → Registered) (own : E → OwnAnswers) (
           (is_stored (found (Some t) is)) begins
           (subst (λ (p : Setting). RefusesString p (render_tree t) first (refusal_of e)) (over-same rd.0 trees rd.2) g))
 
-      pub not-found-by-name : (e : RenderError) → None ≡ laid_over (tree_in trees) (stored r) name
+      pub not-found-by-name : (e : RenderError) → None ≡ laid_over (tree_in trees) (stored_tree r) name
           → refusal_of e ≡ plain_refusal (template_not_found name)
           → RefusesReading reads r (Some name) before after (λ read q. RefusesWith (setting_under registered own read r d)
           (FromName (stored_under read r) name) q) e

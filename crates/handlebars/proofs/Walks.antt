@@ -11,8 +11,8 @@ use Rattle.handlebars_base.specs.Reasons.{template_out_of_memory}
 use Rattle.handlebars_base.specs.TemplateRefusals.{template_refusal_of}
 use Rattle.handlebars_base.specs.declared.error.template_error.TemplateError.{TemplateError}
 use Rattle.handlebars_template.specs.Tree.{Tree}
-use Rattle.handlebars.specs.Files.{HasLoaded, IsStopFor, Loaded, LoadsFile, Stop, no_memory, Tells}
-use Rattle.handlebars.specs.Folder.{Choice, Entry, IsInOrder, Place, Registers, Task, a_folder, an_entry, entries_of, Walks, listed, unlisted, listed_in_want, no_entry, goes_on, ends, takes, refuses, passes, enters, too_deep, in_want, below_at, is_taken, name_in, path_at}
+use Rattle.handlebars.specs.Files.{HasLoaded, IsStopFor, Loaded, LoadsFile, Stop, no_memory, TellsOutcome}
+use Rattle.handlebars.specs.Folder.{FileFilter, Entry, IsInOrder, WalkedFolder, Registers, Walkable, a_folder, an_entry, entries_of, Walks, listed, unlisted, listed_in_want, no_entry, goes_on, ends, takes, refuses, passes, enters, too_deep, in_want, below_at, is_taken, name_in, path_at}
 use Rattle.handlebars.specs.View.{modes_of}
 use Rattle.handlebars.specs.declared.registry.RegistryOf.{RegistryOf}
 use Rattle.handlebars.specs.declared.sources.EntryKind.{EntryKind}
@@ -21,19 +21,19 @@ use Rattle.handlebars.proofs.Loaded.{loaded-none, loaded-then}
 
 -- What comes of the rest of a folder's entries comes, behind these, of all.
 abbrev pub GoesOn : {S : Type 0} → (S → Text → Result (String Global) Error → S → Type 0)
-    → (S → Text → Result (Vec Entry) Error → S → Type 0) → Bool → Choice → List Loaded → Place → List Entry → List Entry → S → S → Type 0
+    → (S → Text → Result (Vec Entry) Error → S → Type 0) → Bool → FileFilter → List Loaded → WalkedFolder → List Entry → List Entry → S → S → Type 0
 GoesOn {S} reads lists prevents c loaded p xs rest s t = (ls : List Loaded) (o : Result (Unit {0}) Stop) (u : S)
     → Walks reads lists prevents c (entries_of p rest) t ls o u → Walks reads lists prevents c (entries_of p xs) s (loaded ++ ls) o u
 
 module _ {S : Type 0} (reads : S → Text → Result (String Global) Error → S → Type 0)
-    (lists : S → Text → Result (Vec Entry) Error → S → Type 0) (c : Choice) {E : Type 0} where
-  pub registers-in_want : (k : Task) (r : RegistryOf E) (s : S) (e : TemplateError)
+    (lists : S → Text → Result (Vec Entry) Error → S → Type 0) (c : FileFilter) {E : Type 0} where
+  pub registers-in_want : (k : Walkable) (r : RegistryOf E) (s : S) (e : TemplateError)
       → (template_refusal_of e).reason ≡ template_out_of_memory → Registers reads lists c k r r s s (Err e)
   registers-in_want k r s e m = record { loaded = []; end = Err no_memory; walks = in_want; tells = m; has = loaded-none r }
 
   -- ---- files
 
-  FileClaim : (p : Place) (name : String Global) (old new : RegistryOf E) (s t : S) (answer : Result (Unit {0}) TemplateError)
+  FileClaim : (p : WalkedFolder) (name : String Global) (old new : RegistryOf E) (s t : S) (answer : Result (Unit {0}) TemplateError)
       (path below : Text) → Type 0
   FileClaim p name old new s t answer path below =
       is_taken c path (string_bytes name) ≡ true
@@ -44,7 +44,7 @@ module _ {S : Type 0} (reads : S → Text → Result (String Global) Error → S
       → OnErr answer (HasLoaded [] old new)
       → Registers reads lists c (an_entry p (name, File)) old new s t answer
 
-  file-here : (p : Place) (name : String Global) (old new : RegistryOf E) (s t : S) (answer : Result (Unit {0}) TemplateError)
+  file-here : (p : WalkedFolder) (name : String Global) (old new : RegistryOf E) (s t : S) (answer : Result (Unit {0}) TemplateError)
       → FileClaim p name old new s t answer (path_at p (string_bytes name)) (below_at p (string_bytes name))
   unfolding FileClaim
   file-here p name old new s t (Ok u) taken ok err kept = record {
@@ -62,7 +62,7 @@ module _ {S : Type 0} (reads : S → Text → Result (String Global) Error → S
     has = kept;
   }
 
-  pub file-registers : (p : Place) (name : String Global) (path below : Text) (old new : RegistryOf E) (s t : S)
+  pub file-registers : (p : WalkedFolder) (name : String Global) (path below : Text) (old new : RegistryOf E) (s t : S)
       (answer : Result (Unit {0}) TemplateError) → path ≡ path_at p (string_bytes name) → below ≡ below_at p (string_bytes name)
       → is_taken c path (string_bytes name) ≡ true
       → OnOk answer ((tree : Tree) × LoadsFile reads (modes_of old).prevent_indent (name_in c below) path s (Ok tree) t
@@ -78,7 +78,7 @@ module _ {S : Type 0} (reads : S → Text → Result (String Global) Error → S
       (file-here p name old new s t answer))
 
   -- the same under another spelling of the name
-  pub file-named : (p : Place) (name : String Global) (given path below : Text) (old new : RegistryOf E) (s t : S)
+  pub file-named : (p : WalkedFolder) (name : String Global) (given path below : Text) (old new : RegistryOf E) (s t : S)
       (answer : Result (Unit {0}) TemplateError) → path ≡ path_at p (string_bytes name) → below ≡ below_at p (string_bytes name)
       → given ≡ name_in c below → is_taken c path (string_bytes name) ≡ true
       → OnOk answer ((tree : Tree) × LoadsFile reads (modes_of old).prevent_indent given path s (Ok tree) t
@@ -96,7 +96,7 @@ module _ {S : Type 0} (reads : S → Text → Result (String Global) Error → S
       → Registers reads lists c (an_entry p (name, File)) old new s t answer) (sym is_name)
       (file-registers p name path below old new s t answer is_path is_below taken)
 
-  pub file-passes : (p : Place) (name : String Global) (path : Text) (r : RegistryOf E) (s : S)
+  pub file-passes : (p : WalkedFolder) (name : String Global) (path : Text) (r : RegistryOf E) (s : S)
       → path ≡ path_at p (string_bytes name) → is_taken c path (string_bytes name) ≡ false
       → Registers reads lists c (an_entry p (name, File)) r r s s (Ok tt)
   file-passes p name path r s is_path passed = record {
@@ -109,7 +109,7 @@ module _ {S : Type 0} (reads : S → Text → Result (String Global) Error → S
 
   -- ---- folders
 
-  pub folder-listed : (p : Place) (es : Vec Entry) (xs : List Entry) (old new : RegistryOf E) (s t u : S)
+  pub folder-listed : (p : WalkedFolder) (es : Vec Entry) (xs : List Entry) (old new : RegistryOf E) (s t u : S)
       (answer : Result (Unit {0}) TemplateError) → lists s p.path (Ok es) t → IsInOrder es.items xs
       → Registers reads lists c (entries_of p xs) old new t u answer → Registers reads lists c (a_folder p) old new s u answer
   folder-listed p es xs old new s t u answer l o r = record {
@@ -120,7 +120,7 @@ module _ {S : Type 0} (reads : S → Text → Result (String Global) Error → S
     has = r.has;
   }
 
-  pub folder-in_want : (p : Place) (given : Result (Vec Entry) Error) (r : RegistryOf E) (s t : S) (e : TemplateError)
+  pub folder-in_want : (p : WalkedFolder) (given : Result (Vec Entry) Error) (r : RegistryOf E) (s t : S) (e : TemplateError)
       → lists s p.path given t → (template_refusal_of e).reason ≡ template_out_of_memory
       → Registers reads lists c (a_folder p) r r s t (Err e)
   folder-in_want p given r s t e l m = record {
@@ -131,7 +131,7 @@ module _ {S : Type 0} (reads : S → Text → Result (String Global) Error → S
     has = loaded-none r;
   }
 
-  pub folder-unlisted : (p : Place) (cause : Error) (r : RegistryOf E) (s t : S) (answer : Result (Unit {0}) TemplateError)
+  pub folder-unlisted : (p : WalkedFolder) (cause : Error) (r : RegistryOf E) (s t : S) (answer : Result (Unit {0}) TemplateError)
       → lists s p.path (Err cause) t → OnOk answer (error_kind cause ≢ OutOfMemory)
       → IfErr answer (λ e. (template_refusal_of e).reason ≡ template_out_of_memory)
       → Registers reads lists c (a_folder p) r r s t answer
@@ -139,7 +139,7 @@ module _ {S : Type 0} (reads : S → Text → Result (String Global) Error → S
       record { loaded = []; end = Ok tt; walks = unlisted l ok; tells = refl; has = loaded-none r }
   folder-unlisted p cause r s t (Err e) l ok err = folder-in_want p (Err cause) r s t e l err
 
-  pub folder-enters : (p : Place) (name : String Global) (levels : ℕ) (path front : Text) (old new : RegistryOf E) (s t : S)
+  pub folder-enters : (p : WalkedFolder) (name : String Global) (levels : ℕ) (path front : Text) (old new : RegistryOf E) (s t : S)
       (answer : Result (Unit {0}) TemplateError) → path ≡ path_at p (string_bytes name)
       → front ≡ below_at p (string_bytes name) ++ codes "/" → p.levels ≡ levels + 1
       → Registers reads lists c (a_folder (record { path = path; front = front; levels = levels })) old new s t answer
@@ -151,24 +151,24 @@ module _ {S : Type 0} (reads : S → Text → Result (String Global) Error → S
       is_path r) in
       record { loaded = r'.loaded; end = r'.end; walks = enters deeper r'.walks; tells = r'.tells; has = r'.has }
 
-  pub folder-too_deep : (p : Place) (name : String Global) (r : RegistryOf E) (s : S) → p.levels ≡ 0
+  pub folder-too_deep : (p : WalkedFolder) (name : String Global) (r : RegistryOf E) (s : S) → p.levels ≡ 0
       → Registers reads lists c (an_entry p (name, Folder)) r r s s (Ok tt)
   folder-too_deep p name r s deep =
       record { loaded = []; end = Ok tt; walks = too_deep deep; tells = refl; has = loaded-none r }
 
   -- ---- entries
 
-  over-walk : {k : Task} {s t : S} {ls : List Loaded} {o : Result (Unit {0}) Stop} (old mid : RegistryOf E)
+  over-walk : {k : Walkable} {s t : S} {ls : List Loaded} {o : Result (Unit {0}) Stop} (old mid : RegistryOf E)
       → modes_of mid ≡ modes_of old → Walks reads lists (modes_of mid).prevent_indent c k s ls o t
       → Walks reads lists (modes_of old).prevent_indent c k s ls o t
   over-walk {k = k} {s = s} {t = t} {ls = ls} {o = o} old mid same w =
       subst (λ m. Walks reads lists m.prevent_indent c k s ls o t) same w
 
-  pub entries-begin : (p : Place) (xs : List Entry) (old : RegistryOf E) (s : S) → (ls : List Loaded) × HasLoaded ls old old
+  pub entries-begin : (p : WalkedFolder) (xs : List Entry) (old : RegistryOf E) (s : S) → (ls : List Loaded) × HasLoaded ls old old
       × GoesOn reads lists (modes_of old).prevent_indent c ls p xs xs s s
   entries-begin p xs old s = ([], loaded-none old, λ ms o u w. w)
 
-  next-entry : (p : Place) (x : Entry) (xs : List Entry) (i : ℕ) (old mid : RegistryOf E) (s t : S) → i < length xs
+  next-entry : (p : WalkedFolder) (x : Entry) (xs : List Entry) (i : ℕ) (old mid : RegistryOf E) (s t : S) → i < length xs
       → x ≡ get_or xs i x
       → ((ls : List Loaded) × HasLoaded ls old mid × GoesOn reads lists (modes_of old).prevent_indent c ls p xs (drop i xs) s t)
       → (ls : List Loaded) × HasLoaded ls old mid
@@ -178,10 +178,10 @@ module _ {S : Type 0} (reads : S → Text → Result (String Global) Error → S
       × GoesOn reads lists (modes_of old).prevent_indent c ls p xs zs s t)
       (drop-cons xs i x within ∙ ap (λ z. z ∷ drop (suc i) xs) (sym is) ∙ ap (λ n. x ∷ drop n xs) (sym (add-one i))) before
 
-  entry-went : (p : Place) (x : Entry) (xs rest : List Entry) (old mid new : RegistryOf E) (s t u : S) (done : Unit {0})
+  entry-went : (p : WalkedFolder) (x : Entry) (xs rest : List Entry) (old mid new : RegistryOf E) (s t u : S) (done : Unit {0})
       → ((ls : List Loaded) × HasLoaded ls old mid × GoesOn reads lists (modes_of old).prevent_indent c ls p xs (x ∷ rest) s t)
       → (loaded : List Loaded) → HasLoaded loaded mid new
-      → (end : Result (Unit {0}) Stop) → Tells (λ (z : Unit {0}). z) (Ok done) end
+      → (end : Result (Unit {0}) Stop) → TellsOutcome (λ (z : Unit {0}). z) (Ok done) end
       → Walks reads lists (modes_of mid).prevent_indent c (an_entry p x) t loaded end u
       → (ls : List Loaded) × HasLoaded ls old new × GoesOn reads lists (modes_of old).prevent_indent c ls p xs rest s u
   entry-went p x xs rest old mid new s t u done before loaded has (Ok v) tells w = (
@@ -193,7 +193,7 @@ module _ {S : Type 0} (reads : S → Text → Result (String Global) Error → S
   )
   entry-went p x xs rest old mid new s t u done before loaded has (Err why) tells w = absurd tells
 
-  pub entry-goes_on : (p : Place) (x : Entry) (xs : List Entry) (i : ℕ) (old mid new : RegistryOf E) (s t u : S) (done : Unit {0})
+  pub entry-goes_on : (p : WalkedFolder) (x : Entry) (xs : List Entry) (i : ℕ) (old mid new : RegistryOf E) (s t u : S) (done : Unit {0})
       → i < length xs → x ≡ get_or xs i x
       → ((ls : List Loaded) × HasLoaded ls old mid × GoesOn reads lists (modes_of old).prevent_indent c ls p xs (drop i xs) s t)
       → Registers reads lists c (an_entry p x) mid new t u (Ok done)
@@ -203,10 +203,10 @@ module _ {S : Type 0} (reads : S → Text → Result (String Global) Error → S
       entry-went p x xs (drop (i + 1) xs) old mid new s t u done (next-entry p x xs i old mid s t within is left) r.loaded r.has r.end
       r.tells r.walks
 
-  entry-ended : (p : Place) (x : Entry) (xs rest : List Entry) (old mid new : RegistryOf E) (s t u : S) (e : TemplateError)
+  entry-ended : (p : WalkedFolder) (x : Entry) (xs rest : List Entry) (old mid new : RegistryOf E) (s t u : S) (e : TemplateError)
       → ((ls : List Loaded) × HasLoaded ls old mid × GoesOn reads lists (modes_of old).prevent_indent c ls p xs (x ∷ rest) s t)
       → (loaded : List Loaded) → HasLoaded loaded mid new
-      → (end : Result (Unit {0}) Stop) → Tells (λ (z : Unit {0}). z) (Err e) end
+      → (end : Result (Unit {0}) Stop) → TellsOutcome (λ (z : Unit {0}). z) (Err e) end
       → Walks reads lists (modes_of mid).prevent_indent c (an_entry p x) t loaded end u
       → Registers reads lists c (entries_of p xs) old new s u (Err e)
   entry-ended p x xs rest old mid new s t u e before loaded has (Ok v) tells w = absurd tells
@@ -218,7 +218,7 @@ module _ {S : Type 0} (reads : S → Text → Result (String Global) Error → S
     has = loaded-then old mid new before.1 has;
   }
 
-  pub entry-ends : (p : Place) (x : Entry) (xs : List Entry) (i : ℕ) (old mid new : RegistryOf E) (s t u : S) (e : TemplateError)
+  pub entry-ends : (p : WalkedFolder) (x : Entry) (xs : List Entry) (i : ℕ) (old mid new : RegistryOf E) (s t u : S) (e : TemplateError)
       → i < length xs → x ≡ get_or xs i x
       → ((ls : List Loaded) × HasLoaded ls old mid × GoesOn reads lists (modes_of old).prevent_indent c ls p xs (drop i xs) s t)
       → Registers reads lists c (an_entry p x) mid new t u (Err e) → Registers reads lists c (entries_of p xs) old new s u (Err e)
@@ -226,7 +226,7 @@ module _ {S : Type 0} (reads : S → Text → Result (String Global) Error → S
       entry-ended p x xs (drop (i + 1) xs) old mid new s t u e (next-entry p x xs i old mid s t within is left) r.loaded r.has r.end
       r.tells r.walks
 
-  pub entries-end : (p : Place) (xs : List Entry) (i : ℕ) (old mid : RegistryOf E) (s t : S) → length xs ≤ i
+  pub entries-end : (p : WalkedFolder) (xs : List Entry) (i : ℕ) (old mid : RegistryOf E) (s t : S) → length xs ≤ i
       → ((ls : List Loaded) × HasLoaded ls old mid × GoesOn reads lists (modes_of old).prevent_indent c ls p xs (drop i xs) s t)
       → Registers reads lists c (entries_of p xs) old mid s t (Ok tt)
   entries-end p xs i old mid s t over before = record {
@@ -241,7 +241,7 @@ module _ {S : Type 0} (reads : S → Text → Result (String Global) Error → S
   }
 
   -- an entry of that kind
-  pub entry-of-kind : (p : Place) (x : Entry) (kind : EntryKind) (old new : RegistryOf E) (s t : S)
+  pub entry-of-kind : (p : WalkedFolder) (x : Entry) (kind : EntryKind) (old new : RegistryOf E) (s t : S)
       (answer : Result (Unit {0}) TemplateError) → x.1 ≡ kind → Registers reads lists c (an_entry p (x.0, kind)) old new s t answer
       → Registers reads lists c (an_entry p x) old new s t answer
   entry-of-kind p x kind old new s t answer is r =

@@ -5,7 +5,7 @@ use Rattle.std.specs.Prelude.{is_some}
 use Rattle.std.specs.declared.io.Error.{Error}
 use Rattle.handlebars_base.specs.Bytes.{Text}
 use Rattle.handlebars.specs.Dev.{ReadsFiles, ReadsFor, no_file, loads, fails, in_want, asked_file, file_at, files_for, is_known, others}
-use Rattle.handlebars.specs.Files.{Loaded, Stop, files_in, files_of, is_dev, path_in, remembered}
+use Rattle.handlebars.specs.Files.{Loaded, Stop, files_in, files_of, is_dev, path_in, remembered_path}
 use Rattle.handlebars.specs.Over.{HoldsRead}
 use Rattle.handlebars.specs.declared.registry.RegistryOf.{RegistryOf}
 
@@ -32,8 +32,8 @@ some≢none e = cc
 
 module _ {E : Type 0} (r : RegistryOf E) (asked : Option Text) (off : is_dev r ≡ false) where
   no-files : files_for r asked ≡ []
-  no-files = nothing-either (is_known r asked) (asked_file asked (remembered r) ++ others asked (files_of r))
-      (ap (λ fs. fs ++ others asked (files_of r)) (asked_file-none asked (remembered r) (λ name. path_in-off r.dev.paths name off))
+  no-files = nothing-either (is_known r asked) (asked_file asked (remembered_path r) ++ others asked (files_of r))
+      (ap (λ fs. fs ++ others asked (files_of r)) (asked_file-none asked (remembered_path r) (λ name. path_in-off r.dev.paths name off))
       ∙ ap (others asked) (files_in-off r.dev.paths off))
 
   module _ {S : Type 0} (reads : S → Text → Result (String Global) Error → S → Type 0) where

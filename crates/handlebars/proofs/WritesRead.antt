@@ -14,40 +14,40 @@ use Rattle.handlebars_tags.specs.Options.{Options}
 use Rattle.handlebars_template.specs.Compile.{Compiles, compiled, refused}
 use Rattle.handlebars_template.specs.Tree.{Tree}
 use Rattle.handlebars_template.specs.declared.template.tree.Template.{Template}
-use Rattle.handlebars_helpers.specs.OwnAnswers.{OwnAnswers, Registered}
+use Rattle.handlebars_helpers.specs.OwnAnswers.{OwnAnswers, Registrations}
 use Rattle.handlebars_meaning.specs.Answer.{FromName, FromSource, compiles}
 use Rattle.handlebars_meaning.specs.Laws.{with_templates}
 use Rattle.handlebars_render.specs.View.{Answered}
 use Rattle.handlebars_render.proofs.Carry.{memory_or}
-use Rattle.handlebars.specs.Calls.{BeginsWith, Writes, WritesReading, WritesSource, written_behind, refused_at_file, no_room_to_read, compiled_so, refused_so, no_room_to_compile}
+use Rattle.handlebars.specs.Calls.{BeginsWith, Writes, WritesReading, WritesSource, written_behind, refused_at_file, no_memory_to_read, compiled_so, refused_so, no_memory_to_compile}
 use Rattle.handlebars.specs.Dev.{FailsRendering, HoldsTrees, ReadsFiles, files_for, stored_under}
 use Rattle.handlebars.specs.Files.{Loaded, laid_over, tree_in}
 use Rattle.handlebars.specs.Over.{setting_under, setting_with}
-use Rattle.handlebars.specs.View.{setting_over, stored}
+use Rattle.handlebars.specs.View.{setting_over, stored_tree}
 use Rattle.handlebars.specs.declared.registry.RegistryOf.{RegistryOf}
 use Rattle.handlebars.proofs.AnswerLaws.{FromSource-one}
 use Rattle.handlebars.proofs.Writing.{Appends-nothing, Writes-begun}
 
-module _ {E : Type 0} (registered : E → Registered) (own : E → OwnAnswers) (r : RegistryOf E) (d : Data)
+module _ {E : Type 0} (registered : E → Registrations) (own : E → OwnAnswers) (r : RegistryOf E) (d : Data)
     {S : Type 0} (reads : S → Text → Result (String Global) Error → S → Type 0) (before after : S) where
   -- ---- all files were read
 
   module _ (trees : BTreeMap (String Global) Template) {first last : Option Text} {a : Answered} where
     pub writes-by-name : (name : Text) (rd : (read : List Loaded)
         × ReadsFiles reads r.prevent_indent (files_for r (Some name)) before read (Ok tt) after × HoldsTrees read trees)
-        → Writes (setting_with registered own trees r d) (FromName (laid_over (tree_in trees) (stored r)) name) first last a
+        → Writes (setting_with registered own trees r d) (FromName (laid_over (tree_in trees) (stored_tree r)) name) first last a
         → WritesReading reads r (Some name) before after (λ read. Writes (setting_under registered own read r d)
         (FromName (stored_under read r) name)) first last a
     writes-by-name name rd w =
-        written_behind rd.1 (subst (λ (above : Text → Option Tree). Writes (with_templates (laid_over above (stored r)) (setting_over registered own r d))
-        (FromName (laid_over above (stored r)) name) first last a) (fun_ext (λ n. rd.2 n)) w)
+        written_behind rd.1 (subst (λ (above : Text → Option Tree). Writes (with_templates (laid_over above (stored_tree r)) (setting_over registered own r d))
+        (FromName (laid_over above (stored_tree r)) name) first last a) (fun_ext (λ n. rd.2 n)) w)
 
     pub writes-compiled : (t : Tree) (rd : (read : List Loaded)
         × ReadsFiles reads r.prevent_indent (files_for r None) before read (Ok tt) after × HoldsTrees read trees)
         → Writes (setting_with registered own trees r d) (BeginsWith t) first last a
         → WritesReading reads r None before after (λ read. Writes (setting_under registered own read r d) (BeginsWith t)) first last a
     writes-compiled t rd w =
-        written_behind rd.1 (subst (λ (above : Text → Option Tree). Writes (with_templates (laid_over above (stored r)) (setting_over registered own r d))
+        written_behind rd.1 (subst (λ (above : Text → Option Tree). Writes (with_templates (laid_over above (stored_tree r)) (setting_over registered own r d))
         (BeginsWith t) first last a) (fun_ext (λ n. rd.2 n)) w)
 
   -- ---- a source that compiles
@@ -59,7 +59,7 @@ module _ {E : Type 0} (registered : E → Registered) (own : E → OwnAnswers) (
     from_source (written_behind {read = read} all w) = written_behind all
         (Writes-begun (setting_under registered own read r d) (FromSource options source) (FromSource-one options source) t (compiles is_source) w)
     from_source (refused_at_file all tells w) = refused_at_file all tells w
-    from_source (no_room_to_read is w) = no_room_to_read is w
+    from_source (no_memory_to_read is w) = no_memory_to_read is w
 
     pub writes-source : {a : Answered}
         → WritesReading reads r None before after (λ read. Writes (setting_under registered own read r d) (BeginsWith t)) first last a
@@ -84,6 +84,6 @@ module _ {E : Type 0} (r : RegistryOf E) {S : Type 0} (reads : S → Text → Re
 
     pub writes-uncompiled : WritesSource reads r options source s s to o o (Err x)
     writes-uncompiled = elim (memory_or (reason_in x)) [
-      | inl memory ↦ no_room_to_compile memory refl (Appends-nothing o)
+      | inl memory ↦ no_memory_to_compile memory refl (Appends-nothing o)
       | inr other ↦ refused_so (refuses (not_memory other)) refl is (Appends-nothing o)
     ]

@@ -23,7 +23,7 @@ use Rattle.handlebars_meaning.specs.State.{IsLawful, Setting, State, first_state
 use Rattle.handlebars_laws.proofs.RunLaws.{Runs-beginning}
 use Rattle.handlebars_render.specs.View.{Answered, CarriesOut, Tells, ended, refusal, fault, no_memory}
 use Rattle.handlebars_render.proofs.Carry.{at, memory_or}
-use Rattle.handlebars.specs.Calls.{BeginsWith, IsBeginningOfAnswer, Writes, all_written, refused_behind, writer_failed, memory_failed, WritesConverted, not_converted, no_room}
+use Rattle.handlebars.specs.Calls.{BeginsWith, IsBeginningOfAnswer, Writes, all_written, refused_behind, writer_failed, memory_failed, WritesConverted, not_converted, no_memory_to_convert}
 use Rattle.handlebars.specs.Taken.{TellsTaken}
 use Rattle.handlebars.proofs.AnswerLaws.{IsOne, a_tree-injective, a_tree≢no_tree}
 
@@ -155,6 +155,6 @@ module _ {T : Type 0} (writes : T → Log → Log → Type 0) (x : T) where
       → spot_of e ≡ nowhere → (reason_in e ≢ out_of_memory → IsConversion writes x (refuses (plain_refusal (reason_in e))))
       → unread → WritesConverted writes x unread to o o (Err e)
   writes_unconverted e o plain so asked = elim (memory_or (reason_in e)) [
-    | inl memory ↦ no_room memory asked (Appends-nothing o)
+    | inl memory ↦ no_memory_to_convert memory asked (Appends-nothing o)
     | inr other ↦ not_converted (not_converted_so e plain (so other)) asked (Appends-nothing o)
   ]

@@ -7,7 +7,7 @@ use Rattle.serde.specs.Event.{Log}
 use Rattle.serde_json.specs.Data.{Data}
 use Rattle.handlebars_base.specs.Answers.{gives, refuses}
 use Rattle.handlebars_base.specs.Bytes.{Text}
-use Rattle.handlebars_base.specs.Outputs.{IsBeginning}
+use Rattle.handlebars_base.specs.Outputs.{IsPrefix}
 use Rattle.handlebars_base.specs.Reasons.{Refusal, TemplateRefusal, of_template, out_of_memory}
 use Rattle.handlebars_base.specs.RenderRefusals.{plain_refusal, reason_in, refusal_of}
 use Rattle.handlebars_base.specs.declared.error.render_error.RenderError.{RenderError}
@@ -39,7 +39,7 @@ module _ (p : Setting) (begins : Beginning → Type 0) where
   -- The text is a beginning of the text of the answer, if there is one that doesn't stop on the way.
   abbrev pub IsBeginningOfAnswer : Text → Type 0
   IsBeginningOfAnswer t = (ps : List Piece) (o : Outcome)
-      → RenderAnswers p begins ps o → (IsStop o → ⊥) → ∥ IsBeginning t (join ps) ∥₁
+      → RenderAnswers p begins ps o → (IsStop o → ⊥) → ∥ IsPrefix t (join ps) ∥₁
 
   -- What a call says of a writer, where that tells what it holds before the call and behind it. All of the answer's text is
   -- written; or, where it is refused so, what stands before that; or the writer failed, or memory, and a beginning is.
@@ -79,7 +79,7 @@ module _ {S : Type 0} (reads : S → Text → Result (String Global) Error → S
         → WritesReading asked before after to first last a
     refused_at_file : {read : List Loaded} {e : RenderError} {why : Stop} → ReadsFor reads r asked before after read (Err why)
         → TellsStop why e → Appends first last [] → WritesReading asked before after to first last (Err e)
-    no_room_to_read : {e : RenderError} → reason_in e ≡ out_of_memory → Appends first last []
+    no_memory_to_read : {e : RenderError} → reason_in e ≡ out_of_memory → Appends first last []
         → WritesReading asked before after to first last (Err e)
 
   -- What a call with a source says of a writer and of the reader. Where the source doesn't compile, or there is no memory
@@ -90,7 +90,7 @@ module _ {S : Type 0} (reads : S → Text → Result (String Global) Error → S
         → WritesSource options source before after to first last a
     refused_so : {e : RenderError} {f : TemplateRefusal} → Compiles source options (refused f) → after ≡ before
         → refusal_of e ≡ plain_refusal (of_template f) → Appends first last [] → WritesSource options source before after to first last (Err e)
-    no_room_to_compile : {e : RenderError} → reason_in e ≡ out_of_memory → after ≡ before → Appends first last []
+    no_memory_to_compile : {e : RenderError} → reason_in e ≡ out_of_memory → after ≡ before → Appends first last []
         → WritesSource options source before after to first last (Err e)
 
 -- ---- calls that convert their data
@@ -112,5 +112,5 @@ module _ {T : Type 0} (writes : T → Log → Log → Type 0) (x : T) where
         → WritesConverted unread to before after r
     not_converted : {e : RenderError} → IsConversion writes x (refuses (refusal_of e)) → unread → Appends before after []
         → WritesConverted unread to before after (Err e)
-    no_room : {e : RenderError} → reason_in e ≡ out_of_memory → unread → Appends before after []
+    no_memory_to_convert : {e : RenderError} → reason_in e ≡ out_of_memory → unread → Appends before after []
         → WritesConverted unread to before after (Err e)

@@ -14,8 +14,8 @@ use Rattle.handlebars_tags.specs.Options.{Options}
 use Rattle.handlebars_template.specs.Compile.{Compiles, compiled, refused}
 use Rattle.handlebars_template.specs.Tree.{Tree}
 use Rattle.handlebars_template.specs.declared.template.tree.Template.{Template}
-use Rattle.handlebars.specs.Files.{IsStopFor, Stop, TellsStop, no_memory, Loaded, LoadsFile, files_of, laid_over, remembered, tree_among, tree_in}
-use Rattle.handlebars.specs.View.{stored}
+use Rattle.handlebars.specs.Files.{IsStopFor, Stop, TellsStop, no_memory, Loaded, LoadsFile, files_of, laid_over, remembered_path, tree_among, tree_in}
+use Rattle.handlebars.specs.View.{stored_tree}
 use Rattle.handlebars.specs.declared.registry.RegistryOf.{RegistryOf}
 
 -- ---- which files
@@ -42,14 +42,14 @@ module _ {E : Type 0} (r : RegistryOf E) where
   -- whether something stands under the name that is asked for, if one is
   abbrev pub is_known : Option Text → Bool
   is_known None = true
-  is_known (Some name) = is_some (stored r name) || is_some (remembered r name)
+  is_known (Some name) = is_some (stored_tree r name) || is_some (remembered_path r name)
 
   -- The files that a rendering reads: first that of the name that is asked for, then all others in byte order of name;
   -- none where nothing stands under that name.
   abbrev pub files_for : Option Text → List (Text × Text)
   files_for asked =
       if is_known asked
-      then asked_file asked (remembered r) ++ others asked (files_of r)
+      then asked_file asked (remembered_path r) ++ others asked (files_of r)
       else []
 
 -- ---- reading them
@@ -98,7 +98,7 @@ module _ {S : Type 0} (reads : S → Text → Result (String Global) Error → S
 module _ {E : Type 0} where
   -- trees that were read, laid over those that are stored
   abbrev pub stored_under : List Loaded → RegistryOf E → Text → Option Tree
-  stored_under read r = laid_over (tree_among read) (stored r)
+  stored_under read r = laid_over (tree_among read) (stored_tree r)
 
 module _ {S : Type 0} (reads : S → Text → Result (String Global) Error → S → Type 0) {E : Type 0} (r : RegistryOf E)
     (asked : Option Text) (before after : S) where

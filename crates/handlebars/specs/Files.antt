@@ -24,7 +24,7 @@ use Rattle.handlebars_template.specs.Compile.{Compiles, compiled, refused}
 use Rattle.handlebars_template.specs.Tree.{Tree}
 use Rattle.handlebars_template.specs.TreeView.{tree_view}
 use Rattle.handlebars_template.specs.declared.template.tree.Template.{Template}
-use Rattle.handlebars.specs.View.{modes_of, named, stored}
+use Rattle.handlebars.specs.View.{modes_of, named_options, stored_tree}
 use Rattle.handlebars.specs.declared.registry.RegistryOf.{RegistryOf}
 
 -- ---- reading and compiling one
@@ -50,11 +50,11 @@ IsStopFor e (not_read name kind) = (template_refusal_of e ≡ unread name) × Ho
 IsStopFor e no_memory = (template_refusal_of e).reason ≡ template_out_of_memory
 
 -- An answer tells of an outcome: of the same value, or of why there is none.
-abbrev pub Tells : {X Y : Type 0} → (X → Y) → Result X TemplateError → Result Y Stop → Type 0
-Tells view (Ok x) (Ok y) = view x ≡ y
-Tells view (Ok x) (Err s) = ⊥
-Tells view (Err e) (Ok y) = ⊥
-Tells view (Err e) (Err s) = IsStopFor e s
+abbrev pub TellsOutcome : {X Y : Type 0} → (X → Y) → Result X TemplateError → Result Y Stop → Type 0
+TellsOutcome view (Ok x) (Ok y) = view x ≡ y
+TellsOutcome view (Ok x) (Err s) = ⊥
+TellsOutcome view (Err e) (Ok y) = ⊥
+TellsOutcome view (Err e) (Err s) = IsStopFor e s
 
 -- The error of a rendering keeps one of a template, which holds one of the system, of this kind.
 abbrev pub KeepsKind : ErrorKind → RenderError → Type 0
@@ -71,9 +71,9 @@ module _ {S : Type 0} (reads : S → Text → Result (String Global) Error → S
   -- reader's want of memory is want of memory.
   pub data LoadsFile (name path : Text) (before : S) : Result Tree Stop → S → Type 0 where
     compiles : {text : String Global} {t : Tree} {after : S} → reads before path (Ok text) after
-        → Compiles (string_bytes text) (named prevent_indent name) (compiled t) → LoadsFile name path before (Ok t) after
+        → Compiles (string_bytes text) (named_options prevent_indent name) (compiled t) → LoadsFile name path before (Ok t) after
     does_not : {text : String Global} {r : TemplateRefusal} {after : S} → reads before path (Ok text) after
-        → Compiles (string_bytes text) (named prevent_indent name) (refused r)
+        → Compiles (string_bytes text) (named_options prevent_indent name) (refused r)
         → LoadsFile name path before (Err (refusal r)) after
     unreadable : {e : Error} {after : S} → reads before path (Err e) after → error_kind e ≢ OutOfMemory
         → LoadsFile name path before (Err (not_read name (error_kind e))) after
@@ -140,8 +140,8 @@ module _ {E : Type 0} where
   is_dev r = is_some r.dev.paths
 
   -- the path of the file under a name, if one is remembered
-  abbrev pub remembered : RegistryOf E → Text → Option Text
-  remembered r = path_in r.dev.paths
+  abbrev pub remembered_path : RegistryOf E → Text → Option Text
+  remembered_path r = path_in r.dev.paths
 
   -- the files that are remembered, in byte order of the names of their templates
   abbrev pub files_of : RegistryOf E → List (Text × Text)
@@ -149,9 +149,9 @@ module _ {E : Type 0} where
 
   -- These were registered, in this order; all else is as it was.
   pub record HasLoaded (loaded : List Loaded) (old new : RegistryOf E) : Type 0 where
-    pub trees : (name : Text) → stored new name ≡ laid_over (tree_among loaded) (stored old) name
-    pub files : (name : Text) → remembered new name
-        ≡ cond (is_dev old) (laid_over (path_among loaded) (remembered old) name) (remembered old name)
+    pub trees : (name : Text) → stored_tree new name ≡ laid_over (tree_among loaded) (stored_tree old) name
+    pub files : (name : Text) → remembered_path new name
+        ≡ cond (is_dev old) (laid_over (path_among loaded) (remembered_path old) name) (remembered_path old name)
     pub entries : new.entries ≡ old.entries
     pub modes : modes_of new ≡ modes_of old
     pub dev : is_dev new ≡ is_dev old

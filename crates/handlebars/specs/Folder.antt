@@ -11,7 +11,7 @@ use Rattle.std.specs.declared.io.ErrorKind.TheVariants.{OutOfMemory}
 use Rattle.handlebars_base.specs.Bytes.{Text}
 use Rattle.handlebars_template.specs.Tree.{Tree}
 use Rattle.handlebars_base.specs.declared.error.template_error.TemplateError.{TemplateError}
-use Rattle.handlebars.specs.Files.{HasLoaded, Stop, no_memory, Loaded, LoadsFile, Tells}
+use Rattle.handlebars.specs.Files.{HasLoaded, Stop, no_memory, Loaded, LoadsFile, TellsOutcome}
 use Rattle.handlebars.specs.View.{modes_of}
 use Rattle.handlebars.specs.declared.registry.RegistryOf.{RegistryOf}
 use Rattle.handlebars.specs.declared.sources.EntryKind.{EntryKind}
@@ -21,13 +21,13 @@ use Rattle.handlebars.specs.declared.sources.options.DirectorySourceOptions.{Dir
 -- ---- which files
 
 -- how the path of a template ends, and whether hidden files are taken, and temporary ones
-pub record Choice : Type 0 where
+pub record FileFilter : Type 0 where
   pub extension : Text
   pub hidden : Bool
   pub temporary : Bool
 
-abbrev pub choice_of : DirectorySourceOptions → Choice
-choice_of o = record { extension = o.tpl_extension.now; hidden = o.hidden; temporary = o.temporary }
+abbrev pub filter_of : DirectorySourceOptions → FileFilter
+filter_of o = record { extension = o.tpl_extension.now; hidden = o.hidden; temporary = o.temporary }
 
 -- whether a text ends in another
 abbrev pub has_end : Text → Text → Bool
@@ -40,12 +40,12 @@ has_first byte (b ∷ bs) = b == byte
 
 -- Taken are files whose path ends in the extension and whose own name doesn't begin with `.`, unless hidden ones are taken,
 -- nor with `#`, unless temporary ones are.
-abbrev pub is_taken : Choice → Text → Text → Bool
+abbrev pub is_taken : FileFilter → Text → Text → Bool
 is_taken c path name =
     has_end path c.extension && (c.hidden || not (has_first 46 name)) && (c.temporary || not (has_first 35 name))
 
 -- The name of a template is its path below the folder, less the extension.
-abbrev pub name_in : Choice → Text → Text
+abbrev pub name_in : FileFilter → Text → Text
 name_in c below =
     if has_end below c.extension then take (length below - length c.extension) below else below
 
@@ -65,83 +65,83 @@ pub record IsInOrder (listed entries : List Entry) : Type 0 where
 
 -- A folder on the way: its path, what stands before the names of its entries below the folder that is registered, and how
 -- many levels of folders are walked below it.
-pub record Place : Type 0 where
+pub record WalkedFolder : Type 0 where
   pub path : Text
   pub front : Text
   pub levels : ℕ
 
-abbrev pub path_at : Place → Text → Text
+abbrev pub path_at : WalkedFolder → Text → Text
 path_at p name = p.path ++ codes "/" ++ name
 
-abbrev pub below_at : Place → Text → Text
+abbrev pub below_at : WalkedFolder → Text → Text
 below_at p name = p.front ++ name
 
 -- the folder of a name in a folder, with so many levels below it
-abbrev pub folder_at : Place → Text → ℕ → Place
+abbrev pub folder_at : WalkedFolder → Text → ℕ → WalkedFolder
 folder_at p name levels = record { path = path_at p name; front = below_at p name ++ codes "/"; levels = levels }
 
 -- what is walked: a folder, entries of one, or an entry
-pub data Task : Type 0 where
-  a_folder : Place → Task
-  entries_of : Place → List Entry → Task
-  an_entry : Place → Entry → Task
+pub data Walkable : Type 0 where
+  a_folder : WalkedFolder → Walkable
+  entries_of : WalkedFolder → List Entry → Walkable
+  an_entry : WalkedFolder → Entry → Walkable
 
 -- ---- the walk
 
 module _ {S : Type 0} (reads : S → Text → Result (String Global) Error → S → Type 0)
-    (lists : S → Text → Result (Vec Entry) Error → S → Type 0) (prevent_indent : Bool) (c : Choice) where
+    (lists : S → Text → Result (Vec Entry) Error → S → Type 0) (prevent_indent : Bool) (c : FileFilter) where
   -- The file of a name in a folder is read and compiled.
-  abbrev pub LoadsAt : Place → Text → S → Result Tree Stop → S → Type 0
+  abbrev pub LoadsAt : WalkedFolder → Text → S → Result Tree Stop → S → Type 0
   LoadsAt p name = LoadsFile reads prevent_indent (name_in c (below_at p name)) (path_at p name)
 
-  abbrev pub loaded_at : Place → Text → Tree → Loaded
+  abbrev pub loaded_at : WalkedFolder → Text → Tree → Loaded
   loaded_at p name t = record { name = name_in c (below_at p name); path = path_at p name; tree = t }
 
   -- From a state of the reader the walk registers these templates, in this order, ends so, and leaves the reader in a state.
-  pub data Walks : Task → S → List Loaded → Result (Unit {0}) Stop → S → Type 0 where
+  pub data Walks : Walkable → S → List Loaded → Result (Unit {0}) Stop → S → Type 0 where
     -- A folder is listed, and its entries are walked in order. One that can't be listed counts as empty.
-    listed : {p : Place} {es : Vec Entry} {xs : List Entry} {s t u : S} {ls : List Loaded} {o : Result (Unit {0}) Stop}
+    listed : {p : WalkedFolder} {es : Vec Entry} {xs : List Entry} {s t u : S} {ls : List Loaded} {o : Result (Unit {0}) Stop}
         → lists s p.path (Ok es) t → IsInOrder es.items xs → Walks (entries_of p xs) t ls o u
         → Walks (a_folder p) s ls o u
-    unlisted : {p : Place} {e : Error} {s t : S} → lists s p.path (Err e) t → error_kind e ≢ OutOfMemory
+    unlisted : {p : WalkedFolder} {e : Error} {s t : S} → lists s p.path (Err e) t → error_kind e ≢ OutOfMemory
         → Walks (a_folder p) s [] (Ok tt) t
-    listed_in_want : {p : Place} {answer : Result (Vec Entry) Error} {s t : S} → lists s p.path answer t
+    listed_in_want : {p : WalkedFolder} {answer : Result (Vec Entry) Error} {s t : S} → lists s p.path answer t
         → Walks (a_folder p) s [] (Err no_memory) t
     -- An entry is walked, and then the rest; where one is refused, nothing follows.
-    no_entry : {p : Place} {s : S} → Walks (entries_of p []) s [] (Ok tt) s
-    goes_on : {p : Place} {x : Entry} {xs : List Entry} {s t u : S} {ls ms : List Loaded} {o : Result (Unit {0}) Stop}
+    no_entry : {p : WalkedFolder} {s : S} → Walks (entries_of p []) s [] (Ok tt) s
+    goes_on : {p : WalkedFolder} {x : Entry} {xs : List Entry} {s t u : S} {ls ms : List Loaded} {o : Result (Unit {0}) Stop}
         → Walks (an_entry p x) s ls (Ok tt) t → Walks (entries_of p xs) t ms o u
         → Walks (entries_of p (x ∷ xs)) s (ls ++ ms) o u
-    ends : {p : Place} {x : Entry} {xs : List Entry} {s t : S} {ls : List Loaded} {why : Stop}
+    ends : {p : WalkedFolder} {x : Entry} {xs : List Entry} {s t : S} {ls : List Loaded} {why : Stop}
         → Walks (an_entry p x) s ls (Err why) t → Walks (entries_of p (x ∷ xs)) s ls (Err why) t
     -- A file that is taken is registered, or refused.
-    takes : {p : Place} {name : String Global} {s t : S} {tree : Tree}
+    takes : {p : WalkedFolder} {name : String Global} {s t : S} {tree : Tree}
         → is_taken c (path_at p (string_bytes name)) (string_bytes name) ≡ true → LoadsAt p (string_bytes name) s (Ok tree) t
         → Walks (an_entry p (name, File)) s (loaded_at p (string_bytes name) tree ∷ []) (Ok tt) t
-    refuses : {p : Place} {name : String Global} {s t : S} {why : Stop}
+    refuses : {p : WalkedFolder} {name : String Global} {s t : S} {why : Stop}
         → is_taken c (path_at p (string_bytes name)) (string_bytes name) ≡ true → LoadsAt p (string_bytes name) s (Err why) t
         → Walks (an_entry p (name, File)) s [] (Err why) t
-    passes : {p : Place} {name : String Global} {s : S}
+    passes : {p : WalkedFolder} {name : String Global} {s : S}
         → is_taken c (path_at p (string_bytes name)) (string_bytes name) ≡ false
         → Walks (an_entry p (name, File)) s [] (Ok tt) s
     -- A folder is walked where it stands, unless it is too deep.
-    enters : {p : Place} {name : String Global} {levels : ℕ} {s t : S} {ls : List Loaded} {o : Result (Unit {0}) Stop}
+    enters : {p : WalkedFolder} {name : String Global} {levels : ℕ} {s t : S} {ls : List Loaded} {o : Result (Unit {0}) Stop}
         → p.levels ≡ levels + 1 → Walks (a_folder (folder_at p (string_bytes name) levels)) s ls o t
         → Walks (an_entry p (name, Folder)) s ls o t
-    too_deep : {p : Place} {name : String Global} {s : S} → p.levels ≡ 0 → Walks (an_entry p (name, Folder)) s [] (Ok tt) s
+    too_deep : {p : WalkedFolder} {name : String Global} {s : S} → p.levels ≡ 0 → Walks (an_entry p (name, Folder)) s [] (Ok tt) s
     -- There may be no memory on the way.
-    in_want : {k : Task} {s : S} → Walks k s [] (Err no_memory) s
+    in_want : {k : Walkable} {s : S} → Walks k s [] (Err no_memory) s
 
 -- the folder that is registered, with 64 levels below it
-abbrev pub whole_folder : Text → Place
+abbrev pub whole_folder : Text → WalkedFolder
 whole_folder path = record { path = path; front = []; levels = 64 }
 
 -- A walk of the task registers what is loaded on the way, as the answer tells; all else is as it was.
 pub record Registers {S : Type 0} (reads : S → Text → Result (String Global) Error → S → Type 0)
-    (lists : S → Text → Result (Vec Entry) Error → S → Type 0) (c : Choice) (k : Task) {E : Type 0} (old new : RegistryOf E)
+    (lists : S → Text → Result (Vec Entry) Error → S → Type 0) (c : FileFilter) (k : Walkable) {E : Type 0} (old new : RegistryOf E)
     (before after : S) (answer : Result (Unit {0}) TemplateError) : Type 0 where
   pub loaded : List Loaded
   pub end : Result (Unit {0}) Stop
   pub walks : Walks reads lists (modes_of old).prevent_indent c k before loaded end after
-  pub tells : Tells (λ u. u) answer end
+  pub tells : TellsOutcome (λ u. u) answer end
   pub has : HasLoaded loaded old new

@@ -5,7 +5,7 @@ use Rattle.std.specs.Prelude.{◌≡◌, List, String}
 use Rattle.serde_json.specs.Data.{Data}
 use Rattle.handlebars_base.specs.Bytes.{Text}
 use Rattle.handlebars_template.specs.declared.template.tree.Template.{Template}
-use Rattle.handlebars_helpers.specs.OwnAnswers.{OwnAnswers, Registered}
+use Rattle.handlebars_helpers.specs.OwnAnswers.{OwnAnswers, Registrations}
 use Rattle.handlebars_meaning.specs.Answer.{Beginning, RenderAnswers}
 use Rattle.handlebars_meaning.specs.Laws.{with_templates}
 use Rattle.handlebars_meaning.specs.Pieces.{Piece}
@@ -13,17 +13,17 @@ use Rattle.handlebars_meaning.specs.Runs.{Outcome}
 use Rattle.handlebars_meaning.specs.State.{Parts, Setting}
 use Rattle.handlebars.specs.Dev.{stored_under}
 use Rattle.handlebars.specs.Files.{Loaded, laid_over, tree_in}
-use Rattle.handlebars.specs.View.{modes_of, parts_of, setting_over, stored}
+use Rattle.handlebars.specs.View.{modes_of, parts_of, setting_over, stored_tree}
 use Rattle.handlebars.specs.declared.registry.RegistryOf.{RegistryOf}
 
-module _ {E : Type 0} (registered : E → Registered) (own : E → OwnAnswers) where
+module _ {E : Type 0} (registered : E → Registrations) (own : E → OwnAnswers) where
   -- what a run reads, with the trees of a map over those of a registry
   abbrev pub parts_over : BTreeMap (String Global) Template → RegistryOf E → Parts
-  parts_over trees r = record (parts_of registered own r) { template = laid_over (tree_in trees) (stored r) }
+  parts_over trees r = record (parts_of registered own r) { template = laid_over (tree_in trees) (stored_tree r) }
 
   -- the setting of a run over data, with the trees of a map over those of a registry
   abbrev pub setting_with : BTreeMap (String Global) Template → RegistryOf E → Data → Setting
-  setting_with trees r d = with_templates (laid_over (tree_in trees) (stored r)) (setting_over registered own r d)
+  setting_with trees r d = with_templates (laid_over (tree_in trees) (stored_tree r)) (setting_over registered own r d)
 
   -- the same with trees that were read
   abbrev pub setting_under : List Loaded → RegistryOf E → Data → Setting
@@ -38,4 +38,4 @@ pub record SameAnswers (p : Setting) (begins : Beginning → Type 0) (q : Settin
 pub record HoldsRead {E : Type 0} (read : List Loaded) (dev plain : RegistryOf E) : Type 0 where
   pub entries : plain.entries ≡ dev.entries
   pub modes : modes_of plain ≡ modes_of dev
-  pub trees : (name : Text) → stored plain name ≡ stored_under read dev name
+  pub trees : (name : Text) → stored_tree plain name ≡ stored_under read dev name

@@ -3,12 +3,12 @@ use Rattle.std.specs.Prelude.{◌≡◌, Option, None, Some, cond}
 use Rattle.std.specs.Str.{bytes_eq}
 use Rattle.handlebars_base.specs.Bytes.{Text}
 use Rattle.handlebars_template.specs.Tree.{Tree}
-use Rattle.handlebars_helpers.specs.ByNameView.{HasSame, Puts}
+use Rattle.handlebars_helpers.specs.ByNameView.{HasSame, PutsEntry}
 use Rattle.handlebars_helpers.specs.declared.decorators.entry.DecoratorEntryOf.{DecoratorEntryOf}
 use Rattle.handlebars_helpers.specs.declared.entries.Entries.{Entries}
 use Rattle.handlebars_helpers.specs.declared.escape.EscapeKindOf.{EscapeKindOf}
 use Rattle.handlebars_helpers.specs.declared.own.entry.HelperEntryOf.{HelperEntryOf}
-use Rattle.handlebars.specs.View.{modes_of, stored}
+use Rattle.handlebars.specs.View.{modes_of, stored_tree}
 use Rattle.handlebars.specs.declared.registry.RegistryOf.{RegistryOf}
 
 -- ---- templates
@@ -16,15 +16,15 @@ use Rattle.handlebars.specs.declared.registry.RegistryOf.{RegistryOf}
 module _ {E : Type 0} where
   -- The tree stands under the name now, and under each other name what stood there.
   abbrev pub Stores : RegistryOf E → RegistryOf E → Text → Tree → Type 0
-  Stores old new name t = (other : Text) → stored new other ≡ cond (bytes_eq name other) (Some t) (stored old other)
+  Stores old new name t = (other : Text) → stored_tree new other ≡ cond (bytes_eq name other) (Some t) (stored_tree old other)
 
   -- Under each name stands what stood there.
   abbrev pub HasSameTemplates : RegistryOf E → RegistryOf E → Type 0
-  HasSameTemplates old new = (name : Text) → stored new name ≡ stored old name
+  HasSameTemplates old new = (name : Text) → stored_tree new name ≡ stored_tree old name
 
   -- Nothing stands under the name now, and under each other name what stood there.
   abbrev pub TakesTemplate : RegistryOf E → RegistryOf E → Text → Type 0
-  TakesTemplate old new name = (other : Text) → stored new other ≡ cond (bytes_eq name other) None (stored old other)
+  TakesTemplate old new name = (other : Text) → stored_tree new other ≡ cond (bytes_eq name other) None (stored_tree old other)
 
 -- ---- helpers, decorators and modes
 
@@ -38,7 +38,7 @@ module _ {B F D G X : Type 0} (old new : RegistryOf (Entries B F D G X)) where
 
   -- The helper, or none, stands under the name now, and under each other name what stood there; all else is the same.
   pub record PutsHelper (name : Text) (entry : Option (HelperEntryOf B F)) : Type 0 where
-    pub helpers : Puts old.entries.helpers new.entries.helpers name entry
+    pub helpers : PutsEntry old.entries.helpers new.entries.helpers name entry
     pub decorators : HasSame old.entries.decorators new.entries.decorators
     pub escape : new.entries.escape ≡ old.entries.escape
     pub modes : modes_of new ≡ modes_of old
@@ -46,7 +46,7 @@ module _ {B F D G X : Type 0} (old new : RegistryOf (Entries B F D G X)) where
   -- The decorator, or none, stands under the name now, and under each other name what stood there; all else is the same.
   pub record PutsDecorator (name : Text) (entry : Option (DecoratorEntryOf D G)) : Type 0 where
     pub helpers : HasSame old.entries.helpers new.entries.helpers
-    pub decorators : Puts old.entries.decorators new.entries.decorators name entry
+    pub decorators : PutsEntry old.entries.decorators new.entries.decorators name entry
     pub escape : new.entries.escape ≡ old.entries.escape
     pub modes : modes_of new ≡ modes_of old
 

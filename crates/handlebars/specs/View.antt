@@ -8,7 +8,7 @@ use Rattle.handlebars_template.specs.Tree.{Tree}
 use Rattle.handlebars_template.specs.TreeView.{tree_view}
 use Rattle.handlebars_scope.specs.Contexts.{data_of}
 use Rattle.handlebars_scope.specs.declared.context.Context.{Context}
-use Rattle.handlebars_helpers.specs.OwnAnswers.{OwnAnswers, Registered}
+use Rattle.handlebars_helpers.specs.OwnAnswers.{OwnAnswers, Registrations}
 use Rattle.handlebars_meaning.specs.State.{Parts, Setting}
 use Rattle.handlebars.specs.declared.registry.RegistryOf.{RegistryOf}
 
@@ -21,8 +21,8 @@ pub record Modes : Type 0 where
   pub limit : ℕ
 
 -- how sources of this name are compiled
-abbrev pub named : Bool → Text → Options
-named prevent_indent name = record { name = Some name; prevent_indent = prevent_indent }
+abbrev pub named_options : Bool → Text → Options
+named_options prevent_indent name = record { name = Some name; prevent_indent = prevent_indent }
 
 module _ {E : Type 0} where
   abbrev pub modes_of : RegistryOf E → Modes
@@ -34,15 +34,15 @@ module _ {E : Type 0} where
   }
 
   -- the tree under a name, if there is one
-  abbrev pub stored : RegistryOf E → Text → Option Tree
-  stored r name = option_map tree_view (get_by_text r.templates name)
+  abbrev pub stored_tree : RegistryOf E → Text → Option Tree
+  stored_tree r name = option_map tree_view (get_by_text r.templates name)
 
   -- how a registry compiles sources that have no name
   abbrev pub options_of : RegistryOf E → Options
   options_of r = record { name = None; prevent_indent = r.prevent_indent }
 
   -- What a run reads, by what stands under the names of a registry's entries and what those of one's own answer.
-  module _ (registered : E → Registered) (own : E → OwnAnswers) where
+  module _ (registered : E → Registrations) (own : E → OwnAnswers) where
     abbrev pub parts_of : RegistryOf E → Parts
     parts_of r = record {
       helper = (registered r.entries).helper;
@@ -53,7 +53,7 @@ module _ {E : Type 0} where
       own_escape = (own r.entries).escape;
       strict = r.strict_mode;
       recursive = r.recursive_lookup;
-      template = stored r;
+      template = stored_tree r;
       limit = r.inclusion_limit;
     }
 

@@ -20,7 +20,7 @@ module _ {W : Type 0} where
   held_by o = record { text = o.taken.text; faults = o.faults }
 
 -- A writer has taken a text behind another, and tells it where it told what it held before.
-pub record Takes (t : Text) (before : Option Text) (taken : Text) (after : Option Text) (now : Text) : Type 0 where
+pub record TakesText (t : Text) (before : Option Text) (taken : Text) (after : Option Text) (now : Text) : Type 0 where
   pub text : now ≡ taken ++ t
   pub told : Appends before after t
 

@@ -10,11 +10,11 @@ ghost use Rattle.handlebars_meaning.specs.Laws.{OneRun, StopsInBeginning, ComesO
 ghost use Rattle.handlebars_meaning.specs.Laws.{ElementHasOrigins, LeavesAround, OnlyNamedCount, SameUnderLarger};
 ghost use Rattle.handlebars.specs.Calls.{CallsAgree};
 ghost use Rattle.handlebars.specs.Dev.{ReadsFiles, ReadsFor, stored_under};
-ghost use Rattle.handlebars.specs.Files.{IsByName, Loaded, Stop, files_of, is_dev, path_under, remembered};
-ghost use Rattle.handlebars.specs.Folder.{Choice, Task, Walks};
+ghost use Rattle.handlebars.specs.Files.{IsByName, Loaded, Stop, files_of, is_dev, path_under, remembered_path};
+ghost use Rattle.handlebars.specs.Folder.{FileFilter, Walkable, Walks};
 ghost use Rattle.handlebars.specs.Over.{HoldsRead, SameAnswers, setting_under};
 ghost use Rattle.handlebars.specs.Readers.{AnswersAlike, HasOneEnd, IsSameList, IsSameRead};
-ghost use Rattle.handlebars.specs.View.{options_of, setting_of, setting_over, stored};
+ghost use Rattle.handlebars.specs.View.{options_of, setting_of, setting_over, stored_tree};
 
 use crate::registry::RegistryOf;
 use crate::sources::TemplateReader;
@@ -70,7 +70,7 @@ pub fn dev_mode_law<E: OwnParts>()
     ensures names { (dev plain : RegistryOf E) (read : List Loaded) (d : Data) → HoldsRead read dev plain
         → (name : Text)
         → SameAnswers (setting_under E.registered E.own read dev d) (FromName (stored_under read dev) name)
-        (setting_over E.registered E.own plain d) (FromName (stored plain) name) }
+        (setting_over E.registered E.own plain d) (FromName (stored_tree plain) name) }
     ensures sources { (dev plain : RegistryOf E) (read : List Loaded) (d : Data) → HoldsRead read dev plain
         → (source : Text)
         → SameAnswers (setting_under E.registered E.own read dev d) (FromSource (options_of dev) source)
@@ -81,7 +81,7 @@ pub fn dev_mode_law<E: OwnParts>()
 /// each name stands what is remembered under it.
 pub fn files_in_order<E: OwnParts>(registry: &RegistryOf<E>)
     ensures order { IsByName (files_of registry.now) }
-    ensures paths { (name : Text) → remembered registry.now name ≡ path_under (files_of registry.now) name }
+    ensures paths { (name : Text) → remembered_path registry.now name ≡ path_under (files_of registry.now) name }
 {
     registry.files_are_in_order();
 }
@@ -101,7 +101,7 @@ pub fn one_reading<R: TemplateReader>()
     ensures files { AnswersAlike IsSameRead R.reads → (prevent_indent : Bool) (paths : List (Text × Text)) (before : R)
         → HasOneEnd (ReadsFiles R.reads prevent_indent paths before) }
     ensures folder { AnswersAlike IsSameRead R.reads → AnswersAlike IsSameList R.lists → (prevent_indent : Bool)
-        (choice : Choice) (task : Task) (before : R)
+        (choice : FileFilter) (task : Walkable) (before : R)
         → HasOneEnd (Walks R.reads R.lists prevent_indent choice task before) }
 {}
 

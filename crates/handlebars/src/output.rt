@@ -3,8 +3,8 @@
 ghost use Rattle.std.specs.Prelude.{◌≡◌, ◌<◌, length, IfErr, OnErr, OnOk};
 ghost use Rattle.std.specs.Io.{WritesAtMost};
 ghost use Rattle.handlebars_base.specs.Bytes.{Text};
-ghost use Rattle.handlebars_base.specs.Outputs.{IsBeginning, Written, nothing};
-ghost use Rattle.handlebars.specs.Writers.{Takes, held_by, taken_of};
+ghost use Rattle.handlebars_base.specs.Outputs.{IsPrefix, Written, empty_output};
+ghost use Rattle.handlebars.specs.Writers.{TakesText, held_by, taken_of};
 
 mod named;
 mod string_writer;
@@ -29,7 +29,7 @@ pub struct WriteOutput<'w, W> {
 impl<'w, W: Write> WriteOutput<'w, W> {
     /// Has taken nothing yet; this takes no memory.
     pub fn new(writer: &'w mut W) -> WriteOutput<'w, W>
-        ensures held { held_by result ≡ nothing }
+        ensures held { held_by result ≡ empty_output }
 
         // A ghost name tells one borrow from all others: it is this writer to which the output writes.
         ensures same { result.writer.ghost_name ≡ writer.entry.ghost_name }
@@ -51,7 +51,7 @@ impl<W: Write> Output for WriteOutput<'_, W> {
         ensures given { IfErr result (λ _. Unit {0}) }
 
         // What is taken is behind what the writer told that it holds, where it tells that.
-        ensures takes { (t : Text) × Takes t (W.contents self.old.writer.now) self.old.taken.text
+        ensures takes { (t : Text) × TakesText t (W.contents self.old.writer.now) self.old.taken.text
             (W.contents self.new.writer.now) self.new.taken.text }
         ensures same { self.new.writer.ghost_name ≡ self.old.writer.ghost_name }
     {
@@ -67,10 +67,10 @@ impl<W: Write> Output for WriteOutput<'_, W> {
 
 // In as many writes as the writer needs. A write that takes nothing is a fault, and behind a fault there is no other.
 fn put_all<W: Write>(writer: &mut W, taken: &mut Taken, bytes: &[u8]) -> io::Result<()>
-    ensures ok { OnOk result (Takes bytes.now (W.contents writer.old) taken.old.text
+    ensures ok { OnOk result (TakesText bytes.now (W.contents writer.old) taken.old.text
         (W.contents writer.new) taken.new.text) }
-    ensures err { OnErr result ((front : Text) × IsBeginning front bytes.now
-        × Takes front (W.contents writer.old) taken.old.text (W.contents writer.new) taken.new.text) }
+    ensures err { OnErr result ((front : Text) × IsPrefix front bytes.now
+        × TakesText front (W.contents writer.old) taken.old.text (W.contents writer.new) taken.new.text) }
     ensures some { OnErr result (0 < length bytes.now) }
 {
     let mut rest = bytes;
@@ -87,7 +87,7 @@ fn put_all<W: Write>(writer: &mut W, taken: &mut Taken, bytes: &[u8]) -> io::Res
 // One write, of which it is noted what it takes.
 fn put<W: Write>(writer: &mut W, taken: &mut Taken, bytes: &[u8]) -> io::Result<usize>
     ensures bound { WritesAtMost result bytes.now }
-    ensures takes { Takes (taken_of bytes.now result) (W.contents writer.old) taken.old.text
+    ensures takes { TakesText (taken_of bytes.now result) (W.contents writer.old) taken.old.text
         (W.contents writer.new) taken.new.text }
 {
     let count = writer.write(bytes)?;

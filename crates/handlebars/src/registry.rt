@@ -12,7 +12,7 @@ ghost use Rattle.handlebars_helpers.specs.Callee.{first_callee};
 ghost use Rattle.handlebars_helpers.specs.Escaping.{for_html};
 ghost use Rattle.handlebars.specs.Store.{Stores, HasSameParts, HasSameTemplates, PutsDecorator, PutsEscape, PutsHelper};
 ghost use Rattle.handlebars.specs.Files.{is_dev};
-ghost use Rattle.handlebars.specs.View.{modes_of, named, stored};
+ghost use Rattle.handlebars.specs.View.{modes_of, named_options, stored_tree};
 
 mod calls;
 mod dev;
@@ -140,10 +140,10 @@ impl<E: Drop> RegistryOf<E> {
         source: &str,
     ) -> Result<(), TemplateError>
         ensures ok { OnOk result ((t : Tree)
-            × Compiles source.now (named (modes_of self.old).prevent_indent name.now) (compiled t)
+            × Compiles source.now (named_options (modes_of self.old).prevent_indent name.now) (compiled t)
             × Stores self.old self.new name.now t) }
         ensures err { IfErr result (λ e. (template_refusal_of e).reason ≢ template_out_of_memory
-            → Compiles source.now (named (modes_of self.old).prevent_indent name.now)
+            → Compiles source.now (named_options (modes_of self.old).prevent_indent name.now)
             (refused (template_refusal_of e))) }
         ensures kept { OnErr result (HasSameTemplates self.old self.new) }
         ensures entries { self.new.entries ≡ self.old.entries }
@@ -158,10 +158,10 @@ impl<E: Drop> RegistryOf<E> {
     /// Compiles a source and registers its tree under the name of a partial, which is a template.
     pub fn register_partial(&mut self, name: &str, source: &str) -> Result<(), TemplateError>
         ensures ok { OnOk result ((t : Tree)
-            × Compiles source.now (named (modes_of self.old).prevent_indent name.now) (compiled t)
+            × Compiles source.now (named_options (modes_of self.old).prevent_indent name.now) (compiled t)
             × Stores self.old self.new name.now t) }
         ensures err { IfErr result (λ e. (template_refusal_of e).reason ≢ template_out_of_memory
-            → Compiles source.now (named (modes_of self.old).prevent_indent name.now)
+            → Compiles source.now (named_options (modes_of self.old).prevent_indent name.now)
             (refused (template_refusal_of e))) }
         ensures kept { OnErr result (HasSameTemplates self.old self.new) }
         ensures entries { self.new.entries ≡ self.old.entries }
@@ -173,10 +173,10 @@ impl<E: Drop> RegistryOf<E> {
 
     // The tree of a source, for this name.
     fn compiled_as(&self, name: &str, source: &str) -> Result<Template, TemplateError>
-        ensures ok { IfOk result (λ t. Compiles source.now (named (modes_of self.now).prevent_indent name.now)
+        ensures ok { IfOk result (λ t. Compiles source.now (named_options (modes_of self.now).prevent_indent name.now)
             (compiled (tree_view t))) }
         ensures err { IfErr result (λ e. (template_refusal_of e).reason ≢ template_out_of_memory
-            → Compiles source.now (named (modes_of self.now).prevent_indent name.now)
+            → Compiles source.now (named_options (modes_of self.now).prevent_indent name.now)
             (refused (template_refusal_of e))) }
     {
         let options = TemplateOptions {
@@ -188,14 +188,14 @@ impl<E: Drop> RegistryOf<E> {
 
     /// Whether a template stands under the name.
     pub fn has_template(&self, name: &str) -> bool
-        ensures { result ≡ is_some (stored self.now name.now) }
+        ensures { result ≡ is_some (stored_tree self.now name.now) }
     {
         self.templates.contains_key(name)
     }
 
     /// The template under the name, where one stands there.
     pub fn get_template(&self, name: &str) -> Option<&Template>
-        ensures { option_map (λ t. tree_view t.now) result ≡ stored self.now name.now }
+        ensures { option_map (λ t. tree_view t.now) result ≡ stored_tree self.now name.now }
     {
         self.templates.get(name)
     }
@@ -276,7 +276,7 @@ impl<E: OwnParts> RegistryOf<E> {
     /// isn't strict, lookup isn't recursive, inclusions add their indentation, and 64 of them may be rendered one
     /// within another.
     pub fn new(alloc: Global) -> Result<RegistryOf<E>, AllocError>
-        ensures templates { IfOk result (λ r. (name : Text) → stored r name ≡ None) }
+        ensures templates { IfOk result (λ r. (name : Text) → stored_tree r name ≡ None) }
         ensures helpers { IfOk result (λ r. (name : Text) → (E.registered r.entries).helper name ≡ first_callee name) }
         ensures decorators { IfOk result
             (λ r. (name : Text) → (E.registered r.entries).decorator name ≡ built_in_decorator name) }

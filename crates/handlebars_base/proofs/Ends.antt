@@ -4,33 +4,33 @@ use Rattle.std.specs.Str.{IsCharBoundary, IsUtf8}
 use Rattle.std.proofs.lemmas.List.{take_at, take-append-drop}
 use Rattle.std.proofs.lemmas.Str.{IsCharBoundary-at_seam}
 use Rattle.handlebars_base.specs.Bytes.{Text, behind_white}
-use Rattle.handlebars_base.specs.Texts.{IsEnd, after}
-use Rattle.handlebars_base.proofs.Fronts.{after_takes, behind_white-skips}
+use Rattle.handlebars_base.specs.Texts.{IsSuffix, behind_byte}
+use Rattle.handlebars_base.proofs.Fronts.{behind_byte_takes, behind_white-skips}
 
-pub end-all : (t : Text) → IsEnd t t
+pub end-all : (t : Text) → IsSuffix t t
 end-all t = ([], refl)
 
-pub end-behind : (t r s : Text) → IsEnd t r → IsEnd r s → IsEnd t s
+pub end-behind : (t r s : Text) → IsSuffix t r → IsSuffix r s → IsSuffix t s
 end-behind t r s h k = (h.0 ++ k.0, h.1 ∙ ap (λ (z : Text). h.0 ++ z) k.1 ∙ sym (append_assoc h.0 k.0 s))
 
-pub end-after : (c : ℕ) (t r : Text) → after c t ≡ Some r → IsEnd t r
-end-after c t r e = (c ∷ [], after_takes c t r e)
+pub end-behind_byte : (c : ℕ) (t r : Text) → behind_byte c t ≡ Some r → IsSuffix t r
+end-behind_byte c t r e = (c ∷ [], behind_byte_takes c t r e)
 
-pub end-white : (t : Text) → IsEnd t (behind_white t)
+pub end-white : (t : Text) → IsSuffix t (behind_white t)
 end-white t = let h = behind_white-skips t in (h.white, h.whole)
 
-pub end-drop : (n : ℕ) (t : Text) → IsEnd t (drop n t)
+pub end-drop : (n : ℕ) (t : Text) → IsSuffix t (drop n t)
 end-drop n t = (take n t, sym (take-append-drop n t))
 
-pub end-after_white : (c : ℕ) (t r : Text) → after c t ≡ Some r → IsEnd t (behind_white r)
-end-after_white c t r e = end-behind t r (behind_white r) (end-after c t r e) (end-white r)
+pub end-after_white : (c : ℕ) (t r : Text) → behind_byte c t ≡ Some r → IsSuffix t (behind_white r)
+end-after_white c t r e = end-behind t r (behind_white r) (end-behind_byte c t r e) (end-white r)
 
-pub IsCharBoundary-end : (t v : Text) → IsUtf8 v → IsEnd t v → IsCharBoundary t (length t - length v)
+pub IsCharBoundary-end : (t v : Text) → IsUtf8 v → IsSuffix t v → IsCharBoundary t (length t - length v)
 IsCharBoundary-end t v utf8 cut =
     let len : length t - length v ≡ length cut.0 = omega (arith, ap length cut.1, length-append cut.0 v) in
     rw len (IsCharBoundary-at_seam t cut.0 v cut.1 utf8)
 
-pub length-end : (t r : Text) → IsEnd t r → length r ≤ length t
+pub length-end : (t r : Text) → IsSuffix t r → length r ≤ length t
 length-end t r h = omega (arith, ap length h.1, length-append h.0 r)
 
 -- ---- what stands before an end

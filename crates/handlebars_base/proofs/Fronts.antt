@@ -4,7 +4,7 @@ use Rattle.std.specs.Prelude.{◌==◌}
 use Rattle.std.proofs.lemmas.Bool.{eqb-true, eqb-false, cases_Bool}
 use Rattle.std.proofs.lemmas.Option.{cond_some}
 use Rattle.handlebars_base.specs.Bytes.{Text, is_white, behind_white}
-use Rattle.handlebars_base.specs.Texts.{IsWhite, starts, after}
+use Rattle.handlebars_base.specs.Texts.{IsWhite, starts, behind_byte}
 
 -- ---- first bytes
 
@@ -27,27 +27,27 @@ starts-length p (b ∷ t) h = omega arith
 
 -- ---- marks
 
-pub after_takes : (c : ℕ) (t r : Text) → after c t ≡ Some r → t ≡ c ∷ r
-unfolding after
-after_takes c [] r e = absurd cc
-after_takes c (x ∷ xs) r e =
+pub behind_byte_takes : (c : ℕ) (t r : Text) → behind_byte c t ≡ Some r → t ≡ c ∷ r
+unfolding behind_byte
+behind_byte_takes c [] r e = absurd cc
+behind_byte_takes c (x ∷ xs) r e =
     let g = cond_some (x == c) xs r e in
     let same : x ≡ c = eqb-true x c g.0 in
     let rest = g.1 in
     cc
 
-pub after_other : (c x : ℕ) (t : Text) → (x == c) ≡ false → after c (x ∷ t) ≡ None
-unfolding after
-after_other c x t h = rw h refl
+pub behind_byte_other : (c x : ℕ) (t : Text) → (x == c) ≡ false → behind_byte c (x ∷ t) ≡ None
+unfolding behind_byte
+behind_byte_other c x t h = rw h refl
 
-pub after-not : (c : ℕ) (t : Text) → starts (λ b. b == c) t ≡ false → after c t ≡ None
-unfolding after
-after-not c [] h = refl
-after-not c (b ∷ t) h = rw h refl
+pub behind_byte-not : (c : ℕ) (t : Text) → starts (λ b. b == c) t ≡ false → behind_byte c t ≡ None
+unfolding behind_byte
+behind_byte-not c [] h = refl
+behind_byte-not c (b ∷ t) h = rw h refl
 
-pub after-same : (c : ℕ) (t : Text) → after c (c ∷ t) ≡ Some t
-unfolding after
-after-same c t = elim (cases_Bool (c == c)) [
+pub behind_byte-same : (c : ℕ) (t : Text) → behind_byte c (c ∷ t) ≡ Some t
+unfolding behind_byte
+behind_byte-same c t = elim (cases_Bool (c == c)) [
   | inl yea ↦ rw yea refl
   | inr nay ↦ absurd (eqb-false c c nay refl)
 ]

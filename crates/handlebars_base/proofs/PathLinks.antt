@@ -2,7 +2,7 @@
 use Rattle.std.proofs.Common.{◌≡◌, ℕ, zero, suc, ◌<◌, ◌≤◌, Bool, List, [], ◌∷◌, ◌++◌, length, Some, None, refl, sym, ap, subst, ◌∙◌, append_assoc, arith, inl, inr, length-append}
 use Rattle.std.specs.List.{prefix_len}
 use Rattle.std.specs.Option.{option_map}
-use Rattle.handlebars_base.specs.Path.{Part, spelled_part, is_dots, Link, spelled_links, AreLinks, Segment, part_segments, link_segments}
+use Rattle.handlebars_base.specs.Path.{PathPart, spelled_part, is_dots, Link, spelled_links, AreLinks, Segment, part_segments, link_segments}
 use Rattle.handlebars_base.specs.PathReading.{link_at, part_of_link, with_link, links_at, links_of}
 use Rattle.handlebars_base.specs.Bytes.{is_symbol}
 use Rattle.handlebars_base.proofs.OptionBinds.{none_or_some, map_some, map_none}
@@ -65,17 +65,17 @@ links_of-none before t e = at_none (length t) before t e
 pub loop-none : (before : Bool) (t : List ℕ) → None ≡ option_map part_of_link (link_at before t) → links_of before t ≡ ([], t)
 loop-none before t none = links_of-none before t (map_none part_of_link (link_at before t) (sym none))
 
-pub loop-shorter : (before : Bool) (t : List ℕ) (p : Part) (r : List ℕ) →
+pub loop-shorter : (before : Bool) (t : List ℕ) (p : PathPart) (r : List ℕ) →
     Some (p, r) ≡ option_map part_of_link (link_at before t) → length r < length t
 loop-shorter before t p r e =
     let q = map_some part_of_link (link_at before t) (p, r) (sym e) in
-    subst (λ (x : Part × List ℕ). length x.1 < length t) q.2 (shorter_link before t q.0 q.1)
+    subst (λ (x : PathPart × List ℕ). length x.1 < length t) q.2 (shorter_link before t q.0 q.1)
 
-pub loop-rest : (before : Bool) (t : List ℕ) (p : Part) (r : List ℕ) →
+pub loop-rest : (before : Bool) (t : List ℕ) (p : PathPart) (r : List ℕ) →
     Some (p, r) ≡ option_map part_of_link (link_at before t) → (links_of before t).1 ≡ (links_of (is_dots p) r).1
 loop-rest before t p r e =
     let q = map_some part_of_link (link_at before t) (p, r) (sym e) in
-    subst (λ (x : Part × List ℕ). (links_of before t).1 ≡ (links_of (is_dots x.0) x.1).1) q.2
+    subst (λ (x : PathPart × List ℕ). (links_of before t).1 ≡ (links_of (is_dots x.0) x.1).1) q.2
     (ap (λ (x : List Link × List ℕ). x.1) (links_of-some before t q.0 q.1))
 
 segments_of-some : (front : List Segment) (before : Bool) (t : List ℕ) (q : Link × List ℕ) → link_at before t ≡ Some q →
@@ -85,13 +85,13 @@ segments_of-some front before t q e =
     append_assoc front (part_segments q.0.part) (link_segments (links_of (is_dots q.0.part) q.1).0) ∙
     ap (λ (x : List Link × List ℕ). front ++ link_segments x.0) (sym (links_of-some before t q e))
 
-pub loop-segments : (front : List Segment) (before : Bool) (t : List ℕ) (p : Part) (r : List ℕ) →
+pub loop-segments : (front : List Segment) (before : Bool) (t : List ℕ) (p : PathPart) (r : List ℕ) →
     Some (p, r) ≡ option_map part_of_link (link_at before t) →
     (front ++ part_segments p) ++ link_segments (links_of (is_dots p) r).0 ≡ front ++ link_segments (links_of before t).0
 loop-segments front before t p r e =
     let q = map_some part_of_link (link_at before t) (p, r) (sym e) in
-    let segments : Part × List ℕ → List Segment = λ x. (front ++ part_segments x.0) ++ link_segments (links_of (is_dots x.0) x.1).0 in
-    subst (λ (x : Part × List ℕ). segments x ≡ front ++ link_segments (links_of before t).0) q.2
+    let segments : PathPart × List ℕ → List Segment = λ x. (front ++ part_segments x.0) ++ link_segments (links_of (is_dots x.0) x.1).0 in
+    subst (λ (x : PathPart × List ℕ). segments x ≡ front ++ link_segments (links_of before t).0) q.2
     (segments_of-some front before t q.0 q.1)
 
 -- ---- what is read is spelled so

@@ -9,17 +9,17 @@ use Rattle.std.proofs.lemmas.Bool.{or_parts, and_parts, eqb-true, cases_Bool, bo
 use Rattle.std.proofs.lemmas.Option.{same_Some, cond_some}
 use Rattle.std.proofs.lemmas.List.{take-append-drop, take_at, drop_at, nil_from_length}
 use Rattle.std.proofs.lemmas.Slice.Eq.{bytes_eq-Decides}
-use Rattle.handlebars_base.specs.Path.{Reference, meaning, IsPath, IsIdentifier, Part, dots, plain, bracketed, spelled_part, IsPart, is_dots, Link, spelled_links, AreLinks, ups, Shape, itself, at_root, at_name, in_parts, spelled, IsShape}
-use Rattle.handlebars_base.specs.PathReading.{is_up_mark, after_up, ups_at, part_at, link_at, links_of, Start, here, from_root, from_variable, from_part, named_start, at_sign_start, part_start, start_without_at_sign, start_at, links_behind, is_dotted, shape_from, shape_at, shape_of, path_of, reference_from, reference_len}
+use Rattle.handlebars_base.specs.Path.{Reference, meaning, IsPath, IsIdentifier, PathPart, dots, plain, bracketed, spelled_part, IsPathPart, is_dots, Link, spelled_links, AreLinks, ups, Shape, itself, at_root, at_name, in_parts, spelled_path, IsShape}
+use Rattle.handlebars_base.specs.PathReading.{is_up_mark, behind_up, ups_at, part_at, link_at, links_of, Start, here, from_root, from_variable, from_part, named_start, at_sign_start, part_start, start_without_at_sign, start_at, links_behind, is_dotted, shape_from, shape_at, shape_of, path_of, reference_from, reference_len}
 use Rattle.handlebars_base.specs.Optional.{◌>>=◌, with_or}
-use Rattle.handlebars_base.specs.Texts.{after, symbols_of, behind_symbols}
+use Rattle.handlebars_base.specs.Texts.{behind_byte, symbols_of, behind_symbols}
 use Rattle.handlebars_base.specs.Bytes.{is_symbol}
 use Rattle.handlebars_base.proofs.OptionBinds.{bind_some, with_or_is, guard_some, map_some}
-use Rattle.handlebars_base.proofs.PathMarks.{ups_again, after_up_other}
+use Rattle.handlebars_base.proofs.PathMarks.{ups_again, behind_up_other}
 use Rattle.handlebars_base.proofs.PathParts.{part_takes, part_again}
-use Rattle.handlebars_base.proofs.ReferenceLength.{prefix_len-end, after-end}
+use Rattle.handlebars_base.proofs.ReferenceLength.{prefix_len-end, behind_byte-end}
 use Rattle.handlebars_base.proofs.PathLinks.{links_of_take, links_stop, links_of_again}
-use Rattle.handlebars_base.proofs.Fronts.{after_takes, after_other}
+use Rattle.handlebars_base.proofs.Fronts.{behind_byte_takes, behind_byte_other}
 use Rattle.handlebars_base.proofs.Runs.{prefix_pass, prefix_again}
 use Rattle.handlebars_base.proofs.Bytes.{other_byte}
 
@@ -47,7 +47,7 @@ ups_take n (a ∷ b ∷ c ∷ t) =
 
 -- a shape that stands in front of a text, and what follows it
 pub record TakesFront (t : List ℕ) (x : Shape × List ℕ) : Type 0 where
-  pub parts : t ≡ spelled x.0 ++ x.1
+  pub parts : t ≡ spelled_path x.0 ++ x.1
   pub fits : IsShape x.0
 
 -- the shape that a start and what follows it make
@@ -56,9 +56,9 @@ shape_behind dotted s = (shape_from dotted s.0 (links_behind s.0 s.1).0, (links_
 
 -- ---- what is read is spelled so: names behind an `@`
 
-spelled_name : (n : ℕ) (name : List ℕ) (ss : List Link) (rest : List ℕ) →
-    64 ∷ (ups n ++ (name ++ (spelled_links ss ++ rest))) ≡ spelled (at_name n name ss) ++ rest
-spelled_name n name ss rest =
+spelled_path_name : (n : ℕ) (name : List ℕ) (ss : List Link) (rest : List ℕ) →
+    64 ∷ (ups n ++ (name ++ (spelled_links ss ++ rest))) ≡ spelled_path (at_name n name ss) ++ rest
+spelled_path_name n name ss rest =
     ap (λ (r : List ℕ). 64 ∷ (ups n ++ r)) (sym (append_assoc name (spelled_links ss) rest)) ∙
     ap (λ (r : List ℕ). 64 ∷ r) (sym (append_assoc (ups n) (name ++ spelled_links ss) rest))
 
@@ -69,7 +69,7 @@ root_or_name true dotted name ss rest is_root id this fits =
     let root = (bytes_eq-Decides name (codes "root")).0 is_root in
     record { parts = ap (λ (n : List ℕ). 64 ∷ (n ++ (spelled_links ss ++ rest))) root; fits = fits }
 root_or_name false dotted name ss rest is_root id this fits =
-    record { parts = spelled_name 0 name ss rest; fits = (id, this, is_root, fits) }
+    record { parts = spelled_path_name 0 name ss rest; fits = (id, this, is_root, fits) }
 
 name_fits : (dotted : Bool) (n : ℕ) (name : List ℕ) (ss : List Link) (rest : List ℕ) → IsIdentifier name →
     bytes_eq name (codes "this") ≡ false → AreLinks false ss →
@@ -77,7 +77,7 @@ name_fits : (dotted : Bool) (n : ℕ) (name : List ℕ) (ss : List Link) (rest :
 name_fits dotted zero name ss rest id this fits =
     root_or_name (bytes_eq name (codes "root")) dotted name ss rest refl id this fits
 name_fits dotted (suc n) name ss rest id this fits =
-    rw (eqb-suc-zero n) (record { parts = spelled_name (suc n) name ss rest; fits = (id, this, fits) })
+    rw (eqb-suc-zero n) (record { parts = spelled_path_name (suc n) name ss rest; fits = (id, this, fits) })
 
 links_behind-named : (n : ℕ) (name t : List ℕ) → links_behind (named_start n name) t ≡ links_of false t
 links_behind-named n name t =
@@ -115,12 +115,12 @@ at_takes dotted t x e =
 
 -- ---- what is read is spelled so: parts
 
-record TakesParts (t : List ℕ) (p : Part) (q : List Link × List ℕ) : Type 0 where
+record TakesParts (t : List ℕ) (p : PathPart) (q : List Link × List ℕ) : Type 0 where
   pub parts : t ≡ (spelled_part p ++ spelled_links q.0) ++ q.1
-  pub fits : IsPart p
+  pub fits : IsPathPart p
   pub links : AreLinks (is_dots p) q.0
 
-parts_take : (t : List ℕ) (p : Part × List ℕ) → part_at t ≡ Some p → TakesParts t p.0 (links_of (is_dots p.0) p.1)
+parts_take : (t : List ℕ) (p : PathPart × List ℕ) → part_at t ≡ Some p → TakesParts t p.0 (links_of (is_dots p.0) p.1)
 parts_take t p e =
     let first = part_takes t p e in
     let others = links_of_take (is_dots p.0) p.1 in
@@ -132,18 +132,18 @@ parts_take t p e =
     }
 
 -- where a part stands, `./` does not
-is_dotted-part : (p : Part) (rest : List ℕ) → IsPart p → is_dotted (spelled_part p ++ rest) ≡ false
-unfolding after
+is_dotted-part : (p : PathPart) (rest : List ℕ) → IsPathPart p → is_dotted (spelled_part p ++ rest) ≡ false
+unfolding behind_byte
 is_dotted-part dots rest fits = refl
 is_dotted-part (plain []) rest fits = absurd (fits.0 refl)
 is_dotted-part (plain (x ∷ xs)) rest fits = rw (other_byte is_symbol 46 refl x fits.1.0) refl
 is_dotted-part (bracketed n) rest fits = refl
 
 is_dotted-dot : (t : List ℕ) → is_dotted (46 ∷ 47 ∷ t) ≡ true
-unfolding after
+unfolding behind_byte
 is_dotted-dot t = refl
 
-undotted_takes : (t : List ℕ) (p : Part × List ℕ) → part_at t ≡ Some p →
+undotted_takes : (t : List ℕ) (p : PathPart × List ℕ) → part_at t ≡ Some p →
     TakesFront t (shape_behind (is_dotted t) (from_part p.0, p.1))
 undotted_takes t p e =
     let first = part_takes t p e in
@@ -151,24 +151,24 @@ undotted_takes t p e =
     let no : is_dotted t ≡ false = ap is_dotted first.parts ∙ is_dotted-part p.0 p.1 first.fits in
     rw no (record { parts = taken.parts; fits = (taken.fits, taken.links) })
 
-dotted_takes : (t : List ℕ) (p : Part × List ℕ) → part_at t ≡ Some p →
+dotted_takes : (t : List ℕ) (p : PathPart × List ℕ) → part_at t ≡ Some p →
     TakesFront (46 ∷ 47 ∷ t) (shape_behind (is_dotted (46 ∷ 47 ∷ t)) (from_part p.0, p.1))
-unfolding after
+unfolding behind_byte
 dotted_takes t p e =
     let taken = parts_take t p e in
     record { parts = ap (λ (r : List ℕ). 46 ∷ 47 ∷ r) taken.parts; fits = (taken.fits, taken.links) }
 
 -- behind a `.`
 abbrev dot_start : List ℕ → Option (Start × List ℕ)
-dot_start r = with_or (after 47 r) (λ r. part_at r >>= part_start) (Some (here, r))
+dot_start r = with_or (behind_byte 47 r) (λ r. part_at r >>= part_start) (Some (here, r))
 
 dot_takes : (r : List ℕ) (x : Start × List ℕ) → dot_start r ≡ Some x →
     TakesFront (46 ∷ r) (shape_behind (is_dotted (46 ∷ r)) x)
 dot_takes r x e =
-    elim (with_or_is (after 47 r) (λ z. part_at z >>= part_start) (Some (here, r)) (Some x) e) [
+    elim (with_or_is (behind_byte 47 r) (λ z. part_at z >>= part_start) (Some (here, r)) (Some x) e) [
       | inl slash ↦
           let b = bind_some (part_at slash.0) part_start x slash.2 in
-          let whole = after_takes 47 r slash.0 slash.1 in
+          let whole = behind_byte_takes 47 r slash.0 slash.1 in
           subst (λ (y : Start × List ℕ). TakesFront (46 ∷ r) (shape_behind (is_dotted (46 ∷ r)) y)) (same_Some _ x b.2)
           (subst (λ (z : List ℕ). TakesFront (46 ∷ z) (shape_behind (is_dotted (46 ∷ z)) (from_part b.0.0, b.0.1))) (sym whole) (dotted_takes slash.0 b.0 b.1))
       | inr alone ↦
@@ -179,13 +179,13 @@ dot_takes r x e =
 without_at_sign_takes : (t : List ℕ) (x : Start × List ℕ) → start_without_at_sign t ≡ Some x → TakesFront t (shape_behind (is_dotted t) x)
 unfolding start_without_at_sign
 without_at_sign_takes t x e =
-    elim (with_or_is (part_at t) part_start (after 46 t >>= dot_start) (Some x) e) [
+    elim (with_or_is (part_at t) part_start (behind_byte 46 t >>= dot_start) (Some x) e) [
       | inl first ↦
           subst (λ (y : Start × List ℕ). TakesFront t (shape_behind (is_dotted t) y)) (same_Some _ x first.2)
           (undotted_takes t first.0 first.1)
       | inr other ↦
-          let b = bind_some (after 46 t) dot_start x other.1 in
-          rw (after_takes 46 t b.0 b.1) (dot_takes b.0 x b.2)
+          let b = bind_some (behind_byte 46 t) dot_start x other.1 in
+          rw (behind_byte_takes 46 t b.0 b.1) (dot_takes b.0 x b.2)
     ]
 
 -- ---- what is read is spelled so: all
@@ -193,8 +193,8 @@ without_at_sign_takes t x e =
 start_takes : (t : List ℕ) (x : Start × List ℕ) → start_at t ≡ Some x → TakesFront t (shape_behind (is_dotted t) x)
 unfolding start_at
 start_takes t x e =
-    elim (with_or_is (after 64 t) (λ r. at_sign_start (ups_at 0 r)) (start_without_at_sign t) (Some x) e) [
-      | inl at ↦ rw (after_takes 64 t at.0 at.1) (at_takes (is_dotted (64 ∷ at.0)) at.0 x at.2)
+    elim (with_or_is (behind_byte 64 t) (λ r. at_sign_start (ups_at 0 r)) (start_without_at_sign t) (Some x) e) [
+      | inl at ↦ rw (behind_byte_takes 64 t at.0 at.1) (at_takes (is_dotted (64 ∷ at.0)) at.0 x at.2)
       | inr other ↦ without_at_sign_takes t x other.1
     ]
 
@@ -206,7 +206,7 @@ shape_at_takes t x e =
 
 -- a shape that the text spells
 pub record TakesShape (t : List ℕ) (s : Shape) : Type 0 where
-  pub spells : t ≡ spelled s
+  pub spells : t ≡ spelled_path s
   pub fits : IsShape s
 
 whole_is : (x : Shape × List ℕ) (s : Shape) → cond (length x.1 == 0) (Some x.0) None ≡ Some s →
@@ -222,7 +222,7 @@ shape_takes t s e =
     let all = whole_is b.0 s b.2 in
     let taken = shape_at_takes t b.0 b.1 in
     subst (λ (v : Shape). TakesShape t v) all.1 (record {
-      spells = taken.parts ∙ ap (λ (r : List ℕ). spelled b.0.0 ++ r) all.0 ∙ append-nil (spelled b.0.0);
+      spells = taken.parts ∙ ap (λ (r : List ℕ). spelled_path b.0.0 ++ r) all.0 ∙ append-nil (spelled_path b.0.0);
       fits = taken.fits;
     })
 
@@ -231,7 +231,7 @@ shape_takes t s e =
 -- no link stands where no reference goes on
 link_at-end : (before : Bool) (t : List ℕ) → reference_len t ≡ 0 → link_at before t ≡ None
 unfolding link_at
-link_at-end before t e = rw (after-end 47 t refl refl e, after-end 46 t refl refl e) refl
+link_at-end before t e = rw (behind_byte-end 47 t refl refl e, behind_byte-end 46 t refl refl e) refl
 
 -- links to where no reference goes on
 links_end : (before : Bool) (ss : List Link) (rest : List ℕ) → AreLinks before ss → reference_len rest ≡ 0 →
@@ -249,9 +249,9 @@ by_start : (t : List ℕ) (s : Start) (r : List ℕ) (ss : List Link) (rest : Li
 unfolding shape_at
 by_start t s r ss rest start links = rw (start, links) refl
 
-not_up : (name rest : List ℕ) → IsIdentifier name → after_up (name ++ rest) ≡ None
+not_up : (name rest : List ℕ) → IsIdentifier name → behind_up (name ++ rest) ≡ None
 not_up [] rest id = absurd (id.0 refl)
-not_up (x ∷ xs) rest id = after_up_other x (xs ++ rest) (other_byte is_symbol 46 refl x id.1.0)
+not_up (x ∷ xs) rest id = behind_up_other x (xs ++ rest) (other_byte is_symbol 46 refl x id.1.0)
 
 named_again : (n : ℕ) (name rest : List ℕ) → IsIdentifier name → bytes_eq name (codes "this") ≡ false →
     prefix_len is_symbol rest ≡ 0 → at_sign_start (n, name ++ rest) ≡ Some (named_start n name, rest)
@@ -266,44 +266,44 @@ named_again n name rest id this stop =
 
 at_again : (n : ℕ) (name rest : List ℕ) → IsIdentifier name → bytes_eq name (codes "this") ≡ false →
     prefix_len is_symbol rest ≡ 0 → start_at (64 ∷ (ups n ++ (name ++ rest))) ≡ Some (named_start n name, rest)
-unfolding start_at after
+unfolding start_at behind_byte
 at_again n name rest id this stop =
     let level = ups_again n 0 (name ++ rest) (not_up name rest id) ∙ ap (λ (m : ℕ). (m, name ++ rest)) (omega arith) in
     ap at_sign_start level ∙ named_again n name rest id this stop
 
 name_again : (n : ℕ) (name : List ℕ) (ss : List Link) (rest : List ℕ) → IsIdentifier name →
     bytes_eq name (codes "this") ≡ false → AreLinks false ss → reference_len rest ≡ 0 →
-    shape_at (spelled (at_name n name ss) ++ rest) ≡ Some (shape_from false (named_start n name) ss, rest)
-unfolding after
+    shape_at (spelled_path (at_name n name ss) ++ rest) ≡ Some (shape_from false (named_start n name) ss, rest)
+unfolding behind_byte
 name_again n name ss rest id this fits e =
     let behind = spelled_links ss ++ rest in
     let start = at_again n name behind id this (stop_end false ss rest fits e) in
     let links = links_behind-named n name behind ∙ links_end false ss rest fits e in
-    ap shape_at (sym (spelled_name n name ss rest)) ∙ by_start _ (named_start n name) behind ss rest start links
+    ap shape_at (sym (spelled_path_name n name ss rest)) ∙ by_start _ (named_start n name) behind ss rest start links
 
-no_at : (p : Part) (rest : List ℕ) → IsPart p → after 64 (spelled_part p ++ rest) ≡ None
-unfolding after
+no_at : (p : PathPart) (rest : List ℕ) → IsPathPart p → behind_byte 64 (spelled_part p ++ rest) ≡ None
+unfolding behind_byte
 no_at dots rest fits = refl
 no_at (plain []) rest fits = absurd (fits.0 refl)
-no_at (plain (x ∷ xs)) rest fits = after_other 64 x (xs ++ rest) (other_byte is_symbol 64 refl x fits.1.0)
+no_at (plain (x ∷ xs)) rest fits = behind_byte_other 64 x (xs ++ rest) (other_byte is_symbol 64 refl x fits.1.0)
 no_at (bracketed n) rest fits = refl
 
-start_part : (p : Part) (rest : List ℕ) → IsPart p → prefix_len is_symbol rest ≡ 0 →
+start_part : (p : PathPart) (rest : List ℕ) → IsPathPart p → prefix_len is_symbol rest ≡ 0 →
     start_at (spelled_part p ++ rest) ≡ Some (from_part p, rest)
 unfolding start_at start_without_at_sign
 start_part p rest fits stop = rw (no_at p rest fits, part_again p rest fits stop) refl
 
-start_dotted : (p : Part) (rest : List ℕ) → IsPart p → prefix_len is_symbol rest ≡ 0 →
+start_dotted : (p : PathPart) (rest : List ℕ) → IsPathPart p → prefix_len is_symbol rest ≡ 0 →
     start_at (46 ∷ 47 ∷ (spelled_part p ++ rest)) ≡ Some (from_part p, rest)
-unfolding start_at start_without_at_sign part_at after
+unfolding start_at start_without_at_sign part_at behind_byte
 start_dotted p rest fits stop = ap (λ o. o >>= part_start) (part_again p rest fits stop)
 
 start_itself : (rest : List ℕ) → reference_len rest ≡ 0 → start_at (46 ∷ rest) ≡ Some (here, rest)
-unfolding start_at start_without_at_sign part_at after
-start_itself rest e = rw (after-end 46 rest refl refl e, after-end 47 rest refl refl e) refl
+unfolding start_at start_without_at_sign part_at behind_byte
+start_itself rest e = rw (behind_byte-end 46 rest refl refl e, behind_byte-end 47 rest refl refl e) refl
 
 pub shape_at_again : (s : Shape) (rest : List ℕ) → IsShape s → reference_len rest ≡ 0 →
-    shape_at (spelled s ++ rest) ≡ Some (s, rest)
+    shape_at (spelled_path s ++ rest) ≡ Some (s, rest)
 shape_at_again itself rest fits e = by_start _ here rest [] rest (start_itself rest e) refl
 shape_at_again (at_root ss) rest fits e =
     name_again 0 (codes "root") ss rest (λ e. absurd cc, (refl, (refl, (refl, (refl, tt))))) refl fits e
@@ -324,10 +324,10 @@ shape_at_again (in_parts false p ss) rest fits e =
     let no = is_dotted-part p behind fits.0 in
     ap shape_at whole ∙ by_start _ (from_part p) behind ss rest start (links_end (is_dots p) ss rest fits.1 e) ∙ rw no refl
 
-pub shape_again : (s : Shape) → IsShape s → shape_of (spelled s) ≡ Some s
+pub shape_again : (s : Shape) → IsShape s → shape_of (spelled_path s) ≡ Some s
 unfolding shape_of reference_from
 shape_again s fits =
-    let read : shape_at (spelled s) ≡ Some (s, []) = ap shape_at (sym (append-nil (spelled s))) ∙ shape_at_again s [] fits refl in
+    let read : shape_at (spelled_path s) ≡ Some (s, []) = ap shape_at (sym (append-nil (spelled_path s))) ∙ shape_at_again s [] fits refl in
     rw read refl
 
 -- ---- whole texts and their meanings

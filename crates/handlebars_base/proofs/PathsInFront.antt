@@ -5,7 +5,7 @@ use Rattle.std.specs.Option.{option_map}
 use Rattle.std.specs.Str.{IsCharBoundary}
 use Rattle.std.proofs.lemmas.List.{take-append-drop, take_at, drop_at, length-take, nil_from_length}
 use Rattle.std.proofs.lemmas.Option.{same_Some, none-some}
-use Rattle.handlebars_base.specs.Path.{Reference, raw_of, IsPath, meaning, Link, Shape, itself, at_root, at_name, in_parts, spelled}
+use Rattle.handlebars_base.specs.Path.{Reference, raw_of, IsPath, meaning, Link, Shape, itself, at_root, at_name, in_parts, spelled_path}
 use Rattle.handlebars_base.specs.PathReading.{Start, here, from_root, from_variable, from_part, start_at, links_behind, is_dotted, shape_from, start_segments, start_meaning, shape_at, path_of, path_at, slice_at, reference_from, reference_len}
 use Rattle.handlebars_base.specs.Optional.{◌>>=◌}
 use Rattle.handlebars_base.specs.Laws.{IsInFront}
@@ -104,11 +104,11 @@ path_at-goes t s rest read more =
 
 -- behind the shape none does
 pub path_at-ends : (t : List ℕ) (s : Shape) (rest : List ℕ) → shape_at t ≡ Some (s, rest) → reference_len rest ≡ 0 →
-    path_at t ≡ Some (meaning (spelled s) s, rest)
+    path_at t ≡ Some (meaning (spelled_path s) s, rest)
 path_at-ends t s rest read e =
     let taken = shape_at_takes t (s, rest) read in
-    let is : IsPath (spelled s) (meaning (spelled s) s) = record { shape = s; fits = taken.fits; spells = refl; gives = refl } in
-    ap path_at taken.parts ∙ path_at-append (spelled s) rest (meaning (spelled s) s) is e
+    let is : IsPath (spelled_path s) (meaning (spelled_path s) s) = record { shape = s; fits = taken.fits; spells = refl; gives = refl } in
+    ap path_at taken.parts ∙ path_at-append (spelled_path s) rest (meaning (spelled_path s) s) is e
 
 -- ---- where the text is cut
 
@@ -126,21 +126,21 @@ slice_at-goes t s rest read more = ap written_at (path_at-goes t s rest read mor
 pub left_length : (t : List ℕ) (s : Shape) (rest : List ℕ) → shape_at t ≡ Some (s, rest) → length rest ≤ length t
 left_length t s rest read =
     let taken = shape_at_takes t (s, rest) read in
-    omega (arith, ap length taken.parts, length-append (spelled s) rest)
+    omega (arith, ap length taken.parts, length-append (spelled_path s) rest)
 
 front_length : (t : List ℕ) (s : Shape) (rest : List ℕ) → shape_at t ≡ Some (s, rest) →
-    length t - length rest ≡ length (spelled s)
+    length t - length rest ≡ length (spelled_path s)
 front_length t s rest read =
     let taken = shape_at_takes t (s, rest) read in
-    omega (arith, ap length taken.parts, length-append (spelled s) rest)
+    omega (arith, ap length taken.parts, length-append (spelled_path s) rest)
 
 pub cut_boundary : (t : List ℕ) (s : Shape) (rest : List ℕ) → shape_at t ≡ Some (s, rest) → reference_len rest ≡ 0 →
     IsCharBoundary t (length t - length rest)
 cut_boundary t s rest read e =
     let taken = shape_at_takes t (s, rest) read in
-    let is : IsPath (spelled s) (meaning (spelled s) s) = record { shape = s; fits = taken.fits; spells = refl; gives = refl } in
-    let goes : reference_len t ≡ length (spelled s) =
-    ap reference_len taken.parts ∙ omega (arith, reference_len-append (spelled s) rest (meaning (spelled s) s) is) in
+    let is : IsPath (spelled_path s) (meaning (spelled_path s) s) = record { shape = s; fits = taken.fits; spells = refl; gives = refl } in
+    let goes : reference_len t ≡ length (spelled_path s) =
+    ap reference_len taken.parts ∙ omega (arith, reference_len-append (spelled_path s) rest (meaning (spelled_path s) s) is) in
     subst (λ (n : ℕ). IsCharBoundary t n) (goes ∙ sym (front_length t s rest read)) (reference_len_boundary t)
 
 pub cut_slice : (t : List ℕ) (s : Shape) (rest : List ℕ) → shape_at t ≡ Some (s, rest) → reference_len rest ≡ 0 →
@@ -148,11 +148,11 @@ pub cut_slice : (t : List ℕ) (s : Shape) (rest : List ℕ) → shape_at t ≡ 
 cut_slice t s rest read e =
     let taken = shape_at_takes t (s, rest) read in
     let n = length t - length rest in
-    let long : length (spelled s) ≡ n = sym (front_length t s rest read) in
-    let front : take n t ≡ spelled s = ap (take n) taken.parts ∙ take_at (spelled s) rest n long in
-    let back : drop n t ≡ rest = ap (drop n) taken.parts ∙ drop_at (spelled s) rest n long in
+    let long : length (spelled_path s) ≡ n = sym (front_length t s rest read) in
+    let front : take n t ≡ spelled_path s = ap (take n) taken.parts ∙ take_at (spelled_path s) rest n long in
+    let back : drop n t ≡ rest = ap (drop n) taken.parts ∙ drop_at (spelled_path s) rest n long in
     ap written_at (path_at-ends t s rest read e) ∙
-    rw (raw_of-meaning (spelled s) s, front, back) refl
+    rw (raw_of-meaning (spelled_path s) s, front, back) refl
 
 -- ---- the path that is made
 

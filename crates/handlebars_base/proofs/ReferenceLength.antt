@@ -5,7 +5,7 @@ use Rattle.std.specs.List.{position, position_or_len, prefix_len}
 use Rattle.std.specs.Str.{IsCharBoundary}
 use Rattle.std.proofs.lemmas.Bool.{or_parts, eqb-true, ne_eqb, ltb-true, ltb-false, cases_Bool, both_ways}
 use Rattle.handlebars_base.specs.PathReading.{is_reference_byte, one_more, reference_from, reference_len}
-use Rattle.handlebars_base.specs.Texts.{after}
+use Rattle.handlebars_base.specs.Texts.{behind_byte}
 use Rattle.handlebars_base.specs.Bytes.{is_symbol}
 use Rattle.handlebars_base.proofs.Bytes.{no_symbol_ascii}
 
@@ -163,10 +163,10 @@ prefix_len-end (x ∷ t) e =
     ]
 
 -- and no mark that a reference goes over
-pub after-end : (c : ℕ) (t : List ℕ) → is_reference_byte c ≡ true → (c == 91) ≡ false → reference_len t ≡ 0 → after c t ≡ None
-unfolding after
-after-end c [] on other e = refl
-after-end c (x ∷ t) on other e =
+pub behind_byte-end : (c : ℕ) (t : List ℕ) → is_reference_byte c ≡ true → (c == 91) ≡ false → reference_len t ≡ 0 → behind_byte c t ≡ None
+unfolding behind_byte
+behind_byte-end c [] on other e = refl
+behind_byte-end c (x ∷ t) on other e =
     elim (cases_Bool (x == c)) [
       | inl yea ↦
           let same : x ≡ c = eqb-true x c yea in

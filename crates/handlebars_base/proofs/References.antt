@@ -3,7 +3,7 @@ use Rattle.std.proofs.Common.{◌≡◌, ℕ, zero, suc, ◌+◌, Bool, true, fa
 use Rattle.std.specs.Prelude.{◌==◌, ◌||◌, codes}
 use Rattle.std.specs.List.{AllByRecursion}
 use Rattle.std.proofs.lemmas.Bool.{not-true, or_parts}
-use Rattle.handlebars_base.specs.Path.{Reference, IsPath, IsIdentifier, Part, dots, plain, bracketed, spelled_part, IsPart, is_dots, Link, spelled_links, AreLinks, ups, Shape, itself, at_root, at_name, in_parts, spelled, IsShape}
+use Rattle.handlebars_base.specs.Path.{Reference, IsPath, IsIdentifier, PathPart, dots, plain, bracketed, spelled_part, IsPathPart, is_dots, Link, spelled_links, AreLinks, ups, Shape, itself, at_root, at_name, in_parts, spelled_path, IsShape}
 use Rattle.handlebars_base.specs.PathReading.{is_reference_byte, reference_from, reference_len}
 use Rattle.handlebars_base.specs.Bytes.{is_symbol, left_bracket}
 use Rattle.handlebars_base.proofs.PathParts.{joins_cases}
@@ -52,7 +52,7 @@ passed_bracketed n all =
           rw (append_assoc n (93 ∷ []) follow, inside n follow all) (omega (arith, length-append n (93 ∷ [])));
     }
 
-passed_part : (p : Part) → IsPart p → IsPassed (spelled_part p)
+passed_part : (p : PathPart) → IsPathPart p → IsPassed (spelled_part p)
 passed_part dots fits = passed_byte 46 (46 ∷ []) refl refl (passed_byte 46 [] refl refl passed_none)
 passed_part (plain n) fits = passed_symbols n fits.1
 passed_part (bracketed n) fits = passed_bracketed n fits
@@ -78,12 +78,12 @@ passed_name n name ss id fits =
     let behind = passed_both name (spelled_links ss) (passed_symbols name id.1) (passed_links false ss fits) in
     passed_byte 64 _ refl refl (passed_ups n (name ++ spelled_links ss) behind)
 
-passed_parts : (p : Part) (ss : List Link) → IsPart p → AreLinks (is_dots p) ss →
+passed_parts : (p : PathPart) (ss : List Link) → IsPathPart p → AreLinks (is_dots p) ss →
     IsPassed (spelled_part p ++ spelled_links ss)
 passed_parts p ss fits links =
     passed_both (spelled_part p) (spelled_links ss) (passed_part p fits) (passed_links (is_dots p) ss links)
 
-passed_shape : (s : Shape) → IsShape s → IsPassed (spelled s)
+passed_shape : (s : Shape) → IsShape s → IsPassed (spelled_path s)
 passed_shape itself fits = passed_byte 46 [] refl refl passed_none
 passed_shape (at_root ss) fits =
     passed_name 0 (codes "root") ss (λ e. absurd cc, (refl, (refl, (refl, (refl, tt))))) fits
@@ -119,13 +119,13 @@ reference_len-stops (x ∷ xs) h =
 
 -- ---- how a path begins
 
-starts_part : (p : Part) (t : List ℕ) → IsPart p → stops (spelled_part p ++ t) ≡ false
+starts_part : (p : PathPart) (t : List ℕ) → IsPathPart p → stops (spelled_part p ++ t) ≡ false
 starts_part dots t fits = refl
 starts_part (plain []) t fits = absurd (fits.0 refl)
 starts_part (plain (x ∷ xs)) t fits = rw (fits.1.0) refl
 starts_part (bracketed n) t fits = refl
 
-starts_shape : (s : Shape) → IsShape s → stops (spelled s) ≡ false
+starts_shape : (s : Shape) → IsShape s → stops (spelled_path s) ≡ false
 starts_shape itself fits = refl
 starts_shape (at_root ss) fits = refl
 starts_shape (at_name n name ss) fits = refl

@@ -13,12 +13,12 @@ pub record Held : Type 0 where
   pub faults : ℕ
 
 -- what a new output holds
-abbrev pub nothing : Held
-nothing = record { text = []; faults = 0 }
+abbrev pub empty_output : Held
+empty_output = record { text = []; faults = 0 }
 
 -- a beginning of a text, which may be nothing or all of it
-abbrev pub IsBeginning : Text → Text → Type 0
-IsBeginning front t = (rest : Text) × (t ≡ front ++ rest)
+abbrev pub IsPrefix : Text → Text → Type 0
+IsPrefix front t = (rest : Text) × (t ≡ front ++ rest)
 
 -- all of a text is written behind what was there
 pub record IsWhole (t : Text) (before after : Held) : Type 0 where
@@ -29,7 +29,7 @@ pub record IsWhole (t : Text) (before after : Held) : Type 0 where
 pub record IsCutOff (t : Text) (before after : Held) : Type 0 where
   pub some : 0 < length t
   pub front : Text
-  pub is_front : IsBeginning front t
+  pub is_front : IsPrefix front t
   pub text : after.text ≡ before.text ++ front
   pub faults : before.faults + 1 < 2 ^ 64 → after.faults ≡ before.faults + 1
 

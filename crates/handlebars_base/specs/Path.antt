@@ -32,23 +32,23 @@ abbrev pub IsIdentifier : Text → Type 0
 IsIdentifier n = (n ≢ []) × AllByRecursion (λ b. is_symbol b ≡ true) n
 
 -- `..`, an identifier, or a name in brackets
-pub data Part : Type 0 where
-  dots : Part
-  plain : Text → Part
-  bracketed : Text → Part
+pub data PathPart : Type 0 where
+  dots : PathPart
+  plain : Text → PathPart
+  bracketed : Text → PathPart
 
-abbrev pub spelled_part : Part → Text
+abbrev pub spelled_part : PathPart → Text
 spelled_part dots = codes ".."
 spelled_part (plain n) = n
 spelled_part (bracketed n) = left_bracket ∷ (n ++ right_bracket ∷ [])
 
 -- brackets hold anything but a closing one
-abbrev pub IsPart : Part → Type 0
-IsPart dots = ⊤
-IsPart (plain n) = IsIdentifier n
-IsPart (bracketed n) = AllByRecursion (λ b. not (b == right_bracket) ≡ true) n
+abbrev pub IsPathPart : PathPart → Type 0
+IsPathPart dots = ⊤
+IsPathPart (plain n) = IsIdentifier n
+IsPathPart (bracketed n) = AllByRecursion (λ b. not (b == right_bracket) ≡ true) n
 
-abbrev pub is_dots : Part → Bool
+abbrev pub is_dots : PathPart → Bool
 is_dots dots = true
 is_dots (plain n) = false
 is_dots (bracketed n) = false
@@ -58,7 +58,7 @@ is_dots (bracketed n) = false
 -- a separator, and the part behind it
 pub record Link : Type 0 where
   pub sep : ℕ
-  pub part : Part
+  pub part : PathPart
 
 abbrev pub spelled_links : List Link → Text
 spelled_links [] = []
@@ -72,7 +72,7 @@ joins before sep behind = (sep == slash) || ((sep == dot) && (not before && not 
 abbrev pub AreLinks : Bool → List Link → Type 0
 AreLinks before [] = ⊤
 AreLinks before (s ∷ ss) =
-    (joins before s.sep (is_dots s.part) ≡ true) × IsPart s.part × AreLinks (is_dots s.part) ss
+    (joins before s.sep (is_dots s.part) ≡ true) × IsPathPart s.part × AreLinks (is_dots s.part) ss
 
 -- ---- whole paths
 
@@ -82,19 +82,19 @@ pub data Shape : Type 0 where
   itself : Shape
   at_root : List Link → Shape
   at_name : ℕ → Text → List Link → Shape
-  in_parts : Bool → Part → List Link → Shape
+  in_parts : Bool → PathPart → List Link → Shape
 
 -- so many `../`
 abbrev pub ups : ℕ → Text
 ups zero = []
 ups (suc n) = dot ∷ dot ∷ slash ∷ ups n
 
-abbrev pub spelled : Shape → Text
-spelled itself = dot ∷ []
-spelled (at_root ss) = at_sign ∷ (codes "root" ++ spelled_links ss)
-spelled (at_name n name ss) = at_sign ∷ (ups n ++ (name ++ spelled_links ss))
-spelled (in_parts true p ss) = dot ∷ slash ∷ (spelled_part p ++ spelled_links ss)
-spelled (in_parts false p ss) = spelled_part p ++ spelled_links ss
+abbrev pub spelled_path : Shape → Text
+spelled_path itself = dot ∷ []
+spelled_path (at_root ss) = at_sign ∷ (codes "root" ++ spelled_links ss)
+spelled_path (at_name n name ss) = at_sign ∷ (ups n ++ (name ++ spelled_links ss))
+spelled_path (in_parts true p ss) = dot ∷ slash ∷ (spelled_part p ++ spelled_links ss)
+spelled_path (in_parts false p ss) = spelled_part p ++ spelled_links ss
 
 -- A variable isn't named `this`, and right behind the `@` not `root`, which is the root's own form.
 abbrev pub IsShape : Shape → Type 0
@@ -104,7 +104,7 @@ IsShape (at_name zero name ss) =
     IsIdentifier name × (bytes_eq name (codes "this") ≡ false) × (bytes_eq name (codes "root") ≡ false) ×
     AreLinks false ss
 IsShape (at_name (suc n) name ss) = IsIdentifier name × (bytes_eq name (codes "this") ≡ false) × AreLinks false ss
-IsShape (in_parts b p ss) = IsPart p × AreLinks (is_dots p) ss
+IsShape (in_parts b p ss) = IsPathPart p × AreLinks (is_dots p) ss
 
 -- ---- from the shape to the meaning
 
@@ -112,7 +112,7 @@ IsShape (in_parts b p ss) = IsPart p × AreLinks (is_dots p) ss
 abbrev pub name_segments : Text → List Segment
 name_segments n = if bytes_eq n (codes "this") then [] else named n ∷ []
 
-abbrev pub part_segments : Part → List Segment
+abbrev pub part_segments : PathPart → List Segment
 part_segments dots = up ∷ []
 part_segments (plain n) = name_segments n
 part_segments (bracketed n) = name_segments n
@@ -132,5 +132,5 @@ meaning text (in_parts b p ss) = relative (part_segments p ++ link_segments ss) 
 pub record IsPath (text : Text) (means : Reference) : Type 0 where
   pub shape : Shape
   pub fits : IsShape shape
-  pub spells : text ≡ spelled shape
+  pub spells : text ≡ spelled_path shape
   pub gives : means ≡ meaning text shape

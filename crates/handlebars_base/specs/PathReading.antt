@@ -5,8 +5,8 @@ use Rattle.std.specs.Str.{bytes_eq}
 use Rattle.std.specs.Option.{option_map}
 use Rattle.handlebars_base.specs.Bytes.{Text, dot, slash, at_sign, left_bracket, right_bracket, is_symbol}
 use Rattle.handlebars_base.specs.Optional.{◌>>=◌, with_or}
-use Rattle.handlebars_base.specs.Texts.{after, symbols_of, behind_symbols}
-use Rattle.handlebars_base.specs.Path.{Segment, root, Reference, relative, variable, raw_of, Part, dots, plain, bracketed, is_dots, Link, Shape, itself, at_root, at_name, in_parts, part_segments, link_segments, meaning}
+use Rattle.handlebars_base.specs.Texts.{behind_byte, symbols_of, behind_symbols}
+use Rattle.handlebars_base.specs.Path.{Segment, root, Reference, relative, variable, raw_of, PathPart, dots, plain, bracketed, is_dots, Link, Shape, itself, at_root, at_name, in_parts, part_segments, link_segments, meaning}
 
 -- ---- marks
 
@@ -14,9 +14,9 @@ abbrev pub is_up_mark : ℕ → ℕ → ℕ → Bool
 is_up_mark a b c = (a == dot) && ((b == dot) && (c == slash))
 
 -- what follows `../`
-unfoldable pub after_up : Text → Option Text
-after_up (a ∷ b ∷ c ∷ r) = if is_up_mark a b c then Some r else None
-after_up _ = None
+unfoldable pub behind_up : Text → Option Text
+behind_up (a ∷ b ∷ c ∷ r) = if is_up_mark a b c then Some r else None
+behind_up _ = None
 
 -- how many `../` stand at the front, on top of n, and what follows them
 unfoldable pub ups_at : ℕ → Text → ℕ × Text
@@ -26,32 +26,32 @@ ups_at n t = (n, t)
 -- ---- parts and links, each with the text behind it
 
 -- a name in brackets, behind the opening one
-unfoldable pub bracketed_at : Text → Option (Part × Text)
+unfoldable pub bracketed_at : Text → Option (PathPart × Text)
 bracketed_at t =
     if nat_lt (position_or_len (λ b. b == right_bracket) t) (length t)
     then Some (bracketed (before_first (λ b. b == right_bracket) t), after_first (λ b. b == right_bracket) t)
     else None
 
 -- an identifier, as long as it goes
-unfoldable pub plain_at : Text → Option (Part × Text)
+unfoldable pub plain_at : Text → Option (PathPart × Text)
 plain_at t = if prefix_len is_symbol t == 0 then None else Some (plain (symbols_of t), behind_symbols t)
 
 -- After one `.` only another makes a part.
-unfoldable pub part_at : Text → Option (Part × Text)
+unfoldable pub part_at : Text → Option (PathPart × Text)
 part_at t =
-    with_or (after dot t) (λ r. after dot r >>= λ r. Some (dots, r))
-    (with_or (after left_bracket t) bracketed_at (plain_at t))
+    with_or (behind_byte dot t) (λ r. behind_byte dot r >>= λ r. Some (dots, r))
+    (with_or (behind_byte left_bracket t) bracketed_at (plain_at t))
 
-abbrev pub link_by : ℕ → Part × Text → Link × Text
+abbrev pub link_by : ℕ → PathPart × Text → Link × Text
 link_by sep p = (record { sep = sep; part = p.0 }, p.1)
 
 -- A link behind a part, which is `..` or not. A `.` joins no `..`.
 unfoldable pub link_at : Bool → Text → Option (Link × Text)
 link_at before t =
-    with_or (after slash t) (λ r. part_at r >>= λ p. Some (link_by slash p))
-    (after dot t >>= λ r. part_at r >>= λ p. if before || is_dots p.0 then None else Some (link_by dot p))
+    with_or (behind_byte slash t) (λ r. part_at r >>= λ p. Some (link_by slash p))
+    (behind_byte dot t >>= λ r. part_at r >>= λ p. if before || is_dots p.0 then None else Some (link_by dot p))
 
-abbrev pub part_of_link : Link × Text → Part × Text
+abbrev pub part_of_link : Link × Text → PathPart × Text
 part_of_link q = (q.0.part, q.1)
 
 -- a link in front of those that were read behind it
@@ -75,7 +75,7 @@ pub data Start : Type 0 where
   here : Start
   from_root : Start
   from_variable : ℕ → Text → Start
-  from_part : Part → Start
+  from_part : PathPart → Start
 
 abbrev pub named_start : ℕ → Text → Start
 named_start level name = if (level == 0) && bytes_eq name (codes "root") then from_root else from_variable level name
@@ -87,17 +87,17 @@ at_sign_start u =
     then None
     else Some (named_start u.0 (symbols_of u.1), behind_symbols u.1)
 
-abbrev pub part_start : Part × Text → Option (Start × Text)
+abbrev pub part_start : PathPart × Text → Option (Start × Text)
 part_start p = Some (from_part p.0, p.1)
 
 -- A path with no `@`. A `.` that begins no `..` is followed by a `/` and a part, or by nothing of the path.
 unfoldable pub start_without_at_sign : Text → Option (Start × Text)
 start_without_at_sign t =
     with_or (part_at t) part_start
-    (after dot t >>= λ r. with_or (after slash r) (λ r. part_at r >>= part_start) (Some (here, r)))
+    (behind_byte dot t >>= λ r. with_or (behind_byte slash r) (λ r. part_at r >>= part_start) (Some (here, r)))
 
 unfoldable pub start_at : Text → Option (Start × Text)
-start_at t = with_or (after at_sign t) (λ r. at_sign_start (ups_at 0 r)) (start_without_at_sign t)
+start_at t = with_or (behind_byte at_sign t) (λ r. at_sign_start (ups_at 0 r)) (start_without_at_sign t)
 
 -- ---- whole paths
 
@@ -110,7 +110,7 @@ links_behind (from_part p) t = links_of (is_dots p) t
 
 -- whether `./` stands in front
 abbrev pub is_dotted : Text → Bool
-is_dotted t = is_some (after dot t >>= after slash)
+is_dotted t = is_some (behind_byte dot t >>= behind_byte slash)
 
 abbrev pub shape_from : Bool → Start → List Link → Shape
 shape_from dotted here ss = itself

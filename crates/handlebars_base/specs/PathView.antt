@@ -3,15 +3,15 @@ use Rattle.std.specs.Prelude.{List, map}
 use Rattle.std.specs.String.{string_bytes}
 use denote.Ref.{Bor}
 use Rattle.handlebars_base.specs.Bytes.{Text}
-use Rattle.handlebars_base.specs.Path.{Segment, named, root, local, up, Reference, relative, variable, Part, dots, plain, bracketed}
+use Rattle.handlebars_base.specs.Path.{Segment, named, root, local, up, Reference, relative, variable, PathPart, dots, plain, bracketed}
 use Rattle.handlebars_base.specs.declared.json.path.PathRule.{PathRule}
 use Rattle.handlebars_base.specs.declared.json.path.PathRule.TheVariants as rule
 use Rattle.handlebars_base.specs.declared.json.path.PathSeg.{PathSeg}
 use Rattle.handlebars_base.specs.declared.json.path.PathSeg.TheVariants.{Named, Ruled}
 use Rattle.handlebars_base.specs.declared.json.path.Path.{Path}
 use Rattle.handlebars_base.specs.declared.json.path.Path.TheVariants as path
-use Rattle.handlebars_base.specs.declared.json.path.links.Part.{Part as ReadPart}
-use Rattle.handlebars_base.specs.declared.json.path.links.Part.TheVariants as part
+use Rattle.handlebars_base.specs.declared.json.path.links.PathPart.{PathPart as ReadPart}
+use Rattle.handlebars_base.specs.declared.json.path.links.PathPart.TheVariants as part
 use Rattle.handlebars_base.specs.declared.json.path.start.Start.{Start as ReadStart}
 use Rattle.handlebars_base.specs.declared.json.path.start.Start.TheVariants as start
 use Rattle.handlebars_base.specs.declared.json.path.front.PathSlice.{PathSlice}
@@ -35,13 +35,13 @@ reference_of (path.Relative p) = relative (segments_of p.0.items) (string_bytes 
 reference_of (path.Local p) = variable p.0 (string_bytes p.1) (string_bytes p.2)
 
 -- a part, wherever its text lies
-abbrev pub part_of : ReadPart → Part
+abbrev pub part_of : ReadPart → PathPart
 part_of part.Up = dots
 part_of (part.Plain name) = plain name.now
 part_of (part.Bracketed name) = bracketed name.now
 
 -- a part, and the text behind it
-abbrev pub found_at : ReadPart × Bor (Text) → Part × Text
+abbrev pub found_at : ReadPart × Bor (Text) → PathPart × Text
 found_at x = (part_of x.0, x.1.now)
 
 abbrev pub start_of : ReadStart → Start

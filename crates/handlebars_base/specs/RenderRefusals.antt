@@ -70,10 +70,10 @@ plain_refusal r = record { reason = r; spot = nowhere }
 abbrev pub name_if_none : Text → Spot → Spot
 name_if_none n s = record s { name = option_or s.name (Some n) }
 
-abbrev pub placed : Spot → Option ℕ → ℕ → ℕ → Spot
-placed s None line column = record s { line = Some line; column = Some column }
-placed s (Some l) line column = s
+abbrev pub place_unless_known : Spot → Option ℕ → ℕ → ℕ → Spot
+place_unless_known s None line column = record s { line = Some line; column = Some column }
+place_unless_known s (Some l) line column = s
 
 -- The position of the innermost element that has one. Where no line is known, line and column are taken.
 abbrev pub place_if_none : ℕ → ℕ → Spot → Spot
-place_if_none line column s = placed s s.line line column
+place_if_none line column s = place_unless_known s s.line line column

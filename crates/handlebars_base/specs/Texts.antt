@@ -9,9 +9,9 @@ starts p [] = false
 starts p (b ∷ t) = p b
 
 -- what follows the mark c
-unfoldable pub after : ℕ → Text → Option Text
-after c [] = None
-after c (x ∷ xs) = if x == c then Some xs else None
+unfoldable pub behind_byte : ℕ → Text → Option Text
+behind_byte c [] = None
+behind_byte c (x ∷ xs) = if x == c then Some xs else None
 
 -- the longest front of symbols, and what follows it
 abbrev pub symbols_of : Text → Text
@@ -25,5 +25,5 @@ abbrev pub IsWhite : Text → Type 0
 IsWhite w = AllByRecursion (λ b. is_white b ≡ true) w
 
 -- the rest is an end of the text
-abbrev pub IsEnd : Text → Text → Type 0
-IsEnd text rest = (front : Text) × (text ≡ front ++ rest)
+abbrev pub IsSuffix : Text → Text → Type 0
+IsSuffix text rest = (front : Text) × (text ≡ front ++ rest)

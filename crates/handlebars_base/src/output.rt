@@ -5,7 +5,7 @@ ghost use Rattle.std.specs.IoError.{error_kind};
 ghost use Rattle.std.specs.declared.io.Error.{Error};
 ghost use Rattle.std.specs.declared.io.ErrorKind.TheVariants.{OutOfMemory};
 ghost use Rattle.handlebars_base.specs.RenderRefusals.{cause_of, refusal_of, plain_refusal};
-ghost use Rattle.handlebars_base.specs.Outputs.{Held, nothing, Written, held_of, write_reason};
+ghost use Rattle.handlebars_base.specs.Outputs.{Held, empty_output, Written, held_of, write_reason};
 
 use crate::error::{RenderError, RenderErrorReason};
 use std::alloc::{AllocError, Global};
@@ -37,7 +37,7 @@ pub struct StringOutput {
 impl StringOutput {
     /// Nothing yet; this takes no memory.
     pub fn new(alloc: Global) -> StringOutput
-        ensures { held_of result ≡ nothing }
+        ensures { held_of result ≡ empty_output }
     {
         StringOutput {
             text: String::new(alloc),
@@ -47,7 +47,7 @@ impl StringOutput {
 
     // Nothing yet, with room for a text of so many bytes.
     pub(crate) fn with_capacity(alloc: Global, capacity: usize) -> Result<StringOutput, AllocError>
-        ensures held { IfOk result (λ o. held_of o ≡ nothing) }
+        ensures held { IfOk result (λ o. held_of o ≡ empty_output) }
         ensures room { IfOk result (λ o. capacity ≤ string_capacity o.text) }
     {
         Ok(StringOutput {

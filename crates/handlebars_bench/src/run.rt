@@ -4,7 +4,7 @@ ghost use Rattle.std.specs.Prelude.{◌≡◌, ◌≤◌, [], Err, IfOk};
 
 use crate::failure::Failure;
 use crate::measure::{Measure, measure_work};
-use crate::words::{Task, asked};
+use crate::words::{Argument, asked};
 use crate::work::Work;
 use std::alloc::Global;
 use std::io;
@@ -59,8 +59,8 @@ fn run_tasks<C: Clock, O: Write>(
     let mut times = None;
     for word in words {
         match asked(word.as_str()) {
-            Some(Task::Times(number)) => times = Some(number),
-            Some(Task::Run(work, size)) => run_work(alloc, clock, work, size, times, out)?,
+            Some(Argument::Times(number)) => times = Some(number),
+            Some(Argument::Run(work, size)) => run_work(alloc, clock, work, size, times, out)?,
             None => {}
         }
     }

@@ -8,7 +8,7 @@ use std::rt::Env;
 
 /// What a word asks for.
 #[derive(Clone, Copy)]
-pub enum Task {
+pub enum Argument {
     /// That the works behind it are done so often, and their least times told.
     Times(u32),
     /// A work of a size.
@@ -32,27 +32,27 @@ fn failure_of_words(cause: ErrorKind) -> Failure {
 
 /// What a word asks for, if it is `times=N` with an N above 0, `WORK=SIZE`, or a work alone, which has its
 /// full size.
-pub fn asked(word: &str) -> Option<Task> {
+pub fn asked(word: &str) -> Option<Argument> {
     match word.split_once('=') {
         Some((name, number)) => asked_of(name, number.parse::<u32>().ok()?),
         None => {
             let work = Work::of_name(word)?;
-            Some(Task::Run(work, work.texts().full_size))
+            Some(Argument::Run(work, work.texts().full_size))
         }
     }
 }
 
-fn asked_of(name: &str, number: u32) -> Option<Task> {
+fn asked_of(name: &str, number: u32) -> Option<Argument> {
     if name == "times" {
         return times(number);
     }
-    Some(Task::Run(Work::of_name(name)?, number))
+    Some(Argument::Run(Work::of_name(name)?, number))
 }
 
-fn times(number: u32) -> Option<Task> {
+fn times(number: u32) -> Option<Argument> {
     if number == 0 {
         None
     } else {
-        Some(Task::Times(number))
+        Some(Argument::Times(number))
     }
 }

@@ -4,8 +4,8 @@ ghost use Rattle.std.specs.Prelude.{◌≡◌, IfOk, List, OnOk, Option, string_
 ghost use Rattle.handlebars_base.specs.Answers.{Answer};
 ghost use Rattle.handlebars_base.specs.Bytes.{Text};
 ghost use Rattle.handlebars_helpers.specs.Decoration.{Deed};
-ghost use Rattle.handlebars_helpers.specs.Own.{Asked, Offer, Step};
-ghost use Rattle.handlebars_helpers.specs.OwnDecorator.{TagAsked};
+ghost use Rattle.handlebars_helpers.specs.Own.{HelperQuestion, Offer, Step};
+ghost use Rattle.handlebars_helpers.specs.OwnDecorator.{DecoratorQuestion};
 ghost use Rattle.handlebars_meaning.specs.Answer.{FromSource, GivesText};
 ghost use Rattle.handlebars.specs.View.{options_of, parts_of, setting_of};
 
@@ -50,10 +50,10 @@ pub fn rendered_with_helper<
         (setting_of ⟦<Entries<B, F, D, G, X> as OwnParts>⟧.registered ⟦<Entries<B, F, D, G, X> as OwnParts>⟧.own
         registry.new «data».now)
         (FromSource (options_of registry.new) source.now) (string_bytes text)) }
-    ensures steps { OnOk result ((q : Asked) (a : Answer (Option (List Step)))
+    ensures steps { OnOk result ((q : HelperQuestion) (a : Answer (Option (List Step)))
         → ((parts_of ⟦<Entries<B, F, D, G, X> as OwnParts>⟧.registered ⟦<Entries<B, F, D, G, X> as OwnParts>⟧.own
         registry.new).own name.now).has_steps q a → B.has_steps helper q a) }
-    ensures offer { OnOk result ((q : Asked) (a : Answer Offer)
+    ensures offer { OnOk result ((q : HelperQuestion) (a : Answer Offer)
         → ((parts_of ⟦<Entries<B, F, D, G, X> as OwnParts>⟧.registered ⟦<Entries<B, F, D, G, X> as OwnParts>⟧.own
         registry.new).own name.now).has_offer q a → B.has_offer helper q a) }
 {
@@ -81,7 +81,7 @@ pub fn rendered_with_decorator<
         (setting_of ⟦<Entries<B, F, D, G, X> as OwnParts>⟧.registered ⟦<Entries<B, F, D, G, X> as OwnParts>⟧.own
         registry.new «data».now)
         (FromSource (options_of registry.new) source.now) (string_bytes text)) }
-    ensures deeds { OnOk result ((q : TagAsked) (a : Answer (List Deed))
+    ensures deeds { OnOk result ((q : DecoratorQuestion) (a : Answer (List Deed))
         → (parts_of ⟦<Entries<B, F, D, G, X> as OwnParts>⟧.registered ⟦<Entries<B, F, D, G, X> as OwnParts>⟧.own
         registry.new).own_decorator name.now q a → D.has_deeds decorator q a) }
 {

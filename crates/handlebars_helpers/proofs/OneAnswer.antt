@@ -6,8 +6,8 @@ use Rattle.handlebars_helpers.specs.Decoration.{Deed}
 use Rattle.handlebars_helpers.specs.DecoratorEntryView.{own_decorator_at}
 use Rattle.handlebars_helpers.specs.EntryView.{own_at}
 use Rattle.handlebars_helpers.specs.EscapeView.{own_escape_of}
-use Rattle.handlebars_helpers.specs.Own.{Asked, AnswersOnce, HasOne, Offer, Step}
-use Rattle.handlebars_helpers.specs.OwnDecorator.{TagAsked}
+use Rattle.handlebars_helpers.specs.Own.{HelperQuestion, AnswersOnce, HasOne, Offer, Step}
+use Rattle.handlebars_helpers.specs.OwnDecorator.{DecoratorQuestion}
 use Rattle.handlebars_helpers.specs.declared.decorators.entry.DecoratorEntryOf.{DecoratorEntryOf}
 use Rattle.handlebars_helpers.specs.declared.decorators.entry.DecoratorEntryOf.TheVariants as decorator
 use Rattle.handlebars_helpers.specs.declared.escape.EscapeKindOf.{EscapeKindOf}
@@ -19,14 +19,14 @@ use Rattle.handlebars_helpers.specs.declared.own.entry.HelperEntryOf.TheVariants
 one-known : {A : Type 0} (k : Answer A) → HasOne (λ a. a ≡ k)
 one-known k x y p r = ∣ p ∙ sym r ∣₁
 
-module _ {B F : Type 0} (has_steps : B → Asked → Answer (Option (List Step)) → Type 0)
-    (has_offer : B → Asked → Answer Offer → Type 0)
-    (function_steps : F → Asked → Answer (Option (List Step)) → Type 0)
-    (function_offer : F → Asked → Answer Offer → Type 0)
-    (one_steps : (h : B) (q : Asked) → HasOne (has_steps h q))
-    (one_offer : (h : B) (q : Asked) → HasOne (has_offer h q))
-    (one_function_steps : (f : F) (q : Asked) → HasOne (function_steps f q))
-    (one_function_offer : (f : F) (q : Asked) → HasOne (function_offer f q)) where
+module _ {B F : Type 0} (has_steps : B → HelperQuestion → Answer (Option (List Step)) → Type 0)
+    (has_offer : B → HelperQuestion → Answer Offer → Type 0)
+    (function_steps : F → HelperQuestion → Answer (Option (List Step)) → Type 0)
+    (function_offer : F → HelperQuestion → Answer Offer → Type 0)
+    (one_steps : (h : B) (q : HelperQuestion) → HasOne (has_steps h q))
+    (one_offer : (h : B) (q : HelperQuestion) → HasOne (has_offer h q))
+    (one_function_steps : (f : F) (q : HelperQuestion) → HasOne (function_steps f q))
+    (one_function_offer : (f : F) (q : HelperQuestion) → HasOne (function_offer f q)) where
   pub own_at-once : (name : Text) (o : Option (HelperEntryOf B F))
       → AnswersOnce (own_at has_steps has_offer function_steps function_offer name o)
   own_at-once name None = record { steps = λ q. one-known _; offer = λ q. one-known _ }
@@ -34,11 +34,11 @@ module _ {B F : Type 0} (has_steps : B → Asked → Answer (Option (List Step))
   own_at-once name (Some (Own h)) = record { steps = one_steps h; offer = one_offer h }
   own_at-once name (Some (Function f)) = record { steps = one_function_steps f; offer = one_function_offer f }
 
-module _ {D G : Type 0} (has_deeds : D → TagAsked → Answer (List Deed) → Type 0)
-    (function_deeds : G → TagAsked → Answer (List Deed) → Type 0)
-    (one_deeds : (d : D) (q : TagAsked) → HasOne (has_deeds d q))
-    (one_function_deeds : (f : G) (q : TagAsked) → HasOne (function_deeds f q)) where
-  pub own_decorator_at-once : (name : Text) (o : Option (DecoratorEntryOf D G)) (q : TagAsked)
+module _ {D G : Type 0} (has_deeds : D → DecoratorQuestion → Answer (List Deed) → Type 0)
+    (function_deeds : G → DecoratorQuestion → Answer (List Deed) → Type 0)
+    (one_deeds : (d : D) (q : DecoratorQuestion) → HasOne (has_deeds d q))
+    (one_function_deeds : (f : G) (q : DecoratorQuestion) → HasOne (function_deeds f q)) where
+  pub own_decorator_at-once : (name : Text) (o : Option (DecoratorEntryOf D G)) (q : DecoratorQuestion)
       → HasOne (own_decorator_at has_deeds function_deeds name o q)
   own_decorator_at-once name None q = one-known _
   own_decorator_at-once name (Some decorator.Inline) q = one-known _

@@ -6,9 +6,9 @@ use Rattle.serde_json.specs.declared.value.Value.{Value}
 use Rattle.handlebars_base.specs.Bytes.{Text}
 use Rattle.handlebars_base.specs.Optional.{with_or}
 use Rattle.handlebars_template.specs.Tree.{Binding}
-use Rattle.handlebars_scope.specs.Scopes.{Bound, Frame, Base, at_path, at_value, based, bound_base, put_at}
+use Rattle.handlebars_scope.specs.Scopes.{Bound, Frame, Base, at_path, at_value, frame_at, bound_base, put_at}
 use Rattle.handlebars_helpers.specs.Choice.{body_in_turns, turns_or_inverse}
-use Rattle.handlebars_helpers.specs.Turns.{Turn, item_turns, item_count, member_turns, member_count, turn_base, turn_key, turn_variables, with_key, bound_in_turn, turned}
+use Rattle.handlebars_helpers.specs.Turns.{Turn, item_turns, item_count, member_turns, member_count, turn_base, turn_key, turn_variables, with_key, bound_in_turn, turn_frame}
 
 pub turns_or_inverse-items : (path : Option (List Text)) (vs : List Value) → (length vs == 0) ≡ false
     → body_in_turns path (item_turns (item_count (items_view vs)) 0 (items_view vs))
@@ -24,9 +24,9 @@ turns_or_inverse-members path [] is = absurd (true≢false (sym (is refl)))
 turns_or_inverse-members path (m ∷ ms) is = refl
 
 -- a base leaves the variables as they are
-pub variable-based : (base : Base) (f : Frame) → (based base f).variable ≡ f.variable
-variable-based (at_path path) f = refl
-variable-based (at_value d) f = refl
+pub variable-frame_at : (base : Base) (f : Frame) → (frame_at base f).variable ≡ f.variable
+variable-frame_at (at_path path) f = refl
+variable-frame_at (at_value d) f = refl
 
 pub some-now : (key : Option (Bor Text)) → true ≡ is_some key → true ≡ is_some (option_map (λ k. k.now) key)
 some-now None is = absurd (true≢false is)
@@ -53,16 +53,16 @@ turn_variables-keyed t f g h keyed all_turns with_own =
     ∙ ap (λ (v : Text → Option Data). record f { variable = v }) (put-key t.key (number (unsigned t.index)) every keyed)
 
 -- a frame set up part by part: its base, its names, its variables
-pub turned-is : (path : Option (List Text)) (binding : Binding) (t : Turn) (f g h k : Frame)
-    → g ≡ based (turn_base path t) f
+pub turn_frame-is : (path : Option (List Text)) (binding : Binding) (t : Turn) (f g h k : Frame)
+    → g ≡ frame_at (turn_base path t) f
     → h ≡ record g { bound = bound_in_turn binding (bound_base (turn_base path t)) (turn_key t) }
     → k ≡ record h { variable = turn_variables t h.variable }
-    → k ≡ turned path binding t f
-turned-is path binding t f g h k at_base with_bound with_variables =
+    → k ≡ turn_frame path binding t f
+turn_frame-is path binding t f g h k at_base with_bound with_variables =
     let base = turn_base path t in
     let names : Text → Option Bound = bound_in_turn binding (bound_base base) (turn_key t) in
     let own : Frame → Frame = λ x. record x { variable = turn_variables t x.variable } in
     let last : (Text → Option Data) → Frame =
-    λ v. record (based base f) { bound = names; variable = turn_variables t v } in
+    λ v. record (frame_at base f) { bound = names; variable = turn_variables t v } in
     with_variables ∙ ap own with_bound ∙ ap (λ x. own (record x { bound = names })) at_base
-    ∙ ap last (variable-based base f)
+    ∙ ap last (variable-frame_at base f)

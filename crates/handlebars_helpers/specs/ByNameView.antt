@@ -11,8 +11,8 @@ module _ {E : Type 0} where
   entry_at entries name = get_by_text entries.by_name name
 
   -- The entry, or none, stands under the name now, and under each other name what stood there.
-  abbrev pub Puts : ByName E → ByName E → Text → Option E → Type 0
-  Puts old new name entry = (other : Text) → entry_at new other ≡ cond (bytes_eq name other) entry (entry_at old other)
+  abbrev pub PutsEntry : ByName E → ByName E → Text → Option E → Type 0
+  PutsEntry old new name entry = (other : Text) → entry_at new other ≡ cond (bytes_eq name other) entry (entry_at old other)
 
   -- Under each name stands what stood there.
   abbrev pub HasSame : ByName E → ByName E → Type 0

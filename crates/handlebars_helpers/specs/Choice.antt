@@ -157,23 +157,23 @@ of_two strict helper h test = answer_map (λ d. the_word (test d.0 d.1)) (two_va
 -- `if` gives the body where its condition is true, `unless` where it is not; both give the inverse otherwise. `each`
 -- gives the body in turns, and `with` in a block. `lookup` and `len` give a value. `raw` gives the body, and `log` its
 -- line. The others are boolean.
-abbrev pub chosen : Bool → Kind → HelperView → Answer Choice
-chosen strict kind_if h = answer_map body_if (condition h.call)
-chosen strict kind_unless h = answer_map (λ b. body_if (not b)) (condition h.call)
-chosen strict kind_each h = by_param (codes "each") 0 h.call (each_choice strict h)
-chosen strict kind_with h = by_param (codes "with") 0 h.call (with_choice strict h)
-chosen strict kind_lookup h =
+abbrev pub built_in_choice : Bool → Kind → HelperView → Answer Choice
+built_in_choice strict kind_if h = answer_map body_if (condition h.call)
+built_in_choice strict kind_unless h = answer_map (λ b. body_if (not b)) (condition h.call)
+built_in_choice strict kind_each h = by_param (codes "each") 0 h.call (each_choice strict h)
+built_in_choice strict kind_with h = by_param (codes "with") 0 h.call (with_choice strict h)
+built_in_choice strict kind_lookup h =
     by_param (codes "lookup") 0 h.call (λ p. by_param (codes "lookup") 1 h.call (λ key.
     lookup_choice strict (data_in p.found) (data_in key.found)))
-chosen strict kind_raw h = gives the_body
-chosen strict kind_log h = answer_map (λ line. the_line line.0 line.1) (log_line h.call)
-chosen strict kind_eq h = of_two strict (codes "eq") h equals
-chosen strict kind_ne h = of_two strict (codes "ne") h differ
-chosen strict kind_gt h = of_two strict (codes "gt") h greater
-chosen strict kind_gte h = of_two strict (codes "gte") h greater_or_equal
-chosen strict kind_lt h = of_two strict (codes "lt") h less
-chosen strict kind_lte h = of_two strict (codes "lte") h less_or_equal
-chosen strict kind_and h = gives (the_word (all_true h.call.params))
-chosen strict kind_or h = gives (the_word (some_true h.call.params))
-chosen strict kind_not h = answer_map (λ b. the_word b) (negation strict h.call)
-chosen strict kind_len h = answer_map (λ n. the_value (number (unsigned n))) (len strict h.call)
+built_in_choice strict kind_raw h = gives the_body
+built_in_choice strict kind_log h = answer_map (λ line. the_line line.0 line.1) (log_line h.call)
+built_in_choice strict kind_eq h = of_two strict (codes "eq") h equals
+built_in_choice strict kind_ne h = of_two strict (codes "ne") h differ
+built_in_choice strict kind_gt h = of_two strict (codes "gt") h greater
+built_in_choice strict kind_gte h = of_two strict (codes "gte") h greater_or_equal
+built_in_choice strict kind_lt h = of_two strict (codes "lt") h less
+built_in_choice strict kind_lte h = of_two strict (codes "lte") h less_or_equal
+built_in_choice strict kind_and h = gives (the_word (all_true h.call.params))
+built_in_choice strict kind_or h = gives (the_word (some_true h.call.params))
+built_in_choice strict kind_not h = answer_map (λ b. the_word b) (negation strict h.call)
+built_in_choice strict kind_len h = answer_map (λ n. the_value (number (unsigned n))) (len strict h.call)

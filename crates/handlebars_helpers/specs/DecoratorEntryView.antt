@@ -4,7 +4,7 @@ use Rattle.handlebars_base.specs.Answers.{Answer}
 use Rattle.handlebars_base.specs.Bytes.{Text}
 use Rattle.handlebars_helpers.specs.ByNameView.{entry_at}
 use Rattle.handlebars_helpers.specs.Decoration.{Deed, DecoratorKind, kind_inline, kind_own}
-use Rattle.handlebars_helpers.specs.OwnDecorator.{OwnDecorator, TagAsked, no_own_decorator}
+use Rattle.handlebars_helpers.specs.OwnDecorator.{OwnDecorator, DecoratorQuestion, no_own_decorator}
 use Rattle.handlebars_helpers.specs.declared.by_name.ByName.{ByName}
 use Rattle.handlebars_helpers.specs.declared.decorators.entry.DecoratorEntryOf.{DecoratorEntryOf}
 use Rattle.handlebars_helpers.specs.declared.decorators.entry.DecoratorEntryOf.TheVariants.{Inline, Own, Function}
@@ -21,8 +21,8 @@ module _ {D G : Type 0} where
   decorators_of decorators name = option_map (decorator_kind name) (entry_at decorators name)
 
   -- What the decorator of one's own under this name answers, by what those that are kept answer.
-  module _ (has_deeds : D → TagAsked → Answer (List Deed) → Type 0)
-      (function_deeds : G → TagAsked → Answer (List Deed) → Type 0) where
+  module _ (has_deeds : D → DecoratorQuestion → Answer (List Deed) → Type 0)
+      (function_deeds : G → DecoratorQuestion → Answer (List Deed) → Type 0) where
     abbrev pub own_decorator_at : Text → Option (DecoratorEntryOf D G) → OwnDecorator
     own_decorator_at name None = no_own_decorator name
     own_decorator_at name (Some Inline) = no_own_decorator name

@@ -10,7 +10,7 @@ use Rattle.handlebars_scope.specs.Contexts.{data_of}
 use Rattle.handlebars_scope.specs.declared.context.Context.{Context}
 use Rattle.serde_json.specs.View.{view}
 use Rattle.handlebars_helpers.specs.Decoration.{DecoratorKind, kind_inline, kind_own, DecoratorView, Deed, sets_data, binds, unbinds, sets_partial}
-use Rattle.handlebars_helpers.specs.OwnDecorator.{TagAsked}
+use Rattle.handlebars_helpers.specs.OwnDecorator.{DecoratorQuestion}
 use Rattle.handlebars_helpers.specs.declared.decorators.DecoratorKind as declared
 use Rattle.handlebars_helpers.specs.declared.decorators.DecoratorKind.TheVariants as kind
 use Rattle.handlebars_helpers.specs.declared.decorators.DecoratorStep.{DecoratorStep}
@@ -45,8 +45,8 @@ abbrev pub deeds_of : Vec DecoratorStep Global → List Deed
 deeds_of steps = map deed_of steps.items
 
 -- what a decorator is asked about, by what it is shown
-abbrev pub tag_asked_with : Decorator → Context → Option (Bor Context) → Bool → TagAsked
-tag_asked_with d given changed strict = record {
+abbrev pub decorator_question_of : Decorator → Context → Option (Bor Context) → Bool → DecoratorQuestion
+decorator_question_of d given changed strict = record {
   view = tag_view d;
   given = data_of given;
   changed = option_map (λ c. data_of c.now) changed;

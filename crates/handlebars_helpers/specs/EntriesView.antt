@@ -7,22 +7,22 @@ use Rattle.handlebars_helpers.specs.Decoration.{Deed}
 use Rattle.handlebars_helpers.specs.DecoratorEntryView.{decorators_of, own_decorator_at}
 use Rattle.handlebars_helpers.specs.EntryView.{callees_of, own_at}
 use Rattle.handlebars_helpers.specs.EscapeView.{kind_escaping, own_escape_of}
-use Rattle.handlebars_helpers.specs.Own.{Asked, Step, Offer}
-use Rattle.handlebars_helpers.specs.OwnAnswers.{OwnAnswers, Registered}
-use Rattle.handlebars_helpers.specs.OwnDecorator.{TagAsked}
+use Rattle.handlebars_helpers.specs.Own.{HelperQuestion, Step, Offer}
+use Rattle.handlebars_helpers.specs.OwnAnswers.{OwnAnswers, Registrations}
+use Rattle.handlebars_helpers.specs.OwnDecorator.{DecoratorQuestion}
 use Rattle.handlebars_helpers.specs.declared.entries.Entries.{Entries}
 
 module _ {B F D G X : Type 0} where
-  abbrev pub registered_in : Entries B F D G X → Registered
+  abbrev pub registered_in : Entries B F D G X → Registrations
   registered_in e = record {
     helper = callees_of e.helpers;
     decorator = decorators_of e.decorators;
     escape = kind_escaping e.escape;
   }
 
-  module _ (has_steps : B → Asked → Answer (Option (List Step)) → Type 0) (has_offer : B → Asked → Answer Offer → Type 0)
-      (function_steps : F → Asked → Answer (Option (List Step)) → Type 0) (function_offer : F → Asked → Answer Offer → Type 0)
-      (has_deeds : D → TagAsked → Answer (List Deed) → Type 0) (function_deeds : G → TagAsked → Answer (List Deed) → Type 0)
+  module _ (has_steps : B → HelperQuestion → Answer (Option (List Step)) → Type 0) (has_offer : B → HelperQuestion → Answer Offer → Type 0)
+      (function_steps : F → HelperQuestion → Answer (Option (List Step)) → Type 0) (function_offer : F → HelperQuestion → Answer Offer → Type 0)
+      (has_deeds : D → DecoratorQuestion → Answer (List Deed) → Type 0) (function_deeds : G → DecoratorQuestion → Answer (List Deed) → Type 0)
       (has_escaped : X → Text → Answer Text → Type 0) where
     abbrev pub own_answers : Entries B F D G X → OwnAnswers
     own_answers e = record {

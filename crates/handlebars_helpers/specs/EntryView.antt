@@ -4,7 +4,7 @@ use Rattle.handlebars_base.specs.Answers.{Answer}
 use Rattle.handlebars_base.specs.Bytes.{Text}
 use Rattle.handlebars_helpers.specs.ByNameView.{entry_at}
 use Rattle.handlebars_helpers.specs.Callee.{Callee, built, own}
-use Rattle.handlebars_helpers.specs.Own.{Asked, Step, Offer, OwnHelper, no_own}
+use Rattle.handlebars_helpers.specs.Own.{HelperQuestion, Step, Offer, OwnHelper, no_own}
 use Rattle.handlebars_helpers.specs.View.{kind_of}
 use Rattle.handlebars_helpers.specs.declared.by_name.ByName.{ByName}
 use Rattle.handlebars_helpers.specs.declared.own.entry.HelperEntryOf.{HelperEntryOf}
@@ -22,8 +22,8 @@ module _ {B F : Type 0} where
   callees_of helpers name = option_map (entry_callee name) (entry_at helpers name)
 
   -- What the helper of one's own under this name answers, by what those that are kept answer.
-  module _ (has_steps : B → Asked → Answer (Option (List Step)) → Type 0) (has_offer : B → Asked → Answer Offer → Type 0)
-      (function_steps : F → Asked → Answer (Option (List Step)) → Type 0) (function_offer : F → Asked → Answer Offer → Type 0) where
+  module _ (has_steps : B → HelperQuestion → Answer (Option (List Step)) → Type 0) (has_offer : B → HelperQuestion → Answer Offer → Type 0)
+      (function_steps : F → HelperQuestion → Answer (Option (List Step)) → Type 0) (function_offer : F → HelperQuestion → Answer Offer → Type 0) where
     abbrev pub own_at : Text → Option (HelperEntryOf B F) → OwnHelper
     own_at name None = no_own name
     own_at name (Some (Built kind)) = no_own name

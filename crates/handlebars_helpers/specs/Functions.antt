@@ -11,8 +11,8 @@ use Rattle.handlebars_helpers.specs.Own.{HasOne}
 use Rattle.handlebars_helpers.specs.declared.refusal.FnRefusal.{FnRefusal}
 
 -- What a call that was made says, which is nothing at want of memory.
-abbrev pub Says : {T A : Type 0} → (T → A) → Result T FnRefusal → Answer A → Type 0
-Says seen r a =
+abbrev pub ResultSays : {T A : Type 0} → (T → A) → Result T FnRefusal → Answer A → Type 0
+ResultSays seen r a =
     MatchResult r (λ x. a ≡ gives (seen x)) (λ e. (refused_for e ≢ out_of_memory) × (a ≡ refuses_for (refused_for e)))
 
 -- the results that a function may have: for a view, the data, the data in its place, and whether the mode is strict
@@ -29,7 +29,7 @@ module _ {V Q T A : Type 0} (asked : V → Context → Option (Bor Context) → 
     pub result : Result T FnRefusal
     pub asks : asked view.now given.now changed.now strict ≡ q
     pub has : results view given changed strict result
-    pub says : Says seen result a
+    pub says : ResultSays seen result a
 
   -- To each question there is at most one answer, whichever call asks it.
   abbrev pub AnswersOnceAt : Results V T → Type 0

@@ -9,7 +9,7 @@ use Rattle.handlebars_helpers.specs.CallView.{HelperView}
 
 -- what a helper is asked about: the view of its call, the data, the data that stands in its place if it was changed, and
 -- whether the mode is strict
-pub record Asked : Type 0 where
+pub record HelperQuestion : Type 0 where
   pub view : HelperView
   pub given : Data
   pub changed : Option Data
@@ -30,8 +30,8 @@ pub data Offer : Type 0 where
 
 -- A helper: the answers that it has when it is called, steps or none, and when it is asked for a value.
 pub record OwnHelper : Type 1 where
-  pub has_steps : Asked → Answer (Option (List Step)) → Type 0
-  pub has_offer : Asked → Answer Offer → Type 0
+  pub has_steps : HelperQuestion → Answer (Option (List Step)) → Type 0
+  pub has_offer : HelperQuestion → Answer Offer → Type 0
 
 -- there is at most one answer: two are one, though it is not told how
 abbrev pub HasOne : {A : Type 0} → (Answer A → Type 0) → Type 0
@@ -39,8 +39,8 @@ HasOne {A = A} has = (x y : Answer A) → has x → has y → ∥ x ≡ y ∥₁
 
 -- the law of helpers: to each question there is at most one answer
 pub record AnswersOnce (own : OwnHelper) : Type 0 where
-  pub steps : (q : Asked) → HasOne (own.has_steps q)
-  pub offer : (q : Asked) → HasOne (own.has_offer q)
+  pub steps : (q : HelperQuestion) → HasOne (own.has_steps q)
+  pub offer : (q : HelperQuestion) → HasOne (own.has_offer q)
 
 -- where no helper of one's own has the name
 abbrev pub no_own : Text → OwnHelper

@@ -5,10 +5,10 @@ use Rattle.handlebars_helpers.specs.Callee.{Callee}
 use Rattle.handlebars_helpers.specs.Decoration.{DecoratorKind}
 use Rattle.handlebars_helpers.specs.Escaping.{Escaping, OwnEscape}
 use Rattle.handlebars_helpers.specs.Own.{OwnHelper, AnswersOnce, HasOne}
-use Rattle.handlebars_helpers.specs.OwnDecorator.{OwnDecorator, TagAsked}
+use Rattle.handlebars_helpers.specs.OwnDecorator.{OwnDecorator, DecoratorQuestion}
 
 -- by name, which helper and which decorator stands there, if any does; and how values are escaped
-pub record Registered : Type 0 where
+pub record Registrations : Type 0 where
   pub helper : Text → Option Callee
   pub decorator : Text → Option DecoratorKind
   pub escape : Escaping
@@ -22,5 +22,5 @@ pub record OwnAnswers : Type 1 where
 -- Nothing has two answers to one question.
 pub record HaveOne (own : OwnAnswers) : Type 0 where
   pub helpers : (name : Text) → AnswersOnce (own.helper name)
-  pub decorators : (name : Text) (q : TagAsked) → HasOne (own.decorator name q)
+  pub decorators : (name : Text) (q : DecoratorQuestion) → HasOne (own.decorator name q)
   pub escape : (t : Text) → HasOne (own.escape t)

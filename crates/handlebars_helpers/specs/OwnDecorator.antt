@@ -8,7 +8,7 @@ use Rattle.handlebars_helpers.specs.Decoration.{DecoratorView, Deed}
 
 -- what a decorator is asked about: the view of its tag, the data, the data that stands in its place if it was changed, and
 -- whether the mode is strict
-pub record TagAsked : Type 0 where
+pub record DecoratorQuestion : Type 0 where
   pub view : DecoratorView
   pub given : Data
   pub changed : Option Data
@@ -16,7 +16,7 @@ pub record TagAsked : Type 0 where
 
 -- A decorator: the answers that it has for a tag, its deeds in order.
 abbrev pub OwnDecorator : Type 1
-OwnDecorator = TagAsked → Answer (List Deed) → Type 0
+OwnDecorator = DecoratorQuestion → Answer (List Deed) → Type 0
 
 -- where no decorator of one's own has the name
 abbrev pub no_own_decorator : Text → OwnDecorator

@@ -12,7 +12,7 @@ use Rattle.handlebars_scope.specs.Contexts.{data_of}
 use Rattle.handlebars_scope.specs.ScopeView.{frame_of}
 use Rattle.handlebars_scope.specs.declared.context.Context.{Context}
 use Rattle.handlebars_helpers.specs.Callee as plain
-use Rattle.handlebars_helpers.specs.Own.{Asked, Step, writes, renders_body, renders_inverse, renders_body_in, Offer, not_offered, offers_missing, offers}
+use Rattle.handlebars_helpers.specs.Own.{HelperQuestion, Step, writes, renders_body, renders_inverse, renders_body_in, Offer, not_offered, offers_missing, offers}
 use Rattle.handlebars_helpers.specs.View.{helper_view, kind_of}
 use Rattle.handlebars_helpers.specs.declared.own.Callee.{Callee}
 use Rattle.handlebars_helpers.specs.declared.own.Callee.TheVariants.{Built, Own}
@@ -51,8 +51,8 @@ IsOneOf has seen r =
     MatchResult r (λ x. has (gives (seen x))) (λ e. reason_in e ≢ out_of_memory → has (refuses (refusal_of e)))
 
 -- what a helper is asked about, by what it is shown
-abbrev pub asked_with : Helper → Context → Option (Bor Context) → Bool → Asked
-asked_with h given changed strict = record {
+abbrev pub helper_question_of : Helper → Context → Option (Bor Context) → Bool → HelperQuestion
+helper_question_of h given changed strict = record {
   view = helper_view h;
   given = data_of given;
   changed = option_map (λ c. data_of c.now) changed;

@@ -4,7 +4,7 @@ use Rattle.serde_json.specs.Data.{Data, null, boolean, number, unsigned, string,
 use Rattle.handlebars_base.specs.Bytes.{Text}
 use Rattle.handlebars_base.specs.Optional.{with_or}
 use Rattle.handlebars_template.specs.Tree.{Binding, no_binding, single, both}
-use Rattle.handlebars_scope.specs.Scopes.{nothing_at, put_at, Bound, bound_value, Frame, empty_frame, Base, at_path, at_value, based, bound_base}
+use Rattle.handlebars_scope.specs.Scopes.{nothing_at, put_at, Bound, bound_value, Frame, empty_frame, Base, at_path, at_value, frame_at, bound_base}
 use Rattle.handlebars_helpers.specs.CallView.{single_name, both_names}
 
 -- ---- turns
@@ -97,10 +97,10 @@ bound_in_turn (single p) b key = bind_one (single_name (single p)) b
 bound_in_turn (both p q) b key = bind_both (both_names (both p q)) b (bound_value key)
 
 -- The block of `each`, set up for a turn. What else it holds goes on from turn to turn.
-abbrev pub turned : Option (List Text) → Binding → Turn → Frame → Frame
-turned path binding t f =
+abbrev pub turn_frame : Option (List Text) → Binding → Turn → Frame → Frame
+turn_frame path binding t f =
     let base = turn_base path t in
-    record (based base f) {
+    record (frame_at base f) {
       bound = bound_in_turn binding (bound_base base) (turn_key t);
       variable = turn_variables t f.variable;
     }
@@ -108,4 +108,4 @@ turned path binding t f =
 -- The block of `with`: it stands at its base, to which the name that is bound alone is bound, and it has these variables.
 abbrev pub with_block : Base → Binding → (Text → Option Data) → Frame
 with_block base binding variables =
-    record (based base empty_frame) { bound = bind_one (single_name binding) (bound_base base); variable = variables }
+    record (frame_at base empty_frame) { bound = bind_one (single_name binding) (bound_base base); variable = variables }

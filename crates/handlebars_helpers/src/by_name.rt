@@ -19,7 +19,7 @@ pub struct ByName<E> {
 }
 
 impl<E: Drop> ByName<E> {
-    ghost use Rattle.handlebars_helpers.specs.ByNameView.{HasSame, Puts, entry_at};
+    ghost use Rattle.handlebars_helpers.specs.ByNameView.{HasSame, PutsEntry, entry_at};
 
     /// No entries.
     pub fn new(alloc: Global) -> ByName<E>
@@ -43,7 +43,7 @@ impl<E: Drop> ByName<E> {
 
     /// Puts an entry under a name, in place of one that stood there. Where memory is refused, none is changed.
     pub fn insert(&mut self, name: String, entry: E) -> Result<(), AllocError>
-        ensures ok { OnOk result (Puts self.old self.new (string_bytes name) (Some entry)) }
+        ensures ok { OnOk result (PutsEntry self.old self.new (string_bytes name) (Some entry)) }
         ensures err { OnErr result (HasSame self.old self.new) }
     {
         mark(&mut self.marks, &name);
@@ -53,7 +53,7 @@ impl<E: Drop> ByName<E> {
 
     /// Takes the entry under a name away, where one stands there.
     pub fn remove(&mut self, name: &str)
-        ensures { Puts self.old self.new name.now None }
+        ensures { PutsEntry self.old self.new name.now None }
     {
         self.by_name.remove(name);
     }

@@ -7,7 +7,7 @@ ghost use Rattle.handlebars_base.specs.Answers.{Answers};
 ghost use Rattle.handlebars_base.specs.PathAndData.{path_and_data};
 ghost use Rattle.handlebars_base.specs.Reasons.{missing_variable};
 ghost use Rattle.handlebars_base.specs.RenderRefusals.{plain_refusal, refusal_of};
-ghost use Rattle.handlebars_helpers.specs.Choice.{body_if, chosen, condition, each_choice, includes_zero, inverse_or_refusal, looked_up, lookup_choice, of_two, turns_or_inverse, with_choice};
+ghost use Rattle.handlebars_helpers.specs.Choice.{body_if, built_in_choice, condition, each_choice, includes_zero, inverse_or_refusal, looked_up, lookup_choice, of_two, turns_or_inverse, with_choice};
 ghost use Rattle.handlebars_helpers.specs.Choice.{kind_and, kind_each, kind_if, kind_len, kind_log, kind_lookup, kind_not, kind_or, kind_unless, kind_with};
 ghost use Rattle.handlebars_helpers.specs.Turns.{turns_of};
 ghost use Rattle.handlebars_helpers.specs.View.{choice_of, helper_view, kind_of, path_view, test_of};
@@ -56,7 +56,7 @@ pub fn choose<'h>(
     kind: BuiltIn,
     helper: &'h Helper,
 ) -> Result<Choice<'h>, RenderError>
-    ensures { Answers choice_of result (chosen strict (kind_of kind) (helper_view helper.now)) }
+    ensures { Answers choice_of result (built_in_choice strict (kind_of kind) (helper_view helper.now)) }
 {
     match kind {
         BuiltIn::If => choose_if(helper),
@@ -84,13 +84,13 @@ pub fn choose<'h>(
 // Where strict mode changes nothing, the clause says `chosen false`, which is `chosen true` as well.
 
 fn choose_if<'h>(helper: &Helper) -> Result<Choice<'h>, RenderError>
-    ensures { Answers choice_of result (chosen false kind_if (helper_view helper.now)) }
+    ensures { Answers choice_of result (built_in_choice false kind_if (helper_view helper.now)) }
 {
     Ok(body_if(condition(helper)?))
 }
 
 fn choose_unless<'h>(helper: &Helper) -> Result<Choice<'h>, RenderError>
-    ensures { Answers choice_of result (chosen false kind_unless (helper_view helper.now)) }
+    ensures { Answers choice_of result (built_in_choice false kind_unless (helper_view helper.now)) }
 {
     Ok(body_if(!condition(helper)?))
 }
@@ -100,7 +100,7 @@ fn choose_each<'h>(
     strict: bool,
     helper: &'h Helper,
 ) -> Result<Choice<'h>, RenderError>
-    ensures { Answers choice_of result (chosen strict kind_each (helper_view helper.now)) }
+    ensures { Answers choice_of result (built_in_choice strict kind_each (helper_view helper.now)) }
 {
     each_choice(alloc, strict, helper, parameter(helper, "each", 0)?)
 }
@@ -110,13 +110,13 @@ fn choose_with<'h>(
     strict: bool,
     helper: &'h Helper,
 ) -> Result<Choice<'h>, RenderError>
-    ensures { Answers choice_of result (chosen strict kind_with (helper_view helper.now)) }
+    ensures { Answers choice_of result (built_in_choice strict kind_with (helper_view helper.now)) }
 {
     with_choice(alloc, strict, helper, parameter(helper, "with", 0)?)
 }
 
 fn choose_lookup<'h>(strict: bool, helper: &'h Helper) -> Result<Choice<'h>, RenderError>
-    ensures { Answers choice_of result (chosen strict kind_lookup (helper_view helper.now)) }
+    ensures { Answers choice_of result (built_in_choice strict kind_lookup (helper_view helper.now)) }
 {
     let value = parameter(helper, "lookup", 0)?;
     let key = parameter(helper, "lookup", 1)?;
@@ -124,7 +124,7 @@ fn choose_lookup<'h>(strict: bool, helper: &'h Helper) -> Result<Choice<'h>, Ren
 }
 
 fn choose_line<'h>(alloc: Global, helper: &Helper) -> Result<Choice<'h>, RenderError>
-    ensures { Answers choice_of result (chosen false kind_log (helper_view helper.now)) }
+    ensures { Answers choice_of result (built_in_choice false kind_log (helper_view helper.now)) }
 {
     let (level, text) = log_record(alloc, helper)?;
     Ok(Choice::Line(level, text))
@@ -143,25 +143,25 @@ fn choose_by_test<'h>(
 }
 
 fn choose_and<'h>(helper: &Helper) -> Result<Choice<'h>, RenderError>
-    ensures { Answers choice_of result (chosen false kind_and (helper_view helper.now)) }
+    ensures { Answers choice_of result (built_in_choice false kind_and (helper_view helper.now)) }
 {
     Ok(Choice::Word(all_true(helper.params())))
 }
 
 fn choose_or<'h>(helper: &Helper) -> Result<Choice<'h>, RenderError>
-    ensures { Answers choice_of result (chosen false kind_or (helper_view helper.now)) }
+    ensures { Answers choice_of result (built_in_choice false kind_or (helper_view helper.now)) }
 {
     Ok(Choice::Word(some_true(helper.params())))
 }
 
 fn choose_not<'h>(strict: bool, helper: &Helper) -> Result<Choice<'h>, RenderError>
-    ensures { Answers choice_of result (chosen strict kind_not (helper_view helper.now)) }
+    ensures { Answers choice_of result (built_in_choice strict kind_not (helper_view helper.now)) }
 {
     Ok(Choice::Word(negation(strict, helper)?))
 }
 
 fn choose_len<'h>(alloc: Global, strict: bool, helper: &Helper) -> Result<Choice<'h>, RenderError>
-    ensures { Answers choice_of result (chosen strict kind_len (helper_view helper.now)) }
+    ensures { Answers choice_of result (built_in_choice strict kind_len (helper_view helper.now)) }
 {
     Ok(Choice::Count(len(alloc, strict, helper)?))
 }

@@ -7,12 +7,12 @@ ghost use Rattle.handlebars_base.specs.Reasons.{decorator_not_found, helper_not_
 ghost use Rattle.handlebars_base.specs.RenderRefusals.{plain_refusal};
 ghost use Rattle.handlebars_helpers.specs.Callee.{first_callee};
 ghost use Rattle.handlebars_helpers.specs.Decoration.{built_in_decorator};
-ghost use Rattle.handlebars_helpers.specs.DecoratorsView.{decorator_called, deeds_of, tag_asked_with};
+ghost use Rattle.handlebars_helpers.specs.DecoratorsView.{decorator_called, deeds_of, decorator_question_of};
 ghost use Rattle.handlebars_helpers.specs.EntriesView.{own_answers, registered_in};
 ghost use Rattle.handlebars_helpers.specs.EscapeView.{escaping_of};
 ghost use Rattle.handlebars_helpers.specs.Escaping.{for_html};
-ghost use Rattle.handlebars_helpers.specs.OwnAnswers.{HaveOne, OwnAnswers, Registered};
-ghost use Rattle.handlebars_helpers.specs.OwnView.{IsOneOf, asked_with, callee_of, offer_of, steps_of};
+ghost use Rattle.handlebars_helpers.specs.OwnAnswers.{HaveOne, OwnAnswers, Registrations};
+ghost use Rattle.handlebars_helpers.specs.OwnView.{IsOneOf, helper_question_of, callee_of, offer_of, steps_of};
 
 use crate::by_name::ByName;
 use crate::decorators::def::DecoratorDef;
@@ -74,7 +74,7 @@ fn no_decorator(alloc: Global, name: &str) -> RenderError
 /// What is registered, as it is asked for: the parts of one's own answer by their names.
 pub trait OwnParts: Drop {
     // What stands under names, and the answers that there are.
-    ghost registered: { Self → Registered };
+    ghost registered: { Self → Registrations };
 
     ghost own: { Self → OwnAnswers };
 
@@ -107,7 +107,7 @@ pub trait OwnParts: Drop {
         changed: Option<&Context>,
         strict: bool,
     ) -> HelperResult
-        ensures { IsOneOf (((own self.now).helper name.now).has_steps (asked_with h.now given.now changed.entry strict)) steps_of result };
+        ensures { IsOneOf (((own self.now).helper name.now).has_steps (helper_question_of h.now given.now changed.entry strict)) steps_of result };
 
     /// What it offers when it is asked for a value.
     fn offer_of(
@@ -118,7 +118,7 @@ pub trait OwnParts: Drop {
         changed: Option<&Context>,
         strict: bool,
     ) -> Result<HelperValue, RenderError>
-        ensures { IsOneOf (((own self.now).helper name.now).has_offer (asked_with h.now given.now changed.entry strict)) offer_of result };
+        ensures { IsOneOf (((own self.now).helper name.now).has_offer (helper_question_of h.now given.now changed.entry strict)) offer_of result };
 
     /// What the decorator of one's own under a name answers for a tag. `DecoratorNotFound` where none has
     /// the name.
@@ -130,7 +130,7 @@ pub trait OwnParts: Drop {
         changed: Option<&Context>,
         strict: bool,
     ) -> DecoratorResult
-        ensures { IsOneOf ((own self.now).decorator name.now (tag_asked_with d.now given.now changed.entry strict)) deeds_of result };
+        ensures { IsOneOf ((own self.now).decorator name.now (decorator_question_of d.now given.now changed.entry strict)) deeds_of result };
 
     /// What is written in the place of a text.
     fn escaped(&self, text: &str) -> Result<String, RenderError>

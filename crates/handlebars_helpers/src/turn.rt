@@ -7,9 +7,9 @@ ghost use Rattle.serde_json.specs.View.{view};
 ghost use Rattle.handlebars_template.specs.TreeView.{binding_of, binding_view};
 ghost use Rattle.handlebars_base.specs.Bytes.{Text};
 ghost use Rattle.handlebars_scope.specs.ScopeView.{bounds_of, frame_of, variables_of};
-ghost use Rattle.handlebars_scope.specs.Scopes.{based, bound_base, bound_value, put_at};
+ghost use Rattle.handlebars_scope.specs.Scopes.{frame_at, bound_base, bound_value, put_at};
 ghost use Rattle.handlebars_helpers.specs.CallView.{single_name};
-ghost use Rattle.handlebars_helpers.specs.Turns.{IsBelow, StandsBelow, bind_one, bound_in_turn, turn_base, turn_key, turn_name, turn_variables, turned, with_block};
+ghost use Rattle.handlebars_helpers.specs.Turns.{IsBelow, StandsBelow, bind_one, bound_in_turn, turn_base, turn_key, turn_name, turn_variables, turn_frame, with_block};
 ghost use Rattle.handlebars_helpers.specs.View.{base_view, path_view, turn_view};
 
 use crate::view::{both_names, single_name};
@@ -47,7 +47,7 @@ pub fn set_up_turn(
     path: Option<&Vec<String>>,
     turn: Turn,
 ) -> Result<(), AllocError>
-    ensures { OnOk result (frame_of block.new ≡ turned (path_view path.entry)
+    ensures { OnOk result (frame_of block.new ≡ turn_frame (path_view path.entry)
         (binding_of (option_map (λ b. binding_view b.now) binding.entry)) (turn_view turn.entry) (frame_of block.old)) }
 {
     set_turn_base(alloc, block, path, turn)?;
@@ -66,7 +66,7 @@ pub fn set_up_next_turn(
     turn: Turn,
 ) -> Result<(), AllocError>
     ensures { StandsBelow (path_view path.entry) (frame_of block.old)
-        → OnOk result (frame_of block.new ≡ turned (path_view path.entry)
+        → OnOk result (frame_of block.new ≡ turn_frame (path_view path.entry)
         (binding_of (option_map (λ b. binding_view b.now) binding.entry)) (turn_view turn.entry) (frame_of block.old)) }
 {
     set_next_base(block, path, turn)?;
@@ -95,7 +95,7 @@ pub fn with_block(
 
 // The block stands here from now on.
 fn set_base(alloc: Global, block: &mut BlockContext, base: Base) -> Result<(), AllocError>
-    ensures { OnOk result (frame_of block.new ≡ based (base_view base.entry) (frame_of block.old)) }
+    ensures { OnOk result (frame_of block.new ≡ frame_at (base_view base.entry) (frame_of block.old)) }
 {
     match base {
         Base::Path(path) => set_path(block.base_path_mut(), path)?,
@@ -112,7 +112,7 @@ fn set_turn_base(
     turn: Turn,
 ) -> Result<(), AllocError>
     ensures { OnOk result (frame_of block.new
-        ≡ based (turn_base (path_view path.entry) (turn_view turn.entry)) (frame_of block.old)) }
+        ≡ frame_at (turn_base (path_view path.entry) (turn_view turn.entry)) (frame_of block.old)) }
 {
     match path {
         Some(path) => set_turn_path(alloc, block.base_path_mut(), path, turn)?,
@@ -161,7 +161,7 @@ fn set_next_base(
     turn: Turn,
 ) -> Result<(), AllocError>
     ensures { StandsBelow (path_view path.entry) (frame_of block.old) → OnOk result (frame_of block.new
-        ≡ based (turn_base (path_view path.entry) (turn_view turn.entry)) (frame_of block.old)) }
+        ≡ frame_at (turn_base (path_view path.entry) (turn_view turn.entry)) (frame_of block.old)) }
 {
     match path {
         Some(_) => replace_name(block.base_path_mut(), turn)?,

@@ -13,18 +13,18 @@ use Rattle.handlebars_helpers.specs.CallView.{CallView, HelperView}
 use Rattle.handlebars_helpers.specs.Callee.{Callee, built, own, Target, calls_registered, calls_local}
 use Rattle.handlebars_helpers.specs.Choice.{Choice, the_body, the_inverse, body_in_block, body_in_turns, the_value, the_word, the_line, the_steps, nothing}
 use Rattle.handlebars_helpers.specs.Own.{Step, writes, renders_body, renders_inverse, renders_body_in}
-use Rattle.handlebars_helpers.specs.Turns.{Turn, turned, with_block}
+use Rattle.handlebars_helpers.specs.Turns.{Turn, turn_frame, with_block}
 use Rattle.handlebars_meaning.specs.Asks.{goes_on, is_refused}
-use Rattle.handlebars_meaning.specs.CarryOut.{helper_call, render_branch, render_body, take_turns, render_with, render_word, take_step, take_steps, carry_out}
+use Rattle.handlebars_meaning.specs.CarryOut.{view_with_bodies, render_branch, render_body, take_turns, render_with, render_word, take_step, take_steps, carry_out}
 use Rattle.handlebars_meaning.specs.Means.{line_in, render_chosen, render_helped, render_call, render_hook, render_found, render_lone_as, render_lone, render_expression}
-use Rattle.handlebars_meaning.specs.Origins.{tree_in, shown_call, is_lone, IsValue, Calls, by_name, by_name_or_hook, by_hook, Chooses, WritesValue, of_itself, of_helper}
+use Rattle.handlebars_meaning.specs.Origins.{body_tree, shown_call, is_lone, IsValue, Calls, by_name, by_name_or_hook, by_hook, Chooses, WritesValue, of_itself, of_helper}
 use Rattle.handlebars_meaning.specs.Pieces.{of_value, of_raw, of_word}
 use Rattle.handlebars_meaning.specs.Questions.{IsAnswered, value_of, view_of, helper_of, called_as, hook_for, choice_of, escape_of, steps_or_offer, HasRegisteredChoice, HasChoice}
 use Rattle.handlebars_meaning.specs.Sites.{body_at, inverse_at, Site}
-use Rattle.handlebars_meaning.specs.State.{Setting, State, entered, with_nearest, nearest_variables}
+use Rattle.handlebars_meaning.specs.State.{Setting, State, push_frame, with_nearest, nearest_variables}
 use Rattle.handlebars_meaning.specs.Steps.{Task, One, Prog, ◌>>=◌, ◌>>◌}
 use Rattle.handlebars_meaning.specs.Writing.{rendered_if_any, write_rendered, write_value}
-use Rattle.handlebars_laws.proofs.Closed.{ComesToCall, body_of-call, inverse_of-call, Closed}
+use Rattle.handlebars_laws.proofs.Closed.{ComesToCall, element_body-call, element_inverse-call, Closed}
 use Rattle.handlebars_laws.proofs.Law.{Law}
 use Rattle.handlebars_laws.proofs.Programs.{upto, any, Leads, Leads-any, answer-holds, return-holds, write_text-holds, in_block-holds, on_line-holds, render_branch-holds}
 use Rattle.handlebars_laws.proofs.Within.{StepsFrom, step_there, steps_behind}
@@ -65,7 +65,7 @@ module _ (p : Setting) (law : Law) (closed : Closed p law) (site : Site) (place 
       (comes : law.ComesTo site e before) where
     module _ (v : CallView) (viewed : IsAnswered p before (view_of (call_name c) (call_args c)) (gives v)) where
       abbrev view : HelperView
-      view = helper_call block c v
+      view = view_with_bodies block c v
 
       called : ComesToCall p law site e block c before v
       called = record { comes = comes; shown = shown; viewed = viewed }
@@ -74,13 +74,13 @@ module _ (p : Setting) (law : Law) (closed : Closed p law) (site : Site) (place 
 
       render_body-holds : (i : ℕ) (s : State) → law.Fits site s → Goes i (upto (i + 1)) s (render_body site i view)
       render_body-holds i s fits = render_branch-holds p law closed this i (body_at site i) (call_body c) s
-          (λ t is h. closed.body_part i comes (body_of-call e block c shown ∙ ap tree_in is) fits h)
+          (λ t is h. closed.body_part i comes (element_body-call e block c shown ∙ ap body_tree is) fits h)
 
       render_inverse-holds : (i : ℕ) (s : State) → law.Fits site s
           → Goes i (upto (i + 1)) s (render_branch (inverse_at site i) (call_inverse c))
       render_inverse-holds i s fits =
           render_branch-holds p law closed this i (inverse_at site i) (call_inverse c) s
-          (λ t is h. closed.inverse_part i comes (inverse_of-call e block c shown ∙ ap tree_in is) fits h)
+          (λ t is h. closed.inverse_part i comes (element_inverse-call e block c shown ∙ ap body_tree is) fits h)
 
       -- as the one part that is rendered
       render_body-any : (s : State) → law.Fits site s → Goes 0 any s (render_body site 0 view)
@@ -102,7 +102,7 @@ module _ (p : Setting) (law : Law) (closed : Closed p law) (site : Site) (place 
       take_turns-hold i path [] s fits h end l le next g = g l s tt (closed.same_next h)
       take_turns-hold i path (t ∷ ts) s fits h end l le next g =
           let first = closed.turn_next path view.binding t h in
-          render_body-holds i (with_nearest (turned path view.binding t) s) (closed.next_fits fits first)
+          render_body-holds i (with_nearest (turn_frame path view.binding t) s) (closed.next_fits fits first)
           (closed.next_well first) end l le (λ u. take_turns site (i + 1) view path ts next) (λ j n far is.
           take_turns-hold (i + 1) path ts n (closed.next_fits fits (closed.then_next first is)) (closed.next_well is) end j
           far next (λ k z to same. g k z to (closed.then_next first (closed.then_next is same))))
@@ -160,7 +160,7 @@ module _ (p : Setting) (law : Law) (closed : Closed p law) (site : Site) (place 
           take_step-holds s i (renders_body_in f) fits is =
               in_block-holds p law closed this s f (render_body site i view)
               (closed.handed_enters i called (chooses (the_steps all) chose) is)
-              (render_body-holds i (entered f s) (closed.block_fits fits))
+              (render_body-holds i (push_frame f s) (closed.block_fits fits))
 
           take_steps-hold : (s : State) (i : ℕ) (steps : List Step) → law.Fits site s → StepsFrom all i steps
               → Goes i any s (take_steps site view i steps)
@@ -179,7 +179,7 @@ module _ (p : Setting) (law : Law) (closed : Closed p law) (site : Site) (place 
         carry_out-holds s (body_in_block base) fits chose = render_with-holds s base fits
         carry_out-holds s (body_in_turns path ts) fits chose =
             in_block-holds p law closed this s empty_frame (take_turns site 0 view path ts)
-            closed.empty_enters (take_turns-hold 0 path ts (entered empty_frame s) (closed.block_fits fits))
+            closed.empty_enters (take_turns-hold 0 path ts (push_frame empty_frame s) (closed.block_fits fits))
         carry_out-holds s (the_value d) fits chose =
             write_value-holds s (value d) fits (of_helper (chooses (the_value d) chose))
         carry_out-holds s (the_word b) fits chose = render_word-holds s block b refl fits chose

@@ -15,13 +15,13 @@ use Rattle.handlebars_helpers.specs.Callee.{LocalHelper}
 use Rattle.handlebars_helpers.specs.CallView.{CallView}
 use Rattle.handlebars_helpers.specs.Choice.{the_word, the_steps}
 use Rattle.handlebars_helpers.specs.Own.{Step, writes, renders_body_in}
-use Rattle.handlebars_helpers.specs.Turns.{Turn, turned, with_block}
-use Rattle.handlebars_meaning.specs.Inclusion.{newest, inclusion_block, joined_indent, begun, named_as_before, over}
-use Rattle.handlebars_meaning.specs.Origins.{nth, tree_in, call_of, tag_of, is_block, body_of, inverse_of, decorator_tag, inclusion_tag, shown_call, is_html, Chooses, WritesValue, Shows}
+use Rattle.handlebars_helpers.specs.Turns.{Turn, turn_frame, with_block}
+use Rattle.handlebars_meaning.specs.Inclusion.{newest, inclusion_block, joined_indent, begin_inclusion, named_as_before, end_inclusion}
+use Rattle.handlebars_meaning.specs.Origins.{nth, body_tree, element_call, element_tag, is_block, element_body, element_inverse, decorator_tag, inclusion_tag, shown_call, is_html, Chooses, WritesValue, Shows}
 use Rattle.handlebars_meaning.specs.Pieces.{of_text, of_value, of_raw, of_word, of_step, Piece, pieces_of, put}
 use Rattle.handlebars_meaning.specs.Questions.{view_of, IsAnswered}
 use Rattle.handlebars_meaning.specs.Sites.{TreeSite, body_at, inverse_at, included_at, Site, element_in}
-use Rattle.handlebars_meaning.specs.State.{Setting, State, entered, left, with_nearest, partial_in, with_partial, with_data, with_local, without_local}
+use Rattle.handlebars_meaning.specs.State.{Setting, State, push_frame, pop_frame, with_nearest, partial_in, with_partial, with_data, with_local, without_local}
 use Rattle.handlebars_meaning.specs.Steps.{Task, One, Whole}
 use Rattle.handlebars_meaning.specs.Visits.{arrival}
 use Rattle.handlebars_meaning.specs.Writing.{rendered_if_any}
@@ -52,20 +52,20 @@ unfolding call_in
 call_of-shown b block None c is = cc
 call_of-shown b block (Some d) c is = ap call_in is
 
-pub body_of-call : (e : Element) (block : Bool) (c : Call) → shown_call e ≡ Some (block, c)
-    → body_of e ≡ tree_in (call_body c)
-body_of-call e block c is = ap (λ (o : Option Call). with_or o (λ d. tree_in (call_body d))
-    (option_and_then (λ t. tree_in (decorator_body t)) (tag_of e))) (call_of-shown (is_block e) block (call_of e) c is)
+pub element_body-call : (e : Element) (block : Bool) (c : Call) → shown_call e ≡ Some (block, c)
+    → element_body e ≡ body_tree (call_body c)
+element_body-call e block c is = ap (λ (o : Option Call). with_or o (λ d. body_tree (call_body d))
+    (option_and_then (λ t. body_tree (decorator_body t)) (element_tag e))) (call_of-shown (is_block e) block (element_call e) c is)
 
-pub inverse_of-call : (e : Element) (block : Bool) (c : Call) → shown_call e ≡ Some (block, c)
-    → inverse_of e ≡ tree_in (call_inverse c)
-inverse_of-call e block c is =
-    ap (option_and_then (λ d. tree_in (call_inverse d))) (call_of-shown (is_block e) block (call_of e) c is)
+pub element_inverse-call : (e : Element) (block : Bool) (c : Call) → shown_call e ≡ Some (block, c)
+    → element_inverse e ≡ body_tree (call_inverse c)
+element_inverse-call e block c is =
+    ap (option_and_then (λ d. body_tree (call_inverse d))) (call_of-shown (is_block e) block (element_call e) c is)
 
-pub body_of-tag : (e : Element) (t : Decorator) → inclusion_tag e ≡ Some t → body_of e ≡ tree_in (decorator_body t)
-body_of-tag (partial_expression d) t is = ap (option_and_then (λ x. tree_in (decorator_body x))) is
-body_of-tag (partial_block d) t is = ap (option_and_then (λ x. tree_in (decorator_body x))) is
-body_of-tag e t is = cc
+pub element_body-tag : (e : Element) (t : Decorator) → inclusion_tag e ≡ Some t → element_body e ≡ body_tree (decorator_body t)
+element_body-tag (partial_expression d) t is = ap (option_and_then (λ x. body_tree (decorator_body x))) is
+element_body-tag (partial_block d) t is = ap (option_and_then (λ x. body_tree (decorator_body x))) is
+element_body-tag e t is = cc
 
 -- ---- what is closed
 
@@ -90,14 +90,14 @@ pub record Closed (p : Setting) (law : Law) : Type 0 where
   pub local_next : {s : State} (name : Text) (l : LocalHelper) → law.IsWell s → law.IsNext s (with_local name l s)
   pub no_local_next : {s : State} (name : Text) → law.IsWell s → law.IsNext s (without_local name s)
   pub turn_next : {s : State} (path : Option (List Text)) (b : Binding) (t : Turn) → law.IsWell s
-      → law.IsNext s (with_nearest (turned path b t) s)
+      → law.IsNext s (with_nearest (turn_frame path b t) s)
   pub partial_next : {s before : State} {site : Site} {e : Element} {t : Decorator} {x : Tree} (name : Text)
       → law.ComesTo site e before → decorator_tag e ≡ Some t → decorator_body t ≡ body x → law.IsWell s
       → law.IsNext s (with_nearest (with_partial name x) s)
   -- blocks of scope, and those that are entered
-  pub block_well : {s : State} {f : Frame} → law.MayEnter f → law.IsWell s → law.IsWell (entered f s)
-  pub block_fits : {site : Site} {s : State} {f : Frame} → law.Fits site s → law.Fits site (entered f s)
-  pub block_next : {s n : State} {f : Frame} → law.IsNext (entered f s) n → law.IsNext s (left n)
+  pub block_well : {s : State} {f : Frame} → law.MayEnter f → law.IsWell s → law.IsWell (push_frame f s)
+  pub block_fits : {site : Site} {s : State} {f : Frame} → law.Fits site s → law.Fits site (push_frame f s)
+  pub block_next : {s n : State} {f : Frame} → law.IsNext (push_frame f s) n → law.IsNext s (pop_frame n)
   pub empty_enters : law.MayEnter empty_frame
   pub with_enters : (base : Base) (b : Binding) (variables : Text → Option Data)
       → law.MayEnter (with_block base b variables)
@@ -116,12 +116,12 @@ pub record Closed (p : Setting) (law : Law) : Type 0 where
   pub own_next : {s n : State} → law.IsWell s → law.IsNext s n → law.IsNext s (named_as_before s n)
   pub newest_keeps : {s : State} → law.IsWell s → MayKeep law.MayWrite (newest s.kept)
   pub begun_well : {s n before : State} {site : Site} {e : Element} {t : Decorator} {f : Frame} {k : Option (List Piece)}
-      → ComesToTag law site e t before → law.IsWell s → law.IsNext (entered f s) n → MayKeep law.MayWrite k
-      → law.IsWell (begun (joined_indent s.indent (decorator_marks t).indent) k n)
+      → ComesToTag law site e t before → law.IsWell s → law.IsNext (push_frame f s) n → MayKeep law.MayWrite k
+      → law.IsWell (begin_inclusion (joined_indent s.indent (decorator_marks t).indent) k n)
   pub begun_fits : {site : Site} {s : State} {i : Option Text} {k : Option (List Piece)} → law.Fits site s
-      → law.Fits site (begun i k s)
+      → law.Fits site (begin_inclusion i k s)
   pub over_next : {s n z : State} {f : Frame} {i : Option Text} {k : Option (List Piece)} → law.IsWell s
-      → law.IsNext (entered f s) n → law.IsNext (begun i k n) z → law.IsNext s (over s z)
+      → law.IsNext (push_frame f s) n → law.IsNext (begin_inclusion i k n) z → law.IsNext s (end_inclusion s z)
   -- parts that begin, and parts of them
   pub begins_well : {t : Task} {s : State} → law.Begins t s → law.IsWell s
   pub begins_comes : {site : Site} {place : Option Place} {e : Element} {s : State} → law.Begins (One site place e) s
@@ -134,10 +134,10 @@ pub record Closed (p : Setting) (law : Law) : Type 0 where
       {place : Option Place} {s z : State} (i : ℕ) → law.Begins (Whole at (tree n es places)) s → nth es i ≡ Some e
       → law.IsNext s z → law.IsPart (Whole at (tree n es places)) i z (One (element_in at i) place e)
   pub body_part : {site : Site} {place : Option Place} {e : Element} {t : Tree} {before s : State} (i : ℕ)
-      → law.ComesTo site e before → body_of e ≡ Some t → law.Fits site s → law.IsWell s
+      → law.ComesTo site e before → element_body e ≡ Some t → law.Fits site s → law.IsWell s
       → law.IsPart (One site place e) i s (Whole (body_at site i) t)
   pub inverse_part : {site : Site} {place : Option Place} {e : Element} {t : Tree} {before s : State} (i : ℕ)
-      → law.ComesTo site e before → inverse_of e ≡ Some t → law.Fits site s → law.IsWell s
+      → law.ComesTo site e before → element_inverse e ≡ Some t → law.Fits site s → law.IsWell s
       → law.IsPart (One site place e) i s (Whole (inverse_at site i) t)
   pub local_part : {site : Site} {place : Option Place} {e : Element} {t : Tree} {before z s : State} (name : Text)
       → law.ComesTo site e before → law.IsWell z → partial_in z.blocks name ≡ Some t → law.Fits site s → law.IsWell s

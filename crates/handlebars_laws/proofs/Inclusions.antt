@@ -8,16 +8,16 @@ use Rattle.handlebars_template.specs.Place.{Place}
 use Rattle.handlebars_template.specs.Tree.{Tree, Element, Decorator, decorator_name, decorator_args, decorator_body, decorator_marks, Body, no_body, body}
 use Rattle.handlebars_helpers.specs.CallView.{CallView}
 use Rattle.handlebars_helpers.specs.Decoration.{DecoratorView}
-use Rattle.handlebars_meaning.specs.Inclusion.{Partial, is_local, is_registered, is_own_block, is_nowhere, is_current, newest, pair_values, inclusion_block, begun, named_as_before, over, found_by, local_or_other}
+use Rattle.handlebars_meaning.specs.Inclusion.{Partial, is_local, is_registered, is_own_block, is_nowhere, is_current, newest, pair_values, inclusion_block, begin_inclusion, named_as_before, end_inclusion, partial_for, local_or_other}
 use Rattle.handlebars_meaning.specs.Including.{render_own_block, write_kept, partial_block_name, here, base_value, render_ahead, include_tree, include_partial, include_other, include_named}
 use Rattle.handlebars_meaning.specs.Means.{line_at, shown_tag, include_tag, render_partial}
-use Rattle.handlebars_meaning.specs.Origins.{tree_in, inclusion_tag}
+use Rattle.handlebars_meaning.specs.Origins.{body_tree, inclusion_tag}
 use Rattle.handlebars_meaning.specs.Pieces.{Piece}
 use Rattle.handlebars_meaning.specs.Questions.{value_of, view_of}
 use Rattle.handlebars_meaning.specs.Sites.{TreeSite, body_at, included_at, Site}
-use Rattle.handlebars_meaning.specs.State.{Setting, State, entered, nearest_variables, partial_in}
+use Rattle.handlebars_meaning.specs.State.{Setting, State, push_frame, nearest_variables, partial_in}
 use Rattle.handlebars_meaning.specs.Steps.{Task, One, Whole, Steps, Get, Set, Do, Prog, return, ◌>>=◌, ◌>>◌}
-use Rattle.handlebars_laws.proofs.Closed.{ComesToTag, MayKeep, body_of-tag, Closed}
+use Rattle.handlebars_laws.proofs.Closed.{ComesToTag, MayKeep, element_body-tag, Closed}
 use Rattle.handlebars_laws.proofs.Law.{Law, Holds}
 use Rattle.handlebars_laws.proofs.Programs.{upto, any, After, Leads, answer-holds, on_line-holds}
 
@@ -74,7 +74,7 @@ module _ (p : Setting) (law : Law) (closed : Closed p law) (site : Site) (place 
 
   block_part : (x : Tree) → decorator_body t ≡ body x → (s : State) → law.Fits site s → law.IsWell s
       → law.IsPart this 0 s (Whole (body_at site 0) x)
-  block_part x is s fits h = closed.body_part 0 comes (body_of-tag e t tag ∙ ap tree_in is) fits h
+  block_part x is s fits h = closed.body_part 0 comes (element_body-tag e t tag ∙ ap body_tree is) fits h
 
   render_own_block-holds : (b : Body) → decorator_body t ≡ b → (s : State) → law.Fits site s
       → Goes s (render_own_block site b s)
@@ -118,11 +118,11 @@ module _ (p : Setting) (law : Law) (closed : Closed p law) (site : Site) (place 
 
     -- the block of the inclusion is entered, at this value; and what follows the block that was rendered ahead
     abbrev block_of : Data → State → State
-    block_of d z = entered (inclusion_block d (pair_values v.pairs) (nearest_variables z.blocks)) z
+    block_of d z = push_frame (inclusion_block d (pair_values v.pairs) (nearest_variables z.blocks)) z
 
     abbrev behind_ahead : TreeSite → Tree → (Unit {0} → Steps) → Option (List Piece) → Steps
     behind_ahead at x next kept =
-        Get (λ n. Set (begun view.indent kept n) (Do (Whole at x) (Get (λ z. Set (over s z) (next tt)))))
+        Get (λ n. Set (begin_inclusion view.indent kept n) (Do (Whole at x) (Get (λ z. Set (end_inclusion s z) (next tt)))))
 
     include_tree-holds : (m : ℕ) (at : TreeSite) (x : Tree) (ahead : Prog (Option (List Piece)))
         → ((n : State) → law.Fits site n → law.IsWell n → law.IsPart this m n (Whole at x)) → law.Fits site s
@@ -135,12 +135,12 @@ module _ (p : Setting) (law : Law) (closed : Closed p law) (site : Site) (place 
         (behind_ahead at x next) (λ kept may j n far is. (
           m,
           far,
-          part (begun view.indent kept n) (closed.begun_fits (closed.next_fits (closed.block_fits fits) is))
+          part (begin_inclusion view.indent kept n) (closed.begun_fits (closed.next_fits (closed.block_fits fits) is))
               (closed.begun_well tagged h is may),
-          λ z last. g (m + 1) (over s z) tt (closed.over_next h is last),
+          λ z last. g (m + 1) (end_inclusion s z) tt (closed.over_next h is last),
         )))
 
-    include_partial-holds : (found : Partial) → found_by p.parts s v.name (decorator_body t) ≡ found → law.IsWell s
+    include_partial-holds : (found : Partial) → partial_for p.parts s v.name (decorator_body t) ≡ found → law.IsWell s
         → law.Fits site s → Goes s (include_partial site view found)
     include_partial-holds (is_local x) is well fits =
         include_tree-holds 1 (included_at site x) x (render_ahead site (decorator_body t))
@@ -158,12 +158,12 @@ module _ (p : Setting) (law : Law) (closed : Closed p law) (site : Site) (place 
     include_partial-holds is_nowhere is well fits = λ h end i le next g. tt
 
     include_other-holds : (is_kept : Bool) → law.IsWell s → law.Fits site s
-        → Goes s (include_other site view (found_by p.parts s v.name (decorator_body t)) s is_kept)
+        → Goes s (include_other site view (partial_for p.parts s v.name (decorator_body t)) s is_kept)
     include_other-holds true well fits = write_kept-holds s (newest s.kept) fits (closed.newest_keeps well)
     include_other-holds false well fits = include_partial-holds _ refl well fits
 
     include_named-holds : (is_itself : Bool) → law.IsWell s → law.Fits site s
-        → Goes s (include_named site view (found_by p.parts s v.name (decorator_body t)) s is_itself)
+        → Goes s (include_named site view (partial_for p.parts s v.name (decorator_body t)) s is_itself)
     include_named-holds true well fits = λ h end i le next g. tt
     include_named-holds false well fits = include_other-holds (bytes_eq partial_block_name v.name) well fits
 

@@ -3,14 +3,14 @@ use Rattle.std.proofs.Common.{ℕ, ◌+◌, ◌≤◌, List, [], ◌++◌, subst
 use Rattle.handlebars_base.specs.Answers.{Answer}
 use Rattle.handlebars_template.specs.Tree.{Element}
 use Rattle.handlebars_scope.specs.Scopes.{Frame}
-use Rattle.handlebars_meaning.specs.Inclusion.{found_by}
+use Rattle.handlebars_meaning.specs.Inclusion.{partial_for}
 use Rattle.handlebars_meaning.specs.Means.{todo}
 use Rattle.handlebars_meaning.specs.Pieces.{Piece}
 use Rattle.handlebars_meaning.specs.Questions.{Reply, IsAnswered}
-use Rattle.handlebars_meaning.specs.Runs.{Outcome, Ended, Refused, Faulted, NoMemory, IsOver, marked, Front, Runs, done, refused, wrote, got, set, asked, did, did_over, captured, captured_over, looked, has_room, has_none, stop, cut}
+use Rattle.handlebars_meaning.specs.Runs.{Outcome, Ended, Refused, Faulted, NoMemory, IsOver, mark_outcome, Front, Runs, done, refused, wrote, got, set, asked, did, did_over, captured, captured_over, looked, below_limit, at_limit, stop, cut}
 use Rattle.handlebars_meaning.specs.Sites.{Site}
 use Rattle.handlebars_meaning.specs.State.{Setting, State}
-use Rattle.handlebars_meaning.specs.Steps.{Task, Steps, Done, Refuse, Write, Get, Set, Ask, Do, Capture, Find, Room}
+use Rattle.handlebars_meaning.specs.Steps.{Task, Steps, Done, Refuse, Write, Get, Set, Ask, Do, Capture, Find, CheckLimit}
 use Rattle.handlebars_meaning.specs.Visits.{Visit, arrival, visits}
 use Rattle.handlebars_laws.proofs.Outcomes.{in_memory_over, over_marked, stop_over}
 
@@ -47,8 +47,8 @@ module _ (p : Setting) (law : Law) (x : Task) where
   Holds end n s (Do t k) =
       (m : ℕ) × (n ≤ m) × law.IsPart x m s t × ((z : State) → law.IsNext s z → Holds end (m + 1) z k)
   Holds end n s (Capture m f) = Holds (λ j z. (ps : List Piece) → law.MayWrite ps → Holds end j z (f ps)) n s m
-  Holds end n s (Find name b f) = Holds end n s (f (found_by p.parts s name b))
-  Holds end n s (Room k) = Holds end n s k
+  Holds end n s (Find name b f) = Holds end n s (f (partial_for p.parts s name b))
+  Holds end n s (CheckLimit k) = Holds end n s k
 
 -- What a law has to keep, so that it holds of runs: a part of another begins, pieces and visits are joined, and pieces are
 -- cut off where a run stops.
@@ -144,7 +144,7 @@ module _ (p : Setting) (law : Law) (sound : IsSound law) (plan : PlanHolds p law
         to = m + 1;
         le = omega (arith, le);
         written = part.written;
-        ends = EndsIn-over (end (m + 1)) (marked t o) (over_marked t o over);
+        ends = EndsIn-over (end (m + 1)) (mark_outcome t o) (over_marked t o over);
         are_in = sound.part_in x t n m part.to s (visits a) le h.2 part.are_in;
       }
   Runs-obeys (captured {next = z} {f = f} {ps = ps} a b) x end n h known =
@@ -171,8 +171,8 @@ module _ (p : Setting) (law : Law) (sound : IsSound law) (plan : PlanHolds p law
         are_in = first.are_in;
       }
   Runs-obeys (looked r) x end n h known = Runs-obeys r x end n h known
-  Runs-obeys (has_room lt r) x end n h known = Runs-obeys r x end n h known
-  Runs-obeys (has_none le) x end n h known = Obeys-none x end n _ tt
+  Runs-obeys (below_limit lt r) x end n h known = Runs-obeys r x end n h known
+  Runs-obeys (at_limit le) x end n h known = Obeys-none x end n _ tt
   Runs-obeys stop x end n h known = Obeys-none x end n _ tt
   Runs-obeys (cut {at_word = w} {o = o} i f) x end n h known = record {
     to = n;

@@ -2,12 +2,12 @@
 use Rattle.std.proofs.Common.{◌≡◌, ℕ, zero, suc, List, [], ◌∷◌, length, refl, ap, ◌∙◌, Option, arith}
 use Rattle.handlebars_base.specs.Bytes.{Text}
 use Rattle.handlebars_scope.specs.Scopes.{Frame}
-use Rattle.handlebars_helpers.specs.Turns.{turned}
-use Rattle.handlebars_meaning.specs.Inclusion.{begun, over}
+use Rattle.handlebars_helpers.specs.Turns.{turn_frame}
+use Rattle.handlebars_meaning.specs.Inclusion.{begin_inclusion, end_inclusion}
 use Rattle.handlebars_meaning.specs.Laws.{Around, around, LeavesAround}
 use Rattle.handlebars_meaning.specs.Pieces.{Piece}
 use Rattle.handlebars_meaning.specs.Sites.{first_tree}
-use Rattle.handlebars_meaning.specs.State.{Setting, State, entered, left, outer, nearest_as, with_nearest, with_partial}
+use Rattle.handlebars_meaning.specs.State.{Setting, State, push_frame, pop_frame, outer_frames, nearest_as, with_nearest, with_partial}
 use Rattle.handlebars_meaning.specs.Steps.{Whole}
 use Rattle.handlebars_laws.proofs.Closed.{MayKeep-any, Closed}
 use Rattle.handlebars_laws.proofs.Law.{Law, IsSound, Runs-obeys}
@@ -48,10 +48,10 @@ less_one : ℕ → ℕ
 less_one zero = zero
 less_one (suc n) = n
 
-length-outer : (fs : List Frame) → length (outer fs) ≡ less_one (length fs)
+length-outer_frames : (fs : List Frame) → length (outer_frames fs) ≡ less_one (length fs)
 unfolding less_one
-length-outer [] = refl
-length-outer (f ∷ fs) = refl
+length-outer_frames [] = refl
+length-outer_frames (f ∷ fs) = refl
 
 length-nearest_as : (change : Frame → Frame) (fs : List Frame) → length (nearest_as change fs) ≡ length fs
 length-nearest_as change [] = refl
@@ -60,10 +60,10 @@ length-nearest_as change (f ∷ fs) = refl
 abbrev with_blocks : Around → ℕ → Around
 with_blocks a n = record a { blocks = n }
 
-around-left : (s n : State) (f : Frame) → around n ≡ around (entered f s) → around (left n) ≡ around s
+around-pop_frame : (s n : State) (f : Frame) → around n ≡ around (push_frame f s) → around (pop_frame n) ≡ around s
 unfolding less_one
-around-left s n f is =
-    ap (with_blocks (around n)) (length-outer n.blocks)
+around-pop_frame s n f is =
+    ap (with_blocks (around n)) (length-outer_frames n.blocks)
     ∙ ap (λ (a : Around). with_blocks a (less_one a.blocks)) is
 
 around-with_nearest : (change : Frame → Frame) (s : State) → around (with_nearest change s) ≡ around s
@@ -73,11 +73,11 @@ around-with_nearest change s = ap (with_blocks (around s)) (length-nearest_as ch
 abbrev back_in : State → Around → Around
 back_in s a = record a { blocks = less_one a.blocks; indent = s.indent; kept = s.kept; inclusions = s.inclusions }
 
-around-over : (s n z : State) (f : Frame) (indent : Option Text) (k : Option (List Piece))
-    → around n ≡ around (entered f s) → around z ≡ around (begun indent k n) → around (over s z) ≡ around s
+around-end_inclusion : (s n z : State) (f : Frame) (indent : Option Text) (k : Option (List Piece))
+    → around n ≡ around (push_frame f s) → around z ≡ around (begin_inclusion indent k n) → around (end_inclusion s z) ≡ around s
 unfolding less_one
-around-over s n z f indent k first last =
-    ap (with_blocks (around (over s z))) (length-outer z.blocks) ∙ ap (back_in s) last ∙ ap (back_in s) first
+around-end_inclusion s n z f indent k first last =
+    ap (with_blocks (around (end_inclusion s z))) (length-outer_frames z.blocks) ∙ ap (back_in s) last ∙ ap (back_in s) first
 
 -- ---- all that templates do leaves it
 
@@ -92,11 +92,11 @@ leaves_it-closed p = record {
   data_next = λ d h. refl;
   local_next = λ name l h. refl;
   no_local_next = λ name h. refl;
-  turn_next = λ {s = s} path b t h. around-with_nearest (turned path b t) s;
+  turn_next = λ {s = s} path b t h. around-with_nearest (turn_frame path b t) s;
   partial_next = λ {s = s} {x = x} name comes tag is h. around-with_nearest (with_partial name x) s;
   block_well = λ may h. tt;
   block_fits = λ h. tt;
-  block_next = λ {s = s} {n = n} {f = f} is. around-left s n f is;
+  block_next = λ {s = s} {n = n} {f = f} is. around-pop_frame s n f is;
   empty_enters = tt;
   with_enters = λ base b variables. tt;
   inclusion_enters = λ d hs variables. tt;
@@ -108,7 +108,7 @@ leaves_it-closed p = record {
   newest_keeps = λ h. MayKeep-any _;
   begun_well = λ tagged h is may. tt;
   begun_fits = λ h. tt;
-  over_next = λ {s = s} {n = n} {z = z} {f = f} {i = i} {k = k} h first last. around-over s n z f i k first last;
+  over_next = λ {s = s} {n = n} {z = z} {f = f} {i = i} {k = k} h first last. around-end_inclusion s n z f i k first last;
   begins_well = λ h. tt;
   begins_comes = λ h known. tt;
   begins_fits = λ h is. tt;

@@ -2,7 +2,7 @@
 use Rattle.std.proofs.Common.{◌≡◌, List, [], ◌∷◌, Bool, true, false, Option, Some, unwrap_or, if◌then◌else◌}
 use Rattle.std.specs.List.{AllByRecursion}
 use Rattle.handlebars_base.specs.Bytes.{Text}
-use Rattle.handlebars_base.specs.Outputs.{IsBeginning}
+use Rattle.handlebars_base.specs.Outputs.{IsPrefix}
 use Rattle.handlebars_base.specs.Values.{word}
 use Rattle.handlebars_template.specs.Tree.{Tree, Element}
 use Rattle.handlebars_scope.specs.Indentation.{lines_of, takes_indent}
@@ -18,7 +18,7 @@ use Rattle.handlebars_laws.proofs.Within.{beginning_within, all_begins, beginnin
 module _ (p : Setting) (u : Tree) (vs : List Visit) where
   -- ---- fronts
 
-  ComesFrom-front : (o : Origin) (a b : Text) → IsBeginning a b → ComesFrom p u vs o b → ComesFrom p u vs o a
+  ComesFrom-front : (o : Origin) (a b : Text) → IsPrefix a b → ComesFrom p u vs o b → ComesFrom p u vs o a
   ComesFrom-front (of_text site) a b c h = record {
     all = h.all;
     stands = h.stands;

@@ -6,11 +6,11 @@ use Rattle.handlebars_template.specs.Tree.{Tree, Body, no_body, body}
 use Rattle.handlebars_scope.specs.LineState.{LineState}
 use Rattle.handlebars_scope.specs.Scopes.{Frame}
 use Rattle.handlebars_meaning.specs.CarryOut.{in_block, render_branch}
-use Rattle.handlebars_meaning.specs.Means.{unescaped, on_line}
+use Rattle.handlebars_meaning.specs.Means.{without_escaping, on_line}
 use Rattle.handlebars_meaning.specs.Pieces.{Origin, put}
 use Rattle.handlebars_meaning.specs.Questions.{Question, Reply, IsAnswered}
 use Rattle.handlebars_meaning.specs.Sites.{TreeSite}
-use Rattle.handlebars_meaning.specs.State.{Setting, State, entered, left}
+use Rattle.handlebars_meaning.specs.State.{Setting, State, push_frame, pop_frame}
 use Rattle.handlebars_meaning.specs.Steps.{Task, Whole, Steps, Get, Set, Prog, return, ◌>>=◌, ◌>>◌, answer}
 use Rattle.handlebars_meaning.specs.Writing.{write_text}
 use Rattle.handlebars_laws.proofs.Law.{Law, Holds}
@@ -52,11 +52,11 @@ module _ (p : Setting) (law : Law) (closed : Closed p law) (x : Task) where
   write_text-holds s o t written h end i le next g = (written h, g i _ tt (closed.line_next _ h))
 
   pub in_block-holds : {n : ℕ} {to : ℕ → Type 0} (s : State) (f : Frame) (m : Prog (Unit {0})) → law.MayEnter f
-      → Leads p law x n to (entered f s) m → Leads p law x n to s (in_block f m)
+      → Leads p law x n to (push_frame f s) m → Leads p law x n to s (in_block f m)
   unfolding ◌>>=◌ ◌>>◌
   in_block-holds s f m may inner h end i le next g =
-      inner (closed.block_well may h) end i le (λ u. Get (λ n. Set (left n) (next tt)))
-      (λ j n to is. g j (left n) to (closed.block_next is))
+      inner (closed.block_well may h) end i le (λ u. Get (λ n. Set (pop_frame n) (next tt)))
+      (λ j n to is. g j (pop_frame n) to (closed.block_next is))
 
   pub on_line-holds : {n : ℕ} {to : ℕ → Type 0} (s : State) (enter : LineState → LineState) (m : Prog (Unit {0}))
       → Leads p law x n to (record s { line = enter s.line }) m → Leads p law x n to s (on_line enter m)
@@ -66,10 +66,10 @@ module _ (p : Setting) (law : Law) (closed : Closed p law) (x : Task) where
       inner (closed.next_well first) end i le _ (λ j n to is.
       g j _ to (closed.then_next first (closed.then_next is (closed.line_next _ (closed.next_well is)))))
 
-  pub unescaped-holds : {n : ℕ} {to : ℕ → Type 0} (s : State) (m : Prog (Unit {0}))
-      → Leads p law x n to (record s { escapes = false }) m → Leads p law x n to s (unescaped m)
+  pub without_escaping-holds : {n : ℕ} {to : ℕ → Type 0} (s : State) (m : Prog (Unit {0}))
+      → Leads p law x n to (record s { escapes = false }) m → Leads p law x n to s (without_escaping m)
   unfolding ◌>>=◌ ◌>>◌
-  unescaped-holds s m inner h end i le next g =
+  without_escaping-holds s m inner h end i le next g =
       inner (closed.raw_well h) end i le _ (λ j n to is. g j _ to (closed.raw_next is))
 
   pub render_branch-holds : (n : ℕ) (at : TreeSite) (b : Body) (s : State)

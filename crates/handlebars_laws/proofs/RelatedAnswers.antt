@@ -9,8 +9,8 @@ use Rattle.handlebars_helpers.specs.CallView.{HelperView}
 use Rattle.handlebars_helpers.specs.Callee.{Callee, built, own, Target, calls_registered, calls_local}
 use Rattle.handlebars_helpers.specs.Decoration.{DecoratorKind, kind_inline, kind_own, DecoratorView}
 use Rattle.handlebars_helpers.specs.Escaping.{Escaping, HasEscaped, for_html, for_plain, by_own}
-use Rattle.handlebars_helpers.specs.Own.{Asked, Step, Offer, not_offered, offers_missing, offers}
-use Rattle.handlebars_helpers.specs.OwnDecorator.{TagAsked}
+use Rattle.handlebars_helpers.specs.Own.{HelperQuestion, Step, Offer, not_offered, offers_missing, offers}
+use Rattle.handlebars_helpers.specs.OwnDecorator.{DecoratorQuestion}
 use Rattle.handlebars_template.specs.Tree.{Tree, Element, expression, call, Args, args, args_params, args_pairs, Param, name, path, literal, subexpression, Params, no_params, param, Pairs, no_pairs, pair}
 use Rattle.handlebars_meaning.specs.Asks.{Asks, only, ◌>>=◌}
 use Rattle.handlebars_meaning.specs.State.{Parts, Setting, State}
@@ -25,9 +25,9 @@ pub record Relation : Type 1 where
 
 -- What parts of one's own are asked is related to itself.
 pub record OwnRelated (r : Relation) (p : Parts) : Type 0 where
-  pub steps : (n : Text) (x : Asked) → r.Relates ((p.own n).has_steps x) ((p.own n).has_steps x)
-  pub offer : (n : Text) (x : Asked) → r.Relates ((p.own n).has_offer x) ((p.own n).has_offer x)
-  pub deeds : (n : Text) (x : TagAsked) → r.Relates (p.own_decorator n x) (p.own_decorator n x)
+  pub steps : (n : Text) (x : HelperQuestion) → r.Relates ((p.own n).has_steps x) ((p.own n).has_steps x)
+  pub offer : (n : Text) (x : HelperQuestion) → r.Relates ((p.own n).has_offer x) ((p.own n).has_offer x)
+  pub deeds : (n : Text) (x : DecoratorQuestion) → r.Relates (p.own_decorator n x) (p.own_decorator n x)
   pub escape : (t : Text) → r.Relates (p.own_escape t) (p.own_escape t)
 
 -- the setting with other templates and another limit

@@ -9,10 +9,10 @@ use Rattle.handlebars_base.specs.Values.{word}
 use Rattle.handlebars_template.specs.Tree.{Tree, Element, html_expression, Call, decorator_marks}
 use Rattle.handlebars_scope.specs.Scopes.{Frame}
 use Rattle.handlebars_helpers.specs.CallView.{CallView}
-use Rattle.handlebars_helpers.specs.Turns.{turned}
+use Rattle.handlebars_helpers.specs.Turns.{turn_frame}
 use Rattle.handlebars_meaning.specs.Laws.{IsPlain, alone}
 use Rattle.handlebars_meaning.specs.Means.{render_alone}
-use Rattle.handlebars_meaning.specs.Origins.{IsWithin, nth_in, body_of, inverse_of, decorator_tag, inclusion_tag, tree_at, element_at, shown_call, is_html, is_raw_tree, is_raw_site, WritesValue, IsReached, IsVisited, IsCalled, Shows, IsOfShown, HaveOrigins, set_by, handed_over, IsLocalOfRun, IsTreeOfRun, is_first, is_body, is_inverse, is_local_of, is_stored, IsSiteOfRun, StandInTrees}
+use Rattle.handlebars_meaning.specs.Origins.{IsWithin, nth_in, element_body, element_inverse, decorator_tag, inclusion_tag, tree_at, element_at, shown_call, is_html, is_raw_tree, is_raw_site, WritesValue, IsReached, IsVisited, IsCalled, Shows, IsOfShown, HaveOrigins, set_by, handed_over, IsLocalOfRun, IsTreeOfRun, is_first, is_body, is_inverse, is_local_of, is_stored, IsSiteOfRun, StandInTrees}
 use Rattle.handlebars_meaning.specs.Pieces.{of_text, of_value, of_raw, of_step, Piece}
 use Rattle.handlebars_meaning.specs.Runs.{Outcome, Runs, Means}
 use Rattle.handlebars_meaning.specs.Sites.{first_tree, body_at, inverse_at, included_at, Site, element_in}
@@ -24,7 +24,7 @@ use Rattle.handlebars_laws.proofs.Closed.{ComesToCall, Closed}
 use Rattle.handlebars_laws.proofs.Law.{Law, Obeys, IsSound, Runs-obeys}
 use Rattle.handlebars_laws.proofs.Lists.{All-append}
 use Rattle.handlebars_laws.proofs.OriginPieces.{HaveOrigins-front, pieces_of-origins, put-origins}
-use Rattle.handlebars_laws.proofs.RunStates.{joined_indent-indents, IsFrameOfRun, IsOfRun, IsBehind, newest-origins, outer-frames, nearest_as-frames, partial_in-local, with_partial-frame, turned-frame, with_block-frame, first-of_run}
+use Rattle.handlebars_laws.proofs.RunStates.{joined_indent-indents, IsFrameOfRun, IsOfRun, IsBehind, newest-origins, outer_frames-frames, nearest_as-frames, partial_in-local, with_partial-frame, turn_frame-frame, with_block-frame, first-of_run}
 use Rattle.handlebars_laws.proofs.Walk.{todo-holds}
 use Rattle.handlebars_laws.proofs.Within.{all_begins}
 
@@ -171,7 +171,7 @@ module _ (p : Setting) (u : Tree) (blocks : List Frame) (vs : List Visit) where
     turn_next = λ {s = s} path b t h. behind refl (record {
       kept = h.kept;
       indents = h.indents;
-      frames = nearest_as-frames p u blocks vs (turned path b t) s.blocks (turned-frame p u blocks vs path b t) h.frames;
+      frames = nearest_as-frames p u blocks vs (turn_frame path b t) s.blocks (turn_frame-frame p u blocks vs path b t) h.frames;
     });
     partial_next = λ {s = s} {site = site} {e = e} {t = t} {x = x} name at tag is h. behind refl (record {
       kept = h.kept;
@@ -185,7 +185,7 @@ module _ (p : Setting) (u : Tree) (blocks : List Frame) (vs : List Visit) where
     block_next = λ {n = n} is. behind is.escapes (record {
       kept = is.of_run.kept;
       indents = is.of_run.indents;
-      frames = outer-frames p u blocks vs n.blocks is.of_run.frames;
+      frames = outer_frames-frames p u blocks vs n.blocks is.of_run.frames;
     });
     empty_enters = λ n t is. cc;
     with_enters = with_block-frame p u blocks vs;
@@ -227,7 +227,7 @@ module _ (p : Setting) (u : Tree) (blocks : List Frame) (vs : List Visit) where
     over_next = λ {z = z} h first last. behind (last.escapes ∙ first.escapes) (record {
       kept = h.kept;
       indents = h.indents;
-      frames = outer-frames p u blocks vs z.blocks last.of_run.frames;
+      frames = outer_frames-frames p u blocks vs z.blocks last.of_run.frames;
     });
     begins_well = λ h. h.of_run;
     begins_comes = λ {s = s} h known. record {
@@ -244,12 +244,12 @@ module _ (p : Setting) (u : Tree) (blocks : List Frame) (vs : List Visit) where
       of_run = is_behind.of_run;
     };
     body_part = λ {site = site} {e = e} {t = t} i at is fits h. record {
-      stands = (body_at-of_run site i at.of_run, element_at-read u site body_of e (Some t) at.stands is);
+      stands = (body_at-of_run site i at.of_run, element_at-read u site element_body e (Some t) at.stands is);
       raw = fits;
       of_run = h;
     };
     inverse_part = λ {site = site} {e = e} {t = t} i at is fits h. record {
-      stands = (inverse_at-of_run site i at.of_run, element_at-read u site inverse_of e (Some t) at.stands is);
+      stands = (inverse_at-of_run site i at.of_run, element_at-read u site element_inverse e (Some t) at.stands is);
       raw = fits;
       of_run = h;
     };

@@ -7,13 +7,13 @@ use Rattle.serde_json.specs.Data.{Data}
 use Rattle.handlebars_base.specs.Bytes.{Text}
 use Rattle.handlebars_template.specs.Tree.{Tree, Binding, Decorator, decorator_marks}
 use Rattle.handlebars_scope.specs.Resolve.{or_else}
-use Rattle.handlebars_scope.specs.Scopes.{Frame, empty_frame, Base, at_path, at_value, based}
-use Rattle.handlebars_helpers.specs.Turns.{Turn, turn_base, turned, with_block}
+use Rattle.handlebars_scope.specs.Scopes.{Frame, empty_frame, Base, at_path, at_value, frame_at}
+use Rattle.handlebars_helpers.specs.Turns.{Turn, turn_base, turn_frame, with_block}
 use Rattle.handlebars_meaning.specs.Inclusion.{newest, joined_indent}
 use Rattle.handlebars_meaning.specs.Laws.{IsPlain}
 use Rattle.handlebars_meaning.specs.Origins.{element_at, inclusion_tag, IsVisited, AreIndents, no_indents, one_indent_more, HaveOrigins, IsLocalOfRun, stood_in}
 use Rattle.handlebars_meaning.specs.Sites.{Site}
-use Rattle.handlebars_meaning.specs.State.{Kept, Setting, State, outer, nearest_as, partial_in, with_partial}
+use Rattle.handlebars_meaning.specs.State.{KeptBlocks, Setting, State, outer_frames, nearest_as, partial_in, with_partial}
 use Rattle.handlebars_meaning.specs.Visits.{Visit}
 use Rattle.handlebars_laws.proofs.Closed.{MayKeep}
 
@@ -46,9 +46,9 @@ unfolding tree_or
 Some-injective x t is = ap (tree_or x) is
 
 -- a block's partials don't depend on where it stands
-based-partial : (base : Base) (f : Frame) (n : Text) → (based base f).partial n ≡ f.partial n
-based-partial (at_path path) f n = refl
-based-partial (at_value d) f n = refl
+frame_at-partial : (base : Base) (f : Frame) (n : Text) → (frame_at base f).partial n ≡ f.partial n
+frame_at-partial (at_path path) f n = refl
+frame_at-partial (at_value d) f n = refl
 
 -- ---- states
 
@@ -58,7 +58,7 @@ module _ (p : Setting) (u : Tree) (blocks : List Frame) (vs : List Visit) where
   IsFrameOfRun f = (n : Text) (t : Tree) → f.partial n ≡ Some t → IsLocalOfRun p u blocks vs t
 
   -- Of the fields that matter, so that a change of any other keeps it.
-  pub record AreOfRun (ks : Kept) (indent : Option Text) (fs : List Frame) : Type 0 where
+  pub record AreOfRun (ks : KeptBlocks) (indent : Option Text) (fs : List Frame) : Type 0 where
     pub kept : AllByRecursion (MayKeep (HaveOrigins p u vs)) ks
     pub indents : AreIndents u vs (unwrap_or indent [])
     pub frames : AllByRecursion IsFrameOfRun fs
@@ -71,14 +71,14 @@ module _ (p : Setting) (u : Tree) (blocks : List Frame) (vs : List Visit) where
     pub escapes : n.escapes ≡ s.escapes
     pub of_run : IsOfRun n
 
-  pub newest-origins : (ks : Kept) → AllByRecursion (MayKeep (HaveOrigins p u vs)) ks
+  pub newest-origins : (ks : KeptBlocks) → AllByRecursion (MayKeep (HaveOrigins p u vs)) ks
       → MayKeep (HaveOrigins p u vs) (newest ks)
   newest-origins [] h = tt
   newest-origins (k ∷ ks) h = h.0
 
-  pub outer-frames : (fs : List Frame) → AllByRecursion IsFrameOfRun fs → AllByRecursion IsFrameOfRun (outer fs)
-  outer-frames [] h = tt
-  outer-frames (f ∷ fs) h = h.1
+  pub outer_frames-frames : (fs : List Frame) → AllByRecursion IsFrameOfRun fs → AllByRecursion IsFrameOfRun (outer_frames fs)
+  outer_frames-frames [] h = tt
+  outer_frames-frames (f ∷ fs) h = h.1
 
   pub nearest_as-frames : (change : Frame → Frame) (fs : List Frame)
       → ((f : Frame) → IsFrameOfRun f → IsFrameOfRun (change f)) → AllByRecursion IsFrameOfRun fs
@@ -107,17 +107,17 @@ module _ (p : Setting) (u : Tree) (blocks : List Frame) (vs : List Visit) where
   with_partial-frame name x h f g = λ n t is. cond-local (bytes_eq name n) (Some x) (f.partial n) t
       (λ same. subst (IsLocalOfRun p u blocks vs) (Some-injective x t same) h) (g n t) is
 
-  pub turned-frame : (path : Option (List Text)) (b : Binding) (t : Turn) (f : Frame) → IsFrameOfRun f
-      → IsFrameOfRun (turned path b t f)
-  turned-frame path b t f h = λ n x is. h n x (sym (based-partial (turn_base path t) f n) ∙ is)
+  pub turn_frame-frame : (path : Option (List Text)) (b : Binding) (t : Turn) (f : Frame) → IsFrameOfRun f
+      → IsFrameOfRun (turn_frame path b t f)
+  turn_frame-frame path b t f h = λ n x is. h n x (sym (frame_at-partial (turn_base path t) f n) ∙ is)
 
   pub with_block-frame : (base : Base) (b : Binding) (variables : Text → Option Data)
       → IsFrameOfRun (with_block base b variables)
-  with_block-frame base b variables = λ n x is. None≢Some (sym (based-partial base empty_frame n) ∙ is)
+  with_block-frame base b variables = λ n x is. None≢Some (sym (frame_at-partial base empty_frame n) ∙ is)
 
   -- ---- where a run begins
 
-  no_kept-origins : (ks : Kept) → ks ≡ [] → AllByRecursion (MayKeep (HaveOrigins p u vs)) ks
+  no_kept-origins : (ks : KeptBlocks) → ks ≡ [] → AllByRecursion (MayKeep (HaveOrigins p u vs)) ks
   no_kept-origins [] is = tt
   no_kept-origins (k ∷ ks) is = cc
 

@@ -15,7 +15,7 @@ use Rattle.handlebars_laws.proofs.Calls.{render_call-holds, render_expression-ho
 use Rattle.handlebars_laws.proofs.Closed.{Closed}
 use Rattle.handlebars_laws.proofs.Inclusions.{render_partial-holds}
 use Rattle.handlebars_laws.proofs.Law.{Law, PlanHolds}
-use Rattle.handlebars_laws.proofs.Programs.{upto, any, Leads, answer-holds, return-holds, write_text-holds, unescaped-holds}
+use Rattle.handlebars_laws.proofs.Programs.{upto, any, Leads, answer-holds, return-holds, write_text-holds, without_escaping-holds}
 
 module _ (p : Setting) (law : Law) (closed : Closed p law) where
   -- ---- decorators
@@ -61,7 +61,7 @@ module _ (p : Setting) (law : Law) (closed : Closed p law) where
   render_element-holds site place (raw_string t) s begins comes =
       write_text-holds p law closed (One site place (raw_string t)) s (of_text site) t (closed.text_written comes)
   render_element-holds site place (html_expression c) s begins comes =
-      unescaped-holds p law closed (One site place (html_expression c)) s (render_expression site c)
+      without_escaping-holds p law closed (One site place (html_expression c)) s (render_expression site c)
       (render_expression-holds p law closed site place (html_expression c) c refl (record s { escapes = false })
       (closed.raw_comes comes) (closed.begins_raw begins))
   render_element-holds site place (expression c) s begins comes =

@@ -3,7 +3,7 @@ use Rattle.std.specs.Prelude.{◌==◌, if◌then◌else◌, Option, Some, None}
 use Rattle.std.specs.List.{prefix_len}
 use Rattle.handlebars_base.specs.Bytes.{Text, behind_white, is_symbol}
 use Rattle.handlebars_base.specs.Optional.{◌>>=◌, with_or}
-use Rattle.handlebars_base.specs.Texts.{after, symbols_of, behind_symbols}
+use Rattle.handlebars_base.specs.Texts.{behind_byte, symbols_of, behind_symbols}
 use Rattle.handlebars_lines.specs.Binding.{bar, behind_beginning, BoundNames, unbound, bound, both_bound}
 
 -- symbols, at least one, and what follows them
@@ -16,7 +16,7 @@ name_at t = symbols_at (behind_white t)
 
 -- what follows a bar behind white or none
 abbrev pub behind_last : Text → Option Text
-behind_last t = after bar (behind_white t)
+behind_last t = behind_byte bar (behind_white t)
 
 -- Where no symbol stands in front, another name needs white before it.
 abbrev pub other_at : Text → Text → Option (BoundNames × Text)

@@ -12,9 +12,9 @@ use Rattle.handlebars_base.specs.Bytes.{is_white, behind_white, is_symbol}
 use Rattle.handlebars_base.specs.Path.{IsIdentifier}
 use Rattle.handlebars_base.specs.Optional.{◌>>=◌, with_or}
 use Rattle.handlebars_base.proofs.OptionBinds.{bind_some, with_or_is, cond_is, guard_bind}
-use Rattle.handlebars_base.proofs.Fronts.{after_takes, behind_white-skips, behind_white-append, dark_behind, white_some, starts-other, after-not, after-same}
+use Rattle.handlebars_base.proofs.Fronts.{behind_byte_takes, behind_white-skips, behind_white-append, dark_behind, white_some, starts-other, behind_byte-not, behind_byte-same}
 use Rattle.handlebars_base.proofs.Runs.{prefix_pass, behind_symbols-stops, symbols_some, prefix_len-none, run-front, run-rest}
-use Rattle.handlebars_base.specs.Texts.{IsWhite, starts, after, symbols_of, behind_symbols}
+use Rattle.handlebars_base.specs.Texts.{IsWhite, starts, behind_byte, symbols_of, behind_symbols}
 use Rattle.handlebars_base.proofs.Bytes.{other_byte, symbol_dark, white_symbol}
 use Rattle.handlebars_lines.specs.Binding.{behind_bar, behind_beginning, begins_binding, BoundNames, unbound, bound, both_bound, Names, one_name, two_names, spelled_names, AreNames, bound_by, IsBound, IsBinding, is_unbound, is_bound, NoBinding, OneBinding}
 use Rattle.handlebars_lines.proofs.BindingReading.{symbols_at, name_at, behind_last, other_at, names_at, binding_at}
@@ -29,11 +29,11 @@ pub record TakesBar (t r : List ℕ) : Type 0 where
 
 pub behind_bar-takes : (t r : List ℕ) → behind_bar t ≡ Some r → TakesBar t r
 unfolding behind_bar
-behind_bar-takes t r e = elim (cond_is (bytes_eq (symbols_of t) (codes "as")) (after 124 (behind_white (behind_symbols t))) None (Some r) e) [
+behind_bar-takes t r e = elim (cond_is (bytes_eq (symbols_of t) (codes "as")) (behind_byte 124 (behind_white (behind_symbols t))) None (Some r) e) [
   | inl yea ↦
       let word : symbols_of t ≡ 97 ∷ 115 ∷ [] = (bytes_eq-Decides (symbols_of t) (codes "as")).0 yea.0 in
       let white = behind_white-skips (behind_symbols t) in
-      let mark = after_takes 124 (behind_white (behind_symbols t)) r yea.1 in
+      let mark = behind_byte_takes 124 (behind_white (behind_symbols t)) r yea.1 in
       record {
         between = white.white;
         is = white.is;
@@ -57,7 +57,7 @@ behind_bar-append w r white =
     let stop = no_symbols-white w 124 r white refl in
     let word : symbols_of (97 ∷ 115 ∷ (w ++ 124 ∷ r)) ≡ 97 ∷ 115 ∷ [] = run-front is_symbol (97 ∷ 115 ∷ []) (w ++ 124 ∷ r) (refl, (refl, tt)) stop in
     let rest : behind_symbols (97 ∷ 115 ∷ (w ++ 124 ∷ r)) ≡ w ++ 124 ∷ r = run-rest is_symbol (97 ∷ 115 ∷ []) (w ++ 124 ∷ r) (refl, (refl, tt)) stop in
-    rw (word, rest, behind_white-append w (124 ∷ r) white refl, after-same 124 r) refl
+    rw (word, rest, behind_white-append w (124 ∷ r) white refl, behind_byte-same 124 r) refl
 
 -- white, and `as` and a bar behind it
 pub record BeginsAt (t r : List ℕ) : Type 0 where
@@ -135,12 +135,12 @@ name_at-append w name r white id stop =
     rw (behind_white-append w (name ++ r) white (identifier_dark name r id)) (symbols_at-append name r id stop)
 
 behind_last-append : (v r : List ℕ) → IsWhite v → behind_last (v ++ 124 ∷ r) ≡ Some r
-behind_last-append v r white = rw (behind_white-append v (124 ∷ r) white refl, after-same 124 r) refl
+behind_last-append v r white = rw (behind_white-append v (124 ∷ r) white refl, behind_byte-same 124 r) refl
 
 behind_last-none : (u name r : List ℕ) → IsWhite u → IsIdentifier name → behind_last (u ++ (name ++ r)) ≡ None
 behind_last-none u name r white id =
     let other = starts-other is_symbol (λ b. b == 124) (name ++ r) (other_byte is_symbol 124 refl) (identifier_starts name r id) in
-    rw (behind_white-append u (name ++ r) white (identifier_dark name r id), after-not 124 (name ++ r) other) refl
+    rw (behind_white-append u (name ++ r) white (identifier_dark name r id), behind_byte-not 124 (name ++ r) other) refl
 
 -- what is left behind the last bar
 pub record TakesNames (t : List ℕ) (means : BoundNames) (r : List ℕ) : Type 0 where
@@ -167,7 +167,7 @@ behind_last-takes t r e =
     record {
       white = white.white;
       is_white = white.is;
-      whole = white.whole ∙ ap (λ (z : List ℕ). white.white ++ z) (after_takes 124 (behind_white t) r e);
+      whole = white.whole ∙ ap (λ (z : List ℕ). white.white ++ z) (behind_byte_takes 124 (behind_white t) r e);
     }
 
 one_taken : (t name behind r : List ℕ) → TakesName t name behind → TakesLast behind r → TakesNames t (bound name) r

@@ -10,8 +10,8 @@ use Rattle.std.proofs.lemmas.List.{take-append-drop}
 use Rattle.std.proofs.lemmas.List.Quantifiers.{position-Some}
 use Rattle.std.proofs.Math.Seq.{get_or-drop}
 use Rattle.handlebars_base.specs.Bytes.{Text, left_bracket, right_bracket, single_quote, is_symbol}
-use Rattle.handlebars_base.specs.Texts.{starts, after}
-use Rattle.handlebars_base.proofs.Fronts.{after_takes}
+use Rattle.handlebars_base.specs.Texts.{starts, behind_byte}
+use Rattle.handlebars_base.proofs.Fronts.{behind_byte_takes}
 use Rattle.handlebars_base.proofs.Bytes.{no_symbol_ascii}
 use Rattle.handlebars_lines.specs.CloseName.{is_close_symbol, enclosed_at, close_name_at}
 
@@ -57,11 +57,11 @@ close_name-whole t =
     (parts-cond (starts (λ b. b == single_quote) t) t (enclosed_at single_quote t) (take n t, drop n t) (parts-enclosed single_quote t) run)
 
 -- no close name begins with a parenthesis
-pub close_name-parenthesis : (t name rest : Text) → close_name_at t ≡ (name, rest) → name ≢ [] → after 40 t ≡ None
-close_name-parenthesis t name rest e some = on (after 40 t) refl
+pub close_name-parenthesis : (t name rest : Text) → close_name_at t ≡ (name, rest) → name ≢ [] → behind_byte 40 t ≡ None
+close_name-parenthesis t name rest e some = on (behind_byte 40 t) refl
   where
-    on : (o : Option Text) → after 40 t ≡ o → o ≡ None
+    on : (o : Option Text) → behind_byte 40 t ≡ o → o ≡ None
     on None is = refl
     on (Some r) is =
-        let whole : t ≡ 40 ∷ r = after_takes 40 t r is in
+        let whole : t ≡ 40 ∷ r = behind_byte_takes 40 t r is in
         absurd (some (sym (ap (λ (z : Text × Text). z.0) e) ∙ ap (λ (z : Text). (close_name_at z).0) whole))

@@ -19,9 +19,9 @@ use Rattle.serde_json.specs.Read.{of_json, max_depth, read as read_text}
 use Rattle.serde_json.specs.View.{view}
 use Rattle.serde_json.specs.declared.value.Value.{Null, Bool as BoolOf}
 use Rattle.serde_json.proofs.Numbers.{number_of-decimal}
-use Rattle.handlebars_base.proofs.Fronts.{after_other}
+use Rattle.handlebars_base.proofs.Fronts.{behind_byte_other}
 use Rattle.handlebars_base.proofs.ShownValues.{view-Null, view-Bool}
-use Rattle.handlebars_lines.specs.Literal.{is_inner, is_digits, number_of, is_kept, quoted as quoted_literal, single_quoted, number as number_literal, word as word_literal}
+use Rattle.handlebars_lines.specs.Literal.{is_inner, is_digits, number_of, is_in_range, quoted as quoted_literal, single_quoted, number as number_literal, word as word_literal}
 use Rattle.handlebars_lines.specs.CommonJson.{has_leading_zero, is_plain_byte, is_not_single}
 use Rattle.handlebars_lines.specs.Worth.{escaped_doubles, double_quoted}
 use Rattle.handlebars_lines.specs.WorthReading.{worth_of}
@@ -71,16 +71,16 @@ read-digits (b ∷ t) n single e =
 
 -- ---- digits as literals
 
-is_kept-digits : (t : List ℕ) (n : ℕ) → is_digits t ≡ true → number_of t ≡ Some n → is_kept t ≡ true
-unfolding is_kept
-is_kept-digits [] n h e = absurd cc
-is_kept-digits (b ∷ t) n h e = rw (after_other 45 b t (no_minus b t h), e) refl
+is_in_range-digits : (t : List ℕ) (n : ℕ) → is_digits t ≡ true → number_of t ≡ Some n → is_in_range t ≡ true
+unfolding is_in_range
+is_in_range-digits [] n h e = absurd cc
+is_in_range-digits (b ∷ t) n h e = rw (behind_byte_other 45 b t (no_minus b t h), e) refl
 
 worth-digits : (t : List ℕ) (n : ℕ) → has_leading_zero t ≡ false → number_of t ≡ Some n → worth_of t ≡ Some (number (unsigned n))
 worth-digits t n single e =
     let found = below t n e in
     worth_of_literal (number_literal t) (is_number-digits t found.0)
-    ∙ ap (λ b. cond b (read_text t) None) (is_kept-digits t n found.0 e)
+    ∙ ap (λ b. cond b (read_text t) None) (is_in_range-digits t n found.0 e)
     ∙ read-digits t n single e
 
 pub if_digits : (t : List ℕ) (o : Option ℕ) → has_leading_zero t ≡ false → o ≡ number_of t → IfSome o (λ n. worth_of t ≡ Some (number (unsigned n)))

@@ -5,8 +5,8 @@ use Rattle.std.proofs.Math.Dec.{eqb-suc-zero}
 use Rattle.std.proofs.lemmas.Bool.{lt-ltb, eq-eqb}
 use Rattle.std.proofs.lemmas.List.{take_at}
 use Rattle.handlebars_base.specs.Optional.{◌>>=◌}
-use Rattle.handlebars_base.specs.Texts.{after}
-use Rattle.handlebars_base.proofs.Fronts.{after-not, after-same}
+use Rattle.handlebars_base.specs.Texts.{behind_byte}
+use Rattle.handlebars_base.proofs.Fronts.{behind_byte-not, behind_byte-same}
 use Rattle.handlebars_lines.specs.Literal.{array, object, Literal, quoted, single_quoted, number, word, empty, filled, spelled_literal, literal_depth, keeps_numbers, IsLiteral}
 use Rattle.handlebars_lines.specs.Worth.{json_of}
 use Rattle.handlebars_lines.specs.WorthReading.{before, json_text, worth_of}
@@ -31,18 +31,18 @@ before-last c t =
     rw (some, less, get_or-last t c, same, take_at t (c ∷ []) (length t) refl) refl
 
 -- what begins with no single quote is read as written
-as_written : (t : List ℕ) → after 39 t ≡ None → json_text t ≡ t
+as_written : (t : List ℕ) → behind_byte 39 t ≡ None → json_text t ≡ t
 as_written t h = rw h refl
 
 json_text-literal : (l : Literal) → IsLiteral l → json_text (spelled_literal l) ≡ json_of l
-json_text-literal (quoted t) fits = as_written (spelled_literal (quoted t)) (after-not 39 (spelled_literal (quoted t)) refl)
-json_text-literal (single_quoted t) fits = rw (after-same 39 (t ++ 39 ∷ []), before-last 39 t) refl
+json_text-literal (quoted t) fits = as_written (spelled_literal (quoted t)) (behind_byte-not 39 (spelled_literal (quoted t)) refl)
+json_text-literal (single_quoted t) fits = rw (behind_byte-same 39 (t ++ 39 ∷ []), before-last 39 t) refl
 json_text-literal (number t) fits = as_written t (no_mark 39 t refl (plain_begins t (number_goes_on t fits)))
 json_text-literal (word t) fits = as_written t (no_mark 39 t refl (plain_begins t (word_goes_on t fits)))
-json_text-literal (empty array w) fits = as_written (spelled_literal (empty array w)) (after-not 39 (spelled_literal (empty array w)) refl)
-json_text-literal (empty object w) fits = as_written (spelled_literal (empty object w)) (after-not 39 (spelled_literal (empty object w)) refl)
-json_text-literal (filled array lead l w more) fits = as_written (spelled_literal (filled array lead l w more)) (after-not 39 (spelled_literal (filled array lead l w more)) refl)
-json_text-literal (filled object lead l w more) fits = as_written (spelled_literal (filled object lead l w more)) (after-not 39 (spelled_literal (filled object lead l w more)) refl)
+json_text-literal (empty array w) fits = as_written (spelled_literal (empty array w)) (behind_byte-not 39 (spelled_literal (empty array w)) refl)
+json_text-literal (empty object w) fits = as_written (spelled_literal (empty object w)) (behind_byte-not 39 (spelled_literal (empty object w)) refl)
+json_text-literal (filled array lead l w more) fits = as_written (spelled_literal (filled array lead l w more)) (behind_byte-not 39 (spelled_literal (filled array lead l w more)) refl)
+json_text-literal (filled object lead l w more) fits = as_written (spelled_literal (filled object lead l w more)) (behind_byte-not 39 (spelled_literal (filled object lead l w more)) refl)
 
 abbrev slice_alone : Literal → LiteralSlice
 slice_alone l = record { raw = spelled_literal l; rest = []; depth = literal_depth l; kept = keeps_numbers l }

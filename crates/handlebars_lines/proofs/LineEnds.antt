@@ -7,7 +7,7 @@ use Rattle.handlebars_base.specs.Path.{plain, in_parts, IsPath, Reference, meani
 use Rattle.handlebars_base.specs.PathReading.{slice_at}
 use Rattle.handlebars_base.proofs.References.{stops}
 use Rattle.handlebars_base.specs.Texts.{IsWhite, starts, behind_symbols}
-use Rattle.handlebars_base.proofs.Fronts.{behind_white-append, starts-other, after-not}
+use Rattle.handlebars_base.proofs.Fronts.{behind_white-append, starts-other, behind_byte-not}
 use Rattle.handlebars_base.proofs.Bytes.{other_byte}
 use Rattle.handlebars_base.proofs.Runs.{run-rest}
 use Rattle.handlebars_lines.specs.Runs.{goes, stuck}
@@ -78,7 +78,7 @@ as_stuck : (n : ℕ) (w r : List ℕ) → IsWhite w → item_step n (97 ∷ 115 
 unfolding item_step parameter_step
 as_stuck n w r white =
     let no_literal = literal_at-missing (97 ∷ 115 ∷ (w ++ 124 ∷ r)) (as_no_literal w r white) in
-    let no_inner = after-not 40 (97 ∷ 115 ∷ (w ++ 124 ∷ r)) refl in
+    let no_inner = behind_byte-not 40 (97 ∷ 115 ∷ (w ++ 124 ∷ r)) refl in
     rw (as_no_key w r white, no_inner, no_literal, as_slice w r white) refl
 
 -- ---- where an item stands the line does not end

@@ -7,8 +7,8 @@ use Rattle.handlebars_base.specs.Bytes.{is_white, behind_white, is_symbol}
 use Rattle.handlebars_base.specs.Path.{IsIdentifier, Reference, IsPath}
 use Rattle.handlebars_base.specs.PathReading.{is_reference_byte, reference_from, reference_len}
 use Rattle.handlebars_base.proofs.References.{stops-path, reference_len-append, starts_reference, stops}
-use Rattle.handlebars_base.specs.Texts.{IsWhite, starts, after, behind_symbols}
-use Rattle.handlebars_base.proofs.Fronts.{behind_white-dark, behind_white-append, starts-other, starts-append, after-not, starts-more}
+use Rattle.handlebars_base.specs.Texts.{IsWhite, starts, behind_byte, behind_symbols}
+use Rattle.handlebars_base.proofs.Fronts.{behind_white-dark, behind_white-append, starts-other, starts-append, behind_byte-not, starts-more}
 use Rattle.handlebars_base.proofs.Bytes.{other_byte}
 use Rattle.handlebars_base.proofs.Runs.{on_symbol, on_mark, prefix_len-none}
 use Rattle.handlebars_lines.specs.Literal.{Literal, quoted, single_quoted, number, word, empty, filled, array, object, spelled_literal, IsLiteral, goes_on}
@@ -97,8 +97,8 @@ pub begins_no_white : (t : List ℕ) → starts begins t ≡ true → starts is_
 begins_no_white t h = starts-other begins is_white t begins_dark h
 
 -- no parenthesis stands where a literal or a path does
-pub single_no_parenthesis : (t : List ℕ) → starts begins_single t ≡ true → after 40 t ≡ None
-single_no_parenthesis t h = after-not 40 t (starts-other begins_single (λ b. b == 40) t (other_byte begins_single 40 refl) h)
+pub single_no_parenthesis : (t : List ℕ) → starts begins_single t ≡ true → behind_byte 40 t ≡ None
+single_no_parenthesis t h = behind_byte-not 40 t (starts-other begins_single (λ b. b == 40) t (other_byte begins_single 40 refl) h)
 
 -- ---- what follows a parameter
 

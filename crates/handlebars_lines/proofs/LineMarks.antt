@@ -13,9 +13,9 @@ use Rattle.handlebars_base.proofs.References.{stops}
 use Rattle.handlebars_base.specs.Optional.{◌>>=◌}
 use Rattle.handlebars_base.proofs.OptionBinds.{bind_some, map_some, guard_bind}
 use Rattle.handlebars_base.proofs.PathsInFront.{path_at-some, path_at-stops}
-use Rattle.handlebars_base.proofs.Fronts.{after_takes, behind_white-skips, behind_white-append, after-not, after-same}
+use Rattle.handlebars_base.proofs.Fronts.{behind_byte_takes, behind_white-skips, behind_white-append, behind_byte-not, behind_byte-same}
 use Rattle.handlebars_base.proofs.Runs.{prefix_pass, prefix_len-none, run-front, run-rest, symbols_some}
-use Rattle.handlebars_base.specs.Texts.{IsWhite, starts, after, symbols_of, behind_symbols}
+use Rattle.handlebars_base.specs.Texts.{IsWhite, starts, behind_byte, symbols_of, behind_symbols}
 use Rattle.handlebars_base.proofs.Bytes.{white_symbol}
 use Rattle.handlebars_lines.specs.Literal.{Literal, spelled_literal, literal_depth, keeps_numbers, IsLiteralAt}
 use Rattle.handlebars_lines.specs.LiteralReading.{LiteralSlice, literal_at}
@@ -78,12 +78,12 @@ pub record TakesKey (t key rest : List ℕ) : Type 0 where
 pub key_and_equals_at-some : (t : List ℕ) (k : List ℕ × List ℕ) → key_and_equals_at t ≡ Some k → TakesKey t k.0 k.1
 unfolding key_and_equals_at
 key_and_equals_at-some t k e =
-    let g = guard_bind (prefix_len is_symbol t == 0) (after 61 (behind_white (behind_symbols t)) >>= λ r. Some (symbols_of t, behind_white r)) k e in
-    let b = bind_some (after 61 (behind_white (behind_symbols t))) (λ r. Some (symbols_of t, behind_white r)) k g.1 in
+    let g = guard_bind (prefix_len is_symbol t == 0) (behind_byte 61 (behind_white (behind_symbols t)) >>= λ r. Some (symbols_of t, behind_white r)) k e in
+    let b = bind_some (behind_byte 61 (behind_white (behind_symbols t))) (λ r. Some (symbols_of t, behind_white r)) k g.1 in
     let before = behind_white-skips (behind_symbols t) in
     let behind = behind_white-skips b.0 in
     let same : (symbols_of t, behind_white b.0) ≡ k = same_Some (symbols_of t, behind_white b.0) k b.2 in
-    let sign : behind_white (behind_symbols t) ≡ 61 ∷ b.0 = after_takes 61 (behind_white (behind_symbols t)) b.0 b.1 in
+    let sign : behind_white (behind_symbols t) ≡ 61 ∷ b.0 = behind_byte_takes 61 (behind_white (behind_symbols t)) b.0 b.1 in
     subst (λ (z : List ℕ × List ℕ). TakesKey t z.0 z.1) same (record {
       before = before.white;
       behind = behind.white;
@@ -97,7 +97,7 @@ pub key_and_equals_at-none : (t : List ℕ) → starts (λ b. b == 61) (behind_w
 unfolding key_and_equals_at
 key_and_equals_at-none t h = elim (cases_Bool (prefix_len is_symbol t == 0)) [
   | inl none ↦ rw none refl
-  | inr some ↦ rw (some, after-not 61 (behind_white (behind_symbols t)) h) refl
+  | inr some ↦ rw (some, behind_byte-not 61 (behind_white (behind_symbols t)) h) refl
 ]
 
 pub key_and_equals_at-dark : (t : List ℕ) → starts is_symbol t ≡ false → key_and_equals_at t ≡ None
@@ -114,7 +114,7 @@ key_and_equals_at-append key u v t id white-u white-v dark_t =
     let some : (prefix_len is_symbol (key ++ sign_at) == 0) ≡ false = not_none key id in
     let sign = behind_white-append u (61 ∷ (v ++ t)) white-u refl in
     let dark = behind_white-append v t white-v dark_t in
-    rw (some, drop_it, sign, after-same 61 (v ++ t), take_it, dark) refl
+    rw (some, drop_it, sign, behind_byte-same 61 (v ++ t), take_it, dark) refl
   where
     ends_key : (u : List ℕ) → IsWhite u → starts is_symbol (u ++ 61 ∷ (v ++ t)) ≡ false
     ends_key [] white = refl

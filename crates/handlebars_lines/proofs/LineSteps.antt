@@ -10,8 +10,8 @@ use Rattle.handlebars_base.specs.Path.{IsIdentifier, Reference, IsPath}
 use Rattle.handlebars_base.specs.PathReading.{slice_at}
 use Rattle.handlebars_base.specs.Optional.{with_or}
 use Rattle.handlebars_base.proofs.OptionBinds.{with_or_is, cond_is}
-use Rattle.handlebars_base.proofs.Fronts.{after_takes, behind_white-skips, white_some, dark_behind}
-use Rattle.handlebars_base.specs.Texts.{IsWhite, starts, after, symbols_of, behind_symbols}
+use Rattle.handlebars_base.proofs.Fronts.{behind_byte_takes, behind_white-skips, white_some, dark_behind}
+use Rattle.handlebars_base.specs.Texts.{IsWhite, starts, behind_byte, symbols_of, behind_symbols}
 use Rattle.handlebars_base.proofs.Runs.{prefix_pass}
 use Rattle.handlebars_lines.specs.Runs.{ReadingStep, goes, ends, stuck}
 use Rattle.handlebars_lines.specs.Literal.{Literal, spelled_literal, literal_depth, IsLiteralAt}
@@ -72,7 +72,7 @@ abbrev outer_step : Enclosure → Stand → List ℕ → ReadingStep Event LineS
 outer_step around s t = cond (is_end around t) ends (next_step s 0 t)
 
 abbrev inner_step : Stand → ℕ → List ℕ → ReadingStep Event LineStand
-inner_step s n t = with_or (after 41 (behind_white t)) (λ r. goes closed (line_stand at_items (n - 1)) r) (next_step s n t)
+inner_step s n t = with_or (behind_byte 41 (behind_white t)) (λ r. goes closed (line_stand at_items (n - 1)) r) (next_step s n t)
 
 path_stepped : (key : Option (List ℕ)) (n : ℕ) (t : List ℕ) (x : Event) (s' : LineStand) (t' : List ℕ) → literal_at t ≡ None → path_step key n t ≡ goes x s' t' → ParameterStepped key n t x s' t'
 path_stepped key n t x s' t' none e = elim (with_or_is (slice_at t) (λ p. cond (is_excluded key p.0) stuck (path_goes key n p)) stuck (goes x s' t') e) [
@@ -88,12 +88,12 @@ path_stepped key n t x s' t' none e = elim (with_or_is (slice_at t) (λ p. cond 
 
 parameter_stepped : (key : Option (List ℕ)) (n : ℕ) (t : List ℕ) (x : Event) (s' : LineStand) (t' : List ℕ) → parameter_step key n t ≡ goes x s' t' → ParameterStepped key n t x s' t'
 unfolding parameter_step
-parameter_stepped key n t x s' t' e = elim (with_or_is (after 40 t) (open_step key n) (with_or (literal_at t) (literal_goes key n) (path_step key n t)) (goes x s' t') e) [
+parameter_stepped key n t x s' t' e = elim (with_or_is (behind_byte 40 t) (open_step key n) (with_or (literal_at t) (literal_goes key n) (path_step key n t)) (goes x s' t') e) [
   | inl inner ↦
       let same = goes-parts (opened key (suc n)) x (line_stand (at_name value_name) (suc n)) s' (behind_white inner.0) t' inner.2 in
       let white = behind_white-skips inner.0 in
       to_nested white.white (sym same.states) (sym same.events) white.is
-      (after_takes 40 t inner.0 inner.1 ∙ ap (λ (z : List ℕ). 40 ∷ z) (white.whole ∙ ap (λ (z : List ℕ). white.white ++ z) same.lefts))
+      (behind_byte_takes 40 t inner.0 inner.1 ∙ ap (λ (z : List ℕ). 40 ∷ z) (white.whole ∙ ap (λ (z : List ℕ). white.white ++ z) same.lefts))
   | inr other ↦ elim (with_or_is (literal_at t) (literal_goes key n) (path_step key n t) (goes x s' t') other.1) [
     | inl found ↦
         let f = found.0 in
@@ -106,12 +106,12 @@ parameter_stepped key n t x s' t' e = elim (with_or_is (after 40 t) (open_step k
   ]
 ]
 
-opened_stepped : (mode : NameMode) (n : ℕ) (t r : List ℕ) (x : Event) (s' : LineStand) (t' : List ℕ) → takes_parentheses mode ≡ true → after 40 t ≡ Some r → open_step None n r ≡ goes x s' t' → LineStepped (line_stand (at_name mode) n) t x s' t'
+opened_stepped : (mode : NameMode) (n : ℕ) (t r : List ℕ) (x : Event) (s' : LineStand) (t' : List ℕ) → takes_parentheses mode ≡ true → behind_byte 40 t ≡ Some r → open_step None n r ≡ goes x s' t' → LineStepped (line_stand (at_name mode) n) t x s' t'
 opened_stepped mode n t r x s' t' takes is e =
     let same = goes-parts (opened None (suc n)) x (line_stand (at_name value_name) (suc n)) s' (behind_white r) t' e in
     let white = behind_white-skips r in
     to_inner mode n white.white takes refl (sym same.states) (sym same.events) white.is
-    (after_takes 40 t r is ∙ ap (λ (z : List ℕ). 40 ∷ z) (white.whole ∙ ap (λ (z : List ℕ). white.white ++ z) same.lefts))
+    (behind_byte_takes 40 t r is ∙ ap (λ (z : List ℕ). 40 ∷ z) (white.whole ∙ ap (λ (z : List ℕ). white.white ++ z) same.lefts))
 
 plain_stepped : (mode : NameMode) (n : ℕ) (t : List ℕ) (p : List ℕ × List ℕ) (x : Event) (s' : LineStand) (t' : List ℕ) → t ≡ p.0 ++ p.1 → (p.0 ≢ [] → IsPlainName mode p.0 p.1) → plain_step n p ≡ goes x s' t' → LineStepped (line_stand (at_name mode) n) t x s' t'
 plain_stepped mode n t p x s' t' whole is e = elim (cond_is (length p.0 == 0) stuck (goes (name_event p.0) (line_stand at_items n) p.1) (goes x s' t') e) [
@@ -143,11 +143,11 @@ name_stepped : (mode : NameMode) (n : ℕ) (t : List ℕ) (x : Event) (s' : Line
 unfolding name_step
 name_stepped identifier_name n t x s' t' e =
     plain_stepped identifier_name n t (symbols_of t, behind_symbols t) x s' t' (sym (take-append-drop (prefix_len is_symbol t) t)) (λ some. (some, prefix_pass is_symbol t)) e
-name_stepped value_name n t x s' t' e = elim (with_or_is (after 40 t) (open_step None n) (value_step n t) (goes x s' t') e) [
+name_stepped value_name n t x s' t' e = elim (with_or_is (behind_byte 40 t) (open_step None n) (value_step n t) (goes x s' t') e) [
   | inl inner ↦ opened_stepped value_name n t inner.0 x s' t' refl inner.1 inner.2
   | inr name ↦ value_stepped n t x s' t' name.1
 ]
-name_stepped close_name n t x s' t' e = elim (with_or_is (after 40 t) (open_step None n) (plain_step n (close_name_at t)) (goes x s' t') e) [
+name_stepped close_name n t x s' t' e = elim (with_or_is (behind_byte 40 t) (open_step None n) (plain_step n (close_name_at t)) (goes x s' t') e) [
   | inl inner ↦ opened_stepped close_name n t inner.0 x s' t' refl inner.1 inner.2
   | inr name ↦ plain_stepped close_name n t (close_name_at t) x s' t' (close_name-whole t) (close_is t (close_name_at t) refl) name.1
 ]
@@ -186,13 +186,13 @@ outer_stepped around st t x s' t' e = elim (cond_is (is_end around t) ends (next
 ]
 
 inner_stepped : (st : Stand) (n : ℕ) (t : List ℕ) (x : Event) (s' : LineStand) (t' : List ℕ) → is_at_name st ≡ false → inner_step st (suc n) t ≡ goes x s' t' → LineStepped (line_stand st (suc n)) t x s' t'
-inner_stepped st n t x s' t' other e = elim (with_or_is (after 41 (behind_white t)) (λ r. goes closed (line_stand at_items (suc n - 1)) r) (next_step st (suc n) t) (goes x s' t') e) [
+inner_stepped st n t x s' t' other e = elim (with_or_is (behind_byte 41 (behind_white t)) (λ r. goes closed (line_stand at_items (suc n - 1)) r) (next_step st (suc n) t) (goes x s' t') e) [
   | inl shut ↦
       let same = goes-parts closed x (line_stand at_items (suc n - 1)) s' shut.0 t' shut.2 in
       let front = behind_white-skips t in
       let less : suc n - 1 ≡ n = omega arith in
       to_closed n st front.white refl other (sym same.states ∙ ap (line_stand at_items) less) (sym same.events) front.is
-      (front.whole ∙ ap (λ (z : List ℕ). front.white ++ z) (after_takes 41 (behind_white t) shut.0 shut.1 ∙ ap (λ (z : List ℕ). 41 ∷ z) same.lefts))
+      (front.whole ∙ ap (λ (z : List ℕ). front.white ++ z) (behind_byte_takes 41 (behind_white t) shut.0 shut.1 ∙ ap (λ (z : List ℕ). 41 ∷ z) same.lefts))
   | inr item ↦ next_stepped st (suc n) t x s' t' item.1
 ]
 
@@ -226,7 +226,7 @@ path_goes_on key n p false = refl
 
 parameter_ends : (key : Option (List ℕ)) (n : ℕ) (t : List ℕ) → is_ends (parameter_step key n t) ≡ false
 unfolding parameter_step
-parameter_ends key n t = on (after 40 t) (literal_at t) (slice_at t)
+parameter_ends key n t = on (behind_byte 40 t) (literal_at t) (slice_at t)
   where
     on : (o : Option (List ℕ)) (f : Option LiteralSlice) (q : Option (List ℕ × List ℕ))
         → is_ends (with_or o (open_step key n) (with_or f (literal_goes key n) (with_or q (λ p. cond (is_excluded key p.0) stuck (path_goes key n p)) stuck))) ≡ false
@@ -256,8 +256,8 @@ opened_ends n (Some r) other h = refl
 name_ends : (mode : NameMode) (n : ℕ) (t : List ℕ) → is_ends (name_step mode n t) ≡ false
 unfolding name_step
 name_ends identifier_name n t = plain_ends n (symbols_of t, behind_symbols t)
-name_ends value_name n t = opened_ends n (after 40 t) (value_step n t) (value_ends n t)
-name_ends close_name n t = opened_ends n (after 40 t) (plain_step n (close_name_at t)) (plain_ends n (close_name_at t))
+name_ends value_name n t = opened_ends n (behind_byte 40 t) (value_step n t) (value_ends n t)
+name_ends close_name n t = opened_ends n (behind_byte 40 t) (plain_step n (close_name_at t)) (plain_ends n (close_name_at t))
 
 item_ends : (n : ℕ) (t : List ℕ) → is_ends (item_step n t) ≡ false
 unfolding item_step
@@ -277,7 +277,7 @@ next_ends at_items n t = on (starts is_white t)
     on false = refl
 
 inner_ends : (st : Stand) (n : ℕ) (t : List ℕ) → is_ends (inner_step st n t) ≡ false
-inner_ends st n t = on (after 41 (behind_white t))
+inner_ends st n t = on (behind_byte 41 (behind_white t))
   where
     on : (o : Option (List ℕ)) → is_ends (with_or o (λ r. goes closed (line_stand at_items (n - 1)) r) (next_step st n t)) ≡ false
     on None = next_ends st n t

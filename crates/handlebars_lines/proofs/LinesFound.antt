@@ -6,8 +6,8 @@ use Rattle.std.proofs.Math.Dec.{eqb-suc-zero}
 use Rattle.std.proofs.lemmas.Bool.{eqb-true, false≢true}
 use Rattle.handlebars_base.specs.Bytes.{is_white, behind_white, is_symbol}
 use Rattle.handlebars_base.specs.Path.{IsIdentifier, Reference, IsPath}
-use Rattle.handlebars_base.specs.Texts.{IsWhite, starts, after}
-use Rattle.handlebars_base.proofs.Fronts.{behind_white-skips, behind_white-append, starts-other, starts-append, after-not, after-same}
+use Rattle.handlebars_base.specs.Texts.{IsWhite, starts, behind_byte}
+use Rattle.handlebars_base.proofs.Fronts.{behind_white-skips, behind_white-append, starts-other, starts-append, behind_byte-not, behind_byte-same}
 use Rattle.handlebars_base.proofs.Bytes.{other_byte}
 use Rattle.handlebars_base.proofs.Ends.{regroup_four}
 use Rattle.handlebars_base.proofs.Runs.{prefix_len-none, run-front, run-rest}
@@ -29,20 +29,20 @@ use Rattle.handlebars_lines.proofs.LinesRead.{events, item_events, name_events, 
 parameter_opens : (key : Option (List ℕ)) (n : ℕ) (w t : List ℕ) → IsWhite w → starts begins t ≡ true → parameter_step key n (40 ∷ (w ++ t)) ≡ goes (opened key (suc n)) (line_stand (at_name value_name) (suc n)) t
 unfolding parameter_step
 parameter_opens key n w t white start =
-    rw (after-same 40 (w ++ t), behind_white-append w t white (begins_no_white t start)) refl
+    rw (behind_byte-same 40 (w ++ t), behind_white-append w t white (begins_no_white t start)) refl
 
 name_opens : (around : Enclosure) (mode : NameMode) (n : ℕ) (w t : List ℕ) → takes_parentheses mode ≡ true → IsWhite w → starts begins t ≡ true → line_step around (line_stand (at_name mode) n) (40 ∷ (w ++ t)) ≡ goes (opened None (suc n)) (line_stand (at_name value_name) (suc n)) t
 unfolding line_step name_step
 name_opens around identifier_name n w t takes white start = absurd cc
 name_opens around value_name n w t takes white start =
-    rw (after-same 40 (w ++ t), behind_white-append w t white (begins_no_white t start)) refl
+    rw (behind_byte-same 40 (w ++ t), behind_white-append w t white (begins_no_white t start)) refl
 name_opens around close_name n w t takes white start =
-    rw (after-same 40 (w ++ t), behind_white-append w t white (begins_no_white t start)) refl
+    rw (behind_byte-same 40 (w ++ t), behind_white-append w t white (begins_no_white t start)) refl
 
-path_no_parenthesis : (t rest : List ℕ) (means : Reference) → IsPath t means → after 40 (t ++ rest) ≡ None
+path_no_parenthesis : (t rest : List ℕ) (means : Reference) → IsPath t means → behind_byte 40 (t ++ rest) ≡ None
 path_no_parenthesis t rest means h = single_no_parenthesis (t ++ rest) (starts-append begins_single t rest (path_begins t means h))
 
-literal_no_parenthesis : (l : Literal) (rest : List ℕ) → IsLiteral l → after 40 (spelled_literal l ++ rest) ≡ None
+literal_no_parenthesis : (l : Literal) (rest : List ℕ) → IsLiteral l → behind_byte 40 (spelled_literal l ++ rest) ≡ None
 literal_no_parenthesis l rest fits =
     single_no_parenthesis (spelled_literal l ++ rest) (starts-append begins_single (spelled_literal l) rest (literal_begins l fits))
 
@@ -94,7 +94,7 @@ item_at around zero w t x s' t' white some start e =
     rw (item_no_end around 0 w t x s' t' white start e, dark, white_first w t white some) e
 item_at around (suc n) w t x s' t' white some start e =
     let dark = behind_white-append w t white (begins_no_white t start) in
-    let no_shut = after-not 41 t (starts-other begins (λ b. b == 41) t (other_byte begins 41 refl) start) in
+    let no_shut = behind_byte-not 41 t (starts-other begins (λ b. b == 41) t (other_byte begins 41 refl) start) in
     rw (eqb-suc-zero n, dark, no_shut, white_first w t white some) e
 
 -- where the step of a parameter goes on, so does that of the line
@@ -122,10 +122,10 @@ unfolding line_step behind_step
 closed_at around (at_name mode) n v r other white = absurd cc
 closed_at around at_items n v r other white =
     let less : suc n - 1 ≡ n = omega arith in
-    rw (eqb-suc-zero n, behind_white-append v (41 ∷ r) white refl, after-same 41 r, less) refl
+    rw (eqb-suc-zero n, behind_white-append v (41 ∷ r) white refl, behind_byte-same 41 r, less) refl
 closed_at around at_end n v r other white =
     let less : suc n - 1 ≡ n = omega arith in
-    rw (eqb-suc-zero n, behind_white-append v (41 ∷ r) white refl, after-same 41 r, less) refl
+    rw (eqb-suc-zero n, behind_white-append v (41 ∷ r) white refl, behind_byte-same 41 r, less) refl
 
 end_at : (around : Enclosure) (t : List ℕ) → Closes around t → line_step around (line_stand at_items 0) t ≡ ends
 unfolding line_step behind_step

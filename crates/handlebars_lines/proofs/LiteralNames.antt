@@ -5,7 +5,7 @@ use Rattle.std.specs.Char.{is_ascii_digit, is_ascii_lowercase}
 use Rattle.std.proofs.lemmas.Bool.{and_parts}
 use Rattle.std.specs.List.{prefix_len}
 use Rattle.handlebars_base.specs.Bytes.{Text}
-use Rattle.handlebars_base.specs.Texts.{starts, after}
+use Rattle.handlebars_base.specs.Texts.{starts, behind_byte}
 use Rattle.handlebars_base.proofs.Bytes.{other_byte}
 use Rattle.handlebars_lines.specs.Literal.{is_number, is_word, goes_on}
 use Rattle.handlebars_lines.specs.LiteralReading.{begins_number, begins_name, plain_at, undoubled_at, unbracketed_at, value_token, no_token, literal_at}
@@ -50,7 +50,7 @@ plain-none b t h =
     rw (number, word-front b t n h) refl
 
 value-none : (b : ℕ) (t : Text) → begins_name b ≡ true → value_token false (b ∷ t) ≡ no_token
-unfolding value_token unbracketed_at undoubled_at after
+unfolding value_token unbracketed_at undoubled_at behind_byte
 value-none b t h =
     let bracket : (b == 91) ≡ false = other_byte begins_name 91 refl b h in
     let brace : (b == 123) ≡ false = other_byte begins_name 123 refl b h in

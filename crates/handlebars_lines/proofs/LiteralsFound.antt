@@ -5,12 +5,12 @@ use Rattle.std.proofs.lemmas.Option.{same_Some}
 use Rattle.std.proofs.lemmas.Bool.{or_right}
 use Rattle.handlebars_base.specs.Bytes.{is_white, behind_white}
 use Rattle.handlebars_base.proofs.OptionBinds.{bind_some, guard_some}
-use Rattle.handlebars_base.specs.Texts.{IsWhite, starts, after}
-use Rattle.handlebars_base.proofs.Fronts.{behind_white-append, starts-other, starts-append, after-not, after-same}
+use Rattle.handlebars_base.specs.Texts.{IsWhite, starts, behind_byte}
+use Rattle.handlebars_base.proofs.Fronts.{behind_white-append, starts-other, starts-append, behind_byte-not, behind_byte-same}
 use Rattle.handlebars_base.proofs.Bytes.{other_byte}
 use Rattle.handlebars_base.proofs.Ends.{take-front}
 use Rattle.handlebars_lines.specs.Runs.{goes, run}
-use Rattle.handlebars_lines.specs.Literal.{is_inner, is_number, is_kept, is_word, Bracket, array, object, opener, closer, Lead, unnamed, keyed, spelled_lead, IsLead, Literal, quoted, single_quoted, number, word, empty, filled, Entries, closing, another, spelled_literal, spelled_entries, is_element, IsLiteral, AreEntries, literal_depth, entries_depth, keeps_numbers, keeps_numbers_in, goes_on}
+use Rattle.handlebars_lines.specs.Literal.{is_inner, is_number, is_in_range, is_word, Bracket, array, object, opener, closer, Lead, unnamed, keyed, spelled_lead, IsLead, Literal, quoted, single_quoted, number, word, empty, filled, Entries, closing, another, spelled_literal, spelled_entries, is_element, IsLiteral, AreEntries, literal_depth, entries_depth, keeps_numbers, keeps_numbers_in, goes_on}
 use Rattle.handlebars_lines.specs.LiteralReading.{behind_quote, plain_at, undoubled_at, unbracketed_at, keeps_at, behind_lead, Token, unbracketed, empty_brackets, opening_bracket, another_entry, closing_bracket, literal_end, no_token, bracket_token, value_token, entry_token, LiteralPlace, ahead, behind, innermost, Find, opens, reads, taken, literal_step, most, all_kept, LiteralSlice, slice_to, literal_at}
 use Rattle.handlebars_lines.specs.Laws.{HasLiteral, NoLiteral}
 use Rattle.handlebars_lines.proofs.Fronts.{run_of-append, behind_run-append, behind_quote-append, white_goes_on}
@@ -80,10 +80,10 @@ entries_begin k (another lead l w more) rest = refl
 
 -- ---- tokens: a literal with no brackets
 
-pub no_mark : (c : ℕ) (t : List ℕ) → goes_on c ≡ false → starts goes_on t ≡ true → after c t ≡ None
-no_mark c t never h = after-not c t (starts-other goes_on (λ b. b == c) t (other_byte goes_on c never) h)
+pub no_mark : (c : ℕ) (t : List ℕ) → goes_on c ≡ false → starts goes_on t ≡ true → behind_byte c t ≡ None
+no_mark c t never h = behind_byte-not c t (starts-other goes_on (λ b. b == c) t (other_byte goes_on c never) h)
 
-atom_plain : (inside kept : Bool) (n rest : List ℕ) → (is_number n || is_word n) ≡ true → (not (is_number n) || is_kept n) ≡ kept → starts goes_on rest ≡ false → value_token inside (n ++ rest) ≡ unbracketed kept rest
+atom_plain : (inside kept : Bool) (n rest : List ℕ) → (is_number n || is_word n) ≡ true → (not (is_number n) || is_in_range n) ≡ kept → starts goes_on rest ≡ false → value_token inside (n ++ rest) ≡ unbracketed kept rest
 unfolding value_token unbracketed_at undoubled_at plain_at keeps_at
 atom_plain true kept n rest fits keeps stop =
     let goes_so = plain_goes_on n fits in
@@ -99,44 +99,44 @@ unfolding value_token unbracketed_at
 atom_quoted inside s rest fits =
     let behind_it : behind_quote 34 false ((s ++ 34 ∷ []) ++ rest) ≡ Some rest = ap (behind_quote 34 false) (append_assoc s (34 ∷ []) rest) ∙ behind_quote-append 34 false s rest fits in
     let text : List ℕ = 34 ∷ ((s ++ 34 ∷ []) ++ rest) in
-    rw (after-not 91 (34 ∷ ((s ++ 34 ∷ []) ++ rest)) refl, after-not 123 (34 ∷ ((s ++ 34 ∷ []) ++ rest)) refl, after-same 34 ((s ++ 34 ∷ []) ++ rest), behind_it, sym (keeps_at-quote 34 ((s ++ 34 ∷ []) ++ rest) (34 ∷ ((s ++ 34 ∷ []) ++ rest)) refl refl)) refl
+    rw (behind_byte-not 91 (34 ∷ ((s ++ 34 ∷ []) ++ rest)) refl, behind_byte-not 123 (34 ∷ ((s ++ 34 ∷ []) ++ rest)) refl, behind_byte-same 34 ((s ++ 34 ∷ []) ++ rest), behind_it, sym (keeps_at-quote 34 ((s ++ 34 ∷ []) ++ rest) (34 ∷ ((s ++ 34 ∷ []) ++ rest)) refl refl)) refl
 
 atom_single : (s rest : List ℕ) → is_inner 39 false s ≡ true → value_token false (39 ∷ ((s ++ 39 ∷ []) ++ rest)) ≡ unbracketed true rest
 unfolding value_token unbracketed_at undoubled_at
 atom_single s rest fits =
     let behind_it : behind_quote 39 false ((s ++ 39 ∷ []) ++ rest) ≡ Some rest = ap (behind_quote 39 false) (append_assoc s (39 ∷ []) rest) ∙ behind_quote-append 39 false s rest fits in
-    rw (after-not 91 (39 ∷ ((s ++ 39 ∷ []) ++ rest)) refl, after-not 123 (39 ∷ ((s ++ 39 ∷ []) ++ rest)) refl, after-not 34 (39 ∷ ((s ++ 39 ∷ []) ++ rest)) refl, after-same 39 ((s ++ 39 ∷ []) ++ rest), behind_it, sym (keeps_at-quote 39 ((s ++ 39 ∷ []) ++ rest) (39 ∷ ((s ++ 39 ∷ []) ++ rest)) refl refl)) refl
+    rw (behind_byte-not 91 (39 ∷ ((s ++ 39 ∷ []) ++ rest)) refl, behind_byte-not 123 (39 ∷ ((s ++ 39 ∷ []) ++ rest)) refl, behind_byte-not 34 (39 ∷ ((s ++ 39 ∷ []) ++ rest)) refl, behind_byte-same 39 ((s ++ 39 ∷ []) ++ rest), behind_it, sym (keeps_at-quote 39 ((s ++ 39 ∷ []) ++ rest) (39 ∷ ((s ++ 39 ∷ []) ++ rest)) refl refl)) refl
 
 -- ---- tokens: brackets
 
 value_bracket : (inside : Bool) (k : Bracket) (t : List ℕ) → value_token inside (opener k ∷ t) ≡ bracket_token k (behind_white t)
 unfolding value_token
-value_bracket inside array t = rw (after-same 91 t) refl
-value_bracket inside object t = rw (after-not 91 (123 ∷ t) refl, after-same 123 t) refl
+value_bracket inside array t = rw (behind_byte-same 91 t) refl
+value_bracket inside object t = rw (behind_byte-not 91 (123 ∷ t) refl, behind_byte-same 123 t) refl
 
 token_hollow : (k : Bracket) (w rest : List ℕ) → IsWhite w → bracket_token k (behind_white ((w ++ closer k ∷ []) ++ rest)) ≡ empty_brackets rest
 unfolding bracket_token
 token_hollow array w rest white =
     let dark : behind_white ((w ++ 93 ∷ []) ++ rest) ≡ 93 ∷ rest = ap behind_white (append_assoc w (93 ∷ []) rest) ∙ behind_white-append w (93 ∷ rest) white refl in
-    rw (dark, after-same 93 rest) refl
+    rw (dark, behind_byte-same 93 rest) refl
 token_hollow object w rest white =
     let dark : behind_white ((w ++ 125 ∷ []) ++ rest) ≡ 125 ∷ rest = ap behind_white (append_assoc w (125 ∷ []) rest) ∙ behind_white-append w (125 ∷ rest) white refl in
-    rw (dark, after-same 125 rest) refl
+    rw (dark, behind_byte-same 125 rest) refl
 
 -- what leads to an entry is read, and no closing bracket stands there
 record ReadsLead (k : Bracket) (u t : List ℕ) : Type 0 where
   leads : behind_lead k u ≡ Some t
-  no_closer : after (closer k) u ≡ None
+  no_closer : behind_byte (closer k) u ≡ None
 
 reads_key : (key u v t : List ℕ) → is_inner 34 false key ≡ true → IsWhite u → IsWhite v → starts is_white t ≡ false → behind_lead object (34 ∷ (key ++ 34 ∷ (u ++ 58 ∷ (v ++ t)))) ≡ Some t
 reads_key key u v t fits white white' dark =
-    rw (after-same 34 (key ++ 34 ∷ (u ++ 58 ∷ (v ++ t))), behind_quote-append 34 false key (u ++ 58 ∷ (v ++ t)) fits, behind_white-append u (58 ∷ (v ++ t)) white refl, after-same 58 (v ++ t), behind_white-append v t white' dark) refl
+    rw (behind_byte-same 34 (key ++ 34 ∷ (u ++ 58 ∷ (v ++ t))), behind_quote-append 34 false key (u ++ 58 ∷ (v ++ t)) fits, behind_white-append u (58 ∷ (v ++ t)) white refl, behind_byte-same 58 (v ++ t), behind_white-append v t white' dark) refl
 
 reads_lead : (k : Bracket) (lead : Lead) (t : List ℕ) → IsLead k lead → starts begins_literal t ≡ true → ReadsLead k (behind_white (spelled_lead lead ++ t)) t
 reads_lead array (unnamed w) t fits begins =
     let dark = behind_white-append w t fits (starts-other begins_literal is_white t begins_dark begins) in
-    let no_shut = after-not 93 t (starts-other begins_literal (λ b. b == 93) t (other_byte begins_literal 93 refl) begins) in
-    record { leads = ap (λ (z : List ℕ). Some z) dark; no_closer = ap (after 93) dark ∙ no_shut }
+    let no_shut = behind_byte-not 93 t (starts-other begins_literal (λ b. b == 93) t (other_byte begins_literal 93 refl) begins) in
+    record { leads = ap (λ (z : List ℕ). Some z) dark; no_closer = ap (behind_byte 93) dark ∙ no_shut }
 reads_lead array (keyed w key u v) t fits begins = absurd fits
 reads_lead object (unnamed w) t fits begins = absurd fits
 reads_lead object (keyed w key u v) t fits begins =
@@ -145,7 +145,7 @@ reads_lead object (keyed w key u v) t fits begins =
     ap behind_white (sym (lead_regroup w key u v t)) ∙ behind_white-append w (34 ∷ (key ++ 34 ∷ (u ++ 58 ∷ (v ++ t)))) fits.0 refl in
     record {
       leads = ap (behind_lead object) dark ∙ reads_key key u v t fits.1 fits.2 fits.3 (starts-other begins_literal is_white t begins_dark begins);
-      no_closer = ap (after 125) dark ∙ after-not 125 (34 ∷ (key ++ 34 ∷ (u ++ 58 ∷ (v ++ t)))) refl;
+      no_closer = ap (behind_byte 125) dark ∙ behind_byte-not 125 (34 ∷ (key ++ 34 ∷ (u ++ 58 ∷ (v ++ t)))) refl;
     }
 
 token_opening : (k : Bracket) (lead : Lead) (t : List ℕ) → IsLead k lead → starts begins_literal t ≡ true → bracket_token k (behind_white (spelled_lead lead ++ t)) ≡ opening_bracket k t
@@ -158,12 +158,12 @@ token_next : (k : Bracket) (v : List ℕ) (lead : Lead) (t : List ℕ) → IsWhi
 unfolding entry_token
 token_next k v lead t white fits begins =
     let h = reads_lead k lead t fits begins in
-    rw (behind_white-append v (44 ∷ (spelled_lead lead ++ t)) white refl, after-same 44 (spelled_lead lead ++ t), h.leads) refl
+    rw (behind_white-append v (44 ∷ (spelled_lead lead ++ t)) white refl, behind_byte-same 44 (spelled_lead lead ++ t), h.leads) refl
 
 token_shutting : (k : Bracket) (v rest : List ℕ) → IsWhite v → entry_token k (behind_white (v ++ closer k ∷ rest)) ≡ closing_bracket rest
 unfolding entry_token
-token_shutting array v rest white = rw (behind_white-append v (93 ∷ rest) white refl, after-not 44 (93 ∷ rest) refl, after-same 93 rest) refl
-token_shutting object v rest white = rw (behind_white-append v (125 ∷ rest) white refl, after-not 44 (125 ∷ rest) refl, after-same 125 rest) refl
+token_shutting array v rest white = rw (behind_white-append v (93 ∷ rest) white refl, behind_byte-not 44 (93 ∷ rest) refl, behind_byte-same 93 rest) refl
+token_shutting object v rest white = rw (behind_white-append v (125 ∷ rest) white refl, behind_byte-not 44 (125 ∷ rest) refl, behind_byte-same 125 rest) refl
 
 -- outside brackets
 atom_single_in : (ks : List Bracket) (s rest : List ℕ) → is_inner 39 false s ≡ true → (is_some (innermost ks) ≡ true → false ≡ true) → value_token (is_some (innermost ks)) (39 ∷ ((s ++ 39 ∷ []) ++ rest)) ≡ unbracketed true rest
@@ -176,7 +176,7 @@ mutual
   literal_runs : (l : Literal) (ks : List Bracket) (rest : List ℕ) (xs : List Find) (e : List ℕ) → IsLiteral l → (is_some (innermost ks) ≡ true → is_element l ≡ true) → starts goes_on rest ≡ false → Runs literal_step (behind ks) rest xs e → Runs literal_step (ahead ks) (spelled_literal l ++ rest) (heights (length ks) l ++ xs) e
   literal_runs (quoted s) ks rest xs e fits element stop h = onward (opens 0) (behind ks) rest (ap (taken ks) (atom_quoted (is_some (innermost ks)) s rest fits)) h
   literal_runs (single_quoted s) ks rest xs e fits element stop h = onward (opens 0) (behind ks) rest (ap (taken ks) (atom_single_in ks s rest fits element)) h
-  literal_runs (number t) ks rest xs e fits element stop h = onward (reads (is_kept t)) (behind ks) rest (ap (taken ks) (atom_plain (is_some (innermost ks)) (is_kept t) t rest (rw fits refl) (rw fits refl) stop)) h
+  literal_runs (number t) ks rest xs e fits element stop h = onward (reads (is_in_range t)) (behind ks) rest (ap (taken ks) (atom_plain (is_some (innermost ks)) (is_in_range t) t rest (rw fits refl) (rw fits refl) stop)) h
   literal_runs (word t) ks rest xs e fits element stop h = onward (opens 0) (behind ks) rest (ap (taken ks) (atom_plain (is_some (innermost ks)) true t rest (rw fits (or_right (is_number t) true refl)) (rw (word_no_number t fits) refl) stop)) h
   literal_runs (empty k w) ks rest xs e fits element stop h = onward (opens (suc (length ks))) (behind ks) rest (ap (taken ks) (value_bracket (is_some (innermost ks)) k ((w ++ closer k ∷ []) ++ rest) ∙ token_hollow k w rest fits)) h
   literal_runs (filled k lead l v more) ks rest xs e fits element stop h =

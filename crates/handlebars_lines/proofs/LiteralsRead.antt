@@ -3,7 +3,7 @@ use Rattle.std.proofs.Common.{is_some, ◌≡◌, ℕ, suc, Bool, true, List, []
 use Rattle.handlebars_base.specs.Texts.{IsWhite}
 use Rattle.handlebars_base.specs.Bytes.{behind_white}
 use Rattle.handlebars_lines.specs.Runs.{goes, ends}
-use Rattle.handlebars_lines.specs.Literal.{Bracket, opener, closer, spelled_lead, Literal, quoted, single_quoted, number, word, empty, filled, Entries, closing, another, spelled_literal, spelled_entries, IsLiteral, is_element, AreEntries, is_kept, keeps_numbers}
+use Rattle.handlebars_lines.specs.Literal.{Bracket, opener, closer, spelled_lead, Literal, quoted, single_quoted, number, word, empty, filled, Entries, closing, another, spelled_literal, spelled_entries, IsLiteral, is_element, AreEntries, is_in_range, keeps_numbers}
 use Rattle.handlebars_lines.specs.LiteralReading.{Token, unbracketed, empty_brackets, opening_bracket, another_entry, closing_bracket, literal_end, no_token, value_token, entry_token, LiteralPlace, ahead, behind, innermost, Find, opens, reads, taken, literal_step}
 use Rattle.handlebars_lines.proofs.Stepping.{goes-parts, Runs, last, onward}
 use Rattle.handlebars_lines.proofs.Tokens.{is_flat, ValueTells, value_tells, EntryTells, entry_tells}
@@ -14,7 +14,7 @@ abbrev mutual
   pub heights : ℕ → Literal → List Find
   heights n (quoted t) = opens 0 ∷ []
   heights n (single_quoted t) = opens 0 ∷ []
-  heights n (number t) = reads (is_kept t) ∷ []
+  heights n (number t) = reads (is_in_range t) ∷ []
   heights n (word t) = opens 0 ∷ []
   heights n (empty k w) = opens (suc n) ∷ []
   heights n (filled k lead l w more) = opens (suc n) ∷ (heights (suc n) l ++ entry_heights (suc n) more)

@@ -5,8 +5,8 @@ use Rattle.std.proofs.lemmas.Option.{same_Some, none-some}
 use Rattle.handlebars_base.specs.Path.{Reference}
 use Rattle.handlebars_base.specs.PathReading.{path_of}
 use Rattle.handlebars_base.proofs.PathShapes.{path_known, path_is}
-use Rattle.handlebars_base.proofs.Fronts.{after_takes, behind_white-skips, behind_white-append, after-same}
-use Rattle.handlebars_base.specs.Texts.{starts, after}
+use Rattle.handlebars_base.proofs.Fronts.{behind_byte_takes, behind_white-skips, behind_white-append, behind_byte-same}
+use Rattle.handlebars_base.specs.Texts.{starts, behind_byte}
 use Rattle.handlebars_base.specs.Bytes.{behind_white}
 use Rattle.handlebars_lines.specs.Literal.{spelled_literal, IsLiteralAt}
 use Rattle.handlebars_lines.specs.LiteralReading.{LiteralSlice, literal_at}
@@ -26,11 +26,11 @@ pub record NestedParameter (r : List ℕ) (means : Term) (depth : ℕ) : Type 0 
   pub line : Line
   pub left : List ℕ
   pub is : IsLine value_name in_parentheses (behind_white r) line left
-  pub closes : after 41 (behind_white left) ≡ Some []
+  pub closes : behind_byte 41 (behind_white left) ≡ Some []
   pub gives : means ≡ call_term line.name line.terms
   pub deep : depth ≡ suc line.depth
 
-pub nested-is : (text r : List ℕ) (line : Line) (left : List ℕ) → after 40 text ≡ Some r → IsLine value_name in_parentheses (behind_white r) line left → after 41 (behind_white left) ≡ Some [] → IsParameter text (call_term line.name line.terms) (suc line.depth)
+pub nested-is : (text r : List ℕ) (line : Line) (left : List ℕ) → behind_byte 40 text ≡ Some r → IsLine value_name in_parentheses (behind_white r) line left → behind_byte 41 (behind_white left) ≡ Some [] → IsParameter text (call_term line.name line.terms) (suc line.depth)
 nested-is text r line left opens h closes = on h.name h.is_name h.whole h.gives
   where
     on : (name : NameShape) → IsName value_name name h.items (spelled_items h.items ++ left) → behind_white r ≡ spelled_name name ++ (spelled_items h.items ++ left)
@@ -39,11 +39,11 @@ nested-is text r line left opens h closes = on h.name h.is_name h.whole h.gives
     on (term_name p) named whole gives =
         let before = behind_white-skips r in
         let last = behind_white-skips left in
-        let end : left ≡ last.white ++ 41 ∷ [] = last.whole ∙ ap (λ (z : List ℕ). last.white ++ z) (after_takes 41 (behind_white left) [] closes) in
+        let end : left ≡ last.white ++ 41 ∷ [] = last.whole ∙ ap (λ (z : List ℕ). last.white ++ z) (behind_byte_takes 41 (behind_white left) [] closes) in
         let inside : behind_white r ≡ spelled_shape p ++ (spelled_items h.items ++ (last.white ++ 41 ∷ [])) = whole ∙ ap (λ (z : List ℕ). spelled_shape p ++ (spelled_items h.items ++ z)) end in
         record {
           shape = nested_shape before.white p h.items last.white;
-          spells = after_takes 40 text r opens ∙ ap (λ (z : List ℕ). 40 ∷ z) (before.whole ∙ ap (λ (z : List ℕ). before.white ++ z) inside);
+          spells = behind_byte_takes 40 text r opens ∙ ap (λ (z : List ℕ). 40 ∷ z) (before.whole ∙ ap (λ (z : List ℕ). before.white ++ z) inside);
           chosen = tt;
           fits = (before.is, named.0, subst (λ (z : List ℕ). Fits p (spelled_items h.items ++ z)) end named.1, subst (AreItems h.items) end h.are_items, last.is);
           gives = ap (λ (z : Line). call_term z.name z.terms) gives;
@@ -51,15 +51,15 @@ nested-is text r line left opens h closes = on h.name h.is_name h.whole h.gives
         }
 
 -- by how deep the line is
-pub nested-has : (text r : List ℕ) (depth : ℕ) (left : List ℕ) → after 40 text ≡ Some r → (h : HasLine value_name in_parentheses (behind_white r) depth left) → after 41 (behind_white left) ≡ Some [] → IsParameter text (call_term h.line.name h.line.terms) (suc depth)
+pub nested-has : (text r : List ℕ) (depth : ℕ) (left : List ℕ) → behind_byte 40 text ≡ Some r → (h : HasLine value_name in_parentheses (behind_white r) depth left) → behind_byte 41 (behind_white left) ≡ Some [] → IsParameter text (call_term h.line.name h.line.terms) (suc depth)
 nested-has text r depth left opens h closes =
     subst (λ (z : ℕ). IsParameter text (call_term h.line.name h.line.terms) (suc z)) h.deep (nested-is text r h.line left opens h.is closes)
 
-pub nested-read : (text r : List ℕ) (means : Term) (depth : ℕ) → after 40 text ≡ Some r → IsParameter text means depth → NestedParameter r means depth
+pub nested-read : (text r : List ℕ) (means : Term) (depth : ℕ) → behind_byte 40 text ≡ Some r → IsParameter text means depth → NestedParameter r means depth
 nested-read text r means depth opens h = on h.shape h.spells h.fits h.gives h.deep
   where
-    never : (t : List ℕ) → text ≡ t → after 40 t ≡ None → NestedParameter r means depth
-    never t same none = absurd (none-some r (sym none ∙ ap (after 40) (sym same) ∙ opens))
+    never : (t : List ℕ) → text ≡ t → behind_byte 40 t ≡ None → NestedParameter r means depth
+    never t same none = absurd (none-some r (sym none ∙ ap (behind_byte 40) (sym same) ∙ opens))
 
     on : (p : TermShape) → text ≡ spelled_shape p → Fits p [] → means ≡ term_of p → depth ≡ depth_of p → NestedParameter r means depth
     on (literal_shape l) spells fits gives deep = never (spelled_literal l) spells (single_no_parenthesis (spelled_literal l) (literal_begins l fits))
@@ -67,7 +67,7 @@ nested-read text r means depth opens h = on h.shape h.spells h.fits h.gives h.de
     on (nested_shape w name items v) spells fits gives deep =
         let end : List ℕ = v ++ 41 ∷ [] in
         let inside : List ℕ = spelled_shape name ++ (spelled_items items ++ end) in
-        let behind : r ≡ w ++ inside = same_Some r (w ++ inside) (sym opens ∙ ap (after 40) spells ∙ after-same 40 (w ++ inside)) in
+        let behind : r ≡ w ++ inside = same_Some r (w ++ inside) (sym opens ∙ ap (behind_byte 40) spells ∙ behind_byte-same 40 (w ++ inside)) in
         let dark = begins_no_white inside (shape_starts name (spelled_items items ++ end) (spelled_items items ++ end) fits.2) in
         let white : behind_white end ≡ 41 ∷ [] = behind_white-append v (41 ∷ []) fits.4 refl in
         record {
@@ -82,22 +82,22 @@ nested-read text r means depth opens h = on h.shape h.spells h.fits h.gives h.de
             closes = ap (starts (λ b. b == 41)) white;
             gives = refl;
           };
-          closes = ap (after 41) white ∙ after-same 41 [];
+          closes = ap (behind_byte 41) white ∙ behind_byte-same 41 [];
           gives = gives;
           deep = deep;
         }
 
-pub nested-no_line : (text r : List ℕ) → after 40 text ≡ Some r → NoLine value_name in_parentheses (behind_white r) → NoParameter text
+pub nested-no_line : (text r : List ℕ) → behind_byte 40 text ≡ Some r → NoLine value_name in_parentheses (behind_white r) → NoParameter text
 nested-no_line text r opens none means depth h =
     let n = nested-read text r means depth opens h in
     none n.line n.left n.is
 
 -- more than a closing parenthesis is left
-pub nested-goes_on : (text r : List ℕ) (depth : ℕ) (left : List ℕ) → after 40 text ≡ Some r → HasLine value_name in_parentheses (behind_white r) depth left → (after 41 (behind_white left) ≡ Some [] → ⊥) → NoParameter text
+pub nested-goes_on : (text r : List ℕ) (depth : ℕ) (left : List ℕ) → behind_byte 40 text ≡ Some r → HasLine value_name in_parentheses (behind_white r) depth left → (behind_byte 41 (behind_white left) ≡ Some [] → ⊥) → NoParameter text
 nested-goes_on text r depth left opens line more means deep h =
     let n = nested-read text r means deep opens h in
     let one = one_line value_name in_parentheses (behind_white r) n.line line.line n.left left n.is line.is in
-    more (subst (λ (z : List ℕ). after 41 (behind_white z) ≡ Some []) one.1 n.closes)
+    more (subst (λ (z : List ℕ). behind_byte 41 (behind_white z) ≡ Some []) one.1 n.closes)
 
 -- ---- a literal, or a path
 
@@ -128,7 +128,7 @@ pub data SingleParameter (text : List ℕ) (means : Term) (depth : ℕ) : Type 0
   single_literal : (f : LiteralSlice) → literal_at text ≡ Some f → f.rest ≡ [] → means ≡ literal_term f.raw → depth ≡ f.depth → SingleParameter text means depth
   single_path : (m : Reference) → literal_at text ≡ None → path_of text ≡ Some m → means ≡ path_term m → depth ≡ 0 → SingleParameter text means depth
 
-pub single-read : (text : List ℕ) (means : Term) (depth : ℕ) → after 40 text ≡ None → IsParameter text means depth → SingleParameter text means depth
+pub single-read : (text : List ℕ) (means : Term) (depth : ℕ) → behind_byte 40 text ≡ None → IsParameter text means depth → SingleParameter text means depth
 single-read text means depth closed h = on h.shape h.spells h.chosen h.fits h.gives h.deep
   where
     on : (p : TermShape) → text ≡ spelled_shape p → IsChosen p [] → Fits p [] → means ≡ term_of p → depth ≡ depth_of p → SingleParameter text means depth
@@ -140,10 +140,10 @@ single-read text means depth closed h = on h.shape h.spells h.chosen h.fits h.gi
         let none : literal_at text ≡ None = ap literal_at (spells ∙ sym (append-nil t)) ∙ literal_at-missing (t ++ []) chosen in
         single_path m none (ap path_of spells ∙ path_known t m fits) gives deep
     on (nested_shape w name items v) spells chosen fits gives deep =
-        absurd (none-some _ (sym closed ∙ ap (after 40) spells ∙ after-same 40 _))
+        absurd (none-some _ (sym closed ∙ ap (behind_byte 40) spells ∙ behind_byte-same 40 _))
 
 -- a literal in front is not the whole
-pub single-goes_on : (text : List ℕ) (f : LiteralSlice) → after 40 text ≡ None → literal_at text ≡ Some f → (f.rest ≡ [] → ⊥) → NoParameter text
+pub single-goes_on : (text : List ℕ) (f : LiteralSlice) → behind_byte 40 text ≡ None → literal_at text ≡ Some f → (f.rest ≡ [] → ⊥) → NoParameter text
 single-goes_on text f closed e more means depth h = on (single-read text means depth closed h)
   where
     on : SingleParameter text means depth → ⊥
@@ -151,7 +151,7 @@ single-goes_on text f closed e more means depth h = on (single-read text means d
     on (single_path m none is gives deep) = none-some f (sym none ∙ e)
 
 -- and neither a literal nor a path
-pub single-no_path : (text : List ℕ) → after 40 text ≡ None → literal_at text ≡ None → path_of text ≡ None → NoParameter text
+pub single-no_path : (text : List ℕ) → behind_byte 40 text ≡ None → literal_at text ≡ None → path_of text ≡ None → NoParameter text
 single-no_path text closed e no_path means depth h = on (single-read text means depth closed h)
   where
     on : SingleParameter text means depth → ⊥
@@ -160,7 +160,7 @@ single-no_path text closed e no_path means depth h = on (single-read text means 
 
 -- ---- one meaning
 
-nested-one : (text r : List ℕ) (a b : Term) (depth depth' : ℕ) → after 40 text ≡ Some r → IsParameter text a depth → IsParameter text b depth' → (a ≡ b) × (depth ≡ depth')
+nested-one : (text r : List ℕ) (a b : Term) (depth depth' : ℕ) → behind_byte 40 text ≡ Some r → IsParameter text a depth → IsParameter text b depth' → (a ≡ b) × (depth ≡ depth')
 nested-one text r a b depth depth' opens h g =
     let x = nested-read text r a depth opens h in
     let y = nested-read text r b depth' opens g in
@@ -177,8 +177,8 @@ single-one text a b depth depth' (single_path m none is gives deep) (single_path
     (gives ∙ ap path_term (same_Some m m' (sym is ∙ is')) ∙ sym gives', deep ∙ sym deep')
 
 pub one_parameter : OneParameter
-one_parameter text a b depth depth' h g = on (after 40 text) refl
+one_parameter text a b depth depth' h g = on (behind_byte 40 text) refl
   where
-    on : (o : Option (List ℕ)) → after 40 text ≡ o → (a ≡ b) × (depth ≡ depth')
+    on : (o : Option (List ℕ)) → behind_byte 40 text ≡ o → (a ≡ b) × (depth ≡ depth')
     on (Some r) opens = nested-one text r a b depth depth' opens h g
     on None closed = single-one text a b depth depth' (single-read text a depth closed h) (single-read text b depth' closed g)

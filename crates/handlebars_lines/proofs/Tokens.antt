@@ -6,10 +6,10 @@ use Rattle.std.proofs.lemmas.List.{take-append-drop}
 use Rattle.std.proofs.lemmas.Option.{same_Some}
 use Rattle.handlebars_base.specs.Optional.{◌>>=◌, with_or}
 use Rattle.handlebars_base.proofs.OptionBinds.{bind_some, with_or_is}
-use Rattle.handlebars_base.proofs.Fronts.{after_takes, behind_white-skips}
-use Rattle.handlebars_base.specs.Texts.{IsWhite, after}
+use Rattle.handlebars_base.proofs.Fronts.{behind_byte_takes, behind_white-skips}
+use Rattle.handlebars_base.specs.Texts.{IsWhite, behind_byte}
 use Rattle.handlebars_base.specs.Bytes.{behind_white}
-use Rattle.handlebars_lines.specs.Literal.{is_number, is_word, Bracket, array, object, opener, closer, Lead, unnamed, keyed, spelled_lead, IsLead, Literal, quoted, single_quoted, number, word, empty, filled, spelled_literal, is_element, IsLiteral, is_kept, keeps_numbers, goes_on}
+use Rattle.handlebars_lines.specs.Literal.{is_number, is_word, Bracket, array, object, opener, closer, Lead, unnamed, keyed, spelled_lead, IsLead, Literal, quoted, single_quoted, number, word, empty, filled, spelled_literal, is_element, IsLiteral, is_in_range, keeps_numbers, goes_on}
 use Rattle.handlebars_lines.specs.LiteralReading.{behind_quote, run_of, behind_run, plain_at, undoubled_at, unbracketed_at, keeps_at, behind_lead, Token, unbracketed, empty_brackets, opening_bracket, another_entry, closing_bracket, literal_end, no_token, bracket_token, value_token, entry_token}
 use Rattle.handlebars_lines.proofs.Fronts.{behind_quote-takes, run_of-append}
 use Rattle.handlebars_lines.proofs.Plain.{plain_goes_on, word_no_number}
@@ -33,7 +33,7 @@ pub record TakesAtom (inside kept : Bool) (t r : List ℕ) : Type 0 where
   pub keeps : keeps_numbers unbracketed ≡ kept
   pub shorter : length r < length t
 
-keeps_at-number : (t : List ℕ) → is_number (run_of t) ≡ true → is_kept (run_of t) ≡ keeps_at t
+keeps_at-number : (t : List ℕ) → is_number (run_of t) ≡ true → is_in_range (run_of t) ≡ keeps_at t
 unfolding keeps_at
 keeps_at-number t is = rw is refl
 
@@ -70,17 +70,17 @@ undoubled_takes : (inside : Bool) (t r : List ℕ) → undoubled_at inside t ≡
 unfolding undoubled_at
 undoubled_takes true t r e = plain_takes true t r e
 undoubled_takes false t r e =
-    elim (with_or_is (after 39 t) (behind_quote 39 false) (plain_at t) (Some r) e) [
+    elim (with_or_is (behind_byte 39 t) (behind_quote 39 false) (plain_at t) (Some r) e) [
       | inl text ↦
           let q = behind_quote-takes 39 false text.0 r text.2 in
-          let whole = quote_whole 39 t text.0 q.inner r (after_takes 39 t text.0 text.1) q.whole in
+          let whole = quote_whole 39 t text.0 q.inner r (behind_byte_takes 39 t text.0 text.1) q.whole in
           record {
             unbracketed = single_quoted q.inner;
             whole = whole;
             fits = q.is;
             flat = refl;
             element = λ never. absurd cc;
-            keeps = keeps_at-quote 39 text.0 t (after_takes 39 t text.0 text.1) refl;
+            keeps = keeps_at-quote 39 text.0 t (behind_byte_takes 39 t text.0 text.1) refl;
             shorter = omega (arith, ap length whole, length-append (39 ∷ (q.inner ++ 39 ∷ [])) r);
           }
       | inr plain ↦ plain_takes false t r plain.1
@@ -89,17 +89,17 @@ undoubled_takes false t r e =
 atom_takes : (inside : Bool) (t r : List ℕ) → unbracketed_at inside t ≡ Some r → TakesAtom inside (keeps_at t) t r
 unfolding unbracketed_at
 atom_takes inside t r e =
-    elim (with_or_is (after 34 t) (behind_quote 34 false) (undoubled_at inside t) (Some r) e) [
+    elim (with_or_is (behind_byte 34 t) (behind_quote 34 false) (undoubled_at inside t) (Some r) e) [
       | inl text ↦
           let q = behind_quote-takes 34 false text.0 r text.2 in
-          let whole = quote_whole 34 t text.0 q.inner r (after_takes 34 t text.0 text.1) q.whole in
+          let whole = quote_whole 34 t text.0 q.inner r (behind_byte_takes 34 t text.0 text.1) q.whole in
           record {
             unbracketed = quoted q.inner;
             whole = whole;
             fits = q.is;
             flat = refl;
             element = λ inner. refl;
-            keeps = keeps_at-quote 34 text.0 t (after_takes 34 t text.0 text.1) refl;
+            keeps = keeps_at-quote 34 text.0 t (behind_byte_takes 34 t text.0 text.1) refl;
             shorter = omega (arith, ap length whole, length-append (34 ∷ (q.inner ++ 34 ∷ [])) r);
           }
       | inr other ↦ undoubled_takes inside t r other.1
@@ -116,7 +116,7 @@ pub lead_regroup : (w key u v r : List ℕ) → w ++ 34 ∷ (key ++ 34 ∷ (u ++
 lead_regroup w key u v r = simp append_assoc
 
 abbrev behind_colon : List ℕ → Option (List ℕ)
-behind_colon t = after 58 (behind_white t) >>= λ r. Some (behind_white r)
+behind_colon t = behind_byte 58 (behind_white t) >>= λ r. Some (behind_white r)
 
 lead_takes : (k : Bracket) (t r : List ℕ) → behind_lead k (behind_white t) ≡ Some r → TakesLead k t r
 lead_takes array t r e =
@@ -128,16 +128,16 @@ lead_takes array t r e =
       whole = white.whole ∙ ap (λ (z : List ℕ). white.white ++ z) rest;
     }
 lead_takes object t r e =
-    let a = bind_some (after 34 (behind_white t) >>= behind_quote 34 false) behind_colon r e in
-    let b = bind_some (after 34 (behind_white t)) (behind_quote 34 false) a.0 a.1 in
-    let c = bind_some (after 58 (behind_white a.0)) (λ r. Some (behind_white r)) r a.2 in
+    let a = bind_some (behind_byte 34 (behind_white t) >>= behind_quote 34 false) behind_colon r e in
+    let b = bind_some (behind_byte 34 (behind_white t)) (behind_quote 34 false) a.0 a.1 in
+    let c = bind_some (behind_byte 58 (behind_white a.0)) (λ r. Some (behind_white r)) r a.2 in
     let before = behind_white-skips t in
     let q = behind_quote-takes 34 false b.0 a.0 b.2 in
     let between = behind_white-skips a.0 in
     let last = behind_white-skips c.0 in
     let rest : behind_white c.0 ≡ r = same_Some (behind_white c.0) r c.2 in
-    let first = after_takes 34 (behind_white t) b.0 b.1 in
-    let colon = after_takes 58 (behind_white a.0) c.0 c.1 in
+    let first = behind_byte_takes 34 (behind_white t) b.0 b.1 in
+    let colon = behind_byte_takes 58 (behind_white a.0) c.0 c.1 in
     record {
       lead = keyed before.white q.inner between.white last.white;
       fits = (before.is, q.is, between.is, last.is);
@@ -174,12 +174,12 @@ ValueTells inside t no_token = Unit {0}
 
 bracket_tells : (inside : Bool) (k : Bracket) (t u : List ℕ) → t ≡ opener k ∷ u → ValueTells inside t (bracket_token k (behind_white u))
 unfolding bracket_token
-bracket_tells inside k t u first = on (after (closer k) (behind_white u)) refl (behind_lead k (behind_white u)) refl
+bracket_tells inside k t u first = on (behind_byte (closer k) (behind_white u)) refl (behind_lead k (behind_white u)) refl
   where
-    on : (o : Option (List ℕ)) → after (closer k) (behind_white u) ≡ o → (p : Option (List ℕ)) → behind_lead k (behind_white u) ≡ p → ValueTells inside t (with_or o empty_brackets (with_or p (opening_bracket k) no_token))
+    on : (o : Option (List ℕ)) → behind_byte (closer k) (behind_white u) ≡ o → (p : Option (List ℕ)) → behind_lead k (behind_white u) ≡ p → ValueTells inside t (with_or o empty_brackets (with_or p (opening_bracket k) no_token))
     on (Some r) e p f =
         let white = behind_white-skips u in
-        let shut = after_takes (closer k) (behind_white u) r e in
+        let shut = behind_byte_takes (closer k) (behind_white u) r e in
         record {
           kind = k;
           white = white.white;
@@ -193,12 +193,12 @@ bracket_tells inside k t u first = on (after (closer k) (behind_white u)) refl (
 
 pub value_tells : (inside : Bool) (t : List ℕ) → ValueTells inside t (value_token inside t)
 unfolding value_token
-value_tells inside t = on (after 91 t) refl (after 123 t) refl (unbracketed_at inside t) refl
+value_tells inside t = on (behind_byte 91 t) refl (behind_byte 123 t) refl (unbracketed_at inside t) refl
   where
-    on : (o : Option (List ℕ)) → after 91 t ≡ o → (p : Option (List ℕ)) → after 123 t ≡ p → (q : Option (List ℕ)) → unbracketed_at inside t ≡ q
+    on : (o : Option (List ℕ)) → behind_byte 91 t ≡ o → (p : Option (List ℕ)) → behind_byte 123 t ≡ p → (q : Option (List ℕ)) → unbracketed_at inside t ≡ q
         → ValueTells inside t (with_or o (λ r. bracket_token array (behind_white r)) (with_or p (λ r. bracket_token object (behind_white r)) (with_or q (unbracketed (keeps_at t)) no_token)))
-    on (Some r) e p f q g = bracket_tells inside array t r (after_takes 91 t r e)
-    on None e (Some r) f q g = bracket_tells inside object t r (after_takes 123 t r f)
+    on (Some r) e p f q g = bracket_tells inside array t r (behind_byte_takes 91 t r e)
+    on None e (Some r) f q g = bracket_tells inside object t r (behind_byte_takes 123 t r f)
     on None e None f (Some r) g = atom_takes inside t r g
     on None e None f None g = tt
 
@@ -246,13 +246,13 @@ comma_tells k t u first = on (behind_lead k (behind_white u)) refl
 
 pub entry_tells : (k : Bracket) (t : List ℕ) → EntryTells k t (entry_token k (behind_white t))
 unfolding entry_token
-entry_tells k t = on (after 44 (behind_white t)) refl (after (closer k) (behind_white t)) refl
+entry_tells k t = on (behind_byte 44 (behind_white t)) refl (behind_byte (closer k) (behind_white t)) refl
   where
-    on : (o : Option (List ℕ)) → after 44 (behind_white t) ≡ o → (p : Option (List ℕ)) → after (closer k) (behind_white t) ≡ p → EntryTells k t (with_or o (comma_token k) (with_or p closing_bracket no_token))
-    on (Some r) e p f = comma_tells k t r (after_takes 44 (behind_white t) r e)
+    on : (o : Option (List ℕ)) → behind_byte 44 (behind_white t) ≡ o → (p : Option (List ℕ)) → behind_byte (closer k) (behind_white t) ≡ p → EntryTells k t (with_or o (comma_token k) (with_or p closing_bracket no_token))
+    on (Some r) e p f = comma_tells k t r (behind_byte_takes 44 (behind_white t) r e)
     on None e (Some r) f =
         let white = behind_white-skips t in
-        let shut = after_takes (closer k) (behind_white t) r f in
+        let shut = behind_byte_takes (closer k) (behind_white t) r f in
         record { white = white.white; is = white.is; whole = white.whole ∙ ap (λ (z : List ℕ). white.white ++ z) shut }
     on None e None f = tt
 

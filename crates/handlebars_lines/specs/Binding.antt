@@ -3,7 +3,7 @@ use Rattle.std.specs.Prelude.{◌≡◌, ◌≢◌, ℕ, Bool, false, if◌then�
 use Rattle.std.specs.Str.{bytes_eq}
 use Rattle.handlebars_base.specs.Bytes.{Text, is_white, behind_white}
 use Rattle.handlebars_base.specs.Path.{IsIdentifier}
-use Rattle.handlebars_base.specs.Texts.{IsWhite, starts, after, symbols_of, behind_symbols}
+use Rattle.handlebars_base.specs.Texts.{IsWhite, starts, behind_byte, symbols_of, behind_symbols}
 
 abbrev pub bar : ℕ
 bar = 124
@@ -14,7 +14,7 @@ bar = 124
 unfoldable pub behind_bar : Text → Option Text
 behind_bar t =
     if bytes_eq (symbols_of t) (codes "as")
-    then after bar (behind_white (behind_symbols t))
+    then behind_byte bar (behind_white (behind_symbols t))
     else None
 
 -- what follows all that begins block parameters: white, at least one byte, `as`, white or none, and a bar

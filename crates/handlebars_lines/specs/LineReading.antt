@@ -5,7 +5,7 @@ use Rattle.std.specs.List.{prefix_len, list_all}
 use Rattle.handlebars_base.specs.Bytes.{Text, equals_sign, is_white, behind_white, is_symbol}
 use Rattle.handlebars_base.specs.PathReading.{path_of, slice_at}
 use Rattle.handlebars_base.specs.Optional.{◌>>=◌, with_or}
-use Rattle.handlebars_base.specs.Texts.{starts, after, symbols_of, behind_symbols}
+use Rattle.handlebars_base.specs.Texts.{starts, behind_byte, symbols_of, behind_symbols}
 use Rattle.handlebars_lines.specs.Runs.{ReadingStep, goes, ends, stuck}
 use Rattle.handlebars_lines.specs.LiteralReading.{literal_at}
 use Rattle.handlebars_lines.specs.Parameter.{left_parenthesis, right_parenthesis, Term, literal_term, path_term, name_term, call_term, Terms, no_terms, term, is_reserved}
@@ -45,7 +45,7 @@ unfoldable pub key_and_equals_at : Text → Option (Text × Text)
 key_and_equals_at t =
     if prefix_len is_symbol t == 0
     then None
-    else (after equals_sign (behind_white (behind_symbols t)) >>= λ r. Some (symbols_of t, behind_white r))
+    else (behind_byte equals_sign (behind_white (behind_symbols t)) >>= λ r. Some (symbols_of t, behind_white r))
 
 -- ---- steps
 
@@ -63,9 +63,9 @@ plain_step n p = if length p.0 == 0 then stuck else goes (name_event p.0) (line_
 unfoldable pub name_step : NameMode → ℕ → Text → ReadingStep Event LineStand
 name_step identifier_name n t = plain_step n (symbols_of t, behind_symbols t)
 name_step value_name n t =
-    with_or (after left_parenthesis t) (open_step None n)
+    with_or (behind_byte left_parenthesis t) (open_step None n)
     (with_or (slice_at t) (λ p. goes (path_event None p.0 n) (line_stand (behind_name p.0) n) p.1) stuck)
-name_step close_name n t = with_or (after left_parenthesis t) (open_step None n) (plain_step n (close_name_at t))
+name_step close_name n t = with_or (behind_byte left_parenthesis t) (open_step None n) (plain_step n (close_name_at t))
 
 -- a reserved word behind no key
 abbrev pub is_excluded : Option Text → Text → Bool
@@ -74,7 +74,7 @@ is_excluded (Some key) raw = false
 
 unfoldable pub parameter_step : Option Text → ℕ → Text → ReadingStep Event LineStand
 parameter_step key n t =
-    with_or (after left_parenthesis t) (open_step key n)
+    with_or (behind_byte left_parenthesis t) (open_step key n)
     (with_or (literal_at t) (λ l. goes (literal_event key l.raw (n + l.depth)) (line_stand at_items n) l.rest)
     (with_or (slice_at t)
     (λ p. if is_excluded key p.0 then stuck else goes (path_event key p.0 n) (line_stand at_items n) p.1) stuck))
@@ -94,7 +94,7 @@ behind_step around s n t =
     if n == 0
     then (if is_end around t then ends else next_step s 0 t)
     else
-    with_or (after right_parenthesis (behind_white t))
+    with_or (behind_byte right_parenthesis (behind_white t))
     (λ r. goes closed (line_stand at_items (n - 1)) r) (next_step s n t)
 
 abbrev pub step_at : Enclosure → Stand → ℕ → Text → ReadingStep Event LineStand

@@ -6,7 +6,7 @@ use Rattle.std.specs.Str.{bytes_eq}
 use Rattle.std.specs.Str.Parse.{digits_value}
 use Rattle.handlebars_base.specs.Bytes.{Text, double_quote, single_quote, hyphen, dot, slash, colon, left_bracket, backslash, right_bracket, left_brace, right_brace, is_symbol}
 use Rattle.handlebars_base.specs.Optional.{with_or}
-use Rattle.handlebars_base.specs.Texts.{IsWhite, starts, after}
+use Rattle.handlebars_base.specs.Texts.{IsWhite, starts, behind_byte}
 
 abbrev pub comma : ℕ
 comma = 44
@@ -61,12 +61,12 @@ unfoldable pub number_of : Text → Option ℕ
 number_of t = if is_digits t && nat_lt (digits_value 10 t) (2 ^ 64) then Some (digits_value 10 t) else None
 
 -- what may stand behind a minus: 1 to 2^63
-abbrev pub is_kept_below : ℕ → Bool
-is_kept_below n = nat_lt 0 n && nat_le n (2 ^ 63)
+abbrev pub is_in_range_below : ℕ → Bool
+is_in_range_below n = nat_lt 0 n && nat_le n (2 ^ 63)
 
 -- Whether a number is kept: an integer from -2^63 to 2^64 - 1, and not `-0`.
-unfoldable pub is_kept : Text → Bool
-is_kept t = with_or (after hyphen t) (λ d. with_or (number_of d) is_kept_below false) (is_some (number_of t))
+unfoldable pub is_in_range : Text → Bool
+is_in_range t = with_or (behind_byte hyphen t) (λ d. with_or (number_of d) is_in_range_below false) (is_some (number_of t))
 
 abbrev pub is_word : Text → Bool
 is_word t = bytes_eq t (codes "null") || (bytes_eq t (codes "true") || bytes_eq t (codes "false"))
@@ -177,7 +177,7 @@ abbrev mutual
   pub keeps_numbers : Literal → Bool
   keeps_numbers (quoted t) = true
   keeps_numbers (single_quoted t) = true
-  keeps_numbers (number t) = is_kept t
+  keeps_numbers (number t) = is_in_range t
   keeps_numbers (word t) = true
   keeps_numbers (empty k w) = true
   keeps_numbers (filled k lead l w more) = keeps_numbers l && keeps_numbers_in more

@@ -4,9 +4,9 @@ use Rattle.std.specs.Char.{is_ascii_digit, is_ascii_lowercase}
 use Rattle.std.specs.List.{prefix_len}
 use Rattle.handlebars_base.specs.Bytes.{Text, double_quote, single_quote, hyphen, colon, backslash, left_bracket, left_brace, behind_white}
 use Rattle.handlebars_base.specs.Optional.{◌>>=◌, with_or}
-use Rattle.handlebars_base.specs.Texts.{starts, after}
+use Rattle.handlebars_base.specs.Texts.{starts, behind_byte}
 use Rattle.handlebars_lines.specs.Runs.{ReadingStep, goes, ends, stuck, run}
-use Rattle.handlebars_lines.specs.Literal.{comma, is_number, is_kept, is_word, Bracket, array, object, closer, goes_on}
+use Rattle.handlebars_lines.specs.Literal.{comma, is_number, is_in_range, is_word, Bracket, array, object, closer, goes_on}
 
 -- ---- marks and runs
 
@@ -40,22 +40,22 @@ plain_at t = if is_number (run_of t) || is_word (run_of t) then Some (behind_run
 -- what follows a number or a word, or outside brackets a text in single quotes
 unfoldable pub undoubled_at : Bool → Text → Option Text
 undoubled_at true t = plain_at t
-undoubled_at false t = with_or (after single_quote t) (behind_quote single_quote false) (plain_at t)
+undoubled_at false t = with_or (behind_byte single_quote t) (behind_quote single_quote false) (plain_at t)
 
 -- what follows a text in quotes, a number or a word, inside brackets or not
 unfoldable pub unbracketed_at : Bool → Text → Option Text
-unbracketed_at inside t = with_or (after double_quote t) (behind_quote double_quote false) (undoubled_at inside t)
+unbracketed_at inside t = with_or (behind_byte double_quote t) (behind_quote double_quote false) (undoubled_at inside t)
 
 -- Whether the number in front is kept. Where another literal stands in front there is none to lose.
 unfoldable pub keeps_at : Text → Bool
-keeps_at t = not (is_number (run_of t)) || is_kept (run_of t)
+keeps_at t = not (is_number (run_of t)) || is_in_range (run_of t)
 
 -- where an entry's literal stands: in an object behind a key, its colon and white
 abbrev pub behind_lead : Bracket → Text → Option Text
 behind_lead array t = Some t
 behind_lead object t =
-    after double_quote t >>= behind_quote double_quote false >>= λ r.
-    after colon (behind_white r) >>= λ r. Some (behind_white r)
+    behind_byte double_quote t >>= behind_quote double_quote false >>= λ r.
+    behind_byte colon (behind_white r) >>= λ r. Some (behind_white r)
 
 -- what stands next, and what follows it: a literal with no brackets, its number kept or not; empty brackets; an opening bracket and what
 -- leads to its first entry; a comma and what leads to another; or a closing bracket
@@ -70,19 +70,19 @@ pub data Token : Type 0 where
 
 -- behind an opening bracket and white
 unfoldable pub bracket_token : Bracket → Text → Token
-bracket_token k t = with_or (after (closer k) t) empty_brackets (with_or (behind_lead k t) (opening_bracket k) no_token)
+bracket_token k t = with_or (behind_byte (closer k) t) empty_brackets (with_or (behind_lead k t) (opening_bracket k) no_token)
 
 -- where a literal is to stand, inside brackets or not
 unfoldable pub value_token : Bool → Text → Token
 value_token inside t =
-    with_or (after left_bracket t) (λ r. bracket_token array (behind_white r))
-    (with_or (after left_brace t) (λ r. bracket_token object (behind_white r)) (with_or (unbracketed_at inside t) (unbracketed (keeps_at t)) no_token))
+    with_or (behind_byte left_bracket t) (λ r. bracket_token array (behind_white r))
+    (with_or (behind_byte left_brace t) (λ r. bracket_token object (behind_white r)) (with_or (unbracketed_at inside t) (unbracketed (keeps_at t)) no_token))
 
 -- behind an entry and white
 unfoldable pub entry_token : Bracket → Text → Token
 entry_token k t =
-    with_or (after comma t) (λ r. with_or (behind_lead k (behind_white r)) another_entry no_token)
-    (with_or (after (closer k) t) closing_bracket no_token)
+    with_or (behind_byte comma t) (λ r. with_or (behind_lead k (behind_white r)) another_entry no_token)
+    (with_or (behind_byte (closer k) t) closing_bracket no_token)
 
 -- behind a literal, in brackets or not
 abbrev pub behind_token : Option Bracket → Text → Token

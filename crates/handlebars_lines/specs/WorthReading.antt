@@ -4,7 +4,7 @@ use Rattle.serde_json.specs.Data.{Data}
 use Rattle.serde_json.specs.Read.{read as read_text}
 use Rattle.handlebars_base.specs.Bytes.{Text, single_quote}
 use Rattle.handlebars_base.specs.Optional.{◌>>=◌, with_or}
-use Rattle.handlebars_base.specs.Texts.{after}
+use Rattle.handlebars_base.specs.Texts.{behind_byte}
 use Rattle.handlebars_lines.specs.LiteralReading.{literal_at}
 use Rattle.handlebars_lines.specs.Worth.{double_quoted}
 
@@ -15,7 +15,7 @@ before c t =
 
 -- the JSON that the text of a literal is read as
 abbrev pub json_text : Text → Text
-json_text t = with_or (after single_quote t >>= before single_quote) double_quoted t
+json_text t = with_or (behind_byte single_quote t >>= before single_quote) double_quoted t
 
 -- What the literal is worth that a text is, where its numbers are kept. A text that is none is worth nothing.
 unfoldable pub worth_of : Text → Option Data

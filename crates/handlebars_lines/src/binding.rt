@@ -5,7 +5,7 @@ ghost use Rattle.std.specs.Option.{option_map};
 ghost use Rattle.handlebars_lines.specs.Binding.{behind_bar, behind_beginning, IsBinding, NoBinding};
 ghost use Rattle.handlebars_lines.specs.BindingView.{bound_names_of};
 
-use handlebars_base::json::path::marks::{after, behind_white, starts_white, symbols};
+use handlebars_base::json::path::marks::{behind_byte, behind_white, starts_white, symbols};
 
 /// The names that a block gives to what it shows.
 #[derive(Clone, Copy, Debug)]
@@ -28,7 +28,7 @@ fn behind_bar(text: &str) -> Option<&str>
 {
     let (word, rest) = symbols(text);
     if word == "as" {
-        after(b'|', behind_white(rest))
+        behind_byte(b'|', behind_white(rest))
     } else {
         None
     }
@@ -62,7 +62,7 @@ pub fn split_binding(text: &str) -> Option<BindingSlice<'_>>
         return None;
     }
     let rest = behind_white(rest);
-    if let Some(rest) = after(b'|', rest) {
+    if let Some(rest) = behind_byte(b'|', rest) {
         return Some(BindingSlice {
             means: BoundNames::Bound(name),
             rest,
@@ -72,7 +72,7 @@ pub fn split_binding(text: &str) -> Option<BindingSlice<'_>>
     if other.is_empty() {
         return None;
     }
-    let rest = after(b'|', behind_white(rest))?;
+    let rest = behind_byte(b'|', behind_white(rest))?;
     Some(BindingSlice {
         means: BoundNames::BothBound(name, other),
         rest,

@@ -4,14 +4,14 @@ ghost use Rattle.std.specs.Prelude.{◌≡◌, ◌<◌, ◌≤◌, ◌++◌, ◌
 ghost use Rattle.std.specs.List.{list_all};
 ghost use Rattle.std.specs.Char.{is_ascii_digit};
 ghost use Rattle.std.specs.Option.{option_map};
-ghost use Rattle.handlebars_base.specs.Texts.{IsEnd, starts};
-ghost use Rattle.handlebars_lines.specs.Literal.{is_digits, is_integer, is_decimal, is_number, number_of, is_kept_below, is_kept, is_word, closer};
+ghost use Rattle.handlebars_base.specs.Texts.{IsSuffix, starts};
+ghost use Rattle.handlebars_lines.specs.Literal.{is_digits, is_integer, is_decimal, is_number, number_of, is_in_range_below, is_in_range, is_word, closer};
 ghost use Rattle.handlebars_lines.specs.LiteralReading.{begins_number, begins_name, plain_at, undoubled_at, unbracketed_at, keeps_at, behind_lead, bracket_token, value_token, entry_token, token_at, innermost, slice_to, literal_at};
 ghost use Rattle.handlebars_lines.specs.LiteralView.{bracket_of, stack_of, token_of, literal_slice_of};
 ghost use Rattle.handlebars_lines.specs.Laws.{HasLiteral, NoLiteral};
 
 use crate::marks::{behind_quote, run, starts_run};
-use handlebars_base::json::path::marks::{after, behind_white};
+use handlebars_base::json::path::marks::{behind_byte, behind_white};
 use std::alloc::{AllocError, Global};
 
 /// A literal's text, what follows it, how many of its brackets are open at once at most, and whether its numbers are
@@ -127,16 +127,16 @@ pub(crate) fn number_of(text: &str) -> Option<u64>
 }
 
 fn is_kept_below(number: u64) -> bool
-    ensures { result ≡ is_kept_below number }
+    ensures { result ≡ is_in_range_below number }
 {
     0 < number && number <= 9_223_372_036_854_775_808
 }
 
-#[tactic(auto, unfolding(crate::specs::Literal::is_kept))]
-fn is_kept(text: &str) -> bool
-    ensures { result ≡ is_kept text.now }
+#[tactic(auto, unfolding(crate::specs::Literal::is_in_range))]
+fn is_in_range(text: &str) -> bool
+    ensures { result ≡ is_in_range text.now }
 {
-    match after(b'-', text) {
+    match behind_byte(b'-', text) {
         Some(digits) => match number_of(digits) {
             Some(number) => is_kept_below(number),
             None => false,
@@ -178,7 +178,7 @@ fn undoubled_at(inside: bool, text: &str) -> Option<&str>
     if inside {
         return plain_at(text);
     }
-    match after(b'\'', text) {
+    match behind_byte(b'\'', text) {
         Some(rest) => behind_quote(b'\'', rest),
         None => plain_at(text),
     }
@@ -189,7 +189,7 @@ fn undoubled_at(inside: bool, text: &str) -> Option<&str>
 fn unbracketed_at(inside: bool, text: &str) -> Option<&str>
     ensures { option_map (λ rest. rest.now) result ≡ unbracketed_at inside text.now }
 {
-    match after(b'"', text) {
+    match behind_byte(b'"', text) {
         Some(rest) => behind_quote(b'"', rest),
         None => undoubled_at(inside, text),
     }
@@ -201,7 +201,7 @@ fn keeps_at(text: &str) -> bool
     ensures { result ≡ keeps_at text.now }
 {
     let front = run(text).0;
-    is_kept(front) || !is_number(front)
+    is_in_range(front) || !is_number(front)
 }
 
 /// Where an entry's literal stands: in an object behind a key, its colon and white.
@@ -211,8 +211,8 @@ fn behind_lead(bracket: Bracket, text: &str) -> Option<&str>
     match bracket {
         Bracket::Array => Some(text),
         Bracket::Object => {
-            let rest = behind_quote(b'"', after(b'"', text)?)?;
-            let rest = after(b':', behind_white(rest))?;
+            let rest = behind_quote(b'"', behind_byte(b'"', text)?)?;
+            let rest = behind_byte(b':', behind_white(rest))?;
             Some(behind_white(rest))
         }
     }
@@ -233,7 +233,7 @@ fn closer(bracket: Bracket) -> u8
 fn bracket_token(bracket: Bracket, text: &str) -> Token<'_>
     ensures { token_of result ≡ bracket_token (bracket_of bracket) text.now }
 {
-    if let Some(rest) = after(closer(bracket), text) {
+    if let Some(rest) = behind_byte(closer(bracket), text) {
         return Token::EmptyBrackets(rest);
     }
     match behind_lead(bracket, text) {
@@ -248,10 +248,10 @@ fn bracket_token(bracket: Bracket, text: &str) -> Token<'_>
 fn value_token(inside: bool, text: &str) -> Token<'_>
     ensures { token_of result ≡ value_token inside text.now }
 {
-    if let Some(rest) = after(b'[', text) {
+    if let Some(rest) = behind_byte(b'[', text) {
         return bracket_token(Bracket::Array, behind_white(rest));
     }
-    if let Some(rest) = after(b'{', text) {
+    if let Some(rest) = behind_byte(b'{', text) {
         return bracket_token(Bracket::Object, behind_white(rest));
     }
     match unbracketed_at(inside, text) {
@@ -265,13 +265,13 @@ fn value_token(inside: bool, text: &str) -> Token<'_>
 fn entry_token(bracket: Bracket, text: &str) -> Token<'_>
     ensures { token_of result ≡ entry_token (bracket_of bracket) text.now }
 {
-    if let Some(rest) = after(b',', text) {
+    if let Some(rest) = behind_byte(b',', text) {
         return match behind_lead(bracket, behind_white(rest)) {
             Some(behind) => Token::AnotherEntry(behind),
             None => Token::NoToken,
         };
     }
-    match after(closer(bracket), text) {
+    match behind_byte(closer(bracket), text) {
         Some(rest) => Token::ClosingBracket(rest),
         None => Token::NoToken,
     }
@@ -322,7 +322,7 @@ fn open_bracket(
 
 /// The literal that ends ahead of this rest, unless its last word goes on there.
 fn slice_to<'a>(text: &'a str, rest: &'a str, depth: usize, kept: bool) -> Option<LiteralSlice<'a>>
-    requires { IsEnd text.now rest.now }
+    requires { IsSuffix text.now rest.now }
     ensures reads { option_map literal_slice_of result ≡ slice_to text.now rest.now depth kept }
     ensures depth { IfSome result (λ slice. slice.depth ≡ depth) }
 {

@@ -7,13 +7,13 @@ ghost use Rattle.serde_json.specs.Data.{number, string, unsigned};
 ghost use Rattle.serde_json.specs.Read.{read as read_text};
 ghost use Rattle.serde_json.specs.View.{view};
 ghost use Rattle.handlebars_base.specs.Bytes.{double_quote, single_quote};
-ghost use Rattle.handlebars_base.specs.Texts.{starts, after};
+ghost use Rattle.handlebars_base.specs.Texts.{starts, behind_byte};
 ghost use Rattle.handlebars_lines.specs.CommonJson.{has_leading_zero, is_plain_byte, is_not_single};
 ghost use Rattle.handlebars_lines.specs.Worth.{plain_singles, escaped_doubles, double_quoted};
 ghost use Rattle.handlebars_lines.specs.WorthReading.{before, worth_of};
 
 use crate::literal::{literal_at, number_of};
-use handlebars_base::json::path::marks::after;
+use handlebars_base::json::path::marks::behind_byte;
 use handlebars_base::json::value::Json;
 use std::alloc::{AllocError, Global};
 
@@ -189,9 +189,9 @@ fn before(mark: u8, text: &str) -> Option<&str>
 }
 
 fn unquoted(text: &str) -> Option<&str>
-    ensures { option_map (λ inner. inner.now) result ≡ option_and_then (before single_quote) (after single_quote text.now) }
+    ensures { option_map (λ inner. inner.now) result ≡ option_and_then (before single_quote) (behind_byte single_quote text.now) }
 {
-    before(b'\'', after(b'\'', text)?)
+    before(b'\'', behind_byte(b'\'', text)?)
 }
 
 fn starts_single(text: &str) -> bool

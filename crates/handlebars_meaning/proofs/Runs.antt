@@ -4,7 +4,7 @@ use Rattle.handlebars_base.specs.Reasons.{Refusal}
 use Rattle.handlebars_meaning.specs.Pieces.{Piece, join}
 use Rattle.handlebars_meaning.specs.State.{Setting, State}
 use Rattle.handlebars_meaning.specs.Steps.{Steps}
-use Rattle.handlebars_meaning.specs.Runs.{Outcome, Ended, Refused, Faulted, NoMemory, Runs, done, refused, wrote, got, set, asked, did, did_over, captured, captured_over, looked, has_room, has_none, stop, cut}
+use Rattle.handlebars_meaning.specs.Runs.{Outcome, Ended, Refused, Faulted, NoMemory, Runs, done, refused, wrote, got, set, asked, did, did_over, captured, captured_over, looked, below_limit, at_limit, stop, cut}
 
 pub join-append : (xs ys : List Piece) → join (xs ++ ys) ≡ join xs ++ join ys
 join-append [] ys = refl
@@ -27,8 +27,8 @@ Runs-short (did_over {o = NoMemory} a over) e = cc
 Runs-short (captured a b) e = captured a (Runs-short b e)
 Runs-short (captured_over a over) e = stop
 Runs-short (looked r) e = looked (Runs-short r e)
-Runs-short (has_room lt r) e = has_room lt (Runs-short r e)
-Runs-short (has_none le) e = stop
+Runs-short (below_limit lt r) e = below_limit lt (Runs-short r e)
+Runs-short (at_limit le) e = stop
 Runs-short stop e = cc
 Runs-short (cut {o = Ended s} i b) e = absurd i
 Runs-short (cut {o = Refused f} i b) e = absurd i

@@ -7,9 +7,9 @@ use Rattle.handlebars_scope.specs.Scopes.{Frame, empty_frame, Base}
 use Rattle.handlebars_helpers.specs.CallView.{CallView, HelperView}
 use Rattle.handlebars_helpers.specs.Choice.{Choice, the_body, the_inverse, body_in_block, body_in_turns, the_value, the_word, the_line, the_steps, nothing}
 use Rattle.handlebars_helpers.specs.Own.{Step, writes, renders_body, renders_inverse, renders_body_in}
-use Rattle.handlebars_helpers.specs.Turns.{Turn, turned, with_block}
+use Rattle.handlebars_helpers.specs.Turns.{Turn, turn_frame, with_block}
 use Rattle.handlebars_meaning.specs.Sites.{TreeSite, body_at, inverse_at, Site}
-use Rattle.handlebars_meaning.specs.State.{State, entered, left, with_nearest, nearest_variables}
+use Rattle.handlebars_meaning.specs.State.{State, push_frame, pop_frame, with_nearest, nearest_variables}
 use Rattle.handlebars_meaning.specs.Steps.{Prog, Whole, return, ◌>>=◌, ◌>>◌, state, become, perform}
 use Rattle.handlebars_meaning.specs.Writing.{write_value, write_step, write_word}
 
@@ -23,15 +23,15 @@ change f = do
 -- in a block of its own, which is left at the end
 abbrev pub in_block : Frame → Prog (Unit {0}) → Prog (Unit {0})
 in_block f steps = do
-  change (entered f)
+  change (push_frame f)
   steps
-  change left
+  change pop_frame
 
 -- ---- what helpers choose
 
 -- the view of a call with its bodies, as its helper sees it: of a block, or of an expression
-abbrev pub helper_call : Bool → Call → CallView → HelperView
-helper_call block c v = record {
+abbrev pub view_with_bodies : Bool → Call → CallView → HelperView
+view_with_bodies block c v = record {
   call = v;
   binding = call_binding c;
   body = call_body c;
@@ -50,7 +50,7 @@ render_body site i h = render_branch (body_at site i) h.body
 
 -- The nearest block is set up for a turn, and the body is rendered in it.
 abbrev pub take_turn : Site → ℕ → HelperView → Option (List Text) → Turn → Prog (Unit {0})
-take_turn site i h path t = change (with_nearest (turned path h.binding t)) >> render_body site i h
+take_turn site i h path t = change (with_nearest (turn_frame path h.binding t)) >> render_body site i h
 
 -- the turns in order, from a number on
 abbrev pub take_turns : Site → ℕ → HelperView → Option (List Text) → List Turn → Prog (Unit {0})

@@ -10,12 +10,12 @@ use Rattle.handlebars_base.specs.Scoped.{data_in}
 use Rattle.handlebars_template.specs.Tree.{Tree, Param, path, Body, no_body, body}
 use Rattle.handlebars_helpers.specs.Decoration.{DecoratorView}
 use Rattle.handlebars_meaning.specs.CarryOut.{change}
-use Rattle.handlebars_meaning.specs.Inclusion.{Partial, is_local, is_registered, is_own_block, is_nowhere, is_current, newest, pair_values, inclusion_block, begun, named_as_before, over}
+use Rattle.handlebars_meaning.specs.Inclusion.{Partial, is_local, is_registered, is_own_block, is_nowhere, is_current, newest, pair_values, inclusion_block, begin_inclusion, named_as_before, end_inclusion}
 use Rattle.handlebars_meaning.specs.Pieces.{Piece}
 use Rattle.handlebars_meaning.specs.Questions.{value_of}
 use Rattle.handlebars_meaning.specs.Sites.{TreeSite, body_at, included_at, Site}
-use Rattle.handlebars_meaning.specs.State.{State, nearest_variables, entered}
-use Rattle.handlebars_meaning.specs.Steps.{Whole, Prog, return, ◌>>=◌, ◌>>◌, refuse_for, ask, write, state, become, perform, capture, find, room}
+use Rattle.handlebars_meaning.specs.State.{State, nearest_variables, push_frame}
+use Rattle.handlebars_meaning.specs.Steps.{Whole, Prog, return, ◌>>=◌, ◌>>◌, refuse_for, ask, write, state, become, perform, capture, find, check_limit}
 
 -- ---- the block of the tag, where an inclusion before it kept one
 
@@ -54,7 +54,7 @@ abbrev pub enter_block : DecoratorView → Prog (Unit {0})
 enter_block v = do
   d ← base_value v.call.params
   s ← state
-  become (entered (inclusion_block d (pair_values v.call.pairs) (nearest_variables s.blocks)) s)
+  become (push_frame (inclusion_block d (pair_values v.call.pairs) (nearest_variables s.blocks)) s)
 
 -- The block of a tag whose partial was found is rendered ahead, under the old indentation, and its text is to be kept; a tag
 -- without a block keeps no text.
@@ -64,17 +64,17 @@ render_ahead site (body t) = do
   ps ← capture (perform (Whole (body_at site 0) t))
   return (Some ps)
 
--- A tree is included, where there is room for it: in a block of its own, with what is kept for it, and under the view's
+-- A tree is included, where the limit allows it: in a block of its own, with what is kept for it, and under the view's
 -- indentation. At the end all is as before.
 abbrev pub include_tree : DecoratorView → TreeSite → Tree → Prog (Option (List Piece)) → Prog (Unit {0})
 include_tree v at t ahead = do
-  room
+  check_limit
   s ← state
   enter_block v
   k ← ahead
-  change (begun v.indent k)
+  change (begin_inclusion v.indent k)
   perform (Whole at t)
-  change (over s)
+  change (end_inclusion s)
 
 abbrev pub include_found : Site → DecoratorView → Tree → Prog (Unit {0})
 include_found site v t = include_tree v (included_at site t) t (render_ahead site v.body)

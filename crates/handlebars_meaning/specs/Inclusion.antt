@@ -6,10 +6,10 @@ use Rattle.handlebars_base.specs.Bytes.{Text}
 use Rattle.handlebars_base.specs.PathAndData.{PathAndData}
 use Rattle.handlebars_base.specs.Scoped.{data_in}
 use Rattle.handlebars_template.specs.Tree.{Tree, Body, no_body, body}
-use Rattle.handlebars_scope.specs.Merged.{merged}
+use Rattle.handlebars_scope.specs.Merged.{merge}
 use Rattle.handlebars_scope.specs.Scopes.{nothing_at, put_at, Bound, bound_value, Frame, empty_frame}
 use Rattle.handlebars_meaning.specs.Pieces.{Piece}
-use Rattle.handlebars_meaning.specs.State.{Parts, Kept, State, outer, partial_in}
+use Rattle.handlebars_meaning.specs.State.{Parts, KeptBlocks, State, outer_frames, partial_in}
 
 -- ---- what is found
 
@@ -34,8 +34,8 @@ local_or_other None stored b = registered_or_own stored b
 local_or_other (Some t) stored b = is_local t
 
 -- what a tag with this body finds by a name: a local partial comes first, the nearest block's before others
-abbrev pub found_by : Parts → State → Text → Body → Partial
-found_by parts s name b = local_or_other (partial_in s.blocks name) (parts.template name) b
+abbrev pub partial_for : Parts → State → Text → Body → Partial
+partial_for parts s name b = local_or_other (partial_in s.blocks name) (parts.template name) b
 
 -- a name is the current one
 abbrev pub is_current : Text → Option Text → Bool
@@ -43,7 +43,7 @@ is_current name None = false
 is_current name (Some current) = bytes_eq current name
 
 -- the newest text that is kept; there is none where the newest entry has none
-abbrev pub newest : Kept → Option (List Piece)
+abbrev pub newest : KeptBlocks → Option (List Piece)
 newest [] = None
 newest (k ∷ ks) = k
 
@@ -62,7 +62,7 @@ with_bound (h ∷ hs) bound = with_bound hs (put_at h.0 (bound_value h.1) bound)
 -- It stands at a value, merged with the pairs, each of which is bound to its key too; and it has these variables.
 abbrev pub inclusion_block : Data → List (Text × Data) → (Text → Option Data) → Frame
 inclusion_block d hs variables = record empty_frame {
-  base_value = Some (merged d hs);
+  base_value = Some (merge d hs);
   bound = with_bound hs nothing_at;
   variable = variables;
 }
@@ -76,18 +76,18 @@ joined_indent (Some i) None = Some i
 joined_indent (Some i) (Some own) = Some (i ++ own)
 
 -- The partial is begun: its indentation is in force, what is kept for it is the newest, and it counts.
-abbrev pub begun : Option Text → Option (List Piece) → State → State
-begun indent k s = record s { indent = indent; kept = k ∷ s.kept; inclusions = s.inclusions + 1 }
+abbrev pub begin_inclusion : Option Text → Option (List Piece) → State → State
+begin_inclusion indent k s = record s { indent = indent; kept = k ∷ s.kept; inclusions = s.inclusions + 1 }
 
 -- with the name and the indentation of the state before
 abbrev pub named_as_before : State → State → State
 named_as_before before s = record s { current = before.current; indent = before.indent }
 
 -- The inclusion is over: its block is left, and the name, the indentation, what is kept and the count are as before.
-abbrev pub over : State → State → State
-over before s = record s {
+abbrev pub end_inclusion : State → State → State
+end_inclusion before s = record s {
   current = before.current;
-  blocks = outer s.blocks;
+  blocks = outer_frames s.blocks;
   indent = before.indent;
   kept = before.kept;
   inclusions = before.inclusions;

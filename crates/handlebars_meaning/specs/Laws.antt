@@ -3,10 +3,10 @@ use Rattle.std.specs.Prelude.{◌≡◌, ◌≢◌, ◌≤◌, ℕ, Bool, true, 
 use Rattle.std.specs.List.{AllByRecursion}
 use Rattle.handlebars_template.specs.Tree.{Tree, tree, no_elements, element, Element}
 use Rattle.handlebars_base.specs.Bytes.{Text}
-use Rattle.handlebars_base.specs.Outputs.{IsBeginning}
+use Rattle.handlebars_base.specs.Outputs.{IsPrefix}
 use Rattle.handlebars_base.specs.Reasons.{inclusion_limit}
 use Rattle.handlebars_meaning.specs.Pieces.{Piece, join}
-use Rattle.handlebars_meaning.specs.State.{Kept, Setting, State}
+use Rattle.handlebars_meaning.specs.State.{KeptBlocks, Setting, State}
 use Rattle.handlebars_meaning.specs.Steps.{Steps}
 use Rattle.handlebars_meaning.specs.Means.{render_alone}
 use Rattle.handlebars_meaning.specs.Names.{included_names}
@@ -22,7 +22,7 @@ OneRun p = (k : Steps) (s : State) (ps qs : List Piece) (o q : Outcome)
 -- a run that stops on the way has written a beginning of what the whole run writes
 abbrev pub StopsInBeginning : Setting → Type 0
 StopsInBeginning p = (k : Steps) (s : State) (ps qs : List Piece) (o q : Outcome)
-    → Runs p k s ps o → Runs p k s qs q → IsStop o → (IsStop q → ⊥) → ∥ IsBeginning (join ps) (join qs) ∥₁
+    → Runs p k s ps o → Runs p k s qs q → IsStop o → (IsStop q → ⊥) → ∥ IsPrefix (join ps) (join qs) ∥₁
 
 -- ---- where pieces come from
 
@@ -64,7 +64,7 @@ pub record Around : Type 0 where
   pub recursive : Bool
   pub escapes : Bool
   pub indent : Option Text
-  pub kept : Kept
+  pub kept : KeptBlocks
   pub inclusions : ℕ
 
 abbrev pub around : State → Around

@@ -10,7 +10,7 @@ use Rattle.handlebars_scope.specs.LineState.{LineState}
 use Rattle.handlebars_helpers.specs.CallView.{CallView, HelperView}
 use Rattle.handlebars_helpers.specs.Callee.{Target}
 use Rattle.handlebars_helpers.specs.Decoration.{DecoratorView, Deed, sets_data, binds, unbinds, sets_partial}
-use Rattle.handlebars_meaning.specs.CarryOut.{helper_call, carry_out, change}
+use Rattle.handlebars_meaning.specs.CarryOut.{view_with_bodies, carry_out, change}
 use Rattle.handlebars_meaning.specs.Inclusion.{joined_indent}
 use Rattle.handlebars_meaning.specs.Including.{include}
 use Rattle.handlebars_meaning.specs.Pieces.{of_text}
@@ -23,8 +23,8 @@ use Rattle.handlebars_meaning.specs.Writing.{write_text, write_value}
 -- ---- brackets
 
 -- with escaping off, which is then as before
-abbrev pub unescaped : Prog (Unit {0}) → Prog (Unit {0})
-unescaped steps = do
+abbrev pub without_escaping : Prog (Unit {0}) → Prog (Unit {0})
+without_escaping steps = do
   before ← state
   become (record before { escapes = false })
   steps
@@ -64,7 +64,7 @@ render_chosen site k h = ask (choice_of k h) >>= carry_out site h
 -- A helper is called in the bracket, for a block or an expression.
 abbrev pub render_helped : Site → Bool → Call → Target → CallView → Prog (Unit {0})
 render_helped site block c k v =
-    in_bracket (call_marks c).indent_before_write (render_chosen site k (helper_call block c v))
+    in_bracket (call_marks c).indent_before_write (render_chosen site k (view_with_bodies block c v))
 
 -- A block, and an expression with parameters or pairs, calls the helper of its name, else the hook.
 abbrev pub render_call : Site → Bool → Call → Prog (Unit {0})
@@ -78,7 +78,7 @@ render_call site block c = do
 -- The hook is called for a missing value, and with no bracket. Without a hook nothing is written.
 abbrev pub render_hook : Site → Call → CallView → Option Target → Prog (Unit {0})
 render_hook site c v None = return tt
-render_hook site c v (Some k) = render_chosen site k (helper_call false c v)
+render_hook site c v (Some k) = render_chosen site k (view_with_bodies false c v)
 
 -- A value that is there is written.
 abbrev pub render_found : Site → Call → CallView → Found → Prog (Unit {0})
@@ -168,7 +168,7 @@ render_tag site false c = render_expression site c
 -- what it finds, and a comment does nothing.
 abbrev pub render_element : Site → Element → Prog (Unit {0})
 render_element site (raw_string t) = write_text (of_text site) t
-render_element site (html_expression c) = unescaped (render_expression site c)
+render_element site (html_expression c) = without_escaping (render_expression site c)
 render_element site (expression c) = render_expression site c
 render_element site (helper_block c) = render_call site true c
 render_element site (decorator_expression t) = render_decorator t

@@ -2,7 +2,7 @@
 use Rattle.std.specs.Prelude.{List, [], ◌∷◌, ◌++◌}
 use Rattle.handlebars_base.specs.Bytes.{Text}
 use Rattle.handlebars_meaning.specs.Pieces.{Piece}
-use Rattle.handlebars_meaning.specs.Runs.{Outcome, Runs, done, refused, wrote, got, set, asked, did, did_over, captured, captured_over, looked, has_room, has_none, stop, cut}
+use Rattle.handlebars_meaning.specs.Runs.{Outcome, Runs, done, refused, wrote, got, set, asked, did, did_over, captured, captured_over, looked, below_limit, at_limit, stop, cut}
 use Rattle.handlebars_meaning.specs.State.{Setting, State}
 use Rattle.handlebars_meaning.specs.Steps.{Steps}
 
@@ -20,7 +20,7 @@ included_names (did_over a over) = included_names a
 included_names (captured a b) = included_names a ++ included_names b
 included_names (captured_over a over) = included_names a
 included_names (looked {n = n} r) = n ∷ included_names r
-included_names (has_room lt r) = included_names r
-included_names (has_none le) = []
+included_names (below_limit lt r) = included_names r
+included_names (at_limit le) = []
 included_names stop = []
 included_names (cut i f) = []

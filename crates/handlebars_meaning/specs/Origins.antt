@@ -8,13 +8,13 @@ use Rattle.handlebars_base.specs.Optional.{◌>>=◌, with_or}
 use Rattle.handlebars_base.specs.Scoped.{Found, value, missing, present_in}
 use Rattle.handlebars_base.specs.Values.{word}
 use Rattle.handlebars_template.specs.Tree.{Tree, tree_elements, Elements, no_elements, element, Element, raw_string, html_expression, expression, helper_block, decorator_expression, decorator_block, partial_expression, partial_block, Call, call_name, call_args, call_body, call_inverse, is_value, Decorator, decorator_body, decorator_marks, Body, no_body, body}
-use Rattle.handlebars_base.specs.Outputs.{IsBeginning}
+use Rattle.handlebars_base.specs.Outputs.{IsPrefix}
 use Rattle.handlebars_helpers.specs.CallView.{CallView}
 use Rattle.handlebars_helpers.specs.Callee.{Target}
 use Rattle.handlebars_helpers.specs.Choice.{Choice, the_value, the_word, the_steps}
 use Rattle.handlebars_helpers.specs.Own.{Step, writes, renders_body_in}
 use Rattle.handlebars_scope.specs.Scopes.{Frame}
-use Rattle.handlebars_meaning.specs.CarryOut.{helper_call}
+use Rattle.handlebars_meaning.specs.CarryOut.{view_with_bodies}
 use Rattle.handlebars_meaning.specs.Pieces.{Origin, of_text, of_value, of_raw, of_word, of_step, of_indent, Piece}
 use Rattle.handlebars_meaning.specs.Questions.{value_of, view_of, helper_of, called_as, hook_for, choice_of, escape_of, IsAnswered}
 use Rattle.handlebars_meaning.specs.Sites.{TreeSite, first_tree, body_at, inverse_at, included_at, Site, element_in}
@@ -33,23 +33,23 @@ abbrev pub nth_in : Option Tree → ℕ → Option Element
 nth_in None i = None
 nth_in (Some t) i = nth (tree_elements t) i
 
-abbrev pub tree_in : Body → Option Tree
-tree_in no_body = None
-tree_in (body t) = Some t
+abbrev pub body_tree : Body → Option Tree
+body_tree no_body = None
+body_tree (body t) = Some t
 
 -- the call that an element is, and the tag of a decorator or an inclusion
-abbrev pub call_of : Element → Option Call
-call_of (html_expression c) = Some c
-call_of (expression c) = Some c
-call_of (helper_block c) = Some c
-call_of e = None
+abbrev pub element_call : Element → Option Call
+element_call (html_expression c) = Some c
+element_call (expression c) = Some c
+element_call (helper_block c) = Some c
+element_call e = None
 
-abbrev pub tag_of : Element → Option Decorator
-tag_of (decorator_expression t) = Some t
-tag_of (decorator_block t) = Some t
-tag_of (partial_expression t) = Some t
-tag_of (partial_block t) = Some t
-tag_of e = None
+abbrev pub element_tag : Element → Option Decorator
+element_tag (decorator_expression t) = Some t
+element_tag (decorator_block t) = Some t
+element_tag (partial_expression t) = Some t
+element_tag (partial_block t) = Some t
+element_tag e = None
 
 -- the tag of a decorator alone, and that of an inclusion
 abbrev pub decorator_tag : Element → Option Decorator
@@ -71,18 +71,18 @@ is_html (html_expression c) = true
 is_html e = false
 
 -- the body and the inverse of an element
-abbrev pub body_of : Element → Option Tree
-body_of e = with_or (call_of e) (λ c. tree_in (call_body c)) (tag_of e >>= (λ t. tree_in (decorator_body t)))
+abbrev pub element_body : Element → Option Tree
+element_body e = with_or (element_call e) (λ c. body_tree (call_body c)) (element_tag e >>= (λ t. body_tree (decorator_body t)))
 
-abbrev pub inverse_of : Element → Option Tree
-inverse_of e = call_of e >>= (λ c. tree_in (call_inverse c))
+abbrev pub element_inverse : Element → Option Tree
+element_inverse e = element_call e >>= (λ c. body_tree (call_inverse c))
 
 -- the tree and the element at their sites, in a run that begins with the tree u
 abbrev mutual
   pub tree_at : Tree → TreeSite → Option Tree
   tree_at u first_tree = Some u
-  tree_at u (body_at site i) = element_at u site >>= body_of
-  tree_at u (inverse_at site i) = element_at u site >>= inverse_of
+  tree_at u (body_at site i) = element_at u site >>= element_body
+  tree_at u (inverse_at site i) = element_at u site >>= element_inverse
   tree_at u (included_at site t) = Some t
 
   pub element_at : Tree → Site → Option Element
@@ -90,7 +90,7 @@ abbrev mutual
 
 -- the call of an element, which may write a value, escaped or raw, or a word; and whether the element is a block
 abbrev pub shown_call : Element → Option (Bool × Call)
-shown_call e = option_map (λ c. (is_block e, c)) (call_of e)
+shown_call e = option_map (λ c. (is_block e, c)) (element_call e)
 
 -- An html expression, or within the body of one, which only a tree made by hand has: there escaping is off.
 abbrev mutual
@@ -153,7 +153,7 @@ pub data Calls (p : Setting) (block : Bool) (c : Call) (s : State) (v : CallView
 pub record Chooses (p : Setting) (block : Bool) (c : Call) (s : State) (v : CallView) (choice : Choice) : Type 0 where
   pub target : Target
   pub calls : Calls p block c s v target
-  pub chooses : IsAnswered p s (choice_of target (helper_call block c v)) (gives choice)
+  pub chooses : IsAnswered p s (choice_of target (view_with_bodies block c v)) (gives choice)
 
 -- A call of this view writes this value in a state: its own, as a lone expression, or the one that its helper chooses.
 pub data WritesValue (p : Setting) (block : Bool) (c : Call) (s : State) (v : CallView) : Found → Type 0 where
@@ -195,7 +195,7 @@ pub record IsOfWord (p : Setting) (u : Tree) (vs : List Visit) (site : Site) (b 
   pub view : CallView
   pub called : IsCalled p u vs site false helper state view
   pub says : Chooses p false helper state view (the_word b)
-  pub is : IsBeginning t (word b)
+  pub is : IsPrefix t (word b)
 
 -- the text of a step that the helper of the call at the site answers in a state in which the run comes there, or a
 -- beginning of it, where the run stopped within
@@ -209,7 +209,7 @@ pub record IsOfStep (p : Setting) (u : Tree) (vs : List Visit) (site : Site) (i 
   pub answers : Chooses p block helper state view (the_steps steps)
   pub all : Text
   pub step : slice_get steps i ≡ Some (writes all)
-  pub is : IsBeginning t all
+  pub is : IsPrefix t all
 
 -- the indentations of inclusions to which the run comes, joined, those of the outer ones first
 pub data AreIndents (u : Tree) (vs : List Visit) : Text → Type 0 where
@@ -226,7 +226,7 @@ pub record IsOfIndent (u : Tree) (vs : List Visit) (site : Site) (t : Text) : Ty
   pub visited : IsVisited vs site
   pub all : Text
   pub indents : AreIndents u vs all
-  pub is : IsBeginning t all
+  pub is : IsPrefix t all
 
 -- Of a run over the tree u that comes to these sites.
 abbrev pub ComesFrom : Setting → Tree → List Visit → Origin → Text → Type 0

@@ -8,11 +8,11 @@ use Rattle.handlebars_base.specs.Scoped.{Found}
 use Rattle.handlebars_template.specs.Tree.{Param, Args, as_name}
 use Rattle.handlebars_helpers.specs.CallView.{CallView, HelperView}
 use Rattle.handlebars_helpers.specs.Callee.{Callee, built, own, Target, calls_registered, calls_local}
-use Rattle.handlebars_helpers.specs.Choice.{Choice, chosen, null_or_refusal, the_value, the_steps, nothing}
+use Rattle.handlebars_helpers.specs.Choice.{Choice, built_in_choice, null_or_refusal, the_value, the_steps, nothing}
 use Rattle.handlebars_helpers.specs.Decoration.{DecoratorKind, kind_inline, kind_own, DecoratorView, Deed, inline_deeds}
 use Rattle.handlebars_helpers.specs.Escaping.{HasEscaped}
 use Rattle.handlebars_helpers.specs.Own.{Step, Offer, not_offered, offers_missing, offers}
-use Rattle.handlebars_helpers.specs.OwnDecorator.{TagAsked}
+use Rattle.handlebars_helpers.specs.OwnDecorator.{DecoratorQuestion}
 use Rattle.handlebars_meaning.specs.Asks.{Asks, only, ◌>>=◌}
 use Rattle.handlebars_meaning.specs.State.{Parts, Setting, State, hook, helper_named, helper_for, registered_target, local_call}
 use Rattle.handlebars_meaning.specs.Values.{HasSteps, HasOffer, HasValue, HasView}
@@ -60,19 +60,19 @@ hook_or_refusal parts q =
 
 -- What a helper of one's own offers is a value; a missing one is null, and in strict mode a refusal; what isn't offered is
 -- nothing.
-abbrev pub offered : Bool → Offer → Answer Choice
-offered strict not_offered = gives nothing
-offered strict offers_missing = null_or_refusal strict
-offered strict (offers d) = gives (the_value d)
+abbrev pub offer_choice : Bool → Offer → Answer Choice
+offer_choice strict not_offered = gives nothing
+offer_choice strict offers_missing = null_or_refusal strict
+offer_choice strict (offers d) = gives (the_value d)
 
 -- It is called first. Where it has no steps, it is asked for a value.
 abbrev pub steps_or_offer : Setting → State → Text → HelperView → Option (List Step) → Asks Choice
-steps_or_offer p s called h None = HasOffer p s called h >>= (λ offer. only (offered p.parts.strict offer))
+steps_or_offer p s called h None = HasOffer p s called h >>= (λ offer. only (offer_choice p.parts.strict offer))
 steps_or_offer p s called h (Some steps) = only (gives (the_steps steps))
 
 -- what is registered so chooses
 abbrev pub HasRegisteredChoice : Setting → State → Callee → HelperView → Asks Choice
-HasRegisteredChoice p s (built kind) h = only (chosen p.parts.strict kind h)
+HasRegisteredChoice p s (built kind) h = only (built_in_choice p.parts.strict kind h)
 HasRegisteredChoice p s (own called) h = HasSteps p s called h >>= steps_or_offer p s called h
 
 -- what the helper that is called chooses
@@ -82,13 +82,13 @@ HasChoice p s (calls_local name) h =
     only (local_call p.parts (s.local name) name h) >>= (λ c. HasRegisteredChoice p s c.0 c.1)
 
 -- what a decorator of one's own is asked about in a state
-abbrev pub tag_asked : Setting → State → DecoratorView → TagAsked
-tag_asked p s v = record { view = v; given = p.given; changed = s.changed; strict = p.parts.strict }
+abbrev pub decorator_question : Setting → State → DecoratorView → DecoratorQuestion
+decorator_question p s v = record { view = v; given = p.given; changed = s.changed; strict = p.parts.strict }
 
 -- the deeds of a decorator for a tag
 abbrev pub HasDeeds : Setting → State → DecoratorKind → DecoratorView → Asks (List Deed)
 HasDeeds p s kind_inline v = only (inline_deeds v)
-HasDeeds p s (kind_own called) v = p.parts.own_decorator called (tag_asked p s v)
+HasDeeds p s (kind_own called) v = p.parts.own_decorator called (decorator_question p s v)
 
 -- the answers that a question has in a state
 abbrev pub IsAnswered : Setting → State → (q : Question) → Asks (Reply q)

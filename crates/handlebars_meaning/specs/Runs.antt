@@ -6,12 +6,12 @@ use Rattle.handlebars_base.specs.Reasons.{Spot, nowhere, Refusal, inclusion_limi
 use Rattle.handlebars_base.specs.RenderRefusals.{name_if_none, place_if_none, plain_refusal}
 use Rattle.handlebars_template.specs.Place.{Place}
 use Rattle.handlebars_template.specs.Tree.{Tree, tree_name, Body}
-use Rattle.handlebars_base.specs.Outputs.{IsBeginning}
-use Rattle.handlebars_meaning.specs.Inclusion.{Partial, found_by}
+use Rattle.handlebars_base.specs.Outputs.{IsPrefix}
+use Rattle.handlebars_meaning.specs.Inclusion.{Partial, partial_for}
 use Rattle.handlebars_meaning.specs.Pieces.{Piece}
 use Rattle.handlebars_meaning.specs.Questions.{Question, Reply, IsAnswered}
 use Rattle.handlebars_meaning.specs.State.{Setting, State}
-use Rattle.handlebars_meaning.specs.Steps.{Task, One, Whole, Steps, Done, Refuse, Write, Get, Set, Ask, Do, Capture, Find, Room}
+use Rattle.handlebars_meaning.specs.Steps.{Task, One, Whole, Steps, Done, Refuse, Write, Get, Set, Ask, Do, Capture, Find, CheckLimit}
 use Rattle.handlebars_meaning.specs.Means.{todo, render_tree}
 
 -- a write that failed: whether it was of a boolean helper's word, and where, as far as it is known
@@ -65,21 +65,21 @@ abbrev pub named_as : Option Text → Spot → Spot
 named_as None spot = spot
 named_as (Some n) spot = name_if_none n spot
 
-abbrev pub mark : Task → Spot → Spot
-mark (One site place e) spot = placed_at place spot
-mark (Whole at t) spot = named_as (tree_name t) spot
+abbrev pub mark_spot : Task → Spot → Spot
+mark_spot (One site place e) spot = placed_at place spot
+mark_spot (Whole at t) spot = named_as (tree_name t) spot
 
-abbrev pub marked : Task → Outcome → Outcome
-marked t (Ended s) = Ended s
-marked t (Refused r) = Refused (record r { spot = mark t r.spot })
-marked t (Faulted f) = Faulted (record f { spot = mark t f.spot })
-marked t NoMemory = NoMemory
+abbrev pub mark_outcome : Task → Outcome → Outcome
+mark_outcome t (Ended s) = Ended s
+mark_outcome t (Refused r) = Refused (record r { spot = mark_spot t r.spot })
+mark_outcome t (Faulted f) = Faulted (record f { spot = mark_spot t f.spot })
+mark_outcome t NoMemory = NoMemory
 
 -- the first of the pieces, the last of them perhaps in part
 pub data Front : List Piece → List Piece → Type 0 where
   none : {ps : List Piece} → Front [] ps
   cut_off : {p : Piece} {t : Text} {ps : List Piece}
-      → IsBeginning t p.text → Front (record p { text = t } ∷ []) (p ∷ ps)
+      → IsPrefix t p.text → Front (record p { text = t } ∷ []) (p ∷ ps)
   more : {p : Piece} {qs ps : List Piece} → Front qs ps → Front (p ∷ qs) (p ∷ ps)
 
 -- Runs p k s ps o: from the state s the steps k write the pieces ps and come to the outcome o.
@@ -96,7 +96,7 @@ pub data Runs (p : Setting) : Steps → State → List Piece → Outcome → Typ
   did : {s next : State} {t : Task} {k : Steps} {ps qs : List Piece} {o : Outcome}
       → Runs p (todo t) s ps (Ended next) → Runs p k next qs o → Runs p (Do t k) s (ps ++ qs) o
   did_over : {s : State} {t : Task} {k : Steps} {ps : List Piece} {o : Outcome}
-      → Runs p (todo t) s ps o → IsOver o → Runs p (Do t k) s ps (marked t o)
+      → Runs p (todo t) s ps o → IsOver o → Runs p (Do t k) s ps (mark_outcome t o)
   -- what was captured is told, and the run goes on from the state behind it; a capture that is over before its end wrote
   -- nothing, and no output failed
   captured : {s next : State} {m : Steps} {f : List Piece → Steps} {ps qs : List Piece} {o : Outcome}
@@ -105,12 +105,12 @@ pub data Runs (p : Setting) : Steps → State → List Piece → Outcome → Typ
       → Runs p m s ps o → IsOverInMemory o → Runs p (Capture m f) s [] o
   -- what is found by a name
   looked : {s : State} {n : Text} {b : Body} {f : Partial → Steps} {ps : List Piece} {o : Outcome}
-      → Runs p (f (found_by p.parts s n b)) s ps o → Runs p (Find n b f) s ps o
-  -- there is room for one more inclusion, or else that is refused
-  has_room : {s : State} {k : Steps} {ps : List Piece} {o : Outcome}
-      → s.inclusions < p.parts.limit → Runs p k s ps o → Runs p (Room k) s ps o
-  has_none : {s : State} {k : Steps} → p.parts.limit ≤ s.inclusions
-      → Runs p (Room k) s [] (Refused (plain_refusal (inclusion_limit p.parts.limit)))
+      → Runs p (f (partial_for p.parts s n b)) s ps o → Runs p (Find n b f) s ps o
+  -- the limit allows one more inclusion, or else that is refused
+  below_limit : {s : State} {k : Steps} {ps : List Piece} {o : Outcome}
+      → s.inclusions < p.parts.limit → Runs p k s ps o → Runs p (CheckLimit k) s ps o
+  at_limit : {s : State} {k : Steps} → p.parts.limit ≤ s.inclusions
+      → Runs p (CheckLimit k) s [] (Refused (plain_refusal (inclusion_limit p.parts.limit)))
   -- want of memory between two steps
   stop : {s : State} {k : Steps} → Runs p k s [] NoMemory
   -- a stop within a write that isn't empty

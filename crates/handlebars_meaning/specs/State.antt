@@ -14,7 +14,7 @@ use Rattle.handlebars_helpers.specs.Callee.{Callee, LocalHelper, Target, calls_r
 use Rattle.handlebars_helpers.specs.Decoration.{DecoratorKind}
 use Rattle.handlebars_helpers.specs.Escaping.{Escaping, OwnEscape}
 use Rattle.handlebars_helpers.specs.Own.{OwnHelper, AnswersOnce, HasOne}
-use Rattle.handlebars_helpers.specs.OwnDecorator.{TagAsked, OwnDecorator}
+use Rattle.handlebars_helpers.specs.OwnDecorator.{DecoratorQuestion, OwnDecorator}
 use Rattle.handlebars_meaning.specs.Pieces.{Piece}
 
 -- What a registry has for a run: what stands under a name of helpers, if anything does, and what a helper of one's own of
@@ -37,7 +37,7 @@ pub record Parts : Type 1 where
 -- nothing of one's own has two answers to one question
 pub record IsLawful (parts : Parts) : Type 0 where
   pub helpers : (name : Text) → AnswersOnce (parts.own name)
-  pub decorators : (name : Text) (q : TagAsked) → HasOne (parts.own_decorator name q)
+  pub decorators : (name : Text) (q : DecoratorQuestion) → HasOne (parts.own_decorator name q)
   pub escape : (t : Text) → HasOne (parts.own_escape t)
 
 -- the name of the hook, which is called where a name has no helper: of blocks, and of all other calls
@@ -51,8 +51,8 @@ pub record Setting : Type 1 where
   pub parts : Parts
 
 -- what is kept for the blocks of inclusions, the newest first: the pieces of each, or none for an inclusion without a block
-abbrev pub Kept : Type 0
-Kept = List (Option (List Piece))
+abbrev pub KeptBlocks : Type 0
+KeptBlocks = List (Option (List Piece))
 
 -- What a run changes: the name of the template whose elements are being rendered, if it has one, the blocks of scope,
 -- nearest first, the line that is written, whether escaping is on, the indentation in force, if there is any, what is kept,
@@ -65,7 +65,7 @@ pub record State : Type 0 where
   pub line : LineState
   pub escapes : Bool
   pub indent : Option Text
-  pub kept : Kept
+  pub kept : KeptBlocks
   pub inclusions : ℕ
   pub changed : Option Data
   pub local : Text → Option LocalHelper
@@ -117,16 +117,16 @@ local_call parts (Some l) name h = bound_call l h (parts.helper l.registered)
 -- ---- changes of the blocks
 
 -- a block is the nearest one from now on
-abbrev pub entered : Frame → State → State
-entered f s = record s { blocks = f ∷ s.blocks }
+abbrev pub push_frame : Frame → State → State
+push_frame f s = record s { blocks = f ∷ s.blocks }
 
 -- the blocks but the nearest one
-abbrev pub outer : List Frame → List Frame
-outer [] = []
-outer (f ∷ fs) = fs
+abbrev pub outer_frames : List Frame → List Frame
+outer_frames [] = []
+outer_frames (f ∷ fs) = fs
 
-abbrev pub left : State → State
-left s = record s { blocks = outer s.blocks }
+abbrev pub pop_frame : State → State
+pop_frame s = record s { blocks = outer_frames s.blocks }
 
 -- the nearest block is changed, if there is one
 abbrev pub nearest_as : (Frame → Frame) → List Frame → List Frame

@@ -19,8 +19,8 @@ pub data Task : Type 0 where
 
 -- Steps to be carried out one after the other. A write is one of a boolean helper's word, or not. What steps that are
 -- captured write is no output, but told to what comes next, which goes on from the state behind them. What is found is
--- told for an inclusion of a name, by a tag with a body. Room for one more inclusion is asked for, and it is refused where
--- there is none.
+-- told for an inclusion of a name, by a tag with a body. Whether the limit allows one more inclusion is asked, and it is
+-- refused where it does not.
 pub data Steps : Type 0 where
   Done : Steps
   Refuse : Refusal → Steps
@@ -31,7 +31,7 @@ pub data Steps : Type 0 where
   Do : Task → Steps → Steps
   Capture : Steps → (List Piece → Steps) → Steps
   Find : Text → Body → (Partial → Steps) → Steps
-  Room : Steps → Steps
+  CheckLimit : Steps → Steps
 
 -- steps that have a value, which is told to what comes next
 abbrev pub Prog : Type 0 → Type 0
@@ -85,5 +85,5 @@ capture m = λ k. Capture (run m) k
 abbrev pub find : Text → Body → Prog Partial
 find name b = λ k. Find name b k
 
-abbrev pub room : Prog (Unit {0})
-room = λ k. Room (k tt)
+abbrev pub check_limit : Prog (Unit {0})
+check_limit = λ k. CheckLimit (k tt)

@@ -9,12 +9,12 @@ use Rattle.handlebars_base.specs.Reasons.{helper_not_found, invalid_json_path}
 use Rattle.handlebars_base.specs.Scoped.{Found, walked, value, missing, data_in}
 use Rattle.handlebars_base.specs.Values.{rendered}
 use Rattle.handlebars_template.specs.Tree.{Element, expression, call, Args, args, args_params, args_pairs, Param, name, path, literal, subexpression, Params, no_params, param, Pairs, no_pairs, pair, as_name, Binding, no_body}
-use Rattle.handlebars_scope.specs.Resolve.{resolved}
+use Rattle.handlebars_scope.specs.Resolve.{resolve}
 use Rattle.handlebars_scope.specs.Scopes.{Frame}
 use Rattle.handlebars_helpers.specs.CallView.{CallView, HelperView}
 use Rattle.handlebars_helpers.specs.Callee.{Callee, built, own, Target, calls_registered, calls_local}
-use Rattle.handlebars_helpers.specs.Choice.{Choice, value_in, chosen}
-use Rattle.handlebars_helpers.specs.Own.{Asked, Step, writes, renders_body, renders_inverse, renders_body_in, Offer, not_offered, offers_missing, offers}
+use Rattle.handlebars_helpers.specs.Choice.{Choice, value_in, built_in_choice}
+use Rattle.handlebars_helpers.specs.Own.{HelperQuestion, Step, writes, renders_body, renders_inverse, renders_body_in, Offer, not_offered, offers_missing, offers}
 use Rattle.handlebars_meaning.specs.Asks.{Asks, only, ◌>>=◌}
 use Rattle.handlebars_meaning.specs.State.{Setting, State, helper_for, data_at, local_call}
 
@@ -33,8 +33,8 @@ as_written q found = record { relative_path = as_name q; found = found; is_const
 -- ---- calls in parentheses
 
 -- In parentheses the bodies of a call count as absent.
-abbrev pub inner_call : Binding → CallView → HelperView
-inner_call b v = record { call = v; binding = b; body = no_body; inverse = no_body; block = false }
+abbrev pub view_without_bodies : Binding → CallView → HelperView
+view_without_bodies b v = record { call = v; binding = b; body = no_body; inverse = no_body; block = false }
 
 -- In parentheses a value is itself. Without bodies nothing else that is chosen writes a text there.
 abbrev pub choice_value : Choice → Found
@@ -43,15 +43,15 @@ choice_value choice = value (unwrap_or (value_in choice) (string []))
 -- ---- helpers of one's own
 
 -- what one is asked about in a state
-abbrev pub asked_in : Setting → State → HelperView → Asked
-asked_in p s h = record { view = h; given = p.given; changed = s.changed; strict = p.parts.strict }
+abbrev pub helper_question : Setting → State → HelperView → HelperQuestion
+helper_question p s h = record { view = h; given = p.given; changed = s.changed; strict = p.parts.strict }
 
 -- what it answers when it is called, and when it is asked for a value
 abbrev pub HasSteps : Setting → State → Text → HelperView → Asks (Option (List Step))
-HasSteps p s called h = (p.parts.own called).has_steps (asked_in p s h)
+HasSteps p s called h = (p.parts.own called).has_steps (helper_question p s h)
 
 abbrev pub HasOffer : Setting → State → Text → HelperView → Asks Offer
-HasOffer p s called h = (p.parts.own called).has_offer (asked_in p s h)
+HasOffer p s called h = (p.parts.own called).has_offer (helper_question p s h)
 
 -- In parentheses steps write their texts alone, since no body is there.
 abbrev pub step_text : Step → Text
@@ -60,13 +60,13 @@ step_text renders_body = []
 step_text renders_inverse = []
 step_text (renders_body_in f) = []
 
-abbrev pub text_of : List Step → Text
-text_of [] = []
-text_of (step ∷ steps) = step_text step ++ text_of steps
+abbrev pub steps_text : List Step → Text
+steps_text [] = []
+steps_text (step ∷ steps) = step_text step ++ steps_text steps
 
 abbrev pub text_if_any : Option (List Step) → Found
 text_if_any None = value (string [])
-text_if_any (Some steps) = value (string (text_of steps))
+text_if_any (Some steps) = value (string (steps_text steps))
 
 -- In parentheses it is asked for a value first. Where it offers none, the text that it writes is the value.
 abbrev pub offer_or_text : Setting → State → Text → HelperView → Offer → Asks Found
@@ -76,7 +76,7 @@ offer_or_text p s called h (offers d) = only (gives (value d))
 
 -- the value of a call of this view of what is registered so
 abbrev pub HasRegisteredValue : Setting → State → Callee → HelperView → Asks Found
-HasRegisteredValue p s (built kind) h = only (answer_map choice_value (chosen p.parts.strict kind h))
+HasRegisteredValue p s (built kind) h = only (answer_map choice_value (built_in_choice p.parts.strict kind h))
 HasRegisteredValue p s (own called) h = HasOffer p s called h >>= offer_or_text p s called h
 
 -- the value of a call of this view, which calls this
@@ -89,25 +89,25 @@ HasHelpedValue p s (Some (calls_local called)) h =
 -- ---- values of the data
 
 -- A value with no path; one that is missing is null.
-abbrev pub plain : Found → Found
-plain (walked d names) = value d
-plain (value d) = value d
-plain missing = value null
+abbrev pub without_path : Found → Found
+without_path (walked d names) = value d
+without_path (value d) = value d
+without_path missing = value null
 
 -- What a path leads to, as it is read: where the data was changed, no value has a path, and none is missing.
 abbrev pub as_read : Option Data → Answer Found → Answer Found
 as_read None a = a
-as_read (Some changed) a = answer_map plain a
+as_read (Some changed) a = answer_map without_path a
 
 -- what a path leads to in a state
-abbrev pub value_at : Setting → State → Reference → Answer Found
-value_at p s r = as_read s.changed (resolved s.recursive s.blocks r (data_at p s))
+abbrev pub path_value : Setting → State → Reference → Answer Found
+path_value p s r = as_read s.changed (resolve s.recursive s.blocks r (data_at p s))
 
 -- ---- parameters and calls
 
 -- A name or a path is called by its text, another parameter by its value's.
-abbrev pub called_by : Found → Text
-called_by v = rendered (data_in v)
+abbrev pub callee_name : Found → Text
+callee_name v = rendered (data_in v)
 
 abbrev pub is_written : Param → Asks Found → Asks PathAndData
 is_written q valued = valued >>= (λ v. only (gives (as_written q v)))
@@ -123,7 +123,7 @@ abbrev mutual
   -- A name alone has no value. A path leads where the blocks and the data have it. A literal is itself.
   pub HasValue : Setting → State → Param → Asks Found
   HasValue p s (name n) = only (gives missing)
-  HasValue p s (path r) = only (value_at p s r)
+  HasValue p s (path r) = only (path_value p s r)
   HasValue p s (literal d) = only (gives (value d))
   HasValue p s (subexpression e) = HasInnerValue p s e
 
@@ -131,7 +131,7 @@ abbrev mutual
   pub HasInnerValue : Setting → State → Element → Asks Found
   HasInnerValue p s (expression (call n (args ps hs) b t marks)) =
       is_viewed (HasName p s n) (HaveValues p s ps) (PairsHaveValues p s hs) >>= (λ v.
-      HasHelpedValue p s (helper_for p.parts s false v.name) (inner_call b v))
+      HasHelpedValue p s (helper_for p.parts s false v.name) (view_without_bodies b v))
   HasInnerValue p s e = only (gives missing)
 
   -- the text that a call by this parameter calls
@@ -139,7 +139,7 @@ abbrev mutual
   HasName p s (name n) = only (gives n)
   HasName p s (path r) = only (gives (raw_of r))
   HasName p s (literal d) = only (gives (rendered d))
-  HasName p s (subexpression e) = HasInnerValue p s e >>= (λ v. only (gives (called_by v)))
+  HasName p s (subexpression e) = HasInnerValue p s e >>= (λ v. only (gives (callee_name v)))
 
   pub HaveValues : Setting → State → Params → Asks (List PathAndData)
   HaveValues p s no_params = only (gives [])
@@ -164,7 +164,7 @@ HasWrittenValue p s q = is_written q (HasValue p s q)
 
 -- A text that is a path evaluates to what it leads to in these blocks and this data. Another is refused.
 pub data Evaluates (recursive : Bool) (blocks : List Frame) (given : Data) (text : Text) : Answer Found → Type 0 where
-  leads : {r : Reference} {a : Answer Found} → IsPath text r → resolved recursive blocks r given ≡ a
+  leads : {r : Reference} {a : Answer Found} → IsPath text r → resolve recursive blocks r given ≡ a
       → Evaluates recursive blocks given text a
   leads_nowhere : ((r : Reference) → IsPath text r → ⊥)
       → Evaluates recursive blocks given text (refuses_for (invalid_json_path text))

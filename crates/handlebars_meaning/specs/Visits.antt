@@ -2,7 +2,7 @@
 use Rattle.std.specs.Prelude.{◌≢◌, List, [], ◌∷◌, ◌++◌}
 use Rattle.std.specs.List.{AllByRecursion}
 use Rattle.handlebars_meaning.specs.Pieces.{Piece}
-use Rattle.handlebars_meaning.specs.Runs.{Outcome, Runs, done, refused, wrote, got, set, asked, did, did_over, captured, captured_over, looked, has_room, has_none, stop, cut}
+use Rattle.handlebars_meaning.specs.Runs.{Outcome, Runs, done, refused, wrote, got, set, asked, did, did_over, captured, captured_over, looked, below_limit, at_limit, stop, cut}
 use Rattle.handlebars_meaning.specs.Sites.{Site}
 use Rattle.handlebars_meaning.specs.State.{Setting, State}
 use Rattle.handlebars_meaning.specs.Steps.{Task, One, Whole, Steps}
@@ -29,8 +29,8 @@ visits (did_over {s = s} {t = t} a over) = arrival t s ++ visits a
 visits (captured a b) = visits a ++ visits b
 visits (captured_over a over) = visits a
 visits (looked r) = visits r
-visits (has_room lt r) = visits r
-visits (has_none le) = []
+visits (below_limit lt r) = visits r
+visits (at_limit le) = []
 visits stop = []
 visits (cut i f) = []
 

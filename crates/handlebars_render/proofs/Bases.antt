@@ -14,7 +14,7 @@ use Rattle.handlebars_base.specs.Reasons.{Refusal}
 use Rattle.handlebars_base.specs.Scoped.{Found, data_in, missing, present_in, value, walked}
 use Rattle.handlebars_base.specs.declared.json.value.path_and_json.PathAndJson.{PathAndJson}
 use Rattle.handlebars_template.specs.Tree.{path}
-use Rattle.handlebars_scope.specs.Merged.{merged}
+use Rattle.handlebars_scope.specs.Merged.{merge}
 use Rattle.handlebars_scope.specs.MergedView.{pairs_in}
 use Rattle.handlebars_scope.specs.Bases.{with_base}
 use Rattle.handlebars_scope.specs.Scopes.{Bound, Frame, empty_frame}
@@ -23,7 +23,7 @@ use Rattle.handlebars_meaning.specs.Including.{base_value, here}
 use Rattle.handlebars_meaning.specs.Questions.{value_of}
 use Rattle.handlebars_meaning.specs.State.{Setting, State}
 use Rattle.handlebars_meaning.specs.Steps.{ask, return, ◌>>=◌}
-use Rattle.handlebars_meaning.specs.Values.{HasValue, value_at}
+use Rattle.handlebars_meaning.specs.Values.{HasValue, path_value}
 use Rattle.handlebars_render.specs.View.{GivesValue, RefusesValue}
 use Rattle.handlebars_render.proofs.Asked.{gives-ask, refuses-ask, refuses-bind}
 use Rattle.handlebars_render.proofs.LoneValues.{reached-value, reached-none-as}
@@ -37,10 +37,10 @@ pub view-null : view json.Null ≡ null
 view-null = search (rules, the_lemmas)
 
 -- a value merged with pairs that are seen otherwise
-pub merged-seen : (d e : Data) (hs : List (Bor Text × PathAndJson)) {vs : List (Text × PathAndData)} {x : Data}
-    → x ≡ merged d (pairs_in hs) → d ≡ e → map (λ h. (h.0.now, path_and_data h.1)) hs ≡ vs → x ≡ merged e (pair_values vs)
-merged-seen d e hs is same seen = is ∙ ap (λ z. merged z (pairs_in hs)) same
-    ∙ ap (merged e) (sym (pairs-seen hs) ∙ ap pair_values seen)
+pub merge-seen : (d e : Data) (hs : List (Bor Text × PathAndJson)) {vs : List (Text × PathAndData)} {x : Data}
+    → x ≡ merge d (pairs_in hs) → d ≡ e → map (λ h. (h.0.now, path_and_data h.1)) hs ≡ vs → x ≡ merge e (pair_values vs)
+merge-seen d e hs is same seen = is ∙ ap (λ z. merge z (pairs_in hs)) same
+    ∙ ap (merge e) (sym (pairs-seen hs) ∙ ap pair_values seen)
 
 data-of : (found : Found) (d : Data) → present_in found ≡ Some d → data_in found ≡ d
 data-of (walked e p) d is = cc
@@ -69,20 +69,20 @@ module _ (p : Setting) (s : State) where
   unfolding ◌>>=◌
   here-gives found has k ps o r = gives-ask p (value_of here) found has (λ x. k (data_in x)) ps o r
 
-  pub base-value : (d : Data) (r : Reference) → r ≡ relative [] [] → gives (Some d) ≡ answer_map present_in (value_at p s r)
+  pub base-value : (d : Data) (r : Reference) → r ≡ relative [] [] → gives (Some d) ≡ answer_map present_in (path_value p s r)
       → GivesValue p (base_value []) s d
   base-value d r is e =
       let x = reached-value p s here r (Some d) (ap (λ z. path z) (sym is)) e in
       subst (GivesValue p (base_value []) s) (data-of x.0 d x.2) (here-gives x.0 x.1)
 
-  pub base-nothing : (r : Reference) → r ≡ relative [] [] → gives None ≡ answer_map present_in (value_at p s r)
+  pub base-nothing : (r : Reference) → r ≡ relative [] [] → gives None ≡ answer_map present_in (path_value p s r)
       → GivesValue p (base_value []) s null
   base-nothing r is e =
       let x = reached-value p s here r None (ap (λ z. path z) (sym is)) e in
       subst (GivesValue p (base_value []) s) (data-none x.0 x.2) (here-gives x.0 x.1)
 
   pub base-refused : (r : Reference) (why given : Refusal) → r ≡ relative [] []
-      → refuses why ≡ answer_map present_in (value_at p s r) → given ≡ why → RefusesValue p (base_value []) s given
+      → refuses why ≡ answer_map present_in (path_value p s r) → given ≡ why → RefusesValue p (base_value []) s given
   base-refused r why given is e same = refuses-bind p (ask (value_of here)) (λ found. return (data_in found))
       (refuses-ask p (value_of here) (reached-none-as p s here r why given (ap (λ z. path z) (sym is)) e same))
 

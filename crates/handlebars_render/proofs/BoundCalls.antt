@@ -20,7 +20,7 @@ use Rattle.handlebars_helpers.specs.declared.built_in.BuiltIn.{BuiltIn}
 use Rattle.handlebars_helpers.specs.declared.own.Callee as declared
 use Rattle.handlebars_helpers.specs.declared.own.Callee.TheVariants.{Built, Own}
 use Rattle.handlebars_template.specs.Tree.{Call}
-use Rattle.handlebars_meaning.specs.CarryOut.{helper_call}
+use Rattle.handlebars_meaning.specs.CarryOut.{view_with_bodies}
 use Rattle.handlebars_meaning.specs.Asks.{goes_on, is_refused}
 use Rattle.handlebars_meaning.specs.Questions.{HasChoice, HasRegisteredChoice}
 use Rattle.handlebars_meaning.specs.State.{Parts, Setting, State, bound_call, local_call}
@@ -115,13 +115,13 @@ module _ (p : Setting) (s : State) where
 
   -- of a call that was taken apart
   pub chooses-parts : (block : Bool) (c : Call) (b : BoundCall) (x : declared.Callee × Option (CowStr Global) × Called) (v : HelperView)
-      (target : Target) (h : HelperView) → x ≡ (b.callee, b.asked_by, b.call) → v ≡ helper_call block c (called_view x.2)
-      → ChoosesFor p s (callee_in b) (helper_call block c (called_view b.call)) target h
+      (target : Target) (h : HelperView) → x ≡ (b.callee, b.asked_by, b.call) → v ≡ view_with_bodies block c (called_view x.2)
+      → ChoosesFor p s (callee_in b) (view_with_bodies block c (called_view b.call)) target h
       → ChoosesFor p s (callee_of (unwrap_or (option_map cow_str_bytes x.1) v.call.name) x.0) v target h
   chooses-parts block c b x v target h is same chooses =
-      let seen = same ∙ ap (λ (z : declared.Callee × Option (CowStr Global) × Called). helper_call block c (called_view z.2)) is in
+      let seen = same ∙ ap (λ (z : declared.Callee × Option (CowStr Global) × Called). view_with_bodies block c (called_view z.2)) is in
       chooses-same (callee_of (unwrap_or (option_map cow_str_bytes x.1) v.call.name) x.0) (callee_in b) v
-      (helper_call block c (called_view b.call)) target h
+      (view_with_bodies block c (called_view b.call)) target h
       (ap (λ (z : declared.Callee × Option (CowStr Global) × Called). callee_of (unwrap_or (option_map cow_str_bytes z.1) v.call.name) z.0) is
       ∙ ap (λ (z : HelperView). callee_of (unwrap_or (option_map cow_str_bytes b.asked_by) z.call.name) b.callee) seen)
       seen chooses

@@ -13,13 +13,13 @@ use Rattle.handlebars_base.specs.declared.error.render_error.RenderError.{Render
 use Rattle.handlebars_template.specs.Tree.{Args, Call, call_args, call_name, path}
 use Rattle.handlebars_helpers.specs.CallView.{CallView}
 use Rattle.handlebars_helpers.specs.Callee.{built, calls_registered}
-use Rattle.handlebars_helpers.specs.Choice.{body_if, chosen}
+use Rattle.handlebars_helpers.specs.Choice.{body_if, built_in_choice}
 use Rattle.handlebars_meaning.specs.Asks.{goes_on, is_refused, only}
-use Rattle.handlebars_meaning.specs.CarryOut.{helper_call}
+use Rattle.handlebars_meaning.specs.CarryOut.{view_with_bodies}
 use Rattle.handlebars_meaning.specs.Means.{render_call}
 use Rattle.handlebars_meaning.specs.Sites.{Site}
 use Rattle.handlebars_meaning.specs.State.{Setting, State, helper_for}
-use Rattle.handlebars_meaning.specs.Values.{HasName, HasValue, HasView, as_written, value_at}
+use Rattle.handlebars_meaning.specs.Values.{HasName, HasValue, HasView, as_written, path_value}
 use Rattle.handlebars_render.specs.Next.{Judges, LeavesCall, path_alone, wanting}
 use Rattle.handlebars_render.specs.View.{RefusesValue}
 use Rattle.handlebars_render.proofs.Leaves.{leaves-called, refuses-view}
@@ -38,7 +38,7 @@ data-unseen missing is = refl
 -- what the body is rendered for, where the condition is this
 pub chooses-wanted : (strict block wanted b : Bool) (c : Call) (t : Text) (r : Reference) (found : Found)
     → b ≡ truth false (data_in found)
-    → chosen strict (wanting wanted) (helper_call block c (record { name = t; params = as_written (path r) found ∷ []; pairs = [] }))
+    → built_in_choice strict (wanting wanted) (view_with_bodies block c (record { name = t; params = as_written (path r) found ∷ []; pairs = [] }))
     ≡ gives (body_if (if wanted then b else not b))
 chooses-wanted strict block true b c t r found is = ap (λ (z : Bool). gives (body_if z)) (sym is)
 chooses-wanted strict block false b c t r found is = ap (λ (z : Bool). gives (body_if (not z))) (sym is)
@@ -46,20 +46,20 @@ chooses-wanted strict block false b c t r found is = ap (λ (z : Bool). gives (b
 module _ (p : Setting) where
   module _ (s : State) (r : Reference) where
     pub judges-value : (d : Data) (b : Bool)
-        → gives (Some d) ≡ answer_map present_in (value_at p s r)
+        → gives (Some d) ≡ answer_map present_in (path_value p s r)
         → b ≡ truth false d → Judges p s r (Ok b)
     judges-value d b e is =
         let x = reached-value p s (path r) r (Some d) refl e in
         (x.0, x.1, is ∙ ap (truth false) (sym (data-seen x.0 d x.2)))
 
-    pub judges-nothing : gives None ≡ answer_map present_in (value_at p s r)
+    pub judges-nothing : gives None ≡ answer_map present_in (path_value p s r)
         → Judges p s r (Ok false)
     judges-nothing e =
         let x = reached-value p s (path r) r None refl e in
         (x.0, x.1, ap (truth false) (sym (data-unseen x.0 x.2)))
 
     pub judges-refused : (why : Refusal) (e : RenderError)
-        → refuses why ≡ answer_map present_in (value_at p s r)
+        → refuses why ≡ answer_map present_in (path_value p s r)
         → (reason_in e ≢ out_of_memory → refusal_of e ≡ why) → Judges p s r (Err e)
     judges-refused why e reached same = λ other.
         subst (λ (z : Refusal). HasValue p s (path r) (refuses z)) (sym (same other)) (reached-none p s (path r) r why refl reached)

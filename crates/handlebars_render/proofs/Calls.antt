@@ -13,7 +13,7 @@ use Rattle.handlebars_base.specs.Outputs.{Held}
 use Rattle.handlebars_meaning.specs.Sites.{TreeSite, Site}
 use Rattle.handlebars_helpers.specs.CallView.{CallView, HelperView}
 use Rattle.handlebars_helpers.specs.Callee.{Target, built, calls_registered}
-use Rattle.handlebars_helpers.specs.Choice.{Kind, Choice, chosen}
+use Rattle.handlebars_helpers.specs.Choice.{Kind, Choice, built_in_choice}
 use Rattle.handlebars_meaning.specs.State.{Setting, State}
 use Rattle.handlebars_meaning.specs.Steps.{Prog, ask, refuse_for, ◌>>=◌}
 use Rattle.handlebars_meaning.specs.Writing.{write_value}

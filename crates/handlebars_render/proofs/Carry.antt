@@ -13,14 +13,14 @@ use Rattle.handlebars_meaning.specs.Pieces.{Origin, of_step, of_word, Piece, joi
 use Rattle.handlebars_scope.specs.LineState.{LineState}
 use Rattle.handlebars_scope.specs.Scopes.{Frame}
 use Rattle.handlebars_meaning.specs.Sites.{Site}
-use Rattle.handlebars_meaning.specs.State.{Setting, State, entered, left}
+use Rattle.handlebars_meaning.specs.State.{Setting, State, push_frame, pop_frame}
 use Rattle.handlebars_meaning.specs.Steps.{Task, Steps, Done, Refuse, Write, Get, Set, Do, Prog, return, run, refuse_for, state, become, write, perform, ◌>>=◌, ◌>>◌}
 use Rattle.handlebars_meaning.specs.Writing.{write_text, write_step, write_word}
 use Rattle.handlebars_meaning.specs.CarryOut.{change, in_block}
-use Rattle.handlebars_meaning.specs.Means.{unescaped, line_out, on_line, todo}
-use Rattle.handlebars_meaning.specs.Runs.{Fault, plain_fault, Outcome, Ended, Refused, Faulted, NoMemory, Stops, Front, none, mark, Runs, done, refused, wrote, got, set, did, did_over, stop, cut}
+use Rattle.handlebars_meaning.specs.Means.{without_escaping, line_out, on_line, todo}
+use Rattle.handlebars_meaning.specs.Runs.{Fault, plain_fault, Outcome, Ended, Refused, Faulted, NoMemory, Stops, Front, none, mark_spot, Runs, done, refused, wrote, got, set, did, did_over, stop, cut}
 use Rattle.handlebars_render.specs.View.{Moment, GivesValue, RefusesValue, TellsCause, TellsFault, Answered, Tells, ended, refusal, fault, no_memory, CarriesOut, CarriesOn, goes_on, is_over}
-use Rattle.handlebars_render.specs.Writes.{IsPart, Puts, Writes, all_written, front_written, part_written}
+use Rattle.handlebars_render.specs.Writes.{IsCutByMemory, Puts, Writes, all_written, front_written, part_written}
 use Rattle.handlebars_render.specs.Boxed.{IsHandedOn, answer_of, error_of}
 use Rattle.handlebars_render.specs.declared.boxed.BoxedError.{BoxedError}
 use Rattle.handlebars_meaning.proofs.Pieces.{join-pieces_of, join-put, Front-of}
@@ -51,12 +51,12 @@ pub record Ends (p : Setting) (k : Steps) (before after : Moment) : Type 0 where
 
 -- An error becomes another, which has the mark of the task, or says that memory ran out.
 pub record IsMarked (t : Task) (e d : RenderError) : Type 0 where
-  pub spot : reason_in d ≢ out_of_memory → spot_of d ≡ mark t (spot_of e)
+  pub spot : reason_in d ≢ out_of_memory → spot_of d ≡ mark_spot t (spot_of e)
   pub cause : reason_in d ≢ out_of_memory → cause_of d ≡ cause_of e
   pub memory : reason_in e ≡ out_of_memory → reason_in d ≡ out_of_memory
 
 -- an error that a task leaves as it is
-pub unmarked : (t : Task) (e : RenderError) → mark t (spot_of e) ≡ spot_of e → IsMarked t e e
+pub unmarked : (t : Task) (e : RenderError) → mark_spot t (spot_of e) ≡ spot_of e → IsMarked t e e
 unmarked t e is = record { spot = λ _. sym is; cause = λ _. refl; memory = λ m. m }
 
 marked-reason : (t : Task) (e d : RenderError) → IsMarked t e d → reason_in d ≢ out_of_memory
@@ -64,7 +64,7 @@ marked-reason : (t : Task) (e d : RenderError) → IsMarked t e d → reason_in 
 marked-reason t e d m other = ap reason_of (m.cause other)
 
 pub marked-refusal : (t : Task) (e d : RenderError) → IsMarked t e d → reason_in d ≢ out_of_memory
-    → refusal_of d ≡ record { reason = reason_in e; spot = mark t (spot_of e) }
+    → refusal_of d ≡ record { reason = reason_in e; spot = mark_spot t (spot_of e) }
 marked-refusal t e d m other =
     ap (λ (r : Reason). record { reason = r; spot = spot_of d }) (marked-reason t e d m other)
     ∙ ap (λ (z : Spot). record { reason = reason_in e; spot = z }) (m.spot other)
@@ -76,11 +76,11 @@ cause-as cause false e d reason kept tells = (reason ∙ tells.0, kept ∙ tells
 cause-as cause true e d reason kept tells = (tells.0, reason ∙ tells.1)
 
 marked-fault : (t : Task) (e d : RenderError) (cause : Error) (f : Fault) → IsMarked t e d → TellsFault cause f e
-    → TellsFault cause (record f { spot = mark t f.spot }) d
+    → TellsFault cause (record f { spot = mark_spot t f.spot }) d
 marked-fault t e d cause f m tells = record {
   why = λ other. cause-as cause f.at_word e d (marked-reason t e d m other) (m.cause other)
       (tells.why (λ memory. other (m.memory memory)));
-  where_it_is = λ other. m.spot other ∙ ap (mark t) (tells.where_it_is (λ memory. other (m.memory memory)));
+  where_it_is = λ other. m.spot other ∙ ap (mark_spot t) (tells.where_it_is (λ memory. other (m.memory memory)));
 }
 
 handed-reason : {e d : RenderError} → IsHandedOn e d → reason_in d ≢ out_of_memory → reason_in d ≡ reason_in e
@@ -211,7 +211,7 @@ module _ (p : Setting) (may : Error → Type 0) where
   part-run at_word (x ∷ xs) ys front = cut tt front
 
   pub wrote-part : (at_word : Bool) (xs : List Piece) (t : Text) {k : Steps} {s next : State} {h new : Held} {e : RenderError}
-      → join xs ≡ t → IsPart t h new → reason_in e ≡ out_of_memory
+      → join xs ≡ t → IsCutByMemory t h new → reason_in e ≡ out_of_memory
       → CarriesOut p (Write at_word xs k) may (at s h) (Err e) (at next new)
   wrote-part at_word xs t {h = h} is part memory =
       let f = Front-of xs part.front part.is_front.0 (is ∙ part.is_front.1) in
@@ -404,10 +404,10 @@ module _ (p : Setting) (may : Error → Type 0) where
       (carries-elsewhere (c back)))))
 
   -- with escaping off
-  pub carries_on-unescaped : (m : Prog (Unit {0})) {s off next last : State} {h new : Held} {r : Answered}
+  pub carries_on-without_escaping : (m : Prog (Unit {0})) {s off next last : State} {h new : Held} {r : Answered}
       → off ≡ record s { escapes = false } → last ≡ record next { escapes = s.escapes }
-      → CarriesOn p m may (at off h) r (at next new) → CarriesOn p (unescaped m) may (at s h) r (at last new)
-  carries_on-unescaped m starts ends c =
+      → CarriesOn p m may (at off h) r (at next new) → CarriesOn p (without_escaping m) may (at s h) r (at last new)
+  carries_on-without_escaping m starts ends c =
       carries_on-around (λ s. record s { escapes = false }) (λ s z. record z { escapes = s.escapes }) m starts ends c
 
   -- on another line
@@ -433,15 +433,15 @@ module _ (p : Setting) (may : Error → Type 0) where
 
   -- a block of scope around what is done
   pub carries_on-in_block : (f : Frame) (m : Prog (Unit {0})) {s mid next last : State} {h new : Held} {r : Answered}
-      → mid ≡ entered f s → last ≡ left next
+      → mid ≡ push_frame f s → last ≡ pop_frame next
       → CarriesOn p m may (at mid h) r (at next new) → CarriesOn p (in_block f m) may (at s h) r (at last new)
   unfolding ◌>>◌
   carries_on-in_block f m starts ends (goes_on {u = u} c) =
-      carries_on-changed (entered f) (m >> change left) starts
-      (carries_on-then m (change left) (goes_on {u = u} c) (carries_on-change left ends))
+      carries_on-changed (push_frame f) (m >> change pop_frame) starts
+      (carries_on-then m (change pop_frame) (goes_on {u = u} c) (carries_on-change pop_frame ends))
   carries_on-in_block f m starts ends (is_over c) =
-      carries_on-changed (entered f) (m >> change left) starts
-      (carries_on-over m (change left) (carries_on-elsewhere (is_over c)))
+      carries_on-changed (push_frame f) (m >> change pop_frame) starts
+      (carries_on-over m (change pop_frame) (carries_on-elsewhere (is_over c)))
 
   -- ---- a part, and what comes next
 
@@ -491,10 +491,10 @@ module _ (p : Setting) (may : Error → Type 0) where
   ]
   Tells-over _ {t = t} e d m ps r x (fault cause f given counted tells) = record {
     pieces = ps;
-    outcome = Faulted (record f { spot = mark t f.spot });
+    outcome = Faulted (record f { spot = mark_spot t f.spot });
     runs = did_over r tt;
     text = x;
-    tells = fault cause (record f { spot = mark t f.spot }) given counted (marked-fault t e d cause f m tells);
+    tells = fault cause (record f { spot = mark_spot t f.spot }) given counted (marked-fault t e d cause f m tells);
   }
   Tells-over _ e d m ps r x (no_memory same memory) =
       record { pieces = ps; outcome = NoMemory; runs = did_over r tt; text = x; tells = no_memory same (m.memory memory) }
@@ -522,7 +522,7 @@ module _ (p : Setting) (may : Error → Type 0) where
 
   -- a part alone that leaves its errors as they are
   pub carries-only : {t : Task} {s next : State} {h new : Held} (r : Result (Unit {0}) RenderError)
-      → ((spot : Spot) → mark t spot ≡ spot)
+      → ((spot : Spot) → mark_spot t spot ≡ spot)
       → CarriesOut p (todo t) may (at s h) r (at next new) → CarriesOut p (Do t Done) may (at s h) r (at next new)
   carries-only (Ok u) is c = carries-last c
   carries-only {t = t} (Err e) is c = carries-over e e (unmarked t e (is (spot_of e))) c

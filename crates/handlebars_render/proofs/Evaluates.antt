@@ -9,7 +9,7 @@ use Rattle.handlebars_base.specs.Reasons.{Refusal, out_of_memory, invalid_json_p
 use Rattle.handlebars_base.specs.RenderRefusals.{plain_refusal, reason_in, refusal_of}
 use Rattle.handlebars_base.specs.Scoped.{Found}
 use Rattle.handlebars_base.specs.declared.error.render_error.RenderError.{RenderError}
-use Rattle.handlebars_scope.specs.Resolve.{resolved}
+use Rattle.handlebars_scope.specs.Resolve.{resolve}
 use Rattle.handlebars_scope.specs.Scopes.{Frame}
 use Rattle.handlebars_meaning.specs.Values.{Evaluates, leads, leads_nowhere}
 
@@ -27,13 +27,13 @@ module _ (recursive : Bool) (blocks : List Frame) (given : Data) (t : Text) wher
 
   module _ {T : Type 0} (seen : T → Found) where
     pub evaluates_to : (r : Result T RenderError) (means : Reference) → IsPath t means
-        → Answers seen r (resolved recursive blocks means given)
+        → Answers seen r (resolve recursive blocks means given)
         → IfOk r (λ x. Evaluates recursive blocks given t (gives (seen x)))
     evaluates_to (Ok x) means path answer = leads path answer
     evaluates_to (Err e) means path answer = tt
 
     pub evaluation_refused : (r : Result T RenderError) (means : Reference) → IsPath t means
-        → Answers seen r (resolved recursive blocks means given)
+        → Answers seen r (resolve recursive blocks means given)
         → IfErr r (λ e. reason_in e ≢ out_of_memory → Evaluates recursive blocks given t (refuses (refusal_of e)))
     evaluation_refused (Ok x) means path answer = tt
     evaluation_refused (Err e) means path answer = λ other. leads path (answer other)

@@ -1,6 +1,6 @@
 -- What stays as it is over several calls.
 use Rattle.std.proofs.Common.{refl, ap, ◌∙◌}
-use Rattle.handlebars_meaning.specs.State.{outer}
+use Rattle.handlebars_meaning.specs.State.{outer_frames}
 use Rattle.handlebars_render.specs.View.{IsKept, HasOuter}
 use Rattle.handlebars_render.specs.declared.context.RenderContext.{RenderContext}
 
@@ -21,7 +21,7 @@ kept-trans x y = record {
 pub outer-kept : {a b : RenderContext} → IsKept a b → HasOuter a b
 outer-kept x = record {
   root = x.root;
-  blocks = ap outer x.blocks;
+  blocks = ap outer_frames x.blocks;
   recursive = x.recursive;
   escapes = x.escapes;
   failed = x.failed;

@@ -18,7 +18,7 @@ use Rattle.handlebars_helpers.specs.CallView.{CallView, HelperView}
 use Rattle.handlebars_helpers.specs.Callee.{Target}
 use Rattle.handlebars_helpers.specs.Choice.{Choice, body_if}
 use Rattle.handlebars_helpers.specs.Turns.{with_block}
-use Rattle.handlebars_meaning.specs.CarryOut.{carry_out, helper_call, in_block, render_body, render_branch, render_with}
+use Rattle.handlebars_meaning.specs.CarryOut.{carry_out, view_with_bodies, in_block, render_body, render_branch, render_with}
 use Rattle.handlebars_meaning.specs.Means.{render_chosen}
 use Rattle.handlebars_meaning.specs.Questions.{HasChoice, choice_of}
 use Rattle.handlebars_meaning.specs.Sites.{Site, TreeSite, body_at, inverse_at}
@@ -113,6 +113,6 @@ module _ (p : Setting) (may : Error → Type 0) where
   -- the body, or the inverse
   pub carries_on-part : (site : Site) (block : Bool) (c : Call) (v : CallView) (truth : Bool) {before after : Moment} {r : Answered}
       → CarriesOn p (render_branch (part_site site truth) (part_if truth c)) may before r after
-      → CarriesOn p (carry_out site (helper_call block c v) (body_if truth)) may before r after
+      → CarriesOn p (carry_out site (view_with_bodies block c v) (body_if truth)) may before r after
   carries_on-part site block c v true a = a
   carries_on-part site block c v false a = a

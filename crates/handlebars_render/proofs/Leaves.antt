@@ -16,7 +16,7 @@ use Rattle.handlebars_helpers.specs.CallView.{CallView}
 use Rattle.handlebars_helpers.specs.Callee.{Target}
 use Rattle.handlebars_helpers.specs.Choice.{Choice}
 use Rattle.handlebars_meaning.specs.Asks.{Asks, is_refused}
-use Rattle.handlebars_meaning.specs.CarryOut.{helper_call}
+use Rattle.handlebars_meaning.specs.CarryOut.{view_with_bodies}
 use Rattle.handlebars_meaning.specs.Means.{line_in, render_chosen, render_helped, render_call, render_hook, render_found, render_lone_as, render_lone, render_expression}
 use Rattle.handlebars_meaning.specs.Questions.{HasChoice, value_of, view_of, helper_of, called_as, hook_for, helper_or_refusal}
 use Rattle.handlebars_meaning.specs.Runs.{Runs, Refused, asked, got, refused, set}
@@ -175,12 +175,12 @@ module _ (p : Setting) where
 
     pub leaves-hook : (t : Text) (h k : Target) (v : CallView) {s : State} → false ≡ p.parts.strict
         → Some h ≡ registered_target p.parts (hook false) → k ≡ h → v ≡ name_alone t
-        → Leaves p (render_found site c (name_alone t) missing) s (render_chosen site k (helper_call false c v))
+        → Leaves p (render_found site c (name_alone t) missing) s (render_chosen site k (view_with_bodies false c v))
     leaves-hook t h k v {s = s} lenient is called same =
         subst (λ (z : Target). Leaves p (render_found site c (name_alone t) missing) s
-        (render_chosen site z (helper_call false c v))) (sym called)
+        (render_chosen site z (view_with_bodies false c v))) (sym called)
         (subst (λ (z : CallView). Leaves p (render_found site c (name_alone t) missing) s
-        (render_chosen site h (helper_call false c z))) (sym same) (leaves-hook_as (name_alone t) (Some h) lenient is))
+        (render_chosen site h (view_with_bodies false c z))) (sym same) (leaves-hook_as (name_alone t) (Some h) lenient is))
 
     pub gives-nothing : (v : CallView) {s : State} → false ≡ p.parts.strict → None ≡ registered_target p.parts (hook false)
         → GivesValue p (render_found site c v missing) s tt
@@ -254,11 +254,11 @@ module _ (p : Setting) (may : Error → Type 0) where
 
 module _ (p : Setting) (site : Site) (block : Bool) (c : Call) where
   -- a helper whose choice is refused, in the bracket of a call
-  refuses-helped : (k : Target) (v : CallView) {s : State} {r : Refusal} → HasChoice p s k (helper_call block c v) (refuses r)
+  refuses-helped : (k : Target) (v : CallView) {s : State} {r : Refusal} → HasChoice p s k (view_with_bodies block c v) (refuses r)
       → RefusesValue p (render_helped site block c k v) s r
   unfolding ◌>>=◌ ◌>>◌
   refuses-helped k v {s = s} {r = r} has next =
-      got (set (asked (refuses r) (choice-line p s (line_in (call_marks c).indent_before_write s.line) k (helper_call block c v) (refuses r) has) refused))
+      got (set (asked (refuses r) (choice-line p s (line_in (call_marks c).indent_before_write s.line) k (view_with_bodies block c v) (refuses r) has) refused))
 
   -- a call that was bound
   pub settles-call : (m : Prog (Unit {0})) (k : Target) (v : CallView) (r : Result Next RenderError) {s : State}

@@ -8,13 +8,13 @@ use Rattle.handlebars_base.specs.Path.{Reference, relative}
 use Rattle.handlebars_base.specs.Scoped.{Found, missing, present_in, value, walked}
 use Rattle.handlebars_template.specs.Tree.{Tree}
 use Rattle.handlebars_scope.specs.Bases.{IsCurrent, bases_of, lend}
-use Rattle.handlebars_scope.specs.Resolve.{or_else, resolved}
+use Rattle.handlebars_scope.specs.Resolve.{or_else, resolve}
 use Rattle.handlebars_scope.specs.Scopes.{Frame}
 use Rattle.handlebars_scope.specs.declared.context.bases.Bases.TheVariants.{Outside}
 use Rattle.handlebars_scope.proofs.Bases.{bases_of-Outside}
-use Rattle.handlebars_meaning.specs.State.{State, left, nearest_as, nearest_variables, outer, partial_in, with_nearest, with_partial}
-use Rattle.handlebars_meaning.specs.Values.{as_read, plain}
-use Rattle.handlebars_render.specs.View.{KeptIn, IsUnlent, Within, called, keeping, lending, read_in}
+use Rattle.handlebars_meaning.specs.State.{State, pop_frame, nearest_as, nearest_variables, outer_frames, partial_in, with_nearest, with_partial}
+use Rattle.handlebars_meaning.specs.Values.{as_read, without_path}
+use Rattle.handlebars_render.specs.View.{KeptIn, IsUnlent, Within, with_current, keeping, lending, read_in}
 
 -- ---- outside, and in one more block
 
@@ -34,26 +34,26 @@ pub read-lent : {w : Within} (kept : KeptIn w) (s : State) (d : Data) (r : Refer
 read-lent kept s d r = ap (λ (bs : List (Option Data)). read_in (lending bs s) d r) (sym kept.lent)
 
 -- the current value, from the given data or from changed data
-plain-current : (a : Answer Found) (v : Data) → answer_map present_in a ≡ gives (Some v)
-    → answer_map present_in (answer_map plain a) ≡ gives (Some v)
-plain-current (gives (walked d names)) v is = is
-plain-current (gives (value d)) v is = is
-plain-current (gives missing) v is = cc
-plain-current (refuses r) v is = cc
+without_path-current : (a : Answer Found) (v : Data) → answer_map present_in a ≡ gives (Some v)
+    → answer_map present_in (answer_map without_path a) ≡ gives (Some v)
+without_path-current (gives (walked d names)) v is = is
+without_path-current (gives (value d)) v is = is
+without_path-current (gives missing) v is = cc
+without_path-current (refuses r) v is = cc
 
 pub current-given : (s : State) (bs : List (Option Data)) (d v : Data) → s.changed ≡ None → IsCurrent (lend bs s.blocks) d v
     → answer_map present_in (read_in (lending bs s) d (relative [] [])) ≡ gives (Some v)
 current-given s bs d v none is =
     ap (λ (c : Option Data). answer_map present_in
-    (as_read c (resolved s.recursive (lend bs s.blocks) (relative [] []) (unwrap_or c d)))) none ∙ is s.recursive []
+    (as_read c (resolve s.recursive (lend bs s.blocks) (relative [] []) (unwrap_or c d)))) none ∙ is s.recursive []
 
 pub current-changed : (s : State) (bs : List (Option Data)) (d e v : Data) → s.changed ≡ Some e
     → IsCurrent (lend bs s.blocks) e v
     → answer_map present_in (read_in (lending bs s) d (relative [] [])) ≡ gives (Some v)
 current-changed s bs d e v some is =
     ap (λ (c : Option Data). answer_map present_in
-    (as_read c (resolved s.recursive (lend bs s.blocks) (relative [] []) (unwrap_or c d)))) some
-    ∙ plain-current (resolved s.recursive (lend bs s.blocks) (relative [] []) e) v (is s.recursive [])
+    (as_read c (resolve s.recursive (lend bs s.blocks) (relative [] []) (unwrap_or c d)))) some
+    ∙ without_path-current (resolve s.recursive (lend bs s.blocks) (relative [] []) e) v (is s.recursive [])
 
 pub nearest_variables-lend : (bs : List (Option Data)) (fs : List Frame) → nearest_variables (lend bs fs) ≡ nearest_variables fs
 nearest_variables-lend [] fs = refl
@@ -101,17 +101,17 @@ lend-none : (bs : List (Option Data)) → lend bs [] ≡ []
 lend-none [] = refl
 lend-none (b ∷ bs) = refl
 
-lend-outer : (b : Option Data) (bs : List (Option Data)) (fs : List Frame) → lend bs (outer fs) ≡ outer (lend (b ∷ bs) fs)
-lend-outer b bs [] = lend-none bs
-lend-outer b bs (f ∷ fs) = refl
+lend-outer_frames : (b : Option Data) (bs : List (Option Data)) (fs : List Frame) → lend bs (outer_frames fs) ≡ outer_frames (lend (b ∷ bs) fs)
+lend-outer_frames b bs [] = lend-none bs
+lend-outer_frames b bs (f ∷ fs) = refl
 
-pub left-lent : {w : Within} (kept : KeptIn w) (b : Option Data) {bs : List (Option Data)} (is : bs ≡ b ∷ w.bases) (s : State)
-    → keeping kept (left s) ≡ left (keeping (one_more kept b is) s)
-left-lent kept b is s = ap (λ (fs : List Frame). record (keeping kept s) { blocks = fs }) (lend-outer b kept.bases s.blocks)
+pub pop_frame-lent : {w : Within} (kept : KeptIn w) (b : Option Data) {bs : List (Option Data)} (is : bs ≡ b ∷ w.bases) (s : State)
+    → keeping kept (pop_frame s) ≡ pop_frame (keeping (one_more kept b is) s)
+pop_frame-lent kept b is s = ap (λ (fs : List Frame). record (keeping kept s) { blocks = fs }) (lend-outer_frames b kept.bases s.blocks)
 
 -- and a name is the current one again
 pub named-lent : {w : Within} (kept : KeptIn w) (b : Option Data) {bs : List (Option Data)} (is : bs ≡ b ∷ w.bases)
     (name : Option Text) (s : State)
-    → keeping kept (called name (left s)) ≡ called name (left (keeping (one_more kept b is) s))
+    → keeping kept (with_current name (pop_frame s)) ≡ with_current name (pop_frame (keeping (one_more kept b is) s))
 named-lent kept b is name s =
-    ap (λ (fs : List Frame). record (keeping kept (called name s)) { blocks = fs }) (lend-outer b kept.bases s.blocks)
+    ap (λ (fs : List Frame). record (keeping kept (with_current name s)) { blocks = fs }) (lend-outer_frames b kept.bases s.blocks)

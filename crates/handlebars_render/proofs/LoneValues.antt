@@ -10,7 +10,7 @@ use Rattle.handlebars_base.specs.Path.{Reference, raw_of}
 use Rattle.handlebars_template.specs.Tree.{Call, Element, Param, as_name, call, name, literal, path, subexpression, call_name, call_args, is_value, args, no_params, param, no_pairs, pair}
 use Rattle.handlebars_meaning.specs.Asks.{goes_on, is_refused}
 use Rattle.handlebars_meaning.specs.State.{Setting, State}
-use Rattle.handlebars_meaning.specs.Values.{HasInnerValue, HasName, HasValue, HasView, called_by, value_at}
+use Rattle.handlebars_meaning.specs.Values.{HasInnerValue, HasName, HasValue, HasView, callee_name, path_value}
 use Rattle.handlebars_render.specs.View.{name_alone}
 
 None≢Some : {A : Type 0} {x : A} → None ≡ Some x → ⊥
@@ -82,16 +82,16 @@ module _ (p : Setting) (s : State) where
   pub lacks-name : (q : Param) (t : Text) → q ≡ name t → HasValue p s q (gives missing)
   lacks-name q t is = subst (λ (z : Param). HasValue p s z (gives missing)) (sym is) refl
 
-  pub named-literal : (q : Param) (d : Data) → q ≡ literal d → HasName p s q (gives (called_by (value d)))
-  named-literal q d is = subst (λ (z : Param). HasName p s z (gives (called_by (value d)))) (sym is) refl
+  pub named-literal : (q : Param) (d : Data) → q ≡ literal d → HasName p s q (gives (callee_name (value d)))
+  named-literal q d is = subst (λ (z : Param). HasName p s z (gives (callee_name (value d)))) (sym is) refl
 
   pub valued-literal : (q : Param) (d : Data) → q ≡ literal d → HasValue p s q (gives (value d))
   valued-literal q d is = subst (λ (z : Param). HasValue p s z (gives (value d))) (sym is) refl
 
   pub named-inner : (q : Param) (e : Element) (v : Found) → q ≡ subexpression e → HasInnerValue p s e (gives v)
-      → HasName p s q (gives (called_by v))
+      → HasName p s q (gives (callee_name v))
   named-inner q e v is g =
-      subst (λ (z : Param). HasName p s z (gives (called_by v))) (sym is) (goes_on g refl)
+      subst (λ (z : Param). HasName p s z (gives (callee_name v))) (sym is) (goes_on g refl)
 
   pub valued-inner : (q : Param) (e : Element) (v : Found) → q ≡ subexpression e → HasInnerValue p s e (gives v)
       → HasValue p s q (gives v)
@@ -104,21 +104,21 @@ module _ (p : Setting) (s : State) where
   -- ---- what a path reaches
 
   pub reached-value : (q : Param) (r : Reference) (o : Option Data) → q ≡ path r
-      → gives o ≡ answer_map present_in (value_at p s r)
+      → gives o ≡ answer_map present_in (path_value p s r)
       → (found : Found) × HasValue p s q (gives found) × (present_in found ≡ o)
   reached-value q r o is e =
-      let x = gives-resolved (value_at p s r) o o (sym e) refl in
+      let x = gives-resolved (path_value p s r) o o (sym e) refl in
       (x.0, subst (λ (z : Param). HasValue p s z (gives x.0)) (sym is) x.1, x.2)
 
   pub reached-none : (q : Param) (r : Reference) (why : Refusal) → q ≡ path r
-      → refuses why ≡ answer_map present_in (value_at p s r)
+      → refuses why ≡ answer_map present_in (path_value p s r)
       → HasValue p s q (refuses why)
   reached-none q r why is e =
       subst (λ (z : Param). HasValue p s z (refuses why)) (sym is)
-      (refuses-resolved (value_at p s r) why (sym e))
+      (refuses-resolved (path_value p s r) why (sym e))
 
   pub reached-none-as : (q : Param) (r : Reference) (why given : Refusal) → q ≡ path r
-      → refuses why ≡ answer_map present_in (value_at p s r) → given ≡ why
+      → refuses why ≡ answer_map present_in (path_value p s r) → given ≡ why
       → HasValue p s q (refuses given)
   reached-none-as q r why given is e same =
       subst (λ (z : Refusal). HasValue p s q (refuses z)) (sym same) (reached-none q r why is e)

@@ -19,7 +19,7 @@ use Rattle.handlebars_meaning.specs.Runs.{plain_fault}
 use Rattle.handlebars_meaning.specs.State.{State}
 use Rattle.handlebars_meaning.specs.Writing.{rendered_if_any}
 use Rattle.handlebars_render.specs.View.{Answered, TellsFault, word_reason, with_line, written_at}
-use Rattle.handlebars_render.specs.Writes.{FallsShort, by_output, by_memory, IsPart, Puts, TellsLine, Writes, all_written, front_written, part_written}
+use Rattle.handlebars_render.specs.Writes.{FallsShort, by_output, by_memory, IsCutByMemory, Puts, TellsLine, Writes, all_written, front_written, part_written}
 use Rattle.handlebars_scope.specs.Indentation.{written_in}
 use Rattle.handlebars_scope.specs.declared.line.LineState.{LineState as CodeLine}
 use Rattle.handlebars_scope.proofs.Indents.{written_in-none}
@@ -87,7 +87,7 @@ module _ (may : Error → Type 0) where
   writes_as {h = h} {new = new} same is (front_written cause given cut tells) =
       front_written cause given (subst (λ (z : Text). IsCutOff z h new) same cut) tells
   writes_as {h = h} {new = new} same is (part_written part memory) =
-      part_written (subst (λ (z : Text). IsPart z h new) same part) memory
+      part_written (subst (λ (z : Text). IsCutByMemory z h new) same part) memory
 
   -- a write that has failed
   pub writes_short : {x t : Text} {at_word : Bool} {m next : State} {h new : Held} {cause : Error} {e : RenderError}
@@ -96,7 +96,7 @@ module _ (may : Error → Type 0) where
   writes_short {h = h} {new = new} {cause = cause} same (by_output given cut) tells =
       front_written cause given (subst (λ (z : Text). IsCutOff z h new) same cut) tells
   writes_short {at_word = at_word} {h = h} {new = new} {cause = cause} {e = e} same (by_memory is part) tells =
-      part_written (subst (λ (z : Text). IsPart z h new) same part) (tells-memory at_word cause e is tells)
+      part_written (subst (λ (z : Text). IsCutByMemory z h new) same part) (tells-memory at_word cause e is tells)
 
   -- nothing is written, and the line is as it was
   pub puts_none : (line : LineState) {s : State} {h : Held} {u : Unit {0}} → line ≡ s.line

@@ -19,9 +19,9 @@ use Rattle.handlebars_scope.specs.ScopeView.{frame_of, frames_of}
 use Rattle.handlebars_scope.specs.declared.block.BlockContext.{BlockContext}
 use Rattle.handlebars_meaning.specs.Sites.{Site}
 use Rattle.handlebars_helpers.specs.CallView.{HelperView}
-use Rattle.handlebars_helpers.specs.Turns.{StandsBelow, Turn, turn_name, turned, with_block}
+use Rattle.handlebars_helpers.specs.Turns.{StandsBelow, Turn, turn_name, turn_frame, with_block}
 use Rattle.handlebars_meaning.specs.CarryOut.{in_block, render_body, render_with, take_turn, take_turns}
-use Rattle.handlebars_meaning.specs.State.{Setting, State, entered, left, nearest_as, nearest_variables, with_nearest}
+use Rattle.handlebars_meaning.specs.State.{Setting, State, push_frame, pop_frame, nearest_as, nearest_variables, with_nearest}
 use Rattle.handlebars_meaning.specs.Steps.{Steps, ◌>>◌}
 use Rattle.handlebars_render.specs.Boxed.{answer_of, error_of}
 use Rattle.handlebars_render.specs.declared.boxed.BoxedError.{BoxedError}
@@ -39,15 +39,15 @@ binding-seen h (Some b) is = ap block_param_view is ∙ sym (call_binding-view h
 
 -- ---- where the nearest block stands
 
-stands-turned : (path : Option (List Text)) (b : Binding) (t : Turn) (f : Frame)
-    → StandsBelow path (turned path b t f)
-stands-turned None b t f = tt
-stands-turned (Some path) b t f = (turn_name t, refl)
+stands-turn_frame : (path : Option (List Text)) (b : Binding) (t : Turn) (f : Frame)
+    → StandsBelow path (turn_frame path b t f)
+stands-turn_frame None b t f = tt
+stands-turn_frame (Some path) b t f = (turn_name t, refl)
 
-below-turned : (path : Option (List Text)) (b : Binding) (t : Turn) (fs : List Frame)
-    → NearestBelow path (nearest_as (turned path b t) fs)
-below-turned path b t [] = tt
-below-turned path b t (f ∷ fs) = stands-turned path b t f
+below-turn_frame : (path : Option (List Text)) (b : Binding) (t : Turn) (fs : List Frame)
+    → NearestBelow path (nearest_as (turn_frame path b t) fs)
+below-turn_frame path b t [] = tt
+below-turn_frame path b t (f ∷ fs) = stands-turn_frame path b t f
 
 stands-same : (path : Option (List Text)) (f g : Frame) → g.base_path ≡ f.base_path
     → StandsBelow path f → StandsBelow path g
@@ -66,10 +66,10 @@ below-same path (f ∷ fs) (g ∷ gs) is below = stands-same path f g (ap neares
 
 -- The block was set up for a turn, and what was rendered there left its base as it was.
 pub below-kept : (path : Option (List Text)) (b : Binding) (t : Turn) (s : State) (mid after : RenderContext)
-    → state_of mid ≡ with_nearest (turned path b t) s → IsKept mid after
+    → state_of mid ≡ with_nearest (turn_frame path b t) s → IsKept mid after
     → NearestBelow path (state_of after).blocks
 below-kept path b t s mid after is kept = below-same path (state_of mid).blocks (state_of after).blocks kept.blocks
-    (subst (λ (z : State). NearestBelow path z.blocks) (sym is) (below-turned path b t s.blocks))
+    (subst (λ (z : State). NearestBelow path z.blocks) (sym is) (below-turn_frame path b t s.blocks))
 
 -- the nearest block, where there is one
 pub below-front : (path : Option (List Text)) (bs : List BlockContext) (b : BlockContext) → 0 < length bs
@@ -99,7 +99,7 @@ module _ (p : Setting) (may : Error → Type 0) where
       → rest ≡ t ∷ more → TurnsLeft site i h path all rest first now
       → CarriesOn p (take_turn site i h path t) may now (Ok u) after → TurnsLeft site (i + 1) h path all more first after
   unfolding ◌>>◌
-  turns-go site i h path all {more = more} {now = now} is left (goes_on turn) = λ next r last c. left next r last
+  turns-go site i h path all {more = more} {now = now} is pop_frame (goes_on turn) = λ next r last c. pop_frame next r last
       (subst (λ (ts : List Turn). CarriesOut p (take_turns site i h path ts next) may now r last) (sym is)
       (turn (λ u. take_turns site (i + 1) h path more next) r last c))
 
@@ -109,8 +109,8 @@ module _ (p : Setting) (may : Error → Type 0) where
       → CarriesOn p (take_turn site i h path t) may now (Err e) after
       → CarriesOn p (take_turns site 0 h path all) may first (Err e) after
   unfolding ◌>>◌
-  turns-over site i h path all {more = more} {now = now} {after = after} {e = e} is left (is_over turn) =
-      is_over (λ next. left next (Err e) after
+  turns-over site i h path all {more = more} {now = now} {after = after} {e = e} is pop_frame (is_over turn) =
+      is_over (λ next. pop_frame next (Err e) after
       (subst (λ (ts : List Turn). CarriesOut p (take_turns site i h path ts next) may now (Err e) after) (sym is)
       (turn (λ u. take_turns site (i + 1) h path more next))))
 
@@ -128,7 +128,7 @@ module _ (p : Setting) (may : Error → Type 0) where
       {rest : List Turn} {first now : Moment} {u : Unit {0}}
       → rest ≡ [] → TurnsLeft site i h path all rest first now
       → CarriesOn p (take_turns site 0 h path all) may first (Ok u) now
-  turns-end site i h path all {now = now} is left = goes_on (λ next r last c. left next r last
+  turns-end site i h path all {now = now} is pop_frame = goes_on (λ next r last c. pop_frame next r last
       (subst (λ (ts : List Turn). CarriesOut p (take_turns site i h path ts next) may now r last) (sym is) c))
 
   -- ---- blocks
@@ -136,7 +136,7 @@ module _ (p : Setting) (may : Error → Type 0) where
   -- a turn: the nearest block is set up, and then the body is rendered
   pub carries_on-turn : (site : Site) (i : ℕ) (h : HelperView) (path : Option (List Text)) (t : Turn)
       {s mid : State} {held : Held} {after : Moment} {r : Answered}
-      → mid ≡ with_nearest (turned path h.binding t) s → CarriesOn p (render_body site i h) may (at mid held) r after
+      → mid ≡ with_nearest (turn_frame path h.binding t) s → CarriesOn p (render_body site i h) may (at mid held) r after
       → CarriesOn p (take_turn site i h path t) may (at s held) r after
   carries_on-turn site i h path t is c =
-      carries_on-changed p may (with_nearest (turned path h.binding t)) (render_body site i h) is c
+      carries_on-changed p may (with_nearest (turn_frame path h.binding t)) (render_body site i h) is c

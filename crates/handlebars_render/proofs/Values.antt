@@ -21,10 +21,10 @@ use Rattle.handlebars_template.specs.declared.template.tree.Subexpression.{Subex
 use Rattle.handlebars_template.specs.declared.template.tree.BlockParam as tree
 use Rattle.handlebars_helpers.specs.CallView.{HelperView}
 use Rattle.handlebars_helpers.specs.Callee.{Callee, Target, built}
-use Rattle.handlebars_helpers.specs.Choice.{Kind, Choice, chosen}
+use Rattle.handlebars_helpers.specs.Choice.{Kind, Choice, built_in_choice}
 use Rattle.handlebars_meaning.specs.Asks.{Asks, Then, ◌>>=◌, goes_on, is_refused}
 use Rattle.handlebars_meaning.specs.State.{Setting, State, helper_for}
-use Rattle.handlebars_meaning.specs.Values.{is_literal, as_written, choice_value, inner_call, HasHelpedValue, HasRegisteredValue, HasInnerValue, HasView, HasWrittenValue, HaveValues, PairsHaveValues}
+use Rattle.handlebars_meaning.specs.Values.{is_literal, as_written, choice_value, view_without_bodies, HasHelpedValue, HasRegisteredValue, HasInnerValue, HasView, HasWrittenValue, HaveValues, PairsHaveValues}
 use Rattle.handlebars_render.specs.View.{Yields}
 
 pub subexpression_view-out : (s : Subexpression)
@@ -66,15 +66,15 @@ yields-then seen first next (Err e) g is = λ other. goes_on g (is other)
 -- ---- calls in parentheses
 
 -- what is chosen for such a call
-pub chosen-inside : (k : Kind) {h w : HelperView} {mode strict : Bool} {a : Answer Choice}
-    → h ≡ w → mode ≡ strict → chosen mode k h ≡ a → chosen strict k w ≡ a
-chosen-inside k {w = w} {mode = mode} is same chooses =
-    ap (λ (z : Bool). chosen z k w) (sym same) ∙ ap (chosen mode k) (sym is) ∙ chooses
+pub built_in_choice-inside : (k : Kind) {h w : HelperView} {mode strict : Bool} {a : Answer Choice}
+    → h ≡ w → mode ≡ strict → built_in_choice mode k h ≡ a → built_in_choice strict k w ≡ a
+built_in_choice-inside k {w = w} {mode = mode} is same chooses =
+    ap (λ (z : Bool). built_in_choice z k w) (sym same) ∙ ap (built_in_choice mode k) (sym is) ∙ chooses
 
 module _ (p : Setting) (s : State) (v : HelperView) where
   -- the value that a built-in helper chooses, where there is memory for it
   pub yields-built : {T : Type 0} (seen : T → Found) (k : Kind) (choice : Choice) (r : Result T RenderError)
-      → chosen p.parts.strict k v ≡ gives choice → IfOk r (λ x. seen x ≡ choice_value choice)
+      → built_in_choice p.parts.strict k v ≡ gives choice → IfOk r (λ x. seen x ≡ choice_value choice)
       → IfErr r (λ e. reason_in e ≡ out_of_memory) → Yields (HasRegisteredValue p s (built k) v) seen r
   yields-built seen k choice (Ok x) chooses same memory =
       ap (λ (z : Found). gives z) same ∙ sym (ap (answer_map choice_value) chooses)
@@ -101,13 +101,13 @@ module _ (p : Setting) (s : State) (v : HelperView) where
 -- What HasInnerValue says of a call, by the parts of the call.
 pub inner_value-parts : (p : Setting) (s : State) (c : Call) {a : Answer Found}
     → (HasView p s (call_name c) (call_args c) >>= (λ v. HasHelpedValue p s
-    (helper_for p.parts s false v.name) (inner_call (call_binding c) v))) a
+    (helper_for p.parts s false v.name) (view_without_bodies (call_binding c) v))) a
     → HasInnerValue p s (expression c) a
 inner_value-parts p s (call n (args ps hs) b t marks) h = h
 
 pub yields-inner_value : {T : Type 0} (seen : T → Found) (p : Setting) (s : State) (c : Call) (r : Result T RenderError)
     → Yields (HasView p s (call_name c) (call_args c) >>= (λ v. HasHelpedValue p s
-    (helper_for p.parts s false v.name) (inner_call (call_binding c) v))) seen r
+    (helper_for p.parts s false v.name) (view_without_bodies (call_binding c) v))) seen r
     → Yields (HasInnerValue p s (expression c)) seen r
 yields-inner_value seen p s c (Ok x) h = inner_value-parts p s c h
 yields-inner_value seen p s c (Err e) h = λ other. inner_value-parts p s c (h other)

@@ -11,7 +11,7 @@ use Rattle.handlebars_template.specs.Tree.{Call}
 use Rattle.handlebars_helpers.specs.CallView.{CallView, HelperView}
 use Rattle.handlebars_helpers.specs.Callee.{Callee, LocalHelper, Target, calls_registered, calls_local}
 use Rattle.handlebars_helpers.specs.OwnView.{callee_of}
-use Rattle.handlebars_meaning.specs.CarryOut.{helper_call}
+use Rattle.handlebars_meaning.specs.CarryOut.{view_with_bodies}
 use Rattle.handlebars_meaning.specs.Questions.{HasChoice}
 use Rattle.handlebars_meaning.specs.State.{Parts, Setting, State, local_call}
 use Rattle.handlebars_render.specs.Targets.{ChoosesFor}
@@ -33,6 +33,6 @@ bound_of h b = (callee_in b, record h { call = called_view b.call })
 -- Whatever the callee chooses for the bound call, the target chooses for the call of this view; or that is refused.
 abbrev pub GoesTo : Setting → State → Bool → Target → CallView → Result (Box BoundCall Global) RenderError → Type 0
 GoesTo p s block target v (Ok b) = (c : Call) → ChoosesFor p s (callee_in b.value)
-    (helper_call block c (called_view b.value.call)) target (helper_call block c v)
+    (view_with_bodies block c (called_view b.value.call)) target (view_with_bodies block c v)
 GoesTo p s block target v (Err e) = reason_in e ≢ out_of_memory → (c : Call)
-    → HasChoice p s target (helper_call block c v) (refuses (refusal_of e))
+    → HasChoice p s target (view_with_bodies block c v) (refuses (refusal_of e))

@@ -7,7 +7,7 @@ use Rattle.handlebars_base.specs.Bytes.{Text}
 use Rattle.handlebars_base.specs.Reasons.{out_of_memory}
 use Rattle.handlebars_base.specs.RenderRefusals.{reason_in, refusal_of}
 use Rattle.handlebars_base.specs.declared.error.render_error.RenderError.{RenderError}
-use Rattle.handlebars_scope.specs.Merged.{merged}
+use Rattle.handlebars_scope.specs.Merged.{merge}
 use Rattle.handlebars_scope.specs.Bases.{with_base}
 use Rattle.handlebars_scope.specs.Scopes.{Frame}
 use Rattle.handlebars_scope.specs.ScopeView.{frame_of}
@@ -31,7 +31,7 @@ lent_frame x = with_base (option_map (λ v. view v.now) x.base) (frame_of x.bloc
 -- The value is that of an inclusion's block, merged with the pairs, or it is refused.
 abbrev pub HasBase : {T : Type 0} → Setting → DecoratorView → State → (T → Data) → Result T RenderError → Type 0
 HasBase p v s seen (Ok x) = (d : Data) × GivesValue p (base_value v.call.params) s d
-    × (seen x ≡ merged d (pair_values v.call.pairs))
+    × (seen x ≡ merge d (pair_values v.call.pairs))
 HasBase p v s seen (Err e) =
     reason_in e ≢ out_of_memory → RefusesValue p (base_value v.call.params) s (refusal_of e)
 

@@ -17,7 +17,7 @@ use Rattle.handlebars_helpers.specs.CallView.{CallView}
 use Rattle.handlebars_helpers.specs.Callee.{Target}
 use Rattle.handlebars_helpers.specs.Choice.{Choice, Kind, body_if, kind_if, kind_unless}
 use Rattle.handlebars_meaning.specs.Asks.{Asks, only}
-use Rattle.handlebars_meaning.specs.CarryOut.{helper_call}
+use Rattle.handlebars_meaning.specs.CarryOut.{view_with_bodies}
 use Rattle.handlebars_meaning.specs.Means.{render_chosen, render_helped}
 use Rattle.handlebars_meaning.specs.Questions.{HasChoice, HasRegisteredChoice}
 use Rattle.handlebars_meaning.specs.Runs.{Outcome, Runs}
@@ -33,7 +33,7 @@ use Rattle.handlebars_render.specs.declared.bound.BoundCall.{BoundCall}
 -- The helper of a call is asked what it chooses, and that is carried out, in the bracket of a call or without it.
 abbrev pub render_next : Site → Bool → Call → Bool → Target → CallView → Prog (Unit {0})
 render_next site block c true k v = render_helped site block c k v
-render_next site block c false k v = render_chosen site k (helper_call block c v)
+render_next site block c false k v = render_chosen site k (view_with_bodies block c v)
 
 -- From this state the first program does what the second does.
 abbrev pub Leaves : Setting → Prog (Unit {0}) → State → Prog (Unit {0}) → Type 0
@@ -45,11 +45,11 @@ pub record LeavesCall (p : Setting) (site : Site) (block : Bool) (c : Call) (m :
   pub target : Target
   pub view : CallView
   pub leaves : Leaves p m s (render_next site block c bracket target view)
-  pub chooses : (a : Answer Choice) → chosen a → HasChoice p s target (helper_call block c view) a
+  pub chooses : (a : Answer Choice) → chosen a → HasChoice p s target (view_with_bodies block c view) a
 
 -- what a bound call chooses
 abbrev pub HasBoundChoice : Setting → State → Bool → Call → BoundCall → Asks Choice
-HasBoundChoice p s block c b = HasRegisteredChoice p s (callee_in b) (helper_call block c (called_view b.call))
+HasBoundChoice p s block c b = HasRegisteredChoice p s (callee_in b) (view_with_bodies block c (called_view b.call))
 
 -- With nothing written, and the state as it was, the program is over, or only the call is left of it, or it is refused.
 abbrev pub Settles : Setting → Site → Bool → Call → Prog (Unit {0}) → State → Result Next RenderError → Type 0

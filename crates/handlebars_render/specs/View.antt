@@ -22,7 +22,7 @@ use Rattle.handlebars_base.specs.Scoped.{Found}
 use Rattle.handlebars_scope.specs.Bases.{bases_of, lend}
 use Rattle.handlebars_scope.specs.LineView.{line_of}
 use Rattle.handlebars_scope.specs.Contexts.{data_of}
-use Rattle.handlebars_scope.specs.Resolve.{resolved}
+use Rattle.handlebars_scope.specs.Resolve.{resolve}
 use Rattle.handlebars_scope.specs.Scopes.{Frame, nothing_at}
 use Rattle.handlebars_scope.specs.ScopeView.{frames_of}
 use Rattle.handlebars_base.specs.Outputs.{Held, held_of, write_reason}
@@ -33,7 +33,7 @@ use Rattle.handlebars_helpers.specs.CallView.{CallView}
 use Rattle.handlebars_helpers.specs.OwnView.{local_of}
 use Rattle.handlebars_helpers.specs.Turns.{StandsBelow}
 use Rattle.handlebars_meaning.specs.Inclusion.{newest}
-use Rattle.handlebars_meaning.specs.State.{Kept, Parts, Setting, State, outer}
+use Rattle.handlebars_meaning.specs.State.{KeptBlocks, Parts, Setting, State, outer_frames}
 use Rattle.handlebars_meaning.specs.Steps.{Steps, Prog}
 use Rattle.handlebars_meaning.specs.Asks.{Asks}
 use Rattle.handlebars_meaning.specs.Values.{as_read}
@@ -90,7 +90,7 @@ outside = record { text = None; inclusions = 0; indent = None; bases = [] }
 -- The code has the newest text that is kept, and a state the pieces of all: these, whose newest text is that. And the
 -- bases of blocks are lent, which a state has in the blocks.
 pub record KeptIn (w : Within) : Type 0 where
-  pub pieces : Kept
+  pub pieces : KeptBlocks
   pub bases : List (Option Data)
   pub holds : option_map join (newest pieces) ≡ w.text
   pub lent : bases ≡ w.bases
@@ -132,7 +132,7 @@ state_with kept rc = keeping kept (state_of rc)
 
 -- what a path leads to in a state, where this is the given data
 abbrev pub read_in : State → Data → Reference → Answer Found
-read_in s given r = as_read s.changed (resolved s.recursive s.blocks r (unwrap_or s.changed given))
+read_in s given r = as_read s.changed (resolve s.recursive s.blocks r (unwrap_or s.changed given))
 
 -- the name of the template that the run began with, if it has one
 abbrev pub root_of : RenderContext → Option Text
@@ -160,7 +160,7 @@ pub record IsKept (before after : RenderContext) : Type 0 where
 -- what is kept but for the nearest block
 pub record HasOuter (before after : RenderContext) : Type 0 where
   pub root : root_of after ≡ root_of before
-  pub blocks : outer (without_partials (state_of after).blocks) ≡ outer (without_partials (state_of before).blocks)
+  pub blocks : outer_frames (without_partials (state_of after).blocks) ≡ outer_frames (without_partials (state_of before).blocks)
   pub recursive : (state_of after).recursive ≡ (state_of before).recursive
   pub escapes : (state_of after).escapes ≡ (state_of before).escapes
   pub failed : has_failed after ≡ has_failed before
@@ -280,12 +280,12 @@ abbrev pub with_line : LineState → State → State
 with_line line s = record s { line = line }
 
 -- the state with another name as the current one, or none
-abbrev pub called : Option Text → State → State
-called name s = record s { current = name }
+abbrev pub with_current : Option Text → State → State
+with_current name s = record s { current = name }
 
 -- the state behind a text
-abbrev pub behind : Text → State → State
-behind t s = record s { line = line_behind t s.line }
+abbrev pub state_behind : Text → State → State
+state_behind t s = record s { line = line_behind t s.line }
 
 -- what is written for a text in a state
 abbrev pub written_at : State → Text → Text

@@ -4,7 +4,7 @@ use Rattle.std.specs.IoError.{error_kind}
 use Rattle.std.specs.declared.io.Error.{Error}
 use Rattle.std.specs.declared.io.ErrorKind.TheVariants.{OutOfMemory}
 use Rattle.handlebars_base.specs.Bytes.{Text}
-use Rattle.handlebars_base.specs.Outputs.{Held, IsBeginning, IsWhole, IsCutOff}
+use Rattle.handlebars_base.specs.Outputs.{Held, IsPrefix, IsWhole, IsCutOff}
 use Rattle.handlebars_base.specs.Reasons.{out_of_memory}
 use Rattle.handlebars_base.specs.RenderRefusals.{reason_in}
 use Rattle.handlebars_base.specs.declared.error.render_error.RenderError.{RenderError}
@@ -12,12 +12,12 @@ use Rattle.handlebars_scope.specs.LineView.{line_of}
 use Rattle.handlebars_scope.specs.declared.line.LineState.{LineState}
 use Rattle.handlebars_meaning.specs.Runs.{plain_fault}
 use Rattle.handlebars_meaning.specs.State.{State}
-use Rattle.handlebars_render.specs.View.{Moment, Answered, TellsFault, behind, with_line, written_at}
+use Rattle.handlebars_render.specs.View.{Moment, Answered, TellsFault, state_behind, with_line, written_at}
 
 -- A beginning of a text was written, and no fault counts.
-pub record IsPart (t : Text) (before after : Held) : Type 0 where
+pub record IsCutByMemory (t : Text) (before after : Held) : Type 0 where
   pub front : Text
-  pub is_front : IsBeginning front t
+  pub is_front : IsPrefix front t
   pub text : after.text ≡ before.text ++ front
   pub faults : after.faults ≡ before.faults
 
@@ -26,7 +26,7 @@ pub record IsPart (t : Text) (before after : Held) : Type 0 where
 -- A write has failed for this cause: a fault of the output, or, where a text is rendered ahead, want of memory.
 pub data FallsShort (t : Text) (may : Error → Type 0) (cause : Error) (before after : Held) : Type 0 where
   by_output : may cause → IsCutOff t before after → FallsShort t may cause before after
-  by_memory : error_kind cause ≡ OutOfMemory → IsPart t before after → FallsShort t may cause before after
+  by_memory : error_kind cause ≡ OutOfMemory → IsCutByMemory t before after → FallsShort t may cause before after
 
 abbrev pub IsTaken : Text → (Error → Type 0) → Held → Result (Unit {0}) Error → Held → Type 0
 IsTaken t may before (Ok u) after = IsWhole t before after
@@ -42,12 +42,12 @@ pub data Writes (t : Text) (at_word : Bool) (next : State) (may : Error → Type
       → Writes t at_word next may before (Ok u) after
   front_written : {after : Moment} {e : RenderError} (cause : Error) → may cause → IsCutOff t before after.held
       → TellsFault cause (plain_fault at_word) e → Writes t at_word next may before (Err e) after
-  part_written : {after : Moment} {e : RenderError} → IsPart t before after.held → reason_in e ≡ out_of_memory
+  part_written : {after : Moment} {e : RenderError} → IsCutByMemory t before after.held → reason_in e ≡ out_of_memory
       → Writes t at_word next may before (Err e) after
 
 -- With the indentation in force, and the line takes note of it.
 abbrev pub Puts : Text → (Error → Type 0) → Moment → Answered → Moment → Type 0
-Puts t may before = Writes (written_at before.state t) false (behind t before.state) may before.held
+Puts t may before = Writes (written_at before.state t) false (state_behind t before.state) may before.held
 
 -- As it is, and the line takes no note of it.
 abbrev pub WritesAsIs : Text → Bool → (Error → Type 0) → Held → Answered → Held → Type 0

@@ -7,7 +7,7 @@ ghost use Rattle.handlebars_base.specs.Answers.{gives};
 ghost use Rattle.handlebars_helpers.specs.CallView.{CallView};
 ghost use Rattle.handlebars_helpers.specs.Callee as calls;
 ghost use Rattle.handlebars_helpers.specs.Choice.{body_if};
-ghost use Rattle.handlebars_meaning.specs.CarryOut.{helper_call, render_branch};
+ghost use Rattle.handlebars_meaning.specs.CarryOut.{view_with_bodies, render_branch};
 ghost use Rattle.handlebars_meaning.specs.Means.{line_in, line_out, render_chosen, render_helped, render_tag};
 ghost use Rattle.handlebars_meaning.specs.Questions.{HasChoice};
 ghost use Rattle.handlebars_meaning.specs.Sites.{Site, TreeSite};
@@ -67,7 +67,7 @@ fn render_branch<'a, O: Output, P: Registered>(
 ) -> Result<(), BoxedError>
     ensures renders { (site : Site) (block : Bool) (target : calls.Target) (v : CallView) (kept : KeptIn (within environment.now))
         → HasChoice (setting_in P.parts environment.now) (state_with kept rc.old) target
-        (helper_call block (call_view helper.now) v) (gives (body_if truth))
+        (view_with_bodies block (call_view helper.now) v) (gives (body_if truth))
         → CarriesWith P.parts O.held O.may_give environment.now rc sink result kept
         (render_helped site block (call_view helper.now) target v) }
     ensures stays { Stays rc sink }
@@ -103,8 +103,8 @@ fn render_call<'a, O: Output, P: Registered>(
 ) -> Result<(), BoxedError>
     ensures renders { (site : Site) (target : calls.Target) (v : CallView) (kept : KeptIn (within environment.now))
         → ChoosesFor (setting_in P.parts environment.now) (state_with kept rc.old) (callee_in bound.entry.value)
-        (helper_call block (call_view helper.now) (called_view bound.entry.value.call)) target
-        (helper_call block (call_view helper.now) v)
+        (view_with_bodies block (call_view helper.now) (called_view bound.entry.value.call)) target
+        (view_with_bodies block (call_view helper.now) v)
         → CarriesWith P.parts O.held O.may_give environment.now rc sink result kept
         (render_helped site block (call_view helper.now) target v) }
     ensures stays { Stays rc sink }
@@ -131,10 +131,10 @@ fn render_chosen<'a, O: Output, P: Registered>(
 ) -> Result<(), BoxedError>
     ensures renders { (site : Site) (target : calls.Target) (v : CallView) (kept : KeptIn (within environment.now))
         → ChoosesFor (setting_in P.parts environment.now) (state_with kept rc.old) (callee_in bound.entry.value)
-        (helper_call block (call_view helper.now) (called_view bound.entry.value.call)) target
-        (helper_call block (call_view helper.now) v)
+        (view_with_bodies block (call_view helper.now) (called_view bound.entry.value.call)) target
+        (view_with_bodies block (call_view helper.now) v)
         → CarriesWith P.parts O.held O.may_give environment.now rc sink result kept
-        (render_chosen site target (helper_call block (call_view helper.now) v)) }
+        (render_chosen site target (view_with_bodies block (call_view helper.now) v)) }
     ensures stays { Stays rc sink }
 {
     let (callee, asked_by, call) = Box::into_inner(bound).into_parts();
@@ -165,7 +165,7 @@ fn render_rest<'a, O: Output, P: Registered>(
 ) -> Result<(), BoxedError>
     ensures renders { (site : Site) (block : Bool) (v : CallView)
         → Carries P.parts O.held O.may_give environment.now rc sink result
-        (render_rest site (helper_call block (call_view helper.now) v) rest.entry) }
+        (render_rest site (view_with_bodies block (call_view helper.now) v) rest.entry) }
     ensures stays { Stays rc sink }
 {
     match rest {

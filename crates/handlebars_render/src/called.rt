@@ -13,11 +13,11 @@ ghost use Rattle.handlebars_template.specs.TreeView.{call_view, decorator_view};
 ghost use Rattle.handlebars_helpers.specs.DecoratorsView.{tag_view};
 ghost use Rattle.handlebars_helpers.specs.Callee.{built};
 ghost use Rattle.handlebars_helpers.specs.View.{choice_of, helper_view, kind_of};
-ghost use Rattle.handlebars_meaning.specs.CarryOut.{helper_call};
+ghost use Rattle.handlebars_meaning.specs.CarryOut.{view_with_bodies};
 ghost use Rattle.handlebars_meaning.specs.Inclusion.{joined_indent};
 ghost use Rattle.handlebars_meaning.specs.Means.{shown_tag};
 ghost use Rattle.handlebars_meaning.specs.State.{State, helper_for};
-ghost use Rattle.handlebars_meaning.specs.Values.{HasHelpedValue, HasRegisteredValue, HasView, choice_value, inner_call};
+ghost use Rattle.handlebars_meaning.specs.Values.{HasHelpedValue, HasRegisteredValue, HasView, choice_value, view_without_bodies};
 ghost use Rattle.handlebars_render.specs.Bound.{callee_in};
 ghost use Rattle.handlebars_render.specs.Targets.{target_in};
 ghost use Rattle.handlebars_render.specs.View.{setting_in, called_view, name_alone, Yields, state_with, KeptIn, within};
@@ -73,7 +73,7 @@ impl<'a> Called<'a> {
 
     /// What a helper sees of a call, of a block or of an expression: beside its values its bodies.
     pub fn of_call(self, helper: &'a HelperTemplate, block: bool) -> Helper<'a>
-        ensures { helper_view result ≡ helper_call block (call_view helper.now) (called_view self.entry) }
+        ensures { helper_view result ≡ view_with_bodies block (call_view helper.now) (called_view self.entry) }
     {
         let Called { name, params, hash } = self;
         Helper::new(
@@ -89,7 +89,7 @@ impl<'a> Called<'a> {
 
     /// What a helper sees of a call in parentheses, whose bodies count as absent.
     pub fn in_parentheses(self, helper: &'a HelperTemplate) -> Helper<'a>
-        ensures { helper_view result ≡ inner_call (call_binding (call_view helper.now)) (called_view self.entry) }
+        ensures { helper_view result ≡ view_without_bodies (call_binding (call_view helper.now)) (called_view self.entry) }
     {
         let Called { name, params, hash } = self;
         Helper::new(
@@ -205,7 +205,7 @@ pub fn helped_value<'a, 'c, P: Registered>(
 ) -> Result<ScopedJson<'a>, RenderError>
     ensures value { (kept : KeptIn (within environment.now)) → Yields (HasHelpedValue (setting_in P.parts environment.now) (state_with kept rc.now)
         (helper_for (P.parts environment.now.parts.now) (state_with kept rc.now) false (called_view call.entry).name)
-        (inner_call (call_binding (call_view helper.now)) (called_view call.entry))) found_of result }
+        (view_without_bodies (call_binding (call_view helper.now)) (called_view call.entry))) found_of result }
     ensures constant { IfOk result (λ found. is_constant found ≡ false) }
 {
     match helper_for(environment.parts, rc, false, call.name.as_str()) {
@@ -224,7 +224,7 @@ fn target_value<'a, 'c, P: Registered>(
 ) -> Result<ScopedJson<'a>, RenderError>
     ensures value { (kept : KeptIn (within environment.now)) → Yields (HasHelpedValue (setting_in P.parts environment.now) (state_with kept rc.now)
         (Some (target_in false (called_view call.entry).name target))
-        (inner_call (call_binding (call_view helper.now)) (called_view call.entry))) found_of result }
+        (view_without_bodies (call_binding (call_view helper.now)) (called_view call.entry))) found_of result }
     ensures constant { IfOk result (λ found. is_constant found ≡ false) }
 {
     match bind(environment, rc, target, false, call) {
@@ -241,7 +241,7 @@ fn bound_value<'a, 'c, P: Registered>(
     bound: BoundCall<'c>,
 ) -> Result<ScopedJson<'a>, RenderError>
     ensures value { (kept : KeptIn (within environment.now)) → Yields (HasRegisteredValue (setting_in P.parts environment.now) (state_with kept rc.now)
-        (callee_in bound.entry) (inner_call (call_binding (call_view helper.now)) (called_view bound.entry.call)))
+        (callee_in bound.entry) (view_without_bodies (call_binding (call_view helper.now)) (called_view bound.entry.call)))
         found_of result }
     ensures constant { IfOk result (λ found. is_constant found ≡ false) }
 {

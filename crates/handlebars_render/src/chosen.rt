@@ -10,7 +10,7 @@ ghost use Rattle.handlebars_helpers.specs.Callee as calls;
 ghost use Rattle.handlebars_helpers.specs.OwnView.{callee_of};
 ghost use Rattle.handlebars_helpers.specs.Turns.{with_block};
 ghost use Rattle.handlebars_helpers.specs.View.{base_view, choice_of, helper_view};
-ghost use Rattle.handlebars_meaning.specs.CarryOut.{carry_out, helper_call, render_word};
+ghost use Rattle.handlebars_meaning.specs.CarryOut.{carry_out, view_with_bodies, render_word};
 ghost use Rattle.handlebars_meaning.specs.Means.{render_chosen};
 ghost use Rattle.handlebars_meaning.specs.Sites.{Site};
 ghost use Rattle.handlebars_meaning.specs.State.{State, nearest_variables};
@@ -69,9 +69,9 @@ pub fn settle_choice<'v, O: Output, P: Registered>(
     ensures leads { (site : Site) (target : calls.Target) (v : CallView) (kept : KeptIn (within environment.now))
         → ChoosesFor (setting_in P.parts environment.now) (state_with kept rc.old) (callee_of (unwrap_or (option_map cow_str_bytes asked_by.now) (helper_view view.now).call.name) callee)
         (helper_view view.now)
-        target (helper_call block (call_view helper.now) v)
-        → LeadsTo (setting_in P.parts environment.now) O.may_give (render_chosen site target (helper_call block (call_view helper.now) v))
-        (moment kept rc.old (held_in O.held sink.old)) (render_rest site (helper_call block (call_view helper.now) v))
+        target (view_with_bodies block (call_view helper.now) v)
+        → LeadsTo (setting_in P.parts environment.now) O.may_give (render_chosen site target (view_with_bodies block (call_view helper.now) v))
+        (moment kept rc.old (held_in O.held sink.old)) (render_rest site (view_with_bodies block (call_view helper.now) v))
         (answer_of result) (moment kept rc.new (held_in O.held sink.new)) }
     ensures stays { Stays rc sink }
 {
@@ -102,8 +102,8 @@ fn settle_built<'v, O: Output, P: Registered>(
 ) -> Result<ToRender<'v>, BoxedError>
     ensures leads { (site : Site) (v : CallView) (kept : KeptIn (within environment.now))
         → LeadsTo (setting_in P.parts environment.now) O.may_give
-        (carry_out site (helper_call block (call_view helper.now) v) (choice_of choice.entry))
-        (moment kept rc.old (held_in O.held sink.old)) (render_rest site (helper_call block (call_view helper.now) v))
+        (carry_out site (view_with_bodies block (call_view helper.now) v) (choice_of choice.entry))
+        (moment kept rc.old (held_in O.held sink.old)) (render_rest site (view_with_bodies block (call_view helper.now) v))
         (answer_of result) (moment kept rc.new (held_in O.held sink.new)) }
     ensures stays { Stays rc sink }
 {
@@ -134,8 +134,8 @@ fn settle_own<'v, O: Output, P: Registered>(
     sink: &mut Sink<'_, O>,
 ) -> Result<ToRender<'v>, BoxedError>
     ensures leads { (site : Site) (block : Bool) (c : Call) (v : CallView) (kept : KeptIn (within environment.now))
-        → LeadsTo (setting_in P.parts environment.now) O.may_give (carry_out site (helper_call block c v) (own_choice_of choice))
-        (moment kept rc.old (held_in O.held sink.old)) (render_rest site (helper_call block c v))
+        → LeadsTo (setting_in P.parts environment.now) O.may_give (carry_out site (view_with_bodies block c v) (own_choice_of choice))
+        (moment kept rc.old (held_in O.held sink.old)) (render_rest site (view_with_bodies block c v))
         (answer_of result) (moment kept rc.new (held_in O.held sink.new)) }
     ensures stays { Stays rc sink }
 {
@@ -168,8 +168,8 @@ fn settle_word<'v, O: Output, P: Registered>(
     sink: &mut Sink<'_, O>,
 ) -> Result<ToRender<'v>, BoxedError>
     ensures leads { (site : Site) (c : Call) (v : CallView) (s : State)
-        → LeadsTo (setting_in P.parts environment.now) O.may_give (render_word site (helper_call block c v) block word)
-        (record { state = s; held = held_in O.held sink.old }) (render_rest site (helper_call block c v))
+        → LeadsTo (setting_in P.parts environment.now) O.may_give (render_word site (view_with_bodies block c v) block word)
+        (record { state = s; held = held_in O.held sink.old }) (render_rest site (view_with_bodies block c v))
         (answer_of result) (record { state = s; held = held_in O.held sink.new }) }
     ensures same { IsSame sink.old sink.new }
 {

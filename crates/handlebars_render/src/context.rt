@@ -12,16 +12,16 @@ ghost use Rattle.handlebars_base.specs.Scoped.{found_of, is_constant, present_in
 ghost use Rattle.handlebars_template.specs.TreeView.{binding_of, binding_view, tree_view};
 ghost use Rattle.handlebars_scope.specs.Bases.{bases_of, lend};
 ghost use Rattle.handlebars_scope.specs.Contexts.{data_of};
-ghost use Rattle.handlebars_scope.specs.Resolve.{resolved};
+ghost use Rattle.handlebars_scope.specs.Resolve.{resolve};
 ghost use Rattle.handlebars_scope.specs.ScopeView.{frame_of, frames_of, variables_of};
 ghost use Rattle.handlebars_scope.specs.WayView.{reached_of};
 ghost use Rattle.handlebars_helpers.specs.OwnView.{local_of};
-ghost use Rattle.handlebars_helpers.specs.Turns.{turned};
+ghost use Rattle.handlebars_helpers.specs.Turns.{turn_frame};
 ghost use Rattle.handlebars_helpers.specs.View.{path_view, turn_view};
 ghost use Rattle.handlebars_meaning.specs.Values as values;
 ghost use Rattle.handlebars_meaning.specs.Values.{Evaluates};
 ghost use Rattle.handlebars_render.specs.Lending.{LendsBlock};
-ghost use Rattle.handlebars_meaning.specs.State.{entered, first_state, left, nearest_variables, partial_in, with_data, with_local, with_nearest, with_partial, without_local};
+ghost use Rattle.handlebars_meaning.specs.State.{push_frame, first_state, pop_frame, nearest_variables, partial_in, with_data, with_local, with_nearest, with_partial, without_local};
 ghost use Rattle.handlebars_render.specs.View.{lending, state_of, read_in, root_of, has_failed, HasOuter, IsKept, NearestBelow};
 
 mod lines;
@@ -121,7 +121,7 @@ impl RenderContext {
     /// Makes a block of scope the nearest one. Where memory is refused, nothing is changed here, and
     /// the block is gone.
     pub fn push_block(&mut self, block: BlockContext) -> Result<(), AllocError>
-        ensures ok { OnOk result (state_of self.new ≡ entered (frame_of block) (state_of self.old)) }
+        ensures ok { OnOk result (state_of self.new ≡ push_frame (frame_of block) (state_of self.old)) }
         ensures err { OnErr result (state_of self.new ≡ state_of self.old) }
         ensures root { root_of self.new ≡ root_of self.old }
         ensures failed { has_failed self.new ≡ has_failed self.old }
@@ -132,7 +132,7 @@ impl RenderContext {
 
     /// Takes the nearest block of scope away, where there is one.
     pub fn pop_block(&mut self)
-        ensures state { state_of self.new ≡ left (state_of self.old) }
+        ensures state { state_of self.new ≡ pop_frame (state_of self.old) }
         ensures root { root_of self.new ≡ root_of self.old }
         ensures failed { has_failed self.new ≡ has_failed self.old }
     {
@@ -183,7 +183,7 @@ impl RenderContext {
         turn: Turn,
     ) -> Result<(), AllocError>
         ensures ok { (first ≡ false → NearestBelow (path_view path.entry) (state_of self.old).blocks)
-            → OnOk result (state_of self.new ≡ with_nearest (turned (path_view path.entry)
+            → OnOk result (state_of self.new ≡ with_nearest (turn_frame (path_view path.entry)
             (binding_of (option_map (λ b. binding_view b.now) binding.entry)) (turn_view turn.entry))
             (state_of self.old)) }
         ensures outer { HasOuter self.old self.new }
@@ -359,7 +359,7 @@ impl RenderContext {
         path: &'n Path,
         bases: &'v Bases<'v>,
     ) -> Reached<'v, 'n>
-        ensures { reached_of result ≡ answer_map present_in (answer_map values.plain (resolved
+        ensures { reached_of result ≡ answer_map present_in (answer_map values.without_path (resolve
             (state_of self.now).recursive (lend (bases_of bases.now) (state_of self.now).blocks) (reference_of path.now)
             (data_of context.now))) }
     {
@@ -421,7 +421,7 @@ impl RenderContext {
         path: &Path,
         bases: &Bases<'_>,
     ) -> Result<ScopedJson<'a>, RenderError>
-        ensures found { Answers found_of result (answer_map values.plain (resolved
+        ensures found { Answers found_of result (answer_map values.without_path (resolve
             (state_of self.now).recursive (lend (bases_of bases.now) (state_of self.now).blocks) (reference_of path.now)
             (data_of context.now))) }
         ensures plain { IfOk result (λ found. is_constant found ≡ false) }

@@ -7,7 +7,7 @@ ghost use Rattle.handlebars_scope.specs.ScopeView.{frame_of};
 ghost use Rattle.handlebars_meaning.specs.Sites.{Site};
 ghost use Rattle.handlebars_helpers.specs.CallView.{CallView};
 ghost use Rattle.handlebars_helpers.specs.View.{path_view, turns_left};
-ghost use Rattle.handlebars_meaning.specs.CarryOut.{helper_call, in_block, render_body, take_turns};
+ghost use Rattle.handlebars_meaning.specs.CarryOut.{view_with_bodies, in_block, render_body, take_turns};
 ghost use Rattle.handlebars_render.specs.Judgement.{Carries, CarriesWith, Stays};
 ghost use Rattle.handlebars_render.specs.View.{HasOuter, IsUnlent, KeptIn, within, IsSame};
 
@@ -34,7 +34,7 @@ pub fn render_in<'a, O: Output, P: Registered>(
 ) -> Result<(), BoxedError>
     ensures renders { (site : Site) (i : ℕ) (block : Bool) (v : CallView)
         → Carries P.parts O.held O.may_give environment.now rc sink result
-        (in_block (frame_of scope) (render_body site i (helper_call block (call_view helper.now) v))) }
+        (in_block (frame_of scope) (render_body site i (view_with_bodies block (call_view helper.now) v))) }
     ensures stays { Stays rc sink }
 {
     rc.push_block(scope)?;
@@ -60,7 +60,7 @@ pub fn render_each<'a, O: Output, P: Registered>(
 ) -> Result<(), BoxedError>
     ensures renders { (site : Site) (block : Bool) (v : CallView)
         → Carries P.parts O.held O.may_give environment.now rc sink result
-        (in_block empty_frame (take_turns site 0 (helper_call block (call_view helper.now) v) (path_view path.entry)
+        (in_block empty_frame (take_turns site 0 (view_with_bodies block (call_view helper.now) v) (path_view path.entry)
         (turns_left turns.entry))) }
     ensures stays { Stays rc sink }
 {
@@ -88,7 +88,7 @@ fn take_turns<'a, O: Output, P: Registered>(
 ) -> Result<(), BoxedError>
     ensures renders { (site : Site) (block : Bool) (v : CallView) (kept : KeptIn (within environment.now)) → IsUnlent kept.bases
         → CarriesWith P.parts O.held O.may_give environment.now rc sink result kept
-        (take_turns site 0 (helper_call block (call_view helper.now) v) (path_view path.entry) (turns_left turns.entry)) }
+        (take_turns site 0 (view_with_bodies block (call_view helper.now) v) (path_view path.entry) (turns_left turns.entry)) }
     ensures outer { HasOuter rc.old rc.new }
     ensures same { IsSame sink.old sink.new }
 {

@@ -2,7 +2,7 @@
 
 ghost use Rattle.handlebars_template.specs.TreeView.{element_view, call_view};
 ghost use Rattle.handlebars_meaning.specs.Sites.{Site};
-ghost use Rattle.handlebars_meaning.specs.Means.{render_element, render_expression, unescaped};
+ghost use Rattle.handlebars_meaning.specs.Means.{render_element, render_expression, without_escaping};
 ghost use Rattle.handlebars_render.specs.Judgement.{Carries, Stays};
 
 use crate::block::render_tag;
@@ -51,7 +51,7 @@ fn render_unescaped<'a, O: Output, P: Registered>(
     sink: &mut Sink<'_, O>,
 ) -> Result<(), BoxedError>
     ensures renders { (site : Site) → Carries P.parts O.held O.may_give environment.now rc sink result
-        (unescaped (render_expression site (call_view helper.now))) }
+        (without_escaping (render_expression site (call_view helper.now))) }
     ensures stays { Stays rc sink }
 {
     let disabled = rc.is_disable_escape();

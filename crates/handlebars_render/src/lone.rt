@@ -14,7 +14,7 @@ ghost use Rattle.handlebars_template.specs.TreeView.{call_view, param_view, sube
 ghost use Rattle.handlebars_helpers.specs.CallView.{CallView};
 ghost use Rattle.handlebars_meaning.specs.Sites.{Site};
 ghost use Rattle.handlebars_meaning.specs.Means.{render_found, render_lone, render_lone_as};
-ghost use Rattle.handlebars_meaning.specs.Values.{HasName, HasValue, called_by};
+ghost use Rattle.handlebars_meaning.specs.Values.{HasName, HasValue, callee_name};
 ghost use Rattle.handlebars_render.specs.Boxed.{answer_of, error_of};
 ghost use Rattle.handlebars_render.specs.Next.{ComesTo, Settles};
 ghost use Rattle.handlebars_render.specs.View.{name_alone, setting_in, moment, state_with, KeptIn, within, held_in, IsSame};
@@ -155,7 +155,7 @@ fn settle_value<'a, O: Output, P: Registered>(
 ) -> Result<Next<'a>, BoxedError>
     ensures comes { is_value (call_view helper.now) ≡ true → (site : Site) (kept : KeptIn (within environment.now))
         → HasName (setting_in P.parts environment.now) (state_with kept rc.now) (call_name (call_view helper.now))
-        (gives (called_by (found_of value.entry)))
+        (gives (callee_name (found_of value.entry)))
         → HasValue (setting_in P.parts environment.now) (state_with kept rc.now) (call_name (call_view helper.now))
         (gives (found_of value.entry))
         → ComesTo (setting_in P.parts environment.now) site false (call_view helper.now)

@@ -7,8 +7,8 @@ ghost use Rattle.handlebars_base.specs.Scoped.{found_of, is_constant, value};
 ghost use Rattle.handlebars_helpers.specs.Callee.{own};
 ghost use Rattle.handlebars_helpers.specs.OwnView.{offer_of, step_of};
 ghost use Rattle.handlebars_helpers.specs.View.{helper_view};
-ghost use Rattle.handlebars_meaning.specs.Questions.{HasRegisteredChoice, offered};
-ghost use Rattle.handlebars_meaning.specs.Values.{HasRegisteredValue, step_text, text_of};
+ghost use Rattle.handlebars_meaning.specs.Questions.{HasRegisteredChoice, offer_choice};
+ghost use Rattle.handlebars_meaning.specs.Values.{HasRegisteredValue, step_text, steps_text};
 ghost use Rattle.handlebars_render.specs.OwnChoice.{own_choice_of};
 ghost use Rattle.handlebars_render.specs.View.{setting_in, state_with, Yields, KeptIn, within};
 
@@ -59,7 +59,7 @@ pub fn choose_own<P: Registered>(
 
 // What is chosen of an offer, in strict mode or not.
 fn choose_offer(strict: bool, offer: HelperValue) -> Result<OwnChoice, RenderError>
-    ensures { Answers own_choice_of result (offered strict (offer_of offer)) }
+    ensures { Answers own_choice_of result (offer_choice strict (offer_of offer)) }
 {
     match offer {
         HelperValue::NotOffered => Ok(OwnChoice::Nothing),
@@ -108,7 +108,7 @@ pub fn own_value<'a, P: Registered>(
 
 // The texts that the steps write, one behind the other.
 fn text_written(alloc: Global, steps: &Vec<HelperStep>) -> Result<String, AllocError>
-    ensures { IfOk result (λ text. string_bytes text ≡ text_of (map step_of steps.now.items)) }
+    ensures { IfOk result (λ text. string_bytes text ≡ steps_text (map step_of steps.now.items)) }
 {
     let mut text = String::new(alloc);
     'steps: for step in steps {

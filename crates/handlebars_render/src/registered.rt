@@ -4,9 +4,9 @@ ghost use Rattle.std.specs.Prelude.{◌≡◌, Bool, map, option_map, string_byt
 ghost use Rattle.handlebars_base.specs.Bytes.{Text};
 ghost use Rattle.handlebars_template.specs.TreeView.{tree_view};
 ghost use Rattle.handlebars_helpers.specs.Callee.{calls_registered};
-ghost use Rattle.handlebars_helpers.specs.DecoratorsView.{decorator_called, deed_of, tag_asked_with};
+ghost use Rattle.handlebars_helpers.specs.DecoratorsView.{decorator_called, deed_of, decorator_question_of};
 ghost use Rattle.handlebars_helpers.specs.EscapeView.{escaping_of};
-ghost use Rattle.handlebars_helpers.specs.OwnView.{asked_with, callee_of, offer_of, steps_of, IsOneOf};
+ghost use Rattle.handlebars_helpers.specs.OwnView.{helper_question_of, callee_of, offer_of, steps_of, IsOneOf};
 ghost use Rattle.handlebars_meaning.specs.State.{IsLawful, Parts, helper_for, helper_named, hook};
 ghost use Rattle.handlebars_render.specs.Targets.{target_in};
 ghost use Rattle.handlebars_render.specs.View.{state_of};
@@ -42,7 +42,7 @@ pub trait Registered {
         changed: Option<&Context>,
     ) -> HelperResult
         ensures { IsOneOf (((parts self.now).own name.now).has_steps
-            (asked_with view.now given.now changed.entry (parts self.now).strict)) steps_of result };
+            (helper_question_of view.now given.now changed.entry (parts self.now).strict)) steps_of result };
 
     /// What it offers when it is asked for a value.
     fn offer_of(
@@ -53,7 +53,7 @@ pub trait Registered {
         changed: Option<&Context>,
     ) -> Result<HelperValue, RenderError>
         ensures { IsOneOf (((parts self.now).own name.now).has_offer
-            (asked_with view.now given.now changed.entry (parts self.now).strict)) offer_of result };
+            (helper_question_of view.now given.now changed.entry (parts self.now).strict)) offer_of result };
 
     /// The decorator under a name, if there is one.
     fn decorator(&self, name: &str) -> Option<DecoratorKind>
@@ -68,7 +68,7 @@ pub trait Registered {
         changed: Option<&Context>,
     ) -> DecoratorResult
         ensures { IsOneOf ((parts self.now).own_decorator name.now
-            (tag_asked_with tag.now given.now changed.entry (parts self.now).strict)) (λ v. map deed_of v.items) result };
+            (decorator_question_of tag.now given.now changed.entry (parts self.now).strict)) (λ v. map deed_of v.items) result };
 
     /// How values are escaped.
     fn escape(&self) -> Escaping

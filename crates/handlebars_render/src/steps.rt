@@ -4,7 +4,7 @@ ghost use Rattle.std.specs.Prelude.{◌≡◌, ℕ, Bool, map};
 ghost use Rattle.handlebars_template.specs.TreeView.{call_view};
 ghost use Rattle.handlebars_helpers.specs.CallView.{CallView};
 ghost use Rattle.handlebars_helpers.specs.OwnView.{step_of};
-ghost use Rattle.handlebars_meaning.specs.CarryOut.{helper_call, take_step, take_steps};
+ghost use Rattle.handlebars_meaning.specs.CarryOut.{view_with_bodies, take_step, take_steps};
 ghost use Rattle.handlebars_meaning.specs.Sites.{Site};
 ghost use Rattle.handlebars_render.specs.Judgement.{Carries, Stays};
 
@@ -31,7 +31,7 @@ pub fn take_steps<'a, O: Output, P: Registered>(
 ) -> Result<(), BoxedError>
     ensures renders { (site : Site) (block : Bool) (v : CallView)
         → Carries P.parts O.held O.may_give environment.now rc sink result
-        (take_steps site (helper_call block (call_view helper.now) v) 0 (map step_of steps.items)) }
+        (take_steps site (view_with_bodies block (call_view helper.now) v) 0 (map step_of steps.items)) }
     ensures stays { Stays rc sink }
 {
     'steps: for step in steps {
@@ -52,7 +52,7 @@ fn take_step<'a, O: Output, P: Registered>(
 ) -> Result<(), BoxedError>
     ensures renders { (site : Site) (i : ℕ) (block : Bool) (v : CallView)
         → Carries P.parts O.held O.may_give environment.now rc sink result
-        (take_step site (helper_call block (call_view helper.now) v) i (step_of step)) }
+        (take_step site (view_with_bodies block (call_view helper.now) v) i (step_of step)) }
     ensures stays { Stays rc sink }
 {
     match step {

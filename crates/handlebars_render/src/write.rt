@@ -21,8 +21,8 @@ ghost use Rattle.handlebars_render.specs.Writes.{Puts, TellsLine, WritesAsIs};
 
 use crate::boxed::BoxedError;
 use crate::context::RenderContext;
-use crate::registered::Registered;
 use crate::environment::Environment;
+use crate::registered::Registered;
 use crate::sink::Sink;
 use handlebars_base::error::{RenderError, RenderErrorReason};
 use handlebars_base::json::value::{Json, JsonRender};
@@ -280,7 +280,10 @@ fn write_line<O: Output, P>(
 
 // What the escape function of one's own answers for the whole text of a value. It is asked once, also where that
 // is empty.
-fn escaped<P: Registered>(environment: &Environment<P>, value: Option<&Json>) -> Result<String, RenderError>
+fn escaped<P: Registered>(
+    environment: &Environment<P>,
+    value: Option<&Json>,
+) -> Result<String, RenderError>
     ensures { IsOneOf ((P.parts environment.now.parts.now).own_escape
         (rendered_if_any (option_map (λ v. view v.now) value.entry))) string_bytes result }
 {

@@ -10,7 +10,7 @@ use Rattle.handlebars_base.specs.Optional.{◌>>=◌, with_or}
 use Rattle.handlebars_base.specs.Path.{Segment, named, root, local, up, variable}
 use Rattle.handlebars_base.specs.Scoped.{present_in}
 use Rattle.handlebars_scope.specs.Bases.{IsCurrent, base_up, bases_of, lend, with_base}
-use Rattle.handlebars_scope.specs.Resolve.{Way, within, along, behind_ups, block_up, bound_way, found_along, found_by, found_within, or_else, resolved, unbound_way, value_at, variable_at, way_from, way_of, way_of_bound, way_of_name}
+use Rattle.handlebars_scope.specs.Resolve.{Way, within, along, behind_ups, block_up, bound_way, found_along, found_by, found_within, or_else, resolve, unbound_way, value_at, variable_at, way_from, way_of, way_of_bound, way_of_name}
 use Rattle.handlebars_scope.specs.Scopes.{Frame}
 use Rattle.handlebars_scope.specs.declared.context.bases.Bases.{Bases, the_lemmas}
 use Rattle.handlebars_scope.specs.declared.context.bases.Bases.TheVariants.{Outside, Block}
@@ -75,9 +75,9 @@ variable_at-lend bs fs level name =
     ap (λ (o : Option Frame). o >>= λ f. f.variable name) (slice_get-lend bs fs level)
     ∙ variable-lent (base_up bs level) (slice_get fs level) name
 
-pub resolved-variable : (recursive : Bool) (bs : List (Option Data)) (fs : List Frame) (level : ℕ) (name text : Text) (d : Data)
-    → resolved recursive fs (variable level name text) d ≡ resolved recursive (lend bs fs) (variable level name text) d
-resolved-variable recursive bs fs level name text d =
+pub resolve-variable : (recursive : Bool) (bs : List (Option Data)) (fs : List Frame) (level : ℕ) (name text : Text) (d : Data)
+    → resolve recursive fs (variable level name text) d ≡ resolve recursive (lend bs fs) (variable level name text) d
+resolve-variable recursive bs fs level name text d =
     ap (λ (o : Option Data). gives (found_within o)) (sym (variable_at-lend bs fs level name))
 
 way_of_name-lend : (bs : List (Option Data)) (fs : List Frame) (name : Text) (rest : List Segment)

@@ -9,7 +9,7 @@ use Rattle.handlebars_base.specs.Path.{named}
 use Rattle.handlebars_base.specs.Optional.{◌>>=◌, with_or}
 use Rattle.handlebars_base.specs.Scoped.{walked, missing}
 use Rattle.handlebars_scope.specs.Scopes.{Frame}
-use Rattle.handlebars_scope.specs.Resolve.{member_at, value_at, then_at, if_any, one_more, or_else, longest, found_by, found_front, bound_way, unbound_way, way_from, within, names_of, navigated}
+use Rattle.handlebars_scope.specs.Resolve.{member_at, value_at, then_at, if_any, one_more, or_else, longest, found_by, found_front, bound_way, unbound_way, way_from, within, names_of, navigate}
 use Rattle.handlebars_scope.specs.WayView.{hit_of, names_in}
 use Rattle.handlebars_scope.specs.Fronts.{front, IsLongest, HasNoFront, TakesLongest}
 
@@ -161,10 +161,10 @@ longest-is_last (n ∷ ns) d name =
     ] in go _ refl
 
 -- where no block binds the name and the nearest has no value, it is sought under the fronts
-navigated-under_front : (d : Data) (f : Frame) (fs : List Frame) (name : Text)
+navigate-under_front : (d : Data) (f : Frame) (fs : List Frame) (name : Text)
     → bound_way (f ∷ fs) (named name ∷ []) ≡ None → f.base_value ≡ None
-    → navigated true (f ∷ fs) (named name ∷ []) d ≡ gives (found_front f.base_path name (longest d f.base_path name))
-navigated-under_front d f fs name unbound no_value =
+    → navigate true (f ∷ fs) (named name ∷ []) d ≡ gives (found_front f.base_path name (longest d f.base_path name))
+navigate-under_front d f fs name unbound no_value =
     let segments = named name ∷ [] in
     ap (λ o. found_by (with_or o (λ way. way) (unbound_way true (f ∷ fs) segments)) d) unbound
     ∙ ap (λ o. found_by (with_or o (λ v. within v (names_of segments))
@@ -172,12 +172,12 @@ navigated-under_front d f fs name unbound no_value =
 
 pub takes_longest : TakesLongest
 takes_longest d f fs name unbound no_value =
-    let is = navigated-under_front d f fs name unbound no_value in
+    let is = navigate-under_front d f fs name unbound no_value in
     let go : (r : Option (ℕ × Data)) → IsLast (under d f.base_path name) (length f.base_path) r
-    → navigated true (f ∷ fs) (named name ∷ []) d ≡ gives (found_front f.base_path name r)
+    → navigate true (f ∷ fs) (named name ∷ []) d ≡ gives (found_front f.base_path name r)
     → ((n : ℕ) × (v : Data) × IsLongest d f.base_path name n v
-    × (navigated true (f ∷ fs) (named name ∷ []) d ≡ gives (walked v (front n f.base_path name))))
-    ⊎ (HasNoFront d f.base_path name × (navigated true (f ∷ fs) (named name ∷ []) d ≡ gives missing)) = elim [
+    × (navigate true (f ∷ fs) (named name ∷ []) d ≡ gives (walked v (front n f.base_path name))))
+    ⊎ (HasNoFront d f.base_path name × (navigate true (f ∷ fs) (named name ∷ []) d ≡ gives missing)) = elim [
       | None ↦ λ last e. inr (last, e)
       | Some found ↦ λ last e. inl (found.0, found.1, record { is_front = last.0; leads = last.1; longer = last.2 }, e)
     ] in go (longest d f.base_path name) (longest-is_last f.base_path d name) is

@@ -6,7 +6,7 @@ use Rattle.handlebars_base.specs.Answers.{answer_map, gives}
 use Rattle.handlebars_base.specs.Bytes.{Text}
 use Rattle.handlebars_base.specs.Path.{relative}
 use Rattle.handlebars_base.specs.Scoped.{present_in}
-use Rattle.handlebars_scope.specs.Resolve.{resolved}
+use Rattle.handlebars_scope.specs.Resolve.{resolve}
 use Rattle.handlebars_scope.specs.Scopes.{Frame}
 use Rattle.handlebars_scope.specs.declared.context.bases.Bases.{Bases, fold-Bases}
 use Rattle.handlebars_scope.specs.declared.context.bases.Bases.TheOpen.{Bases-F}
@@ -31,7 +31,7 @@ base_up (b ∷ bs) (suc n) = base_up bs n
 -- the value that the empty path leads to in these blocks and this data
 abbrev pub IsCurrent : List Frame → Data → Data → Type 0
 IsCurrent fs d here = (recursive : Bool) (text : Text)
-    → answer_map present_in (resolved recursive fs (relative [] text) d) ≡ gives (Some here)
+    → answer_map present_in (resolve recursive fs (relative [] text) d) ≡ gives (Some here)
 
 -- ---- in the code
 

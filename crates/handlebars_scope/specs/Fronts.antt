@@ -6,7 +6,7 @@ use Rattle.handlebars_base.specs.Bytes.{Text}
 use Rattle.handlebars_base.specs.Path.{named}
 use Rattle.handlebars_base.specs.Scoped.{walked, missing}
 use Rattle.handlebars_scope.specs.Scopes.{Frame}
-use Rattle.handlebars_scope.specs.Resolve.{value_at, if_any, bound_way, navigated}
+use Rattle.handlebars_scope.specs.Resolve.{value_at, if_any, bound_way, navigate}
 
 -- the first n names of a base path, and a name
 abbrev pub front : ℕ → List Text → Text → List Text
@@ -28,5 +28,5 @@ abbrev pub TakesLongest : Type 0
 TakesLongest = (d : Data) (f : Frame) (fs : List Frame) (name : Text)
     → bound_way (f ∷ fs) (named name ∷ []) ≡ None → f.base_value ≡ None
     → ((n : ℕ) × (v : Data) × IsLongest d f.base_path name n v
-    × (navigated true (f ∷ fs) (named name ∷ []) d ≡ gives (walked v (front n f.base_path name))))
-    ⊎ (HasNoFront d f.base_path name × (navigated true (f ∷ fs) (named name ∷ []) d ≡ gives missing))
+    × (navigate true (f ∷ fs) (named name ∷ []) d ≡ gives (walked v (front n f.base_path name))))
+    ⊎ (HasNoFront d f.base_path name × (navigate true (f ∷ fs) (named name ∷ []) d ≡ gives missing))

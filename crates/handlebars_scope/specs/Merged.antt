@@ -30,6 +30,6 @@ members_in (array ds) = with_items 0 ds no_members
 members_in (object ms) = ms
 
 -- Without pairs the value is as it is. With some it is an object.
-abbrev pub merged : Data → List (Text × Data) → Data
-merged d [] = d
-merged d (p ∷ ps) = object (with_pairs (p ∷ ps) (members_in d))
+abbrev pub merge : Data → List (Text × Data) → Data
+merge d [] = d
+merge d (p ∷ ps) = object (with_pairs (p ∷ ps) (members_in d))

@@ -198,14 +198,14 @@ way_of recursive fs segments =
     with_or (bound_way fs (behind_ups segments)) (λ way. way) (unbound_way recursive fs segments)
 
 -- what segments lead to, with recursive lookup or without, in these blocks and this data
-abbrev pub navigated : Bool → List Frame → List Segment → Data → Answer Found
-navigated recursive fs segments d = found_by (way_of recursive fs segments) d
+abbrev pub navigate : Bool → List Frame → List Segment → Data → Answer Found
+navigate recursive fs segments d = found_by (way_of recursive fs segments) d
 
 -- the variable of the block so many blocks up; it is missing where the block or the variable isn't there
 abbrev pub variable_at : List Frame → ℕ → Text → Option Data
 variable_at fs level name = slice_get fs level >>= λ f. f.variable name
 
 -- what a path leads to, with recursive lookup or without, in these blocks and this data
-abbrev pub resolved : Bool → List Frame → Reference → Data → Answer Found
-resolved recursive fs (relative segments text) d = navigated recursive fs segments d
-resolved recursive fs (variable level name text) d = gives (found_within (variable_at fs level name))
+abbrev pub resolve : Bool → List Frame → Reference → Data → Answer Found
+resolve recursive fs (relative segments text) d = navigate recursive fs segments d
+resolve recursive fs (variable level name text) d = gives (found_within (variable_at fs level name))

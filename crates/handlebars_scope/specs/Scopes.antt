@@ -54,9 +54,9 @@ base_of (value d) = at_value d
 base_of missing = at_value null
 
 -- the block, at a base
-abbrev pub based : Base → Frame → Frame
-based (at_path path) f = record f { base_path = path }
-based (at_value d) f = record f { base_value = Some d }
+abbrev pub frame_at : Base → Frame → Frame
+frame_at (at_path path) f = record f { base_path = path }
+frame_at (at_value d) f = record f { base_value = Some d }
 
 -- what a name is bound to that stands for the base of its own block
 abbrev pub bound_base : Base → Bound

@@ -45,7 +45,7 @@ impl Context {
     ghost use Rattle.handlebars_base.specs.Answers.{Answers, gives, refuses_for};
     ghost use Rattle.handlebars_base.specs.PathView.{segments_of};
     ghost use Rattle.handlebars_base.specs.Scoped.{found_of, is_constant};
-    ghost use Rattle.handlebars_scope.specs.Resolve.{navigated};
+    ghost use Rattle.handlebars_scope.specs.Resolve.{navigate};
     ghost use Rattle.handlebars_scope.specs.ScopeView.{frames_of};
     ghost use Rattle.handlebars_base.specs.Reasons.{nowhere, out_of_memory};
     ghost use Rattle.handlebars_base.specs.RenderRefusals.{reason_in, spot_of};
@@ -100,7 +100,7 @@ impl Context {
         block_contexts: &VecDeque<BlockContext>,
         recursive_lookup: bool,
     ) -> Result<ScopedJson<'rc>, RenderError>
-        ensures found { Answers found_of result (navigated recursive_lookup
+        ensures found { Answers found_of result (navigate recursive_lookup
             (frames_of block_contexts.now.items) (segments_of relative_path.now) (data_of self.now)) }
         ensures plain { IfOk result (λ found. is_constant found ≡ false) }
     {

@@ -6,7 +6,7 @@ ghost use Rattle.std.specs.Str.{chars};
 ghost use Rattle.serde_json.specs.Data.{no_members, put, string};
 ghost use Rattle.serde_json.specs.Find.{as_object};
 ghost use Rattle.serde_json.specs.View.{items_view, members_view, view};
-ghost use Rattle.handlebars_scope.specs.Merged.{members_in, merged, with_characters, with_items};
+ghost use Rattle.handlebars_scope.specs.Merged.{members_in, merge, with_characters, with_items};
 ghost use Rattle.handlebars_scope.specs.MergedView.{pairs_in};
 
 use handlebars_base::json::value::{Json, PathAndJson};
@@ -20,7 +20,7 @@ pub fn merge(
     base: &Json,
     pairs: &BTreeMap<&str, PathAndJson>,
 ) -> Result<Json, AllocError>
-    ensures { IfOk result (λ d. view d ≡ merged (view base.now) (pairs_in pairs.now.entries)) }
+    ensures { IfOk result (λ d. view d ≡ merge (view base.now) (pairs_in pairs.now.entries)) }
 {
     if pairs.is_empty() {
         return base.clone();

@@ -5,11 +5,11 @@ use Rattle.std.specs.Option.{MatchOption}
 use denote.Ref.{Bor}
 use Rattle.handlebars_base.specs.Bytes.{Text}
 use Rattle.handlebars_lines.specs.Line.{value_name, close_name}
-use Rattle.handlebars_tags.specs.Kind.{TagKind, expression_kind, html_kind, html_sign_kind, partial_kind, partial_block_kind, past}
+use Rattle.handlebars_tags.specs.Kind.{TagKind, expression_kind, html_kind, html_sign_kind, partial_kind, partial_block_kind, behind_text}
 use Rattle.handlebars_tags.specs.TagView.{NoClosedLine, NoneClosed, HasClosedLine, HasInside}
 use Rattle.handlebars_tags.specs.declared.tag.inside.Inside.{Inside}
 use Rattle.handlebars_tags.specs.declared.tag.inside.Content.TheVariants.{Expression, Html, Partial, PartialBlock}
-use Rattle.handlebars_tags.proofs.Marks.{past-takes}
+use Rattle.handlebars_tags.proofs.Marks.{behind_text-takes}
 use Rattle.handlebars_tags.proofs.InsidesRead.{expression_read, html_read, html_sign_read, partial_read, partial_block_read}
 
 abbrev pub Reads : TagKind → Text → Option Inside → Type 0
@@ -51,5 +51,5 @@ pub partial_block_reads : {E : Type 0} (t : Bor Text) (r : Result (Option Inside
 partial_block_reads t (Ok r) h = partial_block_read t r h
 partial_block_reads t (Err e) h = h
 
-pub behind_braces : (left inside : Text) → past (codes "{{!") left ≡ Some inside → drop 3 left ≡ inside
-behind_braces left inside e = ap (drop 3) (past-takes (codes "{{!") left inside e)
+pub behind_braces : (left inside : Text) → behind_text (codes "{{!") left ≡ Some inside → drop 3 left ≡ inside
+behind_braces left inside e = ap (drop 3) (behind_text-takes (codes "{{!") left inside e)

@@ -4,8 +4,8 @@ use Rattle.std.specs.Prelude.{◌==◌}
 use Rattle.std.proofs.lemmas.Option.{same_Some, none-some}
 use Rattle.std.proofs.lemmas.List.{append_cancel_right}
 use Rattle.handlebars_base.specs.Bytes.{Text, right_brace, behind_white}
-use Rattle.handlebars_base.specs.Texts.{starts, after}
-use Rattle.handlebars_base.proofs.Fronts.{starts-other, after-not}
+use Rattle.handlebars_base.specs.Texts.{starts, behind_byte}
+use Rattle.handlebars_base.proofs.Fronts.{starts-other, behind_byte-not}
 use Rattle.handlebars_base.proofs.Bytes.{other_byte}
 use Rattle.handlebars_lines.specs.Line.{NameMode, value_name, close_name, Line, in_tag, tilde}
 use Rattle.handlebars_lines.proofs.LineFronts.{begins}
@@ -24,8 +24,8 @@ use Rattle.handlebars_tags.proofs.Tags.{tag-closed}
 line_open : (t : Text) → starts begins (behind_white t) ≡ true → closing_of else_kind t ≡ None
 unfolding closing_of
 line_open t h =
-    let no_tilde : after tilde (behind_white t) ≡ None = after-not tilde (behind_white t) (starts-other begins (λ b. b == 126) (behind_white t) (other_byte begins 126 refl) h) in
-    let no_brace : after right_brace (behind_white t) ≡ None = after-not right_brace (behind_white t) (starts-other begins (λ b. b == 125) (behind_white t) (other_byte begins 125 refl) h) in
+    let no_tilde : behind_byte tilde (behind_white t) ≡ None = behind_byte-not tilde (behind_white t) (starts-other begins (λ b. b == 126) (behind_white t) (other_byte begins 126 refl) h) in
+    let no_brace : behind_byte right_brace (behind_white t) ≡ None = behind_byte-not right_brace (behind_white t) (starts-other begins (λ b. b == 125) (behind_white t) (other_byte begins 125 refl) h) in
     rw (no_tilde, no_brace) refl
 
 -- ---- what is said is one

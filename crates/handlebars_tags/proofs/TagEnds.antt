@@ -5,46 +5,46 @@ use Rattle.std.proofs.lemmas.Option.{same_Some}
 use Rattle.handlebars_base.specs.Bytes.{Text, right_brace, behind_white, is_symbol}
 use Rattle.handlebars_base.specs.Optional.{◌>>=◌}
 use Rattle.handlebars_base.proofs.OptionBinds.{bind_some, with_or_is}
-use Rattle.handlebars_base.specs.Texts.{IsEnd, after}
-use Rattle.handlebars_base.proofs.Ends.{end-all, end-behind, end-after, end-white, end-drop}
+use Rattle.handlebars_base.specs.Texts.{IsSuffix, behind_byte}
+use Rattle.handlebars_base.proofs.Ends.{end-all, end-behind, end-behind_byte, end-white, end-drop}
 use Rattle.handlebars_lines.specs.Parameter.{spelled_items}
 use Rattle.handlebars_lines.specs.Line.{NameMode, spelled_name, Line, Enclosure, IsLine, tilde}
 use Rattle.handlebars_lines.proofs.CloseNames.{close_name-whole}
 use Rattle.handlebars_lines.specs.Binding.{BoundNames, bar, IsBinding, is_unbound, is_bound, spelled_names}
-use Rattle.handlebars_tags.specs.Kind.{TagKind, expression_kind, html_kind, html_sign_kind, block_kind, close_kind, inverse_kind, else_kind, raw_kind, raw_close_kind, decorator_kind, decorator_block_kind, partial_kind, partial_block_kind, comment_kind, past, tilde_at, close_by, brace_tilde_braces, three_close, closing_of}
+use Rattle.handlebars_tags.specs.Kind.{TagKind, expression_kind, html_kind, html_sign_kind, block_kind, close_kind, inverse_kind, else_kind, raw_kind, raw_close_kind, decorator_kind, decorator_block_kind, partial_kind, partial_block_kind, comment_kind, behind_text, tilde_at, close_by, brace_tilde_braces, three_close, closing_of}
 use Rattle.handlebars_tags.specs.Comment.{IsComment, long, compact}
 use Rattle.handlebars_lines.specs.CloseName.{close_name_at}
 use Rattle.handlebars_tags.specs.Tag.{Tag, BlockLine, IsBlockLine, Says}
 use Rattle.handlebars_tags.specs.TagView.{IsClosed}
-use Rattle.handlebars_tags.proofs.Beginnings.{end-past, end-tilde}
+use Rattle.handlebars_tags.proofs.Beginnings.{end-behind_text, end-tilde}
 use Rattle.handlebars_tags.proofs.Insides.{said}
 
 -- ---- what closes a tag
 
-end-close_by : (mark t : Text) (p : Bool × Text) → close_by mark t ≡ Some p → IsEnd t p.1
+end-close_by : (mark t : Text) (p : Bool × Text) → close_by mark t ≡ Some p → IsSuffix t p.1
 end-close_by mark t p e =
-    let h = bind_some (past mark (tilde_at t).1) (λ r. Some ((tilde_at t).0, r)) p e in
-    subst (λ (q : Bool × Text). IsEnd t q.1) (same_Some ((tilde_at t).0, h.0) p h.2)
-    (end-behind t (tilde_at t).1 h.0 (end-tilde t) (end-past mark (tilde_at t).1 h.0 h.1))
+    let h = bind_some (behind_text mark (tilde_at t).1) (λ r. Some ((tilde_at t).0, r)) p e in
+    subst (λ (q : Bool × Text). IsSuffix t q.1) (same_Some ((tilde_at t).0, h.0) p h.2)
+    (end-behind t (tilde_at t).1 h.0 (end-tilde t) (end-behind_text mark (tilde_at t).1 h.0 h.1))
 
-end-brace_tilde_braces : (t : Text) (p : Bool × Text) → brace_tilde_braces t ≡ Some p → IsEnd t p.1
+end-brace_tilde_braces : (t : Text) (p : Bool × Text) → brace_tilde_braces t ≡ Some p → IsSuffix t p.1
 end-brace_tilde_braces t p e =
-    let last : Text → Option (Bool × Text) = λ s. past (codes "}}") (behind_white s) >>= λ u. Some (true, u) in
-    let h = bind_some (after right_brace (behind_white t)) (λ r. after tilde (behind_white r) >>= last) p e in
-    let k = bind_some (after tilde (behind_white h.0)) last p h.2 in
-    let l = bind_some (past (codes "}}") (behind_white k.0)) (λ u. Some (true, u)) p k.2 in
-    let one : IsEnd t h.0 = end-behind t (behind_white t) h.0 (end-white t) (end-after right_brace (behind_white t) h.0 h.1) in
-    let two : IsEnd h.0 k.0 = end-behind h.0 (behind_white h.0) k.0 (end-white h.0) (end-after tilde (behind_white h.0) k.0 k.1) in
-    let three : IsEnd k.0 l.0 = end-behind k.0 (behind_white k.0) l.0 (end-white k.0) (end-past (codes "}}") (behind_white k.0) l.0 l.1) in
-    subst (λ (q : Bool × Text). IsEnd t q.1) (same_Some (true, l.0) p l.2) (end-behind t h.0 l.0 one (end-behind h.0 k.0 l.0 two three))
+    let last : Text → Option (Bool × Text) = λ s. behind_text (codes "}}") (behind_white s) >>= λ u. Some (true, u) in
+    let h = bind_some (behind_byte right_brace (behind_white t)) (λ r. behind_byte tilde (behind_white r) >>= last) p e in
+    let k = bind_some (behind_byte tilde (behind_white h.0)) last p h.2 in
+    let l = bind_some (behind_text (codes "}}") (behind_white k.0)) (λ u. Some (true, u)) p k.2 in
+    let one : IsSuffix t h.0 = end-behind t (behind_white t) h.0 (end-white t) (end-behind_byte right_brace (behind_white t) h.0 h.1) in
+    let two : IsSuffix h.0 k.0 = end-behind h.0 (behind_white h.0) k.0 (end-white h.0) (end-behind_byte tilde (behind_white h.0) k.0 k.1) in
+    let three : IsSuffix k.0 l.0 = end-behind k.0 (behind_white k.0) l.0 (end-white k.0) (end-behind_text (codes "}}") (behind_white k.0) l.0 l.1) in
+    subst (λ (q : Bool × Text). IsSuffix t q.1) (same_Some (true, l.0) p l.2) (end-behind t h.0 l.0 one (end-behind h.0 k.0 l.0 two three))
 
-end-three_close : (t : Text) (p : Bool × Text) → three_close t ≡ Some p → IsEnd t p.1
+end-three_close : (t : Text) (p : Bool × Text) → three_close t ≡ Some p → IsSuffix t p.1
 end-three_close t p e = elim (with_or_is (close_by (codes "}}}") t) Some (brace_tilde_braces t) (Some p) e) [
   | inl there ↦ end-close_by (codes "}}}") t p (there.1 ∙ there.2)
   | inr none ↦ end-brace_tilde_braces t p none.1
 ]
 
-end-closing : (k : TagKind) (t : Text) (p : Bool × Text) → closing_of k t ≡ Some p → IsEnd t p.1
+end-closing : (k : TagKind) (t : Text) (p : Bool × Text) → closing_of k t ≡ Some p → IsSuffix t p.1
 unfolding closing_of
 end-closing expression_kind t p e = end-close_by (codes "}}") t p e
 end-closing html_kind t p e = end-three_close t p e
@@ -59,14 +59,14 @@ end-closing decorator_kind t p e = end-close_by (codes "}}") t p e
 end-closing decorator_block_kind t p e = end-close_by (codes "}}") t p e
 end-closing partial_kind t p e = end-close_by (codes "}}") t p e
 end-closing partial_block_kind t p e = end-close_by (codes "}}") t p e
-end-closing comment_kind t p e = subst (λ (q : Bool × Text). IsEnd t q.1) (same_Some (false, t) p e) (end-all t)
+end-closing comment_kind t p e = subst (λ (q : Bool × Text). IsSuffix t q.1) (same_Some (false, t) p e) (end-all t)
 
 -- ---- what is said
 
-end-line : {mode : NameMode} {around : Enclosure} {t rest : Text} {line : Line} → IsLine mode around t line rest → IsEnd t rest
+end-line : {mode : NameMode} {around : Enclosure} {t rest : Text} {line : Line} → IsLine mode around t line rest → IsSuffix t rest
 end-line {rest = rest} x = (spelled_name x.name ++ spelled_items x.items, x.whole ∙ sym (append_assoc (spelled_name x.name) (spelled_items x.items) rest))
 
-end-binding : (t rest : Text) (means : BoundNames) → IsBinding t means rest → IsEnd t rest
+end-binding : (t rest : Text) (means : BoundNames) → IsBinding t means rest → IsSuffix t rest
 end-binding t rest means (is_unbound none gives all) = ([], sym all)
 end-binding t rest means (is_bound b) =
     let front : Text = b.white ++ (codes "as" ++ (b.between ++ bar ∷ (spelled_names b.names ++ bar ∷ []))) in
@@ -75,34 +75,34 @@ end-binding t rest means (is_bound b) =
     grouped : (a b c d e : Text) → (a ++ (b ++ (c ++ bar ∷ (d ++ bar ∷ [])))) ++ e ≡ a ++ (b ++ (c ++ bar ∷ (d ++ bar ∷ e)))
     grouped a b c d e = simp append_assoc
 
-end-block : (t rest : Text) (line : BlockLine) → IsBlockLine t line rest → IsEnd t rest
+end-block : (t rest : Text) (line : BlockLine) → IsBlockLine t line rest → IsSuffix t rest
 end-block t rest line x = end-behind t x.behind rest (end-line x.is_line) (end-binding x.behind rest line.binding x.binds)
 
-end-close_name : (t : Text) → IsEnd t (close_name_at t).1
+end-close_name : (t : Text) → IsSuffix t (close_name_at t).1
 end-close_name t = ((close_name_at t).0, close_name-whole t)
 
-end-comment : (t kept rest : Text) → IsComment t kept rest → IsEnd t rest
+end-comment : (t kept rest : Text) → IsComment t kept rest → IsSuffix t rest
 end-comment t _ _ (long body whole is) = (body, whole)
 end-comment t _ _ (compact body whole none is) = (body, whole)
 
-end-says : (k : TagKind) (t : Text) (tag : Tag) (rest : Text) → Says k t tag rest → IsEnd t rest
+end-says : (k : TagKind) (t : Text) (tag : Tag) (rest : Text) → Says k t tag rest → IsSuffix t rest
 end-says expression_kind t tag rest h = let s = said expression_kind t tag rest h in end-line s.is
 end-says html_kind t tag rest h = let s = said html_kind t tag rest h in end-line s.is
 end-says html_sign_kind t tag rest h = let s = said html_sign_kind t tag rest h in end-line s.is
 end-says block_kind t tag rest h = let s = said block_kind t tag rest h in end-block t rest s.line s.is
-end-says close_kind t tag rest h = let s = said close_kind t tag rest h in subst (IsEnd t) (sym s.rests) (end-close_name t)
-end-says inverse_kind t tag rest h = let s = said inverse_kind t tag rest h in subst (IsEnd t) (sym s.rests) (end-all t)
+end-says close_kind t tag rest h = let s = said close_kind t tag rest h in subst (IsSuffix t) (sym s.rests) (end-close_name t)
+end-says inverse_kind t tag rest h = let s = said inverse_kind t tag rest h in subst (IsSuffix t) (sym s.rests) (end-all t)
 end-says else_kind t tag rest h = elim (said else_kind t tag rest h) [
-  | inl s ↦ subst (IsEnd t) (sym s.rests) (end-all t)
+  | inl s ↦ subst (IsSuffix t) (sym s.rests) (end-all t)
   | inr s ↦ end-behind t (behind_white t) rest (end-white t) (end-block (behind_white t) rest s.said.line s.said.is)
 ]
 end-says raw_kind t tag rest h = let s = said raw_kind t tag rest h in end-block t rest s.line s.is
-end-says raw_close_kind t tag rest h = let s = said raw_close_kind t tag rest h in subst (IsEnd t) (sym s.said.rests) (end-drop (prefix_len is_symbol t) t)
+end-says raw_close_kind t tag rest h = let s = said raw_close_kind t tag rest h in subst (IsSuffix t) (sym s.said.rests) (end-drop (prefix_len is_symbol t) t)
 end-says decorator_kind t tag rest h = let s = said decorator_kind t tag rest h in end-block t rest s.said.line s.said.is
 end-says decorator_block_kind t tag rest h = let s = said decorator_block_kind t tag rest h in end-block t rest s.said.line s.said.is
 end-says partial_kind t tag rest h = let s = said partial_kind t tag rest h in end-line s.is
 end-says partial_block_kind t tag rest h = let s = said partial_block_kind t tag rest h in end-line s.is
 end-says comment_kind t tag rest h = let s = said comment_kind t tag rest h in end-comment t s.kept rest s.is
 
-pub end-closed : (k : TagKind) (t : Text) (tag : Tag) (right : Bool) (rest : Text) → IsClosed k t tag right rest → IsEnd t rest
+pub end-closed : (k : TagKind) (t : Text) (tag : Tag) (right : Bool) (rest : Text) → IsClosed k t tag right rest → IsSuffix t rest
 end-closed k t tag right rest h = end-behind t h.behind rest (end-says k t tag h.behind h.says) (end-closing k h.behind (right, rest) h.closes)

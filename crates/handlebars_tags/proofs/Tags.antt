@@ -2,7 +2,7 @@
 use Rattle.std.proofs.Common.{◌≡◌, Bool, ◌++◌, Some, None, refl, sym, ap, subst, ◌∙◌}
 use Rattle.std.proofs.lemmas.Option.{same_Some, none-some}
 use Rattle.handlebars_base.specs.Bytes.{Text}
-use Rattle.handlebars_base.specs.Texts.{IsEnd}
+use Rattle.handlebars_base.specs.Texts.{IsSuffix}
 use Rattle.handlebars_base.proofs.Ends.{end-behind}
 use Rattle.handlebars_tags.specs.Kind.{TagBeginning, beginning_of}
 use Rattle.handlebars_tags.specs.Tag.{Tag, Tildes, IsTag, NoTag}
@@ -34,7 +34,7 @@ none-inside left b e none slice rest t tildes whole is =
 
 -- ---- what is read
 
-pub end-inside : (left : Text) (b : TagBeginning) (i : Inside) → beginning_of left ≡ Some b → HasInside b.kind b.inside i → IsEnd left i.rest.now
+pub end-inside : (left : Text) (b : TagBeginning) (i : Inside) → beginning_of left ≡ Some b → HasInside b.kind b.inside i → IsSuffix left i.rest.now
 end-inside left b i e h = end-behind left b.inside i.rest.now (begun left b e).end (end-closed b.kind b.inside h.tag i.right i.rest.now h.is)
 
 pub tag_read : (left : Text) (b : TagBeginning) (i : Inside) (long_ahead : Bool) → beginning_of left ≡ Some b → HasInside b.kind b.inside i

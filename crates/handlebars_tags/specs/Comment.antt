@@ -2,16 +2,16 @@
 use Rattle.std.specs.Prelude.{◌≡◌, Bool, false, ℕ, zero, suc, [], ◌∷◌, ◌++◌, length, reverse, Option, Some, None, codes}
 use Rattle.handlebars_base.specs.Bytes.{Text, behind_white}
 use Rattle.handlebars_base.specs.Optional.{◌>>=◌, with_or}
-use Rattle.handlebars_tags.specs.Kind.{past}
+use Rattle.handlebars_tags.specs.Kind.{behind_text}
 
 -- what follows the first such mark
 abbrev pub behind_mark : Text → Text → Option Text
 behind_mark mark [] = None
-behind_mark mark (b ∷ t) = with_or (past mark (b ∷ t)) Some (behind_mark mark t)
+behind_mark mark (b ∷ t) = with_or (behind_text mark (b ∷ t)) Some (behind_mark mark t)
 
 -- A long comment: white or none, two dashes, and a text up to the next `--}}`.
 abbrev pub behind_long : Text → Option Text
-behind_long t = past (codes "--") (behind_white t) >>= behind_mark (codes "--}}")
+behind_long t = behind_text (codes "--") (behind_white t) >>= behind_mark (codes "--}}")
 
 -- A compact comment: a text up to the next `}}`.
 abbrev pub behind_compact : Text → Option Text
@@ -20,7 +20,7 @@ behind_compact t = behind_mark (codes "}}") t
 -- less the mark in front, as often as it stands there
 abbrev pub without_fronts : ℕ → Text → Text → Text
 without_fronts zero mark t = t
-without_fronts (suc n) mark t = with_or (past mark t) (without_fronts n mark) t
+without_fronts (suc n) mark t = with_or (behind_text mark t) (without_fronts n mark) t
 
 abbrev pub without_front : Text → Text → Text
 without_front mark t = without_fronts (length t) mark t

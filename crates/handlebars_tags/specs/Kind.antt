@@ -2,13 +2,13 @@
 use Rattle.std.specs.Prelude.{Bool, true, false, ◌||◌, ◌==◌, if◌then◌else◌, List, [], ◌∷◌, Option, Some, None, codes, is_some}
 use Rattle.handlebars_base.specs.Bytes.{Text, right_brace, is_white, behind_white}
 use Rattle.handlebars_base.specs.Optional.{◌>>=◌, with_or}
-use Rattle.handlebars_base.specs.Texts.{starts, after}
+use Rattle.handlebars_base.specs.Texts.{starts, behind_byte}
 use Rattle.handlebars_lines.specs.Line.{tilde}
 
 -- what follows a mark of several bytes
-abbrev pub past : Text → Text → Option Text
-past [] t = Some t
-past (b ∷ mark) t = after b t >>= past mark
+abbrev pub behind_text : Text → Text → Option Text
+behind_text [] t = Some t
+behind_text (b ∷ mark) t = behind_byte b t >>= behind_text mark
 
 -- a value, escaped, raw by its braces, or raw by a sign; the beginning of a block, its end, its inverse, or `else`,
 -- which is its inverse too or, with the line of a block, a chained one; the beginning of a raw block, or its end; a
@@ -40,7 +40,7 @@ beginning kind tilde inside = record { kind = kind; tilde = tilde; inside = insi
 
 -- white or none, and a tilde with white or none behind it, where one stands there
 abbrev pub tilde_at : Text → Bool × Text
-tilde_at t = with_or (after tilde (behind_white t)) (λ r. (true, behind_white r)) (false, behind_white t)
+tilde_at t = with_or (behind_byte tilde (behind_white t)) (λ r. (true, behind_white r)) (false, behind_white t)
 
 -- ---- the table of kinds
 
@@ -91,22 +91,22 @@ rows =
 -- whether a tilde stands there, and what follows it
 abbrev pub behind_tilde : Tilde → Text → Option (Bool × Text)
 behind_tilde maybe_tilde t = Some (tilde_at t)
-behind_tilde a_tilde t = after tilde (behind_white t) >>= λ r. Some (true, behind_white r)
+behind_tilde a_tilde t = behind_byte tilde (behind_white t) >>= λ r. Some (true, behind_white r)
 behind_tilde no_tilde t = Some (false, t)
 
 -- white, a tilde or closing braces, before which a word ends
 abbrev pub ends_word : Text → Bool
-ends_word t = starts (λ b. is_white b || (b == tilde)) t || is_some (past (codes "}}") t)
+ends_word t = starts (λ b. is_white b || (b == tilde)) t || is_some (behind_text (codes "}}") t)
 
 abbrev pub behind_sign : Sign → Text → Option Text
 behind_sign no_sign t = Some t
-behind_sign (mark m) t = past m t >>= λ r. Some (behind_white r)
-behind_sign (word w) t = past w t >>= λ r. if ends_word r then Some r else None
+behind_sign (mark m) t = behind_text m t >>= λ r. Some (behind_white r)
+behind_sign (word w) t = behind_text w t >>= λ r. if ends_word r then Some r else None
 
 -- the beginning that a row is
 abbrev pub row_at : Row → Text → Option TagBeginning
 row_at row t =
-    past row.braces t >>= behind_tilde row.tilde >>=
+    behind_text row.braces t >>= behind_tilde row.tilde >>=
     λ p. behind_sign row.sign p.1 >>= λ inside. Some (beginning row.kind p.0 inside)
 
 -- that of the first row that stands in front
@@ -122,13 +122,13 @@ beginning_of t = first_of rows t
 
 -- these braces behind a tilde, if any: whether one stood there, and what follows
 abbrev pub close_by : Text → Text → Option (Bool × Text)
-close_by braces t = past braces (tilde_at t).1 >>= λ r. Some ((tilde_at t).0, r)
+close_by braces t = behind_text braces (tilde_at t).1 >>= λ r. Some ((tilde_at t).0, r)
 
 -- one brace, a tilde, and two braces
 abbrev pub brace_tilde_braces : Text → Option (Bool × Text)
 brace_tilde_braces t =
-    after right_brace (behind_white t) >>= λ r. after tilde (behind_white r) >>=
-    λ s. past (codes "}}") (behind_white s) >>= λ u. Some (true, u)
+    behind_byte right_brace (behind_white t) >>= λ r. behind_byte tilde (behind_white r) >>=
+    λ s. behind_text (codes "}}") (behind_white s) >>= λ u. Some (true, u)
 
 -- three braces behind a tilde, if any, or with a tilde between the first and the others
 abbrev pub three_close : Text → Option (Bool × Text)

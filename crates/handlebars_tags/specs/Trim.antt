@@ -3,7 +3,7 @@ use Rattle.std.specs.Prelude.{◌≡◌, ℕ, ◌-◌, Bool, true, false, ◌==�
 use Rattle.std.specs.List.{fold, suffix_len, list_all}
 use Rattle.handlebars_base.specs.Bytes.{Text, space, tab, newline, carriage_return, is_white}
 use Rattle.handlebars_base.specs.Optional.{◌>>=◌, with_or}
-use Rattle.handlebars_base.specs.Texts.{after}
+use Rattle.handlebars_base.specs.Texts.{behind_byte}
 use Rattle.handlebars_tags.specs.Options.{Options}
 use Rattle.handlebars_tags.specs.Text.{Braces, two_braces, four_braces}
 use Rattle.handlebars_tags.specs.Tag.{Tag, expression_tag, html_tag, raw_tag, partial_tag, Tildes}
@@ -139,7 +139,7 @@ behind_blanks (b ∷ t) = if is_blank b then behind_blanks t else b ∷ t
 
 -- one `\n` or `\r\n` in front goes
 abbrev pub behind_break : Text → Text
-behind_break t = with_or (after newline t) (λ r. r) (with_or (after carriage_return t >>= after newline) (λ r. r) t)
+behind_break t = with_or (behind_byte newline t) (λ r. r) (with_or (behind_byte carriage_return t >>= behind_byte newline) (λ r. r) t)
 
 -- After a tilde all white goes, as Unicode has it; else after a tag that stands alone spaces and tabs, and one line's
 -- end.

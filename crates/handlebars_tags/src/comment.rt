@@ -3,8 +3,8 @@
 ghost use Rattle.std.specs.Prelude.{◌≡◌, ◌<◌, ◌++◌, None, IfSome, MatchOption, codes, drop, length, Some};
 ghost use Rattle.std.specs.Option.{option_map};
 ghost use Rattle.handlebars_base.specs.Bytes.{behind_white};
-ghost use Rattle.handlebars_base.specs.Texts.{IsEnd};
-ghost use Rattle.handlebars_tags.specs.Kind.{past};
+ghost use Rattle.handlebars_base.specs.Texts.{IsSuffix};
+ghost use Rattle.handlebars_tags.specs.Kind.{behind_text};
 ghost use Rattle.handlebars_tags.specs.Comment.{behind_mark, behind_long, long_text, compact_text, HasNoLong, IsComment, NoComment};
 
 use handlebars_base::json::path::marks::behind_white;
@@ -20,7 +20,7 @@ pub struct CommentSlice<'a> {
 /// The comment in front of a source, which begins with `{{!`. Once a search for the end of a long one was in vain,
 /// none is made any more; so all comments of a source take time linear in it.
 pub fn split_comment<'a>(source: &'a str, long_ahead: bool) -> Option<CommentSlice<'a>>
-    requires begins { past (codes "{{!") source.now ≡ Some (drop 3 source.now) }
+    requires begins { behind_text (codes "{{!") source.now ≡ Some (drop 3 source.now) }
     requires ahead { HasNoLong long_ahead source.now }
     ensures comment { MatchOption result (NoComment (drop 3 source.now))
         (λ slice. IsComment (drop 3 source.now) slice.text.now slice.rest.now) }
@@ -43,7 +43,7 @@ fn compact_comment<'a>(
     inside: &'a str,
     long_ahead: bool,
 ) -> Option<CommentSlice<'a>>
-    requires begins { past (codes "{{!") source.now ≡ Some inside.now }
+    requires begins { behind_text (codes "{{!") source.now ≡ Some inside.now }
     requires none { behind_long inside.now ≡ None }
     requires ahead { HasNoLong long_ahead inside.now }
     ensures comment { MatchOption result (NoComment inside.now)
@@ -79,7 +79,7 @@ fn behind_long<'a>(inside: &'a str, long_ahead: bool) -> Option<&'a str>
 
 // What follows the dashes that begin a long comment.
 fn behind_dashes(inside: &str) -> Option<&str>
-    ensures { option_map (λ rest. rest.now) result ≡ past (codes "--") (behind_white inside.now) }
+    ensures { option_map (λ rest. rest.now) result ≡ behind_text (codes "--") (behind_white inside.now) }
 {
     behind_white(inside).strip_prefix("--")
 }
@@ -97,7 +97,7 @@ fn behind_mark<'a>(mark: &str, text: &'a str) -> Option<&'a str>
 
 // What stands before the rest of a source.
 fn before<'a>(source: &'a str, rest: &str) -> &'a str
-    requires { IsEnd source.now rest.now }
+    requires { IsSuffix source.now rest.now }
     ensures { source.now ≡ result.now ++ rest.now }
 {
     source.split_at(source.len() - rest.len()).0

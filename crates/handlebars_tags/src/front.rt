@@ -2,14 +2,14 @@
 
 ghost use Rattle.std.specs.Prelude.{◌≡◌};
 ghost use Rattle.std.specs.Option.{option_map};
-ghost use Rattle.handlebars_tags.specs.Kind.{past, tilde_at};
+ghost use Rattle.handlebars_tags.specs.Kind.{behind_text, tilde_at};
 ghost use Rattle.handlebars_tags.specs.KindView.{tilded};
 
-use handlebars_base::json::path::marks::{after, behind_white};
+use handlebars_base::json::path::marks::{behind_byte, behind_white};
 
 /// What follows a mark, where it stands at the front.
-pub fn past<'a>(mark: &str, text: &'a str) -> Option<&'a str>
-    ensures { option_map (λ rest. rest.now) result ≡ past mark.now text.now }
+pub fn behind_text<'a>(mark: &str, text: &'a str) -> Option<&'a str>
+    ensures { option_map (λ rest. rest.now) result ≡ behind_text mark.now text.now }
 {
     text.strip_prefix(mark)
 }
@@ -19,7 +19,7 @@ pub fn tilde_at(text: &str) -> (bool, &str)
     ensures { tilded result ≡ tilde_at text.now }
 {
     let dark = behind_white(text);
-    match after(b'~', dark) {
+    match behind_byte(b'~', dark) {
         Some(rest) => (true, behind_white(rest)),
         None => (false, dark),
     }

@@ -3,14 +3,14 @@
 ghost use Rattle.std.specs.Prelude.{◌≡◌, None, ◌<◌, length, true, slice_index};
 ghost use Rattle.std.specs.List.{fold, list_all};
 ghost use Rattle.handlebars_base.specs.Bytes.{newline, is_white};
-ghost use Rattle.handlebars_base.specs.Texts.{starts, after};
+ghost use Rattle.handlebars_base.specs.Texts.{starts, behind_byte};
 ghost use Rattle.handlebars_tags.specs.TextView.{braces_of};
 ghost use Rattle.handlebars_tags.specs.Options.{Options};
 ghost use Rattle.handlebars_tags.specs.Trim.{is_blank, is_break, is_fresh_behind, breaks, is_ended, dark_len, before_blanks, last_blanks, no_edge, edge_at, braces_behind, behind_blanks, behind_break, trimmed_start, drops_blanks, trimmed_end, trimmed, has_element};
 ghost use Rattle.handlebars_tags.specs.TrimView.{edge_view};
 
 use crate::text::Braces;
-use handlebars_base::json::path::marks::{after, is_white};
+use handlebars_base::json::path::marks::{behind_byte, is_white};
 
 /// What a tag does to the texts beside it: whether it stands alone on its line, or may do so; the blanks directly
 /// before it; whether it has a tilde on its left and on its right; whether a raw block's text follows it; and whether
@@ -129,7 +129,7 @@ fn behind_blanks(text: &str) -> &str
 fn behind_break(text: &str) -> &str
     ensures { result.now ≡ behind_break text.now }
 {
-    match after(b'\n', text) {
+    match behind_byte(b'\n', text) {
         Some(rest) => rest,
         None => behind_return(text),
     }
@@ -137,11 +137,11 @@ fn behind_break(text: &str) -> &str
 
 // Behind `\r\n`, if it stands in front, where no `\n` does.
 fn behind_return(text: &str) -> &str
-    requires { after newline text.now ≡ None }
+    requires { behind_byte newline text.now ≡ None }
     ensures { result.now ≡ behind_break text.now }
 {
-    match after(b'\r', text) {
-        Some(rest) => match after(b'\n', rest) {
+    match behind_byte(b'\r', text) {
+        Some(rest) => match behind_byte(b'\n', rest) {
             Some(behind) => behind,
             None => text,
         },

@@ -6,7 +6,7 @@ use Rattle.std.proofs.lemmas.Bool.{cases_Bool, eqb-true, eqb-false}
 use Rattle.std.proofs.lemmas.Option.{none-some}
 use borrow.Author.Tests.{ltb-true, ltb-false}
 use Rattle.handlebars_base.specs.Bytes.{Text}
-use Rattle.handlebars_base.specs.Texts.{after}
+use Rattle.handlebars_base.specs.Texts.{behind_byte}
 use Rattle.handlebars_tags.specs.Text.{IsText}
 use Rattle.handlebars_tags.specs.Kind.{beginning_of}
 use Rattle.handlebars_tags.specs.Trim.{Edge, no_edge, braces_behind}
@@ -14,7 +14,7 @@ use Rattle.handlebars_tags.proofs.OneText.{one_text}
 use Rattle.handlebars_tags.proofs.OneTag.{one_tag}
 use Rattle.handlebars_tags.specs.Options.{Options}
 use Rattle.handlebars_template.specs.Place.{place}
-use Rattle.handlebars_template.specs.Cut.{Slice, text_slice, tag_slice, may_follow, TextAndTag, slices_of, Reads, starts, goes_on, IsCut, spelled, CutsJoin, OneCut}
+use Rattle.handlebars_template.specs.Cut.{Slice, text_slice, tag_slice, may_follow, TextAndTag, slices_of, Reads, starts, goes_on, IsCut, spelled_slices, CutsJoin, OneCut}
 use Rattle.handlebars_template.specs.Compile.{NoTagBehind}
 
 append-left_cancel : (b x y : Text) → b ++ x ≡ b ++ y → x ≡ y
@@ -146,7 +146,7 @@ nil-cons : (b : ℕ) (t : Text) → [] ≡ b ∷ t → ⊥
 nil-cons b t is = absurd cc
 
 beginning_of-nil : beginning_of [] ≡ None
-unfolding beginning_of after
+unfolding beginning_of behind_byte
 beginning_of-nil = refl
 
 nothing_there : (e : Edge) → NoTagBehind e []
@@ -168,19 +168,19 @@ one_cut s o ps qs a b =
     let all : a.slices ++ (text_slice (place a.before) a.edge a.text a.kept no_edge ∷ []) ≡ b.slices ++ (text_slice (place b.before) b.edge b.text b.kept no_edge ∷ []) = cc in
     a.gives ∙ all ∙ sym b.gives
 
-spelled-append : (ps qs : List Slice) → spelled (ps ++ qs) ≡ spelled ps ++ spelled qs
-spelled-append [] qs = refl
-spelled-append (text_slice p e slice kept n ∷ ps) qs = ap (λ (z : Text). slice ++ z) (spelled-append ps qs) ∙ sym (append_assoc slice (spelled ps) (spelled qs))
-spelled-append (tag_slice p slice t e ∷ ps) qs = ap (λ (z : Text). slice ++ z) (spelled-append ps qs) ∙ sym (append_assoc slice (spelled ps) (spelled qs))
+spelled_slices-append : (ps qs : List Slice) → spelled_slices (ps ++ qs) ≡ spelled_slices ps ++ spelled_slices qs
+spelled_slices-append [] qs = refl
+spelled_slices-append (text_slice p e slice kept n ∷ ps) qs = ap (λ (z : Text). slice ++ z) (spelled_slices-append ps qs) ∙ sym (append_assoc slice (spelled_slices ps) (spelled_slices qs))
+spelled_slices-append (tag_slice p slice t e ∷ ps) qs = ap (λ (z : Text). slice ++ z) (spelled_slices-append ps qs) ∙ sym (append_assoc slice (spelled_slices ps) (spelled_slices qs))
 
-Reads-spelled : {s : Text} {o : Options} {b : Text} {e : Edge} {ps : List Slice} → Reads s o b e ps → spelled ps ≡ b
-Reads-spelled starts = refl
-Reads-spelled (goes_on {before = b} {ps = ps} r x) =
-    spelled-append ps (slices_of x) ∙ ap (λ (z : Text). z ++ (x.text ++ (x.slice ++ []))) (Reads-spelled r)
+Reads-spelled_slices : {s : Text} {o : Options} {b : Text} {e : Edge} {ps : List Slice} → Reads s o b e ps → spelled_slices ps ≡ b
+Reads-spelled_slices starts = refl
+Reads-spelled_slices (goes_on {before = b} {ps = ps} r x) =
+    spelled_slices-append ps (slices_of x) ∙ ap (λ (z : Text). z ++ (x.text ++ (x.slice ++ []))) (Reads-spelled_slices r)
     ∙ ap (λ (z : Text). b ++ (x.text ++ z)) (append-nil x.slice)
 
 pub cuts_join : CutsJoin
 cuts_join s o ps c =
-    ap spelled c.gives ∙ spelled-append c.slices (text_slice (place c.before) c.edge c.text c.kept no_edge ∷ [])
-    ∙ ap (λ (z : Text). z ++ (c.text ++ [])) (Reads-spelled c.begins)
+    ap spelled_slices c.gives ∙ spelled_slices-append c.slices (text_slice (place c.before) c.edge c.text c.kept no_edge ∷ [])
+    ∙ ap (λ (z : Text). z ++ (c.text ++ [])) (Reads-spelled_slices c.begins)
     ∙ ap (λ (z : Text). c.before ++ z) (append-nil c.text) ∙ sym c.whole

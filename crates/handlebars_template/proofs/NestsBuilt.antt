@@ -6,7 +6,7 @@ use Rattle.std.proofs.lemmas.List.{reverse-append, map-append}
 use Rattle.handlebars_template.specs.Place.{Place}
 use Rattle.handlebars_template.specs.Tree.{Element, Body}
 use Rattle.handlebars_template.specs.TreeView.{place_of, element_view}
-use Rattle.handlebars_template.specs.Nest.{Opening, Placed, Branch, block_call, inverse_of, is_chain}
+use Rattle.handlebars_template.specs.Nest.{Opening, PlacedElement, Branch, block_call, inverse_of, is_chain}
 use Rattle.handlebars_template.specs.NestView.{paired, branch_view, open_block_view, stack_view}
 use Rattle.handlebars_template.specs.declared.template.tree.TemplateMapping.{TemplateMapping}
 use Rattle.handlebars_template.specs.declared.template.tree.TemplateElement.{TemplateElement}
@@ -24,7 +24,7 @@ inverse_of_pop bs b last = rw (map-append) (inverse_of-append (map branch_view b
 pub stack_view_push : (os : List BuiltBlock) (o : BuiltBlock) → stack_view (os ++ o ∷ []) ≡ open_block_view o ∷ stack_view os
 stack_view_push os o = rw (map-append) (reverse-append (map open_block_view os) (open_block_view o ∷ []))
 
-pub block_call-along : {i j : Body} {b c : Bool} (o : Opening) (first : List Placed) → i ≡ j → b ≡ c → block_call o first i b ≡ block_call o first j c
+pub block_call-along : {i j : Body} {b c : Bool} (o : Opening) (first : List PlacedElement) → i ≡ j → b ≡ c → block_call o first i b ≡ block_call o first j c
 block_call-along o first inverses chains = rw (inverses, chains) refl
 
 pub is_chain-view : (bs : List BuiltBranch) → not (length bs == 0) ≡ is_chain (map branch_view bs)
@@ -39,17 +39,17 @@ paired_push [] [] e m h = refl
 paired_push [] (n ∷ ms) e m h = absurd (omega arith)
 paired_push (f ∷ es) [] e m h = absurd (omega arith)
 paired_push (f ∷ es) (n ∷ ms) e m h =
-    ap (λ (z : List Placed). record { place = place_of n; element = element_view f } ∷ z) (paired_push es ms e m (omega arith))
+    ap (λ (z : List PlacedElement). record { place = place_of n; element = element_view f } ∷ z) (paired_push es ms e m (omega arith))
 
 pub paired_elements : (es : List TemplateElement) (ms : List TemplateMapping) → length es ≡ length ms
-    → map (λ (x : Placed). x.element) (paired es ms) ≡ map element_view es
+    → map (λ (x : PlacedElement). x.element) (paired es ms) ≡ map element_view es
 paired_elements [] [] h = refl
 paired_elements [] (n ∷ ms) h = absurd (omega arith)
 paired_elements (f ∷ es) [] h = absurd (omega arith)
 paired_elements (f ∷ es) (n ∷ ms) h = ap (λ (z : List Element). element_view f ∷ z) (paired_elements es ms (omega arith))
 
 pub paired_places : (es : List TemplateElement) (ms : List TemplateMapping) → length es ≡ length ms
-    → map (λ (x : Placed). x.place) (paired es ms) ≡ map place_of ms
+    → map (λ (x : PlacedElement). x.place) (paired es ms) ≡ map place_of ms
 paired_places [] [] h = refl
 paired_places [] (n ∷ ms) h = absurd (omega arith)
 paired_places (f ∷ es) [] h = absurd (omega arith)

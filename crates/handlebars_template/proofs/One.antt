@@ -9,7 +9,7 @@ use Rattle.handlebars_tags.specs.Trim.{Edge, no_edge, braces_behind}
 use Rattle.handlebars_tags.proofs.Runs.{braces-none}
 use Rattle.handlebars_tags.specs.Options.{Options}
 use Rattle.handlebars_template.specs.Place.{Place, place}
-use Rattle.handlebars_template.specs.Nest.{SourcePiece, NestFault, Placed, syntax_alone, names_and_literals, Nests, Refuses, LeavesOpen, left_open as still_open}
+use Rattle.handlebars_template.specs.Nest.{SourcePiece, NestFault, PlacedElement, syntax_alone, names_and_literals, Nests, Refuses, LeavesOpen, left_open as still_open}
 use Rattle.handlebars_template.specs.Cut.{Slice, text_slice, Reads, IsCut}
 use Rattle.handlebars_template.specs.Compile.{pieces_in, tree_of, unreadable_tag, refusal_for, IsUnreadable, Compilation, compiled, refused, Compiles, whole, no_tag, misplaced, left_open, late, OneCompilation}
 use Rattle.handlebars_template.proofs.NestsSteps.{Refuses-append}
@@ -25,13 +25,13 @@ refuses_more options f ps more h = subst (λ (z : List SourcePiece). Refuses syn
 
 -- what the pieces of a whole source say
 data Verdict (options : Options) (ps : List SourcePiece) : Compilation → Type 0 where
-  nests : {es : List Placed} → Nests names_and_literals 0 ps es → Verdict options ps (compiled (tree_of options es))
+  nests : {es : List PlacedElement} → Nests names_and_literals 0 ps es → Verdict options ps (compiled (tree_of options es))
   open_block : {f : NestFault} → LeavesOpen syntax_alone ps f → Verdict options ps (refused (refusal_for options f))
-  late_fault : {es : List Placed} {f : NestFault} → Nests syntax_alone 0 ps es → Refuses names_and_literals ps f
+  late_fault : {es : List PlacedElement} {f : NestFault} → Nests syntax_alone 0 ps es → Refuses names_and_literals ps f
       → Verdict options ps (refused (refusal_for options f))
 
 one_verdict : (options : Options) (ps : List SourcePiece) (a b : Compilation) → Verdict options ps a → Verdict options ps b → a ≡ b
-one_verdict options ps a b (nests h) (nests k) = ap (λ (z : List Placed). compiled (tree_of options z)) (Nests-one h k)
+one_verdict options ps a b (nests h) (nests k) = ap (λ (z : List PlacedElement). compiled (tree_of options z)) (Nests-one h k)
 one_verdict options ps a b (nests h) (open_block k) = absurd (Nests-LeavesOpen (Nests-loose h) k)
 one_verdict options ps a b (nests h) (late_fault n k) = absurd (Nests-Refuses h k)
 one_verdict options ps a b (open_block h) (nests k) = absurd (Nests-LeavesOpen (Nests-loose k) h)

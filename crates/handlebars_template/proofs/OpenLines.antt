@@ -11,7 +11,7 @@ use Rattle.handlebars_lines.specs.Parameter.{Term, literal_term, path_term, name
 use Rattle.handlebars_lines.specs.LineReading.{OpenLine, joined, add_term, OpenLines, added_in, closed_in}
 use Rattle.handlebars_lines.specs.WorthReading.{worth_of}
 use Rattle.handlebars_template.specs.Tree.{expression, Param, name, path, literal, subexpression, Args}
-use Rattle.handlebars_template.specs.Calls.{add_argument, called, param_of, arguments_in, literals_of, literals_in, first_refused}
+use Rattle.handlebars_template.specs.Calls.{add_argument, call_with, param_of, arguments_in, literals_of, literals_in, first_refused}
 use Rattle.handlebars_template.specs.LineBuildingView.{OpenCall, OpenCalls, open_call_of, open_literals, literals_so_far, is_in_order, AreInOrder, AreCallsOf, IsTaken}
 
 abbrev open_line : Option Text → Option Term → Terms → OpenLine
@@ -137,7 +137,7 @@ rest_of [] = []
 rest_of (d ∷ ds) = ds
 
 abbrev pub as_term : OpenCall → Option Param
-as_term c = option_map (λ n. subexpression (expression (called n c.arguments))) c.name
+as_term c = option_map (λ n. subexpression (expression (call_with n c.arguments))) c.name
 
 -- the innermost call becomes a term of the one around it
 pub closed-call : (lines : OpenLines) (calls after : OpenCalls) (outer : OpenCall) (outermost : List OpenCall) (p : Param) → AreCallsOf lines calls

@@ -13,7 +13,7 @@ use Rattle.handlebars_tags.specs.Tag.{NoTag}
 use Rattle.handlebars_tags.specs.Trim.{Edge, no_edge, edge_of, braces_behind}
 use Rattle.handlebars_tags.specs.Options.{Options}
 use Rattle.handlebars_template.specs.Place.{place}
-use Rattle.handlebars_template.specs.Nest.{SourcePiece, NestFault, not_closed, Placed, Tried, syntax_alone, names_and_literals, Nests, nothing, none_open, Refuses, left_open as still_open}
+use Rattle.handlebars_template.specs.Nest.{SourcePiece, NestFault, not_closed, PlacedElement, Checks, syntax_alone, names_and_literals, Nests, nothing, none_open, Refuses, left_open as still_open}
 use Rattle.handlebars_template.specs.Machine.{BlockSoFar, Moved, goes, stops}
 use Rattle.handlebars_template.proofs.Machine.{apply}
 use Rattle.handlebars_template.specs.Cut.{Slice, text_slice, tag_slice, may_follow, TextAndTag, Reads, starts, goes_on, IsCut}
@@ -25,29 +25,29 @@ use Rattle.handlebars_template.proofs.Running.{TagFound, tag_at, tag_at-is, text
 
 -- ---- nesting
 
-abbrev Ran : Tried → List SourcePiece → Moved → Type 0
+abbrev Ran : Checks → List SourcePiece → Moved → Type 0
 Ran t ps (goes d fs es) = OpensSoFar t d ps fs es
 Ran t ps (stops f) = Refuses t ps f
 
-run-goes : (t : Tried) (x : SourcePiece) (xs : List SourcePiece) (d e : ℕ) (fs gs : List BlockSoFar) (es hs : List Placed) → apply t x d fs es ≡ goes e gs hs → run t (x ∷ xs) d fs es ≡ run t xs e gs hs
+run-goes : (t : Checks) (x : SourcePiece) (xs : List SourcePiece) (d e : ℕ) (fs gs : List BlockSoFar) (es hs : List PlacedElement) → apply t x d fs es ≡ goes e gs hs → run t (x ∷ xs) d fs es ≡ run t xs e gs hs
 run-goes t x xs d e fs gs es hs is = rw is refl
 
-run-stops : (t : Tried) (x : SourcePiece) (xs : List SourcePiece) (d : ℕ) (fs : List BlockSoFar) (es : List Placed) (f : NestFault) → apply t x d fs es ≡ stops f → run t (x ∷ xs) d fs es ≡ stops f
+run-stops : (t : Checks) (x : SourcePiece) (xs : List SourcePiece) (d : ℕ) (fs : List BlockSoFar) (es : List PlacedElement) (f : NestFault) → apply t x d fs es ≡ stops f → run t (x ∷ xs) d fs es ≡ stops f
 run-stops t x xs d fs es f is = rw is refl
 
-run-ran : (t : Tried) (xs ps : List SourcePiece) (d : ℕ) (fs : List BlockSoFar) (es : List Placed) → OpensSoFar t d ps fs es → Ran t (ps ++ xs) (run t xs d fs es)
+run-ran : (t : Checks) (xs ps : List SourcePiece) (d : ℕ) (fs : List BlockSoFar) (es : List PlacedElement) → OpensSoFar t d ps fs es → Ran t (ps ++ xs) (run t xs d fs es)
 run-ran t [] ps d fs es o = subst (λ (z : List SourcePiece). OpensSoFar t d z fs es) (sym (append-nil ps)) o
 run-ran t (x ∷ xs) ps d fs es o = on (apply t x d fs es) refl (run-ran t xs (ps ++ (x ∷ [])))
   where
     on : (m : Moved) → apply t x d fs es ≡ m
-        → ((e : ℕ) (gs : List BlockSoFar) (hs : List Placed) → OpensSoFar t e (ps ++ (x ∷ [])) gs hs → Ran t ((ps ++ (x ∷ [])) ++ xs) (run t xs e gs hs))
+        → ((e : ℕ) (gs : List BlockSoFar) (hs : List PlacedElement) → OpensSoFar t e (ps ++ (x ∷ [])) gs hs → Ran t ((ps ++ (x ∷ [])) ++ xs) (run t xs e gs hs))
         → Ran t (ps ++ (x ∷ xs)) (run t (x ∷ xs) d fs es)
     on (goes e gs hs) is again =
         subst (Ran t (ps ++ (x ∷ xs))) (sym (run-goes t x xs d e fs gs es hs is))
         (subst (λ (z : List SourcePiece). Ran t z (run t xs e gs hs)) (append_assoc ps (x ∷ []) xs) (again e gs hs (OpensSoFar-step x o is)))
     on (stops f) is again = subst (Ran t (ps ++ (x ∷ xs))) (sym (run-stops t x xs d fs es f is)) (Refuses-step x xs o is)
 
-ran : (t : Tried) (xs : List SourcePiece) → Ran t xs (run t xs 0 [] [])
+ran : (t : Checks) (xs : List SourcePiece) → Ran t xs (run t xs 0 [] [])
 ran t xs = run-ran t xs [] 0 [] [] (no_block nothing)
 
 -- ---- a reading
@@ -152,7 +152,7 @@ of_beginning options r (goes d fs es) = text_at (braces_behind r.edge) r.left >>
 abbrev pub answer : Options → ℕ → Spot → Option Compilation
 answer options n s = spot_at n s >>= λ r. of_beginning options r (run syntax_alone (pieces_in options r.slices) 0 [] [])
 
-nests_in : {t : Tried} {d : ℕ} {ps : List SourcePiece} {es : List Placed} → OpensSoFar t d ps [] es → Nests t 0 ps es
+nests_in : {t : Checks} {d : ℕ} {ps : List SourcePiece} {es : List PlacedElement} → OpensSoFar t d ps [] es → Nests t 0 ps es
 nests_in (no_block h) = h
 
 verdict-is : (options : Options) (source : Text) (ps : List Slice) (m k : Moved) (c : Compilation) → IsCut source options ps → Ran syntax_alone (pieces_in options ps) m → Ran names_and_literals (pieces_in options ps) k

@@ -8,7 +8,7 @@ use Rattle.handlebars_base.specs.Bytes.{Text, behind_white}
 use Rattle.handlebars_base.specs.Path.{Reference}
 use Rattle.handlebars_base.specs.PathReading.{path_of}
 use Rattle.handlebars_base.specs.Optional.{with_or}
-use Rattle.handlebars_base.specs.Texts.{after}
+use Rattle.handlebars_base.specs.Texts.{behind_byte}
 use Rattle.handlebars_lines.specs.Laws.{HasLiteral, NoLiteral}
 use Rattle.handlebars_lines.specs.LiteralReading.{LiteralSlice, literal_at}
 use Rattle.handlebars_lines.specs.Parameter.{Term, literal_term, path_term, call_term, IsParameter}
@@ -59,11 +59,11 @@ parses_refused text means depth raw h le worthless =
 pub nested_none : (inside : Text) → NoLine value_name in_parentheses (behind_white inside) → NoNested inside
 nested_none inside none text opens = nested-no_line text inside opens none
 
-pub nested_open : (inside left : Text) (depth : ℕ) → HasLine value_name in_parentheses (behind_white inside) depth left → None ≡ after 41 (behind_white left) → NoNested inside
+pub nested_open : (inside left : Text) (depth : ℕ) → HasLine value_name in_parentheses (behind_white inside) depth left → None ≡ behind_byte 41 (behind_white left) → NoNested inside
 nested_open inside left depth line none text opens =
     nested-goes_on text inside depth left opens line (λ e. none-some [] (none ∙ e))
 
-pub nested_more : (inside left rest : Text) (depth : ℕ) → HasLine value_name in_parentheses (behind_white inside) depth left → Some rest ≡ after 41 (behind_white left) → (length rest == 0) ≡ false → NoNested inside
+pub nested_more : (inside left rest : Text) (depth : ℕ) → HasLine value_name in_parentheses (behind_white inside) depth left → Some rest ≡ behind_byte 41 (behind_white left) → (length rest == 0) ≡ false → NoNested inside
 nested_more inside left rest depth line some more text opens =
     nested-goes_on text inside depth left opens line (λ e. eqb-false (length rest) 0 more (ap length (same_Some rest [] (some ∙ e))))
 
@@ -71,15 +71,15 @@ length-none : (t : Text) → (length t == 0) ≡ true → t ≡ []
 length-none [] e = refl
 length-none (x ∷ xs) e = let never = eqb-true (length (x ∷ xs)) 0 e in absurd (omega (arith, never))
 
-pub nested_is : (inside left rest : Text) (depth : ℕ) → HasLine value_name in_parentheses (behind_white inside) depth left → Some rest ≡ after 41 (behind_white left) → (length rest == 0) ≡ true → HasNested inside depth
+pub nested_is : (inside left rest : Text) (depth : ℕ) → HasLine value_name in_parentheses (behind_white inside) depth left → Some rest ≡ behind_byte 41 (behind_white left) → (length rest == 0) ≡ true → HasNested inside depth
 nested_is inside left rest depth line some none =
     record { left = left; line = line; closes = sym some ∙ ap (λ (z : Text). Some z) (length-none rest none) }
 
 -- the parameter that the line in parentheses is, one deeper than the line
-nested_parameter : (text inside : Text) (depth : ℕ) → after 40 text ≡ Some inside → (h : HasNested inside depth) → IsParameter text (call_term h.line.line.name h.line.line.terms) (suc depth)
+nested_parameter : (text inside : Text) (depth : ℕ) → behind_byte 40 text ≡ Some inside → (h : HasNested inside depth) → IsParameter text (call_term h.line.line.name h.line.line.terms) (suc depth)
 nested_parameter text inside depth opens h = nested-has text inside depth h.left opens h.line h.closes
 
-pub parses_deep : (text inside : Text) (depth : ℕ) → after 40 text ≡ Some inside → HasNested inside depth → 200 ≤ depth → Parses text (refused (invalid text))
+pub parses_deep : (text inside : Text) (depth : ℕ) → behind_byte 40 text ≡ Some inside → HasNested inside depth → 200 ≤ depth → Parses text (refused (invalid text))
 parses_deep text inside depth opens h deep =
     too_deep (call_term h.line.line.name h.line.line.terms) (suc depth) (nested_parameter text inside depth opens h) (omega (arith, deep))
 
@@ -90,13 +90,13 @@ BuildsInside inside read = (line : Line) (left : Text) → IsLine value_name in_
 pub parses_lost : {A : Type 0} (inside : Text) (depth : ℕ) → HasNested inside depth → BuildsInside inside None → A
 parses_lost inside depth h built = absurd (built h.line.line h.left h.line.is)
 
-pub parses_worthless : (text inside raw : Text) (depth : ℕ) (built : BuiltLine) → after 40 text ≡ Some inside → HasNested inside depth → depth < 200
+pub parses_worthless : (text inside raw : Text) (depth : ℕ) (built : BuiltLine) → behind_byte 40 text ≡ Some inside → HasNested inside depth → depth < 200
     → BuildsInside inside (Some built) → option_map (λ t. t.now) built.refused ≡ Some raw → Parses text (refused (invalid raw))
 parses_worthless text inside raw depth built opens h within builds worthless =
     let is : IsCallOf h.line.line built = builds h.line.line h.left h.line.is in
     parses_refused text (call_term h.line.line.name h.line.line.terms) (suc depth) raw (nested_parameter text inside depth opens h) (omega (arith, within)) (sym is.refused ∙ worthless)
 
-pub parses_call : (text inside : Text) (depth : ℕ) (built : BuiltLine) (p : Param) → after 40 text ≡ Some inside → HasNested inside depth → depth < 200
+pub parses_call : (text inside : Text) (depth : ℕ) (built : BuiltLine) (p : Param) → behind_byte 40 text ≡ Some inside → HasNested inside depth → depth < 200
     → BuildsInside inside (Some built) → option_map (λ t. t.now) built.refused ≡ None
     → p ≡ subexpression (expression (built_call built))
     → Parses text (parsed p)
@@ -107,7 +107,7 @@ parses_call text inside depth built p opens h within builds worth is =
 
 -- ---- a literal
 
-pub parses_front : (text : Text) (slice : LiteralSlice) → after 40 text ≡ None → HasLiteral text slice → (length slice.rest == 0) ≡ false → Parses text (refused (invalid text))
+pub parses_front : (text : Text) (slice : LiteralSlice) → behind_byte 40 text ≡ None → HasLiteral text slice → (length slice.rest == 0) ≡ false → Parses text (refused (invalid text))
 parses_front text slice closed h more =
     unreadable (single-goes_on text slice closed (literal_at-is text slice h) (λ e. eqb-false (length slice.rest) 0 more (ap length e)))
 
@@ -139,5 +139,5 @@ pub parses_path : (text : Text) (means : Reference) → NoLiteral text → Some 
 parses_path text means none is =
     parses_param text (path_term means) 0 (path means) (path-is text means (literal_at-missing text none) (sym is)) (omega arith) refl refl
 
-pub parses_none : (text : Text) → after 40 text ≡ None → NoLiteral text → None ≡ path_of text → Parses text (refused (invalid text))
+pub parses_none : (text : Text) → behind_byte 40 text ≡ None → NoLiteral text → None ≡ path_of text → Parses text (refused (invalid text))
 parses_none text closed none is = unreadable (single-no_path text closed (literal_at-missing text none) (sym is))

@@ -16,9 +16,9 @@ use Rattle.handlebars_tags.specs.Trim.{Edge, no_edge, is_fresh_behind, is_fresh,
 use Rattle.handlebars_tags.proofs.TagLengths.{length-tag}
 use Rattle.handlebars_tags.proofs.Blanks.{fresh-before_blanks}
 use Rattle.handlebars_tags.specs.Options.{Options}
-use Rattle.handlebars_template.specs.Place.{Place, origin, behind_char, behind, place}
+use Rattle.handlebars_template.specs.Place.{Place, origin, behind_char, place_behind, place}
 use Rattle.handlebars_template.specs.Tree.{raw_string}
-use Rattle.handlebars_template.specs.Nest.{SourcePiece, leaf, NestFault, Placed, syntax_alone, Refuses}
+use Rattle.handlebars_template.specs.Nest.{SourcePiece, leaf, NestFault, PlacedElement, syntax_alone, Refuses}
 use Rattle.handlebars_template.specs.Machine.{BlockSoFar, open_in, goes, stops}
 use Rattle.handlebars_template.proofs.Machine.{apply, late_after}
 use Rattle.handlebars_template.specs.Cut.{Slice, text_slice, tag_slice, may_follow, Reads, starts, goes_on, IsCut}
@@ -29,8 +29,8 @@ use Rattle.handlebars_template.proofs.NestsFits.{apply-fits, Fits-leaf}
 use Rattle.handlebars_template.proofs.NestsSteps.{Opens-shallow, OpensSoFar-opens}
 use Rattle.handlebars_template.proofs.NestsStates.{State, State-start, State-moves, State-stops, State-whole, State-late, State-open}
 
-pub behind-append : (p : Place) (x y : Text) → IsUtf8 x → behind p (x ++ y) ≡ behind (behind p x) y
-behind-append p x y h = ap (fold behind_char p) (chars-append x y h) ∙ fold-append behind_char p (chars x) (chars y)
+pub place_behind-append : (p : Place) (x y : Text) → IsUtf8 x → place_behind p (x ++ y) ≡ place_behind (place_behind p x) y
+place_behind-append p x y h = ap (fold behind_char p) (chars-append x y h) ∙ fold-append behind_char p (chars x) (chars y)
 
 pub pieces_in-append : (options : Options) (ps qs : List Slice) → pieces_in options (ps ++ qs) ≡ pieces_in options ps ++ pieces_in options qs
 pieces_in-append options [] qs = refl
@@ -39,28 +39,28 @@ pieces_in-append options (tag_slice p x t e ∷ ps) qs = ap (λ (z : List Source
 
 -- ---- a text
 
-State-none : {late : Option NestFault} {ps : List SourcePiece} {d : ℕ} {fs : List BlockSoFar} {es : List Placed} → State late ps d fs es → State late (ps ++ []) d fs (es ++ [])
+State-none : {late : Option NestFault} {ps : List SourcePiece} {d : ℕ} {fs : List BlockSoFar} {es : List PlacedElement} → State late ps d fs es → State late (ps ++ []) d fs (es ++ [])
 State-none {ps = ps} {es = es} s = rw (append-nil ps, append-nil es) s
 
-State-leaf : {late : Option NestFault} {ps : List SourcePiece} {d : ℕ} {fs : List BlockSoFar} {es : List Placed} → (p : Place) (x : Text) → State late ps d fs es
+State-leaf : {late : Option NestFault} {ps : List SourcePiece} {d : ℕ} {fs : List BlockSoFar} {es : List PlacedElement} → (p : Place) (x : Text) → State late ps d fs es
     → State late (ps ++ leaf p (raw_string x) 0 None ∷ []) d fs (es ++ record { place = p; element = raw_string x } ∷ [])
 State-leaf {late} {ps} {d} {fs} {es} p x s =
     subst (λ (z : Option NestFault). State z (ps ++ leaf p (raw_string x) 0 None ∷ []) d fs (es ++ record { place = p; element = raw_string x } ∷ [])) (option_or-none late)
     (State-moves (leaf p (raw_string x) 0 None) s (apply-fits syntax_alone (leaf p (raw_string x) 0 None) d fs es (Fits-leaf syntax_alone d (open_in fs) p (raw_string x) 0 None (omega (arith, Opens-shallow (OpensSoFar-opens s.loose))) refl)))
 
-State-when : {late : Option NestFault} {ps : List SourcePiece} {d : ℕ} {fs : List BlockSoFar} {es : List Placed} → (b : Bool) (p : Place) (x : Text) → State late ps d fs es
+State-when : {late : Option NestFault} {ps : List SourcePiece} {d : ℕ} {fs : List BlockSoFar} {es : List PlacedElement} → (b : Bool) (p : Place) (x : Text) → State late ps d fs es
     → State late (ps ++ (if b then leaf p (raw_string x) 0 None ∷ [] else [])) d fs (es ++ (if b then record { place = p; element = raw_string x } ∷ [] else []))
 State-when true p x s = State-leaf p x s
 State-when false p x s = State-none s
 
-State-text : {late : Option NestFault} {ps : List SourcePiece} {d : ℕ} {fs : List BlockSoFar} {es : List Placed} (options : Options) → (p : Place) (e : Edge) (x k : Text) (n : Edge) → State late ps d fs es
+State-text : {late : Option NestFault} {ps : List SourcePiece} {d : ℕ} {fs : List BlockSoFar} {es : List PlacedElement} (options : Options) → (p : Place) (e : Edge) (x k : Text) (n : Edge) → State late ps d fs es
     → State late (ps ++ text_pieces options p e x k n) d fs (es ++ text_placed options p e x k n)
 State-text options p e x k n s = State-when (has_element e x) p (trimmed options e k n) s
 
 -- ---- a beginning of the source
 
 -- Behind a beginning of the source, which ends with this edge, stands this text, and behind it what is left.
-pub record Scans (source : Text) (options : Options) (slice kept left : Text) (at : Place) (fresh : Bool) (e : Edge) (late : Option NestFault) (d : ℕ) (fs : List BlockSoFar) (es : List Placed) : Type 0 where
+pub record Scans (source : Text) (options : Options) (slice kept left : Text) (at : Place) (fresh : Bool) (e : Edge) (late : Option NestFault) (d : ℕ) (fs : List BlockSoFar) (es : List PlacedElement) : Type 0 where
   pub before : Text
   pub slices : List Slice
   pub begins : Reads source options before e slices
@@ -99,22 +99,22 @@ Reads-along : (source : Text) (options : Options) (before x k spelled : Text) (s
 Reads-along source options before x k spelled slices t at p q there e n m a b c h = rw (a, b, c) h
 
 -- where the code stands behind the text, what the text before it ends with, and what the tag does to it
-pub record TagStands {source : Text} {options : Options} {slice kept left : Text} {at : Place} {fresh : Bool} {e : Edge} {late : Option NestFault} {d : ℕ} {fs : List BlockSoFar} {es : List Placed}
+pub record TagStands {source : Text} {options : Options} {slice kept left : Text} {at : Place} {fresh : Bool} {e : Edge} {late : Option NestFault} {d : ℕ} {fs : List BlockSoFar} {es : List PlacedElement}
     (h : Scans source options slice kept left at fresh e late d fs es) (t : Tag) (tildes : Tildes) (spelled rest : Text) (q : Place) (mid : Bool) (n : Edge) : Type 0 where
   pub here : TagHere left e t tildes spelled rest
-  pub there : q ≡ behind at slice
+  pub there : q ≡ place_behind at slice
   pub lines : mid ≡ fold is_fresh_behind fresh slice
   pub edge : n ≡ edge_with mid (last_blanks slice) t tildes rest
 
-pub behind-place : {source : Text} {options : Options} {slice kept left : Text} {at : Place} {fresh : Bool} {e : Edge} {late : Option NestFault} {d : ℕ} {fs : List BlockSoFar} {es : List Placed}
-    → (h : Scans source options slice kept left at fresh e late d fs es) (q : Place) → q ≡ behind at slice → q ≡ place (h.before ++ slice)
-behind-place {slice = slice} h q is = is ∙ ap (λ (p : Place). behind p slice) h.there ∙ sym (behind-append origin h.before slice h.utf8)
+pub place_behind-place : {source : Text} {options : Options} {slice kept left : Text} {at : Place} {fresh : Bool} {e : Edge} {late : Option NestFault} {d : ℕ} {fs : List BlockSoFar} {es : List PlacedElement}
+    → (h : Scans source options slice kept left at fresh e late d fs es) (q : Place) → q ≡ place_behind at slice → q ≡ place (h.before ++ slice)
+place_behind-place {slice = slice} h q is = is ∙ ap (λ (p : Place). place_behind p slice) h.there ∙ sym (place_behind-append origin h.before slice h.utf8)
 
-fresh-place : {source : Text} {options : Options} {slice kept left : Text} {at : Place} {fresh : Bool} {e : Edge} {late : Option NestFault} {d : ℕ} {fs : List BlockSoFar} {es : List Placed}
+fresh-place : {source : Text} {options : Options} {slice kept left : Text} {at : Place} {fresh : Bool} {e : Edge} {late : Option NestFault} {d : ℕ} {fs : List BlockSoFar} {es : List PlacedElement}
     → (h : Scans source options slice kept left at fresh e late d fs es) (mid : Bool) → mid ≡ fold is_fresh_behind fresh slice → mid ≡ is_fresh (h.before ++ slice)
 fresh-place {slice = slice} h mid is = is ∙ ap (λ (b : Bool). fold is_fresh_behind b slice) h.lines ∙ sym (fold-append is_fresh_behind true h.before slice)
 
-TagStands-reads : {source : Text} {options : Options} {slice kept left : Text} {at : Place} {fresh : Bool} {e : Edge} {late : Option NestFault} {d : ℕ} {fs : List BlockSoFar} {es : List Placed}
+TagStands-reads : {source : Text} {options : Options} {slice kept left : Text} {at : Place} {fresh : Bool} {e : Edge} {late : Option NestFault} {d : ℕ} {fs : List BlockSoFar} {es : List PlacedElement}
     → (h : Scans source options slice kept left at fresh e late d fs es) (t : Tag) (tildes : Tildes) (spelled rest : Text) (q : Place) (mid : Bool) (n : Edge)
     → TagStands h t tildes spelled rest q mid n → Reads source options (h.before ++ (slice ++ spelled)) n (h.slices ++ pair_of at e slice kept q spelled t n)
 TagStands-reads {source} {options} {slice} {kept} {left} {at} {fresh} {e} h t tildes spelled rest q mid n turn =
@@ -133,7 +133,7 @@ TagStands-reads {source} {options} {slice} {kept} {left} {at} {fresh} {e} h t ti
       may_follow = turn.here.follows;
     }) in
     Reads-along source options (b ++ (slice ++ spelled)) slice kept spelled h.slices t at (place b) q (place (b ++ slice)) e n m
-    h.there (behind-place h q turn.there) (turn.edge ∙ ap (λ (z : Bool). edge_with z (last_blanks slice) t tildes rest) (fresh-place h mid turn.lines)) one
+    h.there (place_behind-place h q turn.there) (turn.edge ∙ ap (λ (z : Bool). edge_with z (last_blanks slice) t tildes rest) (fresh-place h mid turn.lines)) one
 
 -- the pieces behind the text and the tag
 pieces_in-pair : (options : Options) (ps : List Slice) (p : Place) (e : Edge) (x k : Text) (q : Place) (spelled : Text) (t : Tag) (n : Edge)
@@ -141,18 +141,18 @@ pieces_in-pair : (options : Options) (ps : List Slice) (p : Place) (e : Edge) (x
 pieces_in-pair options ps p e x k q spelled t n = pieces_in-append options ps (pair_of p e x k q spelled t n) ∙ sym (append_assoc (pieces_in options ps) (text_pieces options p e x k n) (tag_piece options q n t ∷ []))
 
 -- the state behind the text, as the code has it
-pub record Mid {source : Text} {options : Options} {slice kept left : Text} {at : Place} {fresh : Bool} {e : Edge} {late : Option NestFault} {d : ℕ} {fs : List BlockSoFar} {es : List Placed}
-    (h : Scans source options slice kept left at fresh e late d fs es) (n : Edge) (late' : Option NestFault) (d' : ℕ) (fs' : List BlockSoFar) (es' : List Placed) : Type 0 where
+pub record Mid {source : Text} {options : Options} {slice kept left : Text} {at : Place} {fresh : Bool} {e : Edge} {late : Option NestFault} {d : ℕ} {fs : List BlockSoFar} {es : List PlacedElement}
+    (h : Scans source options slice kept left at fresh e late d fs es) (n : Edge) (late' : Option NestFault) (d' : ℕ) (fs' : List BlockSoFar) (es' : List PlacedElement) : Type 0 where
   pub depth : d' ≡ d
   pub open_blocks : fs' ≡ fs
   pub kept_late : late' ≡ late
   pub elements : es' ≡ es ++ text_placed options at e slice kept n
 
-State-along : {late late' : Option NestFault} {ps : List SourcePiece} {d d' : ℕ} {fs fs' : List BlockSoFar} {es es' : List Placed} → late' ≡ late → d' ≡ d → fs' ≡ fs → es' ≡ es → State late ps d fs es → State late' ps d' fs' es'
+State-along : {late late' : Option NestFault} {ps : List SourcePiece} {d d' : ℕ} {fs fs' : List BlockSoFar} {es es' : List PlacedElement} → late' ≡ late → d' ≡ d → fs' ≡ fs → es' ≡ es → State late ps d fs es → State late' ps d' fs' es'
 State-along a b c e s = rw (a, b, c, e) s
 
-Mid-state : {source : Text} {options : Options} {slice kept left : Text} {at : Place} {fresh : Bool} {e : Edge} {late : Option NestFault} {d : ℕ} {fs : List BlockSoFar} {es : List Placed}
-    → (h : Scans source options slice kept left at fresh e late d fs es) (n : Edge) (late' : Option NestFault) (d' : ℕ) (fs' : List BlockSoFar) (es' : List Placed) → Mid h n late' d' fs' es'
+Mid-state : {source : Text} {options : Options} {slice kept left : Text} {at : Place} {fresh : Bool} {e : Edge} {late : Option NestFault} {d : ℕ} {fs : List BlockSoFar} {es : List PlacedElement}
+    → (h : Scans source options slice kept left at fresh e late d fs es) (n : Edge) (late' : Option NestFault) (d' : ℕ) (fs' : List BlockSoFar) (es' : List PlacedElement) → Mid h n late' d' fs' es'
     → State late' (pieces_in options h.slices ++ text_pieces options at e slice kept n) d' fs' es'
 Mid-state {options = options} {slice = slice} {kept = kept} {at = at} {e = e} h n late' d' fs' es' m = State-along m.kept_late m.depth m.open_blocks m.elements (State-text options at e slice kept n h.state)
 
@@ -166,14 +166,14 @@ IsUtf8-three b s t x y z = IsUtf8-append b (s ++ t) x (IsUtf8-append s t y z)
 pub record TextBehind (n : Edge) (q : Place) (mid : Bool) (spelled rest x k y : Text) (next : Place) (fresh : Bool) : Type 0 where
   pub parts : rest ≡ x ++ y
   pub is_text : IsText (braces_behind n) y x k
-  pub there : next ≡ behind q spelled
+  pub there : next ≡ place_behind q spelled
   pub lines : fresh ≡ fold is_fresh_behind mid spelled
 
 -- one turn: the text, the tag behind it, and the next text
-pub Scans-step : {source : Text} {options : Options} {slice kept left : Text} {at : Place} {fresh : Bool} {e : Edge} {late : Option NestFault} {d : ℕ} {fs : List BlockSoFar} {es : List Placed}
+pub Scans-step : {source : Text} {options : Options} {slice kept left : Text} {at : Place} {fresh : Bool} {e : Edge} {late : Option NestFault} {d : ℕ} {fs : List BlockSoFar} {es : List PlacedElement}
     → (h : Scans source options slice kept left at fresh e late d fs es) (t : Tag) (tildes : Tildes) (spelled rest : Text) (q : Place) (mid : Bool) (n : Edge) → TagStands h t tildes spelled rest q mid n
-    → (late' : Option NestFault) (d' : ℕ) (fs' : List BlockSoFar) (es' : List Placed) → Mid h n late' d' fs' es'
-    → (late'' : Option NestFault) (d'' : ℕ) (fs'' : List BlockSoFar) (es'' : List Placed) → apply syntax_alone (tag_piece options q n t) d' fs' es' ≡ goes d'' fs'' es'' → late'' ≡ late_after late' (tag_piece options q n t) (open_in fs')
+    → (late' : Option NestFault) (d' : ℕ) (fs' : List BlockSoFar) (es' : List PlacedElement) → Mid h n late' d' fs' es'
+    → (late'' : Option NestFault) (d'' : ℕ) (fs'' : List BlockSoFar) (es'' : List PlacedElement) → apply syntax_alone (tag_piece options q n t) d' fs' es' ≡ goes d'' fs'' es'' → late'' ≡ late_after late' (tag_piece options q n t) (open_in fs')
     → (x k y : Text) (next : Place) (fresh' : Bool) → TextBehind n q mid spelled rest x k y next fresh' → IsUtf8 slice → IsUtf8 spelled
     → Scans source options x k y next fresh' n late'' d'' fs'' es''
 Scans-step {source} {options} {slice} {kept} {left} {at} {fresh} {e} h t tildes spelled rest q mid n turn late' d' fs' es' m late'' d'' fs'' es'' moved lates x k y next fresh' after u v =
@@ -188,16 +188,16 @@ Scans-step {source} {options} {slice} {kept} {left} {at} {fresh} {e} h t tildes 
       parts = h.parts ∙ ap (λ (z : Text). b ++ (slice ++ z)) (turn.here.whole ∙ ap (λ (z : Text). spelled ++ z) after.parts) ∙ regroup b slice spelled x y;
       is_text = after.is_text;
       utf8 = IsUtf8-three b slice spelled h.utf8 u v;
-      there = after.there ∙ ap (λ (p : Place). behind p spelled) (behind-place h q turn.there) ∙ sym (behind-append origin (b ++ slice) spelled (IsUtf8-append b slice h.utf8 u)) ∙ ap place (append_assoc b slice spelled);
+      there = after.there ∙ ap (λ (p : Place). place_behind p spelled) (place_behind-place h q turn.there) ∙ sym (place_behind-append origin (b ++ slice) spelled (IsUtf8-append b slice h.utf8 u)) ∙ ap place (append_assoc b slice spelled);
       lines = after.lines ∙ ap (λ (z : Bool). fold is_fresh_behind z spelled) (fresh-place h mid turn.lines) ∙ sym (fold-append is_fresh_behind true (b ++ slice) spelled) ∙ ap is_fresh (append_assoc b slice spelled);
       state = subst (λ (z : List SourcePiece). State late'' z d'' fs'' es'') (sym (pieces_in-pair options h.slices at e slice kept q spelled t n))
           (subst (λ (z : Option NestFault). State z ((pieces_in options h.slices ++ text_pieces options at e slice kept n) ++ tag_piece options q n t ∷ []) d'' fs'' es'') (sym lates) state);
     }
 
 -- the tag may not stand there
-pub Compiles-misplaced : {source : Text} {options : Options} {slice kept left : Text} {at : Place} {fresh : Bool} {e : Edge} {late : Option NestFault} {d : ℕ} {fs : List BlockSoFar} {es : List Placed}
+pub Compiles-misplaced : {source : Text} {options : Options} {slice kept left : Text} {at : Place} {fresh : Bool} {e : Edge} {late : Option NestFault} {d : ℕ} {fs : List BlockSoFar} {es : List PlacedElement}
     → (h : Scans source options slice kept left at fresh e late d fs es) (t : Tag) (tildes : Tildes) (spelled rest : Text) (q : Place) (mid : Bool) (n : Edge) → TagStands h t tildes spelled rest q mid n
-    → (late' : Option NestFault) (d' : ℕ) (fs' : List BlockSoFar) (es' : List Placed) → Mid h n late' d' fs' es'
+    → (late' : Option NestFault) (d' : ℕ) (fs' : List BlockSoFar) (es' : List PlacedElement) → Mid h n late' d' fs' es'
     → (f : NestFault) → apply syntax_alone (tag_piece options q n t) d' fs' es' ≡ stops f → Compiles source options (refused (refusal_for options f))
 Compiles-misplaced {source} {options} {slice} {kept} {left} {at} {fresh} {e} h t tildes spelled rest q mid n turn late' d' fs' es' m f stopped =
     misplaced (TagStands-reads h t tildes spelled rest q mid n turn)
@@ -222,8 +222,8 @@ NoTagBehind-other tags e left slice rest t tildes is h other slice' rest' t' til
     let one = tags left slice slice' rest rest' t t' tildes tildes' is is' h h' in
     false≢true (sym other ∙ ap (may_follow e) one.2 ∙ f)
 
-pub Compiles-unreadable : {source : Text} {options : Options} {slice kept left : Text} {at : Place} {fresh : Bool} {e : Edge} {late : Option NestFault} {d : ℕ} {fs : List BlockSoFar} {es : List Placed}
-    → Scans source options slice kept left at fresh e late d fs es → 0 < length left → NoTagBehind e left → (q : Place) → q ≡ behind at slice
+pub Compiles-unreadable : {source : Text} {options : Options} {slice kept left : Text} {at : Place} {fresh : Bool} {e : Edge} {late : Option NestFault} {d : ℕ} {fs : List BlockSoFar} {es : List PlacedElement}
+    → Scans source options slice kept left at fresh e late d fs es → 0 < length left → NoTagBehind e left → (q : Place) → q ≡ place_behind at slice
     → Compiles source options (refused (unreadable_tag options q))
 Compiles-unreadable {source} {options} {slice} {kept} {left} {at} {fresh} {e} {late} {d} {fs} {es} h lt none q qe = no_tag (record {
   before = h.before;
@@ -240,12 +240,12 @@ Compiles-unreadable {source} {options} {slice} {kept} {left} {at} {fresh} {e} {l
   is_text = h.is_text;
   marks = IsText-some h.is_text lt;
   none = none;
-  there = behind-place h q qe;
+  there = place_behind-place h q qe;
 })
 
 -- ---- the end of the source
 
-Scans-cut : {source : Text} {options : Options} {slice kept left : Text} {at : Place} {fresh : Bool} {e : Edge} {late : Option NestFault} {d : ℕ} {fs : List BlockSoFar} {es : List Placed}
+Scans-cut : {source : Text} {options : Options} {slice kept left : Text} {at : Place} {fresh : Bool} {e : Edge} {late : Option NestFault} {d : ℕ} {fs : List BlockSoFar} {es : List PlacedElement}
     → (h : Scans source options slice kept left at fresh e late d fs es) → length left ≡ 0 → IsCut source options (h.slices ++ text_slice at e slice kept no_edge ∷ [])
 Scans-cut {source} {options} {slice} {kept} {left} {at} {fresh} {e} h over =
     let none : left ≡ [] = nil_from_length left over in
@@ -264,13 +264,13 @@ Scans-cut {source} {options} {slice} {kept} {left} {at} {fresh} {e} h over =
 pieces_in-last : (options : Options) (ps : List Slice) (p : Place) (e : Edge) (x k : Text) (n : Edge) → pieces_in options (ps ++ text_slice p e x k n ∷ []) ≡ pieces_in options ps ++ text_pieces options p e x k n
 pieces_in-last options ps p e x k n = pieces_in-append options ps (text_slice p e x k n ∷ []) ∙ ap (λ (z : List SourcePiece). pieces_in options ps ++ z) (append-nil (text_pieces options p e x k n))
 
-Cut-comes : {source : Text} {options : Options} {ps : List Slice} {d : ℕ} {es : List Placed} → (late : Option NestFault) (fs : List BlockSoFar) → IsCut source options ps → State late (pieces_in options ps) d fs es → Compiles source options (ended options fs late es)
+Cut-comes : {source : Text} {options : Options} {ps : List Slice} {d : ℕ} {es : List PlacedElement} → (late : Option NestFault) (fs : List BlockSoFar) → IsCut source options ps → State late (pieces_in options ps) d fs es → Compiles source options (ended options fs late es)
 Cut-comes late' (f ∷ fs) cut s = left_open cut (State-open s)
 Cut-comes (Some f) [] cut s = (let both = State-late s in late cut both.0 both.1)
 Cut-comes None [] cut s = whole cut (State-whole s)
 
-pub Scans-end : {source : Text} {options : Options} {slice kept left : Text} {at : Place} {fresh : Bool} {e : Edge} {late : Option NestFault} {d : ℕ} {fs : List BlockSoFar} {es : List Placed}
-    → (h : Scans source options slice kept left at fresh e late d fs es) → length left ≡ 0 → (n : Edge) → n ≡ no_edge → (late' : Option NestFault) (d' : ℕ) (fs' : List BlockSoFar) (es' : List Placed) → Mid h n late' d' fs' es'
+pub Scans-end : {source : Text} {options : Options} {slice kept left : Text} {at : Place} {fresh : Bool} {e : Edge} {late : Option NestFault} {d : ℕ} {fs : List BlockSoFar} {es : List PlacedElement}
+    → (h : Scans source options slice kept left at fresh e late d fs es) → length left ≡ 0 → (n : Edge) → n ≡ no_edge → (late' : Option NestFault) (d' : ℕ) (fs' : List BlockSoFar) (es' : List PlacedElement) → Mid h n late' d' fs' es'
     → (end : Compilation) → end ≡ ended options fs' late' es' → Compiles source options end
 Scans-end {source} {options} {slice} {kept} {left} {at} {fresh} {e} h over n ne late' d' fs' es' m end is =
     let state : State late' (pieces_in options h.slices ++ text_pieces options at e slice kept no_edge) d' fs' es' = subst (λ (z : Edge). State late' (pieces_in options h.slices ++ text_pieces options at e slice kept z) d' fs' es') ne (Mid-state h n late' d' fs' es' m) in
@@ -294,7 +294,7 @@ place-bound before h =
     let r = fold-bound (chars before) origin in
     (omega (arith, r.0), omega (arith, r.1))
 
-pub Scans-fits : {source : Text} {options : Options} {slice kept left : Text} {at : Place} {fresh : Bool} {e : Edge} {late : Option NestFault} {d : ℕ} {fs : List BlockSoFar} {es : List Placed}
+pub Scans-fits : {source : Text} {options : Options} {slice kept left : Text} {at : Place} {fresh : Bool} {e : Edge} {late : Option NestFault} {d : ℕ} {fs : List BlockSoFar} {es : List PlacedElement}
     → Scans source options slice kept left at fresh e late d fs es → (at.line + length slice ≤ 1 + length source) × (at.column + length slice ≤ 2 + length source)
 Scans-fits {source} {options} {slice} {kept} {left} {at} h =
     let r = place-bound h.before h.utf8 in
@@ -303,11 +303,11 @@ Scans-fits {source} {options} {slice} {kept} {left} {at} h =
     let long : length source ≡ length h.before + (length slice + length left) = omega (arith, ap length h.parts, length-append h.before (slice ++ left), length-append slice left) in
     (omega (arith, r.0), omega (arith, r.1))
 
-pub Scans-fits_behind : {source : Text} {options : Options} {slice kept left : Text} {at : Place} {fresh : Bool} {e : Edge} {late : Option NestFault} {d : ℕ} {fs : List BlockSoFar} {es : List Placed}
-    → Scans source options slice kept left at fresh e late d fs es → IsUtf8 slice → (q : Place) → q ≡ behind at slice → (k : ℕ) → k ≤ length left → (q.line + k ≤ 1 + length source) × (q.column + k ≤ 2 + length source)
+pub Scans-fits_behind : {source : Text} {options : Options} {slice kept left : Text} {at : Place} {fresh : Bool} {e : Edge} {late : Option NestFault} {d : ℕ} {fs : List BlockSoFar} {es : List PlacedElement}
+    → Scans source options slice kept left at fresh e late d fs es → IsUtf8 slice → (q : Place) → q ≡ place_behind at slice → (k : ℕ) → k ≤ length left → (q.line + k ≤ 1 + length source) × (q.column + k ≤ 2 + length source)
 Scans-fits_behind {source} {options} {slice} {kept} {left} {at} h u q is k le =
     let r = place-bound (h.before ++ slice) (IsUtf8-append h.before slice h.utf8 u) in
-    let same : q ≡ place (h.before ++ slice) = behind-place h q is in
+    let same : q ≡ place (h.before ++ slice) = place_behind-place h q is in
     let line : q.line ≡ (place (h.before ++ slice)).line = ap (λ (p : Place). p.line) same in
     let column : q.column ≡ (place (h.before ++ slice)).column = ap (λ (p : Place). p.column) same in
     let front : length (h.before ++ slice) ≡ length h.before + length slice = length-append h.before slice in
@@ -338,6 +338,6 @@ length-rest left spelled rest x y t tildes is fits cut =
 pub HasNoLong-behind : (long_ahead : Bool) (rest x y : Text) → rest ≡ x ++ y → HasNoLong long_ahead rest → HasNoLong long_ahead y
 HasNoLong-behind long_ahead rest x y is h e = behind_mark-end (codes "--}}") x y (subst (λ (z : Text). behind_mark (codes "--}}") z ≡ None) is (h e))
 
-pub Scans-at : (source : Text) (options : Options) (slice kept left : Text) (e : Edge) (l : Option NestFault) (d : ℕ) (fs : List BlockSoFar) (es : List Placed) → e ≡ no_edge → source ≡ slice ++ left → IsText (braces_behind e) left slice kept
+pub Scans-at : (source : Text) (options : Options) (slice kept left : Text) (e : Edge) (l : Option NestFault) (d : ℕ) (fs : List BlockSoFar) (es : List PlacedElement) → e ≡ no_edge → source ≡ slice ++ left → IsText (braces_behind e) left slice kept
     → l ≡ None → d ≡ 0 → fs ≡ [] → es ≡ [] → Scans source options slice kept left origin true e l d fs es
 Scans-at source options slice kept left e l d fs es is parts h a b c f = rw (a, b, c, f) (Scans-start source options slice kept left e is parts h)

@@ -13,7 +13,7 @@ use Rattle.handlebars_tags.specs.declared.tag.inside.BlockSlice.{BlockSlice}
 use Rattle.handlebars_template.specs.Place.{Place}
 use Rattle.handlebars_template.specs.Tree.{Element, decorator, Args, no_arguments, lacks_arguments, Param, name, no_binding, no_body, call_name, call_args}
 use Rattle.handlebars_template.specs.TreeView.{param_view, arguments_view}
-use Rattle.handlebars_template.specs.Calls.{named, name_before, param_of, arguments_in, first_refused, literals_in, line_literals}
+use Rattle.handlebars_template.specs.Calls.{named_param, name_before, param_of, arguments_in, first_refused, literals_in, line_literals}
 use Rattle.handlebars_template.specs.Nest.{BlockKind, helper_opening, partial_opening, Opening as Said, SourcePiece, leaf, opens, chains}
 use Rattle.handlebars_template.specs.NestView.{opening_view, early, Looks, Does}
 use Rattle.handlebars_template.specs.Compile.{block_binding, is_indented, opening_of, closing_name, partial_opening_of, indentation, partial_of, tag_piece}
@@ -40,19 +40,19 @@ said-along {k} {n} {m} {xs} {ys} {b} {c} {i} {o} is args names bindings = ap (wi
 -- ---- the name of an inclusion
 
 -- It is a text or a call, and stands so with arguments behind it or none.
-kept_shape : (p : TermShape) → is_nested p ≡ true → named (param_of (term_of p)) ≡ param_of (term_of p)
+kept_shape : (p : TermShape) → is_nested p ≡ true → named_param (param_of (term_of p)) ≡ param_of (term_of p)
 kept_shape (literal_shape l) is = absurd cc
 kept_shape (path_shape t means) is = absurd cc
 kept_shape (nested_shape w head items v) is = refl
 
-kept_name : (x : NameShape) (items : Items) (rest : Text) → IsName close_name x items rest → named (param_of (term_of_name x)) ≡ param_of (term_of_name x)
+kept_name : (x : NameShape) (items : Items) (rest : Text) → IsName close_name x items rest → named_param (param_of (term_of_name x)) ≡ param_of (term_of_name x)
 kept_name (plain_name t) items rest is = refl
 kept_name (term_name p) items rest is = kept_shape p is.0
 
-name_before-kept : (xs : Args) (p : Param) → named p ≡ p → name_before xs p ≡ p
+name_before-kept : (xs : Args) (p : Param) → named_param p ≡ p → name_before xs p ≡ p
 name_before-kept xs p is = on (lacks_arguments xs)
   where
-    on : (b : Bool) → cond b p (named p) ≡ p
+    on : (b : Bool) → cond b p (named_param p) ≡ p
     on true = refl
     on false = is
 
@@ -66,7 +66,7 @@ pub inclusion_built : (t rest : Text) (line : Line) (built : BuiltLine) → IsLi
 inclusion_built t rest line built is call =
     let xs : Args = arguments_in no_arguments line.terms in
     let same : param_of line.name ≡ param_of (term_of_name is.name) = ap (λ (z : Line). param_of z.name) is.gives in
-    let kept : named (param_of line.name) ≡ param_of line.name = ap named same ∙ kept_name is.name is.items _ is.is_name ∙ sym same in
+    let kept : named_param (param_of line.name) ≡ param_of line.name = ap named_param same ∙ kept_name is.name is.items _ is.is_name ∙ sym same in
     record {
       name = ap call_name call.call ∙ name_before-kept xs (param_of line.name) kept;
       arguments = ap call_args call.call;

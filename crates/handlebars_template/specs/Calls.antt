@@ -43,18 +43,18 @@ add_argument (Some key) p (args ps hs) = args ps (put_pair key p hs)
 
 -- ---- calls
 
-abbrev pub named : Param → Param
-named (name n) = name n
-named (path r) = name (raw_of r)
-named (literal d) = literal d
-named (subexpression e) = subexpression e
+abbrev pub named_param : Param → Param
+named_param (name n) = name n
+named_param (path r) = name (raw_of r)
+named_param (literal d) = literal d
+named_param (subexpression e) = subexpression e
 
 -- A path with arguments behind it is a name; alone it is a path.
 abbrev pub name_before : Args → Param → Param
-name_before xs p = if lacks_arguments xs then p else named p
+name_before xs p = if lacks_arguments xs then p else named_param p
 
-abbrev pub called : Param → Args → Call
-called p xs = plain_call (name_before xs p) xs
+abbrev pub call_with : Param → Args → Call
+call_with p xs = plain_call (name_before xs p) xs
 
 -- A literal that is refused has no value. It stands as null in a tree that is handed to no one.
 abbrev pub literal_param : Text → Param
@@ -66,7 +66,7 @@ abbrev mutual
   param_of (literal_term raw) = literal_param raw
   param_of (path_term r) = path r
   param_of (name_term t) = name t
-  param_of (call_term t terms) = subexpression (expression (called (param_of t) (arguments_in no_arguments terms)))
+  param_of (call_term t terms) = subexpression (expression (call_with (param_of t) (arguments_in no_arguments terms)))
 
   -- behind these arguments
   pub arguments_in : Args → Terms → Args
@@ -74,7 +74,7 @@ abbrev mutual
   arguments_in xs (term key t more) = arguments_in (add_argument key (param_of t) xs) more
 
 abbrev pub call_of : Term → Terms → Call
-call_of t terms = called (param_of t) (arguments_in no_arguments terms)
+call_of t terms = call_with (param_of t) (arguments_in no_arguments terms)
 
 -- ---- literals
 

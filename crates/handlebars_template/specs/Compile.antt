@@ -12,7 +12,7 @@ use Rattle.handlebars_template.specs.Place.{Place, place}
 use Rattle.handlebars_template.specs.Tree.{Tree, tree, elements_of, raw_string, html_expression, expression, decorator_expression, partial_expression, comment, Decorator, decorator, no_body, no_arguments, Param, as_name, name, no_binding, single, both}
 use Rattle.handlebars_template.specs.Tree as tree
 use Rattle.handlebars_template.specs.Calls.{param_of, call_of, arguments_in, line_literals, literals_in, first_refused, invalid}
-use Rattle.handlebars_template.specs.Nest.{BlockKind, helper_opening, raw_opening, decorator_opening, partial_opening, Opening, SourcePiece, leaf, opens, inverts, chains, closes, NestFault, unexpected, too_deep, not_closed, mismatched, no_value, Placed, decorator_with, syntax_alone, names_and_literals, Nests, OpenBlock, Opens, Refuses, LeavesOpen}
+use Rattle.handlebars_template.specs.Nest.{BlockKind, helper_opening, raw_opening, decorator_opening, partial_opening, Opening, SourcePiece, leaf, opens, inverts, chains, closes, NestFault, unexpected, too_deep, not_closed, mismatched, no_value, PlacedElement, decorator_with, syntax_alone, names_and_literals, Nests, OpenBlock, Opens, Refuses, LeavesOpen}
 use Rattle.handlebars_template.specs.Cut.{Slice, text_slice, tag_slice, may_follow, Reads, IsCut}
 
 -- ---- what the slices stand for
@@ -100,7 +100,7 @@ pieces_in options [] = []
 pieces_in options (text_slice p e slice kept n ∷ ps) = text_pieces options p e slice kept n ++ pieces_in options ps
 pieces_in options (tag_slice p slice t e ∷ ps) = tag_piece options p e t ∷ pieces_in options ps
 
-abbrev pub tree_of : Options → List Placed → Tree
+abbrev pub tree_of : Options → List PlacedElement → Tree
 tree_of options es = tree options.name (elements_of (map (λ e. e.element) es)) (map (λ e. e.place) es)
 
 -- ---- refusals
@@ -163,7 +163,7 @@ pub data Compilation : Type 0 where
 -- Syntax comes first, tag by tag along the source; then, where the whole source nests, the first name that closes a block
 -- of another, or literal with no value.
 pub data Compiles (source : Text) (options : Options) : Compilation → Type 0 where
-  whole : {ps : List Slice} {es : List Placed} → IsCut source options ps → Nests names_and_literals 0 (pieces_in options ps) es
+  whole : {ps : List Slice} {es : List PlacedElement} → IsCut source options ps → Nests names_and_literals 0 (pieces_in options ps) es
       → Compiles source options (compiled (tree_of options es))
   no_tag : {at : Place} → IsUnreadable source options at → Compiles source options (refused (unreadable_tag options at))
   misplaced : {before : Text} {edge : Edge} {ps : List Slice} {f : NestFault}
@@ -171,7 +171,7 @@ pub data Compiles (source : Text) (options : Options) : Compilation → Type 0 w
       → Compiles source options (refused (refusal_for options f))
   left_open : {ps : List Slice} {f : NestFault} → IsCut source options ps → LeavesOpen syntax_alone (pieces_in options ps) f
       → Compiles source options (refused (refusal_for options f))
-  late : {ps : List Slice} {es : List Placed} {f : NestFault} → IsCut source options ps → Nests syntax_alone 0 (pieces_in options ps) es
+  late : {ps : List Slice} {es : List PlacedElement} {f : NestFault} → IsCut source options ps → Nests syntax_alone 0 (pieces_in options ps) es
       → Refuses names_and_literals (pieces_in options ps) f
       → Compiles source options (refused (refusal_for options f))
 

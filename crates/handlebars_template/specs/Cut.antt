@@ -62,14 +62,14 @@ pub record IsCut (source : Text) (options : Options) (ps : List Slice) : Type 0 
   pub gives : ps ≡ slices ++ text_slice (place before) edge text kept no_edge ∷ []
 
 -- what slices spell
-abbrev pub spelled : List Slice → Text
-spelled [] = []
-spelled (text_slice p e slice kept n ∷ ps) = slice ++ spelled ps
-spelled (tag_slice p slice t e ∷ ps) = slice ++ spelled ps
+abbrev pub spelled_slices : List Slice → Text
+spelled_slices [] = []
+spelled_slices (text_slice p e slice kept n ∷ ps) = slice ++ spelled_slices ps
+spelled_slices (tag_slice p slice t e ∷ ps) = slice ++ spelled_slices ps
 
 -- the slices of a cut join to the source
 abbrev pub CutsJoin : Type 0
-CutsJoin = (source : Text) (options : Options) (ps : List Slice) → IsCut source options ps → spelled ps ≡ source
+CutsJoin = (source : Text) (options : Options) (ps : List Slice) → IsCut source options ps → spelled_slices ps ≡ source
 
 -- a source has at most one cut
 abbrev pub OneCut : Type 0

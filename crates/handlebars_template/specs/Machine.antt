@@ -5,7 +5,7 @@ use Rattle.std.specs.Option.{option_or}
 use Rattle.handlebars_template.specs.Place.{Place}
 use Rattle.handlebars_template.specs.Tree.{Body, no_body}
 use Rattle.handlebars_template.specs.Calls.{max_nesting}
-use Rattle.handlebars_template.specs.Nest.{Opening, SourcePiece, leaf, opens, inverts, chains, closes, place_in, refused_in, NestFault, unexpected, too_deep, mismatched, no_value, Placed, body_with, Branch, block_of, names_and_literals, may_close, OpenBlock, may_stand_in, cost}
+use Rattle.handlebars_template.specs.Nest.{Opening, SourcePiece, leaf, opens, inverts, chains, closes, place_in, refused_in, NestFault, unexpected, too_deep, mismatched, no_value, PlacedElement, body_with, Branch, block_of, names_and_literals, may_close, OpenBlock, may_stand_in, cost}
 
 -- an open block stands in its first body, in a chained inverse, or in its inverse
 pub data Stage : Type 0 where
@@ -23,10 +23,10 @@ pub record BlockSoFar : Type 0 where
   pub place : Place
   pub opening : Opening
   pub around : ℕ
-  pub first : List Placed
+  pub first : List PlacedElement
   pub branches : List Branch
   pub stage : Stage
-  pub outside : List Placed
+  pub outside : List PlacedElement
 
 abbrev pub without_elements : BlockSoFar → OpenBlock
 without_elements f = record { place = f.place; opening = f.opening; inverted = is_in_inverse f.stage }
@@ -35,20 +35,20 @@ abbrev pub open_in : List BlockSoFar → List OpenBlock
 open_in fs = map without_elements fs
 
 -- Behind the elements of a stage these are the first body, the whole chained inverses, and the inverse, if the close comes.
-abbrev pub first_body : Stage → List Placed → List Placed → List Placed
+abbrev pub first_body : Stage → List PlacedElement → List PlacedElement → List PlacedElement
 first_body in_first first es = es
 first_body s first es = first
 
-abbrev pub whole_branches : Stage → List Branch → List Placed → List Branch
+abbrev pub whole_branches : Stage → List Branch → List PlacedElement → List Branch
 whole_branches (in_branch g) branches es = branches ++ record { opening = g; elements = es } ∷ []
 whole_branches s branches es = branches
 
-abbrev pub last_body : Stage → List Placed → Body
+abbrev pub last_body : Stage → List PlacedElement → Body
 last_body in_inverse es = body_with es
 last_body s es = no_body
 
 -- the open block in its next stage
-abbrev pub next_stage : BlockSoFar → List Placed → Stage → BlockSoFar
+abbrev pub next_stage : BlockSoFar → List PlacedElement → Stage → BlockSoFar
 next_stage f es next = record f {
   first = first_body f.stage f.first es;
   branches = whole_branches f.stage f.branches es;
@@ -56,24 +56,24 @@ next_stage f es next = record f {
 }
 
 -- the whole block, when its close comes
-abbrev pub closed : BlockSoFar → List Placed → Placed
+abbrev pub closed : BlockSoFar → List PlacedElement → PlacedElement
 closed f es = record {
   place = f.place;
   element = block_of f.opening (first_body f.stage f.first es) (whole_branches f.stage f.branches es)
       (last_body f.stage es);
 }
 
-abbrev pub new_open_block : Place → Opening → ℕ → List Placed → BlockSoFar
+abbrev pub new_open_block : Place → Opening → ℕ → List PlacedElement → BlockSoFar
 new_open_block p o d es =
     record { place = p; opening = o; around = d; first = []; branches = []; stage = in_first; outside = es }
 
 -- how much is open, the open blocks and the elements of the innermost then, or the fault
 pub data Moved : Type 0 where
-  goes : ℕ → List BlockSoFar → List Placed → Moved
+  goes : ℕ → List BlockSoFar → List PlacedElement → Moved
   stops : NestFault → Moved
 
 -- what stands behind a piece that may stand
-abbrev pub behind_piece : SourcePiece → ℕ → List BlockSoFar → List Placed → Moved
+abbrev pub behind_piece : SourcePiece → ℕ → List BlockSoFar → List PlacedElement → Moved
 behind_piece (leaf p e n r) d fs es = goes d fs (es ++ record { place = p; element = e } ∷ [])
 behind_piece (opens p o n r) d fs es = goes (suc d) (new_open_block p o d es ∷ fs) []
 behind_piece (inverts p) d (f ∷ fs) es = goes d (next_stage f es in_inverse ∷ fs) []

@@ -85,16 +85,16 @@ pub data NestFault : Type 0 where
 
 -- ---- blocks
 
-pub record Placed : Type 0 where
+pub record PlacedElement : Type 0 where
   pub place : Place
   pub element : Element
 
 -- the body that these elements are
-abbrev pub body_with : List Placed → Body
+abbrev pub body_with : List PlacedElement → Body
 body_with es = body (tree None (elements_of (map (λ e. e.element) es)) (map (λ e. e.place) es))
 
 -- a block, or a chained inverse, from what its tag says, the elements of its body, and its inverse
-abbrev pub block_call : Opening → List Placed → Body → Bool → Call
+abbrev pub block_call : Opening → List PlacedElement → Body → Bool → Call
 block_call o es inverse chained =
     call o.name o.arguments o.binding (bodies (body_with es) inverse)
     (record { block = true; chain = chained; indent_before_write = o.indent })
@@ -102,7 +102,7 @@ block_call o es inverse chained =
 -- a chained inverse: what its tag says, and the elements behind it
 pub record Branch : Type 0 where
   pub opening : Opening
-  pub elements : List Placed
+  pub elements : List PlacedElement
 
 -- A chain of branches is the first of them, with the rest of the chain as its inverse. A branch in a chain has no place.
 abbrev pub inverse_of : List Branch → Body → Body
@@ -115,7 +115,7 @@ is_chain [] = false
 is_chain (b ∷ bs) = true
 
 -- the call that the block of a helper or a raw block is: a chain's later branches stand in its inverse
-abbrev pub helper_call : Opening → List Placed → List Branch → Body → Call
+abbrev pub helper_call : Opening → List PlacedElement → List Branch → Body → Call
 helper_call o first branches last = block_call o first (inverse_of branches last) (is_chain branches)
 
 -- A decorator, or an inclusion with a block, from what its tag says, and its body. Only an inclusion without a block has
@@ -124,30 +124,30 @@ abbrev pub decorator_with : Opening → Body → Decorator
 decorator_with o b = decorator o.name o.arguments b (record { indent = None; indent_before_write = o.indent })
 
 -- The block of a decorator or of an inclusion has one body.
-abbrev pub block_by : BlockKind → Opening → List Placed → List Branch → Body → Element
+abbrev pub block_by : BlockKind → Opening → List PlacedElement → List Branch → Body → Element
 block_by helper_opening o first branches last = helper_block (helper_call o first branches last)
 block_by raw_opening o first branches last = helper_block (helper_call o first branches last)
 block_by decorator_opening o first branches last = decorator_block (decorator_with o (body_with first))
 block_by partial_opening o first branches last = partial_block (decorator_with o (body_with first))
 
-abbrev pub block_of : Opening → List Placed → List Branch → Body → Element
+abbrev pub block_of : Opening → List PlacedElement → List Branch → Body → Element
 block_of o first branches last = block_by o.kind o first branches last
 
 -- ---- what is tried
 
 -- the syntax alone, or also closing names and literals
-pub data Tried : Type 0 where
-  syntax_alone : Tried
-  names_and_literals : Tried
+pub data Checks : Type 0 where
+  syntax_alone : Checks
+  names_and_literals : Checks
 
 -- whether a close by the second text closes a block that the first would close: with no name it does, where that may
 -- end it
-abbrev pub may_close : Tried → Text → Text → Bool
+abbrev pub may_close : Checks → Text → Text → Bool
 may_close syntax_alone n m = true
 may_close names_and_literals n m = is_nameless m || bytes_eq n m
 
 -- whether a tag has its values whose first refused literal is this, if it has one
-abbrev pub has_values : Tried → Option Text → Bool
+abbrev pub has_values : Checks → Option Text → Bool
 has_values syntax_alone r = true
 has_values names_and_literals r = not (is_some r)
 
@@ -155,13 +155,13 @@ has_values names_and_literals r = not (is_some r)
 
 -- Nests t d ps es: with d blocks and chained inverses open around them, the pieces ps are the elements es.
 mutual
-  pub data Nests (t : Tried) : ℕ → List SourcePiece → List Placed → Type 0 where
+  pub data Nests (t : Checks) : ℕ → List SourcePiece → List PlacedElement → Type 0 where
     nothing : {d : ℕ} → Nests t d [] []
-    a_leaf : {d : ℕ} {ps : List SourcePiece} {es : List Placed} (p : Place) (e : Element) (n : ℕ) (r : Option Text)
+    a_leaf : {d : ℕ} {ps : List SourcePiece} {es : List PlacedElement} (p : Place) (e : Element) (n : ℕ) (r : Option Text)
         → d + n ≤ max_nesting → has_values t r ≡ true → Nests t d ps es
         → Nests t d (leaf p e n r ∷ ps) (record { place = p; element = e } ∷ es)
     -- an opening tag, the first body, chained inverses, an inverse or none, and the close
-    a_block : {d e : ℕ} {bs cs ls ps : List SourcePiece} {first es : List Placed} {branches : List Branch} {last : Body}
+    a_block : {d e : ℕ} {bs cs ls ps : List SourcePiece} {first es : List PlacedElement} {branches : List Branch} {last : Body}
         (p q : Place) (o : Opening) (n : ℕ) (r : Option Text) (raw : Bool) (m : Text)
         → d + suc n ≤ max_nesting → has_values t r ≡ true → may_end o.kind raw m ≡ true → may_close t o.closing m ≡ true
         → Nests t (suc d) bs first → Chains t o.kind (suc d) cs branches e → Inverts t o.kind e ls last
@@ -170,18 +170,18 @@ mutual
         (record { place = p; element = block_of o first branches last } ∷ es)
 
   -- chained inverses in a block of this kind, and how much is open behind them
-  pub data Chains (t : Tried) : BlockKind → ℕ → List SourcePiece → List Branch → ℕ → Type 0 where
+  pub data Chains (t : Checks) : BlockKind → ℕ → List SourcePiece → List Branch → ℕ → Type 0 where
     no_more : {k : BlockKind} {d : ℕ} → Chains t k d [] [] d
-    a_branch : {k : BlockKind} {d e : ℕ} {bs cs : List SourcePiece} {es : List Placed} {branches : List Branch}
+    a_branch : {k : BlockKind} {d e : ℕ} {bs cs : List SourcePiece} {es : List PlacedElement} {branches : List Branch}
         (p : Place) (o : Opening) (n : ℕ) (r : Option Text)
         → admits_inverse k ≡ true → d + suc n ≤ max_nesting → has_values t r ≡ true
         → Nests t (suc d) bs es → Chains t k (suc d) cs branches e
         → Chains t k d (chains p o n r ∷ (bs ++ cs)) (record { opening = o; elements = es } ∷ branches) e
 
   -- an inverse in a block of this kind, or none
-  pub data Inverts (t : Tried) : BlockKind → ℕ → List SourcePiece → Body → Type 0 where
+  pub data Inverts (t : Checks) : BlockKind → ℕ → List SourcePiece → Body → Type 0 where
     no_inverse : {k : BlockKind} {d : ℕ} → Inverts t k d [] no_body
-    an_inverse : {k : BlockKind} {d : ℕ} {bs : List SourcePiece} {es : List Placed} (p : Place)
+    an_inverse : {k : BlockKind} {d : ℕ} {bs : List SourcePiece} {es : List PlacedElement} (p : Place)
         → admits_inverse k ≡ true → Nests t d bs es → Inverts t k d (inverts p ∷ bs) (body_with es)
 
 -- ---- blocks that are open
@@ -193,12 +193,12 @@ pub record OpenBlock : Type 0 where
   pub inverted : Bool
 
 -- BeginsBlock t o f qs d: with o open around it, the pieces qs begin the block f and leave it open, with d open then.
-pub data BeginsBlock (t : Tried) : ℕ → OpenBlock → List SourcePiece → ℕ → Type 0 where
-  in_a_body : {o d : ℕ} {bs cs : List SourcePiece} {first : List Placed} {branches : List Branch}
+pub data BeginsBlock (t : Checks) : ℕ → OpenBlock → List SourcePiece → ℕ → Type 0 where
+  in_a_body : {o d : ℕ} {bs cs : List SourcePiece} {first : List PlacedElement} {branches : List Branch}
       (p : Place) (x : Opening) (n : ℕ) (r : Option Text)
       → o + suc n ≤ max_nesting → has_values t r ≡ true → Nests t (suc o) bs first → Chains t x.kind (suc o) cs branches d
       → BeginsBlock t o (record { place = p; opening = x; inverted = false }) (opens p x n r ∷ (bs ++ cs)) d
-  in_its_inverse : {o d : ℕ} {bs cs gs : List SourcePiece} {first es : List Placed} {branches : List Branch}
+  in_its_inverse : {o d : ℕ} {bs cs gs : List SourcePiece} {first es : List PlacedElement} {branches : List Branch}
       (p q : Place) (x : Opening) (n : ℕ) (r : Option Text)
       → o + suc n ≤ max_nesting → has_values t r ≡ true → Nests t (suc o) bs first → Chains t x.kind (suc o) cs branches d
       → admits_inverse x.kind ≡ true → Nests t d gs es
@@ -206,8 +206,8 @@ pub data BeginsBlock (t : Tried) : ℕ → OpenBlock → List SourcePiece → �
       (opens p x n r ∷ (bs ++ (cs ++ (inverts q ∷ gs)))) d
 
 -- Opens t d ps fs: the pieces ps leave the blocks fs open, the innermost first, with d open then.
-pub data Opens (t : Tried) : ℕ → List SourcePiece → List OpenBlock → Type 0 where
-  none_open : {ps : List SourcePiece} {es : List Placed} → Nests t 0 ps es → Opens t 0 ps []
+pub data Opens (t : Checks) : ℕ → List SourcePiece → List OpenBlock → Type 0 where
+  none_open : {ps : List SourcePiece} {es : List PlacedElement} → Nests t 0 ps es → Opens t 0 ps []
   one_more : {o d : ℕ} {f : OpenBlock} {ps qs : List SourcePiece} {fs : List OpenBlock}
       → Opens t o ps fs → BeginsBlock t o f qs d → Opens t d (ps ++ qs) (f ∷ fs)
 
@@ -238,7 +238,7 @@ cost (closes p raw m) = 0
 
 -- RefusesAt t d fs x f: with the blocks fs open, and d open in all, the piece x can't stand next. At one tag 'unexpected'
 -- comes before 'too deep', and that before its literals.
-pub data RefusesAt (t : Tried) (d : ℕ) : List OpenBlock → SourcePiece → NestFault → Type 0 where
+pub data RefusesAt (t : Checks) (d : ℕ) : List OpenBlock → SourcePiece → NestFault → Type 0 where
   out_of_place : {fs : List OpenBlock} {x : SourcePiece} → may_stand_in fs x ≡ false → RefusesAt t d fs x (unexpected (place_in x))
   past_limit : {fs : List OpenBlock} {x : SourcePiece} → may_stand_in fs x ≡ true → max_nesting < d + cost x
       → RefusesAt t d fs x (too_deep (place_in x))
@@ -249,11 +249,11 @@ pub data RefusesAt (t : Tried) (d : ℕ) : List OpenBlock → SourcePiece → Ne
       → RefusesAt t d (f ∷ fs) (closes p raw m) (mismatched f.opening.kind f.opening.closing m p)
 
 -- the first piece that can't stand where it stands
-pub data Refuses (t : Tried) : List SourcePiece → NestFault → Type 0 where
+pub data Refuses (t : Checks) : List SourcePiece → NestFault → Type 0 where
   refuses_at : {d : ℕ} {ps : List SourcePiece} {fs : List OpenBlock} {x : SourcePiece} {f : NestFault} (rest : List SourcePiece)
       → Opens t d ps fs → RefusesAt t d fs x f → Refuses t (ps ++ x ∷ rest) f
 
 -- at the end the innermost block is still open
-pub data LeavesOpen (t : Tried) : List SourcePiece → NestFault → Type 0 where
+pub data LeavesOpen (t : Checks) : List SourcePiece → NestFault → Type 0 where
   left_open : {d : ℕ} {f : OpenBlock} {ps : List SourcePiece} {fs : List OpenBlock}
       → Opens t d ps (f ∷ fs) → LeavesOpen t ps (not_closed f.place)

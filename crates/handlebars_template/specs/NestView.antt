@@ -4,7 +4,7 @@ use Rattle.std.specs.Option.{option_or}
 use Rattle.handlebars_template.specs.Place.{Place}
 use Rattle.handlebars_template.specs.Tree.{name, Binding, no_binding, single, both}
 use Rattle.handlebars_template.specs.TreeView.{text, place_of, element_view, param_view, arguments_view}
-use Rattle.handlebars_template.specs.Nest.{BlockKind, helper_opening, raw_opening, decorator_opening, partial_opening, Opening, SourcePiece, NestFault, unexpected, too_deep, mismatched, no_value, Placed, Branch}
+use Rattle.handlebars_template.specs.Nest.{BlockKind, helper_opening, raw_opening, decorator_opening, partial_opening, Opening, SourcePiece, NestFault, unexpected, too_deep, mismatched, no_value, PlacedElement, Branch}
 use Rattle.handlebars_template.specs.Machine.{Stage, in_first, in_branch, in_inverse, BlockSoFar, open_in, goes, behind_piece, early_in, late_in}
 use Rattle.handlebars_template.specs.declared.template.tree.TemplateMapping.{TemplateMapping}
 use Rattle.handlebars_template.specs.declared.template.tree.TemplateElement.{TemplateElement}
@@ -25,12 +25,12 @@ use Rattle.handlebars_template.specs.declared.template.nest.Late.TheVariants as 
 use Rattle.handlebars_template.specs.declared.template.nest.Nesting.{Nesting}
 
 -- each element with its place
-abbrev pub paired : List TemplateElement → List TemplateMapping → List Placed
+abbrev pub paired : List TemplateElement → List TemplateMapping → List PlacedElement
 paired [] ms = []
 paired (e ∷ es) [] = []
 paired (e ∷ es) (m ∷ ms) = record { place = place_of m; element = element_view e } ∷ paired es ms
 
-abbrev pub placed_view : PlacedElements → List Placed
+abbrev pub placed_view : PlacedElements → List PlacedElement
 placed_view b = paired b.elements.items b.mapping.items
 
 abbrev pub names_view : BlockNames → Binding

@@ -1,7 +1,7 @@
 -- What the code reads a parameter as, and which texts it takes for a line in parentheses.
 use Rattle.std.specs.Prelude.{◌≡◌, ℕ, [], Some}
 use Rattle.handlebars_base.specs.Bytes.{Text, behind_white}
-use Rattle.handlebars_base.specs.Texts.{after}
+use Rattle.handlebars_base.specs.Texts.{behind_byte}
 use Rattle.handlebars_lines.specs.Parameter.{left_parenthesis, right_parenthesis, NoParameter}
 use Rattle.handlebars_lines.specs.Line.{value_name, in_parentheses}
 use Rattle.handlebars_lines.specs.LineLaws.{HasLine}
@@ -19,7 +19,7 @@ reading_view (Refuses raw) = refused (invalid raw.now)
 pub record HasNested (inside : Text) (depth : ℕ) : Type 0 where
   pub left : Text
   pub line : HasLine value_name in_parentheses (behind_white inside) depth left
-  pub closes : after right_parenthesis (behind_white left) ≡ Some []
+  pub closes : behind_byte right_parenthesis (behind_white left) ≡ Some []
 
 abbrev pub NoNested : Text → Type 0
-NoNested inside = (text : Text) → after left_parenthesis text ≡ Some inside → NoParameter text
+NoNested inside = (text : Text) → behind_byte left_parenthesis text ≡ Some inside → NoParameter text

@@ -18,9 +18,9 @@ behind_char p c =
     else record { line = p.line; column = p.column + 1 }
 
 -- behind a text that begins at a place
-abbrev pub behind : Place → Text → Place
-behind p text = fold behind_char p (chars text)
+abbrev pub place_behind : Place → Text → Place
+place_behind p text = fold behind_char p (chars text)
 
 -- behind the first part of a source
 abbrev pub place : Text → Place
-place before = behind origin before
+place before = place_behind origin before

@@ -9,7 +9,7 @@ use Rattle.handlebars_template.specs.Place.{Place}
 use Rattle.handlebars_template.specs.Tree.{Element, raw_string, html_expression, expression, Call}
 use Rattle.handlebars_template.specs.TreeView.{place_of}
 use Rattle.handlebars_template.specs.Calls.{call_of, first_refused, literals_in, line_literals}
-use Rattle.handlebars_template.specs.Nest.{BlockKind, SourcePiece, leaf, NestFault, not_closed, Placed}
+use Rattle.handlebars_template.specs.Nest.{BlockKind, SourcePiece, leaf, NestFault, not_closed, PlacedElement}
 use Rattle.handlebars_template.specs.Machine.{BlockSoFar}
 use Rattle.handlebars_template.specs.NestView.{placed_view, opening_view, late_fault, syntax_fault}
 use Rattle.handlebars_template.specs.Compile.{opening_of, tree_of, unreadable_tag, refusal_for, Compilation, compiled, refused}
@@ -41,14 +41,14 @@ IsOpening kind e line read = MatchOption read ⊥ (HasOpening kind e line)
 -- ---- texts
 
 -- a text between two edges, where it has an element
-abbrev pub text_placed : Options → Place → Edge → Text → Text → Edge → List Placed
+abbrev pub text_placed : Options → Place → Edge → Text → Text → Edge → List PlacedElement
 text_placed options p e slice kept n =
     if has_element e slice then record { place = p; element = raw_string (trimmed options e kept n) } ∷ [] else []
 
 -- ---- what a source comes to
 
 -- by what stands at its end: the innermost block is still open, something was refused late, or it nests
-abbrev pub at_end : Options → List BlockSoFar → Option NestFault → List Placed → Compilation
+abbrev pub at_end : Options → List BlockSoFar → Option NestFault → List PlacedElement → Compilation
 at_end options (f ∷ fs) late es = refused (refusal_for options (not_closed f.place))
 at_end options [] (Some f) es = refused (refusal_for options f)
 at_end options [] None es = compiled (tree_of options es)

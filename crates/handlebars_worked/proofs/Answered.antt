@@ -10,12 +10,12 @@ use Rattle.handlebars_helpers.specs.Callee.{Callee, built, Target, calls_registe
 use Rattle.handlebars_helpers.specs.Callee as callee
 use Rattle.handlebars_helpers.specs.Decoration.{DecoratorKind, kind_inline, kind_own, DecoratorView}
 use Rattle.handlebars_helpers.specs.Escaping.{Escaping, for_html, for_plain, by_own, OwnEscape, HasEscaped, no_own_escape}
-use Rattle.handlebars_helpers.specs.OwnDecorator.{TagAsked, OwnDecorator, no_own_decorator}
-use Rattle.handlebars_helpers.specs.Own.{Asked, Step, Offer, not_offered, offers_missing, offers, OwnHelper, no_own}
+use Rattle.handlebars_helpers.specs.OwnDecorator.{DecoratorQuestion, OwnDecorator, no_own_decorator}
+use Rattle.handlebars_helpers.specs.Own.{HelperQuestion, Step, Offer, not_offered, offers_missing, offers, OwnHelper, no_own}
 use Rattle.handlebars_meaning.specs.Asks.{Asks, only, ◌>>=◌, goes_on, is_refused}
 use Rattle.handlebars_meaning.specs.State.{Parts, Setting, State, local_call}
-use Rattle.handlebars_meaning.specs.Questions.{Question, value_of, view_of, helper_of, called_as, hook_for, choice_of, escape_of, decorator_of, deeds_of, steps_or_offer, HasRegisteredChoice, HasChoice, tag_asked, HasDeeds, IsAnswered}
-use Rattle.handlebars_meaning.specs.Values.{asked_in, HasSteps, HasOffer, offer_or_text, HasRegisteredValue, HasHelpedValue, is_written, is_viewed, HasValue, HasInnerValue, HasName, HaveValues, PairsHaveValues}
+use Rattle.handlebars_meaning.specs.Questions.{Question, value_of, view_of, helper_of, called_as, hook_for, choice_of, escape_of, decorator_of, deeds_of, steps_or_offer, HasRegisteredChoice, HasChoice, decorator_question, HasDeeds, IsAnswered}
+use Rattle.handlebars_meaning.specs.Values.{helper_question, HasSteps, HasOffer, offer_or_text, HasRegisteredValue, HasHelpedValue, is_written, is_viewed, HasValue, HasInnerValue, HasName, HaveValues, PairsHaveValues}
 
 abbrev pub HasAnswer : {A : Type 0} → Asks A → Type 0
 HasAnswer {A = A} m = (a : Answer A) × m a
@@ -42,9 +42,9 @@ viewed m n o x y z =
 
 -- what helpers, decorators and the escape function of one's own answer, computed
 pub record KnowsOwn (own : Text → OwnHelper) (decorator : Text → OwnDecorator) (escape : OwnEscape) : Type 0 where
-  pub steps : (called : Text) (q : Asked) → HasAnswer ((own called).has_steps q)
-  pub offer : (called : Text) (q : Asked) → HasAnswer ((own called).has_offer q)
-  pub deeds : (called : Text) (q : TagAsked) → HasAnswer (decorator called q)
+  pub steps : (called : Text) (q : HelperQuestion) → HasAnswer ((own called).has_steps q)
+  pub offer : (called : Text) (q : HelperQuestion) → HasAnswer ((own called).has_offer q)
+  pub deeds : (called : Text) (q : DecoratorQuestion) → HasAnswer (decorator called q)
   pub escaped : (t : Text) → HasAnswer (escape t)
 
 abbrev pub Knows : Parts → Type 0
@@ -61,7 +61,7 @@ none_own = record {
 abbrev offer_or_text_in : (p : Setting) (own : Knows p.parts) (s : State) (called : Text) (h : HelperView)
     (offer : Offer) → HasAnswer (offer_or_text p s called h offer)
 offer_or_text_in p own s called h not_offered =
-    answered_then (HasSteps p s called h) _ (own.steps called (asked_in p s h)) (λ steps. known _)
+    answered_then (HasSteps p s called h) _ (own.steps called (helper_question p s h)) (λ steps. known _)
 offer_or_text_in p own s called h offers_missing = known _
 offer_or_text_in p own s called h (offers d) = known _
 
@@ -69,7 +69,7 @@ abbrev registered_in : (p : Setting) (own : Knows p.parts) (s : State) (k : Call
     → HasAnswer (HasRegisteredValue p s k h)
 registered_in p own s (built kind) h = known _
 registered_in p own s (callee.own called) h =
-    answered_then (HasOffer p s called h) _ (own.offer called (asked_in p s h)) (offer_or_text_in p own s called h)
+    answered_then (HasOffer p s called h) _ (own.offer called (helper_question p s h)) (offer_or_text_in p own s called h)
 
 abbrev helped_in : (p : Setting) (own : Knows p.parts) (s : State) (target : Option Target) (h : HelperView)
     → HasAnswer (HasHelpedValue p s target h)
@@ -81,14 +81,14 @@ helped_in p own s (Some (calls_local hidden)) h =
 abbrev steps_or_offer_in : (p : Setting) (own : Knows p.parts) (s : State) (called : Text) (h : HelperView)
     (steps : Option (List Step)) → HasAnswer (steps_or_offer p s called h steps)
 steps_or_offer_in p own s called h None =
-    answered_then (HasOffer p s called h) _ (own.offer called (asked_in p s h)) (λ offer. known _)
+    answered_then (HasOffer p s called h) _ (own.offer called (helper_question p s h)) (λ offer. known _)
 steps_or_offer_in p own s called h (Some steps) = known _
 
 abbrev registered_choice_in : (p : Setting) (own : Knows p.parts) (s : State) (k : Callee) (h : HelperView)
     → HasAnswer (HasRegisteredChoice p s k h)
 registered_choice_in p own s (built kind) h = known _
 registered_choice_in p own s (callee.own called) h =
-    answered_then (HasSteps p s called h) _ (own.steps called (asked_in p s h)) (steps_or_offer_in p own s called h)
+    answered_then (HasSteps p s called h) _ (own.steps called (helper_question p s h)) (steps_or_offer_in p own s called h)
 
 abbrev choice_in : (p : Setting) (own : Knows p.parts) (s : State) (target : Target) (h : HelperView)
     → HasAnswer (HasChoice p s target h)
@@ -100,7 +100,7 @@ choice_in p own s (calls_local hidden) h =
 abbrev deeds_in : (p : Setting) (own : Knows p.parts) (s : State) (kind : DecoratorKind) (v : DecoratorView)
     → HasAnswer (HasDeeds p s kind v)
 deeds_in p own s kind_inline v = known _
-deeds_in p own s (kind_own called) v = own.deeds called (tag_asked p s v)
+deeds_in p own s (kind_own called) v = own.deeds called (decorator_question p s v)
 
 abbrev escaped_in : (p : Setting) (own : Knows p.parts) (escape : Escaping) (t : Text)
     → HasAnswer (HasEscaped escape p.parts.own_escape t)

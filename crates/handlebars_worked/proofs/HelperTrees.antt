@@ -9,7 +9,7 @@ use Rattle.handlebars_base.specs.PathReading as path
 use Rattle.handlebars_base.specs.Texts as texts
 use Rattle.handlebars_lines.specs.Binding.{behind_bar, behind_beginning}
 use Rattle.handlebars_lines.specs.LineReading as line
-use Rattle.handlebars_lines.specs.Literal.{is_kept, number_of}
+use Rattle.handlebars_lines.specs.Literal.{is_in_range, number_of}
 use Rattle.handlebars_lines.specs.LiteralReading as literal
 use Rattle.handlebars_lines.specs.WorthReading.{worth_of, before}
 use Rattle.handlebars_tags.specs.Kind.{beginning_of, closing_of}
@@ -24,7 +24,7 @@ use Rattle.handlebars_worked.specs.ScopeRows.{natural}
 -- ---- what is unfolded to compile a source: of each tag, of parameters, and of literals
 
 unfoldable on_lines : ⊤
-unfolding beginning_of closing_of chars line.name_step line.behind_step line.line_step texts.after path.plain_at path.part_at path.links_at path.links_of path.start_without_at_sign path.start_at path.shape_at path.shape_of path.reference_from path.path_at
+unfolding beginning_of closing_of chars line.name_step line.behind_step line.line_step texts.behind_byte path.plain_at path.part_at path.links_at path.links_of path.start_without_at_sign path.start_at path.shape_at path.shape_of path.reference_from path.path_at
 on_lines = tt
 
 unfoldable on_parameters : ⊤
@@ -32,7 +32,7 @@ unfolding line.key_and_equals_at line.parameter_step line.item_step literal.lite
 on_parameters = tt
 
 unfoldable on_literals : ⊤
-unfolding literal.keeps_at is_kept number_of worth_of before serde_json_on_literals
+unfolding literal.keeps_at is_in_range number_of worth_of before serde_json_on_literals
 on_literals = tt
 
 -- ---- trees

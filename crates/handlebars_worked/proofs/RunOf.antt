@@ -2,12 +2,12 @@
 use Rattle.std.proofs.Common.{◌≡◌, ◌<◌, ◌≤◌, ℕ, zero, suc, List, ◌⊎◌, inl, inr, arith}
 use Rattle.handlebars_base.specs.Bytes.{Text}
 use Rattle.handlebars_template.specs.Tree.{Tree}
-use Rattle.handlebars_meaning.specs.Inclusion.{found_by}
+use Rattle.handlebars_meaning.specs.Inclusion.{partial_for}
 use Rattle.handlebars_meaning.specs.Pieces.{Piece, join}
 use Rattle.handlebars_meaning.specs.State.{Setting, State, first_state}
-use Rattle.handlebars_meaning.specs.Steps.{Task, Steps, Done, Refuse, Write, Get, Set, Ask, Do, Capture, Find, Room}
+use Rattle.handlebars_meaning.specs.Steps.{Task, Steps, Done, Refuse, Write, Get, Set, Ask, Do, Capture, Find, CheckLimit}
 use Rattle.handlebars_meaning.specs.Means.{todo, render_tree}
-use Rattle.handlebars_meaning.specs.Runs.{Outcome, Ended, Refused, Faulted, NoMemory, Runs, done, refused, wrote, got, set, asked, did, did_over, captured, captured_over, looked, has_room, has_none, stop}
+use Rattle.handlebars_meaning.specs.Runs.{Outcome, Ended, Refused, Faulted, NoMemory, Runs, done, refused, wrote, got, set, asked, did, did_over, captured, captured_over, looked, below_limit, at_limit, stop}
 use Rattle.handlebars_worked.proofs.Answered.{Knows, answer_in}
 use Rattle.handlebars_meaning.specs.Answer.{Beginning, a_tree, rendered, RenderAnswers, GivesText}
 
@@ -45,9 +45,9 @@ is_less (suc a) (suc b) = next_less (is_less a b)
 
 -- what follows where there is room
 abbrev in_room : {p : Setting} {k : Steps} {s : State} → (s.inclusions < p.parts.limit) ⊎ (p.parts.limit ≤ s.inclusions)
-    → RunFrom p k s → RunFrom p (Room k) s
-in_room (inl lt) rest = record { pieces = _; outcome = _; runs = has_room lt rest.runs }
-in_room (inr le) rest = record { pieces = _; outcome = _; runs = has_none le }
+    → RunFrom p k s → RunFrom p (CheckLimit k) s
+in_room (inl lt) rest = record { pieces = _; outcome = _; runs = below_limit lt rest.runs }
+in_room (inr le) rest = record { pieces = _; outcome = _; runs = at_limit le }
 
 -- Where the steps don't suffice, it stops on the way.
 abbrev pub run_of : ℕ → (p : Setting) (own : Knows p.parts) (k : Steps) (s : State) → RunFrom p k s
@@ -65,8 +65,8 @@ run_of (suc n) p own (Do t k) s =
 run_of (suc n) p own (Capture m f) s =
     let r = run_of n p own m s in behind_capture r.outcome r.runs (λ next. run_of n p own (f r.pieces) next)
 run_of (suc n) p own (Find name b f) s =
-    record { pieces = _; outcome = _; runs = looked (run_of n p own (f (found_by p.parts s name b)) s).runs }
-run_of (suc n) p own (Room k) s = in_room (is_less s.inclusions p.parts.limit) (run_of n p own k s)
+    record { pieces = _; outcome = _; runs = looked (run_of n p own (f (partial_for p.parts s name b)) s).runs }
+run_of (suc n) p own (CheckLimit k) s = in_room (is_less s.inclusions p.parts.limit) (run_of n p own k s)
 
 -- the run of a whole tree, where it takes less than a hundred steps in depth
 abbrev pub tree_run : (p : Setting) (own : Knows p.parts) (t : Tree)

@@ -50,7 +50,7 @@ array_name_tree = alone (scope (codes "each") (path_to (codes "a")) no_binding
     (inside (show (path_to (codes "x")) ∷ []) (at 1 12 ∷ [])) no_body)
 
 pub array_name_source : Compiles (codes "{{#each a}}{{x}}{{/each}}") no_options (compiled array_name_tree)
-unfolding beginning_of closing_of chars line.name_step line.behind_step line.line_step texts.after path.plain_at path.part_at path.links_at path.links_of path.start_without_at_sign path.start_at path.shape_at path.shape_of path.reference_from path.path_at line.key_and_equals_at line.parameter_step line.item_step literal.literal_at literal.plain_at literal.undoubled_at literal.unbracketed_at literal.value_token literal.token_at behind_bar behind_beginning
+unfolding beginning_of closing_of chars line.name_step line.behind_step line.line_step texts.behind_byte path.plain_at path.part_at path.links_at path.links_of path.start_without_at_sign path.start_at path.shape_at path.shape_of path.reference_from path.path_at line.key_and_equals_at line.parameter_step line.item_step literal.literal_at literal.plain_at literal.undoubled_at literal.unbracketed_at literal.value_token literal.token_at behind_bar behind_beginning
 array_name_source = answer_of-compiles no_options 3 _ _ refl
 
 abbrev pub two_names_tree : Tree
@@ -59,7 +59,7 @@ two_names_tree = alone (scope (codes "each") (path_to (codes "a")) (both (name (
     (at 1 21 ∷ at 1 26 ∷ at 1 31 ∷ [])) no_body)
 
 pub two_names_source : Compiles (codes "{{#each a as |v k|}}{{k}}{{v}};{{/each}}") no_options (compiled two_names_tree)
-unfolding beginning_of closing_of chars line.name_step line.behind_step line.line_step texts.after path.plain_at path.part_at path.links_at path.links_of path.start_without_at_sign path.start_at path.shape_at path.shape_of path.reference_from path.path_at line.key_and_equals_at line.parameter_step line.item_step literal.literal_at literal.plain_at literal.undoubled_at literal.unbracketed_at literal.value_token literal.token_at behind_bar behind_beginning symbols_at
+unfolding beginning_of closing_of chars line.name_step line.behind_step line.line_step texts.behind_byte path.plain_at path.part_at path.links_at path.links_of path.start_without_at_sign path.start_at path.shape_at path.shape_of path.reference_from path.path_at line.key_and_equals_at line.parameter_step line.item_step literal.literal_at literal.plain_at literal.undoubled_at literal.unbracketed_at literal.value_token literal.token_at behind_bar behind_beginning symbols_at
 two_names_source = answer_of-compiles no_options 4 _ _ refl
 
 abbrev pub shadow_tree : Tree
@@ -67,7 +67,7 @@ shadow_tree = alone (scope (codes "each") (path_to (codes "a")) (single (name (c
     (inside (show (path_to (codes "x")) ∷ []) (at 1 19 ∷ [])) no_body)
 
 pub shadow_source : Compiles (codes "{{#each a as |x|}}{{x}}{{/each}}") no_options (compiled shadow_tree)
-unfolding beginning_of closing_of chars line.name_step line.behind_step line.line_step texts.after path.plain_at path.part_at path.links_at path.links_of path.start_without_at_sign path.start_at path.shape_at path.shape_of path.reference_from path.path_at line.key_and_equals_at line.parameter_step line.item_step literal.literal_at literal.plain_at literal.undoubled_at literal.unbracketed_at literal.value_token literal.token_at behind_bar behind_beginning symbols_at
+unfolding beginning_of closing_of chars line.name_step line.behind_step line.line_step texts.behind_byte path.plain_at path.part_at path.links_at path.links_of path.start_without_at_sign path.start_at path.shape_at path.shape_of path.reference_from path.path_at line.key_and_equals_at line.parameter_step line.item_step literal.literal_at literal.plain_at literal.undoubled_at literal.unbracketed_at literal.value_token literal.token_at behind_bar behind_beginning symbols_at
 shadow_source = answer_of-compiles no_options 3 _ _ refl
 
 abbrev pub last_tree : Tree
@@ -78,7 +78,7 @@ last_tree = alone (scope (codes "each") (path_to (codes "a")) no_binding
     (at 1 12 ∷ at 1 22 ∷ [])) no_body)
 
 pub last_source : Compiles (codes "{{#each a}}{{@first}}{{@last}}{{/each}}") no_options (compiled last_tree)
-unfolding beginning_of closing_of chars line.name_step line.behind_step line.line_step texts.after path.plain_at path.part_at path.links_at path.links_of path.start_without_at_sign path.start_at path.shape_at path.shape_of path.reference_from path.path_at line.key_and_equals_at line.parameter_step line.item_step literal.literal_at literal.plain_at literal.undoubled_at literal.unbracketed_at literal.value_token literal.token_at behind_bar behind_beginning path.at_sign_start path.after_up path.ups_at
+unfolding beginning_of closing_of chars line.name_step line.behind_step line.line_step texts.behind_byte path.plain_at path.part_at path.links_at path.links_of path.start_without_at_sign path.start_at path.shape_at path.shape_of path.reference_from path.path_at line.key_and_equals_at line.parameter_step line.item_step literal.literal_at literal.plain_at literal.undoubled_at literal.unbracketed_at literal.value_token literal.token_at behind_bar behind_beginning path.at_sign_start path.behind_up path.ups_at
 last_source = answer_of-compiles no_options 4 _ _ refl
 
 abbrev pub keys_tree : Tree
@@ -89,7 +89,7 @@ keys_tree = alone (scope (codes "each") this no_binding
     (at 1 15 ∷ at 1 23 ∷ [])) no_body)
 
 pub keys_source : Compiles (codes "{{#each this}}{{@key}}{{@index}}{{/each}}") no_options (compiled keys_tree)
-unfolding beginning_of closing_of chars line.name_step line.behind_step line.line_step texts.after path.plain_at path.part_at path.links_at path.links_of path.start_without_at_sign path.start_at path.shape_at path.shape_of path.reference_from path.path_at line.key_and_equals_at line.parameter_step line.item_step literal.literal_at literal.plain_at literal.undoubled_at literal.unbracketed_at literal.value_token literal.token_at behind_bar behind_beginning path.at_sign_start path.after_up path.ups_at
+unfolding beginning_of closing_of chars line.name_step line.behind_step line.line_step texts.behind_byte path.plain_at path.part_at path.links_at path.links_of path.start_without_at_sign path.start_at path.shape_at path.shape_of path.reference_from path.path_at line.key_and_equals_at line.parameter_step line.item_step literal.literal_at literal.plain_at literal.undoubled_at literal.unbracketed_at literal.value_token literal.token_at behind_bar behind_beginning path.at_sign_start path.behind_up path.ups_at
 keys_source = answer_of-compiles no_options 4 _ _ refl
 
 abbrev pub indices_tree : Tree
@@ -104,7 +104,7 @@ indices_tree = alone (scope (codes "each") (path_to (codes "a")) no_binding
 
 pub indices_source : Compiles (codes "{{#each a}}{{#each this}}{{@index}}{{@../index}}{{/each}}{{/each}}") no_options
     (compiled indices_tree)
-unfolding beginning_of closing_of chars line.name_step line.behind_step line.line_step texts.after path.plain_at path.part_at path.links_at path.links_of path.start_without_at_sign path.start_at path.shape_at path.shape_of path.reference_from path.path_at line.key_and_equals_at line.parameter_step line.item_step literal.literal_at literal.plain_at literal.undoubled_at literal.unbracketed_at literal.value_token literal.token_at behind_bar behind_beginning path.link_at path.after_up path.ups_at path.at_sign_start
+unfolding beginning_of closing_of chars line.name_step line.behind_step line.line_step texts.behind_byte path.plain_at path.part_at path.links_at path.links_of path.start_without_at_sign path.start_at path.shape_at path.shape_of path.reference_from path.path_at line.key_and_equals_at line.parameter_step line.item_step literal.literal_at literal.plain_at literal.undoubled_at literal.unbracketed_at literal.value_token literal.token_at behind_bar behind_beginning path.link_at path.behind_up path.ups_at path.at_sign_start
 indices_source = answer_of-compiles no_options 6 _ _ refl
 
 abbrev pub no_members_tree : Tree
@@ -112,7 +112,7 @@ no_members_tree = alone (scope (codes "each") (path_to (codes "a")) no_binding
     (inside (raw_string (codes "x") ∷ []) (at 1 12 ∷ [])) no_body)
 
 pub no_members_source : Compiles (codes "{{#each a}}x{{/each}}") no_options (compiled no_members_tree)
-unfolding beginning_of closing_of chars line.name_step line.behind_step line.line_step texts.after path.plain_at path.part_at path.links_at path.links_of path.start_without_at_sign path.start_at path.shape_at path.shape_of path.reference_from path.path_at line.key_and_equals_at line.parameter_step line.item_step literal.literal_at literal.plain_at literal.undoubled_at literal.unbracketed_at literal.value_token literal.token_at behind_bar behind_beginning
+unfolding beginning_of closing_of chars line.name_step line.behind_step line.line_step texts.behind_byte path.plain_at path.part_at path.links_at path.links_of path.start_without_at_sign path.start_at path.shape_at path.shape_of path.reference_from path.path_at line.key_and_equals_at line.parameter_step line.item_step literal.literal_at literal.plain_at literal.undoubled_at literal.unbracketed_at literal.value_token literal.token_at behind_bar behind_beginning
 no_members_source = answer_of-compiles no_options 2 _ _ refl
 
 abbrev pub each_inverse_tree : Tree
@@ -120,7 +120,7 @@ each_inverse_tree = alone (scope (codes "each") (path_to (codes "a")) no_binding
     (inside (raw_string (codes "x") ∷ []) (at 1 12 ∷ [])) (body (inside (raw_string (codes "y") ∷ []) (at 1 21 ∷ []))))
 
 pub each_inverse_source : Compiles (codes "{{#each a}}x{{else}}y{{/each}}") no_options (compiled each_inverse_tree)
-unfolding beginning_of closing_of chars line.name_step line.behind_step line.line_step texts.after path.plain_at path.part_at path.links_at path.links_of path.start_without_at_sign path.start_at path.shape_at path.shape_of path.reference_from path.path_at line.key_and_equals_at line.parameter_step line.item_step literal.literal_at literal.plain_at literal.undoubled_at literal.unbracketed_at literal.value_token literal.token_at behind_bar behind_beginning
+unfolding beginning_of closing_of chars line.name_step line.behind_step line.line_step texts.behind_byte path.plain_at path.part_at path.links_at path.links_of path.start_without_at_sign path.start_at path.shape_at path.shape_of path.reference_from path.path_at line.key_and_equals_at line.parameter_step line.item_step literal.literal_at literal.plain_at literal.undoubled_at literal.unbracketed_at literal.value_token literal.token_at behind_bar behind_beginning
 each_inverse_source = answer_of-compiles no_options 3 _ _ refl
 
 abbrev pub with_inverse_tree : Tree
@@ -128,7 +128,7 @@ with_inverse_tree = alone (scope (codes "with") (path_to (codes "a")) no_binding
     (inside (raw_string (codes "x") ∷ []) (at 1 12 ∷ [])) (body (inside (raw_string (codes "y") ∷ []) (at 1 21 ∷ []))))
 
 pub with_inverse_source : Compiles (codes "{{#with a}}x{{else}}y{{/with}}") no_options (compiled with_inverse_tree)
-unfolding beginning_of closing_of chars line.name_step line.behind_step line.line_step texts.after path.plain_at path.part_at path.links_at path.links_of path.start_without_at_sign path.start_at path.shape_at path.shape_of path.reference_from path.path_at line.key_and_equals_at line.parameter_step line.item_step literal.literal_at literal.plain_at literal.undoubled_at literal.unbracketed_at literal.value_token literal.token_at behind_bar behind_beginning
+unfolding beginning_of closing_of chars line.name_step line.behind_step line.line_step texts.behind_byte path.plain_at path.part_at path.links_at path.links_of path.start_without_at_sign path.start_at path.shape_at path.shape_of path.reference_from path.path_at line.key_and_equals_at line.parameter_step line.item_step literal.literal_at literal.plain_at literal.undoubled_at literal.unbracketed_at literal.value_token literal.token_at behind_bar behind_beginning
 with_inverse_source = answer_of-compiles no_options 3 _ _ refl
 
 abbrev pub too_far_up_tree : Tree
@@ -136,7 +136,7 @@ too_far_up_tree = alone (scope (codes "with") (path_to (codes "a")) no_binding
     (inside (show (along (up ∷ up ∷ named (codes "d") ∷ []) (codes "../../d")) ∷ []) (at 1 12 ∷ [])) no_body)
 
 pub too_far_up_source : Compiles (codes "{{#with a}}{{../../d}}{{/with}}") no_options (compiled too_far_up_tree)
-unfolding beginning_of closing_of chars line.name_step line.behind_step line.line_step texts.after path.plain_at path.part_at path.links_at path.links_of path.start_without_at_sign path.start_at path.shape_at path.shape_of path.reference_from path.path_at line.key_and_equals_at line.parameter_step line.item_step literal.literal_at literal.plain_at literal.undoubled_at literal.unbracketed_at literal.value_token literal.token_at behind_bar behind_beginning path.link_at path.after_up path.ups_at
+unfolding beginning_of closing_of chars line.name_step line.behind_step line.line_step texts.behind_byte path.plain_at path.part_at path.links_at path.links_of path.start_without_at_sign path.start_at path.shape_at path.shape_of path.reference_from path.path_at line.key_and_equals_at line.parameter_step line.item_step literal.literal_at literal.plain_at literal.undoubled_at literal.unbracketed_at literal.value_token literal.token_at behind_bar behind_beginning path.link_at path.behind_up path.ups_at
 too_far_up_source = answer_of-compiles no_options 3 _ _ refl
 
 abbrev pub bound_up_tree : Tree
@@ -145,7 +145,7 @@ bound_up_tree = alone (scope (codes "with") (path_to (codes "a")) (single (name 
     (at 1 19 ∷ [])) no_body)
 
 pub bound_up_source : Compiles (codes "{{#with a as |z|}}{{../z.x}}{{/with}}") no_options (compiled bound_up_tree)
-unfolding beginning_of closing_of chars line.name_step line.behind_step line.line_step texts.after path.plain_at path.part_at path.links_at path.links_of path.start_without_at_sign path.start_at path.shape_at path.shape_of path.reference_from path.path_at line.key_and_equals_at line.parameter_step line.item_step literal.literal_at literal.plain_at literal.undoubled_at literal.unbracketed_at literal.value_token literal.token_at behind_bar behind_beginning path.link_at path.after_up path.ups_at symbols_at
+unfolding beginning_of closing_of chars line.name_step line.behind_step line.line_step texts.behind_byte path.plain_at path.part_at path.links_at path.links_of path.start_without_at_sign path.start_at path.shape_at path.shape_of path.reference_from path.path_at line.key_and_equals_at line.parameter_step line.item_step literal.literal_at literal.plain_at literal.undoubled_at literal.unbracketed_at literal.value_token literal.token_at behind_bar behind_beginning path.link_at path.behind_up path.ups_at symbols_at
 bound_up_source = answer_of-compiles no_options 3 _ _ refl
 
 abbrev pub up_tree : Tree
@@ -156,7 +156,7 @@ up_tree = alone (scope (codes "with") (path_to (codes "a")) no_binding
     (at 1 12 ∷ [])) no_body)
 
 pub up_source : Compiles (codes "{{#with a}}{{#each b}}{{../x}}{{/each}}{{/with}}") no_options (compiled up_tree)
-unfolding beginning_of closing_of chars line.name_step line.behind_step line.line_step texts.after path.plain_at path.part_at path.links_at path.links_of path.start_without_at_sign path.start_at path.shape_at path.shape_of path.reference_from path.path_at line.key_and_equals_at line.parameter_step line.item_step literal.literal_at literal.plain_at literal.undoubled_at literal.unbracketed_at literal.value_token literal.token_at behind_bar behind_beginning path.link_at path.after_up path.ups_at
+unfolding beginning_of closing_of chars line.name_step line.behind_step line.line_step texts.behind_byte path.plain_at path.part_at path.links_at path.links_of path.start_without_at_sign path.start_at path.shape_at path.shape_of path.reference_from path.path_at line.key_and_equals_at line.parameter_step line.item_step literal.literal_at literal.plain_at literal.undoubled_at literal.unbracketed_at literal.value_token literal.token_at behind_bar behind_beginning path.link_at path.behind_up path.ups_at
 up_source = answer_of-compiles no_options 5 _ _ refl
 
 abbrev pub recursive_tree : Tree
@@ -168,7 +168,7 @@ recursive_tree = alone (scope (codes "with") (path_to (codes "a")) no_binding
 
 pub recursive_source : Compiles (codes "{{#with a}}{{#with b}}{{x}}{{/with}}{{/with}}") no_options
     (compiled recursive_tree)
-unfolding beginning_of closing_of chars line.name_step line.behind_step line.line_step texts.after path.plain_at path.part_at path.links_at path.links_of path.start_without_at_sign path.start_at path.shape_at path.shape_of path.reference_from path.path_at line.key_and_equals_at line.parameter_step line.item_step literal.literal_at literal.plain_at literal.undoubled_at literal.unbracketed_at literal.value_token literal.token_at behind_bar behind_beginning
+unfolding beginning_of closing_of chars line.name_step line.behind_step line.line_step texts.behind_byte path.plain_at path.part_at path.links_at path.links_of path.start_without_at_sign path.start_at path.shape_at path.shape_of path.reference_from path.path_at line.key_and_equals_at line.parameter_step line.item_step literal.literal_at literal.plain_at literal.undoubled_at literal.unbracketed_at literal.value_token literal.token_at behind_bar behind_beginning
 recursive_source = answer_of-compiles no_options 5 _ _ refl
 
 abbrev pub whole_tree : Tree
@@ -176,7 +176,7 @@ whole_tree = alone (scope (codes "with") this (single (name (codes "t")))
     (inside (show (path_to (codes "t")) ∷ []) (at 1 22 ∷ [])) no_body)
 
 pub whole_source : Compiles (codes "{{#with this as |t|}}{{t}}{{/with}}") no_options (compiled whole_tree)
-unfolding beginning_of closing_of chars line.name_step line.behind_step line.line_step texts.after path.plain_at path.part_at path.links_at path.links_of path.start_without_at_sign path.start_at path.shape_at path.shape_of path.reference_from path.path_at line.key_and_equals_at line.parameter_step line.item_step literal.literal_at literal.plain_at literal.undoubled_at literal.unbracketed_at literal.value_token literal.token_at behind_bar behind_beginning symbols_at
+unfolding beginning_of closing_of chars line.name_step line.behind_step line.line_step texts.behind_byte path.plain_at path.part_at path.links_at path.links_of path.start_without_at_sign path.start_at path.shape_at path.shape_of path.reference_from path.path_at line.key_and_equals_at line.parameter_step line.item_step literal.literal_at literal.plain_at literal.undoubled_at literal.unbracketed_at literal.value_token literal.token_at behind_bar behind_beginning symbols_at
 whole_source = answer_of-compiles no_options 3 _ _ refl
 
 abbrev pub lookup_tree : Tree
@@ -187,5 +187,5 @@ lookup_tree = alone (scope (codes "each") (path_to (codes "v1")) no_binding
     (at 1 13 ∷ [])) no_body)
 
 pub lookup_source : Compiles (codes "{{#each v1}}{{lookup ../v2 @index}}{{/each}}") no_options (compiled lookup_tree)
-unfolding beginning_of closing_of chars line.name_step line.behind_step line.line_step texts.after path.plain_at path.part_at path.links_at path.links_of path.start_without_at_sign path.start_at path.shape_at path.shape_of path.reference_from path.path_at line.key_and_equals_at line.parameter_step line.item_step literal.literal_at literal.plain_at literal.undoubled_at literal.unbracketed_at literal.value_token literal.token_at behind_bar behind_beginning path.link_at path.after_up path.ups_at path.at_sign_start
+unfolding beginning_of closing_of chars line.name_step line.behind_step line.line_step texts.behind_byte path.plain_at path.part_at path.links_at path.links_of path.start_without_at_sign path.start_at path.shape_at path.shape_of path.reference_from path.path_at line.key_and_equals_at line.parameter_step line.item_step literal.literal_at literal.plain_at literal.undoubled_at literal.unbracketed_at literal.value_token literal.token_at behind_bar behind_beginning path.link_at path.behind_up path.ups_at path.at_sign_start
 lookup_source = answer_of-compiles no_options 3 _ _ refl

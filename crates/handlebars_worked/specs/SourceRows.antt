@@ -7,7 +7,7 @@ use Rattle.handlebars_lines.specs.Parameter.{left_parenthesis, right_parenthesis
 use Rattle.handlebars_template.specs.Place.{Place}
 use Rattle.handlebars_template.specs.Tree.{Tree, tree, empty_tree, Element, no_elements, element, raw_string, html_expression, expression, decorator_expression, decorator_block, Decorator, decorator, Body, Param, name, path, literal, subexpression, args, no_arguments, no_params, param, no_pairs, pair, no_binding, no_body}
 use Rattle.handlebars_template.specs.Calls.{plain_call, invalid}
-use Rattle.handlebars_template.specs.Nest.{helper_opening, raw_opening, decorator_opening, Opening, mismatched, Placed, body_with, block_of}
+use Rattle.handlebars_template.specs.Nest.{helper_opening, raw_opening, decorator_opening, Opening, mismatched, PlacedElement, body_with, block_of}
 use Rattle.handlebars_tags.specs.Options.{no_options}
 use Rattle.handlebars_template.specs.Compile.{Compiles, compiled, refused, syntax_refusal, unreadable_tag, refusal_for}
 
@@ -108,7 +108,7 @@ UpRow =
 -- ---- blocks
 
 -- a text with its place
-abbrev pub words : ℕ → ℕ → Text → Placed
+abbrev pub words : ℕ → ℕ → Text → PlacedElement
 words line column t = record { place = at line column; element = raw_string t }
 
 -- what `#if` says with a parameter, on a line of its own or not

@@ -4,7 +4,7 @@ ghost use Rattle.std.specs.Prelude.{◌≡◌, ◌≢◌, ◌≤◌, Err, IfOk, 
 ghost use Rattle.hbs.specs.Words.{begins_strict, file_words, is_strict};
 
 use crate::failure::Failure;
-use crate::text::{Task, print_text};
+use crate::text::{Request, print_text};
 use crate::words::Word;
 use handlebars::TemplateReader;
 use std::alloc::{AllocError, Global};
@@ -54,13 +54,13 @@ fn print<'a, R: TemplateReader, O: Write>(
 {
     let (strict, words) = split_strict(words);
     let task = match words {
-        [Word::Text(template), Word::Text(data)] => Task {
+        [Word::Text(template), Word::Text(data)] => Request {
             strict,
             template: template.as_str(),
             data: data.as_str(),
             folder: None,
         },
-        [Word::Text(template), Word::Text(data), Word::Text(folder)] => Task {
+        [Word::Text(template), Word::Text(data), Word::Text(folder)] => Request {
             strict,
             template: template.as_str(),
             data: data.as_str(),

@@ -9,7 +9,7 @@ use std::io::{BufWriter, Write};
 
 /// What is asked for: the paths of a template, of data and perhaps of a folder, and whether the mode is strict.
 #[derive(Drop)]
-pub struct Task<'a> {
+pub struct Request<'a> {
     pub strict: bool,
     pub template: &'a str,
     pub data: &'a str,
@@ -20,7 +20,7 @@ pub struct Task<'a> {
 /// before a fault stays.
 pub fn print_text<'a, R: TemplateReader, O: Write>(
     alloc: Global,
-    task: &Task<'a>,
+    task: &Request<'a>,
     files: &mut R,
     out: &mut O,
 ) -> Result<(), Failure<'a>> {

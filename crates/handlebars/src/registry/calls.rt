@@ -23,7 +23,7 @@ ghost use Rattle.handlebars.specs.Calls.{WritesConverted, WritesReading, WritesS
 ghost use Rattle.handlebars.specs.Dev.{AsksFor, HasRead, RefusesReading, RefusesSource, stored_under};
 ghost use Rattle.handlebars.specs.Files.{Loaded, is_dev, laid_over, tree_in};
 ghost use Rattle.handlebars.specs.Over.{setting_under, setting_with};
-ghost use Rattle.handlebars.specs.View.{modes_of, options_of, stored};
+ghost use Rattle.handlebars.specs.View.{modes_of, options_of, stored_tree};
 
 use crate::registry::RegistryOf;
 use crate::registry::writing::write_template;
@@ -182,7 +182,7 @@ impl<E: OwnParts> RegistryOf<E> {
         log: &L,
     ) -> Result<(), RenderError>
         ensures { Writes (setting_with E.registered E.own read.now self.now (data_of ctx.now))
-            (FromName (laid_over (tree_in read.now) (stored self.now)) name.now)
+            (FromName (laid_over (tree_in read.now) (stored_tree self.now)) name.now)
             (W.contents writer.old) (W.contents writer.new) result }
     {
         match self.template_named(name, read) {
@@ -197,9 +197,9 @@ impl<E: OwnParts> RegistryOf<E> {
         name: &str,
         read: &'a BTreeMap<String, Template>,
     ) -> Result<&'a Template, RenderError>
-        ensures ok { IfOk result (λ t. laid_over (tree_in read.now) (stored self.now) name.now
+        ensures ok { IfOk result (λ t. laid_over (tree_in read.now) (stored_tree self.now) name.now
             ≡ Some (tree_view t.now)) }
-        ensures none { OnErr result (laid_over (tree_in read.now) (stored self.now) name.now ≡ None) }
+        ensures none { OnErr result (laid_over (tree_in read.now) (stored_tree self.now) name.now ≡ None) }
         ensures err { IfErr result (IsRefusal (plain_refusal (template_not_found name.now))) }
     {
         let Some(template) = self.template_over(read, name) else {

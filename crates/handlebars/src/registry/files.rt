@@ -9,9 +9,9 @@ ghost use Rattle.handlebars_base.specs.Reasons.{template_out_of_memory};
 ghost use Rattle.handlebars_base.specs.TemplateRefusals.{template_refusal_of};
 ghost use Rattle.handlebars_template.specs.Tree.{Tree};
 ghost use Rattle.handlebars_template.specs.TreeView.{tree_view};
-ghost use Rattle.handlebars.specs.Files.{HasLoaded, HoldsKind, IsStopFor, Loaded, LoadsFile, Stop, Tells, unread};
-ghost use Rattle.handlebars.specs.Folder.{IsInOrder, Place, Registers, a_folder, an_entry};
-ghost use Rattle.handlebars.specs.Folder.{below_at, choice_of, entries_of, path_at, whole_folder};
+ghost use Rattle.handlebars.specs.Files.{HasLoaded, HoldsKind, IsStopFor, Loaded, LoadsFile, Stop, TellsOutcome, unread};
+ghost use Rattle.handlebars.specs.Folder.{IsInOrder, WalkedFolder, Registers, a_folder, an_entry};
+ghost use Rattle.handlebars.specs.Folder.{below_at, filter_of, entries_of, path_at, whole_folder};
 ghost use Rattle.handlebars.specs.View.{modes_of};
 
 use crate::registry::RegistryOf;
@@ -55,7 +55,7 @@ impl<E: Drop> RegistryOf<E> {
         options: DirectorySourceOptions<'_>,
         files: &mut R,
     ) -> Result<(), TemplateError>
-        ensures { Registers R.reads R.lists (choice_of options.entry) (a_folder (whole_folder folder.now))
+        ensures { Registers R.reads R.lists (filter_of options.entry) (a_folder (whole_folder folder.now))
             self.old self.new files.old files.new result }
     {
         self.register_folder(&options, folder, "", FOLDER_LEVELS, files)
@@ -72,7 +72,7 @@ impl<E: Drop> RegistryOf<E> {
         levels: u8,
         files: &mut R,
     ) -> Result<(), TemplateError>
-        ensures { Registers R.reads R.lists (choice_of options.now)
+        ensures { Registers R.reads R.lists (filter_of options.now)
             (a_folder (record { path = folder.now; front = front.now; levels = levels }))
             self.old self.new files.old files.new result }
     {
@@ -96,7 +96,7 @@ impl<E: Drop> RegistryOf<E> {
         entries: &[(String, EntryKind)],
         files: &mut R,
     ) -> Result<(), TemplateError>
-        ensures { Registers R.reads R.lists (choice_of options.now)
+        ensures { Registers R.reads R.lists (filter_of options.now)
             (entries_of (record { path = folder.now; front = front.now; levels = levels }) entries.now)
             self.old self.new files.old files.new result }
     {
@@ -117,7 +117,7 @@ impl<E: Drop> RegistryOf<E> {
         entry: &(String, EntryKind),
         files: &mut R,
     ) -> Result<(), TemplateError>
-        ensures { Registers R.reads R.lists (choice_of options.now)
+        ensures { Registers R.reads R.lists (filter_of options.now)
             (an_entry (record { path = folder.now; front = front.now; levels = levels }) entry.now)
             self.old self.new files.old files.new result }
     {
@@ -149,9 +149,9 @@ impl<E: Drop> RegistryOf<E> {
         name: &String,
         files: &mut R,
     ) -> Result<(), TemplateError>
-        ensures { (p : Place) → path.now ≡ path_at p (string_bytes name.now)
+        ensures { (p : WalkedFolder) → path.now ≡ path_at p (string_bytes name.now)
             → below.now ≡ below_at p (string_bytes name.now)
-            → Registers R.reads R.lists (choice_of options.now) (an_entry p (name.now, EntryKind.File))
+            → Registers R.reads R.lists (filter_of options.now) (an_entry p (name.now, EntryKind.File))
             self.old self.new files.old files.new result }
     {
         if options.takes(path, name.as_str()) {

@@ -8,7 +8,7 @@ ghost use Rattle.handlebars_template.specs.Tree.{Tree};
 ghost use Rattle.handlebars_template.specs.TreeView.{tree_view};
 ghost use Rattle.handlebars.specs.Dev.{AsksFor, FailsReading, FailsRendering, HoldsTrees, ReadsFiles, ReadsInto};
 ghost use Rattle.handlebars.specs.Dev.{asked_file, file_at, files_for, is_asked, is_known, others};
-ghost use Rattle.handlebars.specs.Files.{IsByName, Loaded, file_of, files_of, is_dev, remembered, tree_in};
+ghost use Rattle.handlebars.specs.Files.{IsByName, Loaded, file_of, files_of, is_dev, remembered_path, tree_in};
 ghost use Rattle.handlebars.specs.Store.{HasSameTemplates};
 ghost use Rattle.handlebars.specs.View.{modes_of};
 
@@ -24,7 +24,7 @@ impl<E: Drop> RegistryOf<E> {
     /// are no more, and those that were are forgotten.
     pub fn set_dev_mode(&mut self, enabled: bool)
         ensures dev { is_dev self.new ≡ enabled }
-        ensures files { (name : Text) → remembered self.new name ≡ cond enabled (remembered self.old name) None }
+        ensures files { (name : Text) → remembered_path self.new name ≡ cond enabled (remembered_path self.old name) None }
         ensures kept { HasSameTemplates self.old self.new }
         ensures entries { self.new.entries ≡ self.old.entries }
         ensures modes { modes_of self.new ≡ modes_of self.old }
@@ -108,10 +108,10 @@ impl<E: Drop> RegistryOf<E> {
         trees: &mut BTreeMap<String, Template>,
     ) -> Result<(), TemplateError>
         ensures ok { OnOk result (ReadsInto R.reads (modes_of self.now).prevent_indent
-            (asked_file (option_map (λ s. s.now) asked.entry) (remembered self.now))
+            (asked_file (option_map (λ s. s.now) asked.entry) (remembered_path self.now))
             files.old files.new trees.old trees.new) }
         ensures err { IfErr result (λ e. FailsReading R.reads (modes_of self.now).prevent_indent
-            (asked_file (option_map (λ s. s.now) asked.entry) (remembered self.now)) files.old files.new e) }
+            (asked_file (option_map (λ s. s.now) asked.entry) (remembered_path self.now)) files.old files.new e) }
         ensures unread { is_dev self.now ≡ false → files.new ≡ files.old }
     {
         match asked {
@@ -128,9 +128,9 @@ impl<E: Drop> RegistryOf<E> {
         trees: &mut BTreeMap<String, Template>,
     ) -> Result<(), TemplateError>
         ensures ok { OnOk result (ReadsInto R.reads (modes_of self.now).prevent_indent
-            (file_at name.now (remembered self.now name.now)) files.old files.new trees.old trees.new) }
+            (file_at name.now (remembered_path self.now name.now)) files.old files.new trees.old trees.new) }
         ensures err { IfErr result (λ e. FailsReading R.reads (modes_of self.now).prevent_indent
-            (file_at name.now (remembered self.now name.now)) files.old files.new e) }
+            (file_at name.now (remembered_path self.now name.now)) files.old files.new e) }
         ensures unread { is_dev self.now ≡ false → files.new ≡ files.old }
     {
         match self.dev.path(name) {

@@ -5,9 +5,9 @@ ghost use Rattle.std.specs.Prelude.{◌≡◌, None, cond, option_map};
 ghost use Rattle.std.specs.Str.{bytes_eq};
 ghost use Rattle.handlebars_base.specs.Bytes.{Text};
 ghost use Rattle.handlebars_template.specs.TreeView.{tree_view};
-ghost use Rattle.handlebars.specs.Files.{is_dev, laid_over, remembered, tree_in};
+ghost use Rattle.handlebars.specs.Files.{is_dev, laid_over, remembered_path, tree_in};
 ghost use Rattle.handlebars.specs.Store.{TakesTemplate};
-ghost use Rattle.handlebars.specs.View.{modes_of, stored};
+ghost use Rattle.handlebars.specs.View.{modes_of, stored_tree};
 
 use crate::registry::RegistryOf;
 use handlebars_template::template::Template;
@@ -17,8 +17,8 @@ impl<E: Drop> RegistryOf<E> {
     /// Takes the template under a name away, where one stands there. Its file, if it is remembered, is forgotten.
     pub fn unregister_template(&mut self, name: &str)
         ensures template { TakesTemplate self.old self.new name.now }
-        ensures file { (other : Text) → remembered self.new other
-            ≡ cond (bytes_eq name.now other) None (remembered self.old other) }
+        ensures file { (other : Text) → remembered_path self.new other
+            ≡ cond (bytes_eq name.now other) None (remembered_path self.old other) }
         ensures dev { is_dev self.new ≡ is_dev self.old }
         ensures entries { self.new.entries ≡ self.old.entries }
         ensures modes { modes_of self.new ≡ modes_of self.old }
@@ -29,8 +29,8 @@ impl<E: Drop> RegistryOf<E> {
 
     /// Takes all templates away, and forgets all files.
     pub fn clear_templates(&mut self)
-        ensures templates { (name : Text) → stored self.new name ≡ None }
-        ensures files { (name : Text) → remembered self.new name ≡ None }
+        ensures templates { (name : Text) → stored_tree self.new name ≡ None }
+        ensures files { (name : Text) → remembered_path self.new name ≡ None }
         ensures dev { is_dev self.new ≡ is_dev self.old }
         ensures entries { self.new.entries ≡ self.old.entries }
         ensures modes { modes_of self.new ≡ modes_of self.old }
@@ -41,7 +41,7 @@ impl<E: Drop> RegistryOf<E> {
 
     /// All templates, by their names.
     pub fn get_templates(&self) -> &BTreeMap<String, Template>
-        ensures { (name : Text) → option_map tree_view (get_by_text result.now name) ≡ stored self.now name }
+        ensures { (name : Text) → option_map tree_view (get_by_text result.now name) ≡ stored_tree self.now name }
     {
         &self.templates
     }
@@ -52,7 +52,7 @@ impl<E: Drop> RegistryOf<E> {
         read: &'t BTreeMap<String, Template>,
         name: &str,
     ) -> Option<&'t Template>
-        ensures { option_map (λ t. tree_view t.now) result ≡ laid_over (tree_in read.now) (stored self.now) name.now }
+        ensures { option_map (λ t. tree_view t.now) result ≡ laid_over (tree_in read.now) (stored_tree self.now) name.now }
     {
         match read.get(name) {
             Some(template) => Some(template),

@@ -32,14 +32,14 @@ use std::marker::{Brand, PhantomData};
 
 // An error as it comes. Its type is a parameter where an output names its writer: a call there can't give an error
 // whose type holds a `&'static str`.
-trait Kept: Drop {
+trait PlainError: Drop {
     ghost kept: { Self → declared.RenderError };
 
     fn of(error: BoxedError) -> Self
         ensures { kept result ≡ error_of error };
 }
 
-impl Kept for BoxedError {
+impl PlainError for BoxedError {
     ghost kept = { error_of };
 
     fn of(error: BoxedError) -> BoxedError {
@@ -81,7 +81,7 @@ pub(crate) fn write_template<E: OwnParts, L: Log, W: Write>(
 }
 
 // The output that comes back is the one that was given, whatever the rendering does with it.
-fn render_named<'w, E: OwnParts, L: Log, W: Write, K: Named, X: Kept>(
+fn render_named<'w, E: OwnParts, L: Log, W: Write, K: Named, X: PlainError>(
     registry: &RegistryOf<E>,
     template: &Template,
     read: &BTreeMap<String, Template>,
@@ -126,7 +126,7 @@ fn render_named<'w, E: OwnParts, L: Log, W: Write, K: Named, X: Kept>(
 }
 
 // To any output.
-fn render_to<E: OwnParts, L: Log, O: Output, X: Kept>(
+fn render_to<E: OwnParts, L: Log, O: Output, X: PlainError>(
     registry: &RegistryOf<E>,
     template: &Template,
     read: &BTreeMap<String, Template>,

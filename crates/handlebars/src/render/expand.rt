@@ -86,11 +86,7 @@ impl Expand for Parameter {
     ) -> Result<PathAndJson<'rc>, RenderError> {
         ready(rc)?;
         let parts = &Logging { registry, log };
-        let answer = value::expand(
-            &outside(alloc, parts, data, &Bases::Outside),
-            rc,
-            self,
-        );
+        let answer = value::expand(&outside(alloc, parts, data, &Bases::Outside), rc, self);
         fail_after(rc, answer)
     }
 
@@ -104,11 +100,7 @@ impl Expand for Parameter {
     ) -> Result<CowStr<'rc>, RenderError> {
         ready(rc)?;
         let parts = &Logging { registry, log };
-        let answer = value::expand_as_name(
-            &outside(alloc, parts, data, &Bases::Outside),
-            rc,
-            self,
-        );
+        let answer = value::expand_as_name(&outside(alloc, parts, data, &Bases::Outside), rc, self);
         fail_after(rc, answer)
     }
 }

@@ -1,7 +1,7 @@
 //! Which files of a folder are templates.
 
 ghost use Rattle.std.specs.Prelude.{◌≡◌, codes, false};
-ghost use Rattle.handlebars.specs.Folder.{choice_of, has_end, has_first, is_taken, name_in};
+ghost use Rattle.handlebars.specs.Folder.{filter_of, has_end, has_first, is_taken, name_in};
 
 /// Which files of a folder are taken for templates: those whose path ends in `tpl_extension`, and those whose own name
 /// begins with `.` or with `#` only where `hidden` or `temporary` says so.
@@ -29,7 +29,7 @@ impl Default for DirectorySourceOptions<'_> {
 impl DirectorySourceOptions<'_> {
     // Whether the file at a path, with this own name, is a template.
     pub(crate) fn takes(&self, path: &str, name: &str) -> bool
-        ensures { result ≡ is_taken (choice_of self.now) path.now name.now }
+        ensures { result ≡ is_taken (filter_of self.now) path.now name.now }
     {
         let is_hidden = has_first(name.as_bytes(), b'.');
         let is_temporary = has_first(name.as_bytes(), b'#');
@@ -40,7 +40,7 @@ impl DirectorySourceOptions<'_> {
 
     // The name of the template at a path below the folder.
     pub(crate) fn name_in<'p>(&self, below: &'p str) -> &'p str
-        ensures { result.now ≡ name_in (choice_of self.now) below.now }
+        ensures { result.now ≡ name_in (filter_of self.now) below.now }
     {
         match below.strip_suffix(self.tpl_extension) {
             Some(name) => name,

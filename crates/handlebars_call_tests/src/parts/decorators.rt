@@ -14,12 +14,12 @@ use std::alloc::{AllocError, Global};
 
 /// Sets data in the place of what was given.
 #[derive(Drop)]
-pub struct Setting {
+pub struct SettingData {
     pub alloc: Global,
     pub data: Context,
 }
 
-impl DecoratorDef for Setting {
+impl DecoratorDef for SettingData {
     ghost has_deeds = { λ d q a. a ≡ gives (sets_data (data_of d.«data») ∷ []) };
 
     fn call(

@@ -10,7 +10,7 @@ ghost use Rattle.handlebars_helpers.specs.OwnView.{steps_of};
 ghost use Rattle.handlebars_helpers.specs.View.{helper_view};
 ghost use Rattle.handlebars_call_tests.specs.Parts.{shown_at};
 
-use crate::parts::decorators::{Binding, Keeping, Setting, Unbinding};
+use crate::parts::decorators::{Binding, Keeping, SettingData, Unbinding};
 use crate::parts::escape::Doubled;
 use crate::parts::functions::{renamed, written};
 use crate::parts::helpers::{Absent, Distance, Marked, Offered, Twice};
@@ -191,7 +191,7 @@ fn sets_data(rt: &impl Abort, alloc: Global, registry: &mut Registry, name: &str
         rt,
         registry,
         name,
-        boxed(rt, alloc, Setting { alloc, data }),
+        boxed(rt, alloc, SettingData { alloc, data }),
     );
 }
 

@@ -3,9 +3,9 @@
 ghost use Rattle.std.specs.Prelude.{List};
 ghost use Rattle.handlebars_base.specs.Answers.{Answer};
 ghost use Rattle.handlebars_helpers.specs.Decoration.{Deed};
-ghost use Rattle.handlebars_helpers.specs.DecoratorsView.{deeds_of, tag_asked_with};
+ghost use Rattle.handlebars_helpers.specs.DecoratorsView.{deeds_of, decorator_question_of};
 ghost use Rattle.handlebars_helpers.specs.Own.{HasOne};
-ghost use Rattle.handlebars_helpers.specs.OwnDecorator.{TagAsked};
+ghost use Rattle.handlebars_helpers.specs.OwnDecorator.{DecoratorQuestion};
 ghost use Rattle.handlebars_helpers.specs.OwnView.{IsOneOf};
 
 use crate::decorators::DecoratorResult;
@@ -15,7 +15,7 @@ use handlebars_scope::context::Context;
 /// A decorator of one's own.
 pub trait DecoratorDef: Drop {
     // The answers that it has for a tag.
-    ghost has_deeds: { Self → TagAsked → Answer (List Deed) → Type 0 };
+    ghost has_deeds: { Self → DecoratorQuestion → Answer (List Deed) → Type 0 };
 
     /// Its deeds for a tag with this view, over the data that was given, or what stands in its place where
     /// that was changed.
@@ -26,8 +26,8 @@ pub trait DecoratorDef: Drop {
         changed: Option<&Context>,
         strict: bool,
     ) -> DecoratorResult
-        ensures { IsOneOf (has_deeds self.now (tag_asked_with d.now «data».now changed.entry strict)) deeds_of result };
+        ensures { IsOneOf (has_deeds self.now (decorator_question_of d.now «data».now changed.entry strict)) deeds_of result };
 
     // To each question it has one answer.
-    ghost one_deeds: { (d : Self) (q : TagAsked) → HasOne (has_deeds d q) };
+    ghost one_deeds: { (d : Self) (q : DecoratorQuestion) → HasOne (has_deeds d q) };
 }

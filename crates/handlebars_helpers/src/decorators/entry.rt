@@ -3,9 +3,9 @@
 ghost use Rattle.std.specs.Prelude.{List};
 ghost use Rattle.handlebars_base.specs.Answers.{Answer};
 ghost use Rattle.handlebars_helpers.specs.Decoration.{Deed};
-ghost use Rattle.handlebars_helpers.specs.DecoratorsView.{deeds_of, tag_asked_with};
+ghost use Rattle.handlebars_helpers.specs.DecoratorsView.{deeds_of, decorator_question_of};
 ghost use Rattle.handlebars_helpers.specs.Own.{HasOne};
-ghost use Rattle.handlebars_helpers.specs.OwnDecorator.{TagAsked};
+ghost use Rattle.handlebars_helpers.specs.OwnDecorator.{DecoratorQuestion};
 ghost use Rattle.handlebars_helpers.specs.OwnView.{IsOneOf};
 
 use crate::decorators::DecoratorResult;
@@ -31,7 +31,7 @@ pub type DecoratorEntry = DecoratorEntryOf<Box<dyn DecoratorDef>, FnDecorator>;
 
 /// A decorator of one's own, as it is kept under a name and asked by it.
 pub trait DecoratorPart: Drop {
-    ghost has_deeds: { Self → TagAsked → Answer (List Deed) → Type 0 };
+    ghost has_deeds: { Self → DecoratorQuestion → Answer (List Deed) → Type 0 };
 
     /// What it answers for a tag.
     fn deeds(
@@ -41,11 +41,11 @@ pub trait DecoratorPart: Drop {
         changed: Option<&Context>,
         strict: bool,
     ) -> DecoratorResult
-        ensures { IsOneOf (has_deeds self.now (tag_asked_with d.now given.now changed.entry strict)) deeds_of result };
+        ensures { IsOneOf (has_deeds self.now (decorator_question_of d.now given.now changed.entry strict)) deeds_of result };
 
     /// No decorator that is kept so has two answers to one question.
     fn keeps_law(_kept: &Option<Self>)
-        ensures { (d : Self) (q : TagAsked) → HasOne (has_deeds d q) };
+        ensures { (d : Self) (q : DecoratorQuestion) → HasOne (has_deeds d q) };
 }
 
 impl DecoratorPart for Box<dyn DecoratorDef> {

@@ -1,7 +1,7 @@
 //! Functions that stand for decorators.
 
 ghost use Rattle.std.specs.Prelude.{◌≡◌};
-ghost use Rattle.handlebars_helpers.specs.DecoratorsView.{deeds_of, tag_asked_with};
+ghost use Rattle.handlebars_helpers.specs.DecoratorsView.{deeds_of, decorator_question_of};
 ghost use Rattle.handlebars_helpers.specs.Functions.{AnswersAt, AnswersOnceAt, AnswersOnceAt_prop};
 
 use crate::decorators::entry::DecoratorPart;
@@ -21,7 +21,7 @@ pub type DecoratorFn = Box<dyn Fn(&Decorator, &Context, &Option<&Context>, bool)
 pub struct FnDecorator {
     f: DecoratorFn,
     ghost callable: { IsAlwaysCallable f },
-    ghost once: { AnswersOnceAt tag_asked_with deeds_of (post f) } by { AnswersOnceAt_prop _ _ _ },
+    ghost once: { AnswersOnceAt decorator_question_of deeds_of (post f) } by { AnswersOnceAt_prop _ _ _ },
 }
 
 impl FnDecorator {
@@ -29,7 +29,7 @@ impl FnDecorator {
     /// two calls that ask the same it answers the same, want of memory aside.
     pub fn new(f: DecoratorFn) -> FnDecorator
         requires callable { IsAlwaysCallable f }
-        requires once { AnswersOnceAt tag_asked_with deeds_of (post f) }
+        requires once { AnswersOnceAt decorator_question_of deeds_of (post f) }
         ensures { result.f ≡ f }
     {
         FnDecorator { f }
@@ -38,7 +38,7 @@ impl FnDecorator {
 
 /// A function answers what it answers.
 impl DecoratorPart for FnDecorator {
-    ghost has_deeds = { λ d. AnswersAt tag_asked_with deeds_of (DecoratorFn.post d.f) };
+    ghost has_deeds = { λ d. AnswersAt decorator_question_of deeds_of (DecoratorFn.post d.f) };
 
     fn deeds(
         &self,

@@ -2,8 +2,8 @@
 
 ghost use Rattle.std.specs.Prelude.{List, Option};
 ghost use Rattle.handlebars_base.specs.Answers.{Answer};
-ghost use Rattle.handlebars_helpers.specs.Own.{Asked, HasOne, Offer, Step};
-ghost use Rattle.handlebars_helpers.specs.OwnView.{IsOneOf, asked_with, offer_of, steps_of};
+ghost use Rattle.handlebars_helpers.specs.Own.{HelperQuestion, HasOne, Offer, Step};
+ghost use Rattle.handlebars_helpers.specs.OwnView.{IsOneOf, helper_question_of, offer_of, steps_of};
 
 use crate::built_in::BuiltIn;
 use crate::own::def::HelperDef;
@@ -29,9 +29,9 @@ pub type HelperEntry = HelperEntryOf<Box<dyn HelperDef>, FnHelper>;
 
 /// A helper of one's own, as it is kept under a name and asked by it.
 pub trait HelperPart: Drop {
-    ghost has_steps: { Self → Asked → Answer (Option (List Step)) → Type 0 };
+    ghost has_steps: { Self → HelperQuestion → Answer (Option (List Step)) → Type 0 };
 
-    ghost has_offer: { Self → Asked → Answer Offer → Type 0 };
+    ghost has_offer: { Self → HelperQuestion → Answer Offer → Type 0 };
 
     /// What it answers when it is called.
     fn steps(
@@ -41,7 +41,7 @@ pub trait HelperPart: Drop {
         changed: Option<&Context>,
         strict: bool,
     ) -> HelperResult
-        ensures { IsOneOf (has_steps self.now (asked_with h.now given.now changed.entry strict)) steps_of result };
+        ensures { IsOneOf (has_steps self.now (helper_question_of h.now given.now changed.entry strict)) steps_of result };
 
     /// What it offers as its value.
     fn offer(
@@ -51,12 +51,12 @@ pub trait HelperPart: Drop {
         changed: Option<&Context>,
         strict: bool,
     ) -> Result<HelperValue, RenderError>
-        ensures { IsOneOf (has_offer self.now (asked_with h.now given.now changed.entry strict)) offer_of result };
+        ensures { IsOneOf (has_offer self.now (helper_question_of h.now given.now changed.entry strict)) offer_of result };
 
     /// No helper that is kept so has two answers to one question.
     fn keeps_law(_kept: &Option<Self>)
-        ensures steps { (h : Self) (q : Asked) → HasOne (has_steps h q) }
-        ensures offer { (h : Self) (q : Asked) → HasOne (has_offer h q) };
+        ensures steps { (h : Self) (q : HelperQuestion) → HasOne (has_steps h q) }
+        ensures offer { (h : Self) (q : HelperQuestion) → HasOne (has_offer h q) };
 }
 
 impl HelperPart for Box<dyn HelperDef> {

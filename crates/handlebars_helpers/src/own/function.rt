@@ -4,7 +4,7 @@ ghost use Rattle.std.specs.Prelude.{◌≡◌};
 ghost use Rattle.handlebars_base.specs.Answers.{gives};
 ghost use Rattle.handlebars_helpers.specs.Functions.{AnswersAt, AnswersOnceAt, AnswersOnceAt_prop};
 ghost use Rattle.handlebars_helpers.specs.Own.{not_offered};
-ghost use Rattle.handlebars_helpers.specs.OwnView.{asked_with, steps_of};
+ghost use Rattle.handlebars_helpers.specs.OwnView.{helper_question_of, steps_of};
 
 use crate::own::entry::HelperPart;
 use crate::own::{HelperResult, HelperStep, HelperValue};
@@ -24,7 +24,7 @@ pub type HelperFn = Box<dyn Fn(&Helper, &Context, &Option<&Context>, bool) -> Fn
 pub struct FnHelper {
     f: HelperFn,
     ghost callable: { IsAlwaysCallable f },
-    ghost once: { AnswersOnceAt asked_with steps_of (post f) } by { AnswersOnceAt_prop _ _ _ },
+    ghost once: { AnswersOnceAt helper_question_of steps_of (post f) } by { AnswersOnceAt_prop _ _ _ },
 }
 
 impl FnHelper {
@@ -32,7 +32,7 @@ impl FnHelper {
     /// two calls that ask the same it answers the same, want of memory aside.
     pub fn new(f: HelperFn) -> FnHelper
         requires callable { IsAlwaysCallable f }
-        requires once { AnswersOnceAt asked_with steps_of (post f) }
+        requires once { AnswersOnceAt helper_question_of steps_of (post f) }
         ensures { result.f ≡ f }
     {
         FnHelper { f }
@@ -41,7 +41,7 @@ impl FnHelper {
 
 /// A function offers no value, and answers what it answers.
 impl HelperPart for FnHelper {
-    ghost has_steps = { λ h. AnswersAt asked_with steps_of (HelperFn.post h.f) };
+    ghost has_steps = { λ h. AnswersAt helper_question_of steps_of (HelperFn.post h.f) };
 
     ghost has_offer = { λ h q a. a ≡ gives not_offered };
 

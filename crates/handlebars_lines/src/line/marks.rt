@@ -10,7 +10,7 @@ ghost use Rattle.handlebars_lines.specs.LineView.{enclosure_of, texts_of};
 
 use super::step::Enclosure;
 use crate::binding::behind_beginning;
-use handlebars_base::json::path::marks::{after, behind_white, symbols};
+use handlebars_base::json::path::marks::{behind_byte, behind_white, symbols};
 
 fn ends_tag(byte: u8) -> bool
     ensures { result ≡ ends_tag byte }
@@ -60,6 +60,6 @@ pub fn key_and_equals_at(text: &str) -> Option<(&str, &str)>
     if key.is_empty() {
         return None;
     }
-    let rest = after(b'=', behind_white(rest))?;
+    let rest = behind_byte(b'=', behind_white(rest))?;
     Some((key, behind_white(rest)))
 }

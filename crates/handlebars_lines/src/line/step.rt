@@ -9,7 +9,9 @@ use super::alone::path_slice;
 use super::close_name::close_name_at;
 use super::marks::{is_end, key_and_equals_at};
 use crate::literal::literal_at;
-use handlebars_base::json::path::marks::{after, all_symbols, behind_white, starts_white, symbols};
+use handlebars_base::json::path::marks::{
+    all_symbols, behind_byte, behind_white, starts_white, symbols,
+};
 use std::alloc::{AllocError, Global};
 
 /// Where a line stands: it ends before `~` or `}` in a tag, there or before `as |` in the tag of a block, and before
@@ -150,7 +152,7 @@ fn name_step(mode: NameMode, level: usize, text: &str) -> Step<'_>
             let (name, rest) = symbols(text);
             plain_step(level, name, rest)
         }
-        NameMode::Value => match after(b'(', text) {
+        NameMode::Value => match behind_byte(b'(', text) {
             Some(rest) => open_step(None, level, rest),
             None => match path_slice(text) {
                 Some(slice) => {
@@ -161,7 +163,7 @@ fn name_step(mode: NameMode, level: usize, text: &str) -> Step<'_>
                 None => Step::Stuck,
             },
         },
-        NameMode::Close => match after(b'(', text) {
+        NameMode::Close => match behind_byte(b'(', text) {
             Some(rest) => open_step(None, level, rest),
             None => {
                 let (name, rest) = close_name_at(text);
@@ -203,7 +205,7 @@ fn parameter_step<'a>(
     requires { level < 2 ^ 63 }
     ensures { IfOk result (λ step. step_of step ≡ parameter_step (key_of key.entry) level text.now) }
 {
-    if let Some(rest) = after(b'(', text) {
+    if let Some(rest) = behind_byte(b'(', text) {
         return Ok(open_step(key, level, rest));
     }
     let state = LineStand {
@@ -274,7 +276,7 @@ fn behind_step(
             next_step(alloc, stand, 0, text)
         };
     }
-    match after(b')', behind_white(text)) {
+    match behind_byte(b')', behind_white(text)) {
         Some(rest) => {
             let state = LineStand {
                 stand: Stand::Items,

@@ -15,10 +15,10 @@ use Rattle.handlebars_scope.specs.ScopeView.{frame_of}
 use Rattle.handlebars_helpers.specs.CallView.{HelperView}
 use Rattle.handlebars_helpers.specs.Callee.{built, own, calls_local, calls_registered}
 use Rattle.handlebars_helpers.specs.OwnView.{step_of}
-use Rattle.handlebars_helpers.specs.Turns.{turned}
+use Rattle.handlebars_helpers.specs.Turns.{turn_frame}
 use Rattle.handlebars_helpers.specs.View.{helper_view, path_view, turn_view}
 use Rattle.handlebars_scope.specs.Scopes.{Frame, empty_frame}
-use Rattle.handlebars_meaning.specs.CarryOut.{helper_call}
+use Rattle.handlebars_meaning.specs.CarryOut.{view_with_bodies}
 use Rattle.handlebars_meaning.specs.Means.{line_in, render_chosen, render_decorator}
 use Rattle.handlebars_meaning.specs.Runs.{named_as, placed_at}
 use Rattle.handlebars_render.specs.Boxed.{answer_of, error_of}
@@ -28,16 +28,16 @@ use Rattle.handlebars_render.specs.Bound.{callee_in}
 use Rattle.handlebars_render.specs.declared.bound.BoundCall.{BoundCall}
 use Rattle.handlebars_render.specs.Chosen.{part_view, render_rest}
 use Rattle.handlebars_base.specs.Bytes.{Text}
-use Rattle.handlebars_render.specs.View.{called, called_view, keeping, lending, setting_in, state_of, state_with, within}
+use Rattle.handlebars_render.specs.View.{with_current, called_view, keeping, lending, setting_in, state_of, state_with, within}
 use Rattle.handlebars_render.proofs.Calls.{entered_as}
 use Rattle.handlebars_render.proofs.BoundCalls.{choice-entered, chooses-entered, chooses-parts}
 use Rattle.handlebars_render.proofs.Leads.{body-seen, carries_on-choice, carries_on-leads, carries_on-part, inverse-seen, part_site}
 use Rattle.handlebars_render.proofs.Leaves.{carries_on-leaves}
-use Rattle.handlebars_render.proofs.Carry.{carries-run, carries_on-done, carries_on-handed, carries_on-in_block, carries_on-line, carries_on-no_memory, carries_on-no_value, carries_on-out_of_memory, carries_on-puts, carries_on-step, carries_on-task, carries_on-task_over, carries_on-unescaped, restored}
-use Rattle.handlebars_meaning.specs.State.{entered, hook, left, nearest_variables}
+use Rattle.handlebars_render.proofs.Carry.{carries-run, carries_on-done, carries_on-handed, carries_on-in_block, carries_on-line, carries_on-no_memory, carries_on-no_value, carries_on-out_of_memory, carries_on-puts, carries_on-step, carries_on-task, carries_on-task_over, carries_on-without_escaping, restored}
+use Rattle.handlebars_meaning.specs.State.{push_frame, hook, pop_frame, nearest_variables}
 use Rattle.handlebars_render.proofs.Elements.{left_starts, left_goes, left_over, left_ends, whole_with}
 use Rattle.handlebars_render.proofs.Kept.{kept-refl, kept-trans, outer-kept, outer-trans}
-use Rattle.handlebars_render.proofs.Lent.{left-lent, named-lent, nearest-lent, nearest_variables-lend, one_more, partial_in-lend}
+use Rattle.handlebars_render.proofs.Lent.{pop_frame-lent, named-lent, nearest-lent, nearest_variables-lend, one_more, partial_in-lend}
 use Rattle.handlebars_render.proofs.Lists.{get_or-seen, below-seen, over-seen, place_there, looked_up, placed_marks}
 use Rattle.handlebars_render.proofs.Silent.{carries_on-does}
 use Rattle.handlebars_render.proofs.Sinks.{same-refl, same-trans}
@@ -53,7 +53,7 @@ use Rattle.handlebars_meaning.specs.Questions.{view_of}
 use Rattle.handlebars_meaning.specs.Sites.{included_at}
 use Rattle.handlebars_meaning.specs.Steps.{Whole, ask, perform, return}
 use Rattle.handlebars_render.proofs.Asked.{refuses-ask}
-use Rattle.handlebars_render.proofs.Includes.{begins-empty, begun-so, kept-more, own-none, own-some, placed, carries_ahead-over, carries_ahead-text, includes-kept, includes-local, includes-own, includes-registered, includes-self, inclusion-ahead, inclusion-ahead_over, inclusion-no_room, inclusion-no_value, inclusion-plain, kept-none, kept-own, kept-text, tag-includes, under-same}
+use Rattle.handlebars_render.proofs.Includes.{begins-empty, begin_inclusion-so, kept-more, own-none, own-some, placed, carries_ahead-over, carries_ahead-text, includes-kept, includes-local, includes-own, includes-registered, includes-self, inclusion-ahead, inclusion-ahead_over, inclusion-no_room, inclusion-no_value, inclusion-plain, kept-none, kept-own, kept-text, tag-includes, under-same}
 use Rattle.handlebars_render.proofs.+render.Goals.{partial::include_tree-in-Some+in-Ok-render_ahead, partial::include_tree-in-Some+in-Err-render_ahead, partial::include_tree-in-None}
 use Rattle.handlebars_render.proofs.+render.Goals as goal
 
@@ -87,7 +87,7 @@ block::render_tag-returns-in-Err-clause-renders g t c = λ site kept. c.in-Err.e
 pub block::render_branch-returns-clause-renders : goal.block::render_branch-returns-clause-renders
 block::render_branch-returns-clause-renders g t c = λ site block target v kept has.
     let p = setting_in g.P.Registered.parts c.args.environment.now in
-    let h = helper_call block (call_view c.args.helper.now) v in
+    let h = view_with_bodies block (call_view c.args.helper.now) v in
     let marked = ap (λ (m : CallMarks). m.indent_before_write) (call_marks-view c.args.helper.now) in
     let entered = entered_as (state_with kept c.args.rc.now) (state_with kept c.enter_call.new.rc) _ _ marked (ap (keeping kept) c.enter_call.ensures.state) in
     carries_on-line _ _ (line_in (call_marks (call_view c.args.helper.now)).indent_before_write) (render_chosen site target h)
@@ -101,7 +101,7 @@ block::render_branch-returns-clause-renders g t c = λ site block target v kept 
 pub block::render_call-returns-clause-renders : goal.block::render_call-returns-clause-renders
 block::render_call-returns-clause-renders g t c = λ site target v kept chooses.
     let p = setting_in g.P.Registered.parts c.args.environment.now in
-    let h = helper_call c.args.block (call_view c.args.helper.now) v in
+    let h = view_with_bodies c.args.block (call_view c.args.helper.now) v in
     let marked = ap (λ (m : CallMarks). m.indent_before_write) (call_marks-view c.args.helper.now) in
     let entered = entered_as (state_with kept c.args.rc.now) (state_with kept c.enter_call.new.rc) _ _ marked (ap (keeping kept) c.enter_call.ensures.state) in
     carries_on-line _ _ (line_in (call_marks (call_view c.args.helper.now)).indent_before_write) (render_chosen site target h)
@@ -114,7 +114,7 @@ pub block::render_chosen-returns-in-Ok-clause-renders : goal.block::render_chose
 block::render_chosen-returns-in-Ok-clause-renders g t c = λ site target v kept chooses.
     let p = setting_in g.P.Registered.parts c.args.environment.now in
     let d = call_view c.args.helper.now in
-    let h = helper_call c.args.block d v in
+    let h = view_with_bodies c.args.block d v in
     carries_on-leads p _ (render_chosen site target h) (render_rest site h) c.in-Ok.rest
     (c.in-Ok.ensures.leads site target v kept
     (chooses-parts p (state_with kept c.args.rc.now) c.args.block d c.args.bound.value c.into_parts-callee.result
@@ -127,7 +127,7 @@ pub block::render_chosen-returns-clause-renders : goal.block::render_chosen-retu
 block::render_chosen-returns-clause-renders g t c = λ site target v kept chooses.
     let p = setting_in g.P.Registered.parts c.args.environment.now in
     let d = call_view c.args.helper.now in
-    let h = helper_call c.args.block d v in
+    let h = view_with_bodies c.args.block d v in
     c.in-Err.ensures.leads site target v kept
     (chooses-parts p (state_with kept c.args.rc.now) c.args.block d c.args.bound.value c.into_parts-callee.result
     (helper_view c.of_call-view.result) target h
@@ -199,7 +199,7 @@ element::render_element-returns-in-PartialBlock-clause-renders g t c = λ site k
     (rw c.deref-in-PartialBlock.ensures at (c.render_partial-in-PartialBlock.ensures.renders site kept))
 
 pub element::render_unescaped-returns-clause-renders : goal.element::render_unescaped-returns-clause-renders
-element::render_unescaped-returns-clause-renders g t c = λ site kept. carries_on-unescaped _ _ _ (ap (keeping kept) c.set_disable_escape.ensures.state)
+element::render_unescaped-returns-clause-renders g t c = λ site kept. carries_on-without_escaping _ _ _ (ap (keeping kept) c.set_disable_escape.ensures.state)
     (ap (keeping kept) (c.set_disable_escape-2.ensures.state
     ∙ restored (state_of c.render_tag-answer.new.rc) (state_of c.args.rc.now).escapes _ c.is_disable_escape-disabled.ensures))
     (c.render_tag-answer.ensures.renders site kept)
@@ -289,7 +289,7 @@ steps::take_step-returns-in-BodyIn-clause-renders g t c = λ site i block v kept
 pub steps::take_steps-returns-in-Err-clause-renders : goal.steps::take_steps-returns-in-Err-clause-renders
 steps::take_steps-returns-in-Err-clause-renders g t c = λ site block v kept.
     rw (sym c.into_iter-step-iterator.ensures.into_iter_gives.0)
-    (steps-over _ _ site c.steps.invariant.number (helper_call block (call_view c.args.helper.now) v) _
+    (steps-over _ _ site c.steps.invariant.number (view_with_bodies block (call_view c.args.helper.now) v) _
     (ap (map step_of) c.in-Some.ensures.steps.0) (c.steps.invariant.left site block v kept)
     (c.in-Err.ensures.renders site c.steps.invariant.number block v kept))
 
@@ -311,7 +311,7 @@ steps::take_steps-steps-preserved g t c =
     record {
       number = c.steps.invariant.number + 1;
       left = λ site block v kept.
-          steps-go _ _ site c.steps.invariant.number (helper_call block (call_view c.args.helper.now) v) _
+          steps-go _ _ site c.steps.invariant.number (view_with_bodies block (call_view c.args.helper.now) v) _
           (ap (map step_of) c.in-Some.ensures.steps.0) (c.steps.invariant.left site block v kept)
           (c.in_default.ensures.renders site c.steps.invariant.number block v kept);
       sized = omega arith;
@@ -322,7 +322,7 @@ steps::take_steps-steps-preserved g t c =
 pub steps::take_steps-returns-clause-renders : goal.steps::take_steps-returns-clause-renders
 steps::take_steps-returns-clause-renders g t c = λ site block v kept.
     rw (sym c.into_iter-step-iterator.ensures.into_iter_gives.0)
-    (steps-end _ _ site c.steps.invariant.number (helper_call block (call_view c.args.helper.now) v) _
+    (steps-end _ _ site c.steps.invariant.number (view_with_bodies block (call_view c.args.helper.now) v) _
     (ap (map step_of) (nothing_left _ (sym c.steps.invariant.sized ∙ c.in-None.ensures.steps.0)))
     (c.steps.invariant.left site block v kept))
 
@@ -345,7 +345,7 @@ pub each::render_in-returns-clause-renders : goal.each::render_in-returns-clause
 each::render_in-returns-clause-renders g t c = λ site i block v kept.
     let more = one_more kept None c.block-bases.ensures in
     carries_on-in_block _ _ (frame_of c.args.scope) _ (ap (keeping more) c.in_ok-push_block.ensures.ok)
-    (ap (keeping kept) c.pop_block.ensures.state ∙ left-lent kept None c.block-bases.ensures (state_of c.render_part-answer.new.rc))
+    (ap (keeping kept) c.pop_block.ensures.state ∙ pop_frame-lent kept None c.block-bases.ensures (state_of c.render_part-answer.new.rc))
     (rw (body-seen c.args.helper.now c.as_ref.result c.as_ref.ensures.value) at (c.render_part-answer.ensures.renders (body_at site i) more))
 
 pub each::render_each-returns-in_err-push_block-clause-renders : goal.each::render_each-returns-in_err-push_block-clause-renders
@@ -356,23 +356,23 @@ pub each::render_each-returns-clause-renders : goal.each::render_each-returns-cl
 each::render_each-returns-clause-renders g t c = λ site block v kept.
     let more = one_more kept None c.block-bases.ensures in
     carries_on-in_block _ _ empty_frame _
-    (ap (keeping more) (c.in_ok-push_block.ensures.ok ∙ ap (λ (f : Frame). entered f (state_of c.args.rc.now)) c.new.ensures))
-    (ap (keeping kept) c.pop_block.ensures.state ∙ left-lent kept None c.block-bases.ensures (state_of c.take_turns-answer.new.rc))
+    (ap (keeping more) (c.in_ok-push_block.ensures.ok ∙ ap (λ (f : Frame). push_frame f (state_of c.args.rc.now)) c.new.ensures))
+    (ap (keeping kept) c.pop_block.ensures.state ∙ pop_frame-lent kept None c.block-bases.ensures (state_of c.take_turns-answer.new.rc))
     (c.take_turns-answer.ensures.renders site block v more (kept.bases, refl))
 
 -- ---- turns
 
 pub each::take_turns-returns-in_err-set_up_turn-clause-renders : goal.each::take_turns-returns-in_err-set_up_turn-clause-renders
 each::take_turns-returns-in_err-set_up_turn-clause-renders g t c = λ site block v kept unlent.
-    turns-no_memory _ _ site c.turns.invariant.number (helper_call block (call_view c.args.helper.now) v) (path_view c.args.path) _ _ c.from_residual.result
+    turns-no_memory _ _ site c.turns.invariant.number (view_with_bodies block (call_view c.args.helper.now) v) (path_view c.args.path) _ _ c.from_residual.result
     c.in-Some.ensures (c.turns.invariant.left site block v kept unlent) c.from_residual.ensures.1
 
 pub each::take_turns-returns-in-Err-clause-renders : goal.each::take_turns-returns-in-Err-clause-renders
 each::take_turns-returns-in-Err-clause-renders g t c = λ site block v kept unlent.
-    turns-over _ _ site c.turns.invariant.number (helper_call block (call_view c.args.helper.now) v) (path_view c.args.path) _
+    turns-over _ _ site c.turns.invariant.number (view_with_bodies block (call_view c.args.helper.now) v) (path_view c.args.path) _
     c.in-Some.ensures (c.turns.invariant.left site block v kept unlent)
-    (carries_on-turn _ _ site c.turns.invariant.number (helper_call block (call_view c.args.helper.now) v) (path_view c.args.path) (turn_view c.in-Some.turn)
-    (rw (sym (binding-seen c.args.helper.now c.as_ref.result c.as_ref.ensures.value)) (nearest-lent kept (turned (path_view c.args.path) _ (turn_view c.in-Some.turn)) _ _ (c.in_ok-set_up_turn.ensures.ok c.turns.invariant.below) unlent))
+    (carries_on-turn _ _ site c.turns.invariant.number (view_with_bodies block (call_view c.args.helper.now) v) (path_view c.args.path) (turn_view c.in-Some.turn)
+    (rw (sym (binding-seen c.args.helper.now c.as_ref.result c.as_ref.ensures.value)) (nearest-lent kept (turn_frame (path_view c.args.path) _ (turn_view c.in-Some.turn)) _ _ (c.in_ok-set_up_turn.ensures.ok c.turns.invariant.below) unlent))
     (rw (body-seen c.args.helper.now c.as_ref-in-Some.result c.as_ref-in-Some.ensures.value) at (c.in-Err.ensures.renders (body_at site c.turns.invariant.number) kept)))
 
 pub each::take_turns-turns-init : goal.each::take_turns-turns-init
@@ -389,10 +389,10 @@ pub each::take_turns-turns-preserved : goal.each::take_turns-turns-preserved
 each::take_turns-turns-preserved g t c = record {
   number = c.turns.invariant.number + 1;
   left = λ site block v kept unlent.
-      turns-go _ _ site c.turns.invariant.number (helper_call block (call_view c.args.helper.now) v) (path_view c.args.path) _
+      turns-go _ _ site c.turns.invariant.number (view_with_bodies block (call_view c.args.helper.now) v) (path_view c.args.path) _
       c.in-Some.ensures (c.turns.invariant.left site block v kept unlent)
-      (carries_on-turn _ _ site c.turns.invariant.number (helper_call block (call_view c.args.helper.now) v) (path_view c.args.path) (turn_view c.in-Some.turn)
-      (rw (sym (binding-seen c.args.helper.now c.as_ref.result c.as_ref.ensures.value)) (nearest-lent kept (turned (path_view c.args.path) _ (turn_view c.in-Some.turn)) _ _ (c.in_ok-set_up_turn.ensures.ok c.turns.invariant.below) unlent))
+      (carries_on-turn _ _ site c.turns.invariant.number (view_with_bodies block (call_view c.args.helper.now) v) (path_view c.args.path) (turn_view c.in-Some.turn)
+      (rw (sym (binding-seen c.args.helper.now c.as_ref.result c.as_ref.ensures.value)) (nearest-lent kept (turn_frame (path_view c.args.path) _ (turn_view c.in-Some.turn)) _ _ (c.in_ok-set_up_turn.ensures.ok c.turns.invariant.below) unlent))
       (rw (body-seen c.args.helper.now c.as_ref-in-Some.result c.as_ref-in-Some.ensures.value) at (c.in_default-render_part.ensures.renders (body_at site c.turns.invariant.number) kept)));
   same = same-trans _ _ _ c.turns.invariant.same c.in_default-render_part.ensures.stays.same;
   outer = outer-trans c.turns.invariant.outer
@@ -403,7 +403,7 @@ each::take_turns-turns-preserved g t c = record {
 
 pub each::take_turns-returns-clause-renders : goal.each::take_turns-returns-clause-renders
 each::take_turns-returns-clause-renders g t c = λ site block v kept unlent.
-    turns-end _ _ site c.turns.invariant.number (helper_call block (call_view c.args.helper.now) v) (path_view c.args.path) _
+    turns-end _ _ site c.turns.invariant.number (view_with_bodies block (call_view c.args.helper.now) v) (path_view c.args.path) _
     c.in_default.ensures (c.turns.invariant.left site block v kept unlent)
 
 -- ---- inclusions
@@ -538,9 +538,9 @@ partial::include_tree-returns-clause-renders g t c = λ site there kept.
     let s = lending kept.bases (state_of c.args.rc.now) in
     let b = option_map (λ v. view v.now) c.in-Ok-inclusion_block.lent.base in
     let stands = c.in-Ok-inclusion_block.ensures kept in
-    let inner = entered (inclusion_block stands.0 (pair_values v.call.pairs) (nearest_variables s.blocks)) s in
+    let inner = push_frame (inclusion_block stands.0 (pair_values v.call.pairs) (nearest_variables s.blocks)) s in
     let begins = ap (lending (b ∷ kept.bases)) c.in_ok-name.ensures.ok
-    ∙ ap (λ (f : Frame). called None (entered f s)) stands.2 in
+    ∙ ap (λ (f : Frame). with_current None (push_frame f s)) stands.2 in
     let more = one_more kept b c.block-bases.ensures in
     elim c.match-body.branch [
       | partial::include_tree-in-Some+in-Ok-render_ahead w ↦
@@ -551,7 +551,7 @@ partial::include_tree-returns-clause-renders g t c = λ site there kept.
           c.in-Ok.ensures.ok.0 stands.1 (ap (placed w0.indent kept.pieces w0.inclusions) begins)
           (w.in-Ok-render_ahead.ensures.ahead (body_at site 0) more _)
           (λ ps. kept-more v.indent w0.indent (Some ps) kept.pieces w0.inclusions c.in-Ok.count (lending (b ∷ kept.bases) (state_of w.render_ahead.new.rc)) c.in-Ok.ensures.ok.1)
-          (λ ps. ap (keeping kept) ((rw w.rc-is at c.end.ensures.state) ∙ ap (λ (n : Option Text). called n (left (state_of w.render_under.new.rc))) c.in_ok-name.ensures.name)
+          (λ ps. ap (keeping kept) ((rw w.rc-is at c.end.ensures.state) ∙ ap (λ (n : Option Text). with_current n (pop_frame (state_of w.render_under.new.rc))) c.in_ok-name.ensures.name)
           ∙ named-lent kept b c.block-bases.ensures (state_of c.args.rc.now).current (state_of w.render_under.new.rc))
           (λ ps is. w.render_under.ensures.renders there
           (record {
@@ -567,8 +567,8 @@ partial::include_tree-returns-clause-renders g t c = λ site there kept.
       | partial::include_tree-in-None w ↦
           rw (w.answer-is, w.sink-is, w.in-None.is)
           (inclusion-plain _ _ v there u stands.0 {c = None} c.in-Ok.ensures.ok.0 stands.1
-          (begun-so v.indent w0.indent None kept.pieces w0.inclusions c.in-Ok.count inner c.in-Ok.ensures.ok.1 begins)
-          (ap (keeping kept) ((rw w.rc-is at c.end.ensures.state) ∙ ap (λ (n : Option Text). called n (left (state_of w.render_under-answer.new.rc))) c.in_ok-name.ensures.name)
+          (begin_inclusion-so v.indent w0.indent None kept.pieces w0.inclusions c.in-Ok.count inner c.in-Ok.ensures.ok.1 begins)
+          (ap (keeping kept) ((rw w.rc-is at c.end.ensures.state) ∙ ap (λ (n : Option Text). with_current n (pop_frame (state_of w.render_under-answer.new.rc))) c.in_ok-name.ensures.name)
           ∙ named-lent kept b c.block-bases.ensures (state_of c.args.rc.now).current (state_of w.render_under-answer.new.rc))
           (w.render_under-answer.ensures.renders there (record { pieces = None ∷ kept.pieces; bases = more.bases; holds = refl; lent = more.lent })))
     ]
@@ -588,5 +588,5 @@ partial::render_kept-returns-clause-renders g t c = λ site kept.
     kept-own _ _ v site v.body (tree_view c.in-Some-template.body.now) (newest kept.pieces)
     (kept.holds ∙ ap (option_map (λ t. t.now)) c.in_default.is) (rw c.in-Some-template.is at c.template.ensures)
     (ap (keeping kept) c.take_name-name.ensures.state)
-    (ap (keeping kept) (c.set_current_template_name.ensures.state ∙ ap (λ (n : Option Text). called n (state_of c.render_tree-answer.new.rc)) c.take_name-name.ensures.name))
+    (ap (keeping kept) (c.set_current_template_name.ensures.state ∙ ap (λ (n : Option Text). with_current n (state_of c.render_tree-answer.new.rc)) c.take_name-name.ensures.name))
     (c.render_tree-answer.ensures.renders (body_at site 0) kept)

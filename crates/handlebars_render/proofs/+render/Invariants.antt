@@ -6,7 +6,7 @@ use Rattle.handlebars_meaning.specs.Sites.{TreeSite, Site}
 use Rattle.handlebars_helpers.specs.CallView.{CallView}
 use Rattle.handlebars_helpers.specs.OwnView.{step_of}
 use Rattle.handlebars_helpers.specs.View.{path_view, turns_left}
-use Rattle.handlebars_meaning.specs.CarryOut.{helper_call}
+use Rattle.handlebars_meaning.specs.CarryOut.{view_with_bodies}
 use Rattle.handlebars_render.specs.View.{setting_in, state_of, moment, held_in, within, HasOuter, IsKept, IsSame, IsUnlent, KeptIn, NearestBelow}
 use Rattle.handlebars_render.proofs.Elements.{Left}
 use Rattle.handlebars_render.proofs.OwnSteps.{StepsLeft}
@@ -87,7 +87,7 @@ abbrev pub invariant-each::take_turns-turns : goal.invariant-each::take_turns-tu
 invariant-each::take_turns-turns g l = record {
   number : ℕ;
   left : (site : Site) (block : Bool) (v : CallView) (kept : KeptIn (within l.environment)) → IsUnlent kept.bases → TurnsLeft (setting_in g.P.Registered.parts l.environment) g.O.Output.may_give
-      site number (helper_call block (call_view l.helper) v) (path_view l.path) (turns_left l.initial.left) (turns_left l.left)
+      site number (view_with_bodies block (call_view l.helper) v) (path_view l.path) (turns_left l.initial.left) (turns_left l.left)
       (moment kept l.initial.rc (held_in g.O.Output.held l.initial.sink)) (moment kept l.rc (held_in g.O.Output.held l.sink));
   same : IsSame l.initial.sink l.sink;
   outer : HasOuter l.initial.rc l.rc;
@@ -101,7 +101,7 @@ abbrev pub invariant-steps::take_steps-steps : goal.invariant-steps::take_steps-
 invariant-steps::take_steps-steps g l = record {
   number : ℕ;
   left : (site : Site) (block : Bool) (v : CallView) (kept : KeptIn (within l.environment)) → StepsLeft (setting_in g.P.Registered.parts l.environment) g.O.Output.may_give
-      site number (helper_call block (call_view l.helper) v) (map step_of (into_iter_items l.initial.step-iterator))
+      site number (view_with_bodies block (call_view l.helper) v) (map step_of (into_iter_items l.initial.step-iterator))
       (map step_of (into_iter_items l.step-iterator))
       (moment kept l.initial.rc (held_in g.O.Output.held l.initial.sink)) (moment kept l.rc (held_in g.O.Output.held l.sink));
   sized : into_iter_len l.step-iterator ≡ length (into_iter_items l.step-iterator);

@@ -2,7 +2,7 @@
 
 ghost use Rattle.std.specs.Prelude.{◌≡◌};
 ghost use Rattle.handlebars_scope.specs.LineView.{line_of};
-ghost use Rattle.handlebars_render.specs.View.{behind, state_of, with_line, IsKept};
+ghost use Rattle.handlebars_render.specs.View.{state_behind, state_of, with_line, IsKept};
 
 use crate::context::RenderContext;
 use handlebars_scope::line::LineState;
@@ -58,7 +58,7 @@ impl RenderContext {
 
     // A text was written.
     pub(crate) fn pass_text(&mut self, text: &str)
-        ensures state { state_of self.new ≡ behind text.now (state_of self.old) }
+        ensures state { state_of self.new ≡ state_behind text.now (state_of self.old) }
         ensures kept { IsKept self.old self.new }
     {
         self.line = self.line.behind(text);

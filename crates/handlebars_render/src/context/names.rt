@@ -3,8 +3,8 @@
 ghost use Rattle.std.specs.Prelude.{◌≡◌, IfOk, OnErr, OnOk, Some, None, option_map, string_bytes};
 ghost use Rattle.handlebars_scope.specs.ScopeView.{frame_of};
 ghost use Rattle.handlebars_meaning.specs.Inclusion.{is_current};
-ghost use Rattle.handlebars_meaning.specs.State.{entered, left};
-ghost use Rattle.handlebars_render.specs.View.{called, has_failed, root_of, state_of, IsKept};
+ghost use Rattle.handlebars_meaning.specs.State.{push_frame, pop_frame};
+ghost use Rattle.handlebars_render.specs.View.{with_current, has_failed, root_of, state_of, IsKept};
 
 use crate::context::RenderContext;
 use handlebars_scope::block::BlockContext;
@@ -27,7 +27,7 @@ impl RenderContext {
 
     /// From now on this is the name of the template whose elements are being rendered, or it has none.
     pub fn set_current_template_name(&mut self, name: Option<String>)
-        ensures state { state_of self.new ≡ called (option_map string_bytes name) (state_of self.old) }
+        ensures state { state_of self.new ≡ with_current (option_map string_bytes name) (state_of self.old) }
         ensures kept { IsKept self.old self.new }
     {
         self.current_template = name;
@@ -46,7 +46,7 @@ impl RenderContext {
     // Takes the current name away, and gives it.
     pub(crate) fn take_name(&mut self) -> Option<String>
         ensures name { option_map string_bytes result ≡ (state_of self.old).current }
-        ensures state { state_of self.new ≡ called None (state_of self.old) }
+        ensures state { state_of self.new ≡ with_current None (state_of self.old) }
         ensures kept { IsKept self.old self.new }
     {
         self.current_template.take()
@@ -55,7 +55,7 @@ impl RenderContext {
     // An inclusion begins, in this block. The name that was the current one is given.
     pub(crate) fn begin(&mut self, block: BlockContext) -> Result<Option<String>, AllocError>
         ensures name { IfOk result (λ name. option_map string_bytes name ≡ (state_of self.old).current) }
-        ensures ok { OnOk result (state_of self.new ≡ called None (entered (frame_of block) (state_of self.old))) }
+        ensures ok { OnOk result (state_of self.new ≡ with_current None (push_frame (frame_of block) (state_of self.old))) }
         ensures err { OnErr result (state_of self.new ≡ state_of self.old) }
         ensures root { root_of self.new ≡ root_of self.old }
         ensures failed { has_failed self.new ≡ has_failed self.old }
@@ -66,7 +66,7 @@ impl RenderContext {
 
     // An inclusion is over: its block is left, and this name is the current one again.
     pub(crate) fn end(&mut self, name: Option<String>)
-        ensures state { state_of self.new ≡ called (option_map string_bytes name) (left (state_of self.old)) }
+        ensures state { state_of self.new ≡ with_current (option_map string_bytes name) (pop_frame (state_of self.old)) }
         ensures root { root_of self.new ≡ root_of self.old }
         ensures failed { has_failed self.new ≡ has_failed self.old }
     {

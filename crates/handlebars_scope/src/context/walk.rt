@@ -9,7 +9,7 @@ ghost use Rattle.handlebars_base.specs.Answers.{Answers, answer_map, gives};
 ghost use Rattle.handlebars_base.specs.PathView.{reference_of, segments_of};
 ghost use Rattle.handlebars_base.specs.Scoped.{found_of, is_constant, present_in};
 ghost use Rattle.handlebars_scope.specs.Bases.{IsCurrent, bases_of, lend};
-ghost use Rattle.handlebars_scope.specs.Resolve.{along, found_by, found_front, found_within, navigated, resolved, variable_at};
+ghost use Rattle.handlebars_scope.specs.Resolve.{along, found_by, found_front, found_within, navigate, resolve, variable_at};
 ghost use Rattle.handlebars_scope.specs.Resolve.{if_any, index_of, longest, member_at, names_of, or_else, value_at};
 ghost use Rattle.handlebars_scope.specs.ScopeView.{frame_of, frames_of};
 ghost use Rattle.handlebars_scope.specs.Seeking.{Seeks};
@@ -36,7 +36,7 @@ pub fn resolve<'v>(
 ) -> Result<Option<&'v Json>, RenderError>
     ensures { Answers (option_map (λ v. view v.now)) result
         (answer_map present_in
-        (resolved recursive (lend (bases_of bases.now) (frames_of blocks.now.items)) (reference_of path.now)
+        (resolve recursive (lend (bases_of bases.now) (frames_of blocks.now.items)) (reference_of path.now)
         (view given.now))) }
 {
     answered(alloc, reach(given, path, blocks, bases, recursive))
@@ -51,7 +51,7 @@ pub fn reach<'v: 'n, 'n>(
     recursive: bool,
 ) -> Reached<'v, 'n>
     ensures { reached_of result ≡ answer_map present_in
-        (resolved recursive (lend (bases_of bases.now) (frames_of blocks.now.items)) (reference_of path.now)
+        (resolve recursive (lend (bases_of bases.now) (frames_of blocks.now.items)) (reference_of path.now)
         (view given.now)) }
 {
     match path {
@@ -70,7 +70,7 @@ pub fn find<'a>(
     recursive: bool,
 ) -> Result<ScopedJson<'a>, RenderError>
     ensures found { Answers found_of result
-        (resolved recursive (lend (bases_of bases.now) (frames_of blocks.now.items)) (reference_of path.now)
+        (resolve recursive (lend (bases_of bases.now) (frames_of blocks.now.items)) (reference_of path.now)
         (view given.now)) }
     ensures plain { IfOk result (λ found. is_constant found ≡ false) }
 {
@@ -90,7 +90,7 @@ pub fn seek<'a, 'n>(
     recursive: bool,
 ) -> Result<ScopedJson<'a>, Unfound<'n>>
     ensures found { Seeks result
-        (resolved recursive (lend (bases_of bases.now) (frames_of blocks.now.items)) (reference_of path.now)
+        (resolve recursive (lend (bases_of bases.now) (frames_of blocks.now.items)) (reference_of path.now)
         (view given.now)) }
     ensures plain { IfOk result (λ found. is_constant found ≡ false) }
 {
@@ -152,7 +152,7 @@ pub(crate) fn navigate<'a>(
     recursive: bool,
 ) -> Result<ScopedJson<'a>, RenderError>
     ensures found { Answers found_of result
-        (navigated recursive (frames_of blocks.now.items) (segments_of segments.now) (view given.now)) }
+        (navigate recursive (frames_of blocks.now.items) (segments_of segments.now) (view given.now)) }
     ensures plain { IfOk result (λ found. is_constant found ≡ false) }
 {
     let bases = Bases::outside();

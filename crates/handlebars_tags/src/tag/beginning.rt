@@ -8,8 +8,8 @@ ghost use Rattle.handlebars_base.specs.Texts.{starts};
 ghost use Rattle.handlebars_tags.specs.Kind.{expression_kind, beginning, word, rows, behind_sign, ends_word, first_of, beginning_of};
 ghost use Rattle.handlebars_tags.specs.KindView.{kind_of, beginning_view, signed_by};
 
-use crate::front::{past, tilde_at};
-use handlebars_base::json::path::marks::{after, behind_white, is_white};
+use crate::front::{behind_text, tilde_at};
+use handlebars_base::json::path::marks::{behind_byte, behind_white, is_white};
 
 /// The kind of a tag, by its beginning.
 #[derive(Clone, Copy)]
@@ -42,8 +42,8 @@ pub struct TagBeginning<'a> {
 pub fn beginning_of(left: &str) -> Option<TagBeginning<'_>>
     ensures { option_map beginning_view result ≡ beginning_of left.now }
 {
-    let one = after(b'{', left)?;
-    let two = after(b'{', one)?;
+    let one = behind_byte(b'{', left)?;
+    let two = behind_byte(b'{', one)?;
     Some(behind_two(two))
 }
 
@@ -68,7 +68,7 @@ fn behind_two(text: &str) -> TagBeginning<'_>
 fn behind_three(text: &str) -> TagBeginning<'_>
     ensures { beginning_of (codes "{{{" ++ text.now) ≡ Some (beginning_view result) }
 {
-    if let Some(behind) = after(b'{', text) {
+    if let Some(behind) = behind_byte(b'{', text) {
         return behind_four(behind);
     }
     let (tilde, inside) = tilde_at(text);
@@ -83,7 +83,7 @@ fn behind_four(text: &str) -> TagBeginning<'_>
     ensures { beginning_of (codes "{{{{" ++ text.now) ≡ Some (beginning_view result) }
 {
     let (tilde, inside) = tilde_at(text);
-    match after(b'/', inside) {
+    match behind_byte(b'/', inside) {
         Some(behind) => marked(TagKind::RawClose, tilde, behind),
         None => TagBeginning {
             kind: TagKind::Raw,
@@ -102,7 +102,7 @@ fn tilded_at(text: &str) -> TagBeginning<'_>
     if !tilde {
         return signed_at(false, inside);
     }
-    match after(b'{', inside) {
+    match behind_byte(b'{', inside) {
         Some(behind) => marked(TagKind::Html, true, behind),
         None => signed_at(true, inside),
     }
@@ -158,7 +158,7 @@ fn worded_at(tilde: bool, text: &str) -> TagBeginning<'_>
 fn else_at(text: &str) -> Option<&str>
     ensures { option_map (λ rest. rest.now) result ≡ behind_sign (word (codes "else")) text.now }
 {
-    let behind = past("else", text)?;
+    let behind = behind_text("else", text)?;
     if ends_word(behind) {
         Some(behind)
     } else {
@@ -202,7 +202,7 @@ fn first_byte(text: &str) -> Option<(u8, &str)>
 fn ends_word(text: &str) -> bool
     ensures { result ≡ ends_word text.now }
 {
-    starts_white_or_tilde(text) || past("}}", text).is_some()
+    starts_white_or_tilde(text) || behind_text("}}", text).is_some()
 }
 
 fn starts_white_or_tilde(text: &str) -> bool

@@ -6,8 +6,8 @@ ghost use Rattle.handlebars_tags.specs.Kind.{close_by, three_close, brace_tilde_
 ghost use Rattle.handlebars_tags.specs.KindView.{kind_of, tilded};
 
 use super::beginning::TagKind;
-use crate::front::{past, tilde_at};
-use handlebars_base::json::path::marks::{after, behind_white};
+use crate::front::{behind_text, tilde_at};
+use handlebars_base::json::path::marks::{behind_byte, behind_white};
 
 /// Whether a tilde stands before the braces that close a tag of this kind, and what follows them. A comment holds its
 /// own.
@@ -38,7 +38,7 @@ fn close_by<'a>(braces: &str, text: &'a str) -> Option<(bool, &'a str)>
     ensures { option_map tilded result ≡ close_by braces.now text.now }
 {
     let (tilde, behind) = tilde_at(text);
-    let rest = past(braces, behind)?;
+    let rest = behind_text(braces, behind)?;
     Some((tilde, rest))
 }
 
@@ -56,8 +56,8 @@ fn three_close(text: &str) -> Option<(bool, &str)>
 fn brace_tilde_braces(text: &str) -> Option<(bool, &str)>
     ensures { option_map tilded result ≡ brace_tilde_braces text.now }
 {
-    let behind = after(b'}', behind_white(text))?;
-    let braces = after(b'~', behind_white(behind))?;
-    let rest = past("}}", behind_white(braces))?;
+    let behind = behind_byte(b'}', behind_white(text))?;
+    let braces = behind_byte(b'~', behind_white(behind))?;
+    let rest = behind_text("}}", behind_white(braces))?;
     Some((true, rest))
 }

@@ -5,7 +5,7 @@ ghost use Rattle.handlebars_base.specs.Bytes.{Text};
 ghost use Rattle.handlebars_lines.specs.Line.{value_name, close_name};
 ghost use Rattle.handlebars_lines.specs.LineView.{mode_of};
 ghost use Rattle.handlebars_tags.specs.Comment.{HasNoLong};
-ghost use Rattle.handlebars_tags.specs.Kind.{past, closing_of, comment_kind, else_kind, block_kind, raw_kind, raw_close_kind, close_kind, decorator_kind, decorator_block_kind};
+ghost use Rattle.handlebars_tags.specs.Kind.{behind_text, closing_of, comment_kind, else_kind, block_kind, raw_kind, raw_close_kind, close_kind, decorator_kind, decorator_block_kind};
 ghost use Rattle.handlebars_tags.specs.KindView.{kind_of};
 ghost use Rattle.handlebars_tags.specs.Tag.{BlockLine, IsBlockLine, IsDecoratorLine};
 ghost use Rattle.handlebars_tags.specs.TagView.{NoneClosed, NoClosedLine, HasBlock, HasDecorator, HasClosing, HasClosedLine, HasInside};
@@ -70,7 +70,7 @@ pub fn inside_at<'a>(
     left: &'a str,
     long_ahead: bool,
 ) -> Result<Option<Inside<'a>>, AllocError>
-    requires comment { kind_of begins.kind ≡ comment_kind → past (codes "{{!") left.now ≡ Some begins.inside.now }
+    requires comment { kind_of begins.kind ≡ comment_kind → behind_text (codes "{{!") left.now ≡ Some begins.inside.now }
     requires ahead { HasNoLong long_ahead left.now }
     ensures reads { IfOk result (λ read. MatchOption read (NoneClosed (kind_of begins.entry.kind) begins.entry.inside.now)
         (λ inside. HasInside (kind_of begins.entry.kind) begins.entry.inside.now inside)) }
@@ -269,7 +269,7 @@ fn decorator_block(alloc: Global, text: &str) -> Result<Option<Inside<'_>>, Allo
 
 /// A comment, by the source from its braces on.
 fn comment(left: &str, long_ahead: bool) -> Option<Inside<'_>>
-    requires begins { past (codes "{{!") left.now ≡ Some (drop 3 left.now) }
+    requires begins { behind_text (codes "{{!") left.now ≡ Some (drop 3 left.now) }
     requires ahead { HasNoLong long_ahead left.now }
     ensures reads { MatchOption result (NoneClosed comment_kind (drop 3 left.now))
         (λ inside. HasInside comment_kind (drop 3 left.now) inside) }

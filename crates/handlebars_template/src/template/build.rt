@@ -10,7 +10,7 @@ ghost use Rattle.handlebars_lines.specs.Parameter.{Term, literal_term, path_term
 ghost use Rattle.handlebars_lines.specs.LineReading.{OpenLine, OpenLines, begun_line, add_term, opened_in, added_in, closed_in, build, first_lines};
 ghost use Rattle.handlebars_lines.specs.LineView.{key_of, event_of};
 ghost use Rattle.handlebars_template.specs.Tree.{expression, subexpression};
-ghost use Rattle.handlebars_template.specs.Calls.{param_of, named, name_before, called, first_refused, line_literals};
+ghost use Rattle.handlebars_template.specs.Calls.{param_of, named_param, name_before, call_with, first_refused, line_literals};
 ghost use Rattle.handlebars_template.specs.TreeView.{param_view, arguments_view};
 ghost use Rattle.handlebars_template.specs.LineBuildingView.{open_view, calls_view, open_call_of, AreCallsOf, IsTaken, whole_line, IsBuilt};
 
@@ -101,7 +101,7 @@ fn written(path: Path) -> String
 }
 
 fn named(name: Parameter) -> Parameter
-    ensures { param_view result ≡ named (param_view name) }
+    ensures { param_view result ≡ named_param (param_view name) }
 {
     match name {
         Parameter::Name(text) => Parameter::Name(text),
@@ -123,7 +123,7 @@ fn name_before(arguments: &Arguments, name: Parameter) -> Parameter
 
 fn called(alloc: Global, name: Parameter, arguments: Arguments) -> Result<Parameter, AllocError>
     ensures { IfOk result (λ call. param_view call
-        ≡ subexpression (expression (called (param_view name) (arguments_view arguments)))) }
+        ≡ subexpression (expression (call_with (param_view name) (arguments_view arguments)))) }
 {
     let name = name_before(&arguments, name);
     let Arguments { params, hash } = arguments;
@@ -150,7 +150,7 @@ impl<'a> OpenCall<'a> {
     // As a term of the call around it, once its name is there.
     fn term(self, alloc: Global) -> Result<Option<Parameter>, AllocError>
         ensures { IfOk result (λ call. option_map param_view call
-            ≡ option_map (λ n. subexpression (expression (called n (arguments_view self.entry.arguments))))
+            ≡ option_map (λ n. subexpression (expression (call_with n (arguments_view self.entry.arguments))))
             (option_map param_view self.entry.name)) }
     {
         let OpenCall {

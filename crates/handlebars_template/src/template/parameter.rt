@@ -1,7 +1,7 @@
 //! Parameters from texts of their own.
 
 ghost use Rattle.std.specs.Prelude.{◌≡◌, ◌≢◌, None, Some, IfOk, IfErr, MatchOption};
-ghost use Rattle.handlebars_base.specs.Texts.{after};
+ghost use Rattle.handlebars_base.specs.Texts.{behind_byte};
 ghost use Rattle.handlebars_base.specs.Reasons.{template_out_of_memory};
 ghost use Rattle.handlebars_base.specs.TemplateRefusals.{template_refusal_of};
 ghost use Rattle.handlebars_lines.specs.Laws.{HasLiteral, NoLiteral};
@@ -16,7 +16,7 @@ use crate::template::build::path_of;
 use crate::template::line::{MAX_NESTING, build_line};
 use crate::template::tree::{Parameter, Subexpression};
 use handlebars_base::error::{TemplateError, TemplateErrorReason};
-use handlebars_base::json::path::marks::{after, behind_white};
+use handlebars_base::json::path::marks::{behind_byte, behind_white};
 use handlebars_lines::line::{Enclosure, NameMode, split_line};
 use handlebars_lines::literal::{LiteralSlice, split_literal};
 use handlebars_lines::worth::literal_value;
@@ -55,7 +55,7 @@ enum Reading<'a> {
 fn read_parameter<'a>(alloc: Global, text: &'a str) -> Result<Reading<'a>, AllocError>
     ensures { IfOk result (λ reading. Parses text.now (reading_view reading)) }
 {
-    match after(b'(', text) {
+    match behind_byte(b'(', text) {
         Some(inside) => read_nested(alloc, text, inside),
         None => read_single(alloc, text),
     }
@@ -69,7 +69,7 @@ fn nested_depth(alloc: Global, inside: &str) -> Result<Option<usize>, AllocError
     let Some(slice) = split_line(alloc, NameMode::Value, Enclosure::Parentheses, line)? else {
         return Ok(None);
     };
-    let Some(rest) = after(b')', behind_white(slice.rest)) else {
+    let Some(rest) = behind_byte(b')', behind_white(slice.rest)) else {
         return Ok(None);
     };
     if rest.is_empty() {
@@ -81,7 +81,7 @@ fn nested_depth(alloc: Global, inside: &str) -> Result<Option<usize>, AllocError
 
 // Behind an opening parenthesis.
 fn read_nested<'a>(alloc: Global, text: &'a str, inside: &'a str) -> Result<Reading<'a>, AllocError>
-    ensures { IfOk result (λ reading. after left_parenthesis text.now ≡ Some inside.now
+    ensures { IfOk result (λ reading. behind_byte left_parenthesis text.now ≡ Some inside.now
         → Parses text.now (reading_view reading)) }
 {
     let Some(depth) = nested_depth(alloc, inside)? else {
@@ -103,7 +103,7 @@ fn read_nested<'a>(alloc: Global, text: &'a str, inside: &'a str) -> Result<Read
 
 // In front of a text with no opening parenthesis.
 fn read_single<'a>(alloc: Global, text: &'a str) -> Result<Reading<'a>, AllocError>
-    ensures { IfOk result (λ reading. after left_parenthesis text.now ≡ None
+    ensures { IfOk result (λ reading. behind_byte left_parenthesis text.now ≡ None
         → Parses text.now (reading_view reading)) }
 {
     match split_literal(alloc, text)? {
@@ -117,7 +117,7 @@ fn read_literal<'a>(
     text: &'a str,
     slice: LiteralSlice<'a>,
 ) -> Result<Reading<'a>, AllocError>
-    ensures { IfOk result (λ reading. after left_parenthesis text.now ≡ None
+    ensures { IfOk result (λ reading. behind_byte left_parenthesis text.now ≡ None
         → HasLiteral text.now (literal_slice_of slice.entry) → Parses text.now (reading_view reading)) }
 {
     if !slice.rest.is_empty() {
@@ -133,7 +133,7 @@ fn read_literal<'a>(
 }
 
 fn read_path<'a>(alloc: Global, text: &'a str) -> Result<Reading<'a>, AllocError>
-    ensures { IfOk result (λ reading. after left_parenthesis text.now ≡ None
+    ensures { IfOk result (λ reading. behind_byte left_parenthesis text.now ≡ None
         → NoLiteral text.now → Parses text.now (reading_view reading)) }
 {
     match path_of(alloc, text)? {

@@ -2,7 +2,7 @@
 
 ghost use Rattle.std.specs.Prelude.{◌≡◌, ◌+◌, ◌<◌, ◌^◌, ◌&&◌, ◌==◌, true, not, nat_lt, fold, length};
 ghost use Rattle.handlebars_base.specs.Bytes.{newline};
-ghost use Rattle.handlebars_template.specs.Place.{behind};
+ghost use Rattle.handlebars_template.specs.Place.{place_behind};
 ghost use Rattle.handlebars_template.specs.TreeView.{place_of};
 
 use crate::template::tree::TemplateMapping;
@@ -11,7 +11,7 @@ use crate::template::tree::TemplateMapping;
 pub fn advance(place: TemplateMapping, text: &str) -> TemplateMapping
     requires line { place.0 + length text.now < 2 ^ 64 }
     requires column { place.1 + length text.now < 2 ^ 64 }
-    ensures { place_of result ≡ behind (place_of place) text.now }
+    ensures { place_of result ≡ place_behind (place_of place) text.now }
 {
     if are_columns(text.as_bytes()) {
         TemplateMapping(place.0, place.1 + text.len())
@@ -41,7 +41,7 @@ fn are_columns(bytes: &[u8]) -> bool
 fn advance_by_bytes(place: TemplateMapping, text: &str) -> TemplateMapping
     requires line { place.0 + length text.now < 2 ^ 64 }
     requires column { place.1 + length text.now < 2 ^ 64 }
-    ensures { place_of result ≡ behind (place_of place) text.now }
+    ensures { place_of result ≡ place_behind (place_of place) text.now }
 {
     let mut line = place.0;
     let mut column = place.1;

@@ -1,6 +1,6 @@
 use Rattle.std.proofs.Common.{◌≡◌, ◌++◌, length}
 use Rattle.handlebars_base.specs.Bytes.{Text}
-use Rattle.handlebars.specs.Writers.{Takes}
+use Rattle.handlebars.specs.Writers.{TakesText}
 use Rattle.handlebars.proofs.output.put_all.Given as goal
 
 -- what was taken stands in front of what is left
@@ -8,7 +8,7 @@ abbrev pub invariant-writes : goal.invariant-writes
 invariant-writes g l =
     let contents = g.W.Write.contents in
     (front : Text) × (l.bytes ≡ front ++ l.rest)
-    × Takes front (contents l.fn.writer) l.fn.taken.text (contents l.writer) l.taken.text
+    × TakesText front (contents l.fn.writer) l.fn.taken.text (contents l.writer) l.taken.text
 
 abbrev pub decreases-writes : goal.decreases-writes
 decreases-writes g l = length l.rest

@@ -6,57 +6,57 @@ ghost use Rattle.handlebars_base.specs.Path.{is_dots, part_segments, link_segmen
 ghost use Rattle.handlebars_base.specs.PathView.{segments_of, part_of, found_at};
 ghost use Rattle.handlebars_base.specs.PathReading.{part_at, bracketed_at, plain_at, link_at, part_of_link, links_of};
 
-use super::marks::{after, symbols};
+use super::marks::{behind_byte, symbols};
 use super::{PathRule, PathSeg};
 use std::alloc::{AllocError, Global};
 
 /// One part of a path, as it stands in the text.
 #[derive(Clone, Copy)]
-pub enum Part<'a> {
+pub enum PathPart<'a> {
     Up,
     Plain(&'a str),
     Bracketed(&'a str),
 }
 
-pub fn is_up(part: Part) -> bool
+pub fn is_up(part: PathPart) -> bool
     ensures { result ≡ is_dots (part_of part.entry) }
 {
     match part {
-        Part::Up => true,
-        Part::Plain(_) | Part::Bracketed(_) => false,
+        PathPart::Up => true,
+        PathPart::Plain(_) | PathPart::Bracketed(_) => false,
     }
 }
 
 /// A name in brackets, behind the opening one.
 #[tactic(auto, unfolding(crate::specs::PathReading::bracketed_at))]
-fn bracketed_at(text: &str) -> Option<(Part<'_>, &str)>
+fn bracketed_at(text: &str) -> Option<(PathPart<'_>, &str)>
     ensures { option_map found_at result ≡ bracketed_at text.now }
 {
     let (name, rest) = text.split_once(']')?;
-    Some((Part::Bracketed(name), rest))
+    Some((PathPart::Bracketed(name), rest))
 }
 
 #[tactic(auto, unfolding(crate::specs::PathReading::plain_at))]
-fn plain_at(text: &str) -> Option<(Part<'_>, &str)>
+fn plain_at(text: &str) -> Option<(PathPart<'_>, &str)>
     ensures { option_map found_at result ≡ plain_at text.now }
 {
     let (name, rest) = symbols(text);
     if name.is_empty() {
         return None;
     }
-    Some((Part::Plain(name), rest))
+    Some((PathPart::Plain(name), rest))
 }
 
 /// The part at the front, and what follows it.
 #[tactic(auto, unfolding(crate::specs::PathReading::part_at))]
-pub fn part_at(text: &str) -> Option<(Part<'_>, &str)>
+pub fn part_at(text: &str) -> Option<(PathPart<'_>, &str)>
     ensures { option_map found_at result ≡ part_at text.now }
 {
-    if let Some(rest) = after(b'.', text) {
-        let rest = after(b'.', rest)?;
-        return Some((Part::Up, rest));
+    if let Some(rest) = behind_byte(b'.', text) {
+        let rest = behind_byte(b'.', rest)?;
+        return Some((PathPart::Up, rest));
     }
-    if let Some(rest) = after(b'[', text) {
+    if let Some(rest) = behind_byte(b'[', text) {
         return bracketed_at(rest);
     }
     plain_at(text)
@@ -64,13 +64,13 @@ pub fn part_at(text: &str) -> Option<(Part<'_>, &str)>
 
 /// The part behind a separator. A dot doesn't join `..` to anything.
 #[tactic(auto, unfolding(crate::specs::PathReading::link_at))]
-fn link_at(before_up: bool, text: &str) -> Option<(Part<'_>, &str)>
+fn link_at(before_up: bool, text: &str) -> Option<(PathPart<'_>, &str)>
     ensures { option_map found_at result ≡ option_map part_of_link (link_at before_up text.now) }
 {
-    if let Some(rest) = after(b'/', text) {
+    if let Some(rest) = behind_byte(b'/', text) {
         return part_at(rest);
     }
-    let (found, rest) = part_at(after(b'.', text)?)?;
+    let (found, rest) = part_at(behind_byte(b'.', text)?)?;
     if before_up || is_up(found) {
         return None;
     }
@@ -91,13 +91,13 @@ pub fn behind_links(up: bool, text: &str) -> &str
 }
 
 /// Adds the segment of a part, if it has one.
-pub fn push(alloc: Global, segs: &mut Vec<PathSeg>, part: Part) -> Result<(), AllocError>
+pub fn push(alloc: Global, segs: &mut Vec<PathSeg>, part: PathPart) -> Result<(), AllocError>
     ensures { OnOk result (segments_of segs.new.items
         ≡ segments_of segs.old.items ++ part_segments (part_of part.entry)) }
 {
     match part {
-        Part::Up => segs.push(PathSeg::Ruled(PathRule::Up))?,
-        Part::Plain(name) | Part::Bracketed(name) => {
+        PathPart::Up => segs.push(PathSeg::Ruled(PathRule::Up))?,
+        PathPart::Plain(name) | PathPart::Bracketed(name) => {
             if name != "this" {
                 segs.push(PathSeg::Named(String::from_str(alloc, name)?))?;
             }

@@ -4,8 +4,8 @@ ghost use Rattle.std.specs.Prelude.{◌≡◌, ◌<◌};
 ghost use Rattle.std.specs.List.{list_all, prefix_len};
 ghost use Rattle.std.specs.Option.{option_map};
 ghost use Rattle.handlebars_base.specs.Bytes.{is_white, behind_white, is_symbol};
-ghost use Rattle.handlebars_base.specs.Texts.{starts, after, symbols_of, behind_symbols};
-ghost use Rattle.handlebars_base.specs.PathReading.{after_up, ups_at};
+ghost use Rattle.handlebars_base.specs.Texts.{starts, behind_byte, symbols_of, behind_symbols};
+ghost use Rattle.handlebars_base.specs.PathReading.{behind_up, ups_at};
 
 /// Whether a byte belongs to a symbol. Most do as small letters.
 #[inline(always)]
@@ -75,10 +75,10 @@ pub fn behind_white(text: &str) -> &str
 }
 
 /// What follows a mark, where it stands at the front.
-#[tactic(auto, unfolding(crate::specs::Texts::after))]
-pub fn after(mark: u8, text: &str) -> Option<&str>
+#[tactic(auto, unfolding(crate::specs::Texts::behind_byte))]
+pub fn behind_byte(mark: u8, text: &str) -> Option<&str>
     requires { mark < 128 }
-    ensures { option_map (λ rest. rest.now) result ≡ after mark text.now }
+    ensures { option_map (λ rest. rest.now) result ≡ behind_byte mark text.now }
 {
     match text.as_bytes() {
         [first, ..] if *first == mark => Some(&text[1..]),
@@ -87,9 +87,9 @@ pub fn after(mark: u8, text: &str) -> Option<&str>
 }
 
 /// What follows `../`, where it stands at the front.
-#[tactic(auto, unfolding(crate::specs::PathReading::after_up))]
-fn after_up(text: &str) -> Option<&str>
-    ensures { option_map (λ rest. rest.now) result ≡ after_up text.now }
+#[tactic(auto, unfolding(crate::specs::PathReading::behind_up))]
+fn behind_up(text: &str) -> Option<&str>
+    ensures { option_map (λ rest. rest.now) result ≡ behind_up text.now }
 {
     match text.as_bytes() {
         [b'.', b'.', b'/', ..] => Some(&text[3..]),
@@ -103,7 +103,7 @@ pub fn ups(text: &str) -> (usize, &str)
 {
     let mut level = 0;
     let mut rest = text;
-    while let Some(behind) = after_up(rest) {
+    while let Some(behind) = behind_up(rest) {
         level += 1;
         rest = behind;
     }

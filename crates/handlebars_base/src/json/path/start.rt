@@ -5,8 +5,8 @@ ghost use Rattle.std.specs.Option.{option_map};
 ghost use Rattle.handlebars_base.specs.PathView.{segments_of, start_of, started_at, reference_of};
 ghost use Rattle.handlebars_base.specs.PathReading.{at_sign_start, start_without_at_sign, start_at, links_behind, start_segments, start_meaning, ups_at};
 
-use super::links::{Part, behind_links, is_up, part_at, push, push_links};
-use super::marks::{after, symbols, ups};
+use super::links::{PathPart, behind_links, is_up, part_at, push, push_links};
+use super::marks::{behind_byte, symbols, ups};
 use super::{Path, PathRule, PathSeg};
 use std::alloc::{AllocError, Global};
 
@@ -17,7 +17,7 @@ pub enum Start<'a> {
     Here,
     Root,
     Variable(usize, &'a str),
-    Part(Part<'a>),
+    Part(PathPart<'a>),
 }
 
 /// What follows `@`: the root, or a variable of a block.
@@ -44,8 +44,8 @@ fn start_without_at_sign(text: &str) -> Option<(Start<'_>, &str)>
     if let Some((first, rest)) = part_at(text) {
         return Some((Start::Part(first), rest));
     }
-    let behind = after(b'.', text)?;
-    let Some(rest) = after(b'/', behind) else {
+    let behind = behind_byte(b'.', text)?;
+    let Some(rest) = behind_byte(b'/', behind) else {
         return Some((Start::Here, behind));
     };
     let (first, rest) = part_at(rest)?;
@@ -57,7 +57,7 @@ fn start_without_at_sign(text: &str) -> Option<(Start<'_>, &str)>
 pub fn start_at(text: &str) -> Option<(Start<'_>, &str)>
     ensures { option_map started_at result ≡ start_at text.now }
 {
-    match after(b'@', text) {
+    match behind_byte(b'@', text) {
         Some(rest) => at_sign_start(rest),
         None => start_without_at_sign(text),
     }

@@ -7,27 +7,27 @@ pub returns-then-is_empty : goal.returns-then-is_empty
 returns-then-is_empty c =
     none_bound c.in-Some.ensures (rw (name_at-none c.in-Some.rest.now c.behind_white.ensures c.symbols.ensures.front (empty _ c.if-is_empty.ensures)) refl)
 
-pub returns-in-Some-after : goal.returns-in-Some-after
-returns-in-Some-after c =
+pub returns-in-Some-behind_byte : goal.returns-in-Some-behind_byte
+returns-in-Some-behind_byte c =
     let first = name_at-is c.in-Some.rest.now c.behind_white.ensures c.symbols.ensures.front c.symbols.ensures.rest (nonempty _ c.if-is_empty.ensures) in
-    names_bound c.in-Some.ensures (rw (first, ← c.behind_white-rest.ensures, ← c.in-Some-after.ensures) refl)
+    names_bound c.in-Some.ensures (rw (first, ← c.behind_white-rest.ensures, ← c.in-Some-behind_byte.ensures) refl)
 
 pub returns-then-is_empty-2 : goal.returns-then-is_empty-2
 returns-then-is_empty-2 c =
     let first = name_at-is c.in-Some.rest.now c.behind_white.ensures c.symbols.ensures.front c.symbols.ensures.rest (nonempty _ c.if-is_empty.ensures) in
     let none = name_at-none c.symbols.result.1.now c.behind_white-rest.ensures c.symbols-2.ensures.front (empty _ c.if-is_empty-2.ensures) in
-    none_bound c.in-Some.ensures (rw (first, none, ← c.behind_white-rest.ensures, ← c.in_default-after.ensures) refl)
+    none_bound c.in-Some.ensures (rw (first, none, ← c.behind_white-rest.ensures, ← c.in_default-behind_byte.ensures) refl)
 
 pub returns-in_err-rest : goal.returns-in_err-rest
 returns-in_err-rest c =
     let first = name_at-is c.in-Some.rest.now c.behind_white.ensures c.symbols.ensures.front c.symbols.ensures.rest (nonempty _ c.if-is_empty.ensures) in
     let other = name_at-is c.symbols.result.1.now c.behind_white-rest.ensures c.symbols-2.ensures.front c.symbols-2.ensures.rest (nonempty _ c.if-is_empty-2.ensures) in
     rw (c.from_residual.ensures) (none_bound c.in-Some.ensures
-    (rw (first, other, ← c.behind_white-rest.ensures, ← c.in_default-after.ensures, ← c.behind_white-2.ensures, ← c.in_err-rest.ensures) refl))
+    (rw (first, other, ← c.behind_white-rest.ensures, ← c.in_default-behind_byte.ensures, ← c.behind_white-2.ensures, ← c.in_err-rest.ensures) refl))
 
 pub returns : goal.returns
 returns c =
     let first = name_at-is c.in-Some.rest.now c.behind_white.ensures c.symbols.ensures.front c.symbols.ensures.rest (nonempty _ c.if-is_empty.ensures) in
     let other = name_at-is c.symbols.result.1.now c.behind_white-rest.ensures c.symbols-2.ensures.front c.symbols-2.ensures.rest (nonempty _ c.if-is_empty-2.ensures) in
     names_bound c.in-Some.ensures
-    (rw (first, other, ← c.behind_white-rest.ensures, ← c.in_default-after.ensures, ← c.behind_white-2.ensures, ← c.in_ok-rest.ensures) refl)
+    (rw (first, other, ← c.behind_white-rest.ensures, ← c.in_default-behind_byte.ensures, ← c.behind_white-2.ensures, ← c.in_ok-rest.ensures) refl)

@@ -1,5 +1,5 @@
 use Rattle.handlebars_base.specs.RenderRefusals.{refusal_of}
-use Rattle.handlebars_meaning.specs.CarryOut.{helper_call}
+use Rattle.handlebars_meaning.specs.CarryOut.{view_with_bodies}
 use Rattle.handlebars_render.specs.Bound.{bound_of}
 use Rattle.handlebars_render.specs.Boxed.{error_of}
 use Rattle.handlebars_render.specs.Targets.{target_in}
@@ -10,14 +10,14 @@ use Rattle.handlebars_render.proofs.bound.bind_boxed.Goals as goal
 
 pub returns-in-Ok-new : goal.returns-in-Ok-new
 returns-in-Ok-new g c = λ kept d.
-    let h = helper_call c.args.block d (called_view c.args.call) in
+    let h = view_with_bodies c.args.block d (called_view c.args.call) in
     rw c.in-Ok-new.ensures.ok
     (chooses-bound (setting_in g.P.Registered.parts c.args.environment.now) (state_with kept c.args.rc.now)
     (target_in c.args.block (called_view c.args.call).name c.args.target) h (bound_of h c.in-Ok.bound) (c.in-Ok.ensures h))
 
 pub returns : goal.returns
 returns g c = λ kept other d.
-    let h = helper_call c.args.block d (called_view c.args.call) in
+    let h = view_with_bodies c.args.block d (called_view c.args.call) in
     rw (handed-refusal c.in-Err.e (error_of c.new-in-Err.result) c.new-in-Err.ensures other)
     (refuses-bound (setting_in g.P.Registered.parts c.args.environment.now) (state_with kept c.args.rc.now)
     (target_in c.args.block (called_view c.args.call).name c.args.target) h (refusal_of c.in-Err.e)

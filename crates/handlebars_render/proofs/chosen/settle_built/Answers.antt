@@ -4,7 +4,7 @@ use Rattle.handlebars_template.specs.TreeView.{call_view}
 use Rattle.handlebars_scope.specs.ScopeView.{frame_of}
 use Rattle.handlebars_helpers.specs.Turns.{with_block}
 use Rattle.handlebars_helpers.specs.View.{base_view}
-use Rattle.handlebars_meaning.specs.CarryOut.{helper_call}
+use Rattle.handlebars_meaning.specs.CarryOut.{view_with_bodies}
 use Rattle.handlebars_render.specs.View.{state_of, state_with}
 use Rattle.handlebars_render.proofs.Leads.{leads-block, leads-done, leads-no_memory}
 use Rattle.handlebars_render.proofs.Lent.{nearest_variables-lend}
@@ -16,7 +16,7 @@ returns-in_err-block_at-in-Block-clause-leads g c = λ site v kept.
 
 pub returns-in_ok-block_at-in-Block-clause-leads : goal.returns-in_ok-block_at-in-Block-clause-leads
 returns-in_ok-block_at-in-Block-clause-leads g c = λ site v kept. rw c.in-Block.is
-    (leads-block _ _ site (helper_call c.args.block (call_view c.args.helper.now) v) (base_view c.in-Block.base) (frame_of c.in_ok-block_at-in-Block.field-0)
+    (leads-block _ _ site (view_with_bodies c.args.block (call_view c.args.helper.now) v) (base_view c.in-Block.base) (frame_of c.in_ok-block_at-in-Block.field-0)
     (c.in_ok-block_at-in-Block.ensures
     ∙ ap (with_block (base_view c.in-Block.base) (call_binding (call_view c.args.helper.now)))
     (sym (nearest_variables-lend kept.bases (state_of c.args.rc.now).blocks))))

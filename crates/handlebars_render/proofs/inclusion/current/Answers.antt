@@ -10,7 +10,7 @@ use Rattle.handlebars_base.specs.RenderRefusals.{plain_refusal, refusal_of}
 use Rattle.handlebars_helpers.specs.DecoratorsView.{tag_view}
 use Rattle.handlebars_render.specs.View.{setting_in, state_of, state_with}
 use Rattle.handlebars_render.proofs.Lent.{read-lent}
-use Rattle.handlebars_render.proofs.Bases.{base-value, base-nothing, base-refused, merged-seen, of-none, refused-of-none, view-null}
+use Rattle.handlebars_render.proofs.Bases.{base-value, base-nothing, base-refused, merge-seen, of-none, refused-of-none, view-null}
 use Rattle.handlebars_render.proofs.inclusion.current.Goals as goal
 
 pub returns-in-Value : goal.returns-in-Value
@@ -22,7 +22,7 @@ returns-in-Value g c = λ kept none.
       of-none p s (tag_view c.args.tag.now).call.params none
           (base-value p s d _ c.here-here.ensures ((rw c.data.ensures.value at c.in-Value.ensures)
           ∙ ap (answer_map present_in) (read-lent kept (state_of c.args.rc.now) (data_of c.args.environment.now.given.now) (reference_of c.here-here.result)))),
-      merged-seen d d _ c.in_ok-merge-in-Value.ensures refl c.hash.ensures,
+      merge-seen d d _ c.in_ok-merge-in-Value.ensures refl c.hash.ensures,
     )
 
 pub returns-in-Nothing : goal.returns-in-Nothing
@@ -33,7 +33,7 @@ returns-in-Nothing g c = λ kept none.
       of-none p s (tag_view c.args.tag.now).call.params none
           (base-nothing p s _ c.here-here.ensures ((rw c.data.ensures.value at c.in-Nothing.ensures)
           ∙ ap (answer_map present_in) (read-lent kept (state_of c.args.rc.now) (data_of c.args.environment.now.given.now) (reference_of c.here-here.result)))),
-      merged-seen _ null _ c.in_ok-merge-in-Nothing.ensures view-null c.hash-in-Nothing.ensures,
+      merge-seen _ null _ c.in_ok-merge-in-Nothing.ensures view-null c.hash-in-Nothing.ensures,
     )
 
 pub returns : goal.returns

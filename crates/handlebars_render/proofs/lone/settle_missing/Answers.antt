@@ -5,7 +5,7 @@ use Rattle.handlebars_template.specs.TreeView.{call_view}
 use Rattle.handlebars_template.proofs.Levels.{call_name-view}
 use Rattle.handlebars_helpers.specs.Callee.{calls_registered}
 use Rattle.handlebars_helpers.specs.OwnView.{callee_of}
-use Rattle.handlebars_meaning.specs.CarryOut.{helper_call}
+use Rattle.handlebars_meaning.specs.CarryOut.{view_with_bodies}
 use Rattle.handlebars_meaning.specs.Means.{render_chosen, render_found}
 use Rattle.handlebars_meaning.specs.Questions.{choice_of}
 use Rattle.handlebars_meaning.specs.Steps.{ask}
@@ -38,7 +38,7 @@ returns-in-Ok g c = λ site kept. record {
 pub returns-in-Some : goal.returns-in-Some
 returns-in-Some g c = λ site kept other.
     let k = target_in false (called_view c.alone-call.result).name c.hooked.result in
-    let h = helper_call false (call_view c.args.helper.now) (called_view c.alone-call.result) in
+    let h = view_with_bodies false (call_view c.args.helper.now) (called_view c.alone-call.result) in
     refuses-leaves _ (render_found site (call_view c.args.helper.now) (name_alone (cow_str_bytes c.args.name)) missing)
     (render_chosen site k h)
     (leaves-hook _ site (call_view c.args.helper.now) (cow_str_bytes c.args.name) (calls_registered (callee_of c.hook.result.now c.in-Some.callee))

@@ -3,7 +3,7 @@ use Rattle.handlebars_base.specs.Scoped.{found_of}
 use Rattle.handlebars_template.specs.TreeView.{call_view}
 use Rattle.handlebars_helpers.specs.CallView.{CallView}
 use Rattle.handlebars_meaning.specs.State.{helper_named}
-use Rattle.handlebars_meaning.specs.Values.{called_by}
+use Rattle.handlebars_meaning.specs.Values.{callee_name}
 use Rattle.handlebars_render.specs.Boxed.{answer_of}
 use Rattle.handlebars_render.specs.Targets.{target_in}
 use Rattle.handlebars_render.specs.View.{called_view, name_alone, state_with}
@@ -19,7 +19,7 @@ pub returns-in-Some-clause-comes : goal.returns-in-Some-clause-comes
 returns-in-Some-clause-comes g c = λ lone site kept named has.
     comes_to-settles _ _ site false (call_view c.args.helper.now) _ _ _ _ (answer_of c.to_call.result) refl
     (settles-call _ site false (call_view c.args.helper.now) _ _ _ (answer_of c.to_call.result) (c.to_call.ensures kept)
-    (leaves-named _ site (call_view c.args.helper.now) (called_by (found_of c.args.value)) (target_in false c.as_str.result.now c.in-Some.target)
+    (leaves-named _ site (call_view c.args.helper.now) (callee_name (found_of c.args.value)) (target_in false c.as_str.result.now c.in-Some.target)
     (target_in false (called_view c.alone.result).name c.in-Some.target) (called_view c.alone.result)
     lone named
     (c.in-Some.ensures false ∙ ap (helper_named (g.P.Registered.parts c.args.environment.now.parts.now) (state_with kept c.args.rc.now)) (c.as_str.ensures.value ∙ c.in_ok-name.ensures))
@@ -30,9 +30,9 @@ returns-in-Some-clause-comes g c = λ lone site kept named has.
 pub returns-in-Some-as_json-clause-comes : goal.returns-in-Some-as_json-clause-comes
 returns-in-Some-as_json-clause-comes g c = λ lone site kept named has.
     comes_to-leaves _ _ site false (call_view c.args.helper.now) _ _ _ _ _ (answer_of c.settle_found.result)
-    (leaves-value _ site (call_view c.args.helper.now) (called_by (found_of c.args.value)) lone named
+    (leaves-value _ site (call_view c.args.helper.now) (callee_name (found_of c.args.value)) lone named
     (c.in-None.ensures false ∙ ap (helper_named (g.P.Registered.parts c.args.environment.now.parts.now) (state_with kept c.args.rc.now)) (c.as_str.ensures.value ∙ c.in_ok-name.ensures)))
-    (c.settle_found.ensures.comes (call_view c.args.helper.now) (name_alone (called_by (found_of c.args.value))) (found_of c.args.value)
+    (c.settle_found.ensures.comes (call_view c.args.helper.now) (name_alone (callee_name (found_of c.args.value))) (found_of c.args.value)
     site kept has (sym c.in-Some-as_json.ensures))
 
 pub returns-clause-comes : goal.returns-clause-comes

@@ -4,15 +4,15 @@ use Rattle.handlebars_base.specs.Answers.{gives}
 use Rattle.handlebars_base.specs.PathView.{reference_of}
 use Rattle.handlebars_base.specs.Scoped.{found_of}
 use Rattle.handlebars_scope.specs.Bases.{bases_of}
-use Rattle.handlebars_scope.specs.Resolve.{resolved}
+use Rattle.handlebars_scope.specs.Resolve.{resolve}
 use Rattle.handlebars_scope.specs.ScopeView.{frames_of}
-use Rattle.handlebars_scope.proofs.Bases.{resolved-variable}
+use Rattle.handlebars_scope.proofs.Bases.{resolve-variable}
 use Rattle.handlebars_scope.proofs.context.walk.seek.Goals as goal
 
 pub returns-in_ok-copied-in-Local-clause-found : goal.returns-in_ok-copied-in-Local-clause-found
 returns-in_ok-copied-in-Local-clause-found c =
-    let own : resolved c.args.recursive (frames_of c.args.blocks.now.items) (reference_of c.args.path.now) (view c.args.given.now)
+    let own : resolve c.args.recursive (frames_of c.args.blocks.now.items) (reference_of c.args.path.now) (view c.args.given.now)
     ≡ gives (found_of c.in_ok-copied-in-Local.field-0) = search rules in
-    sym (rw c.in-Local.is (resolved-variable c.args.recursive (bases_of c.args.bases.now)
+    sym (rw c.in-Local.is (resolve-variable c.args.recursive (bases_of c.args.bases.now)
     (frames_of c.args.blocks.now.items) c.in-Local.level (string_bytes c.in-Local.name) (string_bytes c.in-Local.field-0-2)
     (view c.args.given.now))) ∙ own

@@ -1,6 +1,6 @@
 use Rattle.std.proofs.Common.{sym}
 use Rattle.handlebars_base.specs.Bytes.{left_brace}
-use Rattle.handlebars_base.proofs.Fronts.{after_takes}
+use Rattle.handlebars_base.proofs.Fronts.{behind_byte_takes}
 use Rattle.handlebars_tags.proofs.BeginningsRead.{none-brace, one-brace}
 use Rattle.handlebars_tags.proofs.tag.beginning.beginning_of.Goals as goal
 
@@ -9,11 +9,11 @@ returns-in_err-one c = rw c.from_residual.ensures (sym (none-brace c.args.left.n
 
 pub returns-in_err-two : goal.returns-in_err-two
 returns-in_err-two c =
-    let left = after_takes left_brace c.args.left.now c.in_ok-one.one.now (sym c.in_ok-one.ensures) in
+    let left = behind_byte_takes left_brace c.args.left.now c.in_ok-one.one.now (sym c.in_ok-one.ensures) in
     rw (c.from_residual-in_err-two.ensures, left) (sym (one-brace c.in_ok-one.one.now (sym c.in_err-two.ensures)))
 
 pub returns : goal.returns
 returns c =
-    let left = after_takes left_brace c.args.left.now c.in_ok-one.one.now (sym c.in_ok-one.ensures) in
-    let one = after_takes left_brace c.in_ok-one.one.now c.in_ok-two.two.now (sym c.in_ok-two.ensures) in
+    let left = behind_byte_takes left_brace c.args.left.now c.in_ok-one.one.now (sym c.in_ok-one.ensures) in
+    let one = behind_byte_takes left_brace c.in_ok-one.one.now c.in_ok-two.two.now (sym c.in_ok-two.ensures) in
     rw (left, one) (sym c.behind_two.ensures)

@@ -1,13 +1,13 @@
 use Rattle.std.proofs.Common.{sym}
 use Rattle.handlebars_base.specs.Bytes.{left_brace}
-use Rattle.handlebars_base.proofs.Fronts.{after_takes}
+use Rattle.handlebars_base.proofs.Fronts.{behind_byte_takes}
 use Rattle.handlebars_tags.specs.KindView.{tilded}
 use Rattle.handlebars_tags.proofs.BeginningsRead.{three-none}
 use Rattle.handlebars_tags.proofs.tag.beginning.behind_three.Goals as goal
 
 pub returns-in-Some : goal.returns-in-Some
 returns-in-Some c =
-    let text = after_takes left_brace c.args.text.now c.in-Some.behind.now (sym c.in-Some.ensures) in
+    let text = behind_byte_takes left_brace c.args.text.now c.in-Some.behind.now (sym c.in-Some.ensures) in
     rw text c.behind_four.ensures
 
 pub returns : goal.returns

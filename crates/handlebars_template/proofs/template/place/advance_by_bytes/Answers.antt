@@ -4,7 +4,7 @@ use Rattle.std.proofs.lemmas.List.{take_all}
 use Rattle.std.proofs.lemmas.List.Sums.{fold_more}
 use Rattle.handlebars_template.specs.Place.{Place}
 use Rattle.handlebars_template.specs.TreeView.{place_of}
-use Rattle.handlebars_template.proofs.Columns.{behind_byte, behind-bytes, same_place, one_more, newline_byte, ascii_byte, goes_on, leads}
+use Rattle.handlebars_template.proofs.Columns.{place_behind_byte, place_behind-bytes, same_place, one_more, newline_byte, ascii_byte, goes_on, leads}
 use Rattle.handlebars_template.proofs.template.place.advance_by_bytes.Goals as goal
 use Rattle.handlebars_template.proofs.template.place.advance_by_bytes.Goals.{then-byte-lt11+then-byte-eq10, then-byte-lt11+else-byte-eq10+then-byte-gt127-2+then-byte-lt192, then-byte-lt11+else-byte-eq10+else-byte-gt127-2, else-byte-gt127-2-via-then-byte-gt127-2+else-byte-lt192, else-byte-gt127-2-via-else-byte-gt127-2, else-byte-lt11+else-byte-gt127}
 
@@ -14,14 +14,14 @@ returns c =
     let whole : take c.loop-at.at c.as_bytes-bytes.result.now ≡ c.args.text.now = take_all c.loop-at.at c.as_bytes-bytes.result.now c.loop-at-test.false ∙ c.as_bytes-bytes.ensures.value in
     let last : Place = record { line = c.loop-at.line; column = c.loop-at.column + (length c.as_bytes-bytes.result.now - c.loop-at.from) } in
     let now : Place = record { line = c.loop-at.line; column = c.loop-at.column + (c.loop-at.at - c.loop-at.from) } in
-    same_place last now refl (omega (arith, over)) ∙ c.loop-at.invariant.value ∙ ap (fold behind_byte (place_of c.args.place)) whole ∙ behind-bytes (place_of c.args.place) c.args.text.now c.utf8.text
+    same_place last now refl (omega (arith, over)) ∙ c.loop-at.invariant.value ∙ ap (fold place_behind_byte (place_of c.args.place)) whole ∙ place_behind-bytes (place_of c.args.place) c.args.text.now c.utf8.text
 
 pub loop-at-preserved : goal.loop-at-preserved
 loop-at-preserved c =
     let b : ℕ = get_or c.as_bytes-bytes.result.now c.loop-at.at 0 in
     let was : Place = record { line = c.loop-at.line; column = c.loop-at.column + (c.loop-at.at - c.loop-at.from) } in
     let now : Place = record { line = c.if-byte-lt11.line; column = c.if-byte-lt11.column + (c.loop-at.at + 1 - c.if-byte-lt11.from) } in
-    let next : (now ≡ behind_byte was b) × (c.if-byte-lt11.from ≤ c.loop-at.at + 1) × (now.line ≤ was.line + 1) × (now.column ≤ was.column + 1) = elim c.if-byte-lt11.branch [
+    let next : (now ≡ place_behind_byte was b) × (c.if-byte-lt11.from ≤ c.loop-at.at + 1) × (now.line ≤ was.line + 1) × (now.column ≤ was.column + 1) = elim c.if-byte-lt11.branch [
       | then-byte-lt11+then-byte-eq10 w ↦ (
         same_place now (record { line = was.line + 1; column = 1 }) w.line-is (omega (arith, w.column-is, w.from-is)) ∙ sym (newline_byte was b w.if-byte-eq10.true),
         omega (arith, w.from-is),
@@ -51,7 +51,7 @@ loop-at-preserved c =
       )
     ] in
     record {
-      value = next.0 ∙ ap (λ (p : Place). behind_byte p b) c.loop-at.invariant.value ∙ sym (fold_more behind_byte (place_of c.args.place) c.as_bytes-bytes.result.now c.loop-at.at 0 c.loop-at-test.true);
+      value = next.0 ∙ ap (λ (p : Place). place_behind_byte p b) c.loop-at.invariant.value ∙ sym (fold_more place_behind_byte (place_of c.args.place) c.as_bytes-bytes.result.now c.loop-at.at 0 c.loop-at-test.true);
       within = next.1;
       line = omega (arith, next.2);
       column = omega (arith, next.3);

@@ -6,7 +6,7 @@ use Rattle.handlebars_base.proofs.Ends.{take-front}
 use Rattle.handlebars_tags.specs.Trim.{is_fresh_behind}
 use Rattle.handlebars_tags.specs.TrimView.{edge_view}
 use Rattle.handlebars_tags.proofs.OneTag.{one_tag}
-use Rattle.handlebars_template.specs.Place.{behind}
+use Rattle.handlebars_template.specs.Place.{place_behind}
 use Rattle.handlebars_template.specs.OptionsView.{options_view}
 use Rattle.handlebars_template.specs.TreeView.{place_of}
 use Rattle.handlebars_template.specs.Machine.{open_in, early_in}
@@ -120,7 +120,7 @@ tags-preserved c =
           (record {
             parts = c.in_ok-front-2.ensures.whole;
             is_text = rw c.braces_behind-in-tags.ensures at c.in_ok-front-2.ensures.reads;
-            there = c.advance-place.ensures ∙ ap (behind at) same;
+            there = c.advance-place.ensures ∙ ap (place_behind at) same;
             lines = c.fresh_behind-fresh.ensures ∙ ap (fold is_fresh_behind mid) same;
           })
           c.tags.invariant.slice_utf8 (IsUtf8-front left f.slice rest f.whole c.tags.invariant.rest_utf8 rest_utf8);

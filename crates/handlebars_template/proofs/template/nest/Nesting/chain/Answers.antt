@@ -1,7 +1,7 @@
 use Rattle.std.proofs.Common.{◌≡◌, ◌∙◌, List, ◌∷◌, [], suc, ◌<◌, ap, sym, rules}
 use Rattle.std.specs.Option.{option_or}
 use Rattle.handlebars_template.specs.Calls.{max_nesting}
-use Rattle.handlebars_template.specs.Nest.{Placed}
+use Rattle.handlebars_template.specs.Nest.{PlacedElement}
 use Rattle.handlebars_template.specs.Machine.{in_branch, BlockSoFar, goes, next_stage}
 use Rattle.handlebars_template.specs.NestView.{placed_view, opening_view, open_block_view, stack_view, open_blocks, late_of}
 use Rattle.handlebars_template.proofs.NestsBuilt.{stack_view_push}
@@ -17,7 +17,7 @@ returns c n may =
     let elements : placed_view c.replace-elements.result ≡ placed_view old.elements = search rules in
     let next : open_block_view c.enter.new.self ≡ next_stage (open_block_view c.in-Some.block) (placed_view old.elements) (in_branch (opening_view c.args.opening)) =
     c.in_ok-enter.ensures
-    ∙ ap (λ (z : List Placed). next_stage (open_block_view c.in-Some.block) z (in_branch (opening_view c.args.opening))) elements in
+    ∙ ap (λ (z : List PlacedElement). next_stage (open_block_view c.in-Some.block) z (in_branch (opening_view c.args.opening))) elements in
     let more : old.depth < max_nesting → c.one_more-self.result ≡ suc old.depth = c.one_more-self.ensures in
     let stack : open_blocks new ≡ open_block_view c.enter.new.self ∷ behind = c.in_ok-keep_literal.ensures.open_blocks ∙ search (rules, stack_view_push) in
     let none : placed_view new.elements ≡ [] = c.in_ok-keep_literal.ensures.elements ∙ search rules in

@@ -3,7 +3,7 @@ use Rattle.std.specs.Prelude.{None, Some, if◌then◌else◌}
 use Rattle.std.specs.Option.{option_or}
 use Rattle.handlebars_base.specs.Bytes.{Text}
 use Rattle.handlebars_template.specs.TreeView.{place_of}
-use Rattle.handlebars_template.specs.Nest.{Placed, closes, mismatched, names_and_literals, may_close}
+use Rattle.handlebars_template.specs.Nest.{PlacedElement, closes, mismatched, names_and_literals, may_close}
 use Rattle.handlebars_template.specs.Machine.{BlockSoFar, open_in, goes, closed, late_in}
 use Rattle.handlebars_template.specs.NestView.{placed_view, open_block_view, stack_view, open_blocks, late_of, late_view}
 use Rattle.handlebars_template.proofs.NestsBuilt.{stack_view_push}
@@ -27,8 +27,8 @@ returns c =
     ∙ ap (λ (z : List BlockSoFar). late_in (open_in z) (closes p c.args.is_raw m)) (sym front) in
     on_ok_weaker c.end.result
     (λ made may.
-    let whole : last ≡ f.outside ++ closed f (placed_view old.elements) ∷ [] = made ∙ ap (λ (o : List Placed). o ++ closed f (placed_view c.replace-elements.result) ∷ []) outside
-    ∙ ap (λ (es : List Placed). f.outside ++ closed f es ∷ []) elements in
+    let whole : last ≡ f.outside ++ closed f (placed_view old.elements) ∷ [] = made ∙ ap (λ (o : List PlacedElement). o ++ closed f (placed_view c.replace-elements.result) ∷ []) outside
+    ∙ ap (λ (es : List PlacedElement). f.outside ++ closed f es ∷ []) elements in
     record {
       goes_on = closes-goes p c.args.is_raw m old.depth f (open_blocks old) behind (placed_view old.elements) last front whole
           ∙ ap (λ (z : List BlockSoFar). goes f.around z last) (sym c.keep.ensures.open_blocks);
