@@ -1,12 +1,5 @@
 -- What `inline` does.
-use Rattle.std.proofs.Common.{◌≡◌, cond, [], ◌∷◌, Some, None, option_map, String, Global, codes, string_bytes, bytes_eq, nat_cmp, refl, ap, ◌∙◌}
-use Rattle.std.proofs.lemmas.Cmp.{nat_list_eq_equiv}
-use Rattle.std.proofs.lemmas.Map.Made.{IsDistinct-from_count, update_all_none}
-use Rattle.std.proofs.lemmas.Map.Text.{btree_map_updates_text}
-use Rattle.std.specs.BTreeMap.{BTreeMap, UpdatesBy, get_by_text, is_at}
-use Rattle.std.specs.Cmp.Lexicographic.{slice_cmp}
-use Rattle.std.specs.Map.{keys_of, lookup}
-use Rattle.std.specs.String.{string_cmp}
+use Rattle.std.proofs.Common.{◌≡◌, [], ◌∷◌, Some, codes, ap, ◌∙◌}
 use Rattle.serde_json.specs.Data.{Data, null, boolean, number, string, array, object}
 use Rattle.handlebars_base.specs.Answers.{Answer, gives, refuses}
 use Rattle.handlebars_base.specs.Bytes.{Text}
@@ -15,10 +8,9 @@ use Rattle.handlebars_base.specs.PathAndData.{PathAndData}
 use Rattle.handlebars_base.specs.Reasons.{Refusal, param_not_found_for_index}
 use Rattle.handlebars_base.specs.RenderRefusals.{plain_refusal}
 use Rattle.handlebars_base.specs.Scoped.{data_in}
-use Rattle.handlebars_base.proofs.OptionBinds.{option_map-cond}
 use Rattle.handlebars_template.specs.Tree.{Tree, Body, no_body, body}
 use Rattle.handlebars_helpers.specs.CallView.{param_at}
-use Rattle.handlebars_helpers.specs.Decoration.{DecoratorKind, kind_inline, DecoratorView, sets_partial, built_in_decorators, built_in_decorator, by_text, by_body, inline_deeds}
+use Rattle.handlebars_helpers.specs.Decoration.{DecoratorView, sets_partial, by_text, by_body, inline_deeds}
 
 text_in : Answer Text → Text
 text_in (gives t) = t

@@ -1,6 +1,6 @@
 //! The line that `log` gives to the logger.
 
-ghost use Rattle.std.specs.Prelude.{◌≡◌, ◌++◌, IfErr, IfOk, OnOk, map, option_map, string_bytes, true};
+ghost use Rattle.std.specs.Prelude.{◌≡◌, ◌++◌, IfOk, OnOk, map, string_bytes, true};
 ghost use Rattle.handlebars_base.specs.Answers.{Answers, IsRefusal};
 ghost use Rattle.handlebars_base.specs.PathAndData.{path_and_data};
 ghost use Rattle.handlebars_base.specs.Reasons.{invalid_logging_level};

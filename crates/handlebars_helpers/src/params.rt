@@ -2,12 +2,12 @@
 
 ghost use Rattle.std.specs.Prelude.{◌≡◌, MatchResult, None, Some, option_map};
 ghost use Rattle.serde_json.specs.View.{view};
-ghost use Rattle.handlebars_base.specs.Answers.{Answers, gives, refuses};
+ghost use Rattle.handlebars_base.specs.Answers.{Answers, gives};
 ghost use Rattle.handlebars_base.specs.PathAndData.{path_and_data};
 ghost use Rattle.handlebars_base.specs.Reasons.{param_not_found_for_index};
 ghost use Rattle.handlebars_base.specs.RenderRefusals.{plain_refusal, refusal_of};
 ghost use Rattle.handlebars_helpers.specs.CallView.{param_at};
-ghost use Rattle.handlebars_helpers.specs.Params.{by_value, is_missing, two_values};
+ghost use Rattle.handlebars_helpers.specs.Params.{by_value, two_values};
 ghost use Rattle.handlebars_helpers.specs.View.{helper_view};
 
 use crate::view::Helper;

@@ -2,7 +2,7 @@
 use Rattle.std.proofs.Common.{◌≡◌, ◌≢◌, Bool, true, false, [], ◌∷◌, None, Some, Ok, Err, refl, sym, ap, ◌∙◌, subst}
 use Rattle.std.specs.Prelude.{if◌then◌else◌, not}
 use Rattle.serde_json.specs.Data.{Data, null}
-use Rattle.handlebars_base.specs.Answers.{Answer, answer_map, gives, refuses}
+use Rattle.handlebars_base.specs.Answers.{answer_map, gives, refuses}
 use Rattle.handlebars_base.specs.Bytes.{Text}
 use Rattle.handlebars_base.specs.Path.{Reference}
 use Rattle.handlebars_base.specs.Reasons.{Refusal, out_of_memory}
@@ -11,7 +11,6 @@ use Rattle.handlebars_base.specs.Scoped.{Found, data_in, missing, present_in, va
 use Rattle.handlebars_base.specs.Values.{truth}
 use Rattle.handlebars_base.specs.declared.error.render_error.RenderError.{RenderError}
 use Rattle.handlebars_template.specs.Tree.{Args, Call, call_args, call_name, path}
-use Rattle.handlebars_helpers.specs.CallView.{CallView}
 use Rattle.handlebars_helpers.specs.Callee.{built, calls_registered}
 use Rattle.handlebars_helpers.specs.Choice.{body_if, built_in_choice}
 use Rattle.handlebars_meaning.specs.Asks.{goes_on, is_refused, only}

@@ -1,5 +1,5 @@
 -- What calls of helpers carry out, and lone expressions.
-use Rattle.std.proofs.Common.{◌≡◌, ◌≢◌, Bool, [], None, Some, Ok, Err, refl, sym, ap, ◌∙◌, subst}
+use Rattle.std.proofs.Common.{◌≡◌, ◌≢◌, Bool, [], None, Some, Err, refl, sym, ap, ◌∙◌, subst}
 use Rattle.std.specs.declared.io.Error.{Error}
 use Rattle.serde_json.specs.Data.{Data}
 use Rattle.handlebars_base.specs.Answers.{gives, refuses, IsRefusal}
@@ -8,22 +8,19 @@ use Rattle.handlebars_base.specs.Reasons.{Reason, Refusal, out_of_memory}
 use Rattle.handlebars_base.specs.RenderRefusals.{plain_refusal, reason_in, refusal_of}
 use Rattle.handlebars_base.specs.Scoped.{Found, walked, value, missing, present_in}
 use Rattle.handlebars_base.specs.declared.error.render_error.RenderError.{RenderError}
-use Rattle.handlebars_template.specs.Tree.{Param, Body, no_body, Call, call_name, Decorator, decorator_name, decorator_args}
+use Rattle.handlebars_template.specs.Tree.{Param, Call, call_name, Decorator, decorator_name, decorator_args}
 use Rattle.handlebars_base.specs.Outputs.{Held}
-use Rattle.handlebars_meaning.specs.Sites.{TreeSite, Site}
-use Rattle.handlebars_helpers.specs.CallView.{CallView, HelperView}
-use Rattle.handlebars_helpers.specs.Callee.{Target, built, calls_registered}
-use Rattle.handlebars_helpers.specs.Choice.{Kind, Choice, built_in_choice}
+use Rattle.handlebars_meaning.specs.Sites.{Site}
+use Rattle.handlebars_helpers.specs.CallView.{CallView}
 use Rattle.handlebars_meaning.specs.State.{Setting, State}
 use Rattle.handlebars_meaning.specs.Steps.{Prog, ask, refuse_for, ◌>>=◌}
 use Rattle.handlebars_meaning.specs.Writing.{write_value}
-use Rattle.handlebars_meaning.specs.CarryOut.{render_branch, carry_out}
-use Rattle.handlebars_meaning.specs.Questions.{value_of, view_of, choice_of, HasChoice}
+use Rattle.handlebars_meaning.specs.Questions.{value_of, view_of}
 use Rattle.handlebars_meaning.specs.Values.{HasValue, HasView}
-use Rattle.handlebars_meaning.specs.Means.{line_in, render_chosen, render_found, render_lone_as}
+use Rattle.handlebars_meaning.specs.Means.{line_in, render_found, render_lone_as}
 use Rattle.handlebars_meaning.specs.Runs.{Runs, Refused, refused}
 use Rattle.handlebars_render.specs.View.{Moment, Answered, CarriesOn, GivesValue, RefusesValue}
-use Rattle.handlebars_render.proofs.Carry.{at, carries_on-value, carries_on-no_value, carries_on-done}
+use Rattle.handlebars_render.proofs.Carry.{at, carries_on-value, carries_on-no_value}
 use Rattle.handlebars_render.proofs.Asked.{gives-ask, refuses-ask, refuses-bind, refuses-then}
 
 -- the line with another mark

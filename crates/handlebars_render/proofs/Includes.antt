@@ -11,7 +11,6 @@ use Rattle.handlebars_base.specs.declared.output.StringOutput.{StringOutput}
 use Rattle.handlebars_base.specs.Reasons.{Refusal, cannot_include_self, inclusion_limit, out_of_memory, partial_block_not_found, partial_not_found}
 use Rattle.handlebars_base.specs.RenderRefusals.{plain_refusal, reason_in, refusal_of}
 use Rattle.handlebars_base.specs.declared.error.render_error.RenderError.{RenderError}
-use Rattle.handlebars_scope.specs.LineState.{LineState}
 use Rattle.handlebars_template.specs.Tree.{Tree, tree, Body, body, no_body, Decorator, decorator_args, decorator_marks, decorator_name}
 use Rattle.handlebars_helpers.specs.CallView.{CallView}
 use Rattle.handlebars_helpers.specs.Decoration.{DecoratorView}
@@ -22,14 +21,14 @@ use Rattle.handlebars_meaning.specs.Means.{include_tag, line_at, line_out, on_li
 use Rattle.handlebars_meaning.specs.Pieces.{Piece, join}
 use Rattle.handlebars_meaning.specs.Questions.{view_of}
 use Rattle.handlebars_meaning.specs.Runs.{Outcome, Refused, IsOverInMemory, Runs, got, set, did, did_over, captured, captured_over, looked, below_limit, at_limit, stop}
-use Rattle.handlebars_meaning.specs.Sites.{Site, TreeSite, body_at, included_at}
+use Rattle.handlebars_meaning.specs.Sites.{Site, TreeSite, body_at}
 use Rattle.handlebars_meaning.specs.State.{KeptBlocks, Setting, State, push_frame, nearest_variables, partial_in}
 use Rattle.handlebars_meaning.specs.Steps.{Whole, Steps, Done, Do, CheckLimit, Get, Set, Prog, return, ask, state, perform, capture, find, check_limit, ◌>>=◌, ◌>>◌}
 use Rattle.handlebars_meaning.specs.Values.{HasView}
 use Rattle.handlebars_render.specs.View.{Answered, KeptIn, keeping, CarriesAhead, has_text, no_text, CarriesOn, CarriesOut, goes_on, is_over, GivesValue, Moment, RefusesValue, Tells, refusal, fault, no_memory, with_current}
 use Rattle.handlebars_render.specs.Writes.{Writes}
 use Rattle.handlebars_render.proofs.Asked.{gives-ask}
-use Rattle.handlebars_render.proofs.Carry.{at, ends, memory_or, carries-elsewhere, carries-get, carries-run, carries-set, carries_on-change, carries_on-changed, carries_on-elsewhere, carries_on-get, carries_on-line, carries_on-no_memory, carries_on-no_value, carries_on-over, carries_on-pieces, carries_on-refuse, carries_on-then, carries_on-value}
+use Rattle.handlebars_render.proofs.Carry.{at, ends, memory_or, carries-run, carries_on-change, carries_on-changed, carries_on-elsewhere, carries_on-get, carries_on-line, carries_on-no_memory, carries_on-no_value, carries_on-over, carries_on-pieces, carries_on-refuse, carries_on-then, carries_on-value}
 
 -- a state, with what holds within an inclusion
 abbrev pub placed : Option Text → KeptBlocks → ℕ → State → State

@@ -30,7 +30,6 @@ use Rattle.handlebars_render.specs.Judgement.{LeadsTo}
 use Rattle.handlebars_render.specs.View.{Answered, CarriesOn, CarriesOut, Moment, goes_on, is_over}
 use Rattle.handlebars_render.specs.declared.boxed.BoxedError.{BoxedError}
 use Rattle.handlebars_render.specs.declared.chosen.ToRender.{ToRender}
-use Rattle.handlebars_render.specs.declared.chosen.ToRender.TheVariants.{Nothing, BodyIn}
 use Rattle.handlebars_render.proofs.Asked.{gives-ask, refuses-ask}
 use Rattle.handlebars_render.proofs.Carry.{at, carries-get, carries-value, carries_on-no_memory, carries_on-no_value, carries_on-value}
 

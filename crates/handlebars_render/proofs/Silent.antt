@@ -1,5 +1,5 @@
 -- What is done with nothing written.
-use Rattle.std.proofs.Common.{◌≡◌, ◌≢◌, List, [], ◌∷◌, None, Result, Ok, Err, refl, sym, ◌∙◌, subst, append-nil}
+use Rattle.std.proofs.Common.{◌≡◌, ◌≢◌, List, [], ◌∷◌, None, Result, Ok, Err, refl, sym, ◌∙◌, subst}
 use Rattle.std.specs.declared.io.Error.{Error}
 use Rattle.handlebars_base.specs.Answers.{gives, refuses, IsRefusal}
 use Rattle.handlebars_base.specs.Bytes.{Text}

@@ -5,7 +5,6 @@ use Rattle.std.specs.declared.io.Error.{Error}
 use Rattle.std.specs.Result.{IsErrAnd}
 use Rattle.handlebars_base.specs.Reasons.{out_of_memory}
 use Rattle.handlebars_base.specs.RenderRefusals.{reason_in}
-use Rattle.serde_json.specs.Data.{Data}
 use Rattle.handlebars_base.specs.Bytes.{Text}
 use Rattle.handlebars_base.specs.declared.error.render_error.RenderError.{RenderError}
 use Rattle.handlebars_template.specs.Tree.{Binding, call_binding}
@@ -14,20 +13,20 @@ use Rattle.handlebars_template.specs.declared.template.tree.BlockParam.{BlockPar
 use Rattle.handlebars_template.specs.declared.template.tree.HelperTemplate.{HelperTemplate, out-HelperTemplate}
 use Rattle.handlebars_template.proofs.Levels.{call_binding-view}
 use Rattle.handlebars_base.specs.Outputs.{Held}
-use Rattle.handlebars_scope.specs.Scopes.{Base, Frame}
+use Rattle.handlebars_scope.specs.Scopes.{Frame}
 use Rattle.handlebars_scope.specs.ScopeView.{frame_of, frames_of}
 use Rattle.handlebars_scope.specs.declared.block.BlockContext.{BlockContext}
 use Rattle.handlebars_meaning.specs.Sites.{Site}
 use Rattle.handlebars_helpers.specs.CallView.{HelperView}
-use Rattle.handlebars_helpers.specs.Turns.{StandsBelow, Turn, turn_name, turn_frame, with_block}
-use Rattle.handlebars_meaning.specs.CarryOut.{in_block, render_body, render_with, take_turn, take_turns}
-use Rattle.handlebars_meaning.specs.State.{Setting, State, push_frame, pop_frame, nearest_as, nearest_variables, with_nearest}
+use Rattle.handlebars_helpers.specs.Turns.{StandsBelow, Turn, turn_name, turn_frame}
+use Rattle.handlebars_meaning.specs.CarryOut.{render_body, take_turn, take_turns}
+use Rattle.handlebars_meaning.specs.State.{Setting, State, pop_frame, nearest_as, with_nearest}
 use Rattle.handlebars_meaning.specs.Steps.{Steps, ◌>>◌}
 use Rattle.handlebars_render.specs.Boxed.{answer_of, error_of}
 use Rattle.handlebars_render.specs.declared.boxed.BoxedError.{BoxedError}
 use Rattle.handlebars_render.specs.declared.context.RenderContext.{RenderContext}
 use Rattle.handlebars_render.specs.View.{IsKept, NearestBelow, state_of, without_partials, Moment, Answered, CarriesOn, goes_on, is_over, CarriesOut}
-use Rattle.handlebars_render.proofs.Carry.{at, carries_on-get, carries_on-changed, carries_on-in_block, carries_on-out_of_memory}
+use Rattle.handlebars_render.proofs.Carry.{at, carries_on-changed, carries_on-out_of_memory}
 
 -- ---- the names that a tag binds
 

@@ -6,7 +6,7 @@ use denote.Triple.Both.{Both}
 use Rattle.handlebars_base.specs.Outputs.{Held}
 use Rattle.handlebars_base.specs.declared.error.render_error.RenderError.{RenderError}
 use Rattle.handlebars_meaning.specs.State.{Parts, Setting}
-use Rattle.handlebars_meaning.specs.Steps.{Steps, Prog, run}
+use Rattle.handlebars_meaning.specs.Steps.{Steps, Prog}
 use Rattle.handlebars_render.specs.Boxed.{answer_of}
 use Rattle.handlebars_render.specs.View.{Answered, CarriesOn, CarriesOut, IsKept, IsSame, KeptIn, Moment, held_in, moment, setting_in, within}
 use Rattle.handlebars_render.specs.declared.boxed.BoxedError.{BoxedError}

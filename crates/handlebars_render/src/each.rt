@@ -1,6 +1,6 @@
 //! Rendering in blocks of scope.
 
-ghost use Rattle.std.specs.Prelude.{◌≡◌, ℕ, Bool};
+ghost use Rattle.std.specs.Prelude.{ℕ, Bool};
 ghost use Rattle.handlebars_template.specs.TreeView.{call_view};
 ghost use Rattle.handlebars_scope.specs.Scopes.{empty_frame};
 ghost use Rattle.handlebars_scope.specs.ScopeView.{frame_of};

@@ -18,7 +18,7 @@ ghost use Rattle.handlebars_render.specs.Boxed.{answer_of, error_of};
 ghost use Rattle.handlebars_render.specs.Chosen.{part_view};
 ghost use Rattle.handlebars_render.specs.Inclusions.{included};
 ghost use Rattle.handlebars_render.specs.Judgement.{Carries, CarriesWith, Stays};
-ghost use Rattle.handlebars_render.specs.View.{setting_in, state_of, state_with, moment, CarriesAhead, CarriesOn, IsKept, KeptIn, within, held_in, IsSame};
+ghost use Rattle.handlebars_render.specs.View.{setting_in, state_of, state_with, moment, CarriesAhead, CarriesOn, IsKept, KeptIn, within, held_in};
 
 use crate::block::leave_call;
 use crate::boxed::BoxedError;

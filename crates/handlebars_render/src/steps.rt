@@ -1,6 +1,6 @@
 //! Taking the steps that a helper of one's own answers.
 
-ghost use Rattle.std.specs.Prelude.{◌≡◌, ℕ, Bool, map};
+ghost use Rattle.std.specs.Prelude.{ℕ, Bool, map};
 ghost use Rattle.handlebars_template.specs.TreeView.{call_view};
 ghost use Rattle.handlebars_helpers.specs.CallView.{CallView};
 ghost use Rattle.handlebars_helpers.specs.OwnView.{step_of};

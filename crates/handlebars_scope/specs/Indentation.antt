@@ -1,5 +1,5 @@
 -- Texts with indentation: before what begins a line, and between the lines of a text.
-use Rattle.std.specs.Prelude.{ℕ, Bool, true, false, ◌&&◌, ◌||◌, ◌==◌, not, if◌then◌else◌, List, [], ◌∷◌, ◌++◌}
+use Rattle.std.specs.Prelude.{ℕ, Bool, false, ◌&&◌, ◌||◌, ◌==◌, not, if◌then◌else◌, List, [], ◌∷◌, ◌++◌}
 use Rattle.handlebars_base.specs.Bytes.{Text, newline, carriage_return}
 use Rattle.handlebars_scope.specs.LineState.{LineState}
 

@@ -1,9 +1,9 @@
 //! Indentation: before what begins a line, and between the lines of a text.
 
-ghost use Rattle.std.specs.Prelude.{◌≡◌, IfErr, IfOk, OnErr, string_bytes};
+ghost use Rattle.std.specs.Prelude.{◌≡◌, IfErr, IfOk, string_bytes};
 ghost use Rattle.handlebars_base.specs.Outputs.{Written};
 ghost use Rattle.handlebars_base.specs.Shown.{escaped_if};
-ghost use Rattle.handlebars_scope.specs.Indentation.{begins_with_end, indented, takes_indent, written_in};
+ghost use Rattle.handlebars_scope.specs.Indentation.{indented, takes_indent, written_in};
 ghost use Rattle.handlebars_scope.specs.LineView.{line_of};
 
 use crate::line::LineState;

@@ -1,6 +1,6 @@
 //! Tags: what stands at the braces in front of a source.
 
-ghost use Rattle.std.specs.Prelude.{◌≡◌, IfOk, IfSome, MatchOption};
+ghost use Rattle.std.specs.Prelude.{IfOk, IfSome, MatchOption};
 ghost use Rattle.handlebars_tags.specs.Comment.{HasNoLong};
 ghost use Rattle.handlebars_tags.specs.Tag.{NoTag};
 ghost use Rattle.handlebars_tags.specs.TagView.{HasTag};

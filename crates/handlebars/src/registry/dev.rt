@@ -1,6 +1,6 @@
 //! The files of templates that are remembered in dev mode.
 
-ghost use Rattle.std.specs.Prelude.{◌≡◌, Bool, true, cond, is_some, IfOk, OnOk};
+ghost use Rattle.std.specs.Prelude.{◌≡◌, true, cond, is_some, IfOk, OnOk};
 ghost use Rattle.std.specs.Prelude.{OnErr, None, Some, option_map, string_bytes};
 ghost use Rattle.handlebars_base.specs.Bytes.{Text};
 ghost use Rattle.handlebars.specs.Files.{IsByName, files_in, path_in, path_put};

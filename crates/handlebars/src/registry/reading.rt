@@ -1,7 +1,7 @@
 //! Dev mode: templates of files are read anew at each rendering.
 
-ghost use Rattle.std.specs.Prelude.{◌≡◌, ◌≢◌, ◌++◌, ◌∷◌, [], IfOk, IfErr, OnErr, OnOk, List, map};
-ghost use Rattle.std.specs.Prelude.{None, Some, Ok, Err, false, cond, option_map, string_bytes};
+ghost use Rattle.std.specs.Prelude.{◌≡◌, ◌∷◌, [], IfOk, IfErr, OnOk, List, map};
+ghost use Rattle.std.specs.Prelude.{None, Some, Ok, Err, false, cond, option_map};
 ghost use Rattle.std.specs.Str.{bytes_eq};
 ghost use Rattle.handlebars_base.specs.Bytes.{Text};
 ghost use Rattle.handlebars_template.specs.Tree.{Tree};

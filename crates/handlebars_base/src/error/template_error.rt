@@ -1,7 +1,7 @@
 //! Why a template has no tree, and where.
 
 ghost use Rattle.std.specs.Prelude.{◌≡◌, ◌≢◌, Some, None, IsSome, option_map, string_bytes};
-ghost use Rattle.handlebars_base.specs.Reasons.{TemplateReason, TemplateRefusal, template_out_of_memory, template_io_error};
+ghost use Rattle.handlebars_base.specs.Reasons.{template_out_of_memory, template_io_error};
 
 use std::alloc::{AllocError, Global};
 use std::fmt::Write;

@@ -1,6 +1,6 @@
 //! Values of JSON: how they are rendered, whether they count as true, and where they come from.
 
-ghost use Rattle.std.specs.Prelude.{◌≡◌, Bool, IfOk, IsTrue, ◌↔◌, string_bytes, true, false, option_map, map, Some};
+ghost use Rattle.std.specs.Prelude.{◌≡◌, Bool, IfOk, IsTrue, ◌↔◌, string_bytes, false, option_map, map, Some};
 ghost use Rattle.handlebars_base.specs.Bytes.{Text};
 ghost use Rattle.serde_json.specs.Find.{as_str};
 ghost use Rattle.serde_json.specs.View.{view, number_view};

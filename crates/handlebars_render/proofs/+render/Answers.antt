@@ -1,19 +1,18 @@
-use Rattle.std.proofs.Common.{rules, None, Some, ◌∷◌, ◌∙◌, ◌+◌, true≢false, refl, sym, ap, map, option_map, Option, List, length, arith, string_bytes}
+use Rattle.std.proofs.Common.{rules, None, Some, ◌∷◌, ◌∙◌, ◌+◌, true≢false, refl, sym, ap, map, option_map, Option, List, length, arith}
 use Rattle.std.specs.Prelude.{slice_get}
 use Rattle.serde_json.specs.View.{view}
 use Rattle.handlebars_base.specs.RenderRefusals.{spot_of}
 use Rattle.handlebars_template.specs.Place.{Place}
 use Rattle.handlebars_template.specs.Tree.{Tree, tree_name, CallMarks, call_marks}
-use Rattle.handlebars_template.specs.TreeView.{body_view, call_view, decorator_view, element_view, place_of}
+use Rattle.handlebars_template.specs.TreeView.{call_view, decorator_view, element_view, place_of}
 use Rattle.handlebars_template.specs.declared.template.tree.TemplateMapping.{TemplateMapping}
-use Rattle.handlebars_template.proofs.Levels.{call_body-view, call_inverse-view, call_marks-view, element_view-Expression, element_view-HelperBlock, element_view-DecoratorExpression, element_view-DecoratorBlock, element_view-PartialExpression, element_view-PartialBlock, element_view-Comment, element_view-RawString}
+use Rattle.handlebars_template.proofs.Levels.{call_marks-view, element_view-Expression, element_view-HelperBlock, element_view-DecoratorExpression, element_view-DecoratorBlock, element_view-PartialExpression, element_view-PartialBlock, element_view-Comment, element_view-RawString}
 use Rattle.handlebars_template.proofs.Trees.{tree_view-out}
 use Rattle.handlebars_meaning.specs.Pieces.{of_text}
 use Rattle.handlebars_meaning.specs.Sites.{body_at, inverse_at, element_in}
 use Rattle.handlebars_helpers.specs.Choice.{body_if}
 use Rattle.handlebars_scope.specs.ScopeView.{frame_of}
-use Rattle.handlebars_helpers.specs.CallView.{HelperView}
-use Rattle.handlebars_helpers.specs.Callee.{built, own, calls_local, calls_registered}
+use Rattle.handlebars_helpers.specs.Callee.{own}
 use Rattle.handlebars_helpers.specs.OwnView.{step_of}
 use Rattle.handlebars_helpers.specs.Turns.{turn_frame}
 use Rattle.handlebars_helpers.specs.View.{helper_view, path_view, turn_view}
@@ -23,8 +22,6 @@ use Rattle.handlebars_meaning.specs.Means.{line_in, render_chosen, render_decora
 use Rattle.handlebars_meaning.specs.Runs.{named_as, placed_at}
 use Rattle.handlebars_render.specs.Boxed.{answer_of, error_of}
 use Rattle.handlebars_render.specs.declared.boxed.BoxedError.TheVariants.{OutOfMemory}
-use Rattle.handlebars_render.specs.Targets.{target_in}
-use Rattle.handlebars_render.specs.Bound.{callee_in}
 use Rattle.handlebars_render.specs.declared.bound.BoundCall.{BoundCall}
 use Rattle.handlebars_render.specs.Chosen.{part_view, render_rest}
 use Rattle.handlebars_base.specs.Bytes.{Text}
@@ -34,10 +31,10 @@ use Rattle.handlebars_render.proofs.BoundCalls.{choice-entered, chooses-entered,
 use Rattle.handlebars_render.proofs.Leads.{body-seen, carries_on-choice, carries_on-leads, carries_on-part, inverse-seen, part_site}
 use Rattle.handlebars_render.proofs.Leaves.{carries_on-leaves}
 use Rattle.handlebars_render.proofs.Carry.{carries-run, carries_on-done, carries_on-handed, carries_on-in_block, carries_on-line, carries_on-no_memory, carries_on-no_value, carries_on-out_of_memory, carries_on-puts, carries_on-step, carries_on-task, carries_on-task_over, carries_on-without_escaping, restored}
-use Rattle.handlebars_meaning.specs.State.{push_frame, hook, pop_frame, nearest_variables}
+use Rattle.handlebars_meaning.specs.State.{push_frame, pop_frame, nearest_variables}
 use Rattle.handlebars_render.proofs.Elements.{left_starts, left_goes, left_over, left_ends, whole_with}
 use Rattle.handlebars_render.proofs.Kept.{kept-refl, kept-trans, outer-kept, outer-trans}
-use Rattle.handlebars_render.proofs.Lent.{pop_frame-lent, named-lent, nearest-lent, nearest_variables-lend, one_more, partial_in-lend}
+use Rattle.handlebars_render.proofs.Lent.{pop_frame-lent, named-lent, nearest-lent, one_more, partial_in-lend}
 use Rattle.handlebars_render.proofs.Lists.{get_or-seen, below-seen, over-seen, place_there, looked_up, placed_marks}
 use Rattle.handlebars_render.proofs.Silent.{carries_on-does}
 use Rattle.handlebars_render.proofs.Sinks.{same-refl, same-trans}

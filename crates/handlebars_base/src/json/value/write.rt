@@ -1,6 +1,6 @@
 //! Writing values of JSON.
 
-ghost use Rattle.std.specs.Prelude.{◌≡◌, Bool, IfErr, true};
+ghost use Rattle.std.specs.Prelude.{Bool, IfErr, true};
 ghost use Rattle.serde_json.specs.View.{view, number_view, items_view};
 ghost use Rattle.handlebars_base.specs.Values.{rendered, rendered_items, rendered_number, separator};
 ghost use Rattle.serde_json.specs.Data.{array};

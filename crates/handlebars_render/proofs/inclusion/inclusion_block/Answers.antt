@@ -1,4 +1,4 @@
-use Rattle.std.proofs.Common.{sym, ap, ◌∙◌}
+use Rattle.std.proofs.Common.{sym}
 use Rattle.serde_json.specs.View.{view}
 use Rattle.handlebars_helpers.specs.DecoratorsView.{tag_view}
 use Rattle.handlebars_render.specs.View.{state_of}

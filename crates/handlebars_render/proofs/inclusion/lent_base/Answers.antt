@@ -5,7 +5,7 @@ use Rattle.serde_json.specs.View.{view}
 use Rattle.handlebars_base.specs.Answers.{answer_map}
 use Rattle.handlebars_base.specs.Path.{relative}
 use Rattle.handlebars_base.specs.PathAndData.{path_and_data}
-use Rattle.handlebars_base.specs.Scoped.{data_in, present_in}
+use Rattle.handlebars_base.specs.Scoped.{present_in}
 use Rattle.handlebars_scope.specs.Contexts.{data_of}
 use Rattle.handlebars_helpers.specs.DecoratorsView.{tag_view}
 use Rattle.handlebars_meaning.specs.Including.{base_value}

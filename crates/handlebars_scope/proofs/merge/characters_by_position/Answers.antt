@@ -1,6 +1,6 @@
 use Rattle.std.proofs.Common.{sym, ◌∙◌}
 use Rattle.std.proofs.lemmas.Str.{IsUtf8-past_char}
-use Rattle.serde_json.specs.View.{members_view, view}
+use Rattle.serde_json.specs.View.{view}
 use Rattle.handlebars_scope.proofs.Merging.{with_characters-more, with_characters-done}
 use Rattle.handlebars_scope.proofs.merge.characters_by_position.Goals as goal
 
