@@ -1,8 +1,6 @@
 -- A rendering has one answer, whose pieces have their origins.
-use Rattle.std.proofs.Common.{◌≡◌, ◌≢◌, List, [], Option, None, Some, Result, Ok, Err, refl, sym, ap, ◌∙◌, subst}
-use Rattle.std.specs.Prelude.{IfErr, IsErrAnd, String}
-use Rattle.std.specs.Global.{Global}
-use Rattle.handlebars_base.specs.Answers.{IsRefusal}
+use Rattle.std.proofs.Common.{◌≡◌, ◌≢◌, List, [], Option, None, Some, Err, refl, sym, ap, ◌∙◌, subst}
+use Rattle.std.specs.Prelude.{String}
 use Rattle.handlebars_base.specs.Bytes.{Text}
 use Rattle.handlebars_base.specs.Reasons.{Refusal, TemplateRefusal, TemplateReason, template_out_of_memory, out_of_memory, of_template, reason_for}
 use Rattle.handlebars_base.specs.RenderRefusals.{plain_refusal, refusal_of, reason_in}
@@ -120,12 +118,6 @@ module _ (p : Setting) (begins : Beginning → Type 0) where
   refuses_before q e b is =
       subst (λ (z : Refusal). RefusesWith p begins z) (sym is) (record { pieces = []; answers = not_begun b })
 
-  -- an error that is the refusal, memory aside
-  pub refuses_at_once : (q : Refusal) (r : Result (String Global) RenderError) → begins (no_tree q) → IsErrAnd r (IsRefusal q)
-      → IfErr r (λ e. reason_in e ≢ out_of_memory → RefusesWith p begins (refusal_of e))
-  refuses_at_once q (Ok text) b is = absurd is
-  refuses_at_once q (Err e) b is = λ other. refuses_before q e b (is other)
-
   module _ (t : Tree) (first : State) (begun : begins (a_tree t)) (is_first : first ≡ first_state p.parts.recursive) where
     pub gives_text : {next : State} {text : Text} → GivesString p (render_tree t) first next text → GivesText p begins text
     gives_text {next = next} g = record {
@@ -149,11 +141,3 @@ module _ (p : Setting) (options : Options) (source : Text) where
       let not_memory : f.reason ≢ template_out_of_memory =
       λ memory. other (ap (λ (z : Refusal). z.reason) is ∙ ap (λ (r : TemplateReason). reason_for f r) memory) in
       refuses_before p (FromSource options source) (plain_refusal (of_template f)) e (does_not (refuses not_memory)) is
-
-  -- the same of the result of a call
-  pub compile_refused : (f : TemplateRefusal) (r : Result (String Global) RenderError)
-      → (f.reason ≢ template_out_of_memory → Compiles source options (refused f))
-      → IsErrAnd r (λ e. refusal_of e ≡ plain_refusal (of_template f))
-      → IfErr r (λ e. reason_in e ≢ out_of_memory → RefusesWith p (FromSource options source) (refusal_of e))
-  compile_refused f (Ok text) refuses is = absurd is
-  compile_refused f (Err e) refuses is = λ other. not_compiled f e refuses is other

@@ -10,10 +10,6 @@ use Rattle.handlebars_render.specs.View.{Answered}
 use Rattle.handlebars_render.proofs.Silent.{evals-handed}
 
 module _ (p q : Setting) (k : Steps) (seen : Refusal → Refusal) (s mid last : State) where
-  -- nothing was refused
-  pub evals-ready : {u : Unit {0}} → p ≡ q → Evals p k seen s (Ok u) mid → Evals q k seen s (Ok u) mid
-  evals-ready {u = u} over c = subst (λ (z : Setting). Evals z k seen s (Ok u) mid) over c
-
   -- the error is handed on
   pub evals-failed : (e d : RenderError) (a : Answered) → p ≡ q → IsHandedOn e d → a ≡ Err d
       → Evals p k seen s (Err e) mid → Evals q k seen s a last

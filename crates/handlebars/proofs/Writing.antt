@@ -39,9 +39,6 @@ Appends-told (Some xs) now t told = subst (λ (n : Option Text). Appends (Some x
 
 -- ---- beginnings
 
-pub BeginsWith-one : (t : Tree) → IsOne (BeginsWith t)
-BeginsWith-one t a b x y = x ∙ sym y
-
 module _ (p : Setting) {B C : Beginning → Type 0} (to : (b : Beginning) → B b → C b) where
   RenderAnswers-map : {ps : List Piece} {o : Outcome} → RenderAnswers p B ps o → RenderAnswers p C ps o
   RenderAnswers-map (not_begun b) = not_begun (to _ b)
@@ -131,14 +128,6 @@ module _ (p : Setting) (options : Options) (source : Text) where
       let not_memory : f.reason ≢ template_out_of_memory =
       λ memory. other (ap (λ (z : Refusal). z.reason) is ∙ ap (λ (r : TemplateReason). reason_for f r) memory) in
       writes_refused p (FromSource options source) (plain_refusal (of_template f)) e o (does_not (so not_memory)) is
-
-  pub writes_not_compiled : (f : TemplateRefusal) (e : RenderError) (o : Option Text)
-      → (f.reason ≢ template_out_of_memory → Compiles source options (refused f))
-      → refusal_of e ≡ plain_refusal (of_template f) → Writes p (FromSource options source) o o (Err e)
-  writes_not_compiled f e o so is = elim (memory_or (reason_in e)) [
-    | inl memory ↦ writes_no_memory p (FromSource options source) e o memory
-    | inr other ↦ not_compiled f e o so is other
-  ]
 
 -- ---- data that isn't converted
 

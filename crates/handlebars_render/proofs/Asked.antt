@@ -1,11 +1,10 @@
 -- Programs that have a value, and what steps ask.
-use Rattle.std.proofs.Common.{[]}
 use Rattle.handlebars_base.specs.Answers.{gives, refuses}
 use Rattle.handlebars_base.specs.Reasons.{Refusal}
 use Rattle.handlebars_meaning.specs.State.{Setting, State}
 use Rattle.handlebars_meaning.specs.Steps.{Prog, ask, ◌>>=◌}
 use Rattle.handlebars_meaning.specs.Questions.{Question, Reply, IsAnswered}
-use Rattle.handlebars_meaning.specs.Runs.{Refused, refused, asked}
+use Rattle.handlebars_meaning.specs.Runs.{refused, asked}
 use Rattle.handlebars_render.specs.View.{GivesValue, RefusesValue}
 
 module _ (p : Setting) where
@@ -20,8 +19,3 @@ module _ (p : Setting) where
       → RefusesValue p m s r → RefusesValue p (m >>= f) s r
   unfolding ◌>>=◌
   refuses-bind m f x k = x (λ a. f a k)
-
-  pub refuses-then : {A B : Type 0} (m : Prog A) (f : A → Prog B) {s : State} {a : A} {r : Refusal}
-      → GivesValue p m s a → RefusesValue p (f a) s r → RefusesValue p (m >>= f) s r
-  unfolding ◌>>=◌
-  refuses-then m f {r = r} x y k = x (λ a. f a k) [] (Refused r) (y k)

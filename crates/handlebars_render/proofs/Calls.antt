@@ -1,27 +1,25 @@
 -- What calls of helpers carry out, and lone expressions.
-use Rattle.std.proofs.Common.{◌≡◌, ◌≢◌, Bool, [], None, Some, Err, refl, sym, ap, ◌∙◌, subst}
+use Rattle.std.proofs.Common.{◌≡◌, ◌≢◌, Bool, None, Some, Err, refl, sym, ap, ◌∙◌, subst}
 use Rattle.std.specs.declared.io.Error.{Error}
 use Rattle.serde_json.specs.Data.{Data}
-use Rattle.handlebars_base.specs.Answers.{gives, refuses, IsRefusal}
-use Rattle.handlebars_base.specs.Bytes.{Text}
-use Rattle.handlebars_base.specs.Reasons.{Reason, Refusal, out_of_memory}
-use Rattle.handlebars_base.specs.RenderRefusals.{plain_refusal, reason_in, refusal_of}
+use Rattle.handlebars_base.specs.Answers.{gives, refuses}
+use Rattle.handlebars_base.specs.Reasons.{out_of_memory}
+use Rattle.handlebars_base.specs.RenderRefusals.{reason_in, refusal_of}
 use Rattle.handlebars_base.specs.Scoped.{Found, walked, value, missing, present_in}
 use Rattle.handlebars_base.specs.declared.error.render_error.RenderError.{RenderError}
-use Rattle.handlebars_template.specs.Tree.{Param, Call, call_name, Decorator, decorator_name, decorator_args}
+use Rattle.handlebars_template.specs.Tree.{Param, Call, call_name}
 use Rattle.handlebars_base.specs.Outputs.{Held}
 use Rattle.handlebars_meaning.specs.Sites.{Site}
 use Rattle.handlebars_helpers.specs.CallView.{CallView}
 use Rattle.handlebars_meaning.specs.State.{Setting, State}
-use Rattle.handlebars_meaning.specs.Steps.{Prog, ask, refuse_for, ◌>>=◌}
+use Rattle.handlebars_meaning.specs.Steps.{ask}
 use Rattle.handlebars_meaning.specs.Writing.{write_value}
-use Rattle.handlebars_meaning.specs.Questions.{value_of, view_of}
-use Rattle.handlebars_meaning.specs.Values.{HasValue, HasView}
+use Rattle.handlebars_meaning.specs.Questions.{value_of}
+use Rattle.handlebars_meaning.specs.Values.{HasValue}
 use Rattle.handlebars_meaning.specs.Means.{line_in, render_found, render_lone_as}
-use Rattle.handlebars_meaning.specs.Runs.{Runs, Refused, refused}
-use Rattle.handlebars_render.specs.View.{Moment, Answered, CarriesOn, GivesValue, RefusesValue}
+use Rattle.handlebars_render.specs.View.{Moment, Answered, CarriesOn}
 use Rattle.handlebars_render.proofs.Carry.{at, carries_on-value, carries_on-no_value}
-use Rattle.handlebars_render.proofs.Asked.{gives-ask, refuses-ask, refuses-bind, refuses-then}
+use Rattle.handlebars_render.proofs.Asked.{gives-ask, refuses-ask}
 
 -- the line with another mark
 pub entered_as : (s mid : State) (a b : Bool) → b ≡ a → mid ≡ record s { line = line_in a s.line }
@@ -38,25 +36,6 @@ missing-seen (value d) is = absurd (None≢Some is)
 missing-seen missing is = refl
 
 module _ (p : Setting) where
-  -- the refusal of a tag, by the name that it is called by
-  pub refuses_named : (m : Prog CallView) (why : Text → Reason) {s : State} (v : CallView) (e : RenderError)
-      → GivesValue p m s v
-      → IsRefusal (plain_refusal (why v.name)) e → reason_in e ≢ out_of_memory
-      → RefusesValue p (m >>= (λ w. refuse_for {A = Unit {0}} (why w.name))) s (refusal_of e)
-  refuses_named m why {s = s} v e g is other = refuses-then p m _ g
-      (λ k. subst (λ (z : Refusal). Runs p (refuse_for {A = Unit {0}} (why v.name) k) s [] (Refused z)) (sym (is other)) refused)
-
-  pub refuses_tag : (t : Decorator) (why : Text → Reason) {s : State} {r : Refusal}
-      → HasView p s (decorator_name t) (decorator_args t) (refuses r)
-      → RefusesValue p (ask (view_of (decorator_name t) (decorator_args t)) >>= (λ w. refuse_for {A = Unit {0}} (why w.name))) s r
-  refuses_tag t why is = refuses-bind p (ask (view_of (decorator_name t) (decorator_args t))) _
-      (refuses-ask p (view_of (decorator_name t) (decorator_args t)) is)
-
-  pub gives_tag : (t : Decorator) (v : CallView) {s : State}
-      → HasView p s (decorator_name t) (decorator_args t) (gives v)
-      → GivesValue p (ask (view_of (decorator_name t) (decorator_args t))) s v
-  gives_tag t v is = gives-ask p (view_of (decorator_name t) (decorator_args t)) v is
-
   -- a value of a lone expression that isn't seen is missing
   pub value_lacks : (s : State) (q r : Param) (v : Found) → q ≡ r → HasValue p s r (gives v) → None ≡ present_in v
       → HasValue p s q (gives missing)

@@ -150,12 +150,6 @@ module _ (p : Setting) (may : Error → Type 0) where
       → CarriesOut p k may (at mid h) r last → CarriesOut p (Set mid k) may (at s h) r last
   carries-set c = record { pieces = c.pieces; outcome = c.outcome; runs = set c.runs; text = c.text; tells = c.tells }
 
-  -- an error that says so, as `?` hands it on
-  pub carries-out_of_memory : {k : Steps} {s next : State} {h : Held} (r : Result (Unit {0}) BoxedError)
-      → IsErrAnd r (λ e. reason_in (error_of e) ≡ out_of_memory) → CarriesOut p k may (at s h) (answer_of r) (at next h)
-  carries-out_of_memory (Ok u) is = absurd is
-  carries-out_of_memory (Err e) is = carries-no_memory (error_of e) is
-
   -- ---- writing
 
   -- what was carried out alone
@@ -233,10 +227,6 @@ module _ (p : Setting) (may : Error → Type 0) where
       carries-get (wrote-cut false (put o s.indent t s.line).0 _ (join-put o s.indent t s.line) cause given cut_short tells))
   carries_on-puts o t {s = s} (part_written part memory) = is_over (λ k.
       carries-get (wrote-part false (put o s.indent t s.line).0 _ (join-put o s.indent t s.line) part memory))
-
-  pub carries-puts : (o : Origin) (t : Text) {s next : State} {h new : Held} {r : Answered}
-      → Puts t may (at s h) r (at next new) → CarriesOut p (run (write_text o t)) may (at s h) r (at next new)
-  carries-puts o t puts = carries-run (carries_on-puts o t puts)
 
   -- pieces whose text the state takes no note of
   pub carries_on-pieces : (at_word : Bool) (xs : List Piece) (t : Text) {s next : State} {h new : Held} {r : Answered}

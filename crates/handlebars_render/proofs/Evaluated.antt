@@ -44,9 +44,6 @@ module _ (p : Setting) where
       (subst (λ (z : Element). Runs p (Do (One (element_in first_tree i) (slice_get places i) z)
       (from_index first_tree es places (i + 1))) now [] o) (sym is) r)
 
-  pub silent-starts : (es : List Element) (places : List Place) (s : State) → SilentLeft es places 0 s s
-  silent-starts es places s = λ o r. r
-
   pub silent-goes : (es : List Element) (places : List Place) (i : ℕ) (d x : Element) (s now next : State) {u : Unit {0}}
       → i < length es → get_or es i d ≡ x → SilentLeft es places i s now
       → Does p (render_element (element_in first_tree i) x) now (Ok u) next → SilentLeft es places (i + 1) s next

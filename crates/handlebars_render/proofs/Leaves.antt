@@ -42,9 +42,6 @@ refused_missing q = refuses_for (missing_variable (as_name q))
 module _ (p : Setting) where
   -- ---- one program that leaves another
 
-  pub leaves-refl : (m : Prog (Unit {0})) {s : State} → Leaves p m s m
-  leaves-refl m k ps o r = r
-
   -- a value that a program begins with
   leaves-value_of : {A : Type 0} (m : Prog A) (f : A → Prog (Unit {0})) (a : A) {s : State} → GivesValue p m s a
       → Leaves p (m >>= f) s (f a)

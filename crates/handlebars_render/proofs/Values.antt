@@ -65,12 +65,6 @@ yields-then seen first next (Err e) g is = λ other. goes_on g (is other)
 
 -- ---- calls in parentheses
 
--- what is chosen for such a call
-pub built_in_choice-inside : (k : Kind) {h w : HelperView} {mode strict : Bool} {a : Answer Choice}
-    → h ≡ w → mode ≡ strict → built_in_choice mode k h ≡ a → built_in_choice strict k w ≡ a
-built_in_choice-inside k {w = w} {mode = mode} is same chooses =
-    ap (λ (z : Bool). built_in_choice z k w) (sym same) ∙ ap (built_in_choice mode k) (sym is) ∙ chooses
-
 module _ (p : Setting) (s : State) (v : HelperView) where
   -- the value that a built-in helper chooses, where there is memory for it
   pub yields-built : {T : Type 0} (seen : T → Found) (k : Kind) (choice : Choice) (r : Result T RenderError)

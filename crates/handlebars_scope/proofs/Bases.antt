@@ -1,16 +1,15 @@
 -- Blocks that are lent their bases.
-use Rattle.std.proofs.Common.{◌≡◌, ◌≢◌, ◌-◌, ℕ, zero, suc, arith, Bool, true, false, List, [], ◌∷◌, ◌++◌, append-nil, Option, Some, None, option_map, Bor, rules, refl, sym, ap, ◌∙◌}
+use Rattle.std.proofs.Common.{◌≡◌, ◌≢◌, ◌-◌, ℕ, zero, suc, arith, Bool, List, [], ◌∷◌, Option, Some, None, option_map, Bor, rules, refl, sym, ap, ◌∙◌}
 use Rattle.std.specs.Prelude.{slice_get}
 use Rattle.serde_json.specs.Data.{Data}
 use Rattle.serde_json.specs.View.{view}
 use Rattle.serde_json.specs.declared.value.Value.{Value}
 use Rattle.handlebars_base.specs.Bytes.{Text}
-use Rattle.handlebars_base.specs.Answers.{Answer, answer_map, gives}
+use Rattle.handlebars_base.specs.Answers.{gives}
 use Rattle.handlebars_base.specs.Optional.{◌>>=◌, with_or}
 use Rattle.handlebars_base.specs.Path.{Segment, named, root, local, up, variable}
-use Rattle.handlebars_base.specs.Scoped.{present_in}
-use Rattle.handlebars_scope.specs.Bases.{IsCurrent, base_up, bases_of, lend, with_base}
-use Rattle.handlebars_scope.specs.Resolve.{Way, within, along, behind_ups, block_up, bound_way, found_along, found_by, found_within, or_else, resolve, unbound_way, value_at, variable_at, way_from, way_of, way_of_bound, way_of_name}
+use Rattle.handlebars_scope.specs.Bases.{base_up, bases_of, lend, with_base}
+use Rattle.handlebars_scope.specs.Resolve.{Way, within, behind_ups, block_up, bound_way, found_within, or_else, resolve, unbound_way, variable_at, way_of, way_of_bound, way_of_name}
 use Rattle.handlebars_scope.specs.Scopes.{Frame}
 use Rattle.handlebars_scope.specs.declared.context.bases.Bases.{Bases, the_lemmas}
 use Rattle.handlebars_scope.specs.declared.context.bases.Bases.TheVariants.{Outside, Block}
@@ -135,55 +134,3 @@ way_of-unbound recursive bs fs segments same none is =
     (bound_way-lend bs fs (behind_ups segments) ∙ ap (bound_way fs) (sym same) ∙ sym none))
 
 -- ---- where the empty path leads
-
-pub current-data : (d : Data) → IsCurrent [] d d
-current-data d recursive text = refl
-
-current-way : (recursive : Bool) (base : List Text) → way_from recursive base [] None ≡ along (base ++ [])
-current-way true base = refl
-current-way false base = refl
-
-pub current-held : (f : Frame) (fs : List Frame) (d v : Data) → f.base_value ≡ Some v → IsCurrent (f ∷ fs) d v
-current-held f fs d v is recursive text =
-    ap (λ (o : Option Data). answer_map present_in (found_by (with_or o (λ e. within e []) (way_from recursive f.base_path [] None)) d)) is
-
-pub current-along : (f : Frame) (fs : List Frame) (d v : Data) → f.base_value ≡ None → value_at d f.base_path ≡ gives (Some v)
-    → IsCurrent (f ∷ fs) d v
-current-along f fs d v none is recursive text =
-    ap (λ (o : Option Data). answer_map present_in (found_by (with_or o (λ e. within e []) (way_from recursive f.base_path [] None)) d)) none
-    ∙ ap (λ (w : Way). answer_map present_in (found_by w d)) (current-way recursive f.base_path)
-    ∙ ap (λ (names : List Text). answer_map present_in (answer_map (found_along names) (value_at d names))) (append-nil f.base_path)
-    ∙ ap (λ (a : Answer (Option Data)). answer_map present_in (answer_map (found_along f.base_path) a)) is
-
--- of blocks in the code, the nearest of which is lent a value, or none
-pub current-lent : (bs : List (Option Data)) (fs : List Frame) (f : Frame) (d v : Data)
-    → Some f ≡ slice_get fs 0 → Some v ≡ base_up bs 0 → IsCurrent (lend bs fs) d v
-current-lent [] fs f d v front is = cc
-current-lent (b ∷ bs) [] f d v front is = cc
-current-lent (None ∷ bs) (g ∷ fs) f d v front is = cc
-current-lent (Some e ∷ bs) (g ∷ fs) f d v front is = current-held (with_base (Some e) g) (lend bs fs) d v (sym is)
-
-pub current-unlent : (bs : List (Option Data)) (fs : List Frame) (f : Frame) (d v : Data)
-    → Some f ≡ slice_get fs 0 → None ≡ base_up bs 0 → f.base_value ≡ None → value_at d f.base_path ≡ gives (Some v)
-    → IsCurrent (lend bs fs) d v
-current-unlent bs [] f d v front is none at = cc
-current-unlent [] (g ∷ fs) f d v front is none at =
-    current-along g fs d v (ap (λ (h : Frame). h.base_value) (front-is front) ∙ none)
-    (ap (λ (h : Frame). value_at d h.base_path) (front-is front) ∙ at)
-  where
-    front-is : {x y : Frame} → Some x ≡ Some y → y ≡ x
-    front-is e = cc
-current-unlent (None ∷ bs) (g ∷ fs) f d v front is none at =
-    current-along g (lend bs fs) d v (ap (λ (h : Frame). h.base_value) (front-is front) ∙ none)
-    (ap (λ (h : Frame). value_at d h.base_path) (front-is front) ∙ at)
-  where
-    front-is : {x y : Frame} → Some x ≡ Some y → y ≡ x
-    front-is e = cc
-current-unlent (Some e ∷ bs) (g ∷ fs) f d v front is none at = cc
-
--- without any block
-pub current-outside : (bs : List (Option Data)) (fs : List Frame) (d : Data) → None ≡ slice_get fs 0
-    → IsCurrent (lend bs fs) d d
-current-outside [] [] d none = current-data d
-current-outside (b ∷ bs) [] d none = current-data d
-current-outside bs (f ∷ fs) d none = cc

@@ -1,25 +1,11 @@
 -- What is merged, from one position on.
-use Rattle.std.proofs.Common.{◌≡◌, ℕ, ◌+◌, ◌<◌, ◌≤◌, [], ◌∷◌, ◌++◌, List, drop, get_or, length, decimal, sym, ap, ◌∙◌, arith}
-use Rattle.std.proofs.lemmas.List.{drop_all, drop_more}
+use Rattle.std.proofs.Common.{◌≡◌, ℕ, ◌+◌, [], ◌∷◌, ◌++◌, length, decimal, sym, ap, ◌∙◌, arith}
 use Rattle.std.proofs.lemmas.Str.{chars-nil, chars_past_char}
 use Rattle.std.specs.Char.{encode_utf8}
 use Rattle.std.specs.Str.{chars, IsUtf8}
 use Rattle.handlebars_base.specs.Bytes.{Text}
 use Rattle.serde_json.specs.Data.{Data, Members, put, string}
-use Rattle.serde_json.specs.View.{items_view, view}
-use Rattle.serde_json.specs.declared.value.Value.{Value}
-use Rattle.handlebars_scope.specs.Merged.{with_characters, with_items}
-
--- an item more
-pub with_items-more : (i : ℕ) (vs : List Value) (v : Value) (ms : Members) → i < length vs → v ≡ get_or vs i v
-    → with_items i (items_view (drop i vs)) ms ≡ with_items (i + 1) (items_view (drop (i + 1) vs)) (put (decimal i) (view v) ms)
-with_items-more i vs v ms inside is =
-    ap (λ (zs : List Value). with_items i (items_view zs) ms) (drop_more vs i v inside)
-    ∙ ap (λ (z : Value). with_items (i + 1) (items_view (drop (i + 1) vs)) (put (decimal i) (view z) ms)) (sym is)
-
--- none is left
-pub with_items-done : (i : ℕ) (vs : List Value) (ms : Members) → length vs ≤ i → with_items i (items_view (drop i vs)) ms ≡ ms
-with_items-done i vs ms over = ap (λ (zs : List Value). with_items i (items_view zs) ms) (drop_all i vs over)
+use Rattle.handlebars_scope.specs.Merged.{with_characters}
 
 -- a character more
 pub with_characters-more : (i j index : ℕ) (bs rest : Text) (c : ℕ) (d : Data) (ms next : Members) → IsUtf8 bs
