@@ -1,13 +1,12 @@
 -- A rendering has one answer, whose pieces have their origins.
-use Rattle.std.proofs.Common.{◌≡◌, ◌≢◌, List, [], Option, None, Some, Err, refl, sym, ap, ◌∙◌, subst}
-use Rattle.std.specs.Prelude.{String}
+use Rattle.std.proofs.Common.{◌≡◌, ◌≢◌, List, [], Option, None, Some, refl, sym, ap, ◌∙◌, subst}
 use Rattle.handlebars_base.specs.Bytes.{Text}
-use Rattle.handlebars_base.specs.Reasons.{Refusal, TemplateRefusal, TemplateReason, template_out_of_memory, out_of_memory, of_template, reason_for}
-use Rattle.handlebars_base.specs.RenderRefusals.{plain_refusal, refusal_of, reason_in}
+use Rattle.handlebars_base.specs.Reasons.{Refusal, TemplateRefusal, of_template}
+use Rattle.handlebars_base.specs.RenderRefusals.{plain_refusal, refusal_of}
 use Rattle.handlebars_base.specs.declared.error.render_error.RenderError.{RenderError}
 use Rattle.handlebars_template.specs.Tree.{Tree}
 use Rattle.handlebars_tags.specs.Options.{Options}
-use Rattle.handlebars_template.specs.Compile.{Compilation, Compiles, compiled, refused}
+use Rattle.handlebars_template.specs.Compile.{Compilation, compiled, refused}
 use Rattle.handlebars_template.proofs.One.{one_compilation}
 use Rattle.handlebars_meaning.specs.Pieces.{Piece}
 use Rattle.handlebars_meaning.specs.State.{IsLawful, Setting, State, first_state}
@@ -132,12 +131,3 @@ module _ (p : Setting) (begins : Beginning → Type 0) where
       pieces = g.pieces;
       answers = rendered begun (subst (λ (s : State). Means p t s g.pieces (Refused f)) is_first g.runs);
     }
-
-module _ (p : Setting) (options : Options) (source : Text) where
-  not_compiled : (f : TemplateRefusal) (e : RenderError) → (f.reason ≢ template_out_of_memory → Compiles source options (refused f))
-      → refusal_of e ≡ plain_refusal (of_template f) → reason_in e ≢ out_of_memory
-      → RefusesWith p (FromSource options source) (refusal_of e)
-  not_compiled f e refuses is other =
-      let not_memory : f.reason ≢ template_out_of_memory =
-      λ memory. other (ap (λ (z : Refusal). z.reason) is ∙ ap (λ (r : TemplateReason). reason_for f r) memory) in
-      refuses_before p (FromSource options source) (plain_refusal (of_template f)) e (does_not (refuses not_memory)) is

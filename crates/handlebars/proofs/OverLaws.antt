@@ -33,12 +33,11 @@ module _ {E : Type 0} (registered : E → Registrations) (own : E → OwnAnswers
   pub over-lawful : (read : List Loaded) → HaveOne (own r.entries) → IsLawful (setting_under registered own read r d).parts
   over-lawful read one = record { helpers = one.helpers; decorators = one.decorators; escape = one.escape }
 
-  pub with-lawful : (trees : BTreeMap (String Global) Template) → HaveOne (own r.entries)
-      → IsLawful (setting_with registered own trees r d).parts
+  pub with-lawful : (trees : Text → Option Tree) → HaveOne (own r.entries) → IsLawful (setting_with registered own trees r d).parts
   with-lawful trees one = record { helpers = one.helpers; decorators = one.decorators; escape = one.escape }
 
   over-same : (read : List Loaded) (trees : BTreeMap (String Global) Template) → HoldsTrees read trees
-      → setting_with registered own trees r d ≡ setting_under registered own read r d
+      → setting_with registered own (tree_in trees) r d ≡ setting_under registered own read r d
   over-same read trees holds =
       ap (λ (above : Text → Option Tree). with_templates (laid_over above (stored_tree r)) (setting_over registered own r d))
       (fun_ext (λ n. holds n))
@@ -54,7 +53,7 @@ module _ {E : Type 0} (registered : E → Registrations) (own : E → OwnAnswers
 
       pub gives-by-name : (t : Tree) (first next : State) (text : Text) → Some t ≡ laid_over (tree_in trees) (stored_tree r) name
           → first ≡ first_state r.recursive_lookup
-          → GivesString (setting_with registered own trees r d) (render_tree t) first next text
+          → GivesString (setting_with registered own (tree_in trees) r d) (render_tree t) first next text
           → HasRead reads r (Some name) before after (λ read. GivesText (setting_under registered own read r d)
           (FromName (stored_under read r) name) text)
       gives-by-name t first next text is begins g = record {
@@ -67,7 +66,7 @@ module _ {E : Type 0} (registered : E → Registrations) (own : E → OwnAnswers
 
       pub refuses-by-name : (t : Tree) (first : State) (e : RenderError) → Some t ≡ laid_over (tree_in trees) (stored_tree r) name
           → first ≡ first_state r.recursive_lookup
-          → RefusesString (setting_with registered own trees r d) (render_tree t) first (refusal_of e)
+          → RefusesString (setting_with registered own (tree_in trees) r d) (render_tree t) first (refusal_of e)
           → RefusesReading reads r (Some name) before after (λ read q. RefusesWith (setting_under registered own read r d)
           (FromName (stored_under read r) name) q) e
       refuses-by-name t first e is begins g =
@@ -89,7 +88,7 @@ module _ {E : Type 0} (registered : E → Registrations) (own : E → OwnAnswers
         (rd : (read : List Loaded) × ReadsFiles reads r.prevent_indent (files_for r None) before read (Ok tt) after
         × HoldsTrees read trees) where
       pub gives-by-source : (first next : State) (text : Text) → first ≡ first_state r.recursive_lookup
-          → GivesString (setting_with registered own trees r d) (render_tree t) first next text
+          → GivesString (setting_with registered own (tree_in trees) r d) (render_tree t) first next text
           → HasRead reads r None before after (λ read. GivesText (setting_under registered own read r d)
           (FromSource options source) text)
       gives-by-source first next text begins g = record {
@@ -101,7 +100,7 @@ module _ {E : Type 0} (registered : E → Registrations) (own : E → OwnAnswers
       }
 
       pub refuses-by-source : (first : State) (e : RenderError) → first ≡ first_state r.recursive_lookup
-          → RefusesString (setting_with registered own trees r d) (render_tree t) first (refusal_of e)
+          → RefusesString (setting_with registered own (tree_in trees) r d) (render_tree t) first (refusal_of e)
           → RefusesSource reads r options source before after (λ read q. RefusesWith (setting_under registered own read r d)
           (FromSource options source) q) e
       refuses-by-source first e begins g =

@@ -35,7 +35,7 @@ module _ {E : Type 0} (registered : E → Registrations) (own : E → OwnAnswers
   module _ (trees : BTreeMap (String Global) Template) {first last : Option Text} {a : Answered} where
     pub writes-by-name : (name : Text) (rd : (read : List Loaded)
         × ReadsFiles reads r.prevent_indent (files_for r (Some name)) before read (Ok tt) after × HoldsTrees read trees)
-        → Writes (setting_with registered own trees r d) (FromName (laid_over (tree_in trees) (stored_tree r)) name) first last a
+        → Writes (setting_with registered own (tree_in trees) r d) (FromName (laid_over (tree_in trees) (stored_tree r)) name) first last a
         → WritesReading reads r (Some name) before after (λ read. Writes (setting_under registered own read r d)
         (FromName (stored_under read r) name)) first last a
     writes-by-name name rd w =
@@ -44,7 +44,7 @@ module _ {E : Type 0} (registered : E → Registrations) (own : E → OwnAnswers
 
     pub writes-compiled : (t : Tree) (rd : (read : List Loaded)
         × ReadsFiles reads r.prevent_indent (files_for r None) before read (Ok tt) after × HoldsTrees read trees)
-        → Writes (setting_with registered own trees r d) (BeginsWith t) first last a
+        → Writes (setting_with registered own (tree_in trees) r d) (BeginsWith t) first last a
         → WritesReading reads r None before after (λ read. Writes (setting_under registered own read r d) (BeginsWith t)) first last a
     writes-compiled t rd w =
         written_behind rd.1 (subst (λ (above : Text → Option Tree). Writes (with_templates (laid_over above (stored_tree r)) (setting_over registered own r d))

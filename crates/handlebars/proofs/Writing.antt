@@ -8,14 +8,12 @@ use Rattle.serde_json.specs.Data.{Data}
 use Rattle.handlebars_base.specs.Answers.{IsRefusal, refuses}
 use Rattle.handlebars_base.specs.Bytes.{Text}
 use Rattle.handlebars_base.specs.Outputs.{Held}
-use Rattle.handlebars_base.specs.Reasons.{Refusal, Spot, TemplateRefusal, TemplateReason, nowhere, of_template, out_of_memory, reason_for, template_out_of_memory}
+use Rattle.handlebars_base.specs.Reasons.{Refusal, Spot, nowhere, out_of_memory}
 use Rattle.handlebars_base.specs.RenderRefusals.{plain_refusal, reason_in, refusal_of, spot_of}
 use Rattle.handlebars_base.specs.declared.error.render_error.RenderError.{RenderError}
 use Rattle.handlebars_scope.specs.Wraps.{IsConversion}
-use Rattle.handlebars_tags.specs.Options.{Options}
-use Rattle.handlebars_template.specs.Compile.{Compiles, refused}
 use Rattle.handlebars_template.specs.Tree.{Tree}
-use Rattle.handlebars_meaning.specs.Answer.{Beginning, a_tree, no_tree, FromSource, does_not, RenderAnswers, not_begun, rendered}
+use Rattle.handlebars_meaning.specs.Answer.{Beginning, a_tree, no_tree, RenderAnswers, not_begun, rendered}
 use Rattle.handlebars_meaning.specs.Means.{render_tree}
 use Rattle.handlebars_meaning.specs.Pieces.{Piece, join}
 use Rattle.handlebars_meaning.specs.Runs.{Outcome, Refused, IsStop, Means}
@@ -119,15 +117,6 @@ module _ (p : Setting) (begins : Beginning → Type 0) where
       → Writes p begins o o r
   writes_without_memory (Ok u) o is = absurd is
   writes_without_memory (Err e) o is = writes_no_memory e o (ap (λ (z : Refusal). z.reason) is)
-
-module _ (p : Setting) (options : Options) (source : Text) where
-  not_compiled : (f : TemplateRefusal) (e : RenderError) (o : Option Text)
-      → (f.reason ≢ template_out_of_memory → Compiles source options (refused f))
-      → refusal_of e ≡ plain_refusal (of_template f) → reason_in e ≢ out_of_memory → Writes p (FromSource options source) o o (Err e)
-  not_compiled f e o so is other =
-      let not_memory : f.reason ≢ template_out_of_memory =
-      λ memory. other (ap (λ (z : Refusal). z.reason) is ∙ ap (λ (r : TemplateReason). reason_for f r) memory) in
-      writes_refused p (FromSource options source) (plain_refusal (of_template f)) e o (does_not (so not_memory)) is
 
 -- ---- data that isn't converted
 

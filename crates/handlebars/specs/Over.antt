@@ -1,10 +1,8 @@
 -- What a run reads where trees that were read are laid over those of a registry.
-use Rattle.std.specs.BTreeMap.{BTreeMap}
-use Rattle.std.specs.Global.{Global}
-use Rattle.std.specs.Prelude.{◌≡◌, List, String}
+use Rattle.std.specs.Prelude.{◌≡◌, List, Option}
 use Rattle.serde_json.specs.Data.{Data}
 use Rattle.handlebars_base.specs.Bytes.{Text}
-use Rattle.handlebars_template.specs.declared.template.tree.Template.{Template}
+use Rattle.handlebars_template.specs.Tree.{Tree}
 use Rattle.handlebars_helpers.specs.OwnAnswers.{OwnAnswers, Registrations}
 use Rattle.handlebars_meaning.specs.Answer.{Beginning, RenderAnswers}
 use Rattle.handlebars_meaning.specs.Laws.{with_templates}
@@ -12,18 +10,18 @@ use Rattle.handlebars_meaning.specs.Pieces.{Piece}
 use Rattle.handlebars_meaning.specs.Runs.{Outcome}
 use Rattle.handlebars_meaning.specs.State.{Parts, Setting}
 use Rattle.handlebars.specs.Dev.{stored_under}
-use Rattle.handlebars.specs.Files.{Loaded, laid_over, tree_in}
+use Rattle.handlebars.specs.Files.{Loaded, laid_over}
 use Rattle.handlebars.specs.View.{modes_of, parts_of, setting_over, stored_tree}
 use Rattle.handlebars.specs.declared.registry.RegistryOf.{RegistryOf}
 
 module _ {E : Type 0} (registered : E → Registrations) (own : E → OwnAnswers) where
-  -- what a run reads, with the trees of a map over those of a registry
-  abbrev pub parts_over : BTreeMap (String Global) Template → RegistryOf E → Parts
-  parts_over trees r = record (parts_of registered own r) { template = laid_over (tree_in trees) (stored_tree r) }
+  -- what a run reads, with these trees over those of a registry
+  abbrev pub parts_over : (Text → Option Tree) → RegistryOf E → Parts
+  parts_over trees r = record (parts_of registered own r) { template = laid_over trees (stored_tree r) }
 
-  -- the setting of a run over data, with the trees of a map over those of a registry
-  abbrev pub setting_with : BTreeMap (String Global) Template → RegistryOf E → Data → Setting
-  setting_with trees r d = with_templates (laid_over (tree_in trees) (stored_tree r)) (setting_over registered own r d)
+  -- the setting of a run over data, with these trees over those of a registry
+  abbrev pub setting_with : (Text → Option Tree) → RegistryOf E → Data → Setting
+  setting_with trees r d = with_templates (laid_over trees (stored_tree r)) (setting_over registered own r d)
 
   -- the same with trees that were read
   abbrev pub setting_under : List Loaded → RegistryOf E → Data → Setting

@@ -17,14 +17,15 @@ pub mod over;
 pub mod partial;
 
 use crate::registry::RegistryOf;
-use crate::render::logging::Logging;
+use crate::render::logging::{Logging, NoTrees};
+use crate::render::over::render_over;
 pub use evaluable::Evaluable;
 pub use expand::Expand;
 use handlebars_base::error::RenderError;
 use handlebars_base::output::{Output, StringOutput};
 use handlebars_helpers::entries::OwnParts;
 use handlebars_render::context::RenderContext;
-use handlebars_render::entry::{render_element_into, render_into};
+use handlebars_render::entry::render_element_into;
 use handlebars_render::environment::outside;
 use handlebars_render::failure::{fail_after, ready};
 use handlebars_scope::context::Context;
@@ -106,13 +107,7 @@ impl Renderable for Template {
         out: &mut O,
         log: &L,
     ) -> Result<(), RenderError> {
-        ready(rc)?;
-        let parts = &Logging { registry, log };
-        let environment = outside(alloc, parts, data, &Bases::Outside);
-        match render_into(self, &environment, rc, out) {
-            Ok(()) => Ok(()),
-            Err(e) => fail_after(rc, Err(e.into_error())),
-        }
+        render_over(self, alloc, registry, &NoTrees, data, rc, out, log)
     }
 }
 
@@ -130,7 +125,11 @@ impl Renderable for TemplateElement {
         log: &L,
     ) -> Result<(), RenderError> {
         ready(rc)?;
-        let parts = &Logging { registry, log };
+        let parts = &Logging {
+            registry,
+            read: &NoTrees,
+            log,
+        };
         let environment = outside(alloc, parts, data, &Bases::Outside);
         match render_element_into(self, &environment, rc, out) {
             Ok(()) => Ok(()),

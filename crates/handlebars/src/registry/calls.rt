@@ -181,7 +181,7 @@ impl<E: OwnParts> RegistryOf<E> {
         writer: &mut W,
         log: &L,
     ) -> Result<(), RenderError>
-        ensures { Writes (setting_with E.registered E.own read.now self.now (data_of ctx.now))
+        ensures { Writes (setting_with E.registered E.own (tree_in read.now) self.now (data_of ctx.now))
             (FromName (laid_over (tree_in read.now) (stored_tree self.now)) name.now)
             (W.contents writer.old) (W.contents writer.new) result }
     {

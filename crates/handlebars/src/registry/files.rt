@@ -8,7 +8,7 @@ ghost use Rattle.handlebars_base.specs.Reasons.{template_out_of_memory};
 ghost use Rattle.handlebars_base.specs.TemplateRefusals.{template_refusal_of};
 ghost use Rattle.handlebars_template.specs.Tree.{Tree};
 ghost use Rattle.handlebars_template.specs.TreeView.{tree_view};
-ghost use Rattle.handlebars.specs.Files.{HasLoaded, HoldsKind, IsStopFor, Loaded, LoadsFile, Stop, unread};
+ghost use Rattle.handlebars.specs.Files.{HasLoaded, HoldsKind, IsStopFor, LoadsFile, Stop, unread};
 ghost use Rattle.handlebars.specs.Folder.{IsInOrder, WalkedFolder, Registers, a_folder, an_entry};
 ghost use Rattle.handlebars.specs.Folder.{below_at, filter_of, entries_of, path_at, whole_folder};
 ghost use Rattle.handlebars.specs.View.{modes_of};

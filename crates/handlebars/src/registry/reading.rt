@@ -4,7 +4,6 @@ ghost use Rattle.std.specs.Prelude.{◌≡◌, ◌∷◌, [], IfOk, IfErr, OnOk,
 ghost use Rattle.std.specs.Prelude.{None, Some, Ok, Err, false, cond, option_map};
 ghost use Rattle.std.specs.Str.{bytes_eq};
 ghost use Rattle.handlebars_base.specs.Bytes.{Text};
-ghost use Rattle.handlebars_template.specs.Tree.{Tree};
 ghost use Rattle.handlebars_template.specs.TreeView.{tree_view};
 ghost use Rattle.handlebars.specs.Dev.{AsksFor, FailsReading, FailsRendering, HoldsTrees, ReadsFiles, ReadsInto};
 ghost use Rattle.handlebars.specs.Dev.{asked_file, file_at, files_for, is_asked, is_known, others};

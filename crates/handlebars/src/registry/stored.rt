@@ -5,11 +5,12 @@ ghost use Rattle.std.specs.Prelude.{◌≡◌, None, cond, option_map};
 ghost use Rattle.std.specs.Str.{bytes_eq};
 ghost use Rattle.handlebars_base.specs.Bytes.{Text};
 ghost use Rattle.handlebars_template.specs.TreeView.{tree_view};
-ghost use Rattle.handlebars.specs.Files.{is_dev, laid_over, remembered_path, tree_in};
+ghost use Rattle.handlebars.specs.Files.{is_dev, laid_over, remembered_path};
 ghost use Rattle.handlebars.specs.Store.{TakesTemplate};
 ghost use Rattle.handlebars.specs.View.{modes_of, stored_tree};
 
 use crate::registry::RegistryOf;
+use crate::render::logging::Trees;
 use handlebars_template::template::Template;
 use std::collections::BTreeMap;
 
@@ -46,15 +47,15 @@ impl<E: Drop> RegistryOf<E> {
         &self.templates
     }
 
-    // The template under a name: one that was read, else the one that stands there.
-    pub(crate) fn template_over<'t>(
+    // The template under a name: one of the trees that are laid over, else the one that stands there.
+    pub(crate) fn template_over<'t, T: Trees>(
         &'t self,
-        read: &'t BTreeMap<String, Template>,
+        read: &'t T,
         name: &str,
     ) -> Option<&'t Template>
-        ensures { option_map (λ t. tree_view t.now) result ≡ laid_over (tree_in read.now) (stored_tree self.now) name.now }
+        ensures { option_map (λ t. tree_view t.now) result ≡ laid_over (T.trees read.now) (stored_tree self.now) name.now }
     {
-        match read.get(name) {
+        match read.tree(name) {
             Some(template) => Some(template),
             None => self.get_template(name),
         }

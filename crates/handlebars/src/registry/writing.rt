@@ -8,13 +8,14 @@ ghost use Rattle.handlebars_base.specs.declared.error.render_error.RenderError a
 ghost use Rattle.handlebars_render.specs.Boxed.{error_of};
 ghost use Rattle.handlebars_render.specs.View.{CarriesOut, first_moment};
 ghost use Rattle.handlebars.specs.Calls.{BeginsWith, Writes, answer_by};
+ghost use Rattle.handlebars.specs.Files.{tree_in};
 ghost use Rattle.handlebars.specs.Over.{setting_with};
 ghost use Rattle.handlebars.specs.Taken.{TellsTaken};
 ghost use Rattle.handlebars.specs.Writers.{held_by};
 
 use crate::output::{Named, NamedOutput, WriteOutput};
 use crate::registry::RegistryOf;
-use crate::render::over::Over;
+use crate::render::logging::Logging;
 use handlebars_base::error::RenderError;
 use handlebars_base::output::Output;
 use handlebars_helpers::entries::OwnParts;
@@ -57,7 +58,7 @@ pub(crate) fn write_template<E: OwnParts, L: Log, W: Write>(
     log: &L,
     writer: &mut W,
 ) -> Result<(), RenderError>
-    ensures { Writes (setting_with E.registered E.own read.now registry.now (data_of ctx.now))
+    ensures { Writes (setting_with E.registered E.own (tree_in read.now) registry.now (data_of ctx.now))
         (BeginsWith (tree_view template.now))
         (W.contents writer.old) (W.contents writer.new) result }
 {
@@ -95,7 +96,7 @@ fn render_named<'w, E: OwnParts, L: Log, W: Write, K: Named, X: PlainError>(
     requires empty { out.taken.text ≡ [] }
     ensures same { result.1.writer.ghost_name ≡ out.entry.writer.ghost_name }
     ensures told { TellsTaken (W.contents out.entry.writer.now) result.1.taken.text (W.contents result.1.writer.now) }
-    ensures renders { CarriesOut (setting_with E.registered E.own read.now registry.now (data_of ctx.now))
+    ensures renders { CarriesOut (setting_with E.registered E.own (tree_in read.now) registry.now (data_of ctx.now))
         (render_tree (tree_view template.now)) (λ _. Unit {0})
         (first_moment rc.old (held_by out.entry)) (answer_by X.kept result.0) (first_moment rc.new (held_by result.1)) }
 {
@@ -135,11 +136,11 @@ fn render_to<E: OwnParts, L: Log, O: Output, X: PlainError>(
     rc: &mut RenderContext,
     out: &mut O,
 ) -> Result<(), X>
-    ensures { CarriesOut (setting_with E.registered E.own read.now registry.now (data_of ctx.now))
+    ensures { CarriesOut (setting_with E.registered E.own (tree_in read.now) registry.now (data_of ctx.now))
         (render_tree (tree_view template.now)) O.may_give
         (first_moment rc.old (O.held out.old)) (answer_by X.kept result) (first_moment rc.new (O.held out.new)) }
 {
-    let parts = &Over {
+    let parts = &Logging {
         registry,
         read,
         log,

@@ -12,7 +12,7 @@ ghost use Rattle.handlebars_render.specs.View.{state_of, root_of, has_failed, wi
 ghost use Rattle.handlebars.specs.View.{setting_of};
 
 use crate::registry::RegistryOf;
-use crate::render::logging::Logging;
+use crate::render::logging::{Logging, NoTrees};
 use handlebars_base::error::RenderError;
 use handlebars_helpers::entries::OwnParts;
 use handlebars_render::context::RenderContext;
@@ -71,7 +71,11 @@ impl Evaluable for Template {
         log: &L,
     ) -> Result<(), RenderError> {
         ready(rc)?;
-        let parts = &Logging { registry, log };
+        let parts = &Logging {
+            registry,
+            read: &NoTrees,
+            log,
+        };
         let environment = outside(alloc, parts, data, &Bases::Outside);
         match eval_tree(self, &environment, rc) {
             Ok(()) => Ok(()),
@@ -96,7 +100,11 @@ impl Evaluable for TemplateElement {
         log: &L,
     ) -> Result<(), RenderError> {
         ready(rc)?;
-        let parts = &Logging { registry, log };
+        let parts = &Logging {
+            registry,
+            read: &NoTrees,
+            log,
+        };
         let environment = outside(alloc, parts, data, &Bases::Outside);
         match eval_element(self, &environment, rc) {
             Ok(()) => Ok(()),

@@ -12,7 +12,7 @@ ghost use Rattle.handlebars_render.specs.View.{state_of, root_of, has_failed, Yi
 ghost use Rattle.handlebars.specs.View.{setting_of};
 
 use crate::registry::RegistryOf;
-use crate::render::logging::Logging;
+use crate::render::logging::{Logging, NoTrees};
 use handlebars_base::error::RenderError;
 use handlebars_base::json::value::PathAndJson;
 use handlebars_helpers::entries::OwnParts;
@@ -85,7 +85,11 @@ impl Expand for Parameter {
         log: &L,
     ) -> Result<PathAndJson<'rc>, RenderError> {
         ready(rc)?;
-        let parts = &Logging { registry, log };
+        let parts = &Logging {
+            registry,
+            read: &NoTrees,
+            log,
+        };
         let answer = value::expand(&outside(alloc, parts, data, &Bases::Outside), rc, self);
         fail_after(rc, answer)
     }
@@ -99,7 +103,11 @@ impl Expand for Parameter {
         log: &L,
     ) -> Result<CowStr<'rc>, RenderError> {
         ready(rc)?;
-        let parts = &Logging { registry, log };
+        let parts = &Logging {
+            registry,
+            read: &NoTrees,
+            log,
+        };
         let answer = value::expand_as_name(&outside(alloc, parts, data, &Bases::Outside), rc, self);
         fail_after(rc, answer)
     }

@@ -1,6 +1,11 @@
-//! What a run is given: a registry and a logger.
+//! What a run is given: a registry, trees that are laid over its own, and a logger.
 
-ghost use Rattle.handlebars.specs.View.{parts_of};
+ghost use Rattle.std.specs.Prelude.{◌≡◌, Option, None, option_map};
+ghost use Rattle.handlebars_base.specs.Bytes.{Text};
+ghost use Rattle.handlebars_template.specs.Tree.{Tree};
+ghost use Rattle.handlebars_template.specs.TreeView.{tree_view};
+ghost use Rattle.handlebars.specs.Files.{tree_in};
+ghost use Rattle.handlebars.specs.Over.{parts_over};
 
 use crate::registry::RegistryOf;
 use handlebars_base::error::RenderError;
@@ -14,16 +19,46 @@ use handlebars_render::registered::Registered;
 use handlebars_scope::context::Context;
 use handlebars_template::template::Template;
 use log::{Level, Log, log};
+use std::collections::BTreeMap;
 
-/// A registry, and the logger of a run.
+/// Trees by name, in place of those of a registry under the same names.
+pub trait Trees {
+    ghost trees: { Self → Text → Option Tree };
+
+    fn tree(&self, name: &str) -> Option<&Template>
+        ensures { option_map (λ t. tree_view t.now) result ≡ trees self.now name.now };
+}
+
+impl Trees for BTreeMap<String, Template> {
+    ghost trees = { tree_in };
+
+    fn tree(&self, name: &str) -> Option<&Template> {
+        self.get(name)
+    }
+}
+
+/// No trees: all are those of the registry.
 #[derive(Drop)]
-pub struct Logging<'r, E, L> {
+pub struct NoTrees;
+
+impl Trees for NoTrees {
+    ghost trees = { λ x name. None };
+
+    fn tree(&self, _name: &str) -> Option<&Template> {
+        None
+    }
+}
+
+/// A registry, the trees that are laid over its own, and the logger of a run.
+#[derive(Drop)]
+pub struct Logging<'r, E, T, L> {
     pub registry: &'r RegistryOf<E>,
+    pub read: &'r T,
     pub log: &'r L,
 }
 
-impl<E: OwnParts, L: Log> Registered for Logging<'_, E, L> {
-    ghost parts = { λ x. parts_of E.registered E.own x.registry.now };
+impl<E: OwnParts, T: Trees, L: Log> Registered for Logging<'_, E, T, L> {
+    ghost parts = { λ x. parts_over E.registered E.own (T.trees x.read.now) x.registry.now };
 
     fn helper(&self, name: &str) -> Option<Callee> {
         self.registry.entries.helper(name)
@@ -81,7 +116,7 @@ impl<E: OwnParts, L: Log> Registered for Logging<'_, E, L> {
     }
 
     fn template(&self, name: &str) -> Option<&Template> {
-        self.registry.get_template(name)
+        self.registry.template_over(self.read, name)
     }
 
     fn limit(&self) -> u16 {

@@ -12,7 +12,7 @@ ghost use Rattle.handlebars_render.specs.View.{first_moment, without_partials, C
 ghost use Rattle.handlebars.specs.View.{setting_of};
 
 use crate::registry::RegistryOf;
-use crate::render::logging::Logging;
+use crate::render::logging::{Logging, NoTrees};
 use handlebars_base::error::RenderError;
 use handlebars_base::output::Output;
 use handlebars_helpers::decorators::view::Decorator;
@@ -50,7 +50,11 @@ pub fn expand_partial<E: OwnParts, L: Log, O: Output>(
     ensures err { OnErr result (has_failed rc.new ≡ true) }
 {
     ready(rc)?;
-    let parts = &Logging { registry, log };
+    let parts = &Logging {
+        registry,
+        read: &NoTrees,
+        log,
+    };
     let environment = outside(alloc, parts, data, &Bases::Outside);
     match include_into(d, &environment, rc, out) {
         Ok(()) => Ok(()),
