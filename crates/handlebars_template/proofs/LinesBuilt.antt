@@ -24,6 +24,9 @@ params_of-append : (ps : List Param) (p : Param) → params_of (ps ++ p ∷ []) 
 params_of-append [] p = refl
 params_of-append (q ∷ ps) p = ap (param q) (params_of-append ps p)
 
+pub params_view_push : (ps : List Parameter) (p : Parameter) → params_view (ps ++ p ∷ []) ≡ with_param (params_view ps) (param_view p)
+params_view_push ps p = ap params_of (map-append param_view ps (p ∷ [])) ∙ params_of-append (map param_view ps) (param_view p)
+
 pub around_view_push : (fs : List BuiltCall) (f : BuiltCall) → around_view (fs ++ f ∷ []) ≡ open_view f ∷ around_view fs
 around_view_push fs f = rw (map-append) (reverse-append (map open_view fs) (open_view f ∷ []))
 

@@ -17,6 +17,10 @@ inverse_of-append : (bs cs : List Branch) (last : Body) → inverse_of (bs ++ cs
 inverse_of-append [] cs last = refl
 inverse_of-append (b ∷ bs) cs last = rw (inverse_of-append bs cs last) refl
 
+pub inverse_of_pop : (bs : List BuiltBranch) (b : BuiltBranch) (last : Body)
+    → inverse_of (map branch_view (bs ++ b ∷ [])) last ≡ inverse_of (map branch_view bs) (inverse_of (branch_view b ∷ []) last)
+inverse_of_pop bs b last = rw (map-append) (inverse_of-append (map branch_view bs) (branch_view b ∷ []) last)
+
 pub stack_view_push : (os : List BuiltBlock) (o : BuiltBlock) → stack_view (os ++ o ∷ []) ≡ open_block_view o ∷ stack_view os
 stack_view_push os o = rw (map-append) (reverse-append (map open_block_view os) (open_block_view o ∷ []))
 
