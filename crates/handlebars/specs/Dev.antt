@@ -79,19 +79,20 @@ module _ {S : Type 0} (reads : S → Text → Result (String Global) Error → S
     pub reads_all : ReadsFiles fs before read (Ok tt) after
     pub holds : (ls : List Loaded) → HoldsTrees ls old → HoldsTrees (ls ++ read) new
 
-  -- The files are read and compiled in turn, up to one that is refused, which is told so.
-  pub record StopsReading (fs : List (Text × Text)) (before after : S) (Tells : Stop → Type 0) : Type 0 where
+  -- The files are read and compiled in turn, up to one that is refused, as the error tells.
+  pub record StopsReading {X : Type 0} (Tells : X → Stop → Type 0) (fs : List (Text × Text)) (before after : S) (e : X)
+      : Type 0 where
     pub read : List Loaded
     pub why : Stop
     pub reads_up_to : ReadsFiles fs before read (Err why) after
-    pub stop : Tells why
+    pub stop : Tells e why
 
-  -- An error of a template tells it, or that of a rendering.
+  -- It is an error of a template, or that of a rendering.
   abbrev pub FailsReading : List (Text × Text) → S → S → TemplateError → Type 0
-  FailsReading fs before after e = StopsReading fs before after (IsStopFor e)
+  FailsReading = StopsReading (λ e why. IsStopFor e why)
 
   abbrev pub FailsRendering : List (Text × Text) → S → S → RenderError → Type 0
-  FailsRendering fs before after e = StopsReading fs before after (λ why. TellsStop why e)
+  FailsRendering = StopsReading (λ e why. TellsStop why e)
 
 -- ---- what is answered
 
