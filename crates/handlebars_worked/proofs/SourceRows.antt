@@ -16,8 +16,8 @@ use Rattle.handlebars_lines.specs.WorthReading.{worth_of, before}
 use Rattle.handlebars_tags.specs.Text.{two_braces, IsText, at_tag, a_byte, two_escaped}
 use Rattle.handlebars_tags.specs.Kind.{beginning_of, closing_of}
 use Rattle.handlebars_tags.specs.Options.{no_options}
-use Rattle.handlebars_template.specs.Compile.{compiled}
-use Rattle.handlebars_worked.specs.SourceRows.{chain_tree, EmptyRow, ValueRow, EscapedRow, MemberRow, UnclosedRow, PlaceRow, HtmlRow, AmpersandRow, CallRow, NestedRow, UpRow, ChainRow, LinesRow, TildeRow, InverseRow, RawRow, ElseRow, CloseRow, OpenRow, DeepRow, OtherNameRow, NumberRow, DecoratorRow, DecoratorBlockRow, DecoratorInverseRow, DecoratorNameRow}
+use Rattle.handlebars_template.specs.Compile.{compiled, refused, syntax_refusal}
+use Rattle.handlebars_worked.specs.SourceRows.{at, chain_tree, deep_source, EmptyRow, ValueRow, EscapedRow, MemberRow, UnclosedRow, PlaceRow, HtmlRow, AmpersandRow, CallRow, NestedRow, UpRow, ChainRow, LinesRow, TildeRow, InverseRow, RawRow, ElseRow, CloseRow, OpenRow, DeepRow, OtherNameRow, NumberRow, DecoratorRow, DecoratorBlockRow, DecoratorInverseRow, DecoratorNameRow}
 use Rattle.handlebars_template.proofs.Running.{text_at-is, no_line_at, no_value_tag}
 use Rattle.handlebars_template.proofs.Outcomes.{answer_of-compiles, answer-compiles, first_tag, first_unreadable}
 
@@ -122,7 +122,7 @@ open_row = answer_of-compiles no_options 1 _ _ refl
 
 pub deep_row : DeepRow
 unfolding beginning_of closing_of chars line.name_step line.behind_step line.line_step texts.behind_byte path.plain_at path.part_at path.links_at path.links_of path.start_without_at_sign path.start_at path.shape_at path.shape_of path.reference_from path.path_at line.key_and_equals_at line.parameter_step line.item_step literal.literal_at literal.plain_at literal.undoubled_at literal.unbracketed_at literal.value_token literal.token_at behind_bar behind_beginning
-deep_row = answer_of-compiles no_options 1 _ _ refl
+deep_row = answer_of-compiles no_options 1 deep_source (refused (syntax_refusal (codes "nesting too deep") no_options (at 1 1))) refl
 
 pub other_name_row : OtherNameRow
 unfolding beginning_of closing_of chars line.name_step line.behind_step line.line_step texts.behind_byte path.plain_at path.part_at path.links_at path.links_of path.start_without_at_sign path.start_at path.shape_at path.shape_of path.reference_from path.path_at line.key_and_equals_at line.parameter_step line.item_step literal.literal_at literal.plain_at literal.undoubled_at literal.unbracketed_at literal.value_token literal.token_at behind_bar behind_beginning
