@@ -1,6 +1,6 @@
 -- What the calls that write a text say.
 use Rattle.std.proofs.Common.{◌≡◌, ◌≢◌, Bool, true, false, [], Option, None, Some, Result, Ok, Err, refl, sym, ap, ◌∙◌, subst, append-nil, inl, inr}
-use Rattle.std.specs.Prelude.{unwrap_or, IfOk, IsErrAnd}
+use Rattle.std.specs.Prelude.{unwrap_or, IfErr, IfOk, IsErrAnd}
 use Rattle.std.specs.declared.io.Error.{Error}
 use Rattle.std.specs.declared.io.ErrorKind.TheVariants.{OutOfMemory}
 use Rattle.std.specs.IoError.{error_kind}
@@ -11,15 +11,16 @@ use Rattle.handlebars_base.specs.RenderRefusals.{cause_of, reason_in, refusal_of
 use Rattle.handlebars_base.specs.declared.error.render_error.RenderError.{RenderError}
 use Rattle.handlebars_base.specs.declared.error.render_error.RenderErrorReason.TheVariants.{IOError}
 use Rattle.handlebars_base.specs.Values.{rendered}
-use Rattle.handlebars_base.specs.Outputs.{Held, IsWhole, IsCutOff, write_reason}
+use Rattle.handlebars_base.specs.declared.output.StringOutput.{StringOutput}
+use Rattle.handlebars_base.specs.Outputs.{Held, IsWhole, IsCutOff, Written, held_of, write_reason}
 use Rattle.handlebars_base.specs.Escape.{escaped}
 use Rattle.handlebars_scope.specs.LineState.{LineState, line_behind}
 use Rattle.handlebars_base.specs.Shown.{escaped_if}
 use Rattle.handlebars_meaning.specs.Runs.{plain_fault}
 use Rattle.handlebars_meaning.specs.State.{State}
 use Rattle.handlebars_meaning.specs.Writing.{rendered_if_any}
-use Rattle.handlebars_render.specs.View.{Answered, TellsFault, word_reason, with_line, written_at}
-use Rattle.handlebars_render.specs.Writes.{FallsShort, by_output, by_memory, IsCutByMemory, Puts, TellsLine, Writes, all_written, front_written, part_written}
+use Rattle.handlebars_render.specs.View.{Answered, TellsFault, held_ahead, word_reason, with_line, written_at}
+use Rattle.handlebars_render.specs.Writes.{IsCutByMemory, IsTold, Puts, TellsLine, Writes, all_written, front_written, part_written}
 use Rattle.handlebars_scope.specs.Indentation.{written_in}
 use Rattle.handlebars_scope.specs.declared.line.LineState.{LineState as CodeLine}
 use Rattle.handlebars_scope.proofs.Indents.{written_in-none}
@@ -89,26 +90,33 @@ module _ (may : Error → Type 0) where
   writes_as {h = h} {new = new} same is (part_written part memory) =
       part_written (subst (λ (z : Text). IsCutByMemory z h new) same part) memory
 
-  -- a write that has failed
-  pub writes_short : {x t : Text} {at_word : Bool} {m next : State} {h new : Held} {cause : Error} {e : RenderError}
-      → x ≡ t → FallsShort x may cause h new → TellsFault cause (plain_fault at_word) e
-      → Writes t at_word m may h (Err e) (at next new)
-  writes_short {h = h} {new = new} {cause = cause} same (by_output given cut) tells =
-      front_written cause given (subst (λ (z : Text). IsCutOff z h new) same cut) tells
-  writes_short {at_word = at_word} {h = h} {new = new} {cause = cause} {e = e} same (by_memory is part) tells =
-      part_written (subst (λ (z : Text). IsCutByMemory z h new) same part) (tells-memory at_word cause e is tells)
+  -- what an output took of a text is told
+  pub writes_told : {t : Text} {at_word : Bool} {s : State} {h new : Held} (a : Result (Unit {0}) Error) (r : Answered)
+      → Written t h a new → IfErr a may → IsTold at_word a r → Writes t at_word s may h r (at s new)
+  writes_told (Ok u) (Ok v) whole given told = all_written refl whole
+  writes_told (Ok u) (Err e) whole given told = absurd told
+  writes_told (Err cause) (Ok v) cut given told = absurd told
+  writes_told (Err cause) (Err e) cut given told = front_written cause given cut told
+
+  -- what a text took that is rendered ahead, which fails for want of memory and counts no faults
+  pub writes_ahead : {t : Text} {at_word : Bool} {s : State} (o n : StringOutput) (a : Result (Unit {0}) Error) (r : Answered)
+      → Written t (held_of o) a (held_of n) → IfErr a (λ e. error_kind e ≡ OutOfMemory) → IsTold at_word a r
+      → Writes t at_word s may (held_ahead o) r (at s (held_ahead n))
+  writes_ahead o n (Ok u) (Ok v) whole given told = all_written refl (record { text = whole.text; faults = refl })
+  writes_ahead o n (Ok u) (Err e) whole given told = absurd told
+  writes_ahead o n (Err cause) (Ok v) cut given told = absurd told
+  writes_ahead {at_word = at_word} o n (Err cause) (Err e) cut given told = part_written (record {
+    front = cut.front;
+    is_front = cut.is_front;
+    text = cut.text;
+    faults = refl;
+  }) (tells-memory at_word cause e given told)
 
   -- nothing is written, and the line is as it was
   pub puts_none : (line : LineState) {s : State} {h : Held} {u : Unit {0}} → line ≡ s.line
       → Puts [] may (at s h) (Ok u) (at (with_line line s) h)
   puts_none line {s = s} {h = h} is =
       all_written (ap (λ (z : LineState). with_line z s) is) (record { text = sym (append-nil h.text); faults = refl })
-
-  -- a text is written, and the line is the one behind it
-  pub puts_line : (x t : Text) (line : LineState) (s : State) {h new : Held} {u : Unit {0}} → x ≡ written_at s t
-      → line ≡ line_behind t s.line → IsWhole x h new → Puts t may (at s h) (Ok u) (at (with_line line s) new)
-  puts_line x t line s {h = h} {new = new} same is whole =
-      all_written (ap (λ (z : LineState). with_line z s) is) (subst (λ (z : Text). IsWhole z h new) same whole)
 
   -- nothing is written, for want of memory
   pub puts-no_memory : (t : Text) (s : State) (h : Held) (r : Result CodeLine BoxedError)

@@ -26,6 +26,7 @@ use Rattle.handlebars_scope.specs.Resolve.{resolve}
 use Rattle.handlebars_scope.specs.Scopes.{Frame, nothing_at}
 use Rattle.handlebars_scope.specs.ScopeView.{frames_of}
 use Rattle.handlebars_base.specs.Outputs.{Held, held_of, write_reason}
+use Rattle.handlebars_base.specs.declared.output.StringOutput.{StringOutput}
 use Rattle.handlebars_scope.specs.Indentation.{written_in}
 use Rattle.handlebars_scope.specs.LineState.{LineState, line_behind}
 use Rattle.handlebars_meaning.specs.Pieces.{Piece, join}
@@ -184,10 +185,14 @@ first_moment rc held = record { state = state_of rc; held = held }
 
 -- ---- outputs
 
--- What stands where is written now. A text that is rendered ahead counts no faults.
+-- A text that is rendered ahead counts no faults.
+abbrev pub held_ahead : StringOutput → Held
+held_ahead t = record { text = (held_of t).text; faults = 0 }
+
+-- what stands where is written now
 abbrev pub held_in : {O : Type 0} → (O → Held) → Sink O → Held
 held_in held (Out o) = held o.now
-held_in held (Ahead t) = record { text = (held_of t.now).text; faults = 0 }
+held_in held (Ahead t) = held_ahead t.now
 
 -- It is the same output, or the same text that is rendered ahead.
 abbrev pub IsSame : {O : Type 0} → Sink O → Sink O → Type 0

@@ -1,8 +1,6 @@
 -- What calls say that write a text.
 use Rattle.std.specs.Prelude.{◌≡◌, ◌++◌, Bool, false, Result, Ok, Err}
-use Rattle.std.specs.IoError.{error_kind}
 use Rattle.std.specs.declared.io.Error.{Error}
-use Rattle.std.specs.declared.io.ErrorKind.TheVariants.{OutOfMemory}
 use Rattle.handlebars_base.specs.Bytes.{Text}
 use Rattle.handlebars_base.specs.Outputs.{Held, IsPrefix, IsWhole, IsCutOff}
 use Rattle.handlebars_base.specs.Reasons.{out_of_memory}
@@ -21,18 +19,12 @@ pub record IsCutByMemory (t : Text) (before after : Held) : Type 0 where
   pub text : after.text ≡ before.text ++ front
   pub faults : after.faults ≡ before.faults
 
--- ---- of a sink
-
--- A write has failed for this cause: a fault of the output, or, where a text is rendered ahead, want of memory.
-pub data FallsShort (t : Text) (may : Error → Type 0) (cause : Error) (before after : Held) : Type 0 where
-  by_output : may cause → IsCutOff t before after → FallsShort t may cause before after
-  by_memory : error_kind cause ≡ OutOfMemory → IsCutByMemory t before after → FallsShort t may cause before after
-
-abbrev pub IsTaken : Text → (Error → Type 0) → Held → Result (Unit {0}) Error → Held → Type 0
-IsTaken t may before (Ok u) after = IsWhole t before after
-IsTaken t may before (Err cause) after = FallsShort t may cause before after
-
--- ---- of a rendering
+-- What a write came to is answered so: a fault is told as one at a word or not.
+abbrev pub IsTold : Bool → Result (Unit {0}) Error → Answered → Type 0
+IsTold at_word (Ok u) (Ok v) = Unit {0}
+IsTold at_word (Ok u) (Err e) = ⊥
+IsTold at_word (Err cause) (Ok v) = ⊥
+IsTold at_word (Err cause) (Err e) = TellsFault cause (plain_fault at_word) e
 
 -- A text was written, and this is the state behind it; or a beginning of it, and the output failed, at a word or not, or
 -- memory.

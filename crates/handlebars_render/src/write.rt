@@ -10,13 +10,12 @@ ghost use Rattle.handlebars_base.specs.Values as values;
 ghost use Rattle.handlebars_helpers.specs.Escaping.{by_own};
 ghost use Rattle.handlebars_helpers.specs.EscapeView.{escaping_of};
 ghost use Rattle.handlebars_helpers.specs.OwnView.{IsOneOf};
-ghost use Rattle.handlebars_meaning.specs.Runs.{plain_fault};
 ghost use Rattle.handlebars_meaning.specs.Sites.{Site};
 ghost use Rattle.handlebars_meaning.specs.Writing as meaning;
 ghost use Rattle.handlebars_meaning.specs.Writing.{rendered_if_any};
-ghost use Rattle.handlebars_render.specs.Boxed.{answer_of, error_of};
+ghost use Rattle.handlebars_render.specs.Boxed.{answer_of};
 ghost use Rattle.handlebars_render.specs.Shows.{entities_by};
-ghost use Rattle.handlebars_render.specs.View.{setting_in, state_of, moment, first_moment, Within, CarriesOn, TellsFault, IsKept, KeptIn, within, held_in, IsSame};
+ghost use Rattle.handlebars_render.specs.View.{setting_in, state_of, moment, first_moment, Within, CarriesOn, IsKept, KeptIn, within, held_in, IsSame};
 ghost use Rattle.handlebars_render.specs.Writes.{Puts, TellsLine, WritesAsIs};
 
 use crate::boxed::BoxedError;
@@ -24,15 +23,13 @@ use crate::context::RenderContext;
 use crate::environment::Environment;
 use crate::registered::Registered;
 use crate::sink::Sink;
-use handlebars_base::error::{RenderError, RenderErrorReason};
+use handlebars_base::error::RenderError;
 use handlebars_base::json::value::{Json, JsonRender};
 use handlebars_base::output::{Output, output_fault};
 use handlebars_helpers::escape::Escaping;
 use handlebars_scope::line::LineState;
 use serde_json::Number;
 use std::alloc::{AllocError, Global};
-use std::io;
-use std::io::ErrorKind;
 
 /// Writes a text with no indentation, and takes note of the line behind it. After a fault the context is as it was.
 pub fn indent_aware_write<O: Output>(
@@ -120,20 +117,11 @@ fn write_text_under<O: Output>(
         (answer_of result) (held_in O.held sink.new) }
     ensures same { IsSame sink.old sink.new }
 {
-    match sink.write_in_line(rc.line(), text, indent, entities) {
+    match sink.write_in_line(alloc, rc.line(), text, indent, entities) {
         // No entity ends a line.
         Ok(()) => Ok(rc.line().behind(text)),
-        Err(cause) => Err(write_fault(alloc, cause)),
+        Err(e) => Err(e),
     }
-}
-
-// The refusal for a write that failed.
-#[cold]
-#[inline(never)]
-fn write_fault(alloc: Global, fault: io::Error) -> BoxedError
-    ensures { TellsFault fault (plain_fault false) (error_of result) }
-{
-    BoxedError::new(alloc, output_fault(fault))
 }
 
 // ---- values
@@ -206,9 +194,9 @@ fn write_value<O: Output, P>(
 {
     match environment.indent {
         Some(indent) => write_value_under(environment.alloc, entities, value, indent, rc, sink),
-        None => match sink.write_value(value, entities) {
+        None => match sink.write_value(environment.alloc, value, entities) {
             Ok(()) => Ok(rc.line().behind_value(value)),
-            Err(cause) => Err(write_fault(environment.alloc, cause)),
+            Err(e) => Err(e),
         },
     }
 }
@@ -355,10 +343,7 @@ pub(super) fn write_as_is<O: Output>(
     ensures puts { WritesAsIs text.now false O.may_give (held_in O.held sink.old) (answer_of result) (held_in O.held sink.new) }
     ensures same { IsSame sink.old sink.new }
 {
-    match sink.write(text) {
-        Ok(()) => Ok(()),
-        Err(fault) => Err(write_fault(alloc, fault)),
-    }
+    sink.write(alloc, false, text)
 }
 
 /// Writes the word of a boolean helper, as it is, whatever the line. Its callers recurse, and have no room for
@@ -373,28 +358,11 @@ pub(super) fn write_word<O: Output>(
         (held_in O.held sink.new) }
     ensures same { IsSame sink.old sink.new }
 {
-    match sink.write(word_text(word)) {
-        Ok(()) => Ok(()),
-        Err(fault) => Err(BoxedError::new(alloc, word_fault(alloc, fault))),
-    }
+    sink.write(alloc, true, word_text(word))
 }
 
 fn word_text(word: bool) -> &'static str
     ensures { result.now ≡ values.word word }
 {
     if word { "true" } else { "false" }
-}
-
-// The refusal for a word that couldn't be written: `OutOfMemory` for want of memory, and else `Other`
-// of the fault's text.
-fn word_fault(alloc: Global, fault: io::Error) -> RenderError
-    ensures { TellsFault fault (plain_fault true) result }
-{
-    match fault.kind() {
-        ErrorKind::OutOfMemory => RenderErrorReason::OutOfMemory.into(),
-        _ => match format!(in alloc; "{fault}") {
-            Ok(text) => RenderErrorReason::Other(text).into(),
-            Err(_) => RenderErrorReason::OutOfMemory.into(),
-        },
-    }
 }
