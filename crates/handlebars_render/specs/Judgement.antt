@@ -5,14 +5,34 @@ use denote.MutBor.{MutBor}
 use denote.Triple.Both.{Both}
 use Rattle.handlebars_base.specs.Outputs.{Held}
 use Rattle.handlebars_base.specs.declared.error.render_error.RenderError.{RenderError}
-use Rattle.handlebars_meaning.specs.State.{Parts, Setting}
+use Rattle.handlebars_meaning.specs.State.{Parts, Setting, State}
 use Rattle.handlebars_meaning.specs.Steps.{Steps, Prog}
 use Rattle.handlebars_render.specs.Boxed.{answer_of}
-use Rattle.handlebars_render.specs.View.{Answered, CarriesOn, CarriesOut, IsKept, IsSame, KeptIn, Moment, held_in, moment, setting_in, within}
+use Rattle.handlebars_render.specs.View.{Answered, CarriesOn, CarriesOut, IsKept, IsSame, KeptIn, Moment, held_in, moment, setting_in, state_with, within}
 use Rattle.handlebars_render.specs.declared.boxed.BoxedError.{BoxedError}
 use Rattle.handlebars_render.specs.declared.context.RenderContext.{RenderContext}
 use Rattle.handlebars_render.specs.declared.environment.Environment as declared
 use Rattle.handlebars_render.specs.declared.sink.Sink.{Sink}
+
+-- ---- what holds whatever the pieces are that are kept
+
+-- Said of the setting of a run, and of the state of a context.
+abbrev pub InState : {P : Type 0} → (P → Parts) → declared.Environment P → RenderContext → (Setting → State → Type 0) → Type 0
+InState parts x rc says = (kept : KeptIn (within x)) → says (setting_in parts x) (state_with kept rc)
+
+-- Said of the setting, and of the states before a call and behind it.
+abbrev pub Between : {P : Type 0} → (P → Parts) → declared.Environment P → Both (MutBor RenderContext) (MutBor RenderContext)
+    → (Setting → State → State → Type 0) → Type 0
+Between parts x rc says =
+    (kept : KeptIn (within x)) → says (setting_in parts x) (state_with kept rc.entry.now) (state_with kept rc.exit.now)
+
+-- Said of the moment before a call, and of what the output holds behind it.
+abbrev pub AtMoment : {P O : Type 0} → (O → Held) → declared.Environment P → RenderContext
+    → Both (MutBor (Sink O)) (MutBor (Sink O)) → (Moment → Held → Type 0) → Type 0
+AtMoment held x rc sink says =
+    (kept : KeptIn (within x)) → says (moment kept rc (held_in held sink.entry.now)) (held_in held sink.exit.now)
+
+-- ---- what the calls say that render
 
 -- The program was carried out, with these pieces kept.
 abbrev pub CarriesWith : {P O : Type 0} → (P → Parts) → (O → Held) → (Error → Type 0) → (x : declared.Environment P)
@@ -40,3 +60,17 @@ abbrev pub LeadsTo : {T : Type 0} → Setting → (Error → Type 0) → Prog (U
 LeadsTo p may m before left (Ok x) after = (next : Unit {0} → Steps) (r : Answered) (last : Moment)
     → CarriesOut p (left x next) may after r last → CarriesOut p (m next) may before r last
 LeadsTo p may m before left (Err e) after = CarriesOn p m may before (Err e) after
+
+-- With these pieces kept, the program leads to what is left of it.
+abbrev pub LeadsWith : {P O T : Type 0} → (P → Parts) → (O → Held) → (Error → Type 0) → (x : declared.Environment P)
+    → Both (MutBor RenderContext) (MutBor RenderContext) → Both (MutBor (Sink O)) (MutBor (Sink O))
+    → Result T BoxedError → KeptIn (within x) → Prog (Unit {0}) → (T → Prog (Unit {0})) → Type 0
+LeadsWith parts held may x rc sink r kept m left =
+    LeadsTo (setting_in parts x) may m (moment kept rc.entry.now (held_in held sink.entry.now)) left (answer_of r)
+    (moment kept rc.exit.now (held_in held sink.exit.now))
+
+-- It does, whatever the pieces are that are kept.
+abbrev pub Leads : {P O T : Type 0} → (P → Parts) → (O → Held) → (Error → Type 0) → declared.Environment P
+    → Both (MutBor RenderContext) (MutBor RenderContext) → Both (MutBor (Sink O)) (MutBor (Sink O))
+    → Result T BoxedError → Prog (Unit {0}) → (T → Prog (Unit {0})) → Type 0
+Leads parts held may x rc sink r m left = (kept : KeptIn (within x)) → LeadsWith parts held may x rc sink r kept m left

@@ -12,7 +12,8 @@ ghost use Rattle.handlebars_meaning.specs.State.{bound_call, local_call};
 ghost use Rattle.handlebars_render.specs.Boxed.{answer_of};
 ghost use Rattle.handlebars_render.specs.Bound.{GoesTo, bound_of, call_of};
 ghost use Rattle.handlebars_render.specs.Targets.{target_in};
-ghost use Rattle.handlebars_render.specs.View.{KeptIn, called_view, setting_in, state_of, state_with, within};
+ghost use Rattle.handlebars_render.specs.Judgement.{InState};
+ghost use Rattle.handlebars_render.specs.View.{called_view, state_of};
 
 use crate::boxed::BoxedError;
 use crate::called::{Called, helper_not_found};
@@ -179,8 +180,8 @@ pub fn bind_boxed<'a, P: Registered>(
     block: bool,
     call: Called<'a>,
 ) -> Result<Box<BoundCall<'a>>, BoxedError>
-    ensures { (kept : KeptIn (within environment.now)) → GoesTo (setting_in P.parts environment.now) (state_with kept rc.now) block
-        (target_in block (called_view call.entry).name target) (called_view call.entry) (answer_of result) }
+    ensures { InState P.parts environment.now rc.now (λ p s. GoesTo p s block
+        (target_in block (called_view call.entry).name target) (called_view call.entry) (answer_of result)) }
 {
     match bind(environment, rc, target, block, call) {
         Ok(bound) => match Box::new(environment.alloc, bound) {

@@ -12,7 +12,8 @@ ghost use Rattle.handlebars_helpers.specs.Callee.{built, calls_registered};
 ghost use Rattle.handlebars_render.specs.Boxed.{answer_of, error_of};
 ghost use Rattle.handlebars_render.specs.Next.{Judges, path_alone, wanting};
 ghost use Rattle.handlebars_render.specs.Targets.{target_in};
-ghost use Rattle.handlebars_render.specs.View.{setting_in, state_with, KeptIn, within};
+ghost use Rattle.handlebars_render.specs.Judgement.{InState};
+
 
 use crate::boxed::BoxedError;
 use crate::context::RenderContext;
@@ -70,7 +71,7 @@ pub fn condition<P: Registered>(
     path: &Path,
     rc: &RenderContext,
 ) -> Result<bool, BoxedError>
-    ensures { (kept : KeptIn (within environment.now)) → Judges (setting_in P.parts environment.now) (state_with kept rc.now) (reference_of path.now) (answer_of result) }
+    ensures { InState P.parts environment.now rc.now (λ p s. Judges p s (reference_of path.now) (answer_of result)) }
 {
     match rc.reach(environment.given.data(), path, environment.bases) {
         Reached::Value(value) => Ok(value.is_truthy(false)),

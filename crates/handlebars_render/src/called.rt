@@ -20,7 +20,8 @@ ghost use Rattle.handlebars_meaning.specs.State.{State, helper_for};
 ghost use Rattle.handlebars_meaning.specs.Values.{HasHelpedValue, HasRegisteredValue, HasView, choice_value, view_without_bodies};
 ghost use Rattle.handlebars_render.specs.Bound.{callee_in};
 ghost use Rattle.handlebars_render.specs.Targets.{target_in};
-ghost use Rattle.handlebars_render.specs.View.{setting_in, called_view, name_alone, Yields, state_with, KeptIn, within};
+ghost use Rattle.handlebars_render.specs.Judgement.{InState};
+ghost use Rattle.handlebars_render.specs.View.{setting_in, called_view, name_alone, Yields};
 
 use crate::bound::{BoundCall, asked_name, bind};
 use crate::context::RenderContext;
@@ -186,8 +187,9 @@ pub fn view_of_tag<'a, P: Registered>(
     rc: &RenderContext,
     tag: &'a DecoratorTemplate,
 ) -> Result<Called<'a>, RenderError>
-    ensures { (kept : KeptIn (within environment.now)) → Yields (HasView (setting_in P.parts environment.now) (state_with kept rc.now) (decorator_name (decorator_view tag.now))
-        (decorator_args (decorator_view tag.now))) called_view result }
+    ensures { InState P.parts environment.now rc.now (λ p s. Yields
+        (HasView p s (decorator_name (decorator_view tag.now)) (decorator_args (decorator_view tag.now))) called_view
+        result) }
 {
     let name = expand_as_name(environment, rc, &tag.name)?;
     let params = params_values(environment, rc, &tag.params)?;
@@ -203,9 +205,9 @@ pub fn helped_value<'a, 'c, P: Registered>(
     helper: &'c HelperTemplate,
     call: Called<'c>,
 ) -> Result<ScopedJson<'a>, RenderError>
-    ensures value { (kept : KeptIn (within environment.now)) → Yields (HasHelpedValue (setting_in P.parts environment.now) (state_with kept rc.now)
-        (helper_for (P.parts environment.now.parts.now) (state_with kept rc.now) false (called_view call.entry).name)
-        (view_without_bodies (call_binding (call_view helper.now)) (called_view call.entry))) found_of result }
+    ensures value { InState P.parts environment.now rc.now (λ p s. Yields
+        (HasHelpedValue p s (helper_for (P.parts environment.now.parts.now) s false (called_view call.entry).name)
+        (view_without_bodies (call_binding (call_view helper.now)) (called_view call.entry))) found_of result) }
     ensures constant { IfOk result (λ found. is_constant found ≡ false) }
 {
     match helper_for(environment.parts, rc, false, call.name.as_str()) {
@@ -222,9 +224,9 @@ fn target_value<'a, 'c, P: Registered>(
     helper: &'c HelperTemplate,
     call: Called<'c>,
 ) -> Result<ScopedJson<'a>, RenderError>
-    ensures value { (kept : KeptIn (within environment.now)) → Yields (HasHelpedValue (setting_in P.parts environment.now) (state_with kept rc.now)
-        (Some (target_in false (called_view call.entry).name target))
-        (view_without_bodies (call_binding (call_view helper.now)) (called_view call.entry))) found_of result }
+    ensures value { InState P.parts environment.now rc.now (λ p s. Yields
+        (HasHelpedValue p s (Some (target_in false (called_view call.entry).name target))
+        (view_without_bodies (call_binding (call_view helper.now)) (called_view call.entry))) found_of result) }
     ensures constant { IfOk result (λ found. is_constant found ≡ false) }
 {
     match bind(environment, rc, target, false, call) {
@@ -240,9 +242,9 @@ fn bound_value<'a, 'c, P: Registered>(
     helper: &'c HelperTemplate,
     bound: BoundCall<'c>,
 ) -> Result<ScopedJson<'a>, RenderError>
-    ensures value { (kept : KeptIn (within environment.now)) → Yields (HasRegisteredValue (setting_in P.parts environment.now) (state_with kept rc.now)
-        (callee_in bound.entry) (view_without_bodies (call_binding (call_view helper.now)) (called_view bound.entry.call)))
-        found_of result }
+    ensures value { InState P.parts environment.now rc.now (λ p s. Yields
+        (HasRegisteredValue p s (callee_in bound.entry) (view_without_bodies (call_binding (call_view helper.now))
+        (called_view bound.entry.call))) found_of result) }
     ensures constant { IfOk result (λ found. is_constant found ≡ false) }
 {
     let (callee, asked_by, call) = bound.into_parts();

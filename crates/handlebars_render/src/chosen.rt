@@ -16,10 +16,10 @@ ghost use Rattle.handlebars_meaning.specs.Sites.{Site};
 ghost use Rattle.handlebars_meaning.specs.State.{State, nearest_variables};
 ghost use Rattle.handlebars_render.specs.Boxed.{answer_of};
 ghost use Rattle.handlebars_render.specs.Chosen.{IsDone, render_rest};
-ghost use Rattle.handlebars_render.specs.Judgement.{LeadsTo, Stays};
+ghost use Rattle.handlebars_render.specs.Judgement.{Leads, LeadsTo, LeadsWith, Stays};
 ghost use Rattle.handlebars_render.specs.OwnChoice.{own_choice_of};
 ghost use Rattle.handlebars_render.specs.Targets.{ChoosesFor};
-ghost use Rattle.handlebars_render.specs.View.{KeptIn, held_in, moment, setting_in, state_of, state_with, within, IsSame};
+ghost use Rattle.handlebars_render.specs.View.{KeptIn, held_in, setting_in, state_of, state_with, within, IsSame};
 
 use crate::bound::asked_name;
 use crate::boxed::BoxedError;
@@ -67,12 +67,12 @@ pub fn settle_choice<'v, O: Output, P: Registered>(
     sink: &mut Sink<'_, O>,
 ) -> Result<ToRender<'v>, BoxedError>
     ensures leads { (site : Site) (target : calls.Target) (v : CallView) (kept : KeptIn (within environment.now))
-        → ChoosesFor (setting_in P.parts environment.now) (state_with kept rc.old) (callee_of (unwrap_or (option_map cow_str_bytes asked_by.now) (helper_view view.now).call.name) callee)
-        (helper_view view.now)
-        target (view_with_bodies block (call_view helper.now) v)
-        → LeadsTo (setting_in P.parts environment.now) O.may_give (render_chosen site target (view_with_bodies block (call_view helper.now) v))
-        (moment kept rc.old (held_in O.held sink.old)) (render_rest site (view_with_bodies block (call_view helper.now) v))
-        (answer_of result) (moment kept rc.new (held_in O.held sink.new)) }
+        → ChoosesFor (setting_in P.parts environment.now) (state_with kept rc.old)
+        (callee_of (unwrap_or (option_map cow_str_bytes asked_by.now) (helper_view view.now).call.name) callee)
+        (helper_view view.now) target (view_with_bodies block (call_view helper.now) v)
+        → LeadsWith P.parts O.held O.may_give environment.now rc sink result kept
+        (render_chosen site target (view_with_bodies block (call_view helper.now) v))
+        (render_rest site (view_with_bodies block (call_view helper.now) v)) }
     ensures stays { Stays rc sink }
 {
     match callee {
@@ -100,11 +100,9 @@ fn settle_built<'v, O: Output, P: Registered>(
     rc: &mut RenderContext,
     sink: &mut Sink<'_, O>,
 ) -> Result<ToRender<'v>, BoxedError>
-    ensures leads { (site : Site) (v : CallView) (kept : KeptIn (within environment.now))
-        → LeadsTo (setting_in P.parts environment.now) O.may_give
+    ensures leads { (site : Site) (v : CallView) → Leads P.parts O.held O.may_give environment.now rc sink result
         (carry_out site (view_with_bodies block (call_view helper.now) v) (choice_of choice.entry))
-        (moment kept rc.old (held_in O.held sink.old)) (render_rest site (view_with_bodies block (call_view helper.now) v))
-        (answer_of result) (moment kept rc.new (held_in O.held sink.new)) }
+        (render_rest site (view_with_bodies block (call_view helper.now) v)) }
     ensures stays { Stays rc sink }
 {
     match choice {
@@ -133,10 +131,9 @@ fn settle_own<'v, O: Output, P: Registered>(
     rc: &mut RenderContext,
     sink: &mut Sink<'_, O>,
 ) -> Result<ToRender<'v>, BoxedError>
-    ensures leads { (site : Site) (block : Bool) (c : Call) (v : CallView) (kept : KeptIn (within environment.now))
-        → LeadsTo (setting_in P.parts environment.now) O.may_give (carry_out site (view_with_bodies block c v) (own_choice_of choice))
-        (moment kept rc.old (held_in O.held sink.old)) (render_rest site (view_with_bodies block c v))
-        (answer_of result) (moment kept rc.new (held_in O.held sink.new)) }
+    ensures leads { (site : Site) (block : Bool) (c : Call) (v : CallView)
+        → Leads P.parts O.held O.may_give environment.now rc sink result
+        (carry_out site (view_with_bodies block c v) (own_choice_of choice)) (render_rest site (view_with_bodies block c v)) }
     ensures stays { Stays rc sink }
 {
     match choice {

@@ -10,7 +10,8 @@ ghost use Rattle.handlebars_helpers.specs.DecoratorsView.{deed_of, tag_view};
 ghost use Rattle.handlebars_meaning.specs.Means.{do_deed, do_deeds, render_decorator, set_partial};
 ghost use Rattle.handlebars_render.specs.Boxed.{answer_of, error_of};
 ghost use Rattle.handlebars_render.specs.Silent.{Does, decorate_as, decorate_by};
-ghost use Rattle.handlebars_render.specs.View.{IsKept, setting_in, state_with, KeptIn, within};
+ghost use Rattle.handlebars_render.specs.Judgement.{Between};
+ghost use Rattle.handlebars_render.specs.View.{IsKept};
 
 use crate::boxed::BoxedError;
 use crate::called::view_of_tag;
@@ -30,8 +31,8 @@ pub fn render_decorator<'a, P: Registered>(
     environment: &Environment<'_, 'a, P>,
     rc: &mut RenderContext,
 ) -> Result<(), BoxedError>
-    ensures does { (kept : KeptIn (within environment.now)) → Does (setting_in P.parts environment.now) (render_decorator (decorator_view tag.now))
-        (state_with kept rc.old) (answer_of result) (state_with kept rc.new) }
+    ensures does { Between P.parts environment.now rc (λ p s next. Does p (render_decorator (decorator_view tag.now)) s
+        (answer_of result) next) }
     ensures kept { IsKept rc.old rc.new }
 {
     match view_of_tag(environment, rc, tag) {
@@ -49,8 +50,8 @@ fn decorate<P: Registered>(
     environment: &Environment<P>,
     rc: &mut RenderContext,
 ) -> Result<(), BoxedError>
-    ensures does { (kept : KeptIn (within environment.now)) → Does (setting_in P.parts environment.now) (decorate_as (tag_view tag.now))
-        (state_with kept rc.old) (answer_of result) (state_with kept rc.new) }
+    ensures does { Between P.parts environment.now rc (λ p s next. Does p (decorate_as (tag_view tag.now)) s
+        (answer_of result) next) }
     ensures kept { IsKept rc.old rc.new }
 {
     match environment.parts.decorator(tag.name()) {
@@ -66,8 +67,8 @@ fn decorate_inline<P: Registered>(
     environment: &Environment<P>,
     rc: &mut RenderContext,
 ) -> Result<(), BoxedError>
-    ensures does { (kept : KeptIn (within environment.now)) → Does (setting_in P.parts environment.now) (decorate_by kind_inline (tag_view tag.now))
-        (state_with kept rc.old) (answer_of result) (state_with kept rc.new) }
+    ensures does { Between P.parts environment.now rc (λ p s next. Does p (decorate_by kind_inline (tag_view tag.now)) s
+        (answer_of result) next) }
     ensures kept { IsKept rc.old rc.new }
 {
     match inline(tag) {
@@ -82,9 +83,8 @@ fn decorate_own<P: Registered>(
     environment: &Environment<P>,
     rc: &mut RenderContext,
 ) -> Result<(), BoxedError>
-    ensures does { (kept : KeptIn (within environment.now)) → Does (setting_in P.parts environment.now)
-        (decorate_by (kind_own (tag_view tag.now).call.name) (tag_view tag.now))
-        (state_with kept rc.old) (answer_of result) (state_with kept rc.new) }
+    ensures does { Between P.parts environment.now rc (λ p s next. Does p
+        (decorate_by (kind_own (tag_view tag.now).call.name) (tag_view tag.now)) s (answer_of result) next) }
     ensures kept { IsKept rc.old rc.new }
 {
     match environment
@@ -103,9 +103,8 @@ fn do_deeds<P: Registered>(
     deeds: Vec<DecoratorStep>,
     rc: &mut RenderContext,
 ) -> Result<(), BoxedError>
-    ensures does { (kept : KeptIn (within environment.now)) → Does (setting_in P.parts environment.now)
-        (do_deeds (tag_view tag.now).body (map deed_of deeds.items))
-        (state_with kept rc.old) (answer_of result) (state_with kept rc.new) }
+    ensures does { Between P.parts environment.now rc (λ p s next. Does p
+        (do_deeds (tag_view tag.now).body (map deed_of deeds.items)) s (answer_of result) next) }
     ensures kept { IsKept rc.old rc.new }
 {
     'deeds: for deed in deeds {
@@ -122,8 +121,8 @@ fn do_deed<P: Registered>(
     deed: DecoratorStep,
     rc: &mut RenderContext,
 ) -> Result<(), BoxedError>
-    ensures does { (kept : KeptIn (within environment.now)) → Does (setting_in P.parts environment.now) (do_deed (tag_view tag.now).body (deed_of deed))
-        (state_with kept rc.old) (answer_of result) (state_with kept rc.new) }
+    ensures does { Between P.parts environment.now rc (λ p s next. Does p (do_deed (tag_view tag.now).body (deed_of deed)) s
+        (answer_of result) next) }
     ensures kept { IsKept rc.old rc.new }
 {
     match deed {
@@ -160,8 +159,8 @@ fn set_partial<P: Registered>(
     name: &str,
     rc: &mut RenderContext,
 ) -> Result<(), BoxedError>
-    ensures does { (kept : KeptIn (within environment.now)) → Does (setting_in P.parts environment.now) (set_partial name.now (tag_view tag.now).body)
-        (state_with kept rc.old) (answer_of result) (state_with kept rc.new) }
+    ensures does { Between P.parts environment.now rc (λ p s next. Does p (set_partial name.now (tag_view tag.now).body) s
+        (answer_of result) next) }
     ensures kept { IsKept rc.old rc.new }
 {
     match tag.template() {

@@ -7,7 +7,8 @@ ghost use Rattle.handlebars_meaning.specs.Means.{render_element};
 ghost use Rattle.handlebars_meaning.specs.Sites.{Site};
 ghost use Rattle.handlebars_render.specs.Boxed.{answer_of};
 ghost use Rattle.handlebars_render.specs.Silent.{Does, Evals};
-ghost use Rattle.handlebars_render.specs.View.{IsKept, setting_in, state_with, KeptIn, within};
+ghost use Rattle.handlebars_render.specs.Judgement.{Between};
+ghost use Rattle.handlebars_render.specs.View.{IsKept};
 
 use crate::boxed::BoxedError;
 use crate::context::RenderContext;
@@ -23,9 +24,8 @@ pub fn eval_tree<'a, P: Registered>(
     environment: &Environment<'_, 'a, P>,
     rc: &mut RenderContext,
 ) -> Result<(), BoxedError>
-    ensures evals { (kept : KeptIn (within environment.now)) → Evals (setting_in P.parts environment.now) (eval_tree (tree_view template.now))
-        (renamed (tree_name (tree_view template.now))) (state_with kept rc.old) (answer_of result)
-        (state_with kept rc.new) }
+    ensures evals { Between P.parts environment.now rc (λ p s next. Evals p (eval_tree (tree_view template.now))
+        (renamed (tree_name (tree_view template.now))) s (answer_of result) next) }
     ensures kept { IsKept rc.old rc.new }
 {
     'elements: for (index, element) in template.elements.iter().enumerate() {
@@ -42,9 +42,8 @@ pub fn eval_element<'a, P: Registered>(
     environment: &Environment<'_, 'a, P>,
     rc: &mut RenderContext,
 ) -> Result<(), BoxedError>
-    ensures does { (site : Site) (kept : KeptIn (within environment.now)) → Does (setting_in P.parts environment.now)
-        (render_element site (decorator_alone (element_view element.now)))
-        (state_with kept rc.old) (answer_of result) (state_with kept rc.new) }
+    ensures does { (site : Site) → Between P.parts environment.now rc
+        (λ p s next. Does p (render_element site (decorator_alone (element_view element.now))) s (answer_of result) next) }
     ensures kept { IsKept rc.old rc.new }
 {
     match element {

@@ -12,6 +12,7 @@ ghost use Rattle.handlebars_meaning.specs.Including.{base_value};
 ghost use Rattle.handlebars_meaning.specs.Inclusion.{with_bound};
 ghost use Rattle.handlebars_meaning.specs.State.{nearest_variables};
 ghost use Rattle.handlebars_render.specs.Inclusions.{HasBase, StandsAt, lent_frame};
+ghost use Rattle.handlebars_render.specs.Judgement.{InState};
 ghost use Rattle.handlebars_render.specs.View.{setting_in, state_of, state_with, GivesValue, KeptIn, within};
 
 use crate::context::RenderContext;
@@ -41,8 +42,7 @@ pub fn inclusion_block<'v, P: Registered>(
     environment: &Environment<'v, 'v, P>,
     rc: &RenderContext,
 ) -> Result<LentBlock<'v>, RenderError>
-    ensures { (kept : KeptIn (within environment.now)) → StandsAt (setting_in P.parts environment.now) (tag_view tag.now)
-        (state_with kept rc.now) lent_frame result }
+    ensures { InState P.parts environment.now rc.now (λ p s. StandsAt p (tag_view tag.now) s lent_frame result) }
 {
     match lent_base(tag, environment, rc) {
         Some(base) => Ok(LentBlock {
@@ -97,8 +97,7 @@ fn own_block<P: Registered>(
     environment: &Environment<'_, '_, P>,
     rc: &RenderContext,
 ) -> Result<BlockContext, RenderError>
-    ensures { (kept : KeptIn (within environment.now)) → StandsAt (setting_in P.parts environment.now) (tag_view tag.now)
-        (state_with kept rc.now) frame_of result }
+    ensures { InState P.parts environment.now rc.now (λ p s. StandsAt p (tag_view tag.now) s frame_of result) }
 {
     let base = match base(tag, environment, rc) {
         Ok(base) => base,
@@ -116,8 +115,7 @@ fn base<P: Registered>(
     environment: &Environment<'_, '_, P>,
     rc: &RenderContext,
 ) -> Result<Json, RenderError>
-    ensures { (kept : KeptIn (within environment.now)) → HasBase (setting_in P.parts environment.now) (tag_view tag.now)
-        (state_with kept rc.now) view result }
+    ensures { InState P.parts environment.now rc.now (λ p s. HasBase p (tag_view tag.now) s view result) }
 {
     match tag.param(0) {
         Some(value) => Ok(merge(environment.alloc, value.value(), tag.hash())?),
@@ -131,8 +129,8 @@ fn current<P: Registered>(
     environment: &Environment<'_, '_, P>,
     rc: &RenderContext,
 ) -> Result<Json, RenderError>
-    ensures { (kept : KeptIn (within environment.now)) → (tag_view tag.now).call.params ≡ []
-        → HasBase (setting_in P.parts environment.now) (tag_view tag.now) (state_with kept rc.now) view result }
+    ensures { InState P.parts environment.now rc.now (λ p s. (tag_view tag.now).call.params ≡ []
+        → HasBase p (tag_view tag.now) s view result) }
 {
     let here = here(environment.alloc);
     match rc.reach(environment.given.data(), &here, environment.bases) {

@@ -17,6 +17,7 @@ ghost use Rattle.handlebars_meaning.specs.Means.{render_found, render_lone, rend
 ghost use Rattle.handlebars_meaning.specs.Values.{HasName, HasValue, callee_name};
 ghost use Rattle.handlebars_render.specs.Boxed.{answer_of, error_of};
 ghost use Rattle.handlebars_render.specs.Next.{ComesTo, Settles};
+ghost use Rattle.handlebars_render.specs.Judgement.{AtMoment, InState};
 ghost use Rattle.handlebars_render.specs.View.{name_alone, setting_in, moment, state_with, KeptIn, within, held_in, IsSame};
 
 use crate::bound::bind_boxed;
@@ -47,10 +48,10 @@ pub fn settle_lone<'a, O: Output, P: Registered>(
     rc: &RenderContext,
     sink: &mut Sink<'_, O>,
 ) -> Result<Next<'a>, BoxedError>
-    ensures comes { is_value (call_view helper.now) ≡ true → (site : Site) (kept : KeptIn (within environment.now))
-        → ComesTo (setting_in P.parts environment.now) site false (call_view helper.now)
-        (render_lone site (call_view helper.now))
-        O.may_give (moment kept rc.now (held_in O.held sink.old)) (answer_of result) (held_in O.held sink.new) }
+    ensures comes { is_value (call_view helper.now) ≡ true → (site : Site)
+        → AtMoment O.held environment.now rc.now sink (λ before held. ComesTo
+        (setting_in P.parts environment.now) site false (call_view helper.now)
+        (render_lone site (call_view helper.now)) O.may_give before (answer_of result) held) }
     ensures same { IsSame sink.old sink.new }
 {
     match &helper.name {
@@ -72,11 +73,10 @@ fn settle_inner<'a, O: Output, P: Registered>(
     rc: &RenderContext,
     sink: &mut Sink<'_, O>,
 ) -> Result<Next<'a>, BoxedError>
-    ensures comes { is_value (call_view helper.now) ≡ true
-        → call_name (call_view helper.now) ≡ tree.subexpression (subexpression_view inner.now)
-        → (site : Site) (kept : KeptIn (within environment.now)) → ComesTo (setting_in P.parts environment.now) site false (call_view helper.now)
-        (render_lone site (call_view helper.now))
-        O.may_give (moment kept rc.now (held_in O.held sink.old)) (answer_of result) (held_in O.held sink.new) }
+    ensures comes { is_value (call_view helper.now) ≡ true → call_name (call_view helper.now) ≡ tree.subexpression
+        (subexpression_view inner.now) → (site : Site) → AtMoment O.held environment.now rc.now sink
+        (λ before held. ComesTo (setting_in P.parts environment.now) site false (call_view helper.now)
+        (render_lone site (call_view helper.now)) O.may_give before (answer_of result) held) }
     ensures same { IsSame sink.old sink.new }
 {
     match inner_value(environment, rc, inner) {
@@ -93,9 +93,9 @@ fn settle_name<'a, P: Registered>(
     text: &'a str,
     rc: &RenderContext,
 ) -> Result<Next<'a>, BoxedError>
-    ensures { is_value (call_view helper.now) ≡ true → call_name (call_view helper.now) ≡ tree.name text.now
-        → (site : Site) (kept : KeptIn (within environment.now)) → Settles (setting_in P.parts environment.now) site false (call_view helper.now)
-        (render_lone site (call_view helper.now)) (state_with kept rc.now) (answer_of result) }
+    ensures { is_value (call_view helper.now) ≡ true → call_name (call_view helper.now) ≡ tree.name text.now → (site : Site)
+        → InState P.parts environment.now rc.now (λ p s. Settles p site false (call_view helper.now)
+        (render_lone site (call_view helper.now)) s (answer_of result)) }
 {
     match helper_named(environment.parts, rc, text) {
         Some(target) => to_call(
@@ -117,10 +117,10 @@ fn settle_path<'a, O: Output, P: Registered>(
     rc: &RenderContext,
     sink: &mut Sink<'_, O>,
 ) -> Result<Next<'a>, BoxedError>
-    ensures comes { is_value (call_view helper.now) ≡ true → call_name (call_view helper.now) ≡ tree.path (reference_of path.now)
-        → (site : Site) (kept : KeptIn (within environment.now)) → ComesTo (setting_in P.parts environment.now) site false (call_view helper.now)
-        (render_lone site (call_view helper.now))
-        O.may_give (moment kept rc.now (held_in O.held sink.old)) (answer_of result) (held_in O.held sink.new) }
+    ensures comes { is_value (call_view helper.now) ≡ true → call_name (call_view helper.now) ≡ tree.path
+        (reference_of path.now) → (site : Site) → AtMoment O.held environment.now rc.now sink
+        (λ before held. ComesTo (setting_in P.parts environment.now) site false (call_view helper.now)
+        (render_lone site (call_view helper.now)) O.may_give before (answer_of result) held) }
     ensures same { IsSame sink.old sink.new }
 {
     match helper_named(environment.parts, rc, path.raw()) {
@@ -208,9 +208,9 @@ fn settle_missing<'a, P: Registered>(
     name: CowStr<'a>,
     rc: &RenderContext,
 ) -> Result<Next<'a>, BoxedError>
-    ensures { (site : Site) (kept : KeptIn (within environment.now)) → Settles (setting_in P.parts environment.now) site false (call_view helper.now)
-        (render_found site (call_view helper.now) (name_alone (cow_str_bytes name.entry)) missing)
-        (state_with kept rc.now) (answer_of result) }
+    ensures { (site : Site) → InState P.parts environment.now rc.now
+        (λ p s. Settles p site false (call_view helper.now) (render_found site (call_view helper.now)
+        (name_alone (cow_str_bytes name.entry)) missing) s (answer_of result)) }
 {
     if environment.parts.strict() {
         return Err(missing_variable(environment.alloc, &helper.name));

@@ -14,7 +14,8 @@ ghost use Rattle.handlebars_meaning.specs.State.{helper_for};
 ghost use Rattle.handlebars_render.specs.Boxed.{answer_of, error_of};
 ghost use Rattle.handlebars_render.specs.Next.{ComesTo, IsCall, Settles};
 ghost use Rattle.handlebars_render.specs.Targets.{target_in};
-ghost use Rattle.handlebars_render.specs.View.{setting_in, called_view, moment, state_with, KeptIn, within, held_in, IsSame};
+ghost use Rattle.handlebars_render.specs.Judgement.{AtMoment, InState};
+ghost use Rattle.handlebars_render.specs.View.{setting_in, called_view, IsSame};
 
 use crate::bound::{BoundCall, bind_boxed};
 use crate::boxed::BoxedError;
@@ -55,9 +56,9 @@ pub fn settle_tag<'a, O: Output, P: Registered>(
     rc: &RenderContext,
     sink: &mut Sink<'_, O>,
 ) -> Result<Next<'a>, BoxedError>
-    ensures comes { (site : Site) (kept : KeptIn (within environment.now)) → ComesTo (setting_in P.parts environment.now) site block (call_view helper.now)
-        (render_tag site block (call_view helper.now))
-        O.may_give (moment kept rc.now (held_in O.held sink.old)) (answer_of result) (held_in O.held sink.new) }
+    ensures comes { (site : Site) → AtMoment O.held environment.now rc.now sink
+        (λ before held. ComesTo (setting_in P.parts environment.now) site block (call_view helper.now)
+        (render_tag site block (call_view helper.now)) O.may_give before (answer_of result) held) }
     ensures same { IsSame sink.old sink.new }
 {
     if block {
@@ -73,9 +74,9 @@ fn settle_expression<'a, O: Output, P: Registered>(
     rc: &RenderContext,
     sink: &mut Sink<'_, O>,
 ) -> Result<Next<'a>, BoxedError>
-    ensures comes { (site : Site) (kept : KeptIn (within environment.now)) → ComesTo (setting_in P.parts environment.now) site false (call_view helper.now)
-        (render_expression site (call_view helper.now))
-        O.may_give (moment kept rc.now (held_in O.held sink.old)) (answer_of result) (held_in O.held sink.new) }
+    ensures comes { (site : Site) → AtMoment O.held environment.now rc.now sink
+        (λ before held. ComesTo (setting_in P.parts environment.now) site false (call_view helper.now)
+        (render_expression site (call_view helper.now)) O.may_give before (answer_of result) held) }
     ensures same { IsSame sink.old sink.new }
 {
     if helper.is_value() {
@@ -95,8 +96,9 @@ fn settle_call<'a, P: Registered>(
     block: bool,
     rc: &RenderContext,
 ) -> Result<Next<'a>, BoxedError>
-    ensures { (site : Site) (kept : KeptIn (within environment.now)) → Settles (setting_in P.parts environment.now) site block (call_view helper.now)
-        (render_call site block (call_view helper.now)) (state_with kept rc.now) (answer_of result) }
+    ensures { (site : Site) → InState P.parts environment.now rc.now
+        (λ p s. Settles p site block (call_view helper.now) (render_call site block (call_view helper.now)) s
+        (answer_of result)) }
 {
     if let Some(name) = helper.name.as_name() {
         return settle_named(helper, environment, block, name, rc);
@@ -118,9 +120,9 @@ fn settle_named<'a, P: Registered>(
     name: &'a str,
     rc: &RenderContext,
 ) -> Result<Next<'a>, BoxedError>
-    ensures { as_name (call_name (call_view helper.now)) ≡ Some name.now → (site : Site) (kept : KeptIn (within environment.now))
-        → Settles (setting_in P.parts environment.now) site block (call_view helper.now)
-        (render_call site block (call_view helper.now)) (state_with kept rc.now) (answer_of result) }
+    ensures { as_name (call_name (call_view helper.now)) ≡ Some name.now → (site : Site)
+        → InState P.parts environment.now rc.now (λ p s. Settles p site block (call_view helper.now)
+        (render_call site block (call_view helper.now)) s (answer_of result)) }
 {
     let target = helper_for(environment.parts, rc, block, name);
     match branching(helper, target) {
@@ -155,11 +157,12 @@ fn settle_viewed<'a, P: Registered>(
     target: Option<Target>,
     rc: &RenderContext,
 ) -> Result<Next<'a>, BoxedError>
-    ensures { (site : Site) (kept : KeptIn (within environment.now)) → HasName (setting_in P.parts environment.now) (state_with kept rc.now)
-        (call_name (call_view helper.now)) (gives (cow_str_bytes name.entry))
-        → option_map (target_in block (cow_str_bytes name.entry)) target ≡ helper_for (P.parts environment.now.parts.now) (state_with kept rc.now) block (cow_str_bytes name.entry)
-        → Settles (setting_in P.parts environment.now) site block (call_view helper.now)
-        (render_call site block (call_view helper.now)) (state_with kept rc.now) (answer_of result) }
+    ensures { (site : Site) → InState P.parts environment.now rc.now
+        (λ p s. HasName p s (call_name (call_view helper.now)) (gives (cow_str_bytes name.entry))
+        → option_map (target_in block (cow_str_bytes name.entry)) target ≡ helper_for
+        (P.parts environment.now.parts.now) s block (cow_str_bytes name.entry)
+        → Settles p site block (call_view helper.now) (render_call site block (call_view helper.now)) s (answer_of result))
+        }
 {
     let params = match params_values(environment, rc, &helper.params) {
         Ok(params) => params,
@@ -184,8 +187,8 @@ pub fn to_call<'a, P: Registered>(
     block: bool,
     call: Called<'a>,
 ) -> Result<Next<'a>, BoxedError>
-    ensures { (kept : KeptIn (within environment.now)) → IsCall (setting_in P.parts environment.now) (state_with kept rc.now) block
-        (target_in block (called_view call.entry).name target) (called_view call.entry) (answer_of result) }
+    ensures { InState P.parts environment.now rc.now (λ p s. IsCall p s block
+        (target_in block (called_view call.entry).name target) (called_view call.entry) (answer_of result)) }
 {
     match bind_boxed(environment, rc, target, block, call) {
         Ok(bound) => Ok(Next::Call(bound)),

@@ -10,7 +10,8 @@ ghost use Rattle.handlebars_helpers.specs.View.{helper_view};
 ghost use Rattle.handlebars_meaning.specs.Questions.{HasRegisteredChoice, offer_choice};
 ghost use Rattle.handlebars_meaning.specs.Values.{HasRegisteredValue, step_text, steps_text};
 ghost use Rattle.handlebars_render.specs.OwnChoice.{own_choice_of};
-ghost use Rattle.handlebars_render.specs.View.{setting_in, state_with, Yields, KeptIn, within};
+ghost use Rattle.handlebars_render.specs.Judgement.{InState};
+ghost use Rattle.handlebars_render.specs.View.{Yields};
 
 use crate::called::empty_text;
 use crate::context::RenderContext;
@@ -37,9 +38,8 @@ pub fn choose_own<P: Registered>(
     name: &str,
     view: &Helper,
 ) -> Result<OwnChoice, RenderError>
-    ensures { (kept : KeptIn (within environment.now)) → Yields
-        (HasRegisteredChoice (setting_in P.parts environment.now) (state_with kept rc.now) (own name.now) (helper_view view.now))
-        own_choice_of result }
+    ensures { InState P.parts environment.now rc.now (λ p s. Yields
+        (HasRegisteredChoice p s (own name.now) (helper_view view.now)) own_choice_of result) }
 {
     match environment
         .parts
@@ -81,9 +81,8 @@ pub fn own_value<'a, P: Registered>(
     name: &str,
     view: &Helper,
 ) -> Result<ScopedJson<'a>, RenderError>
-    ensures value { (kept : KeptIn (within environment.now)) → Yields
-        (HasRegisteredValue (setting_in P.parts environment.now) (state_with kept rc.now) (own name.now) (helper_view view.now))
-        found_of result }
+    ensures value { InState P.parts environment.now rc.now (λ p s. Yields
+        (HasRegisteredValue p s (own name.now) (helper_view view.now)) found_of result) }
     ensures constant { IfOk result (λ found. is_constant found ≡ false) }
 {
     match environment

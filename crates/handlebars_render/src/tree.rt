@@ -1,6 +1,6 @@
 //! Rendering a tree.
 
-ghost use Rattle.std.specs.Prelude.{◌≡◌, ◌≢◌, option_map, string_bytes};
+ghost use Rattle.std.specs.Prelude.{◌≡◌, ◌≢◌, None, option_map, string_bytes};
 ghost use Rattle.handlebars_base.specs.Reasons.{out_of_memory};
 ghost use Rattle.handlebars_base.specs.RenderRefusals.{reason_in, spot_of, cause_of};
 ghost use Rattle.handlebars_template.specs.TreeView.{tree_view, place_of};
@@ -73,6 +73,7 @@ fn named(alloc: Global, error: BoxedError, name: &Option<String>) -> BoxedError
         → spot_of (error_of result) ≡ named_as (option_map string_bytes name.now) (spot_of (error_of error)) }
     ensures cause { reason_in (error_of result) ≢ out_of_memory → cause_of (error_of result) ≡ cause_of (error_of error) }
     ensures memory { reason_in (error_of error) ≡ out_of_memory → reason_in (error_of result) ≡ out_of_memory }
+    ensures nameless { name.now ≡ None → result ≡ error }
 {
     match name {
         Some(name) => error.in_template(alloc, name),

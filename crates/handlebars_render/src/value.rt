@@ -10,7 +10,8 @@ ghost use Rattle.handlebars_base.specs.Scoped.{found_of, is_constant};
 ghost use Rattle.handlebars_template.specs.Tree.{as_name, call_args, call_name, expression};
 ghost use Rattle.handlebars_template.specs.TreeView.{call_view, param_view, params_view, pairs_view, subexpression_view};
 ghost use Rattle.handlebars_meaning.specs.Values.{HasValue, HasWrittenValue, HasName, HasInnerValue, HaveValues, PairsHaveValues, HasView, is_literal};
-ghost use Rattle.handlebars_render.specs.View.{setting_in, called_view, pairs_seen, Yields, state_with, KeptIn, within};
+ghost use Rattle.handlebars_render.specs.Judgement.{InState};
+ghost use Rattle.handlebars_render.specs.View.{called_view, pairs_seen, Yields};
 
 use crate::called::{Called, helped_value};
 use crate::context::RenderContext;
@@ -30,9 +31,8 @@ pub fn expands<'a, P: Registered>(
     rc: &RenderContext,
     parameter: &'a Parameter,
 ) -> Result<ScopedJson<'a>, RenderError>
-    ensures value { (kept : KeptIn (within environment.now)) → Yields
-        (HasValue (setting_in P.parts environment.now) (state_with kept rc.now) (param_view parameter.now))
-        found_of result }
+    ensures value { InState P.parts environment.now rc.now (λ p s. Yields
+        (HasValue p s (param_view parameter.now)) found_of result) }
     ensures constant { IfOk result (λ found. is_constant found ≡ is_literal (param_view parameter.now)) }
 {
     match parameter {
@@ -50,9 +50,8 @@ pub fn expand<'a, P: Registered>(
     rc: &RenderContext,
     parameter: &'a Parameter,
 ) -> Result<PathAndJson<'a>, RenderError>
-    ensures { (kept : KeptIn (within environment.now)) → Yields
-        (HasWrittenValue (setting_in P.parts environment.now) (state_with kept rc.now) (param_view parameter.now))
-        path_and_data result }
+    ensures { InState P.parts environment.now rc.now (λ p s. Yields
+        (HasWrittenValue p s (param_view parameter.now)) path_and_data result) }
 {
     match expands(environment, rc, parameter) {
         Ok(value) => Ok(PathAndJson::new(written(environment.alloc, parameter)?, value)),
@@ -67,9 +66,8 @@ pub fn expand_as_name<'a, P: Registered>(
     rc: &RenderContext,
     parameter: &'a Parameter,
 ) -> Result<CowStr<'a>, RenderError>
-    ensures { (kept : KeptIn (within environment.now)) → Yields
-        (HasName (setting_in P.parts environment.now) (state_with kept rc.now) (param_view parameter.now))
-        cow_str_bytes result }
+    ensures { InState P.parts environment.now rc.now (λ p s. Yields
+        (HasName p s (param_view parameter.now)) cow_str_bytes result) }
 {
     match parameter {
         Parameter::Name(text) => Ok(CowStr::Borrowed(text.as_str())),
@@ -89,9 +87,8 @@ pub fn inner_value<'a, P: Registered>(
     rc: &RenderContext,
     inner: &'a Subexpression,
 ) -> Result<ScopedJson<'a>, RenderError>
-    ensures value { (kept : KeptIn (within environment.now)) → Yields
-        (HasInnerValue (setting_in P.parts environment.now) (state_with kept rc.now) (subexpression_view inner.now))
-        found_of result }
+    ensures value { InState P.parts environment.now rc.now (λ p s. Yields
+        (HasInnerValue p s (subexpression_view inner.now)) found_of result) }
     ensures constant { IfOk result (λ found. is_constant found ≡ false) }
 {
     match &*inner.element {
@@ -114,9 +111,8 @@ pub fn call_value<'a, P: Registered>(
     rc: &RenderContext,
     helper: &'a HelperTemplate,
 ) -> Result<ScopedJson<'a>, RenderError>
-    ensures value { (kept : KeptIn (within environment.now)) → Yields
-        (HasInnerValue (setting_in P.parts environment.now) (state_with kept rc.now) (expression (call_view helper.now)))
-        found_of result }
+    ensures value { InState P.parts environment.now rc.now (λ p s. Yields
+        (HasInnerValue p s (expression (call_view helper.now))) found_of result) }
     ensures constant { IfOk result (λ found. is_constant found ≡ false) }
 {
     match called(environment, rc, helper) {
@@ -132,10 +128,8 @@ pub fn called<'a, P: Registered>(
     rc: &RenderContext,
     helper: &'a HelperTemplate,
 ) -> Result<Called<'a>, RenderError>
-    ensures { (kept : KeptIn (within environment.now)) → Yields
-        (HasView (setting_in P.parts environment.now) (state_with kept rc.now) (call_name (call_view helper.now))
-        (call_args (call_view helper.now)))
-        called_view result }
+    ensures { InState P.parts environment.now rc.now (λ p s. Yields
+        (HasView p s (call_name (call_view helper.now)) (call_args (call_view helper.now))) called_view result) }
 {
     let name = expand_as_name(environment, rc, &helper.name)?;
     let params = params_values(environment, rc, &helper.params)?;
@@ -151,9 +145,8 @@ pub fn params_values<'a, P: Registered>(
     rc: &RenderContext,
     params: &'a Vec<Parameter>,
 ) -> Result<Vec<PathAndJson<'a>>, RenderError>
-    ensures { (kept : KeptIn (within environment.now)) → Yields
-        (HaveValues (setting_in P.parts environment.now) (state_with kept rc.now) (params_view params.now.items))
-        (λ vs. map path_and_data vs.items) result }
+    ensures { InState P.parts environment.now rc.now (λ p s. Yields (HaveValues p s (params_view params.now.items))
+        (λ vs. map path_and_data vs.items) result) }
 {
     let mut values = Vec::new(environment.alloc);
     for parameter in params {
@@ -170,9 +163,8 @@ pub fn pairs_values<'a, P: Registered>(
     rc: &RenderContext,
     pairs: &'a BTreeMap<String, Parameter>,
 ) -> Result<BTreeMap<&'a str, PathAndJson<'a>>, RenderError>
-    ensures { (kept : KeptIn (within environment.now)) → Yields
-        (PairsHaveValues (setting_in P.parts environment.now) (state_with kept rc.now) (pairs_view pairs.now.entries))
-        (λ vs. pairs_seen vs.entries) result }
+    ensures { InState P.parts environment.now rc.now (λ p s. Yields (PairsHaveValues p s (pairs_view pairs.now.entries))
+        (λ vs. pairs_seen vs.entries) result) }
 {
     let mut values = BTreeMap::new(environment.alloc);
     for (key, parameter) in pairs.iter() {

@@ -15,6 +15,7 @@ ghost use Rattle.handlebars_meaning.specs.Writing as meaning;
 ghost use Rattle.handlebars_meaning.specs.Writing.{rendered_if_any};
 ghost use Rattle.handlebars_render.specs.Boxed.{answer_of};
 ghost use Rattle.handlebars_render.specs.Shows.{entities_by};
+ghost use Rattle.handlebars_render.specs.Judgement.{AtMoment, Carries};
 ghost use Rattle.handlebars_render.specs.View.{setting_in, state_of, moment, first_moment, Within, CarriesOn, IsKept, KeptIn, within, held_in, IsSame};
 ghost use Rattle.handlebars_render.specs.Writes.{Puts, TellsLine, WritesAsIs};
 
@@ -64,40 +65,33 @@ pub(super) fn write_text<O: Output, P>(
     ensures same { IsSame sink.old sink.new }
     ensures kept { IsKept rc.old rc.new }
 {
-    match environment.indent {
-        // As most are.
-        None => match write_as_is(environment.alloc, text, sink) {
-            Ok(()) => {
-                rc.pass_text(text);
-                Ok(())
-            }
-            Err(e) => Err(e),
-        },
-        Some(indent) => write_text_in_line(environment.alloc, text, indent, rc, sink),
-    }
-}
-
-// Under the indentation in force.
-#[cold]
-#[inline(never)]
-fn write_text_in_line<O: Output>(
-    alloc: Global,
-    text: &str,
-    indent: &str,
-    rc: &mut RenderContext,
-    sink: &mut Sink<'_, O>,
-) -> Result<(), BoxedError>
-    ensures puts { (a : Within) (kept : KeptIn a) → a.indent ≡ Some indent.now → Puts text.now O.may_give
-        (moment kept rc.old (held_in O.held sink.old)) (answer_of result) (moment kept rc.new (held_in O.held sink.new)) }
-    ensures same { IsSame sink.old sink.new }
-    ensures kept { IsKept rc.old rc.new }
-{
-    match write_text_under(alloc, false, text, indent, rc, sink) {
+    match write_line(environment, text, rc, sink) {
         Ok(line) => {
             rc.set_line(line);
             Ok(())
         }
         Err(e) => Err(e),
+    }
+}
+
+// Writes a text, and answers the line behind it. Most have no indentation.
+#[inline(always)]
+fn write_line<O: Output, P>(
+    environment: &Environment<P>,
+    text: &str,
+    rc: &RenderContext,
+    sink: &mut Sink<'_, O>,
+) -> Result<LineState, BoxedError>
+    ensures puts { AtMoment O.held environment.now rc.now sink
+        (λ before held. TellsLine (Puts text.now O.may_give) before (answer_of result) held) }
+    ensures same { IsSame sink.old sink.new }
+{
+    match environment.indent {
+        None => match write_as_is(environment.alloc, text, sink) {
+            Ok(()) => Ok(rc.line().behind(text)),
+            Err(e) => Err(e),
+        },
+        Some(indent) => write_text_under(environment.alloc, false, text, indent, rc, sink),
     }
 }
 
@@ -168,9 +162,9 @@ fn write_by<O: Output, P>(
     rc: &RenderContext,
     sink: &mut Sink<'_, O>,
 ) -> Result<LineState, BoxedError>
-    ensures puts { (kept : KeptIn (within environment.now))
-        → TellsLine (Puts (escaped_if entities (rendered_if_any (option_map (λ v. view v.now) value.entry))) O.may_give)
-        (moment kept rc.now (held_in O.held sink.old)) (answer_of result) (held_in O.held sink.new) }
+    ensures puts { AtMoment O.held environment.now rc.now sink
+        (λ before held. TellsLine (Puts (escaped_if entities (rendered_if_any (option_map (λ v. view v.now) value.entry)))
+        O.may_give) before (answer_of result) held) }
     ensures same { IsSame sink.old sink.new }
 {
     match value {
@@ -188,8 +182,8 @@ fn write_value<O: Output, P>(
     rc: &RenderContext,
     sink: &mut Sink<'_, O>,
 ) -> Result<LineState, BoxedError>
-    ensures puts { (kept : KeptIn (within environment.now)) → TellsLine (Puts (shown entities (view value.now)) O.may_give)
-        (moment kept rc.now (held_in O.held sink.old)) (answer_of result) (held_in O.held sink.new) }
+    ensures puts { AtMoment O.held environment.now rc.now sink
+        (λ before held. TellsLine (Puts (shown entities (view value.now)) O.may_give) before (answer_of result) held) }
     ensures same { IsSame sink.old sink.new }
 {
     match environment.indent {
@@ -246,26 +240,6 @@ fn write_escaped<O: Output, P: Registered>(
     }
 }
 
-// Writes what the escape function answered, and answers the line behind it.
-fn write_line<O: Output, P>(
-    environment: &Environment<P>,
-    answer: &str,
-    rc: &RenderContext,
-    sink: &mut Sink<'_, O>,
-) -> Result<LineState, BoxedError>
-    ensures puts { (kept : KeptIn (within environment.now)) → TellsLine (Puts answer.now O.may_give)
-        (moment kept rc.now (held_in O.held sink.old)) (answer_of result) (held_in O.held sink.new) }
-    ensures same { IsSame sink.old sink.new }
-{
-    match environment.indent {
-        None => match write_as_is(environment.alloc, answer, sink) {
-            Ok(()) => Ok(rc.line().behind(answer)),
-            Err(e) => Err(e),
-        },
-        Some(indent) => write_text_under(environment.alloc, false, answer, indent, rc, sink),
-    }
-}
-
 // What the escape function of one's own answers for the whole text of a value. It is asked once, also where that
 // is empty.
 fn escaped<P: Registered>(
@@ -296,10 +270,8 @@ pub(super) fn write_chosen<O: Output, P: Registered>(
     rc: &mut RenderContext,
     sink: &mut Sink<'_, O>,
 ) -> Result<(), BoxedError>
-    ensures shows { (site : Site) (kept : KeptIn (within environment.now)) → CarriesOn (setting_in P.parts environment.now)
-        (meaning.write_value site (scoped.value (unwrap_or (option_map (λ v. view v.now) value.entry) null)))
-        O.may_give (moment kept rc.old (held_in O.held sink.old)) (answer_of result)
-        (moment kept rc.new (held_in O.held sink.new)) }
+    ensures shows { (site : Site) → Carries P.parts O.held O.may_give environment.now rc sink result
+        (meaning.write_value site (scoped.value (unwrap_or (option_map (λ v. view v.now) value.entry) null))) }
     ensures same { IsSame sink.old sink.new }
     ensures kept { IsKept rc.old rc.new }
 {
@@ -319,10 +291,8 @@ pub(super) fn write_count<O: Output, P: Registered>(
     rc: &mut RenderContext,
     sink: &mut Sink<'_, O>,
 ) -> Result<(), BoxedError>
-    ensures shows { (site : Site) (kept : KeptIn (within environment.now)) → CarriesOn (setting_in P.parts environment.now)
-        (meaning.write_value site (scoped.value (number (unsigned count))))
-        O.may_give (moment kept rc.old (held_in O.held sink.old)) (answer_of result)
-        (moment kept rc.new (held_in O.held sink.new)) }
+    ensures shows { (site : Site) → Carries P.parts O.held O.may_give environment.now rc sink result
+        (meaning.write_value site (scoped.value (number (unsigned count)))) }
     ensures same { IsSame sink.old sink.new }
     ensures kept { IsKept rc.old rc.new }
 {

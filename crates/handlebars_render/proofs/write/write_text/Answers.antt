@@ -1,16 +1,9 @@
-use Rattle.std.proofs.Common.{ap, option_map}
-use Rattle.handlebars_render.specs.View.{keeping, state_with}
-use Rattle.handlebars_render.proofs.Puts.{plain-at, writes_as}
+use Rattle.std.proofs.Common.{ap}
+use Rattle.handlebars_render.specs.View.{keeping}
 use Rattle.handlebars_render.proofs.write.write_text.Goals as goal
 
 pub returns-in-Ok-clause-puts : goal.returns-in-Ok-clause-puts
-returns-in-Ok-clause-puts g c = λ kept. let s = state_with kept c.args.rc.now in
-    writes_as _ (plain-at s c.args.text.now (ap (option_map (λ t. t.now)) c.in-None.is))
-    (ap (keeping kept) c.pass_text.ensures.state) (c.in-Ok.ensures.puts s)
+returns-in-Ok-clause-puts g c = λ kept. rw (ap (keeping kept) c.set_line.ensures.state) (c.in-Ok.ensures.puts kept)
 
 pub returns-in-Err-clause-puts : goal.returns-in-Err-clause-puts
-returns-in-Err-clause-puts g c = λ kept. let s = state_with kept c.args.rc.now in
-    writes_as _ {next = state_with kept c.args.rc.now} (plain-at s c.args.text.now (ap (option_map (λ t. t.now)) c.in-None.is)) tt (c.in-Err.ensures.puts s)
-
-pub returns-in-Some-clause-puts : goal.returns-in-Some-clause-puts
-returns-in-Some-clause-puts g c = λ kept. c.write_text_in_line.ensures.puts _ kept (ap (option_map (λ t. t.now)) c.in-Some.is)
+returns-in-Err-clause-puts g c = λ kept. c.in-Err.ensures.puts kept
