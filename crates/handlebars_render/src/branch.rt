@@ -14,7 +14,6 @@ ghost use Rattle.handlebars_render.specs.Next.{Judges, path_alone, wanting};
 ghost use Rattle.handlebars_render.specs.Targets.{target_in};
 ghost use Rattle.handlebars_render.specs.Judgement.{InState};
 
-
 use crate::boxed::BoxedError;
 use crate::context::RenderContext;
 use crate::environment::Environment;

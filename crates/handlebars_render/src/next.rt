@@ -161,8 +161,7 @@ fn settle_viewed<'a, P: Registered>(
         (λ p s. HasName p s (call_name (call_view helper.now)) (gives (cow_str_bytes name.entry))
         → option_map (target_in block (cow_str_bytes name.entry)) target ≡ helper_for
         (P.parts environment.now.parts.now) s block (cow_str_bytes name.entry)
-        → Settles p site block (call_view helper.now) (render_call site block (call_view helper.now)) s (answer_of result))
-        }
+        → Settles p site block (call_view helper.now) (render_call site block (call_view helper.now)) s (answer_of result)) }
 {
     let params = match params_values(environment, rc, &helper.params) {
         Ok(params) => params,

@@ -81,10 +81,18 @@ impl<'o, O: Output> Sink<'o, O> {
     {
         match self {
             Sink::Out(out) => {
-                told(alloc, false, write_in_line(line, text, indent, entities, &mut **out))
+                told(
+                    alloc,
+                    false,
+                    write_in_line(line, text, indent, entities, &mut **out),
+                )
             }
             Sink::Ahead(ahead) => {
-                told(alloc, false, write_in_line(line, text, indent, entities, &mut **ahead))
+                told(
+                    alloc,
+                    false,
+                    write_in_line(line, text, indent, entities, &mut **ahead),
+                )
             }
         }
     }

@@ -65,33 +65,22 @@ pub(super) fn write_text<O: Output, P>(
     ensures same { IsSame sink.old sink.new }
     ensures kept { IsKept rc.old rc.new }
 {
-    match write_line(environment, text, rc, sink) {
-        Ok(line) => {
-            rc.set_line(line);
-            Ok(())
-        }
-        Err(e) => Err(e),
-    }
-}
-
-// Writes a text, and answers the line behind it. Most have no indentation.
-#[inline(always)]
-fn write_line<O: Output, P>(
-    environment: &Environment<P>,
-    text: &str,
-    rc: &RenderContext,
-    sink: &mut Sink<'_, O>,
-) -> Result<LineState, BoxedError>
-    ensures puts { AtMoment O.held environment.now rc.now sink
-        (λ before held. TellsLine (Puts text.now O.may_give) before (answer_of result) held) }
-    ensures same { IsSame sink.old sink.new }
-{
     match environment.indent {
+        // As most are.
         None => match write_as_is(environment.alloc, text, sink) {
-            Ok(()) => Ok(rc.line().behind(text)),
+            Ok(()) => {
+                rc.pass_text(text);
+                Ok(())
+            }
             Err(e) => Err(e),
         },
-        Some(indent) => write_text_under(environment.alloc, false, text, indent, rc, sink),
+        Some(indent) => match write_text_under(environment.alloc, false, text, indent, rc, sink) {
+            Ok(line) => {
+                rc.set_line(line);
+                Ok(())
+            }
+            Err(e) => Err(e),
+        },
     }
 }
 
@@ -237,6 +226,26 @@ fn write_escaped<O: Output, P: Registered>(
     match escaped(environment, value) {
         Ok(text) => write_line(environment, text.as_str(), rc, sink),
         Err(e) => Err(BoxedError::new(environment.alloc, e)),
+    }
+}
+
+// Writes what the escape function answered, and answers the line behind it.
+fn write_line<O: Output, P>(
+    environment: &Environment<P>,
+    answer: &str,
+    rc: &RenderContext,
+    sink: &mut Sink<'_, O>,
+) -> Result<LineState, BoxedError>
+    ensures puts { AtMoment O.held environment.now rc.now sink
+        (λ before held. TellsLine (Puts answer.now O.may_give) before (answer_of result) held) }
+    ensures same { IsSame sink.old sink.new }
+{
+    match environment.indent {
+        None => match write_as_is(environment.alloc, answer, sink) {
+            Ok(()) => Ok(rc.line().behind(answer)),
+            Err(e) => Err(e),
+        },
+        Some(indent) => write_text_under(environment.alloc, false, answer, indent, rc, sink),
     }
 }
 

@@ -7,7 +7,7 @@ use Rattle.handlebars_render.proofs.write.write_line.Goals as goal
 pub returns-in-Ok-clause-puts : goal.returns-in-Ok-clause-puts
 returns-in-Ok-clause-puts g c = λ kept.
     let s = state_with kept c.args.rc.now in
-    let t = c.args.text.now in
+    let t = c.args.answer.now in
     writes_as _ (plain-at s t (ap (option_map (λ x. x.now)) c.in-None.is))
     (ap (λ (z : LineState). with_line z s) (c.behind.ensures ∙ ap (λ (z : LineState). line_behind t z) c.line.ensures))
     (c.in-Ok.ensures.puts s)
@@ -15,7 +15,7 @@ returns-in-Ok-clause-puts g c = λ kept.
 pub returns-in-Err-clause-puts : goal.returns-in-Err-clause-puts
 returns-in-Err-clause-puts g c = λ kept.
     let s = state_with kept c.args.rc.now in
-    writes_as _ (plain-at s c.args.text.now (ap (option_map (λ x. x.now)) c.in-None.is)) tt (c.in-Err.ensures.puts s)
+    writes_as _ (plain-at s c.args.answer.now (ap (option_map (λ x. x.now)) c.in-None.is)) tt (c.in-Err.ensures.puts s)
 
 pub returns-in-Some-clause-puts : goal.returns-in-Some-clause-puts
 returns-in-Some-clause-puts g c = λ kept. c.write_text_under.ensures.puts _ kept (ap (option_map (λ x. x.now)) c.in-Some.is)
