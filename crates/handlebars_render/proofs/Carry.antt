@@ -91,6 +91,10 @@ handed-refusal e d h other =
     ap (λ (r : Reason). record { reason = r; spot = spot_of d }) (handed-reason h other)
     ∙ ap (λ (z : Spot). record { reason = reason_in e; spot = z }) (h.spot other)
 
+-- an error is handed on as it is
+pub handed-itself : (e : RenderError) → IsHandedOn e e
+handed-itself e = record { spot = λ _. refl; cause = λ _. refl; memory = λ memory. memory }
+
 pub handed-fault : (e d : RenderError) (cause : Error) (f : Fault) → IsHandedOn e d → TellsFault cause f e → TellsFault cause f d
 handed-fault e d cause f h tells = record {
   why = λ other. cause-as cause f.at_word e d (handed-reason h other) (h.cause other)

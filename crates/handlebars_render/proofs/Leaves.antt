@@ -267,6 +267,15 @@ module _ (p : Setting) (site : Site) (block : Bool) (c : Call) where
   settles-call m k v (Err e) is leaves = λ other.
       refuses-leaves p m (render_helped site block c k v) leaves (refuses-helped k v (is other c))
 
+  -- an error that `?` hands on
+  pub settles-handed : (m : Prog (Unit {0})) {s : State} (r : Result Next BoxedError) (e : BoxedError)
+      → IsErrAnd r (λ d. d ≡ e)
+      → (reason_in (error_of e) ≢ out_of_memory → RefusesValue p m s (refusal_of (error_of e)))
+      → Settles p site block c m s (answer_of r)
+  settles-handed m (Ok x) e is why = absurd is
+  settles-handed m {s = s} (Err d) e is why = subst (λ (z : BoxedError). reason_in (error_of z) ≢ out_of_memory
+      → RefusesValue p m s (refusal_of (error_of z))) (sym is) why
+
   -- what leaves another program settles as that one does
   pub settles-leaves : (m n : Prog (Unit {0})) (r : Result Next RenderError) {s : State} → Leaves p m s n
       → Settles p site block c n s r → Settles p site block c m s r

@@ -68,6 +68,12 @@ module _ (p : Setting) where
   does-no_memory m s next (Ok u) is = absurd is
   does-no_memory m s next (Err e) is = λ other. absurd (other is)
 
+  -- an error that `?` hands on
+  pub does-handed : (m : Prog (Unit {0})) (s next : State) (r : Result (Unit {0}) BoxedError) (e : BoxedError)
+      → IsErrAnd r (λ d. d ≡ e) → Does p m s (Err (error_of e)) s → Does p m s (answer_of r) next
+  does-handed m s next (Ok u) e is does = absurd is
+  does-handed m s next (Err d) e is does = subst (λ (z : BoxedError). Does p m s (Err (error_of z)) s) (sym is) does
+
   -- ---- deeds
 
   pub does-change : (f : State → State) {s next : State} {u : Unit {0}} → next ≡ f s → Does p (change f) s (Ok u) next

@@ -20,7 +20,6 @@ use crate::called::{Called, helper_not_found};
 use crate::context::RenderContext;
 use crate::environment::Environment;
 use crate::registered::{Registered, Target, hook};
-use handlebars_base::error::RenderError;
 use handlebars_base::json::value::{Json, PathAndJson, ScopedJson};
 use handlebars_helpers::own::{Callee, LocalHelper};
 use handlebars_helpers::view::Helper;
@@ -77,8 +76,8 @@ pub fn bind<'a, P: Registered>(
     target: Target,
     block: bool,
     call: Called<'a>,
-) -> Result<BoundCall<'a>, RenderError>
-    ensures { (h : HelperView) → Answers (bound_of h) result (call_of (P.parts environment.now.parts.now) (state_of rc.now).local
+) -> Result<BoundCall<'a>, BoxedError>
+    ensures { (h : HelperView) → Answers (bound_of h) (answer_of result) (call_of (P.parts environment.now.parts.now) (state_of rc.now).local
         (target_in block (called_view call.entry).name target) (record h { call = called_view call.entry })) }
 {
     match target {
@@ -106,8 +105,8 @@ fn bind_local<'a, P: Registered>(
     environment: &Environment<P>,
     rc: &RenderContext,
     call: Called<'a>,
-) -> Result<BoundCall<'a>, RenderError>
-    ensures { (h : HelperView) → Answers (bound_of h) result (local_call (P.parts environment.now.parts.now)
+) -> Result<BoundCall<'a>, BoxedError>
+    ensures { (h : HelperView) → Answers (bound_of h) (answer_of result) (local_call (P.parts environment.now.parts.now)
         ((state_of rc.now).local (called_view call.entry).name) (called_view call.entry).name
         (record h { call = called_view call.entry })) }
 {
@@ -122,8 +121,8 @@ fn bind_to<'a, P: Registered>(
     environment: &Environment<P>,
     helper: &LocalHelper,
     call: Called<'a>,
-) -> Result<BoundCall<'a>, RenderError>
-    ensures { (h : HelperView) → Answers (bound_of h) result (bound_call (local_of helper.now)
+) -> Result<BoundCall<'a>, BoxedError>
+    ensures { (h : HelperView) → Answers (bound_of h) (answer_of result) (bound_call (local_of helper.now)
         (record h { call = called_view call.entry }) ((P.parts environment.now.parts.now).helper (local_of helper.now).registered)) }
 {
     match environment.parts.helper(helper.registered.as_str()) {
@@ -188,6 +187,6 @@ pub fn bind_boxed<'a, P: Registered>(
             Ok(bound) => Ok(bound),
             Err(_) => Err(BoxedError::OutOfMemory),
         },
-        Err(e) => Err(BoxedError::new(environment.alloc, e)),
+        Err(e) => Err(e),
     }
 }

@@ -6,7 +6,7 @@ ghost use Rattle.handlebars_base.specs.RenderRefusals.{reason_in, spot_of, cause
 ghost use Rattle.handlebars_render.specs.Boxed.{error_of, IsHandedOn};
 
 use handlebars_base::error::{RenderError, RenderErrorReason};
-use std::alloc::{AllocError, Global};
+use std::alloc::{AllocError, AllocFailed, Global};
 
 /// An error of which a call's answer holds a word or two, so that answers without one cost little. Where the
 /// box found no memory, that is the error.
@@ -112,6 +112,15 @@ impl From<AllocError> for BoxedError {
     ghost from_gives = { λ _ e. reason_in (error_of e) ≡ out_of_memory };
 
     fn from(_e: AllocError) -> BoxedError {
+        BoxedError::OutOfMemory
+    }
+}
+
+// A push, or another request for memory, gives back what found no place.
+impl<T: Drop> From<AllocFailed<T>> for BoxedError {
+    ghost from_gives = { λ _ e. reason_in (error_of e) ≡ out_of_memory };
+
+    fn from(_e: AllocFailed<T>) -> BoxedError {
         BoxedError::OutOfMemory
     }
 }

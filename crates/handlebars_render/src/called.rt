@@ -18,18 +18,20 @@ ghost use Rattle.handlebars_meaning.specs.Inclusion.{joined_indent};
 ghost use Rattle.handlebars_meaning.specs.Means.{shown_tag};
 ghost use Rattle.handlebars_meaning.specs.State.{State, helper_for};
 ghost use Rattle.handlebars_meaning.specs.Values.{HasHelpedValue, HasRegisteredValue, HasView, choice_value, view_without_bodies};
+ghost use Rattle.handlebars_render.specs.Boxed.{answer_of, error_of};
 ghost use Rattle.handlebars_render.specs.Bound.{callee_in};
 ghost use Rattle.handlebars_render.specs.Targets.{target_in};
 ghost use Rattle.handlebars_render.specs.Judgement.{InState};
 ghost use Rattle.handlebars_render.specs.View.{setting_in, called_view, name_alone, Yields};
 
 use crate::bound::{BoundCall, asked_name, bind};
+use crate::boxed::BoxedError;
 use crate::context::RenderContext;
 use crate::environment::Environment;
 use crate::own::own_value;
 use crate::registered::{Registered, Target, helper_for};
 use crate::value::{expand_as_name, pairs_values, params_values};
-use handlebars_base::error::{RenderError, RenderErrorReason};
+use handlebars_base::error::RenderErrorReason;
 use handlebars_base::json::value::{Json, PathAndJson, ScopedJson};
 use handlebars_helpers::built_in::BuiltIn;
 use handlebars_helpers::choice::{Choice, choose};
@@ -186,10 +188,9 @@ pub fn view_of_tag<'a, P: Registered>(
     environment: &Environment<'_, 'a, P>,
     rc: &RenderContext,
     tag: &'a DecoratorTemplate,
-) -> Result<Called<'a>, RenderError>
+) -> Result<Called<'a>, BoxedError>
     ensures { InState P.parts environment.now rc.now (λ p s. Yields
-        (HasView p s (decorator_name (decorator_view tag.now)) (decorator_args (decorator_view tag.now))) called_view
-        result) }
+        (HasView p s (decorator_name (decorator_view tag.now)) (decorator_args (decorator_view tag.now))) called_view (answer_of result)) }
 {
     let name = expand_as_name(environment, rc, &tag.name)?;
     let params = params_values(environment, rc, &tag.params)?;
@@ -204,10 +205,10 @@ pub fn helped_value<'a, 'c, P: Registered>(
     rc: &RenderContext,
     helper: &'c HelperTemplate,
     call: Called<'c>,
-) -> Result<ScopedJson<'a>, RenderError>
+) -> Result<ScopedJson<'a>, BoxedError>
     ensures value { InState P.parts environment.now rc.now (λ p s. Yields
         (HasHelpedValue p s (helper_for (P.parts environment.now.parts.now) s false (called_view call.entry).name)
-        (view_without_bodies (call_binding (call_view helper.now)) (called_view call.entry))) found_of result) }
+        (view_without_bodies (call_binding (call_view helper.now)) (called_view call.entry))) found_of (answer_of result)) }
     ensures constant { IfOk result (λ found. is_constant found ≡ false) }
 {
     match helper_for(environment.parts, rc, false, call.name.as_str()) {
@@ -223,10 +224,10 @@ fn target_value<'a, 'c, P: Registered>(
     target: Target,
     helper: &'c HelperTemplate,
     call: Called<'c>,
-) -> Result<ScopedJson<'a>, RenderError>
+) -> Result<ScopedJson<'a>, BoxedError>
     ensures value { InState P.parts environment.now rc.now (λ p s. Yields
         (HasHelpedValue p s (Some (target_in false (called_view call.entry).name target))
-        (view_without_bodies (call_binding (call_view helper.now)) (called_view call.entry))) found_of result) }
+        (view_without_bodies (call_binding (call_view helper.now)) (called_view call.entry))) found_of (answer_of result)) }
     ensures constant { IfOk result (λ found. is_constant found ≡ false) }
 {
     match bind(environment, rc, target, false, call) {
@@ -241,10 +242,10 @@ fn bound_value<'a, 'c, P: Registered>(
     rc: &RenderContext,
     helper: &'c HelperTemplate,
     bound: BoundCall<'c>,
-) -> Result<ScopedJson<'a>, RenderError>
+) -> Result<ScopedJson<'a>, BoxedError>
     ensures value { InState P.parts environment.now rc.now (λ p s. Yields
         (HasRegisteredValue p s (callee_in bound.entry) (view_without_bodies (call_binding (call_view helper.now))
-        (called_view bound.entry.call))) found_of result) }
+        (called_view bound.entry.call))) found_of (answer_of result)) }
     ensures constant { IfOk result (λ found. is_constant found ≡ false) }
 {
     let (callee, asked_by, call) = bound.into_parts();
@@ -260,14 +261,14 @@ fn built_value<'a, P: Registered>(
     environment: &Environment<P>,
     kind: BuiltIn,
     view: &Helper,
-) -> Result<ScopedJson<'a>, RenderError>
+) -> Result<ScopedJson<'a>, BoxedError>
     ensures value { (s : State) → Yields
-        (HasRegisteredValue (setting_in P.parts environment.now) s (built (kind_of kind)) (helper_view view.now)) found_of result }
+        (HasRegisteredValue (setting_in P.parts environment.now) s (built (kind_of kind)) (helper_view view.now)) found_of (answer_of result) }
     ensures constant { IfOk result (λ found. is_constant found ≡ false) }
 {
     match choose(environment.alloc, environment.parts.strict(), kind, view) {
         Ok(choice) => chosen_value(environment, &choice),
-        Err(e) => Err(e),
+        Err(e) => Err(BoxedError::new(environment.alloc, e)),
     }
 }
 
@@ -275,9 +276,9 @@ fn built_value<'a, P: Registered>(
 fn chosen_value<'a, P: Registered>(
     environment: &Environment<P>,
     choice: &Choice,
-) -> Result<ScopedJson<'a>, RenderError>
+) -> Result<ScopedJson<'a>, BoxedError>
     ensures value { IfOk result (λ found. found_of found ≡ choice_value (choice_of choice.now)) }
-    ensures memory { IfErr result (λ e. reason_in e ≡ out_of_memory) }
+    ensures memory { IfErr result (λ e. reason_in (error_of e) ≡ out_of_memory) }
     ensures constant { IfOk result (λ found. is_constant found ≡ false) }
 {
     match choice {
@@ -307,11 +308,13 @@ pub fn empty_text<'a>(alloc: Global) -> ScopedJson<'a>
 }
 
 /// The refusal of a name that no helper has.
-pub fn helper_not_found(alloc: Global, name: &str) -> RenderError
-    ensures { IsRefusal (plain_refusal (helper_not_found name.now)) result }
+#[cold]
+#[inline(never)]
+pub fn helper_not_found(alloc: Global, name: &str) -> BoxedError
+    ensures { IsRefusal (plain_refusal (helper_not_found name.now)) (error_of result) }
 {
     match String::from_str(alloc, name) {
-        Ok(name) => RenderErrorReason::HelperNotFound(name).into(),
-        Err(AllocError) => RenderErrorReason::OutOfMemory.into(),
+        Ok(name) => BoxedError::new(alloc, RenderErrorReason::HelperNotFound(name).into()),
+        Err(AllocError) => BoxedError::OutOfMemory,
     }
 }

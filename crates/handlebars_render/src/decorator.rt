@@ -35,13 +35,9 @@ pub fn render_decorator<'a, P: Registered>(
         (answer_of result) next) }
     ensures kept { IsKept rc.old rc.new }
 {
-    match view_of_tag(environment, rc, tag) {
-        Ok(call) => {
-            let view = call.of_tag(environment.alloc, environment.indent, tag)?;
-            decorate(&view, environment, rc)
-        }
-        Err(e) => Err(BoxedError::new(environment.alloc, e)),
-    }
+    let call = view_of_tag(environment, rc, tag)?;
+    let view = call.of_tag(environment.alloc, environment.indent, tag)?;
+    decorate(&view, environment, rc)
 }
 
 // Asks the decorator of a tag's name for its deeds, and does them.

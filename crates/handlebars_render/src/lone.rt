@@ -81,7 +81,7 @@ fn settle_inner<'a, O: Output, P: Registered>(
 {
     match inner_value(environment, rc, inner) {
         Ok(value) => settle_value(helper, environment, value, rc, sink),
-        Err(e) => Err(BoxedError::new(environment.alloc, e)),
+        Err(e) => Err(e),
     }
 }
 

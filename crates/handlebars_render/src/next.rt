@@ -30,7 +30,6 @@ use crate::value::{expand_as_name, pairs_values, params_values};
 use handlebars_base::output::Output;
 use handlebars_scope::line::LineState;
 use handlebars_template::template::HelperTemplate;
-use std::alloc::Global;
 use std::borrow::CowStr;
 
 /// What an expression or a block comes to, once its name and its values are known.
@@ -103,13 +102,9 @@ fn settle_call<'a, P: Registered>(
     if let Some(name) = helper.name.as_name() {
         return settle_named(helper, environment, block, name, rc);
     }
-    match expand_as_name(environment, rc, &helper.name) {
-        Ok(name) => {
-            let target = helper_for(environment.parts, rc, block, name.as_str());
-            settle_viewed(helper, environment, block, name, target, rc)
-        }
-        Err(e) => Err(BoxedError::new(environment.alloc, e)),
-    }
+    let name = expand_as_name(environment, rc, &helper.name)?;
+    let target = helper_for(environment.parts, rc, block, name.as_str());
+    settle_viewed(helper, environment, block, name, target, rc)
 }
 
 // A call whose name is written, and not made.
@@ -163,18 +158,12 @@ fn settle_viewed<'a, P: Registered>(
         (P.parts environment.now.parts.now) s block (cow_str_bytes name.entry)
         → Settles p site block (call_view helper.now) (render_call site block (call_view helper.now)) s (answer_of result)) }
 {
-    let params = match params_values(environment, rc, &helper.params) {
-        Ok(params) => params,
-        Err(e) => return Err(BoxedError::new(environment.alloc, e)),
-    };
-    let hash = match pairs_values(environment, rc, &helper.hash) {
-        Ok(hash) => hash,
-        Err(e) => return Err(BoxedError::new(environment.alloc, e)),
-    };
+    let params = params_values(environment, rc, &helper.params)?;
+    let hash = pairs_values(environment, rc, &helper.hash)?;
     let call = Called { name, params, hash };
     match target {
         Some(target) => to_call(environment, rc, target, block, call),
-        None => Err(unknown_helper(environment.alloc, call.name.as_str())),
+        None => Err(helper_not_found(environment.alloc, call.name.as_str())),
     }
 }
 
@@ -193,13 +182,4 @@ pub fn to_call<'a, P: Registered>(
         Ok(bound) => Ok(Next::Call(bound)),
         Err(e) => Err(e),
     }
-}
-
-// The refusal of a name that no helper has.
-#[cold]
-#[inline(never)]
-fn unknown_helper(alloc: Global, name: &str) -> BoxedError
-    ensures { IsRefusal (plain_refusal (helper_not_found name.now)) (error_of result) }
-{
-    BoxedError::new(alloc, helper_not_found(alloc, name))
 }

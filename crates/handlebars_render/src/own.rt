@@ -10,9 +10,11 @@ ghost use Rattle.handlebars_helpers.specs.View.{helper_view};
 ghost use Rattle.handlebars_meaning.specs.Questions.{HasRegisteredChoice, offer_choice};
 ghost use Rattle.handlebars_meaning.specs.Values.{HasRegisteredValue, step_text, steps_text};
 ghost use Rattle.handlebars_render.specs.OwnChoice.{own_choice_of};
+ghost use Rattle.handlebars_render.specs.Boxed.{answer_of};
 ghost use Rattle.handlebars_render.specs.Judgement.{InState};
 ghost use Rattle.handlebars_render.specs.View.{Yields};
 
+use crate::boxed::BoxedError;
 use crate::called::empty_text;
 use crate::context::RenderContext;
 use crate::environment::Environment;
@@ -80,9 +82,9 @@ pub fn own_value<'a, P: Registered>(
     rc: &RenderContext,
     name: &str,
     view: &Helper,
-) -> Result<ScopedJson<'a>, RenderError>
+) -> Result<ScopedJson<'a>, BoxedError>
     ensures value { InState P.parts environment.now rc.now (λ p s. Yields
-        (HasRegisteredValue p s (own name.now) (helper_view view.now)) found_of result) }
+        (HasRegisteredValue p s (own name.now) (helper_view view.now)) found_of (answer_of result)) }
     ensures constant { IfOk result (λ found. is_constant found ≡ false) }
 {
     match environment
@@ -98,10 +100,10 @@ pub fn own_value<'a, P: Registered>(
             {
                 Ok(None) => Ok(empty_text(environment.alloc)),
                 Ok(Some(steps)) => Ok(text_value(text_written(environment.alloc, &steps)?)),
-                Err(e) => Err(e),
+                Err(e) => Err(BoxedError::new(environment.alloc, e)),
             }
         }
-        Err(e) => Err(e),
+        Err(e) => Err(BoxedError::new(environment.alloc, e)),
     }
 }
 

@@ -51,7 +51,7 @@ pub fn render_partial<'a, O: Output, P: Registered>(
 {
     let call = match view_of_tag(environment, rc, tag) {
         Ok(call) => call,
-        Err(e) => return Err(BoxedError::new(environment.alloc, e)),
+        Err(e) => return Err(e),
     };
     let view = call.of_tag(environment.alloc, environment.indent, tag)?;
     let before = rc.get_indent_before_write();

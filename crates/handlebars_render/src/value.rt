@@ -10,14 +10,15 @@ ghost use Rattle.handlebars_base.specs.Scoped.{found_of, is_constant};
 ghost use Rattle.handlebars_template.specs.Tree.{as_name, call_args, call_name, expression};
 ghost use Rattle.handlebars_template.specs.TreeView.{call_view, param_view, params_view, pairs_view, subexpression_view};
 ghost use Rattle.handlebars_meaning.specs.Values.{HasValue, HasWrittenValue, HasName, HasInnerValue, HaveValues, PairsHaveValues, HasView, is_literal};
+ghost use Rattle.handlebars_render.specs.Boxed.{answer_of};
 ghost use Rattle.handlebars_render.specs.Judgement.{InState};
 ghost use Rattle.handlebars_render.specs.View.{called_view, pairs_seen, Yields};
 
+use crate::boxed::BoxedError;
 use crate::called::{Called, helped_value};
 use crate::context::RenderContext;
 use crate::environment::Environment;
 use crate::registered::Registered;
-use handlebars_base::error::RenderError;
 use handlebars_base::json::value::{JsonRender, PathAndJson, ScopedJson};
 use handlebars_template::template::{HelperTemplate, Parameter, Subexpression, TemplateElement};
 use std::alloc::{AllocError, Global};
@@ -30,14 +31,19 @@ pub fn expands<'a, P: Registered>(
     environment: &Environment<'_, 'a, P>,
     rc: &RenderContext,
     parameter: &'a Parameter,
-) -> Result<ScopedJson<'a>, RenderError>
+) -> Result<ScopedJson<'a>, BoxedError>
     ensures value { InState P.parts environment.now rc.now (λ p s. Yields
-        (HasValue p s (param_view parameter.now)) found_of result) }
+        (HasValue p s (param_view parameter.now)) found_of (answer_of result)) }
     ensures constant { IfOk result (λ found. is_constant found ≡ is_literal (param_view parameter.now)) }
 {
     match parameter {
         Parameter::Name(_) => Ok(ScopedJson::Missing),
-        Parameter::Path(path) => rc.find(environment.given.data(), path, environment.bases),
+        Parameter::Path(path) => {
+            match rc.find(environment.given.data(), path, environment.bases) {
+                Ok(value) => Ok(value),
+                Err(e) => Err(BoxedError::new(environment.alloc, e)),
+            }
+        }
         Parameter::Literal(value) => Ok(ScopedJson::Constant(value)),
         Parameter::Subexpression(inner) => inner_value(environment, rc, inner),
     }
@@ -49,9 +55,9 @@ pub fn expand<'a, P: Registered>(
     environment: &Environment<'_, 'a, P>,
     rc: &RenderContext,
     parameter: &'a Parameter,
-) -> Result<PathAndJson<'a>, RenderError>
+) -> Result<PathAndJson<'a>, BoxedError>
     ensures { InState P.parts environment.now rc.now (λ p s. Yields
-        (HasWrittenValue p s (param_view parameter.now)) path_and_data result) }
+        (HasWrittenValue p s (param_view parameter.now)) path_and_data (answer_of result)) }
 {
     match expands(environment, rc, parameter) {
         Ok(value) => Ok(PathAndJson::new(written(environment.alloc, parameter)?, value)),
@@ -65,9 +71,9 @@ pub fn expand_as_name<'a, P: Registered>(
     environment: &Environment<'_, 'a, P>,
     rc: &RenderContext,
     parameter: &'a Parameter,
-) -> Result<CowStr<'a>, RenderError>
+) -> Result<CowStr<'a>, BoxedError>
     ensures { InState P.parts environment.now rc.now (λ p s. Yields
-        (HasName p s (param_view parameter.now)) cow_str_bytes result) }
+        (HasName p s (param_view parameter.now)) cow_str_bytes (answer_of result)) }
 {
     match parameter {
         Parameter::Name(text) => Ok(CowStr::Borrowed(text.as_str())),
@@ -86,9 +92,9 @@ pub fn inner_value<'a, P: Registered>(
     environment: &Environment<'_, 'a, P>,
     rc: &RenderContext,
     inner: &'a Subexpression,
-) -> Result<ScopedJson<'a>, RenderError>
+) -> Result<ScopedJson<'a>, BoxedError>
     ensures value { InState P.parts environment.now rc.now (λ p s. Yields
-        (HasInnerValue p s (subexpression_view inner.now)) found_of result) }
+        (HasInnerValue p s (subexpression_view inner.now)) found_of (answer_of result)) }
     ensures constant { IfOk result (λ found. is_constant found ≡ false) }
 {
     match &*inner.element {
@@ -110,9 +116,9 @@ pub fn call_value<'a, P: Registered>(
     environment: &Environment<'_, 'a, P>,
     rc: &RenderContext,
     helper: &'a HelperTemplate,
-) -> Result<ScopedJson<'a>, RenderError>
+) -> Result<ScopedJson<'a>, BoxedError>
     ensures value { InState P.parts environment.now rc.now (λ p s. Yields
-        (HasInnerValue p s (expression (call_view helper.now))) found_of result) }
+        (HasInnerValue p s (expression (call_view helper.now))) found_of (answer_of result)) }
     ensures constant { IfOk result (λ found. is_constant found ≡ false) }
 {
     match called(environment, rc, helper) {
@@ -127,9 +133,9 @@ pub fn called<'a, P: Registered>(
     environment: &Environment<'_, 'a, P>,
     rc: &RenderContext,
     helper: &'a HelperTemplate,
-) -> Result<Called<'a>, RenderError>
+) -> Result<Called<'a>, BoxedError>
     ensures { InState P.parts environment.now rc.now (λ p s. Yields
-        (HasView p s (call_name (call_view helper.now)) (call_args (call_view helper.now))) called_view result) }
+        (HasView p s (call_name (call_view helper.now)) (call_args (call_view helper.now))) called_view (answer_of result)) }
 {
     let name = expand_as_name(environment, rc, &helper.name)?;
     let params = params_values(environment, rc, &helper.params)?;
@@ -144,9 +150,9 @@ pub fn params_values<'a, P: Registered>(
     environment: &Environment<'_, 'a, P>,
     rc: &RenderContext,
     params: &'a Vec<Parameter>,
-) -> Result<Vec<PathAndJson<'a>>, RenderError>
+) -> Result<Vec<PathAndJson<'a>>, BoxedError>
     ensures { InState P.parts environment.now rc.now (λ p s. Yields (HaveValues p s (params_view params.now.items))
-        (λ vs. map path_and_data vs.items) result) }
+        (λ vs. map path_and_data vs.items) (answer_of result)) }
 {
     let mut values = Vec::new(environment.alloc);
     for parameter in params {
@@ -162,9 +168,9 @@ pub fn pairs_values<'a, P: Registered>(
     environment: &Environment<'_, 'a, P>,
     rc: &RenderContext,
     pairs: &'a BTreeMap<String, Parameter>,
-) -> Result<BTreeMap<&'a str, PathAndJson<'a>>, RenderError>
+) -> Result<BTreeMap<&'a str, PathAndJson<'a>>, BoxedError>
     ensures { InState P.parts environment.now rc.now (λ p s. Yields (PairsHaveValues p s (pairs_view pairs.now.entries))
-        (λ vs. pairs_seen vs.entries) result) }
+        (λ vs. pairs_seen vs.entries) (answer_of result)) }
 {
     let mut values = BTreeMap::new(environment.alloc);
     for (key, parameter) in pairs.iter() {

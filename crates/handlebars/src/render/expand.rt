@@ -90,8 +90,10 @@ impl Expand for Parameter {
             read: &NoTrees,
             log,
         };
-        let answer = value::expand(&outside(alloc, parts, data, &Bases::Outside), rc, self);
-        fail_after(rc, answer)
+        match value::expand(&outside(alloc, parts, data, &Bases::Outside), rc, self) {
+            Ok(value) => fail_after(rc, Ok(value)),
+            Err(e) => fail_after(rc, Err(e.into_error())),
+        }
     }
 
     fn expand_as_name<'rc, E: OwnParts, L: Log>(
@@ -108,7 +110,9 @@ impl Expand for Parameter {
             read: &NoTrees,
             log,
         };
-        let answer = value::expand_as_name(&outside(alloc, parts, data, &Bases::Outside), rc, self);
-        fail_after(rc, answer)
+        match value::expand_as_name(&outside(alloc, parts, data, &Bases::Outside), rc, self) {
+            Ok(name) => fail_after(rc, Ok(name)),
+            Err(e) => fail_after(rc, Err(e.into_error())),
+        }
     }
 }

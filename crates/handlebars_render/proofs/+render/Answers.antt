@@ -408,10 +408,9 @@ each::take_turns-returns-clause-renders g t c = λ site block v kept unlent.
 pub partial::render_partial-returns-in-Err-clause-renders : goal.partial::render_partial-returns-in-Err-clause-renders
 partial::render_partial-returns-in-Err-clause-renders g t c = λ site kept.
     let tag = decorator_view c.args.tag.now in
-    carries_on-handed _ _ c.in-Err.e (error_of c.new.result) c.new.ensures
-    (carries_on-no_value _ _ (ask (view_of (decorator_name tag) (decorator_args tag)))
-    (λ v. on_line (line_at (decorator_marks tag)) (include_tag site tag v)) c.in-Err.e
-    (λ other. refuses-ask _ (view_of (decorator_name tag) (decorator_args tag)) (c.in-Err.ensures kept other)))
+    carries_on-no_value _ _ (ask (view_of (decorator_name tag) (decorator_args tag)))
+    (λ v. on_line (line_at (decorator_marks tag)) (include_tag site tag v)) (error_of c.in-Err.e)
+    (λ other. refuses-ask _ (view_of (decorator_name tag) (decorator_args tag)) (c.in-Err.ensures kept other))
 
 pub partial::render_partial-returns-in_err-view-clause-renders : goal.partial::render_partial-returns-in_err-view-clause-renders
 partial::render_partial-returns-in_err-view-clause-renders g t c = λ site kept.

@@ -5,7 +5,6 @@ use Rattle.handlebars_render.specs.Boxed.{error_of}
 use Rattle.handlebars_render.specs.Targets.{target_in}
 use Rattle.handlebars_render.specs.View.{called_view, setting_in, state_with}
 use Rattle.handlebars_render.proofs.BoundCalls.{chooses-bound, refuses-bound}
-use Rattle.handlebars_render.proofs.Carry.{handed-refusal}
 use Rattle.handlebars_render.proofs.bound.bind_boxed.Goals as goal
 
 pub returns-in-Ok-new : goal.returns-in-Ok-new
@@ -18,7 +17,6 @@ returns-in-Ok-new g c = λ kept d.
 pub returns : goal.returns
 returns g c = λ kept other d.
     let h = view_with_bodies c.args.block d (called_view c.args.call) in
-    rw (handed-refusal c.in-Err.e (error_of c.new-in-Err.result) c.new-in-Err.ensures other)
-    (refuses-bound (setting_in g.P.Registered.parts c.args.environment.now) (state_with kept c.args.rc.now)
-    (target_in c.args.block (called_view c.args.call).name c.args.target) h (refusal_of c.in-Err.e)
-    (c.in-Err.ensures h (λ memory. other (c.new-in-Err.ensures.memory memory))))
+    refuses-bound (setting_in g.P.Registered.parts c.args.environment.now) (state_with kept c.args.rc.now)
+    (target_in c.args.block (called_view c.args.call).name c.args.target) h (refusal_of (error_of c.in-Err.e))
+    (c.in-Err.ensures h other)

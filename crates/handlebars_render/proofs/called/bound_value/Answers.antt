@@ -5,6 +5,7 @@ use Rattle.handlebars_template.specs.Tree.{call_binding}
 use Rattle.handlebars_helpers.specs.CallView.{HelperView}
 use Rattle.handlebars_helpers.specs.View.{helper_view}
 use Rattle.handlebars_meaning.specs.Values.{view_without_bodies}
+use Rattle.handlebars_render.specs.Boxed.{answer_of}
 use Rattle.handlebars_render.specs.Bound.{callee_in}
 use Rattle.handlebars_render.specs.View.{called_view, setting_in, state_with}
 use Rattle.handlebars_render.proofs.BoundCalls.{callee-built, callee-own}
@@ -16,7 +17,7 @@ returns-in-Built-clause-value g c = λ kept.
     let parts = c.into_parts-callee.ensures in
     let b = call_binding (call_view c.args.helper.now) in
     yields-for (setting_in g.P.Registered.parts c.args.environment.now) (state_with kept c.args.rc.now)
-    (view_without_bodies b (called_view c.args.bound.call)) found_of (callee_in c.args.bound) c.built_value.result
+    (view_without_bodies b (called_view c.args.bound.call)) found_of (callee_in c.args.bound) (answer_of c.built_value.result)
     (callee-built _ c.args.bound.callee c.in-Built.kind (ap (λ x. x.0) (sym parts) ∙ c.in-Built.is))
     (c.in_parentheses-view.ensures ∙ ap (λ x. view_without_bodies b (called_view x.2)) parts)
     (c.built_value.ensures.value (state_with kept c.args.rc.now))
@@ -27,7 +28,7 @@ returns-clause-value g c = λ kept.
     let b = call_binding (call_view c.args.helper.now) in
     let seen = c.in_parentheses-view.ensures ∙ ap (λ x. view_without_bodies b (called_view x.2)) parts in
     yields-for (setting_in g.P.Registered.parts c.args.environment.now) (state_with kept c.args.rc.now)
-    (view_without_bodies b (called_view c.args.bound.call)) found_of (callee_in c.args.bound) c.own_value.result
+    (view_without_bodies b (called_view c.args.bound.call)) found_of (callee_in c.args.bound) (answer_of c.own_value.result)
     (callee-own c.args.bound.asked_by (called_view c.args.bound.call) c.args.bound.callee _ (helper_view c.in_parentheses-view.result) (ap (λ x. x.0) (sym parts) ∙ c.in-Own.is)
     (rw parts at c.asked_name.ensures) (ap (λ (h : HelperView). h.call) seen))
     seen (c.own_value.ensures.value kept)

@@ -2,7 +2,6 @@ use Rattle.handlebars_base.specs.Scoped.{found_of}
 use Rattle.handlebars_template.specs.Tree.{call_name}
 use Rattle.handlebars_template.specs.TreeView.{call_view}
 use Rattle.handlebars_render.specs.Boxed.{error_of}
-use Rattle.handlebars_render.proofs.Carry.{carries_on-handed}
 use Rattle.handlebars_render.proofs.Leaves.{carries_on-refuses, refuses-lone}
 use Rattle.handlebars_render.proofs.LoneValues.{named-inner, unnamed-inner, valued-inner}
 use Rattle.handlebars_render.proofs.lone.settle_inner.Goals as goal
@@ -15,6 +14,5 @@ returns-in-Ok-clause-comes g c = λ lone same site kept.
 
 pub returns-in-Err-clause-comes : goal.returns-in-Err-clause-comes
 returns-in-Err-clause-comes g c = λ lone same site kept.
-    carries_on-handed _ _ c.in-Err.e (error_of c.new.result) c.new.ensures
-    (carries_on-refuses _ _ _ c.in-Err.e (λ other. refuses-lone _ site (call_view c.args.helper.now)
-    (unnamed-inner _ _ (call_name (call_view c.args.helper.now)) _ _ same (c.in-Err.ensures.value kept other))))
+    carries_on-refuses _ _ _ (error_of c.in-Err.e) (λ other. refuses-lone _ site (call_view c.args.helper.now)
+    (unnamed-inner _ _ (call_name (call_view c.args.helper.now)) _ _ same (c.in-Err.ensures.value kept other)))

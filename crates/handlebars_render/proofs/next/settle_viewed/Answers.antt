@@ -8,39 +8,38 @@ use Rattle.handlebars_render.specs.Boxed.{answer_of, error_of}
 use Rattle.handlebars_base.specs.PathAndData.{path_and_data}
 use Rattle.handlebars_render.specs.Targets.{target_in}
 use Rattle.handlebars_render.specs.View.{pairs_seen}
-use Rattle.handlebars_render.proofs.Carry.{refuses-handed}
-use Rattle.handlebars_render.proofs.Leaves.{leaves-called, refuses-view, refuses-unknown, settles-call}
+use Rattle.handlebars_render.proofs.Leaves.{leaves-called, refuses-view, refuses-unknown, settles-call, settles-handed}
 use Rattle.handlebars_render.proofs.next.settle_viewed.Goals as goal
 
-pub returns-in-Err : goal.returns-in-Err
-returns-in-Err g c = λ site kept named is.
-    refuses-handed _ (render_call site c.args.block (call_view c.args.helper.now)) c.in-Err.e (error_of c.new.result) c.new.ensures
+pub returns-in_err-params : goal.returns-in_err-params
+returns-in_err-params g c = λ site kept named is.
+    settles-handed _ site c.args.block (call_view c.args.helper.now) _ c.from_residual.result _ c.from_residual.ensures.1
     (λ other. refuses-view _ site c.args.block (call_view c.args.helper.now)
-    (rw (call_params-view c.args.helper.now) (goes_on named (is_refused (c.in-Err.ensures kept other)))))
+    (rw (call_params-view c.args.helper.now) (goes_on named (is_refused (c.in_err-params.ensures kept other)))))
 
-pub returns-in-Err-pairs_values : goal.returns-in-Err-pairs_values
-returns-in-Err-pairs_values g c = λ site kept named is.
-    refuses-handed _ (render_call site c.args.block (call_view c.args.helper.now)) c.in-Err-pairs_values.e (error_of c.new-in-Err-pairs_values.result) c.new-in-Err-pairs_values.ensures
+pub returns-in_err-hash : goal.returns-in_err-hash
+returns-in_err-hash g c = λ site kept named is.
+    settles-handed _ site c.args.block (call_view c.args.helper.now) _ c.from_residual-in_err-hash.result _ c.from_residual-in_err-hash.ensures.1
     (λ other. refuses-view _ site c.args.block (call_view c.args.helper.now)
     (rw (call_params-view c.args.helper.now, call_pairs-view c.args.helper.now)
-    (goes_on named (goes_on (c.in-Ok.ensures kept) (is_refused (c.in-Err-pairs_values.ensures kept other))))))
+    (goes_on named (goes_on (c.in_ok-params.ensures kept) (is_refused (c.in_err-hash.ensures kept other))))))
 
 pub returns-in-Some : goal.returns-in-Some
 returns-in-Some g c = λ site kept named is.
     settles-call _ site c.args.block (call_view c.args.helper.now) _ _ _ (answer_of c.to_call.result) (c.to_call.ensures kept)
     (leaves-called _ site c.args.block (call_view c.args.helper.now)
-    (record { name = cow_str_bytes c.args.name; params = map path_and_data c.in-Ok.params.items; pairs = pairs_seen c.in-Ok-pairs_values.hash.entries })
+    (record { name = cow_str_bytes c.args.name; params = map path_and_data c.in_ok-params.params.items; pairs = pairs_seen c.in_ok-hash.hash.entries })
     (target_in c.args.block (cow_str_bytes c.args.name) c.in-Some.target)
     (rw (call_params-view c.args.helper.now, call_pairs-view c.args.helper.now)
-    (goes_on named (goes_on (c.in-Ok.ensures kept) (goes_on (c.in-Ok-pairs_values.ensures kept) refl))))
+    (goes_on named (goes_on (c.in_ok-params.ensures kept) (goes_on (c.in_ok-hash.ensures kept) refl))))
     (sym (ap (option_map (target_in c.args.block (cow_str_bytes c.args.name))) c.in-Some.is) ∙ is))
 
 pub returns : goal.returns
 returns g c = λ site kept named is.
     refuses-unknown _ site c.args.block (call_view c.args.helper.now)
-    (record { name = cow_str_bytes c.args.name; params = map path_and_data c.in-Ok.params.items; pairs = pairs_seen c.in-Ok-pairs_values.hash.entries })
-    (error_of c.unknown_helper.result)
+    (record { name = cow_str_bytes c.args.name; params = map path_and_data c.in_ok-params.params.items; pairs = pairs_seen c.in_ok-hash.hash.entries })
+    (error_of c.helper_not_found.result)
     (rw (call_params-view c.args.helper.now, call_pairs-view c.args.helper.now)
-    (goes_on named (goes_on (c.in-Ok.ensures kept) (goes_on (c.in-Ok-pairs_values.ensures kept) refl))))
+    (goes_on named (goes_on (c.in_ok-params.ensures kept) (goes_on (c.in_ok-hash.ensures kept) refl))))
     (sym (ap (option_map (target_in c.args.block (cow_str_bytes c.args.name))) c.in-None.is) ∙ is)
-    (rw c.as_str.ensures.value at c.unknown_helper.ensures)
+    (rw c.as_str.ensures.value at c.helper_not_found.ensures)

@@ -3,6 +3,12 @@ use Rattle.serde_json.specs.Data.{string}
 use Rattle.handlebars_base.specs.Answers.{gives}
 use Rattle.handlebars_base.specs.Scoped.{Found, value}
 use Rattle.handlebars_meaning.specs.Asks.{goes_on, is_refused}
+use Rattle.handlebars_helpers.specs.Callee.{own}
+use Rattle.handlebars_helpers.specs.View.{helper_view}
+use Rattle.handlebars_meaning.specs.Values.{HasRegisteredValue}
+use Rattle.handlebars_render.specs.Boxed.{error_of}
+use Rattle.handlebars_render.specs.View.{setting_in, state_with}
+use Rattle.handlebars_render.proofs.Values.{yields-handed}
 use Rattle.handlebars_render.proofs.own.own_value.Goals as goal
 
 pub returns-in-Ok-Value-clause-value : goal.returns-in-Ok-Value-clause-value
@@ -23,8 +29,14 @@ returns-in_ok-text_written-in-Ok-Some-clause-value g c = λ kept.
     (c.text_value.ensures.value ∙ ap (λ t. value (string t)) c.in_ok-text_written-in-Ok-Some.ensures)))
 
 pub returns-in-Err-steps_of-clause-value : goal.returns-in-Err-steps_of-clause-value
-returns-in-Err-steps_of-clause-value g c = λ kept other.
-    goes_on (rw c.context.ensures at (rw c.in-Ok-NotOffered.field-0-is at c.in-Ok-NotOffered.ensures)) (is_refused (rw c.context-in-Ok-NotOffered.ensures at (c.in-Err-steps_of.ensures other)))
+returns-in-Err-steps_of-clause-value g c = λ kept.
+    yields-handed (HasRegisteredValue (setting_in g.P.Registered.parts c.args.environment.now) (state_with kept c.args.rc.now) (own c.args.name.now) (helper_view c.args.view.now))
+    c.in-Err-steps_of.e (error_of c.new.result) c.new.ensures (λ other.
+    goes_on (rw c.context.ensures at (rw c.in-Ok-NotOffered.field-0-is at c.in-Ok-NotOffered.ensures))
+    (is_refused (rw c.context-in-Ok-NotOffered.ensures at (c.in-Err-steps_of.ensures other))))
 
 pub returns-in-Err-clause-value : goal.returns-in-Err-clause-value
-returns-in-Err-clause-value g c = λ kept other. is_refused (rw c.context.ensures at (c.in-Err.ensures other))
+returns-in-Err-clause-value g c = λ kept.
+    yields-handed (HasRegisteredValue (setting_in g.P.Registered.parts c.args.environment.now) (state_with kept c.args.rc.now) (own c.args.name.now) (helper_view c.args.view.now))
+    c.in-Err.e (error_of c.new-in-Err.result) c.new-in-Err.ensures
+    (λ other. is_refused (rw c.context.ensures at (c.in-Err.ensures other)))
