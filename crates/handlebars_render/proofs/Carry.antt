@@ -2,7 +2,7 @@
 use Rattle.std.proofs.Common.{◌≡◌, ◌≢◌, ℕ, Bool, true, false, not, List, [], ◌∷◌, ◌++◌, ◌<◌, length, Result, Ok, Err, refl, sym, ap, ◌∙◌, subst, append_assoc, append-nil, ◌⊎◌, inl, inr, arith}
 use Rattle.std.specs.declared.io.Error.{Error}
 use Rattle.std.specs.Result.{IsErrAnd}
-use Rattle.handlebars_base.specs.Answers.{IsRefusal}
+use Rattle.handlebars_base.specs.Answers.{IsRefusal, refuses}
 use Rattle.handlebars_base.specs.Bytes.{Text}
 use Rattle.handlebars_base.specs.Reasons.{Reason, Spot, Refusal, out_of_memory}
 use Rattle.handlebars_base.specs.RenderRefusals.{reason_in, reason_of, spot_of, cause_of, refusal_of, plain_refusal}
@@ -12,6 +12,7 @@ use Rattle.handlebars_base.specs.Outputs.{Held, IsWhole, IsCutOff}
 use Rattle.handlebars_meaning.specs.Pieces.{Origin, of_step, of_word, Piece, join, pieces_of, put}
 use Rattle.handlebars_scope.specs.LineState.{LineState}
 use Rattle.handlebars_scope.specs.Scopes.{Frame}
+use Rattle.handlebars_meaning.specs.Asks.{Asks}
 use Rattle.handlebars_meaning.specs.Sites.{Site}
 use Rattle.handlebars_meaning.specs.State.{Setting, State, push_frame, pop_frame}
 use Rattle.handlebars_meaning.specs.Steps.{Task, Steps, Done, Refuse, Write, Get, Set, Do, Prog, return, run, refuse_for, state, become, write, perform, ◌>>=◌, ◌>>◌}
@@ -106,6 +107,12 @@ pub refuses-handed : (p : Setting) {A : Type 0} (m : Prog A) {s : State} (e d : 
     → (reason_in e ≢ out_of_memory → RefusesValue p m s (refusal_of e))
     → reason_in d ≢ out_of_memory → RefusesValue p m s (refusal_of d)
 refuses-handed p m {s = s} e d h is other = subst (λ (r : Refusal). RefusesValue p m s r) (sym (handed-refusal e d h other))
+    (is (λ memory. other (h.memory memory)))
+
+-- an answer is refused, and its refusal is handed on
+pub yields-handed : {A : Type 0} (m : Asks A) (e d : RenderError) → IsHandedOn e d
+    → (reason_in e ≢ out_of_memory → m (refuses (refusal_of e))) → reason_in d ≢ out_of_memory → m (refuses (refusal_of d))
+yields-handed m e d h is other = subst (λ (r : Refusal). m (refuses r)) (sym (handed-refusal e d h other))
     (is (λ memory. other (h.memory memory)))
 
 pub refusal-handed : (r : Refusal) (e d : RenderError) → IsHandedOn e d → IsRefusal r e → IsRefusal r d

@@ -16,7 +16,7 @@ use Rattle.handlebars_meaning.specs.Questions.{IsAnswered, Question, Reply, view
 use Rattle.handlebars_meaning.specs.Runs.{Ended, Refused, Runs, done, refused, got, set, asked, did, did_over}
 use Rattle.handlebars_meaning.specs.Sites.{Site}
 use Rattle.handlebars_meaning.specs.State.{Setting, State, with_nearest, with_partial}
-use Rattle.handlebars_meaning.specs.Steps.{One, Steps, Done, Do, Prog, ask, return, run, state, ◌>>=◌, ◌>>◌}
+use Rattle.handlebars_meaning.specs.Steps.{One, Steps, Done, Do, Prog, ask, return, state, ◌>>=◌, ◌>>◌}
 use Rattle.handlebars_meaning.specs.Values.{HasView}
 use Rattle.std.specs.Result.{IsErrAnd}
 use Rattle.handlebars_render.specs.Boxed.{IsHandedOn, answer_of, error_of}

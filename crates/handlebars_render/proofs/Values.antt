@@ -1,5 +1,5 @@
 -- How the values of calls compose.
-use Rattle.std.proofs.Common.{◌≡◌, ◌++◌, ℕ, ◌+◌, ◌<◌, ◌≤◌, List, [], ◌∷◌, length, drop, get_or, Bool, false, ◌≢◌, Option, None, Result, Ok, Err, String, Global, rules, refl, sym, ap, ◌∙◌, subst, append_assoc, append-nil}
+use Rattle.std.proofs.Common.{◌≡◌, ◌++◌, ℕ, ◌+◌, ◌<◌, ◌≤◌, List, [], ◌∷◌, length, drop, get_or, Bool, false, Option, None, Result, Ok, Err, String, Global, rules, refl, sym, ap, ◌∙◌, subst, append_assoc, append-nil}
 use Rattle.std.specs.Prelude.{IfErr, IfOk, IsErrAnd, MatchResult}
 use Rattle.std.proofs.lemmas.List.{drop_more, drop_all}
 use Rattle.std.specs.String.{string_bytes}
@@ -25,10 +25,9 @@ use Rattle.handlebars_helpers.specs.Choice.{Kind, Choice, built_in_choice}
 use Rattle.handlebars_meaning.specs.Asks.{Asks, Then, ◌>>=◌, goes_on, is_refused}
 use Rattle.handlebars_meaning.specs.State.{Setting, State, helper_for}
 use Rattle.handlebars_meaning.specs.Values.{is_literal, as_written, choice_value, view_without_bodies, HasHelpedValue, HasRegisteredValue, HasInnerValue, HasView, HasWrittenValue, HaveValues, PairsHaveValues}
-use Rattle.handlebars_render.specs.Boxed.{IsHandedOn, answer_of, error_of}
+use Rattle.handlebars_render.specs.Boxed.{answer_of, error_of}
 use Rattle.handlebars_render.specs.View.{Yields}
 use Rattle.handlebars_render.specs.declared.boxed.BoxedError.{BoxedError}
-use Rattle.handlebars_render.proofs.Carry.{handed-refusal}
 
 pub subexpression_view-out : (s : Subexpression)
     → subexpression_view s ≡ element_view (out-Subexpression s).element.value
@@ -53,12 +52,6 @@ pub handed_on : {T : Type 0} (P : T → Type 0) (Q : RenderError → Type 0) (r 
     → IsErrAnd r (λ d. d ≡ e) → Q (error_of e) → MatchResult (answer_of r) P Q
 handed_on P Q (Ok x) e is h = absurd is
 handed_on P Q (Err d) e is h = subst (λ (z : BoxedError). Q (error_of z)) (sym is) h
-
--- a refusal that is put into its box
-pub yields-handed : {A : Type 0} (m : Asks A) (e d : RenderError) → IsHandedOn e d
-    → (reason_in e ≢ out_of_memory → m (refuses (refusal_of e))) → reason_in d ≢ out_of_memory → m (refuses (refusal_of d))
-yields-handed m e d h is other = subst (λ (r : Refusal). m (refuses r)) (sym (handed-refusal e d h other))
-    (is (λ memory. other (h.memory memory)))
 
 -- an answer that is known
 pub yields-answer : {T A : Type 0} (seen : T → A) (a : Answer A) (r : Result T RenderError) → Answers seen r a

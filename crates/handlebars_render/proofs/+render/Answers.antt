@@ -12,7 +12,6 @@ use Rattle.handlebars_meaning.specs.Pieces.{of_text}
 use Rattle.handlebars_meaning.specs.Sites.{body_at, inverse_at, element_in}
 use Rattle.handlebars_helpers.specs.Choice.{body_if}
 use Rattle.handlebars_scope.specs.ScopeView.{frame_of}
-use Rattle.handlebars_helpers.specs.Callee.{own}
 use Rattle.handlebars_helpers.specs.OwnView.{step_of}
 use Rattle.handlebars_helpers.specs.Turns.{turn_frame}
 use Rattle.handlebars_helpers.specs.View.{helper_view, path_view, turn_view}
@@ -48,7 +47,7 @@ use Rattle.handlebars_meaning.specs.Including.{render_ahead}
 use Rattle.handlebars_meaning.specs.Means.{include_tag, line_at, on_line}
 use Rattle.handlebars_meaning.specs.Questions.{view_of}
 use Rattle.handlebars_meaning.specs.Sites.{included_at}
-use Rattle.handlebars_meaning.specs.Steps.{Whole, ask, perform, return}
+use Rattle.handlebars_meaning.specs.Steps.{Whole, ask, perform}
 use Rattle.handlebars_render.proofs.Asked.{refuses-ask}
 use Rattle.handlebars_render.proofs.Includes.{begins-empty, begin_inclusion-so, kept-more, own-none, own-some, placed, carries_ahead-over, carries_ahead-text, includes-kept, includes-local, includes-own, includes-registered, includes-self, inclusion-ahead, inclusion-ahead_over, inclusion-no_room, inclusion-no_value, inclusion-plain, kept-none, kept-own, kept-text, tag-includes, under-same}
 use Rattle.handlebars_render.proofs.+render.Goals.{partial::include_tree-in-Some+in-Ok-render_ahead, partial::include_tree-in-Some+in-Err-render_ahead, partial::include_tree-in-None}

@@ -7,7 +7,8 @@ use Rattle.handlebars_helpers.specs.View.{helper_view}
 use Rattle.handlebars_meaning.specs.Values.{HasRegisteredValue, choice_value}
 use Rattle.handlebars_render.specs.Boxed.{error_of}
 use Rattle.handlebars_render.specs.View.{setting_in}
-use Rattle.handlebars_render.proofs.Values.{yields-built, yields-handed}
+use Rattle.handlebars_render.proofs.Carry.{yields-handed}
+use Rattle.handlebars_render.proofs.Values.{yields-built}
 use Rattle.handlebars_render.proofs.called.built_value.Goals as goal
 
 pub returns-in-Ok-clause-value : goal.returns-in-Ok-clause-value

@@ -8,7 +8,7 @@ use Rattle.handlebars_helpers.specs.View.{helper_view}
 use Rattle.handlebars_meaning.specs.Values.{HasRegisteredValue}
 use Rattle.handlebars_render.specs.Boxed.{error_of}
 use Rattle.handlebars_render.specs.View.{setting_in, state_with}
-use Rattle.handlebars_render.proofs.Values.{yields-handed}
+use Rattle.handlebars_render.proofs.Carry.{yields-handed}
 use Rattle.handlebars_render.proofs.own.own_value.Goals as goal
 
 pub returns-in-Ok-Value-clause-value : goal.returns-in-Ok-Value-clause-value

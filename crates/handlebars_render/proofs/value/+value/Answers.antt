@@ -12,9 +12,10 @@ use Rattle.handlebars_template.specs.Tree.{path}
 use Rattle.handlebars_meaning.specs.Values.{HasValue}
 use Rattle.handlebars_render.specs.Boxed.{answer_of, error_of}
 use Rattle.handlebars_render.specs.View.{setting_in, state_of, state_with}
+use Rattle.handlebars_render.proofs.Carry.{yields-handed}
 use Rattle.handlebars_render.proofs.Lent.{read-lent}
 use Rattle.handlebars_render.proofs.Ordered.{follows-next, inserted-last, map-push, pairs_seen-push}
-use Rattle.handlebars_render.proofs.Values.{yields-handed, pairs-end, pairs-go, pairs-over, params-end, params-go, params-here, params-over, params-past, subexpression_view-out, inner_value-parts, yields-answer, handed_on, yields-inner_value, yields-then, written-as}
+use Rattle.handlebars_render.proofs.Values.{pairs-end, pairs-go, pairs-over, params-end, params-go, params-here, params-over, params-past, subexpression_view-out, inner_value-parts, yields-answer, handed_on, yields-inner_value, yields-then, written-as}
 use Rattle.handlebars_render.proofs.value.+value.Goals as goal
 
 pub called-returns-in_err-name : goal.called-returns-in_err-name
