@@ -18,7 +18,7 @@ returns-in-Ok-clause-expands g c = λ ready. subst
 pub returns-in-Err-clause-expands : goal.returns-in-Err-clause-expands
 returns-in-Err-clause-expands g c = λ ready.
     let has = HasWrittenValue (setting_of g.E.OwnParts.registered g.E.OwnParts.own c.args.registry.now c.args.data.now)
-        (state_of c.args.rc.now) (param_view c.args.self.now) in
+    (state_of c.args.rc.now) (param_view c.args.self.now) in
     subst (Yields has path_and_data) (sym c.fail_after-in-Err.ensures.answer)
     (yields-handed has (error_of c.in-Err.e) c.into_error.result c.into_error.ensures
     ((rw c.outside.ensures at c.in-Err.ensures) kept-outside))
