@@ -29,7 +29,7 @@ pub enum Sink<'o, O> {
 }
 
 // What is written here goes straight to one of the two: which of them it is, is asked once for a text, however many
-// writes it takes. Each says for itself what a write came to, so that the cause of a fault is made nowhere else.
+// writes it takes. What the write came to is told in either case at once, in a box.
 impl<'o, O: Output> Sink<'o, O> {
     /// Writes a text: the word of a boolean helper, whose fault is told by its text, or another one.
     #[inline(always)]
