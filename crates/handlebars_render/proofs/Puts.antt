@@ -20,7 +20,7 @@ use Rattle.handlebars_meaning.specs.Runs.{plain_fault}
 use Rattle.handlebars_meaning.specs.State.{State}
 use Rattle.handlebars_meaning.specs.Writing.{rendered_if_any}
 use Rattle.handlebars_render.specs.View.{Answered, TellsFault, held_ahead, word_reason, with_line, written_at}
-use Rattle.handlebars_render.specs.Writes.{IsCutByMemory, IsTold, Puts, TellsLine, Writes, all_written, front_written, part_written}
+use Rattle.handlebars_render.specs.Writes.{IsCutByMemory, Puts, TellsLine, Writes, all_written, front_written, part_written}
 use Rattle.handlebars_scope.specs.Indentation.{written_in}
 use Rattle.handlebars_scope.specs.declared.line.LineState.{LineState as CodeLine}
 use Rattle.handlebars_scope.proofs.Indents.{written_in-none}
@@ -90,22 +90,21 @@ module _ (may : Error → Type 0) where
   writes_as {h = h} {new = new} same is (part_written part memory) =
       part_written (subst (λ (z : Text). IsCutByMemory z h new) same part) memory
 
-  -- what an output took of a text is told
-  pub writes_told : {t : Text} {at_word : Bool} {s : State} {h new : Held} (a : Result (Unit {0}) Error) (r : Answered)
-      → Written t h a new → IfErr a may → IsTold at_word a r → Writes t at_word s may h r (at s new)
-  writes_told (Ok u) (Ok v) whole given told = all_written refl whole
-  writes_told (Ok u) (Err e) whole given told = absurd told
-  writes_told (Err cause) (Ok v) cut given told = absurd told
-  writes_told (Err cause) (Err e) cut given told = front_written cause given cut told
+  -- an output took a beginning of a text, and its fault is told
+  pub writes_cut : {t : Text} {at_word : Bool} {s : State} {h new : Held} {e : RenderError} (cause : Error)
+      → IsCutOff t h new → may cause → TellsFault cause (plain_fault at_word) e → Writes t at_word s may h (Err e) (at s new)
+  writes_cut cause cut given told = front_written cause given cut told
 
-  -- what a text took that is rendered ahead, which fails for want of memory and counts no faults
-  pub writes_ahead : {t : Text} {at_word : Bool} {s : State} (o n : StringOutput) (a : Result (Unit {0}) Error) (r : Answered)
-      → Written t (held_of o) a (held_of n) → IfErr a (λ e. error_kind e ≡ OutOfMemory) → IsTold at_word a r
-      → Writes t at_word s may (held_ahead o) r (at s (held_ahead n))
-  writes_ahead o n (Ok u) (Ok v) whole given told = all_written refl (record { text = whole.text; faults = refl })
-  writes_ahead o n (Ok u) (Err e) whole given told = absurd told
-  writes_ahead o n (Err cause) (Ok v) cut given told = absurd told
-  writes_ahead {at_word = at_word} o n (Err cause) (Err e) cut given told = part_written (record {
+  -- a text that is rendered ahead took all of it
+  pub writes_ahead : {t : Text} {at_word : Bool} {s : State} {u : Unit {0}} (o n : StringOutput)
+      → IsWhole t (held_of o) (held_of n) → Writes t at_word s may (held_ahead o) (Ok u) (at s (held_ahead n))
+  writes_ahead o n whole = all_written refl (record { text = whole.text; faults = refl })
+
+  -- it fails for want of memory, and counts no faults
+  pub writes_ahead_cut : {t : Text} {at_word : Bool} {s : State} {e : RenderError} (o n : StringOutput) (cause : Error)
+      → IsCutOff t (held_of o) (held_of n) → error_kind cause ≡ OutOfMemory → TellsFault cause (plain_fault at_word) e
+      → Writes t at_word s may (held_ahead o) (Err e) (at s (held_ahead n))
+  writes_ahead_cut {at_word = at_word} {e = e} o n cause cut given told = part_written (record {
     front = cut.front;
     is_front = cut.is_front;
     text = cut.text;

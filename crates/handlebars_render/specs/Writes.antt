@@ -19,13 +19,6 @@ pub record IsCutByMemory (t : Text) (before after : Held) : Type 0 where
   pub text : after.text ≡ before.text ++ front
   pub faults : after.faults ≡ before.faults
 
--- What a write came to is answered so: a fault is told as one at a word or not.
-abbrev pub IsTold : Bool → Result (Unit {0}) Error → Answered → Type 0
-IsTold at_word (Ok u) (Ok v) = Unit {0}
-IsTold at_word (Ok u) (Err e) = ⊥
-IsTold at_word (Err cause) (Ok v) = ⊥
-IsTold at_word (Err cause) (Err e) = TellsFault cause (plain_fault at_word) e
-
 -- A text was written, and this is the state behind it; or a beginning of it, and the output failed, at a word or not, or
 -- memory.
 pub data Writes (t : Text) (at_word : Bool) (next : State) (may : Error → Type 0) (before : Held)

@@ -6,7 +6,7 @@ ghost use Rattle.handlebars_base.specs.Shown.{escaped_if, shown};
 ghost use Rattle.handlebars_scope.specs.Indentation.{written_in};
 ghost use Rattle.handlebars_scope.specs.LineView.{line_of};
 ghost use Rattle.handlebars_render.specs.View.{IsSame, TellsFault, held_in};
-ghost use Rattle.handlebars_render.specs.Writes.{IsTold, WritesAsIs};
+ghost use Rattle.handlebars_render.specs.Writes.{WritesAsIs};
 ghost use Rattle.handlebars_meaning.specs.Runs.{plain_fault};
 ghost use Rattle.handlebars_render.specs.Boxed.{answer_of, error_of};
 
@@ -29,7 +29,8 @@ pub enum Sink<'o, O> {
 }
 
 // What is written here goes straight to one of the two: which of them it is, is asked once for a text, however many
-// writes it takes. What the write came to is told in either case at once, in a box.
+// writes it takes. Each arm tells by itself what its write came to, in a box: where both met in one `Result` of an error of
+// the system, each write copied its 96 bytes.
 impl<'o, O: Output> Sink<'o, O> {
     /// Writes a text: the word of a boolean helper, whose fault is told by its text, or another one.
     #[inline(always)]
@@ -43,8 +44,14 @@ impl<'o, O: Output> Sink<'o, O> {
         ensures same { IsSame self.old self.new }
     {
         match self {
-            Sink::Out(out) => told(alloc, at_word, out.write(text)),
-            Sink::Ahead(ahead) => told(alloc, at_word, ahead.write(text)),
+            Sink::Out(out) => match out.write(text) {
+                Ok(()) => Ok(()),
+                Err(fault) => Err(told_fault(alloc, at_word, fault)),
+            },
+            Sink::Ahead(ahead) => match ahead.write(text) {
+                Ok(()) => Ok(()),
+                Err(fault) => Err(told_fault(alloc, at_word, fault)),
+            },
         }
     }
 
@@ -61,8 +68,14 @@ impl<'o, O: Output> Sink<'o, O> {
         ensures same { IsSame self.old self.new }
     {
         match self {
-            Sink::Out(out) => told(alloc, false, write_value(&mut **out, value, entities)),
-            Sink::Ahead(ahead) => told(alloc, false, write_value(&mut **ahead, value, entities)),
+            Sink::Out(out) => match write_value(&mut **out, value, entities) {
+                Ok(()) => Ok(()),
+                Err(fault) => Err(told_fault(alloc, false, fault)),
+            },
+            Sink::Ahead(ahead) => match write_value(&mut **ahead, value, entities) {
+                Ok(()) => Ok(()),
+                Err(fault) => Err(told_fault(alloc, false, fault)),
+            },
         }
     }
 
@@ -80,35 +93,19 @@ impl<'o, O: Output> Sink<'o, O> {
         ensures same { IsSame self.old self.new }
     {
         match self {
-            Sink::Out(out) => {
-                told(
-                    alloc,
-                    false,
-                    write_in_line(line, text, indent, entities, &mut **out),
-                )
-            }
-            Sink::Ahead(ahead) => {
-                told(
-                    alloc,
-                    false,
-                    write_in_line(line, text, indent, entities, &mut **ahead),
-                )
-            }
+            Sink::Out(out) => match write_in_line(line, text, indent, entities, &mut **out) {
+                Ok(()) => Ok(()),
+                Err(fault) => Err(told_fault(alloc, false, fault)),
+            },
+            Sink::Ahead(ahead) => match write_in_line(line, text, indent, entities, &mut **ahead) {
+                Ok(()) => Ok(()),
+                Err(fault) => Err(told_fault(alloc, false, fault)),
+            },
         }
     }
 }
 
-// What a write came to, whose fault is told as one at a word or not.
-#[inline(always)]
-fn told(alloc: Global, at_word: bool, answer: Result<(), io::Error>) -> Result<(), BoxedError>
-    ensures { IsTold at_word answer (answer_of result) }
-{
-    match answer {
-        Ok(()) => Ok(()),
-        Err(fault) => Err(told_fault(alloc, at_word, fault)),
-    }
-}
-
+// What a write's fault is told as: as one at a word or not.
 #[cold]
 #[inline(never)]
 fn told_fault(alloc: Global, at_word: bool, fault: io::Error) -> BoxedError
