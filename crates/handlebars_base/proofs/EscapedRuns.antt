@@ -2,10 +2,10 @@
 use Rattle.std.proofs.Common.{◌≡◌, ℕ, ◌+◌, ◌-◌, ◌<◌, ◌≤◌, [], ◌∷◌, ◌++◌, take, drop, get_or, length, refl, sym, ap, ap₂, ◌∙◌, subst, arith, append_assoc, append-nil, Option, Some, None, unwrap_or, length-drop, get_or-drop, add-one, drop-cons}
 use Rattle.std.specs.Str.{IsCharBoundary, IsUtf8}
 use Rattle.std.proofs.lemmas.Str.{IsCharBoundary-after_ascii}
-use Rattle.std.proofs.lemmas.List.{take_more, take_all, drop_all}
+use Rattle.std.proofs.lemmas.List.{take_more, take_all, drop_all, take-append-drop}
 use Rattle.handlebars_base.specs.Bytes.{Text}
-use Rattle.handlebars_base.specs.Escape.{entity_of, escaped_byte, escaped}
-use Rattle.handlebars_base.proofs.EscapedBytes.{entity_is_ascii}
+use Rattle.handlebars_base.specs.Escape.{IsPlain, entity_of, escaped_byte, escaped}
+use Rattle.handlebars_base.proofs.EscapedBytes.{entity_is_ascii, escaped-append}
 
 -- what is left at a byte, where the run before it is not written either
 abbrev pub left_at : Text → ℕ → ℕ → Text
@@ -73,3 +73,34 @@ left_at-end text bytes run written at is is_run l =
     let all : take (at - written) (drop written text) ≡ drop written text =
     take_all (at - written) (drop written text) (omega (arith, length-drop written text)) in
     ap₂ (λ s t. s ++ t) all none ∙ append-nil (drop written text) ∙ sym is_run
+
+-- ---- what stands in front of the first entity
+
+pub escaped-nil : escaped [] ≡ []
+unfolding escaped
+escaped-nil = refl
+
+escaped-one : (b : ℕ) → None ≡ entity_of b → escaped (b ∷ []) ≡ b ∷ []
+unfolding escaped
+escaped-one b e = append-nil (escaped_byte b) ∙ ap (λ r. unwrap_or r (b ∷ [])) (sym e)
+
+-- one more byte with no entity
+pub plain-more : (text : Text) (at : ℕ) → at < length text → None ≡ entity_of (get_or text at 0)
+    → escaped (take at text) ≡ take at text → escaped (take (at + 1) text) ≡ take (at + 1) text
+plain-more text at l e plain =
+    let b = get_or text at 0 in
+    let more = take_more text at 0 l in
+    ap escaped more ∙ escaped-append (take at text) (b ∷ []) ∙ ap₂ (λ s t. s ++ t) plain (escaped-one b e) ∙ sym more
+
+pub is_plain-end : (text : Text) (at : ℕ) → length text ≤ at → escaped (take at text) ≡ take at text → IsPlain text (length text)
+is_plain-end text at past plain =
+    let all = take_all at text past in
+    let whole = take_all (length text) text (omega arith) in
+    record { within = omega arith; plain = ap escaped (whole ∙ sym all) ∙ plain ∙ all ∙ sym whole }
+
+-- it is a run that is not written yet
+pub left_at-front : (text : Text) (plain : ℕ) → IsPlain text plain → escaped text ≡ left_at text 0 plain
+left_at-front text plain h =
+    let front : take plain text ≡ take (plain - 0) text = ap (λ n. take n text) (omega arith) in
+    ap escaped (sym (take-append-drop plain text)) ∙ escaped-append (take plain text) (drop plain text)
+    ∙ ap (λ t. t ++ escaped (drop plain text)) (h.plain ∙ front)

@@ -1,5 +1,5 @@
 -- The text that stands for another in HTML: seven characters, each of one byte, have entities.
-use Rattle.std.specs.Prelude.{ℕ, [], ◌∷◌, ◌++◌, ◌==◌, if◌then◌else◌, codes, Option, Some, None, unwrap_or}
+use Rattle.std.specs.Prelude.{◌≡◌, ℕ, ◌≤◌, [], ◌∷◌, ◌++◌, ◌==◌, if◌then◌else◌, codes, length, take, Option, Some, None, unwrap_or}
 use Rattle.handlebars_base.specs.Bytes.{Text, less, greater, double_quote, ampersand, single_quote, backquote, equals_sign}
 
 abbrev pub entity_of : ℕ → Option Text
@@ -20,3 +20,8 @@ escaped_byte b = unwrap_or (entity_of b) (b ∷ [])
 unfoldable pub escaped : Text → Text
 escaped [] = []
 escaped (b ∷ bs) = escaped_byte b ++ escaped bs
+
+-- as many bytes in front of a text stand for themselves
+pub record IsPlain (text : Text) (count : ℕ) : Type 0 where
+  pub within : count ≤ length text
+  pub plain : escaped (take count text) ≡ take count text
