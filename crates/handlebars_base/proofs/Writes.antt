@@ -4,8 +4,7 @@ use Rattle.std.proofs.lemmas.Bool.{false≢true}
 use Rattle.std.specs.Result.{IsErr}
 use Rattle.std.specs.declared.io.Error.{Error}
 use Rattle.handlebars_base.specs.Bytes.{Text}
-pub use Rattle.handlebars_base.specs.Outputs.{AllBut}
-use Rattle.handlebars_base.specs.Outputs.{Held, IsWhole, IsCutOff, Written, WrittenBut}
+use Rattle.handlebars_base.specs.Outputs.{Held, IsWhole, IsCutOff, Written}
 
 pub whole-nil : (x : Held) → IsWhole [] x x
 whole-nil x = record { text = sym (append-nil x.text); faults = refl }
@@ -15,6 +14,12 @@ whole-append {t} {s} {x} h k = record {
   text = k.text ∙ ap (λ a. a ++ s) h.text ∙ append_assoc x.text t s;
   faults = k.faults ∙ h.faults;
 }
+
+-- all of a text is written but what is left
+pub record AllBut (left all : Text) (x y : Held) : Type 0 where
+  pub front : Text
+  pub split : all ≡ front ++ left
+  pub whole : IsWhole front x y
 
 pub begins : (all : Text) (x : Held) → AllBut all all x x
 begins all x = record { front = []; split = refl; whole = whole-nil x }
@@ -72,27 +77,7 @@ ends_here h = rw (h.split, append-nil h.front) h.whole
 pub written_is : {t s : Text} (x y : Held) (r : Result (Unit {0}) Error) → t ≡ s → Written t x r y → Written s x r y
 written_is x y r e h = subst (λ t. Written t x r y) e h
 
--- ---- what is gathered before it is written
-
--- a text that is gathered is left
-pub gathers : {now all : Text} {x y z : Held} (gathered t left : Text) → AllBut (gathered ++ (t ++ left)) all x y
-    → AllBut now (gathered ++ t) y z → AllBut (now ++ left) all x z
-gathers {now} gathered t left h k =
-    goes_on (left_is (sym (append_assoc gathered t left) ∙ ap (λ a. a ++ left) k.split ∙ append_assoc k.front now left) h) k.whole
-
--- it isn't gathered, since the write of what is fails
-pub gathers_not : {all : Text} {x y z : Held} (gathered t left : Text) (r : Result (Unit {0}) Error) → IsErr r
-    → AllBut (gathered ++ (t ++ left)) all x y → IsCutOff (gathered ++ t) y z → Written all x r z
-gathers_not gathered t left r bad h k = fails r left bad (left_is (sym (append_assoc gathered t left)) h) k
-
--- it may be what is all, with what was gathered before it
-pub fails_but : {t all : Text} {x y z : Held} (now : Text) (r : Result (Unit {0}) Error) (left : Text) → IsErr r
-    → AllBut (t ++ left) all x y → IsCutOff t y z → WrittenBut now all x r z
-fails_but now (Ok u) left bad h k = absurd (false≢true bad)
-fails_but now (Err e) left bad h k = cut_off-append left h k
-
--- a text that is written by itself
-pub ends_but : {t all : Text} {x y : Held} (z : Held) (r : Result (Unit {0}) Error) → AllBut t all x y → Written t y r z
-    → WrittenBut [] all x r z
-ends_but {t} z (Ok u) h k = goes_on (left_is (sym (append-nil t)) h) k
-ends_but {t} z (Err e) h k = cut_off-append [] (left_is (sym (append-nil t)) h) k
+-- what stands behind a text that is gathered is put to it
+pub gathers : {all : Text} {x y : Held} (gathered t left : Text) → AllBut (gathered ++ (t ++ left)) all x y
+    → AllBut ((gathered ++ t) ++ left) all x y
+gathers gathered t left h = left_is (sym (append_assoc gathered t left)) h

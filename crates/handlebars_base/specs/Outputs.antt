@@ -37,17 +37,6 @@ abbrev pub Written : Text → Held → Result (Unit {0}) Error → Held → Type
 Written t before (Ok u) after = IsWhole t before after
 Written t before (Err e) after = IsCutOff t before after
 
--- all of a text is written but what is left of it
-pub record AllBut (left all : Text) (before after : Held) : Type 0 where
-  pub front : Text
-  pub split : all ≡ front ++ left
-  pub whole : IsWhole front before after
-
--- that, or a beginning of it and the write has failed
-abbrev pub WrittenBut : Text → Text → Held → Result (Unit {0}) Error → Held → Type 0
-WrittenBut left all before (Ok u) after = AllBut left all before after
-WrittenBut left all before (Err e) after = IsCutOff all before after
-
 -- what an output in memory holds
 abbrev pub held_of : StringOutput → Held
 held_of o = record { text = string_bytes o.text; faults = o.faults }

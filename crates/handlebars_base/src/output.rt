@@ -56,20 +56,9 @@ impl StringOutput {
         })
     }
 
-    /// All that was written.
-    pub fn into_string(self) -> String
-        ensures { string_bytes result ≡ (held_of self).text }
-    {
-        self.text
-    }
-}
-
-impl Output for StringOutput {
-    ghost held = { held_of };
-
-    ghost may_give = { λ e. error_kind e ≡ OutOfMemory };
-
-    fn write(&mut self, seg: &str) -> Result<(), io::Error>
+    // Writes a segment for which there may be no room.
+    #[inline(never)]
+    fn write_growing(&mut self, seg: &str) -> Result<(), io::Error>
         ensures written { Written seg.now (held_of self.old) result (held_of self.new) }
         ensures given { IfErr result (λ e. error_kind e ≡ OutOfMemory) }
         ensures whole { OnErr result ((held_of self.new).text ≡ (held_of self.old).text) }
@@ -84,6 +73,32 @@ impl Output for StringOutput {
                 Err(cause.into())
             }
         }
+    }
+
+    /// All that was written.
+    pub fn into_string(self) -> String
+        ensures { string_bytes result ≡ (held_of self).text }
+    {
+        self.text
+    }
+}
+
+impl Output for StringOutput {
+    ghost held = { held_of };
+
+    ghost may_give = { λ e. error_kind e ≡ OutOfMemory };
+
+    // What is inlined is a copy, where there is room.
+    #[inline(always)]
+    fn write(&mut self, seg: &str) -> Result<(), io::Error>
+        ensures written { Written seg.now (held_of self.old) result (held_of self.new) }
+        ensures given { IfErr result (λ e. error_kind e ≡ OutOfMemory) }
+        ensures whole { OnErr result ((held_of self.new).text ≡ (held_of self.old).text) }
+    {
+        if seg.len() <= self.text.capacity() - self.text.len() && self.text.push_str(seg).is_ok() {
+            return Ok(());
+        }
+        self.write_growing(seg)
     }
 }
 

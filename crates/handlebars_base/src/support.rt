@@ -1,8 +1,8 @@
 //! Escaping of texts.
 
-ghost use Rattle.std.specs.Prelude.{◌≡◌, ◌++◌, IfErr, IfOk, option_map, string_bytes};
+ghost use Rattle.std.specs.Prelude.{◌≡◌, ◌≤◌, [], ◌++◌, length, IfErr, IfOk, IfSome, OnOk, option_map, string_bytes};
 ghost use Rattle.handlebars_base.specs.Escape.{IsPlain, entity_of, escaped};
-ghost use Rattle.handlebars_base.specs.Outputs.{Written, WrittenBut};
+ghost use Rattle.handlebars_base.specs.Outputs.{Written};
 
 use crate::output::{Output, StringOutput};
 use arrayvec::ArrayString;
@@ -61,36 +61,36 @@ fn write_marked<O: Output>(out: &mut O, text: &str, plain: usize) -> Result<(), 
     let mut written = 0;
     for at in plain..bytes.len() {
         if let Some(entity) = entity_of(bytes[at]) {
-            write_behind(out, &mut piece, &text[written..at])?;
-            write_behind(out, &mut piece, entity)?;
+            let run = &text[written..at];
+            if piece.remaining_capacity() < run.len() + entity.len() {
+                write_behind(out, &mut piece, run)?;
+            } else {
+                piece.push_str(run);
+            }
+            piece.push_str(entity);
             written = at + 1;
         }
     }
-    write_behind(out, &mut piece, &text[written..])?;
-    out.write(piece.as_str())
+    write_behind(out, &mut piece, &text[written..])
 }
 
-// Puts a text behind a piece that isn't written yet. Where it has no room for it, the piece is written
-// first, and a text that is longer than any piece too.
+// Writes a piece and what stands behind it, and leaves the piece empty.
+#[inline(never)]
 fn write_behind<O: Output>(out: &mut O, piece: &mut Piece, text: &str) -> Result<(), io::Error>
-    ensures written { WrittenBut piece.new.bytes (piece.old.bytes ++ text.now)
-        (O.held out.old) result (O.held out.new) }
+    ensures written { Written (piece.old.bytes ++ text.now) (O.held out.old) result (O.held out.new) }
+    ensures empty { OnOk result (piece.new.bytes ≡ []) }
     ensures given { IfErr result O.may_give }
 {
-    if piece.remaining_capacity() < text.len() {
-        out.write(piece.as_str())?;
-        piece.clear();
-        if piece.capacity() < text.len() {
-            return out.write(text);
-        }
-    }
-    piece.push_str(text);
-    Ok(())
+    out.write(piece.as_str())?;
+    piece.clear();
+    out.write(text)
 }
 
 // What stands for a byte in an escaped text, where that is not the byte.
+#[inline(always)]
 fn entity_of(byte: u8) -> Option<&'static str>
-    ensures { option_map (λ s. s.now) result ≡ entity_of byte }
+    ensures is { option_map (λ s. s.now) result ≡ entity_of byte }
+    ensures short { IfSome result (λ s. length s.now ≤ 6) }
 {
     match byte {
         b'<' => Some("&lt;"),

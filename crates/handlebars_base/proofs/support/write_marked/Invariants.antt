@@ -1,7 +1,7 @@
 use Rattle.std.proofs.Common.{◌≤◌, ◌++◌}
 use Rattle.std.specs.Str.{IsCharBoundary}
 use Rattle.handlebars_base.specs.Escape.{escaped}
-use Rattle.handlebars_base.specs.Outputs.{AllBut}
+use Rattle.handlebars_base.proofs.Writes.{AllBut}
 use Rattle.handlebars_base.proofs.EscapedRuns.{left_at}
 use Rattle.handlebars_base.proofs.support.write_marked.Given as goal
 
