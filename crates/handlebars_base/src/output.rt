@@ -1,11 +1,11 @@
 //! Where a rendering writes.
 
-ghost use Rattle.std.specs.Prelude.{◌≡◌, ◌≢◌, ◌≤◌, IfErr, IfOk, OnErr, string_bytes, string_capacity};
+ghost use Rattle.std.specs.Prelude.{◌≡◌, ◌≢◌, ◌<◌, ◌≤◌, length, IfErr, IfOk, OnErr, OnOk, string_bytes, string_capacity};
 ghost use Rattle.std.specs.IoError.{error_kind};
 ghost use Rattle.std.specs.declared.io.Error.{Error};
 ghost use Rattle.std.specs.declared.io.ErrorKind.TheVariants.{OutOfMemory};
 ghost use Rattle.handlebars_base.specs.RenderRefusals.{cause_of, refusal_of, plain_refusal};
-ghost use Rattle.handlebars_base.specs.Outputs.{Held, empty_output, Written, held_of, write_reason};
+ghost use Rattle.handlebars_base.specs.Outputs.{Held, IsWhole, empty_output, Written, held_of, write_reason};
 
 use crate::error::{RenderError, RenderErrorReason};
 use std::alloc::{AllocError, Global};
@@ -56,23 +56,26 @@ impl StringOutput {
         })
     }
 
-    // Writes a segment for which there may be no room.
-    #[inline(never)]
-    fn write_growing(&mut self, seg: &str) -> Result<(), io::Error>
-        ensures written { Written seg.now (held_of self.old) result (held_of self.new) }
-        ensures given { IfErr result (λ e. error_kind e ≡ OutOfMemory) }
-        ensures whole { OnErr result ((held_of self.new).text ≡ (held_of self.old).text) }
+    // Keeps a segment, where there is memory for it. What is inlined is a copy, where there is room.
+    #[inline(always)]
+    fn keep(&mut self, seg: &str) -> Result<(), AllocError>
+        ensures ok { OnOk result (IsWhole seg.now (held_of self.old) (held_of self.new)) }
+        ensures err { OnErr result (held_of self.new ≡ held_of self.old) }
+        ensures some { OnErr result (0 < length seg.now) }
     {
-        if seg.is_empty() {
-            return Ok(());
+        if self.text.capacity() - self.text.len() < seg.len() {
+            return self.keep_growing(seg);
         }
-        match self.text.push_str(seg) {
-            Ok(()) => Ok(()),
-            Err(cause) => {
-                self.faults = self.faults.saturating_add(1);
-                Err(cause.into())
-            }
-        }
+        self.text.push_str(seg)
+    }
+
+    // Keeps a segment that has no room yet.
+    #[inline(never)]
+    fn keep_growing(&mut self, seg: &str) -> Result<(), AllocError>
+        ensures ok { OnOk result (IsWhole seg.now (held_of self.old) (held_of self.new)) }
+        ensures err { OnErr result (held_of self.new ≡ held_of self.old) }
+    {
+        self.text.push_str(seg)
     }
 
     /// All that was written.
@@ -88,17 +91,19 @@ impl Output for StringOutput {
 
     ghost may_give = { λ e. error_kind e ≡ OutOfMemory };
 
-    // What is inlined is a copy, where there is room.
     #[inline(always)]
     fn write(&mut self, seg: &str) -> Result<(), io::Error>
         ensures written { Written seg.now (held_of self.old) result (held_of self.new) }
         ensures given { IfErr result (λ e. error_kind e ≡ OutOfMemory) }
         ensures whole { OnErr result ((held_of self.new).text ≡ (held_of self.old).text) }
     {
-        if seg.len() <= self.text.capacity() - self.text.len() && self.text.push_str(seg).is_ok() {
-            return Ok(());
+        match self.keep(seg) {
+            Ok(()) => Ok(()),
+            Err(cause) => {
+                self.faults = self.faults.saturating_add(1);
+                Err(cause.into())
+            }
         }
-        self.write_growing(seg)
     }
 }
 
