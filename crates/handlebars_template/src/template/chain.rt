@@ -197,7 +197,7 @@ impl Branch {
         ensures { IfOk result (λ t. body (tree_view t) ≡ inverse_of (branch_view self ∷ []) (body_view inverse)) }
     {
         let Branch { opening, elements } = self;
-        let call = Box::new(alloc, opening.block(elements, inverse, true))?;
+        let call = opening.block(elements, inverse, true).boxed(alloc)?;
         let mut elements = Vec::new(alloc);
         elements.push(TemplateElement::HelperBlock(call))?;
         Ok(Template {
@@ -252,7 +252,7 @@ fn helper_block(
         (body_view last))) }
 {
     let call = helper_call(alloc, opening, first, branches, last)?;
-    Ok(TemplateElement::HelperBlock(Box::new(alloc, call)?))
+    Ok(TemplateElement::HelperBlock(call.boxed(alloc)?))
 }
 
 /// The whole block, from its first body, its chained inverses and its inverse. In time linear in its branches.

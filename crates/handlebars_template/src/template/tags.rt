@@ -300,7 +300,7 @@ fn add_path(
     ensures { OnOk result ((line : Line) → IsPathAlone line (reference_of path)
         → Does nesting.old (value_piece is_escaped (place_of at) line) nesting.new) }
 {
-    let call = Box::new(alloc, path_line(alloc, path).call())?;
+    let call = path_line(alloc, path).call().boxed(alloc)?;
     nesting.add(alloc, at, value_element(is_escaped, call), None)
 }
 
@@ -319,7 +319,7 @@ fn add_terms(
         return Ok(());
     };
     let refused = line.refused;
-    let call = Box::new(alloc, line.call())?;
+    let call = line.call().boxed(alloc)?;
     nesting.add(alloc, at, value_element(is_escaped, call), refused)
 }
 

@@ -96,6 +96,17 @@ impl HelperTemplate {
         }
     }
 
+    /// In memory of its own. It is matched, since `?` would hand the whole call on beside each answer.
+    #[inline(always)]
+    pub(crate) fn boxed(self, alloc: Global) -> Result<Box<HelperTemplate>, AllocError>
+        ensures { IfOk result (λ boxed. call_view boxed.value ≡ call_view self) }
+    {
+        match Box::new(alloc, self) {
+            Ok(boxed) => Ok(boxed),
+            Err(_) => Err(AllocError),
+        }
+    }
+
     /// Whether it is chained to the block around it, or has one chained to it.
     pub fn is_chained(&self) -> bool
         ensures { result ≡ (call_marks (call_view self.now)).chain }
@@ -202,7 +213,7 @@ impl Subexpression {
             chain: false,
             indent_before_write: false,
         };
-        let expression = TemplateElement::Expression(Box::new(alloc, call)?);
+        let expression = TemplateElement::Expression(call.boxed(alloc)?);
         let element = Box::new(alloc, expression)?;
         Ok(Subexpression { element })
     }

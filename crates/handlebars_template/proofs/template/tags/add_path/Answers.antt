@@ -14,5 +14,5 @@ returns c = on_ok_weaker c.add.result
     let built = c.path_line.ensures line alone in
     let none : first_refused (line_literals line) ≡ None =
     ap (λ (t : Term). first_refused (literals_of t ++ literals_in line.terms)) alone.name ∙ ap (λ (ts : Terms). first_refused (literals_in ts)) alone.terms in
-    Does-leaf c.args.nesting.now c.add.new.self (place_of c.args.at) line.depth _ _ None _ (c.value_element.ensures ∙ ap (value_element c.args.is_escaped) (ap call_view c.in_ok-call.ensures.ok ∙ c.call.ensures ∙ built.call)) (sym none) does)
+    Does-leaf c.args.nesting.now c.add.new.self (place_of c.args.at) line.depth _ _ None _ (c.value_element.ensures ∙ ap (value_element c.args.is_escaped) (c.in_ok-call.ensures ∙ c.call.ensures ∙ built.call)) (sym none) does)
     c.add.ensures

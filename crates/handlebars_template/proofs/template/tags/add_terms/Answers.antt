@@ -13,5 +13,5 @@ pub returns : goal.returns
 returns c = on_ok_weaker c.add.result
     (λ does line rest is.
     let built = rw c.in-Some.is at c.in_ok-line.ensures line rest is in
-    Does-leaf c.args.nesting.now c.add.new.self (place_of c.args.at) line.depth _ _ _ _ (c.value_element.ensures ∙ ap (value_element c.args.is_escaped) (ap call_view c.in_ok-call.ensures.ok ∙ c.call.ensures ∙ built.call)) built.refused does)
+    Does-leaf c.args.nesting.now c.add.new.self (place_of c.args.at) line.depth _ _ _ _ (c.value_element.ensures ∙ ap (value_element c.args.is_escaped) (c.in_ok-call.ensures ∙ c.call.ensures ∙ built.call)) built.refused does)
     c.add.ensures
