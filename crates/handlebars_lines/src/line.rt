@@ -65,8 +65,8 @@ fn split_alone(mode: NameMode, around: Enclosure, text: &str) -> Option<LineSlic
     }
 }
 
-/// The line, step by step.
-fn split_terms<'a>(
+/// What `split_line` finds, step by step, for whoever has seen that no path is alone in the line.
+pub fn split_terms<'a>(
     alloc: Global,
     mode: NameMode,
     around: Enclosure,

@@ -5,6 +5,8 @@ use Rattle.handlebars_base.specs.Texts.{symbols_of}
 use Rattle.handlebars_lines.specs.Parameter.{Term, literal_term, path_term, name_term, call_term, Terms}
 use Rattle.handlebars_lines.specs.Line.{identifier_name, Line, in_block, IsLine, NoLine}
 use Rattle.handlebars_lines.specs.Binding.{BoundNames, IsBinding, NoBinding}
+use Rattle.handlebars_lines.specs.Alone.{IsNamed}
+use Rattle.handlebars_lines.proofs.Alone.{named_line}
 use Rattle.handlebars_lines.proofs.Lines.{one_line}
 use Rattle.handlebars_lines.proofs.Bindings.{one_binding}
 use Rattle.handlebars_tags.specs.Tag.{BlockLine, IsBlockLine}
@@ -23,6 +25,16 @@ block_line-is t left rest line binding is binds =
       binds = binds;
     }
 
+abbrev text_in : Term → Text → Text
+text_in (literal_term raw) other = other
+text_in (path_term r) other = other
+text_in (name_term n) other = n
+text_in (call_term t terms) other = other
+
+-- the name of the line with one path behind it
+pub named-symbols : (t name raw left : Text) → IsNamed in_block t name raw left → name ≡ symbols_of t
+named-symbols t name raw left h = ap (λ (z : Term). text_in z name) (line-identifier (named_line in_block t name raw left h))
+
 -- ---- where none is read, none is
 
 abbrev pub NoBlockLine : Text → Type 0
@@ -40,12 +52,6 @@ none-binding t left line is none means rest h =
 
 abbrev made : Text → Terms → BoundNames → ℕ → BlockLine
 made name terms binding depth = record { name = name; terms = terms; binding = binding; depth = depth }
-
-abbrev text_in : Term → Text → Text
-text_in (literal_term raw) other = other
-text_in (path_term r) other = other
-text_in (name_term n) other = n
-text_in (call_term t terms) other = other
 
 pub one_block_line : (t : Text) (a b : BlockLine) (rest rest' : Text) → IsBlockLine t a rest → IsBlockLine t b rest' → (a ≡ b) × (rest ≡ rest')
 one_block_line t a b rest rest' h k =

@@ -30,7 +30,7 @@ line_read k mode t left line content depth (Some i) is deep h = record {
   closing = record { closes = h.closes; is_content = h.is_content; deep = h.deep ∙ sym deep; ahead = h.ahead };
 }
 
-line_inside : (k : TagKind) (mode : NameMode) (of : Line → Tag) (t : Text) (content : Content) (i : Inside) → ((line : Line) → tag_depth (of line) ≡ line.depth)
+pub line_inside : (k : TagKind) (mode : NameMode) (of : Line → Tag) (t : Text) (content : Content) (i : Inside) → ((line : Line) → tag_depth (of line) ≡ line.depth)
     → ((line : Line) (rest : Text) → IsLine mode in_tag t line rest → Says k t (of line) rest) → ((tag : Tag) → HoldsLine mode of t tag → Holds content tag)
     → HasClosedLine k mode t content i → HasInside k t i
 line_inside k mode of t content i deep says holds h = record {

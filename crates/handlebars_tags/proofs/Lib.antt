@@ -9,6 +9,7 @@ pub mod LineNames
 pub mod BlockLines
 pub mod Insides
 pub mod InsidesRead
+pub mod PathsRead
 pub mod BlocksRead
 pub mod DecoratorLines
 pub mod Beginnings

@@ -1,11 +1,14 @@
 -- What the program's tags stand for.
-use Rattle.std.specs.Prelude.{◌≡◌, ℕ, Bool, true, ◌++◌, Some}
+use Rattle.std.specs.Prelude.{◌≡◌, ℕ, Bool, true, false, ◌++◌, Some, IfSome}
 use Rattle.handlebars_base.specs.Bytes.{Text}
-use Rattle.handlebars_lines.specs.Line.{NameMode, value_name, close_name, Line, in_tag, IsLine}
+use Rattle.handlebars_base.specs.Path.{IsIdentifier}
+use Rattle.handlebars_lines.specs.Alone.{IsAlone, IsNamed}
+use Rattle.handlebars_lines.specs.Line.{NameMode, value_name, close_name, Line, in_tag, in_block, IsLine}
 use Rattle.handlebars_lines.specs.Binding.{unbound}
 use Rattle.handlebars_lines.specs.BindingView.{bound_names_of}
-use Rattle.handlebars_tags.specs.Kind.{TagKind, closing_of}
+use Rattle.handlebars_tags.specs.Kind.{TagKind, expression_kind, html_kind, html_sign_kind, closing_of}
 use Rattle.handlebars_tags.specs.Tag.{BlockLine, IsBlockLine, Tag, expression_tag, html_tag, block_tag, inverse_tag, chain_tag, close_tag, raw_tag, raw_close_tag, decorator_tag, decorator_block_tag, partial_tag, partial_block_tag, comment_tag, tag_depth, Says, IsTag}
+use Rattle.handlebars_tags.specs.declared.tag.inside.PathSlice.{PathSlice}
 use Rattle.handlebars_tags.specs.declared.tag.inside.BlockSlice.{BlockSlice}
 use Rattle.handlebars_tags.specs.declared.tag.inside.Content.{Content}
 use Rattle.handlebars_tags.specs.declared.tag.inside.Content.TheVariants as content
@@ -39,10 +42,45 @@ pub record HoldsLine (mode : NameMode) (of : Line → Tag) (text : Text) (tag : 
   pub is_line : IsLine mode in_tag text line behind
   pub gives : tag ≡ of line
 
--- A text, which begins with a line of a block or of a decorator, a name and what it binds are those of the line.
+-- a value or a call, escaped or raw
+abbrev pub value_tag : Bool → Line → Tag
+value_tag true = expression_tag
+value_tag false = html_tag
+
+-- the kinds of values, and that of the escaped ones
+abbrev pub is_value_kind : TagKind → Bool
+is_value_kind expression_kind = true
+is_value_kind html_kind = true
+is_value_kind html_sign_kind = true
+is_value_kind kind = false
+
+abbrev pub is_escaped_kind : TagKind → Bool
+is_escaped_kind expression_kind = true
+is_escaped_kind kind = false
+
+-- A path, which is alone in a line of a tag, is that of the tag.
+pub record HoldsPath (slice : PathSlice) (tag : Tag) : Type 0 where
+  pub text : Text
+  pub line : Line
+  pub behind : Text
+  pub left : Text
+  pub is_line : IsLine value_name in_tag text line behind
+  pub is_alone : IsAlone in_tag text slice.raw.now left
+  pub is_name : slice.is_name ≡ true → IsIdentifier slice.raw.now
+  pub gives : tag ≡ value_tag slice.is_escaped line
+
+-- A text begins with a name and this one path behind it, which are the line of a block.
+pub record HasNamed (text raw : Text) : Type 0 where
+  pub name : Text
+  pub left : Text
+  pub is : IsNamed in_block text name raw left
+
+-- A text, which begins with a line of a block or of a decorator, a name, the one path behind it, where it is told,
+-- and what it binds are those of the line.
 pub record IsBlockSlice (slice : BlockSlice) (line : BlockLine) (rest : Text) : Type 0 where
   pub is_line : IsBlockLine slice.line.now line rest
   pub is_name : line.name ≡ slice.name.now
+  pub is_path : IfSome slice.path (λ raw. HasNamed slice.line.now raw.now)
   pub is_binding : line.binding ≡ bound_names_of slice.binding
 
 pub record HoldsBlock (of : BlockLine → Tag) (slice : BlockSlice) (tag : Tag) : Type 0 where
@@ -55,6 +93,7 @@ pub record HoldsBlock (of : BlockLine → Tag) (slice : BlockSlice) (tag : Tag) 
 abbrev pub Holds : Content → Tag → Type 0
 Holds (content.Expression text) tag = HoldsLine value_name expression_tag text.now tag
 Holds (content.Html text) tag = HoldsLine value_name html_tag text.now tag
+Holds (content.Path slice) tag = HoldsPath slice tag
 Holds (content.Block slice) tag = HoldsBlock block_tag slice tag
 Holds content.Inverse tag = tag ≡ inverse_tag
 Holds (content.Chain slice) tag = HoldsBlock chain_tag slice tag

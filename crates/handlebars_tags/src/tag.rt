@@ -6,14 +6,14 @@ ghost use Rattle.handlebars_tags.specs.Tag.{NoTag};
 ghost use Rattle.handlebars_tags.specs.TagView.{HasTag};
 
 use beginning::beginning_of;
-use inside::inside_at;
+use inside::read_inside;
 use std::alloc::{AllocError, Global};
 
 mod beginning;
 mod closing;
 mod inside;
 
-pub use inside::{BlockSlice, Content};
+pub use inside::{BlockSlice, Content, PathSlice};
 
 /// A tag by its parts of the source: what it says, whether tildes stand inside its braces, the most parentheses and
 /// brackets open at once in it, and what follows it.
@@ -42,7 +42,7 @@ pub fn split_tag<'a>(
     let Some(begins) = beginning_of(left) else {
         return Ok(None);
     };
-    match inside_at(alloc, begins, left, long_ahead)? {
+    match read_inside(alloc, begins, left, long_ahead)? {
         Some(read) => Ok(Some(TagSlice {
             content: read.content,
             left: begins.tilde,

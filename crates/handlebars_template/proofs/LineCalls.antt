@@ -100,7 +100,7 @@ builds-ends mode around t s rest calls is b line left l =
 -- ---- a path alone
 
 -- the path that is alone in front, where it is read
-lone-path : (around : Enclosure) (t raw rest : Text) (means : Reference) → IsAlone around t raw rest → Some means ≡ path_of raw
+pub lone-path : (around : Enclosure) (t raw rest : Text) (means : Reference) → IsAlone around t raw rest → Some means ≡ path_of raw
     → (line : Line) (left : Text) → IsLine value_name around t line left → IsPathAlone line means
 lone-path around t raw rest means h found line left l =
     let alone : Line = record { name = path_term h.means; terms = no_terms; depth = 0 } in
@@ -110,6 +110,9 @@ lone-path around t raw rest means h found line left l =
       name = ap (λ (z : Line). z.name) same ∙ ap path_term (sym path);
       terms = ap (λ (z : Line). z.terms) same;
     }
+
+pub lone-none : {A : Type 0} (around : Enclosure) (t raw rest : Text) → IsAlone around t raw rest → None ≡ path_of raw → A
+lone-none around t raw rest h none = absurd (none-some h.means (none ∙ path_known raw h.means h.is_path))
 
 pub lone-read : {E : Type 0} (around : Enclosure) (t raw rest : Text) → IsAlone around t raw rest
     → (r : Result (Option Path) E) → IfOk r (λ read. option_map reference_of read ≡ path_of raw)

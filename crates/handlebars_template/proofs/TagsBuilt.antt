@@ -3,21 +3,25 @@ use Rattle.std.proofs.Common.{◌≡◌, ℕ, Bool, true, false, cond, refl, sym
 use Rattle.handlebars_base.specs.Bytes.{Text}
 use Rattle.handlebars_lines.specs.Binding as means
 use Rattle.handlebars_lines.specs.Parameter.{TermShape, literal_shape, path_shape, nested_shape, Items, term_of}
-use Rattle.handlebars_lines.specs.Line.{NameMode, close_name, Line, in_tag, IsLine, NameShape, plain_name, term_name, is_nested, IsName, term_of_name}
+use Rattle.handlebars_lines.specs.Line.{NameMode, value_name, close_name, Line, in_tag, IsLine, NameShape, plain_name, term_name, is_nested, IsName, term_of_name}
+use Rattle.handlebars_lines.specs.Alone.{IsAlone}
 use Rattle.handlebars_lines.specs.LineView.{key_of}
-use Rattle.handlebars_tags.specs.Tag.{Tag, tag_depth, BlockLine}
+use Rattle.handlebars_tags.specs.Tag.{Tag, expression_tag, html_tag, tag_depth, BlockLine}
 use Rattle.handlebars_tags.specs.Options.{Options}
 use Rattle.handlebars_tags.specs.Trim.{Edge}
-use Rattle.handlebars_tags.specs.TagView.{HoldsLine, HoldsBlock, IsBlockSlice}
+use Rattle.handlebars_tags.specs.TagView.{Holds, HoldsLine, HoldsPath, HoldsBlock, IsBlockSlice, value_tag}
 use Rattle.handlebars_tags.specs.declared.tag.inside.BlockSlice.{BlockSlice}
+use Rattle.handlebars_tags.specs.declared.tag.inside.PathSlice.{PathSlice}
+use Rattle.handlebars_tags.specs.declared.tag.inside.Content.{Content}
+use Rattle.handlebars_tags.specs.declared.tag.inside.Content.TheVariants as content
 use Rattle.handlebars_template.specs.Place.{Place}
 use Rattle.handlebars_template.specs.Tree.{Element, decorator, Args, no_arguments, lacks_arguments, Param, name, no_binding, no_body, call_name, call_args}
 use Rattle.handlebars_template.specs.TreeView.{param_view, arguments_view}
-use Rattle.handlebars_template.specs.Calls.{named_param, name_before, param_of, arguments_in, first_refused, literals_in, line_literals}
+use Rattle.handlebars_template.specs.Calls.{named_param, name_before, param_of, arguments_in, call_of, first_refused, literals_in, line_literals}
 use Rattle.handlebars_template.specs.Nest.{BlockKind, helper_opening, partial_opening, Opening as Said, SourcePiece, leaf, opens, chains}
 use Rattle.handlebars_template.specs.NestView.{opening_view, early, Looks, Does}
 use Rattle.handlebars_template.specs.Compile.{block_binding, is_indented, opening_of, closing_name, partial_opening_of, indentation, partial_of, tag_piece}
-use Rattle.handlebars_template.specs.ScanView.{HasOpening}
+use Rattle.handlebars_template.specs.ScanView.{value_element, value_piece, HasOpening, KnowsName}
 use Rattle.handlebars_template.specs.LineBuildingView.{IsCallOf}
 use Rattle.handlebars_template.specs.declared.template.line.BuiltLine.{BuiltLine}
 use Rattle.handlebars_template.specs.declared.template.nest.Nesting.{Nesting}
@@ -127,3 +131,54 @@ pub Looks-at : {A : Type 0} (options : Options) (old : Nesting) (p : Place) (e :
 Looks-at options old p e seen tag same piece x r depth is deep stands looks =
     let at : tag_piece options p e same ≡ piece x depth r = stands ∙ ap (λ (n : ℕ). piece x n r) (ap tag_depth (sym is) ∙ deep) in
     Looks-same options old p e seen tag same is (subst (λ (y : SourcePiece). Looks p (early old y) seen) (sym at) (looks x r))
+
+-- ---- a path alone in its tag
+
+value-piece : (options : Options) (p : Place) (e : Edge) (line : Line) (is_escaped : Bool) → tag_piece options p e (value_tag is_escaped line) ≡ value_piece is_escaped p line
+value-piece options p e line true = refl
+value-piece options p e line false = refl
+
+value-depth : (line : Line) (is_escaped : Bool) → line.depth ≡ tag_depth (value_tag is_escaped line)
+value-depth line true = refl
+value-depth line false = refl
+
+pub Does-path : (options : Options) (old new : Nesting) (p : Place) (e : Edge) (slice : PathSlice) (tag : Tag) → HoldsPath slice tag
+    → ((line : Line) (text behind left : Text) → IsLine value_name in_tag text line behind → IsAlone in_tag text slice.raw.now left → Does old (value_piece slice.is_escaped p line) new)
+    → Does old (tag_piece options p e tag) new
+Does-path options old new p e slice tag h does =
+    subst (λ (z : Tag). Does old (tag_piece options p e z) new) (sym h.gives)
+    (subst (λ (z : SourcePiece). Does old z new) (sym (value-piece options p e h.line slice.is_escaped)) (does h.line h.text h.behind h.left h.is_line h.is_alone))
+
+pub Looks-path : (options : Options) (old : Nesting) (p : Place) (e : Edge) (seen : Option SyntaxFault) (slice : PathSlice) (tag : Tag) (depth : ℕ) → HoldsPath slice tag → tag_depth tag ≡ depth
+    → ((x : Element) (r : Option Text) → Looks p (early old (leaf p x depth r)) seen) → Looks p (early old (tag_piece options p e tag)) seen
+Looks-path options old p e seen slice tag depth h deep looks =
+    let x : Element = value_element slice.is_escaped (call_of h.line.name h.line.terms) in
+    let r : Option Text = first_refused (line_literals h.line) in
+    let at : h.line.depth ≡ depth = value-depth h.line slice.is_escaped ∙ ap tag_depth (sym h.gives) ∙ deep in
+    Looks-same options old p e seen tag (value_tag slice.is_escaped h.line) h.gives
+    (subst (λ (z : SourcePiece). Looks p (early old z) seen) (sym (value-piece options p e h.line slice.is_escaped))
+    (subst (λ (n : ℕ). Looks p (early old (leaf p x n r)) seen) (sym at) (looks x r)))
+
+-- what holds of no value doesn't hold of a path
+pub never-path : (f : Tag → Bool) → ((line : Line) → f (expression_tag line) ≡ false) → ((line : Line) → f (html_tag line) ≡ false) → (slice : PathSlice) (tag : Tag) → HoldsPath slice tag → false ≡ f tag
+never-path f escaped raw slice tag h = sym (ap f h.gives ∙ on slice.is_escaped)
+  where
+    on : (b : Bool) → f (value_tag b h.line) ≡ false
+    on true = escaped h.line
+    on false = raw h.line
+
+pub knows_name : (c : Content) (tag : Tag) → Holds c tag → KnowsName c
+knows_name (content.Path slice) tag h = h.is_name
+knows_name (content.Expression _) tag h = tt
+knows_name (content.Html _) tag h = tt
+knows_name (content.Block _) tag h = tt
+knows_name content.Inverse tag h = tt
+knows_name (content.Chain _) tag h = tt
+knows_name (content.Close _) tag h = tt
+knows_name (content.RawBlock _) tag h = tt
+knows_name (content.RawClose _) tag h = tt
+knows_name (content.Decorator _) tag h = tt
+knows_name (content.DecoratorBlock _) tag h = tt
+knows_name (content.Partial _) tag h = tt
+knows_name (content.PartialBlock _) tag h = tt
+knows_name (content.Comment _) tag h = tt

@@ -1,10 +1,13 @@
 -- What the program builds of tags, and scans a source to. Only the code's own contracts cite this.
-use Rattle.std.specs.Prelude.{◌≡◌, Bool, true, false, if◌then◌else◌, List, [], ◌∷◌, Option, None, Some, option_map, MatchOption}
+use Rattle.std.specs.Prelude.{◌≡◌, Bool, true, false, if◌then◌else◌, List, [], ◌∷◌, Option, None, Some, option_map, MatchOption, ⊤}
 use Rattle.handlebars_base.specs.Bytes.{Text}
+use Rattle.handlebars_base.specs.Path.{IsIdentifier}
 use Rattle.handlebars_lines.specs.Line.{Line}
 use Rattle.handlebars_tags.specs.Tag.{BlockLine}
 use Rattle.handlebars_tags.specs.Trim.{Edge, trimmed, has_element}
 use Rattle.handlebars_tags.specs.Options.{Options}
+use Rattle.handlebars_tags.specs.declared.tag.inside.Content.{Content}
+use Rattle.handlebars_tags.specs.declared.tag.inside.Content.TheVariants as content
 use Rattle.handlebars_template.specs.Place.{Place}
 use Rattle.handlebars_template.specs.Tree.{Element, raw_string, html_expression, expression, Call}
 use Rattle.handlebars_template.specs.TreeView.{place_of}
@@ -29,6 +32,11 @@ value_element false h = html_expression h
 abbrev pub value_piece : Bool → Place → Line → SourcePiece
 value_piece is_escaped p line =
     leaf p (value_element is_escaped (call_of line.name line.terms)) line.depth (first_refused (line_literals line))
+
+-- A path that is alone in its tag is an identifier, where it is said to be a name.
+abbrev pub KnowsName : Content → Type 0
+KnowsName (content.Path slice) = slice.is_name ≡ true → IsIdentifier slice.raw.now
+KnowsName other = ⊤
 
 -- the opening that this line of a block says, and its first refused literal
 pub record HasOpening (kind : BlockKind) (e : Edge) (line : BlockLine) (built : BuiltOpening) : Type 0 where

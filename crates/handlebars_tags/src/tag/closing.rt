@@ -11,6 +11,7 @@ use handlebars_base::json::path::marks::{behind_byte, behind_white};
 
 /// Whether a tilde stands before the braces that close a tag of this kind, and what follows them. A comment holds its
 /// own.
+#[inline(always)]
 #[tactic(auto, unfolding(crate::specs::Kind::closing_of))]
 pub fn closing_of(kind: TagKind, text: &str) -> Option<(bool, &str)>
     ensures { option_map tilded result ≡ closing_of (kind_of kind) text.now }

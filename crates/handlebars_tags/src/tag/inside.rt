@@ -2,20 +2,25 @@
 
 ghost use Rattle.std.specs.Prelude.{◌≡◌, true, IfOk, IfSome, MatchOption, Some, None, codes, drop};
 ghost use Rattle.handlebars_base.specs.Bytes.{Text};
-ghost use Rattle.handlebars_lines.specs.Line.{value_name, close_name};
+ghost use Rattle.handlebars_base.specs.Path.{IsIdentifier};
+ghost use Rattle.handlebars_base.specs.Texts.{symbols_of};
+ghost use Rattle.handlebars_lines.specs.Alone.{IsAlone};
+ghost use Rattle.handlebars_lines.specs.Line.{identifier_name, value_name, close_name, Line, in_tag, in_block, IsLine};
 ghost use Rattle.handlebars_lines.specs.LineView.{mode_of};
 ghost use Rattle.handlebars_tags.specs.Comment.{HasNoLong};
 ghost use Rattle.handlebars_tags.specs.Kind.{behind_text, closing_of, comment_kind, else_kind, block_kind, raw_kind, raw_close_kind, close_kind, decorator_kind, decorator_block_kind};
 ghost use Rattle.handlebars_tags.specs.KindView.{kind_of};
 ghost use Rattle.handlebars_tags.specs.Tag.{BlockLine, IsBlockLine, IsDecoratorLine};
-ghost use Rattle.handlebars_tags.specs.TagView.{NoneClosed, NoClosedLine, HasBlock, HasDecorator, HasClosing, HasClosedLine, HasInside};
+ghost use Rattle.handlebars_tags.specs.TagView.{NoneClosed, NoClosedLine, HasBlock, HasDecorator, HasClosing, HasClosedLine, HasInside, HasNamed, is_value_kind, is_escaped_kind};
 
 use super::beginning::{TagBeginning, TagKind};
 use super::closing::closing_of;
 use crate::comment::split_comment;
 use handlebars_base::json::path::marks::{behind_white, starts_white, symbols};
 use handlebars_lines::binding::{BoundNames, split_binding};
-use handlebars_lines::line::{Enclosure, NameMode, close_name_at, split_line};
+use handlebars_lines::line::{
+    Enclosure, LonePath, NameMode, close_name_at, path_alone, path_named, split_terms,
+};
 use std::alloc::{AllocError, Global};
 
 /// What a tag says, by its parts of the source.
@@ -25,6 +30,8 @@ pub enum Content<'a> {
     Expression(&'a str),
     /// One that is written raw.
     Html(&'a str),
+    /// A value that is a path alone.
+    Path(PathSlice<'a>),
     Block(BlockSlice<'a>),
     Inverse,
     /// `else` with a line.
@@ -43,11 +50,21 @@ pub enum Content<'a> {
     Comment(&'a str),
 }
 
-/// The line of a block or of a decorator: the text that begins with it, its name, and what it binds.
+/// A path that is alone in its tag: its text, whether it is surely a name, and whether its value is escaped.
+#[derive(Clone, Copy)]
+pub struct PathSlice<'a> {
+    pub raw: &'a str,
+    pub is_name: bool,
+    pub is_escaped: bool,
+}
+
+/// The line of a block or of a decorator: the text that begins with it, its name, the one path behind that, where it is
+/// known, and what it binds.
 #[derive(Clone, Copy)]
 pub struct BlockSlice<'a> {
     pub line: &'a str,
     pub name: &'a str,
+    pub path: Option<&'a str>,
     pub binding: BoundNames<'a>,
 }
 
@@ -100,7 +117,105 @@ pub fn inside_at<'a>(
     }
 }
 
+/// What is inside the tag that begins so: a path alone, as in most, or what `inside_at` finds.
+#[inline(always)]
+pub fn read_inside<'a>(
+    alloc: Global,
+    begins: TagBeginning<'a>,
+    left: &'a str,
+    long_ahead: bool,
+) -> Result<Option<Inside<'a>>, AllocError>
+    requires comment { kind_of begins.kind ≡ comment_kind → behind_text (codes "{{!") left.now ≡ Some begins.inside.now }
+    requires ahead { HasNoLong long_ahead left.now }
+    ensures reads { IfOk result (λ read. MatchOption read (NoneClosed (kind_of begins.entry.kind) begins.entry.inside.now)
+        (λ inside. HasInside (kind_of begins.entry.kind) begins.entry.inside.now inside)) }
+    ensures ahead { IfOk result (λ read. IfSome read (λ inside. HasNoLong inside.long_ahead inside.rest.now)) }
+{
+    match lone_path(begins) {
+        Some(path) => Ok(path_inside(begins.kind, path)),
+        None => inside_at(alloc, begins, left, long_ahead),
+    }
+}
+
+/// The path that is alone in the line of a value. Where it answers none, that says nothing.
+#[inline(always)]
+fn lone_path(begins: TagBeginning<'_>) -> Option<LonePath<'_>>
+    ensures kind { IfSome result (λ path. is_value_kind (kind_of begins.entry.kind) ≡ true) }
+    ensures alone { IfSome result (λ path. IsAlone in_tag begins.entry.inside.now path.raw.now path.rest.now) }
+    ensures name { IfSome result (λ path. path.is_name ≡ true → IsIdentifier path.raw.now) }
+{
+    if !is_value_kind(begins.kind) {
+        return None;
+    }
+    match path_alone(Enclosure::Tag, begins.inside) {
+        Some(path) => Some(path),
+        None => None,
+    }
+}
+
+fn is_value_kind(kind: TagKind) -> bool
+    ensures { result ≡ is_value_kind (kind_of kind) }
+{
+    match kind {
+        TagKind::Expression => true,
+        TagKind::Html => true,
+        TagKind::HtmlSign => true,
+        TagKind::Block => false,
+        TagKind::Close => false,
+        TagKind::Inverse => false,
+        TagKind::Else => false,
+        TagKind::Raw => false,
+        TagKind::RawClose => false,
+        TagKind::Decorator => false,
+        TagKind::DecoratorBlock => false,
+        TagKind::Partial => false,
+        TagKind::PartialBlock => false,
+        TagKind::Comment => false,
+    }
+}
+
+/// A path that is alone in the line of a value of this kind, with what closes the tag.
+#[inline(always)]
+fn path_inside(kind: TagKind, path: LonePath<'_>) -> Option<Inside<'_>>
+    requires { is_value_kind (kind_of kind) ≡ true }
+    ensures reads { (text : Text) → IsAlone in_tag text path.entry.raw.now path.entry.rest.now
+        → (path.entry.is_name ≡ true → IsIdentifier path.entry.raw.now)
+        → MatchOption result (NoneClosed (kind_of kind) text) (λ inside. HasInside (kind_of kind) text inside) }
+    ensures ahead { IfSome result (λ inside. inside.long_ahead ≡ true) }
+{
+    let slice = PathSlice {
+        raw: path.raw,
+        is_name: path.is_name,
+        is_escaped: is_escaped_kind(kind),
+    };
+    closed(kind, Content::Path(slice), 0, path.rest)
+}
+
+/// Of a value's kind: whether the value is escaped.
+#[inline(always)]
+fn is_escaped_kind(kind: TagKind) -> bool
+    ensures { result ≡ is_escaped_kind (kind_of kind) }
+{
+    match kind {
+        TagKind::Expression => true,
+        TagKind::Html => false,
+        TagKind::HtmlSign => false,
+        TagKind::Block => false,
+        TagKind::Close => false,
+        TagKind::Inverse => false,
+        TagKind::Else => false,
+        TagKind::Raw => false,
+        TagKind::RawClose => false,
+        TagKind::Decorator => false,
+        TagKind::DecoratorBlock => false,
+        TagKind::Partial => false,
+        TagKind::PartialBlock => false,
+        TagKind::Comment => false,
+    }
+}
+
 /// What was read so far, with what closes it.
+#[inline(always)]
 fn closed<'a>(
     kind: TagKind,
     content: Content<'a>,
@@ -133,7 +248,7 @@ fn line<'a>(
     ensures { IfOk result (λ read. MatchOption read (NoClosedLine (kind_of kind) (mode_of mode) text.now)
         (λ inside. HasClosedLine (kind_of kind) (mode_of mode) text.now content.entry inside)) }
 {
-    match split_line(alloc, mode, Enclosure::Tag, text)? {
+    match split_terms(alloc, mode, Enclosure::Tag, text)? {
         Some(line) => Ok(closed(kind, content, line.depth, line.rest)),
         None => Ok(None),
     }
@@ -300,21 +415,49 @@ fn block_line(alloc: Global, text: &str) -> Result<Option<BlockRead<'_>>, AllocE
     ensures { IfOk result (λ read. MatchOption read ((line : BlockLine) (rest : Text) → IsBlockLine text.now line rest → ⊥)
         (λ read. HasBlock text.now read)) }
 {
-    let Some(line) = split_line(alloc, NameMode::Identifier, Enclosure::Block, text)? else {
+    match path_named(Enclosure::Block, text) {
+        Some(found) => Ok(bound_line(text, found.name, Some(found.raw), 0, found.rest)),
+        None => block_terms(alloc, text),
+    }
+}
+
+/// The line, where it isn't known that one path alone stands behind its name.
+fn block_terms(alloc: Global, text: &str) -> Result<Option<BlockRead<'_>>, AllocError>
+    ensures { IfOk result (λ read. MatchOption read ((line : BlockLine) (rest : Text) → IsBlockLine text.now line rest → ⊥)
+        (λ read. HasBlock text.now read)) }
+{
+    let Some(line) = split_terms(alloc, NameMode::Identifier, Enclosure::Block, text)? else {
         return Ok(None);
     };
     let (name, _) = symbols(text);
-    match split_binding(line.rest) {
-        Some(binding) => Ok(Some(BlockRead {
+    Ok(bound_line(text, name, None, line.depth, line.rest))
+}
+
+/// The line that ends here, and the block parameters behind it, if any.
+fn bound_line<'a>(
+    text: &'a str,
+    name: &'a str,
+    path: Option<&'a str>,
+    depth: usize,
+    behind: &'a str,
+) -> Option<BlockRead<'a>>
+    ensures { (line : Line) → IsLine identifier_name in_block text.now line behind.now → line.depth ≡ depth
+        → name.now ≡ symbols_of text.now → IfSome path.entry (λ raw. HasNamed text.now raw.now)
+        → MatchOption result ((line : BlockLine) (rest : Text) → IsBlockLine text.now line rest → ⊥)
+        (λ read. HasBlock text.now read) }
+{
+    match split_binding(behind) {
+        Some(binding) => Some(BlockRead {
             slice: BlockSlice {
                 line: text,
                 name,
+                path,
                 binding: binding.means,
             },
-            depth: line.depth,
+            depth,
             rest: binding.rest,
-        })),
-        None => Ok(None),
+        }),
+        None => None,
     }
 }
 

@@ -5,6 +5,7 @@ ghost use Rattle.handlebars_base.specs.Bytes.{Text};
 ghost use Rattle.handlebars_lines.specs.Line.{identifier_name, in_block, Line, IsLine};
 ghost use Rattle.handlebars_lines.specs.LineView.{mode_of, enclosure_of};
 ghost use Rattle.handlebars_base.specs.PathView.{reference_of};
+ghost use Rattle.handlebars_tags.specs.TagView.{HasNamed};
 ghost use Rattle.handlebars_template.specs.LineBuildingView.{built_call, IsBuilt, IsCallOf, IsPathAlone, HasArguments};
 ghost use Rattle.handlebars_template.specs.Calls.{add_argument};
 ghost use Rattle.handlebars_template.specs.Tree.{expression, decorator, no_arguments, no_binding, no_body, path as means};
@@ -17,9 +18,7 @@ use crate::template::build::{first_calls, known_path, path_of};
 use crate::template::chain::{BlockKind, BlockNames, BlockOpening};
 use crate::template::tree::{DecoratorTemplate, HelperTemplate, Parameter, Subexpression};
 use handlebars_base::json::path::Path;
-use handlebars_lines::line::{
-    Enclosure, LineStand, NameMode, Step, path_alone, path_named, take_step,
-};
+use handlebars_lines::line::{Enclosure, LineStand, NameMode, Step, path_alone, take_step};
 use std::alloc::{AllocError, Global};
 
 /// The most blocks, chained inverses, parentheses and brackets of literals that may be open at once.
@@ -162,14 +161,15 @@ pub fn lone_path(
     }
 }
 
-/// The arguments of a name with one path behind it, as in most blocks: no call is opened for them. Where it answers none,
-/// or no line stands in front, that says nothing.
-pub fn named_arguments(alloc: Global, text: &str) -> Result<Option<Arguments>, AllocError>
-    ensures { IfOk result (λ read. IfSome read (λ arguments. (line : Line) (left : Text)
-        → IsLine identifier_name in_block text.now line left → HasArguments line (arguments_view arguments))) }
+/// The arguments of a name with one path behind it, by the text of that path, as in most blocks: no call is opened for
+/// them. Where it answers none, that says nothing.
+pub fn named_arguments(alloc: Global, path: Option<&str>) -> Result<Option<Arguments>, AllocError>
+    ensures { IfOk result (λ read. IfSome read (λ arguments. (text : Text) (line : Line) (left : Text)
+        → IfSome path.entry (λ raw. HasNamed text raw.now)
+        → IsLine identifier_name in_block text line left → HasArguments line (arguments_view arguments))) }
 {
-    match path_named(Enclosure::Block, text) {
-        Some(found) => match path_of(alloc, found.raw)? {
+    match path {
+        Some(raw) => match path_of(alloc, raw)? {
             Some(path) => Ok(Some(path_arguments(alloc, path)?)),
             None => Ok(None),
         },

@@ -1,8 +1,10 @@
 //! What is built of tags, and how they stand in the nesting.
 
-ghost use Rattle.std.specs.Prelude.{◌≡◌, None, IfOk, OnOk, option_map, string_bytes};
+ghost use Rattle.std.specs.Prelude.{◌≡◌, true, None, IfOk, OnOk, option_map, string_bytes};
 ghost use Rattle.handlebars_base.specs.Bytes.{Text};
+ghost use Rattle.handlebars_base.specs.Path.{IsIdentifier};
 ghost use Rattle.handlebars_base.specs.PathView.{reference_of};
+ghost use Rattle.handlebars_lines.specs.Alone.{IsAlone};
 ghost use Rattle.handlebars_lines.specs.Line.{value_name, close_name, Line, in_tag, IsLine};
 ghost use Rattle.handlebars_lines.specs.BindingView.{bound_names_of};
 ghost use Rattle.handlebars_tags.specs.Tag.{Tag, chain_tag, decorator_tag, partial_tag, partial_block_tag, tag_depth, is_raw_close, BlockLine};
@@ -19,19 +21,20 @@ ghost use Rattle.handlebars_template.specs.Calls.{first_refused, literals_in};
 ghost use Rattle.handlebars_template.specs.Nest.{leaf, opens};
 ghost use Rattle.handlebars_template.specs.NestView.{names_view, kind_view, opening_view, early, Looks, Does};
 ghost use Rattle.handlebars_template.specs.Cut.{may_follow};
-ghost use Rattle.handlebars_template.specs.ScanView.{value_element, value_piece, IsOpening};
+ghost use Rattle.handlebars_template.specs.ScanView.{value_element, value_piece, IsOpening, KnowsName};
 ghost use Rattle.handlebars_template.specs.Compile.{block_binding, is_indented, opening_of, closing_name, indentation, tag_piece};
 
 use crate::template::arguments::Arguments;
+use crate::template::build::known_path;
 use crate::template::chain::{BlockKind, BlockNames, BlockOpening};
 use crate::template::compile::TemplateOptions;
-use crate::template::line::{build_terms, lone_path, named_arguments, path_line};
+use crate::template::line::{build_terms, named_arguments, path_line};
 use crate::template::nest::{Nesting, SyntaxFault};
 use crate::template::tree::{HelperTemplate, Parameter, TemplateElement, TemplateMapping};
 use handlebars_base::json::path::Path;
 use handlebars_lines::binding::BoundNames;
 use handlebars_lines::line::{Enclosure, NameMode};
-use handlebars_tags::tag::{BlockSlice, Content, TagSlice};
+use handlebars_tags::tag::{BlockSlice, Content, PathSlice, TagSlice};
 use handlebars_tags::trim::{Edge, edge_at};
 use std::alloc::{AllocError, Global};
 
@@ -42,6 +45,7 @@ fn may_stand_alone(content: Content<'_>) -> bool
     match content {
         Content::Expression(_) => false,
         Content::Html(_) => false,
+        Content::Path(_) => false,
         Content::Block(_) => true,
         Content::Inverse => true,
         Content::Chain(_) => true,
@@ -63,6 +67,7 @@ fn opens_raw(content: Content<'_>) -> bool
         Content::RawBlock(_) => true,
         Content::Expression(_) => false,
         Content::Html(_) => false,
+        Content::Path(_) => false,
         Content::Block(_) => false,
         Content::Inverse => false,
         Content::Chain(_) => false,
@@ -84,6 +89,7 @@ fn takes_blanks(content: Content<'_>) -> bool
         Content::Partial(_) => true,
         Content::Expression(_) => false,
         Content::Html(_) => false,
+        Content::Path(_) => false,
         Content::Block(_) => false,
         Content::Inverse => false,
         Content::Chain(_) => false,
@@ -104,6 +110,7 @@ fn closes_raw(content: Content<'_>) -> bool
         Content::RawClose(_) => true,
         Content::Expression(_) => false,
         Content::Html(_) => false,
+        Content::Path(_) => false,
         Content::Block(_) => false,
         Content::Inverse => false,
         Content::Chain(_) => false,
@@ -148,6 +155,7 @@ pub fn look(nesting: &Nesting, content: Content<'_>, depth: usize) -> Option<Syn
     match content {
         Content::Expression(_) => nesting.look_at_leaf(depth),
         Content::Html(_) => nesting.look_at_leaf(depth),
+        Content::Path(_) => nesting.look_at_leaf(depth),
         Content::Block(_) => nesting.look_at_opening(depth),
         Content::Inverse => nesting.look_at_inverse(),
         Content::Chain(_) => nesting.look_at_chained(depth),
@@ -230,7 +238,7 @@ fn opening<'a>(
     ensures { IfOk result (λ built. (line : BlockLine) (rest : Text) → IsBlockSlice block.entry line rest
         → IsOpening (kind_view kind) (edge_view edge.entry) line built) }
 {
-    let Some(arguments) = named_arguments(alloc, block.line)? else {
+    let Some(arguments) = named_arguments(alloc, block.path)? else {
         return opening_by_terms(alloc, block, kind, edge);
     };
     let mut opening = bare_opening(alloc, block, kind, edge)?;
@@ -272,25 +280,27 @@ fn value_element(is_escaped: bool, call: Box<HelperTemplate>) -> TemplateElement
     }
 }
 
-fn add_value(
+// A path that is alone in its tag.
+#[inline(never)]
+fn add_path(
     alloc: Global,
     nesting: &mut Nesting,
     at: TemplateMapping,
-    text: &str,
-    is_escaped: bool,
+    slice: PathSlice<'_>,
 ) -> Result<(), AllocError>
-    ensures { OnOk result ((line : Line) (rest : Text) → IsLine value_name in_tag text.now line rest
-        → Does nesting.old (value_piece is_escaped (place_of at) line) nesting.new) }
+    requires { slice.is_name ≡ true → IsIdentifier slice.raw.now }
+    ensures { OnOk result ((line : Line) (text behind left : Text) → IsLine value_name in_tag text line behind
+        → IsAlone in_tag text slice.entry.raw.now left
+        → Does nesting.old (value_piece slice.entry.is_escaped (place_of at) line) nesting.new) }
 {
-    match lone_path(alloc, NameMode::Value, Enclosure::Tag, text)? {
-        Some(path) => add_path(alloc, nesting, at, path, is_escaped),
-        None => add_terms(alloc, nesting, at, text, is_escaped),
+    match known_path(alloc, slice.raw, slice.is_name)? {
+        Some(path) => add_known(alloc, nesting, at, path, slice.is_escaped),
+        None => Ok(()),
     }
 }
 
-// A path that is alone in its tag.
 #[inline(always)]
-fn add_path(
+fn add_known(
     alloc: Global,
     nesting: &mut Nesting,
     at: TemplateMapping,
@@ -304,6 +314,7 @@ fn add_path(
     nesting.add(alloc, at, value_element(is_escaped, call), None)
 }
 
+// A value of other terms.
 #[inline(never)]
 fn add_terms(
     alloc: Global,
@@ -468,12 +479,14 @@ pub fn take_tag(
     content: Content<'_>,
     edge: Edge<'_>,
 ) -> Result<(), AllocError>
+    requires { KnowsName content }
     ensures { OnOk result ((tag : Tag) → Holds content.entry tag
         → Does nesting.old (tag_piece (options_view options.now) (place_of at) (edge_view edge.entry) tag) nesting.new) }
 {
     match content {
-        Content::Expression(text) => add_value(alloc, nesting, at, text, true),
-        Content::Html(text) => add_value(alloc, nesting, at, text, false),
+        Content::Expression(text) => add_terms(alloc, nesting, at, text, true),
+        Content::Html(text) => add_terms(alloc, nesting, at, text, false),
+        Content::Path(slice) => add_path(alloc, nesting, at, slice),
         Content::Block(block) => begin(alloc, nesting, at, block, BlockKind::Helper, edge),
         Content::Inverse => nesting.invert(alloc, at),
         Content::Chain(block) => chain(alloc, nesting, at, block, edge),

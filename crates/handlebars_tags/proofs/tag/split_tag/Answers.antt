@@ -9,8 +9,8 @@ use Rattle.handlebars_tags.proofs.tag.split_tag.Goals.{then-long_ahead, else-lon
 pub returns-in_default-clause-reads : goal.returns-in_default-clause-reads
 returns-in_default-clause-reads c = none-beginning c.args.left.now (sym c.in_default.ensures)
 
-pub inside_at-requires-clause-comment : goal.inside_at-requires-clause-comment
-inside_at-requires-clause-comment c = (begun c.args.left.now (beginning_view c.in-Some.begins) (sym c.in-Some.ensures)).comment
+pub read_inside-requires-clause-comment : goal.read_inside-requires-clause-comment
+read_inside-requires-clause-comment c = (begun c.args.left.now (beginning_view c.in-Some.begins) (sym c.in-Some.ensures)).comment
 
 pub returns-in-None-clause-reads : goal.returns-in-None-clause-reads
 returns-in-None-clause-reads c =

@@ -15,6 +15,7 @@ use Rattle.handlebars_template.specs.NestView.{placed_view, open_blocks, late_of
 use Rattle.handlebars_template.specs.ScanView.{nested_outcome}
 use Rattle.handlebars_template.proofs.NestsFits.{apply-early, apply-stops}
 use Rattle.handlebars_template.proofs.Scan.{HasNoLong-behind, Scans-at, Scans-fits, Scans-fits_behind, Scans-step, Scans-end, Compiles-unreadable, Compiles-misplaced, NoTagBehind-none, NoTagBehind-other, IsCharBoundary-seam, IsUtf8-front, length-rest, fresh-split, edge-split}
+use Rattle.handlebars_template.proofs.TagsBuilt.{knows_name}
 use Rattle.handlebars_template.proofs.template.scan.scan.Goals as goal
 
 pub tags-init : goal.tags-init
@@ -69,6 +70,11 @@ returns-in-Some-look c =
     (syntax_fault at c.in-Some-look.fault)
     (apply-stops (tag_piece (options_view c.args.options.now) at next f.tag) state.depth (open_blocks state) (placed_view state.elements) (syntax_fault at c.in-Some-look.fault)
     (sym (rw c.in-Some-look.is at (c.look.ensures (options_view c.args.options.now) at next f.tag f.holds f.deep))))
+
+pub take_tag-requires : goal.take_tag-requires
+take_tag-requires c =
+    let f = rw c.in-Some.is at c.in_ok-tag.ensures.reads in
+    knows_name c.in-Some.tag.content f.tag f.holds
 
 pub advance-place-requires-clause-line : goal.advance-place-requires-clause-line
 advance-place-requires-clause-line c =

@@ -1,6 +1,6 @@
 use Rattle.std.proofs.Common.{◌∙◌, ap}
 use Rattle.std.proofs.lemmas.Result.{on_ok_weaker}
-use Rattle.handlebars_template.specs.TreeView.{call_view, place_of}
+use Rattle.handlebars_template.specs.TreeView.{place_of}
 use Rattle.handlebars_template.specs.ScanView.{value_element}
 use Rattle.handlebars_template.proofs.TagsBuilt.{Does-leaf}
 use Rattle.handlebars_template.proofs.template.tags.add_terms.Goals as goal

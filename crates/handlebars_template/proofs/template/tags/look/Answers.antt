@@ -2,7 +2,7 @@ use Rattle.std.proofs.Common.{refl, None}
 use Rattle.handlebars_tags.specs.Tag.{expression_tag, html_tag, block_tag, inverse_tag, chain_tag, close_tag, raw_tag, raw_close_tag, decorator_tag, decorator_block_tag, partial_tag, partial_block_tag, comment_tag}
 use Rattle.handlebars_template.specs.Tree.{comment}
 use Rattle.handlebars_template.specs.Nest.{leaf, opens, chains}
-use Rattle.handlebars_template.proofs.TagsBuilt.{Looks-same, Looks-at}
+use Rattle.handlebars_template.proofs.TagsBuilt.{Looks-same, Looks-at, Looks-path}
 use Rattle.handlebars_template.proofs.template.tags.look.Goals as goal
 
 pub returns-in-Expression : goal.returns-in-Expression
@@ -61,3 +61,6 @@ returns-in-PartialBlock c options p e tag holds deep =
 
 pub returns-in-Comment : goal.returns-in-Comment
 returns-in-Comment c options p e tag holds deep = Looks-same options c.args.nesting.now p e _ tag (comment_tag c.in-Comment.field-0.now) (rw c.in-Comment.is at holds) (c.look_at_leaf-in-Comment.ensures p (comment c.in-Comment.field-0.now) None)
+
+pub returns-in-Path : goal.returns-in-Path
+returns-in-Path c options p e tag holds deep = Looks-path options c.args.nesting.now p e _ c.in-Path.field-0 tag c.args.depth (rw c.in-Path.is at holds) deep (c.look_at_leaf-in-Path.ensures p)

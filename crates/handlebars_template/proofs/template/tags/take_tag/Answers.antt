@@ -4,14 +4,14 @@ use Rattle.handlebars_tags.specs.Tag.{expression_tag, html_tag, block_tag, chain
 use Rattle.handlebars_tags.specs.TrimView.{edge_view}
 use Rattle.handlebars_template.specs.OptionsView.{options_view}
 use Rattle.handlebars_template.specs.TreeView.{place_of}
-use Rattle.handlebars_template.proofs.TagsBuilt.{Does-line, Does-block}
+use Rattle.handlebars_template.proofs.TagsBuilt.{Does-line, Does-path, Does-block}
 use Rattle.handlebars_template.proofs.template.tags.take_tag.Goals as goal
 
 pub returns-in-Expression : goal.returns-in-Expression
-returns-in-Expression c = on_ok_weaker c.add_value.result (λ does tag holds. Does-line (options_view c.args.options.now) c.args.nesting.now c.add_value.new.nesting (place_of c.args.at) (edge_view c.args.edge) value_name expression_tag _ tag (rw c.in-Expression.is at holds) does) c.add_value.ensures
+returns-in-Expression c = on_ok_weaker c.add_terms.result (λ does tag holds. Does-line (options_view c.args.options.now) c.args.nesting.now c.add_terms.new.nesting (place_of c.args.at) (edge_view c.args.edge) value_name expression_tag _ tag (rw c.in-Expression.is at holds) does) c.add_terms.ensures
 
 pub returns-in-Html : goal.returns-in-Html
-returns-in-Html c = on_ok_weaker c.add_value-in-Html.result (λ does tag holds. Does-line (options_view c.args.options.now) c.args.nesting.now c.add_value-in-Html.new.nesting (place_of c.args.at) (edge_view c.args.edge) value_name html_tag _ tag (rw c.in-Html.is at holds) does) c.add_value-in-Html.ensures
+returns-in-Html c = on_ok_weaker c.add_terms-in-Html.result (λ does tag holds. Does-line (options_view c.args.options.now) c.args.nesting.now c.add_terms-in-Html.new.nesting (place_of c.args.at) (edge_view c.args.edge) value_name html_tag _ tag (rw c.in-Html.is at holds) does) c.add_terms-in-Html.ensures
 
 pub returns-in-Block : goal.returns-in-Block
 returns-in-Block c = on_ok_weaker c.begin.result (λ does tag holds. Does-block (options_view c.args.options.now) c.args.nesting.now c.begin.new.nesting (place_of c.args.at) (edge_view c.args.edge) block_tag _ tag (rw c.in-Block.is at holds) does) c.begin.ensures
@@ -33,3 +33,9 @@ returns-in-Partial c = on_ok_weaker c.add_partial.result (λ does tag holds. Doe
 
 pub returns-in-PartialBlock : goal.returns-in-PartialBlock
 returns-in-PartialBlock c = on_ok_weaker c.begin_partial.result (λ does tag holds. Does-line (options_view c.args.options.now) c.args.nesting.now c.begin_partial.new.nesting (place_of c.args.at) (edge_view c.args.edge) close_name partial_block_tag _ tag (rw c.in-PartialBlock.is at holds) (does (options_view c.args.options.now))) c.begin_partial.ensures
+
+pub add_path-requires : goal.add_path-requires
+add_path-requires c = rw c.in-Path.is at c.requires
+
+pub returns-in-Path : goal.returns-in-Path
+returns-in-Path c = on_ok_weaker c.add_path.result (λ does tag holds. Does-path (options_view c.args.options.now) c.args.nesting.now c.add_path.new.nesting (place_of c.args.at) (edge_view c.args.edge) c.in-Path.slice tag (rw c.in-Path.is at holds) does) c.add_path.ensures
