@@ -7,7 +7,7 @@ use Rattle.handlebars_base.specs.Bytes.{Text}
 use Rattle.handlebars_base.specs.Path.{Reference, relative}
 use Rattle.handlebars_base.specs.Scoped.{Found, missing, present_in, value, walked}
 use Rattle.handlebars_template.specs.Tree.{Tree}
-use Rattle.handlebars_scope.specs.Bases.{IsCurrent, bases_of, lend}
+use Rattle.handlebars_scope.specs.Bases.{IsCurrent, bases_of, lend, lent_behind}
 use Rattle.handlebars_scope.specs.Resolve.{or_else, resolve}
 use Rattle.handlebars_scope.specs.Scopes.{Frame}
 use Rattle.handlebars_scope.specs.declared.context.bases.Bases.TheVariants.{Outside}
@@ -115,3 +115,20 @@ pub named-lent : {w : Within} (kept : KeptIn w) (b : Option Data) {bs : List (Op
     → keeping kept (with_current name (pop_frame s)) ≡ with_current name (pop_frame (keeping (one_more kept b is) s))
 named-lent kept b is name s =
     ap (λ (fs : List Frame). record (keeping kept (with_current name s)) { blocks = fs }) (lend-outer_frames b kept.bases s.blocks)
+
+-- ---- a turn, in which the nearest block may be lent another node
+
+pub unlent-behind : (bs rest : List (Option Data)) → bs ≡ None ∷ rest → bs ≡ None ∷ lent_behind bs
+unlent-behind [] rest is = cc
+unlent-behind (None ∷ bs) rest is = refl
+unlent-behind (Some d ∷ bs) rest is = cc
+
+-- The bases are as they were, and so are the pieces that are kept.
+abbrev pub in-turn : {w : Within} (kept : KeptIn w) {bs : List (Option Data)} → bs ≡ None ∷ lent_behind w.bases
+    → IsUnlent kept.bases → KeptIn (record w { bases = bs })
+in-turn {w = w} kept is unlent = record {
+  pieces = kept.pieces;
+  bases = kept.bases;
+  holds = kept.holds;
+  lent = kept.lent ∙ unlent-behind w.bases unlent.0 (sym kept.lent ∙ unlent.1) ∙ sym is;
+}

@@ -24,3 +24,4 @@ mod Includes
 mod Bases
 mod Tags
 pub mod Lent
+pub mod Nodes

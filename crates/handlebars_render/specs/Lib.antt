@@ -11,3 +11,4 @@ pub mod Lending
 pub mod Next
 pub mod Silent
 pub mod Inclusions
+pub mod Nodes

@@ -19,7 +19,7 @@ use Rattle.handlebars_base.specs.PathAndData.{PathAndData, path_and_data}
 use Rattle.handlebars_base.specs.declared.json.value.path_and_json.PathAndJson.{PathAndJson}
 use Rattle.handlebars_base.specs.declared.error.render_error.RenderErrorReason.TheVariants.{IOError}
 use Rattle.handlebars_base.specs.Scoped.{Found}
-use Rattle.handlebars_scope.specs.Bases.{bases_of, lend}
+use Rattle.handlebars_scope.specs.Bases.{NodesLead, bases_of, lend, nodes_of}
 use Rattle.handlebars_scope.specs.LineView.{line_of}
 use Rattle.handlebars_scope.specs.Contexts.{data_of}
 use Rattle.handlebars_scope.specs.Resolve.{resolve}
@@ -110,6 +110,10 @@ state_of rc = record {
   changed = option_map data_of rc.changed;
   local = λ name. option_map local_of (get_by_text rc.local_helpers name);
 }
+
+-- The nodes that are lent to the blocks of a context are what their base paths lead to in the given data.
+abbrev pub HasNodes : {P : Type 0} → declared.Environment P → RenderContext → Type 0
+HasNodes x rc = NodesLead (nodes_of x.bases.now) (state_of rc).blocks (data_of x.given.now)
 
 -- the nearest block is lent nothing
 abbrev pub IsUnlent : List (Option Data) → Type 0

@@ -15,13 +15,13 @@ ghost use Rattle.handlebars_render.specs.Bound.{callee_in};
 ghost use Rattle.handlebars_render.specs.Chosen.{part_if, part_view, render_rest};
 ghost use Rattle.handlebars_render.specs.Judgement.{Carries, CarriesWith, Stays};
 ghost use Rattle.handlebars_render.specs.Targets.{ChoosesFor};
-ghost use Rattle.handlebars_render.specs.View.{IsKept, KeptIn, called_view, setting_in, state_of, state_with, within};
+ghost use Rattle.handlebars_render.specs.View.{IsKept, KeptIn, called_view, setting_in, state_of, state_with, within, HasNodes};
 
 use crate::bound::BoundCall;
 use crate::boxed::BoxedError;
 use crate::chosen::{ToRender, settle_choice};
 use crate::context::RenderContext;
-use crate::each::{render_each, render_in};
+use crate::each::{block_node, render_each, render_in};
 use crate::environment::Environment;
 use crate::next::{Next, settle_tag};
 use crate::registered::Registered;
@@ -40,6 +40,7 @@ pub fn render_tag<'a, O: Output, P: Registered>(
     rc: &mut RenderContext,
     sink: &mut Sink<'_, O>,
 ) -> Result<(), BoxedError>
+    requires nodes { HasNodes environment.now rc.old }
     ensures renders { (site : Site) → Carries P.parts O.held O.may_give environment.now rc sink result
         (render_tag site block (call_view helper.now)) }
     ensures stays { Stays rc sink }
@@ -65,6 +66,7 @@ fn render_branch<'a, O: Output, P: Registered>(
     rc: &mut RenderContext,
     sink: &mut Sink<'_, O>,
 ) -> Result<(), BoxedError>
+    requires nodes { HasNodes environment.now rc.old }
     ensures renders { (site : Site) (block : Bool) (target : calls.Target) (v : CallView) (kept : KeptIn (within environment.now))
         → HasChoice (setting_in P.parts environment.now) (state_with kept rc.old) target
         (view_with_bodies block (call_view helper.now) v) (gives (body_if truth))
@@ -101,6 +103,7 @@ fn render_call<'a, O: Output, P: Registered>(
     rc: &mut RenderContext,
     sink: &mut Sink<'_, O>,
 ) -> Result<(), BoxedError>
+    requires nodes { HasNodes environment.now rc.old }
     ensures renders { (site : Site) (target : calls.Target) (v : CallView) (kept : KeptIn (within environment.now))
         → ChoosesFor (setting_in P.parts environment.now) (state_with kept rc.old) (callee_in bound.entry.value)
         (view_with_bodies block (call_view helper.now) (called_view bound.entry.value.call)) target
@@ -129,6 +132,7 @@ fn render_chosen<'a, O: Output, P: Registered>(
     rc: &mut RenderContext,
     sink: &mut Sink<'_, O>,
 ) -> Result<(), BoxedError>
+    requires nodes { HasNodes environment.now rc.old }
     ensures renders { (site : Site) (target : calls.Target) (v : CallView) (kept : KeptIn (within environment.now))
         → ChoosesFor (setting_in P.parts environment.now) (state_with kept rc.old) (callee_in bound.entry.value)
         (view_with_bodies block (call_view helper.now) (called_view bound.entry.value.call)) target
@@ -163,6 +167,7 @@ fn render_rest<'a, O: Output, P: Registered>(
     rc: &mut RenderContext,
     sink: &mut Sink<'_, O>,
 ) -> Result<(), BoxedError>
+    requires nodes { HasNodes environment.now rc.old }
     ensures renders { (site : Site) (block : Bool) (v : CallView)
         → Carries P.parts O.held O.may_give environment.now rc sink result
         (render_rest site (view_with_bodies block (call_view helper.now) v) rest.entry) }
@@ -172,7 +177,10 @@ fn render_rest<'a, O: Output, P: Registered>(
         ToRender::Nothing => Ok(()),
         ToRender::Body => render_part(part_if(helper, true), environment, rc, sink),
         ToRender::Inverse => render_part(part_if(helper, false), environment, rc, sink),
-        ToRender::BodyIn(scope) => render_in(helper, environment, scope, rc, sink),
+        ToRender::BodyIn(scope) => {
+            let node = block_node(environment.given, &scope);
+            render_in(helper, environment, scope, node, rc, sink)
+        }
         ToRender::BodyInTurns(path, turns) => {
             render_each(helper, environment, path, turns, rc, sink)
         }
@@ -188,6 +196,7 @@ pub fn render_part<'a, O: Output, P: Registered>(
     rc: &mut RenderContext,
     sink: &mut Sink<'_, O>,
 ) -> Result<(), BoxedError>
+    requires nodes { HasNodes environment.now rc.old }
     ensures renders { (at : TreeSite) → Carries P.parts O.held O.may_give environment.now rc sink result
         (render_branch at (part_view part.entry)) }
     ensures stays { Stays rc sink }

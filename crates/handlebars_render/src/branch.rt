@@ -13,6 +13,7 @@ ghost use Rattle.handlebars_render.specs.Boxed.{answer_of, error_of};
 ghost use Rattle.handlebars_render.specs.Next.{Judges, path_alone, wanting};
 ghost use Rattle.handlebars_render.specs.Targets.{target_in};
 ghost use Rattle.handlebars_render.specs.Judgement.{InState};
+ghost use Rattle.handlebars_render.specs.View.{HasNodes};
 
 use crate::boxed::BoxedError;
 use crate::context::RenderContext;
@@ -70,6 +71,7 @@ pub fn condition<P: Registered>(
     path: &Path,
     rc: &RenderContext,
 ) -> Result<bool, BoxedError>
+    requires nodes { HasNodes environment.now rc.now }
     ensures { InState P.parts environment.now rc.now (λ p s. Judges p s (reference_of path.now) (answer_of result)) }
 {
     match rc.reach(environment.given.data(), path, environment.bases) {

@@ -22,7 +22,7 @@ ghost use Rattle.handlebars_render.specs.Boxed.{answer_of, error_of};
 ghost use Rattle.handlebars_render.specs.Bound.{callee_in};
 ghost use Rattle.handlebars_render.specs.Targets.{target_in};
 ghost use Rattle.handlebars_render.specs.Judgement.{InState};
-ghost use Rattle.handlebars_render.specs.View.{setting_in, called_view, name_alone, Yields};
+ghost use Rattle.handlebars_render.specs.View.{setting_in, called_view, name_alone, Yields, HasNodes};
 
 use crate::bound::{BoundCall, asked_name, bind};
 use crate::boxed::BoxedError;
@@ -189,6 +189,7 @@ pub fn view_of_tag<'a, P: Registered>(
     rc: &RenderContext,
     tag: &'a DecoratorTemplate,
 ) -> Result<Called<'a>, BoxedError>
+    requires nodes { HasNodes environment.now rc.now }
     ensures { InState P.parts environment.now rc.now (λ p s. Yields
         (HasView p s (decorator_name (decorator_view tag.now)) (decorator_args (decorator_view tag.now))) called_view (answer_of result)) }
 {

@@ -10,7 +10,7 @@ ghost use Rattle.handlebars_base.specs.Reasons.{out_of_memory};
 ghost use Rattle.handlebars_base.specs.RenderRefusals.{reason_in, refusal_of};
 ghost use Rattle.handlebars_base.specs.Scoped.{found_of, is_constant, present_in};
 ghost use Rattle.handlebars_template.specs.TreeView.{binding_of, binding_view, tree_view};
-ghost use Rattle.handlebars_scope.specs.Bases.{bases_of, lend};
+ghost use Rattle.handlebars_scope.specs.Bases.{NodesLead, bases_of, lend, nodes_of};
 ghost use Rattle.handlebars_scope.specs.Contexts.{data_of};
 ghost use Rattle.handlebars_scope.specs.Resolve.{resolve};
 ghost use Rattle.handlebars_scope.specs.ScopeView.{frame_of, frames_of, variables_of};
@@ -341,8 +341,9 @@ impl RenderContext {
         &'v self,
         given: &'v Json,
         path: &'n Path,
-        bases: &'v Bases<'v>,
+        bases: &'v Bases<'v, 'v>,
     ) -> Reached<'v, 'n>
+        requires nodes { NodesLead (nodes_of bases.now) (state_of self.now).blocks (view given.now) }
         ensures { reached_of result ≡ answer_map present_in
             (read_in (lending (bases_of bases.now) (state_of self.now)) (view given.now) (reference_of path.now)) }
     {
@@ -357,13 +358,13 @@ impl RenderContext {
         &'v self,
         context: &'v Context,
         path: &'n Path,
-        bases: &'v Bases<'v>,
+        bases: &'v Bases<'v, 'v>,
     ) -> Reached<'v, 'n>
         ensures { reached_of result ≡ answer_map present_in (answer_map values.without_path (resolve
             (state_of self.now).recursive (lend (bases_of bases.now) (state_of self.now).blocks) (reference_of path.now)
             (data_of context.now))) }
     {
-        match walk::reach(
+        match walk::reach_from_data(
             context.data(),
             path,
             &self.blocks,
@@ -378,7 +379,12 @@ impl RenderContext {
 
     // The value that the empty path leads to, where neither a block of this context nor changed data holds it, so that
     // the context may change while it is lent.
-    pub(super) fn lent_current<'v>(&self, given: &'v Json, bases: &'v Bases<'v>) -> Option<&'v Json>
+    pub(super) fn lent_current<'v>(
+        &self,
+        given: &'v Json,
+        bases: &'v Bases<'v, 'v>,
+    ) -> Option<&'v Json>
+        requires nodes { NodesLead (nodes_of bases.now) (state_of self.now).blocks (view given.now) }
         ensures { IfSome result (λ v. answer_map present_in
             (read_in (lending (bases_of bases.now) (state_of self.now)) (view given.now) (relative [] []))
             ≡ gives (Some (view v.now))) }
@@ -395,8 +401,9 @@ impl RenderContext {
         &self,
         given: &'a Json,
         path: &Path,
-        bases: &Bases<'_>,
+        bases: &Bases<'_, 'a>,
     ) -> Result<ScopedJson<'a>, RenderError>
+        requires nodes { NodesLead (nodes_of bases.now) (state_of self.now).blocks (view given.now) }
         ensures found { Answers found_of result
             (read_in (lending (bases_of bases.now) (state_of self.now)) (view given.now) (reference_of path.now)) }
         ensures plain { IfOk result (λ found. is_constant found ≡ false) }
@@ -419,7 +426,7 @@ impl RenderContext {
         &self,
         context: &Context,
         path: &Path,
-        bases: &Bases<'_>,
+        bases: &Bases<'_, '_>,
     ) -> Result<ScopedJson<'a>, RenderError>
         ensures found { Answers found_of result (answer_map values.without_path (resolve
             (state_of self.now).recursive (lend (bases_of bases.now) (state_of self.now).blocks) (reference_of path.now)

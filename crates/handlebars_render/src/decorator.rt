@@ -11,7 +11,7 @@ ghost use Rattle.handlebars_meaning.specs.Means.{do_deed, do_deeds, render_decor
 ghost use Rattle.handlebars_render.specs.Boxed.{answer_of, error_of};
 ghost use Rattle.handlebars_render.specs.Silent.{Does, decorate_as, decorate_by};
 ghost use Rattle.handlebars_render.specs.Judgement.{Between};
-ghost use Rattle.handlebars_render.specs.View.{IsKept};
+ghost use Rattle.handlebars_render.specs.View.{IsKept, HasNodes};
 
 use crate::boxed::BoxedError;
 use crate::called::view_of_tag;
@@ -31,6 +31,7 @@ pub fn render_decorator<'a, P: Registered>(
     environment: &Environment<'_, 'a, P>,
     rc: &mut RenderContext,
 ) -> Result<(), BoxedError>
+    requires nodes { HasNodes environment.now rc.old }
     ensures does { Between P.parts environment.now rc (λ p s next. Does p (render_decorator (decorator_view tag.now)) s
         (answer_of result) next) }
     ensures kept { IsKept rc.old rc.new }

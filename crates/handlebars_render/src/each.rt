@@ -1,15 +1,24 @@
 //! Rendering in blocks of scope.
 
-ghost use Rattle.std.specs.Prelude.{ℕ, Bool};
+ghost use Rattle.std.specs.Prelude.{◌≡◌, ℕ, Bool, IfSome, List, Option, Some, option_map};
+ghost use Rattle.serde_json.specs.Data.{Data};
+ghost use Rattle.serde_json.specs.View.{view};
+ghost use Rattle.handlebars_base.specs.Answers.{gives};
+ghost use Rattle.handlebars_base.specs.Bytes.{Text};
 ghost use Rattle.handlebars_template.specs.TreeView.{call_view};
+ghost use Rattle.handlebars_scope.specs.Bases.{IsNode};
+ghost use Rattle.handlebars_scope.specs.Contexts.{data_of};
+ghost use Rattle.handlebars_scope.specs.Resolve.{member_at};
 ghost use Rattle.handlebars_scope.specs.Scopes.{empty_frame};
 ghost use Rattle.handlebars_scope.specs.ScopeView.{frame_of};
 ghost use Rattle.handlebars_meaning.specs.Sites.{Site};
 ghost use Rattle.handlebars_helpers.specs.CallView.{CallView};
-ghost use Rattle.handlebars_helpers.specs.View.{path_view, turns_left};
+ghost use Rattle.handlebars_helpers.specs.Turns.{turn_name};
+ghost use Rattle.handlebars_helpers.specs.View.{path_view, turn_view, turns_left};
 ghost use Rattle.handlebars_meaning.specs.CarryOut.{view_with_bodies, in_block, render_body, take_turns};
 ghost use Rattle.handlebars_render.specs.Judgement.{Carries, CarriesWith, Stays};
-ghost use Rattle.handlebars_render.specs.View.{HasOuter, IsUnlent, KeptIn, within, IsSame};
+ghost use Rattle.handlebars_render.specs.Nodes.{IsNodeAt, below};
+ghost use Rattle.handlebars_render.specs.View.{HasOuter, IsUnlent, KeptIn, within, IsSame, HasNodes};
 
 use crate::block::render_part;
 use crate::boxed::BoxedError;
@@ -17,28 +26,35 @@ use crate::context::RenderContext;
 use crate::environment::Environment;
 use crate::registered::Registered;
 use crate::sink::Sink;
+use handlebars_base::json::value::Json;
 use handlebars_base::output::Output;
 use handlebars_helpers::each_turns::Turns;
+use handlebars_helpers::turn::Turn;
 use handlebars_scope::block::BlockContext;
+use handlebars_scope::context::Context;
 use handlebars_scope::context::bases::Bases;
+use handlebars_scope::context::walk::value_by_names;
 use handlebars_template::template::HelperTemplate;
 
-/// The body, in a block.
+/// The body, in a block, of which this node is known, or none.
 #[cycle(render)]
 pub fn render_in<'a, O: Output, P: Registered>(
     helper: &'a HelperTemplate,
     environment: &Environment<'_, 'a, P>,
     scope: BlockContext,
+    node: Option<&'a Json>,
     rc: &mut RenderContext,
     sink: &mut Sink<'_, O>,
 ) -> Result<(), BoxedError>
+    requires nodes { HasNodes environment.now rc.old }
+    requires node { IsNode (data_of environment.now.given.now) (frame_of scope).base_path (option_map (λ v. view v.now) node) }
     ensures renders { (site : Site) (i : ℕ) (block : Bool) (v : CallView)
         → Carries P.parts O.held O.may_give environment.now rc sink result
         (in_block (frame_of scope) (render_body site i (view_with_bodies block (call_view helper.now) v))) }
     ensures stays { Stays rc sink }
 {
     rc.push_block(scope)?;
-    let bases = Bases::block(None, environment.bases);
+    let bases = Bases::block(None, node, environment.bases);
     let nearer = Environment {
         bases: &bases,
         ..*environment
@@ -58,6 +74,7 @@ pub fn render_each<'a, O: Output, P: Registered>(
     rc: &mut RenderContext,
     sink: &mut Sink<'_, O>,
 ) -> Result<(), BoxedError>
+    requires nodes { HasNodes environment.now rc.old }
     ensures renders { (site : Site) (block : Bool) (v : CallView)
         → Carries P.parts O.held O.may_give environment.now rc sink result
         (in_block empty_frame (take_turns site 0 (view_with_bodies block (call_view helper.now) v) (path_view path.entry)
@@ -65,27 +82,31 @@ pub fn render_each<'a, O: Output, P: Registered>(
     ensures stays { Stays rc sink }
 {
     rc.push_block(BlockContext::new(environment.alloc))?;
-    let bases = Bases::block(None, environment.bases);
+    let bases = Bases::block(None, None, environment.bases);
     let nearer = Environment {
         bases: &bases,
         ..*environment
     };
-    let answer = take_turns(helper, &nearer, path, turns, rc, sink);
+    let node = node_at(environment.given, path);
+    let answer = take_turns(helper, &nearer, path, node, turns, rc, sink);
     rc.pop_block();
     answer
 }
 
-// The turns that are left. In each one the nearest block, to which nothing is lent, is set up for it, and the body is
-// rendered.
+// The turns that are left, over what has this path, if it has one, and this node, if that is known. In each one the nearest
+// block, to which nothing but its node is lent, is set up for it, and the body is rendered.
 #[cycle(render)]
 fn take_turns<'a, O: Output, P: Registered>(
     helper: &'a HelperTemplate,
     environment: &Environment<'_, 'a, P>,
     path: Option<&Vec<String>>,
+    node: Option<&'a Json>,
     turns: Turns,
     rc: &mut RenderContext,
     sink: &mut Sink<'_, O>,
 ) -> Result<(), BoxedError>
+    requires nodes { HasNodes environment.now rc.old }
+    requires node { IsNodeAt (data_of environment.now.given.now) (path_view path) (option_map (λ v. view v.now) node) }
     ensures renders { (site : Site) (block : Bool) (v : CallView) (kept : KeptIn (within environment.now)) → IsUnlent kept.bases
         → CarriesWith P.parts O.held O.may_give environment.now rc sink result kept
         (take_turns site 0 (view_with_bodies block (call_view helper.now) v) (path_view path.entry) (turns_left turns.entry)) }
@@ -97,9 +118,52 @@ fn take_turns<'a, O: Output, P: Registered>(
     'turns: while let Some(turn) = left.next() {
         rc.set_up_turn(first, helper.block_param.as_ref(), path, turn)?;
         first = false;
-        if let Err(e) = render_part(helper.template.as_ref(), environment, rc, sink) {
+        let bases = Bases::block(None, turn_node(node, turn), environment.bases.behind());
+        let nearer = Environment {
+            bases: &bases,
+            ..*environment
+        };
+        if let Err(e) = render_part(helper.template.as_ref(), &nearer, rc, sink) {
             return Err(e);
         }
     }
     Ok(())
+}
+
+/// The value of the given data that a path leads to, if there is a path.
+pub fn node_at<'a>(given: &'a Context, path: Option<&Vec<String>>) -> Option<&'a Json>
+    ensures { IsNodeAt (data_of given.now) (path_view path.entry) (option_map (λ v. view v.now) result) }
+{
+    match path {
+        Some(path) => value_by_names(given.data(), path),
+        None => None,
+    }
+}
+
+/// The value of the given data that the base path of a block leads to.
+pub fn block_node<'a>(given: &'a Context, scope: &BlockContext) -> Option<&'a Json>
+    ensures { IsNode (data_of given.now) (frame_of scope.now).base_path (option_map (λ v. view v.now) result) }
+{
+    value_by_names(given.data(), scope.base_path())
+}
+
+// The node of a turn, by that of what is walked.
+fn turn_node<'a>(node: Option<&'a Json>, turn: Turn) -> Option<&'a Json>
+    ensures { (d : Data) (path : Option (List Text)) → IsNodeAt d path (option_map (λ v. view v.now) node.entry)
+        → IsNodeAt d (below path (turn_name (turn_view turn.entry))) (option_map (λ v. view v.now) result) }
+{
+    match node {
+        Some(node) => member_node(node, turn),
+        None => None,
+    }
+}
+
+// The member that a turn is over, where the value has it.
+fn member_node<'a>(node: &'a Json, turn: Turn) -> Option<&'a Json>
+    ensures { IfSome result (λ v. member_at (view node.now) (turn_name (turn_view turn.entry)) ≡ gives (Some (view v.now))) }
+{
+    match turn.key {
+        Some(key) => node.get(key),
+        None => node.get(turn.index),
+    }
 }

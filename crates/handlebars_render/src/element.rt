@@ -4,6 +4,7 @@ ghost use Rattle.handlebars_template.specs.TreeView.{element_view, call_view};
 ghost use Rattle.handlebars_meaning.specs.Sites.{Site};
 ghost use Rattle.handlebars_meaning.specs.Means.{render_element, render_expression, without_escaping};
 ghost use Rattle.handlebars_render.specs.Judgement.{Carries, Stays};
+ghost use Rattle.handlebars_render.specs.View.{HasNodes};
 
 use crate::block::render_tag;
 use crate::boxed::BoxedError;
@@ -25,6 +26,7 @@ pub fn render_element<'a, O: Output, P: Registered>(
     rc: &mut RenderContext,
     sink: &mut Sink<'_, O>,
 ) -> Result<(), BoxedError>
+    requires nodes { HasNodes environment.now rc.old }
     ensures renders { (site : Site) → Carries P.parts O.held O.may_give environment.now rc sink result
         (render_element site (element_view element.now)) }
     ensures stays { Stays rc sink }
@@ -50,6 +52,7 @@ fn render_unescaped<'a, O: Output, P: Registered>(
     rc: &mut RenderContext,
     sink: &mut Sink<'_, O>,
 ) -> Result<(), BoxedError>
+    requires nodes { HasNodes environment.now rc.old }
     ensures renders { (site : Site) → Carries P.parts O.held O.may_give environment.now rc sink result
         (without_escaping (render_expression site (call_view helper.now))) }
     ensures stays { Stays rc sink }

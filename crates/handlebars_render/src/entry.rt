@@ -7,7 +7,7 @@ ghost use Rattle.handlebars_meaning.specs.Means.{render_element};
 ghost use Rattle.handlebars_meaning.specs.Sites.{Site, TreeSite};
 ghost use Rattle.handlebars_meaning.specs.Steps.{Whole, perform, run};
 ghost use Rattle.handlebars_render.specs.Boxed.{answer_of};
-ghost use Rattle.handlebars_render.specs.View.{setting_in, moment, CarriesOn, CarriesOut, IsKept, KeptIn, within};
+ghost use Rattle.handlebars_render.specs.View.{setting_in, moment, CarriesOn, CarriesOut, IsKept, KeptIn, within, HasNodes};
 
 use crate::boxed::BoxedError;
 use crate::context::RenderContext;
@@ -28,6 +28,7 @@ pub fn render_into<'a, O: Output, P: Registered>(
     rc: &mut RenderContext,
     out: &mut O,
 ) -> Result<(), BoxedError>
+    requires nodes { HasNodes environment.now rc.old }
     ensures renders { (at : TreeSite) (kept : KeptIn (within environment.now)) → CarriesOn (setting_in P.parts environment.now)
         (perform (Whole at (tree_view template.now))) O.may_give (moment kept rc.old (O.held out.old))
         (answer_of result) (moment kept rc.new (O.held out.new)) }
@@ -48,6 +49,7 @@ pub fn render_element_into<'a, O: Output, P: Registered>(
     rc: &mut RenderContext,
     out: &mut O,
 ) -> Result<(), BoxedError>
+    requires nodes { HasNodes environment.now rc.old }
     ensures renders { (site : Site) (kept : KeptIn (within environment.now)) → CarriesOut (setting_in P.parts environment.now)
         (run (render_element site (element_view element.now))) O.may_give (moment kept rc.old (O.held out.old))
         (answer_of result) (moment kept rc.new (O.held out.new)) }
@@ -68,6 +70,7 @@ pub fn include_into<O: Output, P: Registered>(
     rc: &mut RenderContext,
     out: &mut O,
 ) -> Result<(), BoxedError>
+    requires nodes { HasNodes environment.now rc.old }
     ensures renders { (site : Site) (kept : KeptIn (within environment.now)) → CarriesOn (setting_in P.parts environment.now)
         (include site (tag_view view.now)) O.may_give (moment kept rc.old (O.held out.old))
         (answer_of result) (moment kept rc.new (O.held out.new)) }

@@ -20,8 +20,8 @@ pub struct Environment<'r, 'a, P> {
     pub kept: Option<&'r str>,
     /// The indentation in force, if there is one.
     pub indent: Option<&'r str>,
-    /// What is lent to blocks of scope as their bases.
-    pub bases: &'r Bases<'r>,
+    /// What is lent to blocks of scope: values as their bases, and nodes of the data.
+    pub bases: &'r Bases<'r, 'a>,
 }
 
 /// The environment outside of every inclusion, in which as many trees may nest as a count of 64 bits tells.
@@ -29,7 +29,7 @@ pub fn outside<'r, 'a, P>(
     alloc: Global,
     parts: &'r P,
     given: &'a Context,
-    bases: &'r Bases<'r>,
+    bases: &'r Bases<'r, 'a>,
 ) -> Environment<'r, 'a, P>
     ensures { result ≡ record {
       alloc = alloc;

@@ -8,7 +8,7 @@ ghost use Rattle.handlebars_meaning.specs.Sites.{Site};
 ghost use Rattle.handlebars_render.specs.Boxed.{answer_of};
 ghost use Rattle.handlebars_render.specs.Silent.{Does, Evals};
 ghost use Rattle.handlebars_render.specs.Judgement.{Between};
-ghost use Rattle.handlebars_render.specs.View.{IsKept};
+ghost use Rattle.handlebars_render.specs.View.{IsKept, HasNodes};
 
 use crate::boxed::BoxedError;
 use crate::context::RenderContext;
@@ -24,6 +24,7 @@ pub fn eval_tree<'a, P: Registered>(
     environment: &Environment<'_, 'a, P>,
     rc: &mut RenderContext,
 ) -> Result<(), BoxedError>
+    requires nodes { HasNodes environment.now rc.old }
     ensures evals { Between P.parts environment.now rc (λ p s next. Evals p (eval_tree (tree_view template.now))
         (renamed (tree_name (tree_view template.now))) s (answer_of result) next) }
     ensures kept { IsKept rc.old rc.new }
@@ -42,6 +43,7 @@ pub fn eval_element<'a, P: Registered>(
     environment: &Environment<'_, 'a, P>,
     rc: &mut RenderContext,
 ) -> Result<(), BoxedError>
+    requires nodes { HasNodes environment.now rc.old }
     ensures does { (site : Site) → Between P.parts environment.now rc
         (λ p s next. Does p (render_element site (decorator_alone (element_view element.now))) s (answer_of result) next) }
     ensures kept { IsKept rc.old rc.new }

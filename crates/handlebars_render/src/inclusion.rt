@@ -13,7 +13,7 @@ ghost use Rattle.handlebars_meaning.specs.Inclusion.{with_bound};
 ghost use Rattle.handlebars_meaning.specs.State.{nearest_variables};
 ghost use Rattle.handlebars_render.specs.Inclusions.{HasBase, StandsAt, lent_frame};
 ghost use Rattle.handlebars_render.specs.Judgement.{InState};
-ghost use Rattle.handlebars_render.specs.View.{setting_in, state_of, state_with, GivesValue, KeptIn, within};
+ghost use Rattle.handlebars_render.specs.View.{setting_in, state_of, state_with, GivesValue, KeptIn, within, HasNodes};
 
 use crate::context::RenderContext;
 use crate::environment::Environment;
@@ -42,6 +42,7 @@ pub fn inclusion_block<'v, P: Registered>(
     environment: &Environment<'v, 'v, P>,
     rc: &RenderContext,
 ) -> Result<LentBlock<'v>, RenderError>
+    requires nodes { HasNodes environment.now rc.now }
     ensures { InState P.parts environment.now rc.now (λ p s. StandsAt p (tag_view tag.now) s lent_frame result) }
 {
     match lent_base(tag, environment, rc) {
@@ -63,6 +64,7 @@ fn lent_base<'v, P: Registered>(
     environment: &Environment<'v, 'v, P>,
     rc: &RenderContext,
 ) -> Option<&'v Json>
+    requires nodes { HasNodes environment.now rc.now }
     ensures value { IfSome result (λ v. (kept : KeptIn (within environment.now)) → GivesValue (setting_in P.parts environment.now)
         (base_value (tag_view tag.now).call.params) (state_with kept rc.now) (view v.now)) }
     ensures plain { IfSome result (λ v. (tag_view tag.now).call.pairs ≡ []) }
@@ -97,6 +99,7 @@ fn own_block<P: Registered>(
     environment: &Environment<'_, '_, P>,
     rc: &RenderContext,
 ) -> Result<BlockContext, RenderError>
+    requires nodes { HasNodes environment.now rc.now }
     ensures { InState P.parts environment.now rc.now (λ p s. StandsAt p (tag_view tag.now) s frame_of result) }
 {
     let base = match base(tag, environment, rc) {
@@ -115,6 +118,7 @@ fn base<P: Registered>(
     environment: &Environment<'_, '_, P>,
     rc: &RenderContext,
 ) -> Result<Json, RenderError>
+    requires nodes { HasNodes environment.now rc.now }
     ensures { InState P.parts environment.now rc.now (λ p s. HasBase p (tag_view tag.now) s view result) }
 {
     match tag.param(0) {
@@ -129,6 +133,7 @@ fn current<P: Registered>(
     environment: &Environment<'_, '_, P>,
     rc: &RenderContext,
 ) -> Result<Json, RenderError>
+    requires nodes { HasNodes environment.now rc.now }
     ensures { InState P.parts environment.now rc.now (λ p s. (tag_view tag.now).call.params ≡ []
         → HasBase p (tag_view tag.now) s view result) }
 {

@@ -18,7 +18,7 @@ ghost use Rattle.handlebars_meaning.specs.Values.{HasName, HasValue, callee_name
 ghost use Rattle.handlebars_render.specs.Boxed.{answer_of, error_of};
 ghost use Rattle.handlebars_render.specs.Next.{ComesTo, Settles};
 ghost use Rattle.handlebars_render.specs.Judgement.{AtMoment, InState};
-ghost use Rattle.handlebars_render.specs.View.{name_alone, setting_in, moment, state_with, KeptIn, within, held_in, IsSame};
+ghost use Rattle.handlebars_render.specs.View.{name_alone, setting_in, moment, state_with, KeptIn, within, held_in, IsSame, HasNodes};
 
 use crate::bound::bind_boxed;
 use crate::boxed::BoxedError;
@@ -48,6 +48,7 @@ pub fn settle_lone<'a, O: Output, P: Registered>(
     rc: &RenderContext,
     sink: &mut Sink<'_, O>,
 ) -> Result<Next<'a>, BoxedError>
+    requires nodes { HasNodes environment.now rc.now }
     ensures comes { is_value (call_view helper.now) ≡ true → (site : Site)
         → AtMoment O.held environment.now rc.now sink (λ before held. ComesTo
         (setting_in P.parts environment.now) site false (call_view helper.now)
@@ -73,6 +74,7 @@ fn settle_inner<'a, O: Output, P: Registered>(
     rc: &RenderContext,
     sink: &mut Sink<'_, O>,
 ) -> Result<Next<'a>, BoxedError>
+    requires nodes { HasNodes environment.now rc.now }
     ensures comes { is_value (call_view helper.now) ≡ true → call_name (call_view helper.now) ≡ tree.subexpression
         (subexpression_view inner.now) → (site : Site) → AtMoment O.held environment.now rc.now sink
         (λ before held. ComesTo (setting_in P.parts environment.now) site false (call_view helper.now)
@@ -117,6 +119,7 @@ fn settle_path<'a, O: Output, P: Registered>(
     rc: &RenderContext,
     sink: &mut Sink<'_, O>,
 ) -> Result<Next<'a>, BoxedError>
+    requires nodes { HasNodes environment.now rc.now }
     ensures comes { is_value (call_view helper.now) ≡ true → call_name (call_view helper.now) ≡ tree.path
         (reference_of path.now) → (site : Site) → AtMoment O.held environment.now rc.now sink
         (λ before held. ComesTo (setting_in P.parts environment.now) site false (call_view helper.now)

@@ -15,7 +15,7 @@ ghost use Rattle.handlebars_render.specs.Boxed.{answer_of, error_of};
 ghost use Rattle.handlebars_render.specs.Next.{ComesTo, IsCall, Settles};
 ghost use Rattle.handlebars_render.specs.Targets.{target_in};
 ghost use Rattle.handlebars_render.specs.Judgement.{AtMoment, InState};
-ghost use Rattle.handlebars_render.specs.View.{setting_in, called_view, IsSame};
+ghost use Rattle.handlebars_render.specs.View.{setting_in, called_view, IsSame, HasNodes};
 
 use crate::bound::{BoundCall, bind_boxed};
 use crate::boxed::BoxedError;
@@ -55,6 +55,7 @@ pub fn settle_tag<'a, O: Output, P: Registered>(
     rc: &RenderContext,
     sink: &mut Sink<'_, O>,
 ) -> Result<Next<'a>, BoxedError>
+    requires nodes { HasNodes environment.now rc.now }
     ensures comes { (site : Site) → AtMoment O.held environment.now rc.now sink
         (λ before held. ComesTo (setting_in P.parts environment.now) site block (call_view helper.now)
         (render_tag site block (call_view helper.now)) O.may_give before (answer_of result) held) }
@@ -73,6 +74,7 @@ fn settle_expression<'a, O: Output, P: Registered>(
     rc: &RenderContext,
     sink: &mut Sink<'_, O>,
 ) -> Result<Next<'a>, BoxedError>
+    requires nodes { HasNodes environment.now rc.now }
     ensures comes { (site : Site) → AtMoment O.held environment.now rc.now sink
         (λ before held. ComesTo (setting_in P.parts environment.now) site false (call_view helper.now)
         (render_expression site (call_view helper.now)) O.may_give before (answer_of result) held) }
@@ -95,6 +97,7 @@ fn settle_call<'a, P: Registered>(
     block: bool,
     rc: &RenderContext,
 ) -> Result<Next<'a>, BoxedError>
+    requires nodes { HasNodes environment.now rc.now }
     ensures { (site : Site) → InState P.parts environment.now rc.now
         (λ p s. Settles p site block (call_view helper.now) (render_call site block (call_view helper.now)) s
         (answer_of result)) }
@@ -115,6 +118,7 @@ fn settle_named<'a, P: Registered>(
     name: &'a str,
     rc: &RenderContext,
 ) -> Result<Next<'a>, BoxedError>
+    requires nodes { HasNodes environment.now rc.now }
     ensures { as_name (call_name (call_view helper.now)) ≡ Some name.now → (site : Site)
         → InState P.parts environment.now rc.now (λ p s. Settles p site block (call_view helper.now)
         (render_call site block (call_view helper.now)) s (answer_of result)) }
@@ -152,6 +156,7 @@ fn settle_viewed<'a, P: Registered>(
     target: Option<Target>,
     rc: &RenderContext,
 ) -> Result<Next<'a>, BoxedError>
+    requires nodes { HasNodes environment.now rc.now }
     ensures { (site : Site) → InState P.parts environment.now rc.now
         (λ p s. HasName p s (call_name (call_view helper.now)) (gives (cow_str_bytes name.entry))
         → option_map (target_in block (cow_str_bytes name.entry)) target ≡ helper_for

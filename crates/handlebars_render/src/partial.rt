@@ -18,7 +18,7 @@ ghost use Rattle.handlebars_render.specs.Boxed.{answer_of, error_of};
 ghost use Rattle.handlebars_render.specs.Chosen.{part_view};
 ghost use Rattle.handlebars_render.specs.Inclusions.{included};
 ghost use Rattle.handlebars_render.specs.Judgement.{Carries, CarriesWith, Stays};
-ghost use Rattle.handlebars_render.specs.View.{setting_in, state_of, state_with, moment, CarriesAhead, CarriesOn, IsKept, KeptIn, within, held_in};
+ghost use Rattle.handlebars_render.specs.View.{setting_in, state_of, state_with, moment, CarriesAhead, CarriesOn, IsKept, KeptIn, within, held_in, HasNodes};
 
 use crate::block::leave_call;
 use crate::boxed::BoxedError;
@@ -45,6 +45,7 @@ pub fn render_partial<'a, O: Output, P: Registered>(
     rc: &mut RenderContext,
     sink: &mut Sink<'_, O>,
 ) -> Result<(), BoxedError>
+    requires nodes { HasNodes environment.now rc.old }
     ensures renders { (site : Site) → Carries P.parts O.held O.may_give environment.now rc sink result
         (render_partial site (decorator_view tag.now)) }
     ensures stays { Stays rc sink }
@@ -82,6 +83,7 @@ pub fn include<O: Output, P: Registered>(
     rc: &mut RenderContext,
     sink: &mut Sink<'_, O>,
 ) -> Result<(), BoxedError>
+    requires nodes { HasNodes environment.now rc.old }
     ensures renders { (site : Site) → Carries P.parts O.held O.may_give environment.now rc sink result
         (include site (tag_view view.now)) }
     ensures stays { Stays rc sink }
@@ -121,6 +123,7 @@ fn render_kept<O: Output, P: Registered>(
     rc: &mut RenderContext,
     sink: &mut Sink<'_, O>,
 ) -> Result<(), BoxedError>
+    requires nodes { HasNodes environment.now rc.old }
     ensures renders { (site : Site) (kept : KeptIn (within environment.now)) → CarriesWith P.parts O.held O.may_give environment.now rc sink result kept
         (write_kept site (tag_view view.now).body (state_with kept rc.old) (newest kept.pieces)) }
     ensures stays { Stays rc sink }
@@ -148,6 +151,7 @@ fn include_tree<'a, O: Output, P: Registered>(
     rc: &mut RenderContext,
     sink: &mut Sink<'_, O>,
 ) -> Result<(), BoxedError>
+    requires nodes { HasNodes environment.now rc.old }
     ensures renders { (site : Site) (at : TreeSite) → Carries P.parts O.held O.may_give environment.now rc sink result
         (include_tree (tag_view view.now) at (tree_view tree.now) (render_ahead site (part_view body.entry))) }
     ensures stays { Stays rc sink }
@@ -161,7 +165,7 @@ fn include_tree<'a, O: Output, P: Registered>(
         Err(e) => return Err(BoxedError::new(environment.alloc, e)),
     };
     let name = rc.begin(block)?;
-    let bases = Bases::block(base, environment.bases);
+    let bases = Bases::block(base, None, environment.bases);
     let nearer = Environment {
         bases: &bases,
         ..*environment
@@ -188,6 +192,7 @@ fn render_under<'a, O: Output, P: Registered>(
     rc: &mut RenderContext,
     sink: &mut Sink<'_, O>,
 ) -> Result<(), BoxedError>
+    requires nodes { HasNodes environment.now rc.old }
     ensures renders { (at : TreeSite) (kept : KeptIn (included count text.entry (tag_view view.now).indent
         (within environment.now).bases))
         → CarriesOn (setting_in P.parts environment.now) (perform (Whole at (tree_view tree.now)))
@@ -211,6 +216,7 @@ fn render_ahead<O: Output, P: Registered>(
     environment: &Environment<'_, '_, P>,
     rc: &mut RenderContext,
 ) -> Result<String, BoxedError>
+    requires nodes { HasNodes environment.now rc.old }
     ensures ahead { (at : TreeSite) (kept : KeptIn (within environment.now)) (held : Held)
         → CarriesAhead (setting_in P.parts environment.now) (capture (perform (Whole at (tree_view body.now))))
         O.may_give (moment kept rc.old held) (answer_of result) (moment kept rc.new held) }

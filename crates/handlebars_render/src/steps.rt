@@ -7,6 +7,7 @@ ghost use Rattle.handlebars_helpers.specs.OwnView.{step_of};
 ghost use Rattle.handlebars_meaning.specs.CarryOut.{view_with_bodies, take_step, take_steps};
 ghost use Rattle.handlebars_meaning.specs.Sites.{Site};
 ghost use Rattle.handlebars_render.specs.Judgement.{Carries, Stays};
+ghost use Rattle.handlebars_render.specs.View.{HasNodes};
 
 use crate::block::render_part;
 use crate::boxed::BoxedError;
@@ -29,6 +30,7 @@ pub fn take_steps<'a, O: Output, P: Registered>(
     rc: &mut RenderContext,
     sink: &mut Sink<'_, O>,
 ) -> Result<(), BoxedError>
+    requires nodes { HasNodes environment.now rc.old }
     ensures renders { (site : Site) (block : Bool) (v : CallView)
         → Carries P.parts O.held O.may_give environment.now rc sink result
         (take_steps site (view_with_bodies block (call_view helper.now) v) 0 (map step_of steps.items)) }
@@ -50,6 +52,7 @@ fn take_step<'a, O: Output, P: Registered>(
     rc: &mut RenderContext,
     sink: &mut Sink<'_, O>,
 ) -> Result<(), BoxedError>
+    requires nodes { HasNodes environment.now rc.old }
     ensures renders { (site : Site) (i : ℕ) (block : Bool) (v : CallView)
         → Carries P.parts O.held O.may_give environment.now rc sink result
         (take_step site (view_with_bodies block (call_view helper.now) v) i (step_of step)) }
@@ -59,6 +62,6 @@ fn take_step<'a, O: Output, P: Registered>(
         HelperStep::Write(text) => write_as_is(environment.alloc, text.as_str(), sink),
         HelperStep::Body => render_part(helper.template.as_ref(), environment, rc, sink),
         HelperStep::Inverse => render_part(helper.inverse.as_ref(), environment, rc, sink),
-        HelperStep::BodyIn(scope) => render_in(helper, environment, scope, rc, sink),
+        HelperStep::BodyIn(scope) => render_in(helper, environment, scope, None, rc, sink),
     }
 }

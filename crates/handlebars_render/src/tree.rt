@@ -9,6 +9,7 @@ ghost use Rattle.handlebars_meaning.specs.Runs.{placed_at, named_as};
 ghost use Rattle.handlebars_meaning.specs.Steps.{Whole, perform};
 ghost use Rattle.handlebars_render.specs.Boxed.{error_of};
 ghost use Rattle.handlebars_render.specs.Judgement.{Carries, Stays};
+ghost use Rattle.handlebars_render.specs.View.{HasNodes};
 
 use crate::boxed::BoxedError;
 use crate::context::RenderContext;
@@ -30,6 +31,7 @@ pub fn render_tree<'a, O: Output, P: Registered>(
     rc: &mut RenderContext,
     sink: &mut Sink<'_, O>,
 ) -> Result<(), BoxedError>
+    requires nodes { HasNodes environment.now rc.old }
     ensures renders { (at : TreeSite) → Carries P.parts O.held O.may_give environment.now rc sink result
         (perform (Whole at (tree_view template.now))) }
     ensures stays { Stays rc sink }

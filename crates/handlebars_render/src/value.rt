@@ -12,7 +12,7 @@ ghost use Rattle.handlebars_template.specs.TreeView.{call_view, param_view, para
 ghost use Rattle.handlebars_meaning.specs.Values.{HasValue, HasWrittenValue, HasName, HasInnerValue, HaveValues, PairsHaveValues, HasView, is_literal};
 ghost use Rattle.handlebars_render.specs.Boxed.{answer_of};
 ghost use Rattle.handlebars_render.specs.Judgement.{InState};
-ghost use Rattle.handlebars_render.specs.View.{called_view, pairs_seen, Yields};
+ghost use Rattle.handlebars_render.specs.View.{called_view, pairs_seen, Yields, HasNodes};
 
 use crate::boxed::BoxedError;
 use crate::called::{Called, helped_value};
@@ -32,6 +32,7 @@ pub fn expands<'a, P: Registered>(
     rc: &RenderContext,
     parameter: &'a Parameter,
 ) -> Result<ScopedJson<'a>, BoxedError>
+    requires nodes { HasNodes environment.now rc.now }
     ensures value { InState P.parts environment.now rc.now (λ p s. Yields
         (HasValue p s (param_view parameter.now)) found_of (answer_of result)) }
     ensures constant { IfOk result (λ found. is_constant found ≡ is_literal (param_view parameter.now)) }
@@ -56,6 +57,7 @@ pub fn expand<'a, P: Registered>(
     rc: &RenderContext,
     parameter: &'a Parameter,
 ) -> Result<PathAndJson<'a>, BoxedError>
+    requires nodes { HasNodes environment.now rc.now }
     ensures { InState P.parts environment.now rc.now (λ p s. Yields
         (HasWrittenValue p s (param_view parameter.now)) path_and_data (answer_of result)) }
 {
@@ -72,6 +74,7 @@ pub fn expand_as_name<'a, P: Registered>(
     rc: &RenderContext,
     parameter: &'a Parameter,
 ) -> Result<CowStr<'a>, BoxedError>
+    requires nodes { HasNodes environment.now rc.now }
     ensures { InState P.parts environment.now rc.now (λ p s. Yields
         (HasName p s (param_view parameter.now)) cow_str_bytes (answer_of result)) }
 {
@@ -93,6 +96,7 @@ pub fn inner_value<'a, P: Registered>(
     rc: &RenderContext,
     inner: &'a Subexpression,
 ) -> Result<ScopedJson<'a>, BoxedError>
+    requires nodes { HasNodes environment.now rc.now }
     ensures value { InState P.parts environment.now rc.now (λ p s. Yields
         (HasInnerValue p s (subexpression_view inner.now)) found_of (answer_of result)) }
     ensures constant { IfOk result (λ found. is_constant found ≡ false) }
@@ -117,6 +121,7 @@ pub fn call_value<'a, P: Registered>(
     rc: &RenderContext,
     helper: &'a HelperTemplate,
 ) -> Result<ScopedJson<'a>, BoxedError>
+    requires nodes { HasNodes environment.now rc.now }
     ensures value { InState P.parts environment.now rc.now (λ p s. Yields
         (HasInnerValue p s (expression (call_view helper.now))) found_of (answer_of result)) }
     ensures constant { IfOk result (λ found. is_constant found ≡ false) }
@@ -134,6 +139,7 @@ pub fn called<'a, P: Registered>(
     rc: &RenderContext,
     helper: &'a HelperTemplate,
 ) -> Result<Called<'a>, BoxedError>
+    requires nodes { HasNodes environment.now rc.now }
     ensures { InState P.parts environment.now rc.now (λ p s. Yields
         (HasView p s (call_name (call_view helper.now)) (call_args (call_view helper.now))) called_view (answer_of result)) }
 {
@@ -151,6 +157,7 @@ pub fn params_values<'a, P: Registered>(
     rc: &RenderContext,
     params: &'a Vec<Parameter>,
 ) -> Result<Vec<PathAndJson<'a>>, BoxedError>
+    requires nodes { HasNodes environment.now rc.now }
     ensures { InState P.parts environment.now rc.now (λ p s. Yields (HaveValues p s (params_view params.now.items))
         (λ vs. map path_and_data vs.items) (answer_of result)) }
 {
@@ -169,6 +176,7 @@ pub fn pairs_values<'a, P: Registered>(
     rc: &RenderContext,
     pairs: &'a BTreeMap<String, Parameter>,
 ) -> Result<BTreeMap<&'a str, PathAndJson<'a>>, BoxedError>
+    requires nodes { HasNodes environment.now rc.now }
     ensures { InState P.parts environment.now rc.now (λ p s. Yields (PairsHaveValues p s (pairs_view pairs.now.entries))
         (λ vs. pairs_seen vs.entries) (answer_of result)) }
 {

@@ -1,17 +1,17 @@
 -- Blocks that are lent their bases.
-use Rattle.std.proofs.Common.{◌≡◌, ◌≢◌, ◌-◌, ℕ, zero, suc, arith, Bool, List, [], ◌∷◌, Option, Some, None, option_map, Bor, rules, refl, sym, ap, ◌∙◌}
+use Rattle.std.proofs.Common.{◌≡◌, ◌≢◌, ◌-◌, ℕ, zero, suc, arith, Bool, List, [], ◌∷◌, Option, Some, None, option_map, Bor, rules, refl, sym, ap, ◌∙◌, subst}
 use Rattle.std.specs.Prelude.{slice_get}
 use Rattle.serde_json.specs.Data.{Data}
 use Rattle.serde_json.specs.View.{view}
-use Rattle.serde_json.specs.declared.value.Value.{Value}
 use Rattle.handlebars_base.specs.Bytes.{Text}
 use Rattle.handlebars_base.specs.Answers.{gives}
 use Rattle.handlebars_base.specs.Optional.{◌>>=◌, with_or}
 use Rattle.handlebars_base.specs.Path.{Segment, named, root, local, up, variable}
-use Rattle.handlebars_scope.specs.Bases.{base_up, bases_of, lend, with_base}
+use Rattle.handlebars_scope.specs.Bases.{IsNode, NodesLead, bases_of, lend, lent_behind, lent_up, node_of, nodes_of, with_base}
 use Rattle.handlebars_scope.specs.Resolve.{Way, within, behind_ups, block_up, bound_way, found_within, or_else, resolve, unbound_way, variable_at, way_of, way_of_bound, way_of_name}
 use Rattle.handlebars_scope.specs.Scopes.{Frame}
 use Rattle.handlebars_scope.specs.declared.context.bases.Bases.{Bases, the_lemmas}
+use Rattle.handlebars_scope.specs.declared.context.bases.Lent.{Lent}
 use Rattle.handlebars_scope.specs.declared.context.bases.Bases.TheVariants.{Outside, Block}
 
 -- ---- what the code has
@@ -19,30 +19,61 @@ use Rattle.handlebars_scope.specs.declared.context.bases.Bases.TheVariants.{Outs
 pub bases_of-Outside : bases_of Outside ≡ []
 bases_of-Outside = search (rules, the_lemmas)
 
-pub bases_of-Block : (base : Option (Bor Value)) (outer : Bor Bases)
-    → bases_of (Block base outer) ≡ option_map (λ v. view v.now) base ∷ bases_of outer.now
-bases_of-Block base outer = search (rules, the_lemmas)
+pub bases_of-Block : (lent : Lent) (outer : Bor Bases)
+    → bases_of (Block lent outer) ≡ option_map (λ v. view v.now) lent.base ∷ bases_of outer.now
+bases_of-Block lent outer = search (rules, the_lemmas)
+
+pub nodes_of-Outside : nodes_of Outside ≡ []
+nodes_of-Outside = search (rules, the_lemmas)
+
+pub nodes_of-Block : (lent : Lent) (outer : Bor Bases) → nodes_of (Block lent outer) ≡ node_of lent ∷ nodes_of outer.now
+nodes_of-Block lent outer = search (rules, the_lemmas)
 
 -- what is lent so many blocks up, seen from one block
-pub up-outside : (here : Bases) (n : ℕ) → here ≡ Outside → None ≡ base_up (bases_of here) n
-up-outside here n is =
-    sym (ap (λ (z : Bases). base_up (bases_of z) n) is ∙ ap (λ (bs : List (Option Data)). base_up bs n) bases_of-Outside)
+pub up-outside : {all : List (Option Data)} (n : ℕ) → all ≡ [] → None ≡ lent_up all n
+up-outside n is = sym (ap (λ (bs : List (Option Data)). lent_up bs n) is)
 
-pub up-here : (base : Option (Bor Value)) (outer : Bor Bases) (here : Bases) (n : ℕ) → here ≡ Block base outer → n ≡ 0
-    → option_map (λ v. view v.now) base ≡ base_up (bases_of here) n
-up-here base outer here n is none =
-    sym (ap (base_up (bases_of here)) none
-    ∙ ap (λ (bs : List (Option Data)). base_up bs 0) (ap bases_of is ∙ bases_of-Block base outer))
+pub up-here : {all bs : List (Option Data)} {b : Option Data} (n : ℕ) → all ≡ b ∷ bs → n ≡ 0 → b ≡ lent_up all n
+up-here {all = all} n is none = sym (ap (lent_up all) none ∙ ap (λ (cs : List (Option Data)). lent_up cs 0) is)
 
-further : (b : Option Data) (bs : List (Option Data)) (n : ℕ) → n ≢ 0 → base_up bs (n - 1) ≡ base_up (b ∷ bs) n
+further : (b : Option Data) (bs : List (Option Data)) (n : ℕ) → n ≢ 0 → lent_up bs (n - 1) ≡ lent_up (b ∷ bs) n
 further b bs zero some = absurd (some refl)
-further b bs (suc n) some = let less : suc n - 1 ≡ n = omega arith in ap (base_up bs) less
+further b bs (suc n) some = let less : suc n - 1 ≡ n = omega arith in ap (lent_up bs) less
 
-pub up-further : (base : Option (Bor Value)) (outer : Bor Bases) (here : Bases) (n : ℕ) → here ≡ Block base outer → n ≢ 0
-    → base_up (bases_of outer.now) (n - 1) ≡ base_up (bases_of here) n
-up-further base outer here n is some =
-    further (option_map (λ v. view v.now) base) (bases_of outer.now) n some
-    ∙ sym (ap (λ (bs : List (Option Data)). base_up bs n) (ap bases_of is ∙ bases_of-Block base outer))
+pub up-further : {all bs : List (Option Data)} {b : Option Data} (n : ℕ) → all ≡ b ∷ bs → n ≢ 0
+    → lent_up bs (n - 1) ≡ lent_up all n
+up-further {bs = bs} {b = b} n is some =
+    further b bs n some ∙ sym (ap (λ (cs : List (Option Data)). lent_up cs n) is)
+
+-- ---- nodes
+
+-- the node of a block that may be there
+abbrev IsNodeIn : Data → Option Data → Option Frame → Type 0
+IsNodeIn d node None = Unit {0}
+IsNodeIn d node (Some f) = IsNode d f.base_path node
+
+none-in : (d : Data) (o : Option Frame) → IsNodeIn d None o
+none-in d None = tt
+none-in d (Some f) = tt
+
+nodes-up : (ns : List (Option Data)) (fs : List Frame) (d : Data) (n : ℕ) → NodesLead ns fs d
+    → IsNodeIn d (lent_up ns n) (slice_get fs n)
+nodes-up [] fs d n lead = none-in d (slice_get fs n)
+nodes-up (m ∷ ns) [] d n lead = tt
+nodes-up (m ∷ ns) (f ∷ fs) d zero lead = lead.0
+nodes-up (m ∷ ns) (f ∷ fs) d (suc n) lead = nodes-up ns fs d n lead.1
+
+-- the node of the block so many blocks up
+pub node-up : (ns : List (Option Data)) (fs : List Frame) (d : Data) (n : ℕ) (f : Frame) {node : Option Data}
+    → Some f ≡ slice_get fs n → node ≡ lent_up ns n → NodesLead ns fs d → IsNode d f.base_path node
+node-up ns fs d n f is same lead = subst (IsNode d f.base_path) (sym same)
+    (subst (λ (o : Option Frame). IsNodeIn d (lent_up ns n) o) (sym is) (nodes-up ns fs d n lead))
+
+-- those of the blocks behind the nearest one
+pub nodes-behind : (ns : List (Option Data)) (f : Frame) (fs : List Frame) (d : Data) {behind : List (Option Data)}
+    → behind ≡ lent_behind ns → NodesLead ns (f ∷ fs) d → NodesLead behind fs d
+nodes-behind [] f fs d is lead = subst (λ (ms : List (Option Data)). NodesLead ms fs d) (sym is) tt
+nodes-behind (n ∷ ns) f fs d is lead = subst (λ (ms : List (Option Data)). NodesLead ms fs d) (sym is) lead.1
 
 -- ---- blocks by their numbers
 
@@ -51,7 +82,7 @@ unchanged None = refl
 unchanged (Some f) = refl
 
 pub slice_get-lend : (bs : List (Option Data)) (fs : List Frame) (n : ℕ)
-    → slice_get (lend bs fs) n ≡ option_map (with_base (base_up bs n)) (slice_get fs n)
+    → slice_get (lend bs fs) n ≡ option_map (with_base (lent_up bs n)) (slice_get fs n)
 slice_get-lend [] fs n = unchanged (slice_get fs n)
 slice_get-lend (b ∷ bs) [] n = refl
 slice_get-lend (b ∷ bs) (f ∷ fs) zero = refl
@@ -72,7 +103,7 @@ variable_at-lend : (bs : List (Option Data)) (fs : List Frame) (level : ℕ) (na
     → variable_at (lend bs fs) level name ≡ variable_at fs level name
 variable_at-lend bs fs level name =
     ap (λ (o : Option Frame). o >>= λ f. f.variable name) (slice_get-lend bs fs level)
-    ∙ variable-lent (base_up bs level) (slice_get fs level) name
+    ∙ variable-lent (lent_up bs level) (slice_get fs level) name
 
 pub resolve-variable : (recursive : Bool) (bs : List (Option Data)) (fs : List Frame) (level : ℕ) (name text : Text) (d : Data)
     → resolve recursive fs (variable level name text) d ≡ resolve recursive (lend bs fs) (variable level name text) d
@@ -99,26 +130,26 @@ bound_way-lend bs fs (up ∷ rest) = refl
 -- ---- the block so many blocks up
 
 pub block_up-there : (bs : List (Option Data)) (fs : List Frame) (n : ℕ) (f : Frame) {b : Option Data}
-    → Some f ≡ slice_get fs n → b ≡ base_up bs n → Some (with_base b f) ≡ block_up (lend bs fs) n
+    → Some f ≡ slice_get fs n → b ≡ lent_up bs n → Some (with_base b f) ≡ block_up (lend bs fs) n
 block_up-there bs fs n f is base =
     ap (λ (z : Option Data). Some (with_base z f)) base
     ∙ sym (ap (λ (o : Option Frame). or_else o (slice_get (lend bs fs) 0))
-    (slice_get-lend bs fs n ∙ ap (option_map (with_base (base_up bs n))) (sym is)))
+    (slice_get-lend bs fs n ∙ ap (option_map (with_base (lent_up bs n))) (sym is)))
 
 pub block_up-nearest : (bs : List (Option Data)) (fs : List Frame) (n : ℕ) (f : Frame) {b : Option Data}
-    → None ≡ slice_get fs n → Some f ≡ slice_get fs 0 → b ≡ base_up bs 0 → Some (with_base b f) ≡ block_up (lend bs fs) n
+    → None ≡ slice_get fs n → Some f ≡ slice_get fs 0 → b ≡ lent_up bs 0 → Some (with_base b f) ≡ block_up (lend bs fs) n
 block_up-nearest bs fs n f none is base =
     ap (λ (z : Option Data). Some (with_base z f)) base
     ∙ sym (ap (λ (o : Option Frame). or_else o (slice_get (lend bs fs) 0))
-    (slice_get-lend bs fs n ∙ ap (option_map (with_base (base_up bs n))) (sym none))
-    ∙ slice_get-lend bs fs 0 ∙ ap (option_map (with_base (base_up bs 0))) (sym is))
+    (slice_get-lend bs fs n ∙ ap (option_map (with_base (lent_up bs n))) (sym none))
+    ∙ slice_get-lend bs fs 0 ∙ ap (option_map (with_base (lent_up bs 0))) (sym is))
 
 pub block_up-none : (bs : List (Option Data)) (fs : List Frame) (n : ℕ)
     → None ≡ slice_get fs n → None ≡ slice_get fs 0 → None ≡ block_up (lend bs fs) n
 block_up-none bs fs n none empty =
     sym (ap (λ (o : Option Frame). or_else o (slice_get (lend bs fs) 0))
-    (slice_get-lend bs fs n ∙ ap (option_map (with_base (base_up bs n))) (sym none))
-    ∙ slice_get-lend bs fs 0 ∙ ap (option_map (with_base (base_up bs 0))) (sym empty))
+    (slice_get-lend bs fs n ∙ ap (option_map (with_base (lent_up bs n))) (sym none))
+    ∙ slice_get-lend bs fs 0 ∙ ap (option_map (with_base (lent_up bs 0))) (sym empty))
 
 pub way_of-bound : (recursive : Bool) (bs : List (Option Data)) (fs : List Frame) (segments : List Segment) {behind : List Segment}
     {w : Way} → behind ≡ behind_ups segments → Some w ≡ bound_way fs behind → w ≡ way_of recursive (lend bs fs) segments

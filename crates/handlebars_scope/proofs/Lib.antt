@@ -1,8 +1,9 @@
 mod Variables
 mod Indexes
 pub mod Lines
-mod Ways
+pub mod Ways
 pub mod Bases
 mod Fronts
 pub mod Indents
 mod Merging
+pub mod IndexNames

@@ -1,4 +1,4 @@
--- Values that are lent to blocks as their bases, nearest block first: to each block one, or none.
+-- What is lent to blocks, nearest block first: values as their bases, and nodes of the data, to each block one, or none.
 use Rattle.std.specs.Prelude.{◌≡◌, ℕ, zero, suc, Bool, List, [], ◌∷◌, Option, Some, None, option_map}
 use Rattle.serde_json.specs.Data.{Data}
 use Rattle.serde_json.specs.View.{view}
@@ -6,10 +6,11 @@ use Rattle.handlebars_base.specs.Answers.{answer_map, gives}
 use Rattle.handlebars_base.specs.Bytes.{Text}
 use Rattle.handlebars_base.specs.Path.{relative}
 use Rattle.handlebars_base.specs.Scoped.{present_in}
-use Rattle.handlebars_scope.specs.Resolve.{resolve}
+use Rattle.handlebars_scope.specs.Resolve.{resolve, value_at}
 use Rattle.handlebars_scope.specs.Scopes.{Frame}
 use Rattle.handlebars_scope.specs.declared.context.bases.Bases.{Bases, fold-Bases}
 use Rattle.handlebars_scope.specs.declared.context.bases.Bases.TheOpen.{Bases-F}
+use Rattle.handlebars_scope.specs.declared.context.bases.Lent.{Lent}
 
 -- the block, with the value that is lent to it, if one is, in the place of its own
 abbrev pub with_base : Option Data → Frame → Frame
@@ -23,21 +24,50 @@ lend (b ∷ bs) [] = []
 lend (b ∷ bs) (f ∷ fs) = with_base b f ∷ lend bs fs
 
 -- what is lent to the block so many blocks up
-abbrev pub base_up : List (Option Data) → ℕ → Option Data
-base_up [] n = None
-base_up (b ∷ bs) zero = b
-base_up (b ∷ bs) (suc n) = base_up bs n
+abbrev pub lent_up : List (Option Data) → ℕ → Option Data
+lent_up [] n = None
+lent_up (b ∷ bs) zero = b
+lent_up (b ∷ bs) (suc n) = lent_up bs n
+
+-- what is lent to the blocks behind the nearest one
+abbrev pub lent_behind : List (Option Data) → List (Option Data)
+lent_behind [] = []
+lent_behind (b ∷ bs) = bs
 
 -- the value that the empty path leads to in these blocks and this data
 abbrev pub IsCurrent : List Frame → Data → Data → Type 0
 IsCurrent fs d here = (recursive : Bool) (text : Text)
     → answer_map present_in (resolve recursive fs (relative [] text) d) ≡ gives (Some here)
 
+-- ---- nodes
+
+-- A node is the value of the data that these names lead to.
+abbrev pub IsNode : Data → List Text → Option Data → Type 0
+IsNode d names None = Unit {0}
+IsNode d names (Some v) = value_at d names ≡ gives (Some v)
+
+-- The nodes that are lent to blocks are the values that their base paths lead to.
+abbrev pub NodesLead : List (Option Data) → List Frame → Data → Type 0
+NodesLead [] fs d = Unit {0}
+NodesLead (n ∷ ns) [] d = Unit {0}
+NodesLead (n ∷ ns) (f ∷ fs) d = IsNode d f.base_path n × NodesLead ns fs d
+
 -- ---- in the code
+
+-- the node of a block, if it is lent one
+abbrev pub node_of : Lent → Option Data
+node_of lent = option_map (λ v. view v.now) lent.node
 
 abbrev pub bases_layer : Bases-F (List (Option Data)) → List (Option Data)
 bases_layer Bases-F.Outside = []
-bases_layer (Bases-F.Block base outer) = option_map (λ v. view v.now) base ∷ outer.now
+bases_layer (Bases-F.Block lent outer) = option_map (λ v. view v.now) lent.base ∷ outer.now
 
 abbrev pub bases_of : Bases → List (Option Data)
 bases_of = fold-Bases _ bases_layer
+
+abbrev pub nodes_layer : Bases-F (List (Option Data)) → List (Option Data)
+nodes_layer Bases-F.Outside = []
+nodes_layer (Bases-F.Block lent outer) = node_of lent ∷ outer.now
+
+abbrev pub nodes_of : Bases → List (Option Data)
+nodes_of = fold-Bases _ nodes_layer

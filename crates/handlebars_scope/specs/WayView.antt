@@ -9,19 +9,20 @@ use Rattle.handlebars_base.specs.Answers.{Answer, gives, refuses_for}
 use Rattle.handlebars_base.specs.Bytes.{Text}
 use Rattle.handlebars_base.specs.PathView.{segments_of}
 use Rattle.handlebars_base.specs.Reasons.{invalid_json_index}
-use Rattle.handlebars_scope.specs.Bases.{with_base}
+use Rattle.handlebars_scope.specs.Bases.{IsNode, with_base}
 use Rattle.handlebars_scope.specs.Scopes.{Frame}
 use Rattle.handlebars_scope.specs.ScopeView.{frame_of}
 use Rattle.handlebars_scope.specs.declared.block.BlockContext.{BlockContext}
 use Rattle.handlebars_scope.specs.Resolve.{Way, within, along, under_front, names_of}
+use Rattle.handlebars_scope.specs.declared.context.bases.Lent.{Lent}
 use Rattle.handlebars_scope.specs.declared.context.way.Way.{Way as CodeWay}
 use Rattle.handlebars_scope.specs.declared.context.way.Way.TheVariants.{Within, Along, UnderFront}
 use Rattle.handlebars_scope.specs.declared.context.reached.Reached.{Reached}
 use Rattle.handlebars_scope.specs.declared.context.reached.Reached.TheVariants as reach
 
 -- a block with the base that is lent to it, if one is
-abbrev pub lent_frame : Bor BlockContext × Option (Bor Value) → Frame
-lent_frame b = with_base (option_map (λ v. view v.now) b.1) (frame_of b.0.now)
+abbrev pub lent_frame : Bor BlockContext × Lent → Frame
+lent_frame b = with_base (option_map (λ v. view v.now) b.1.base) (frame_of b.0.now)
 
 -- the names that texts are
 abbrev pub names_in : List (String Global) → List Text
@@ -29,8 +30,14 @@ names_in names = map string_bytes names
 
 abbrev pub way_view : CodeWay → Way
 way_view (Within held rest) = within (view held.now) (names_of (segments_of rest.now))
-way_view (Along base bound rest) = along (names_in base.now ++ (names_in bound.now ++ names_of (segments_of rest.now)))
+way_view (Along _ base bound rest) = along (names_in base.now ++ (names_in bound.now ++ names_of (segments_of rest.now)))
 way_view (UnderFront base name) = under_front (names_in base.now) (string_bytes name.now)
+
+-- The node that a way begins at, if it has one, is the value that its base path leads to.
+abbrev pub IsFromNode : Data → CodeWay → Type 0
+IsFromNode d (Within held rest) = Unit {0}
+IsFromNode d (Along start base bound rest) = IsNode d (names_in base.now) (option_map (λ v. view v.now) start)
+IsFromNode d (UnderFront base name) = Unit {0}
 
 -- what was found under a front, and how many names that keeps
 abbrev pub hit_of : ℕ × Bor Value → ℕ × Data

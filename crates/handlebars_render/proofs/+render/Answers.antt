@@ -1,5 +1,6 @@
 use Rattle.std.proofs.Common.{rules, None, Some, ◌∷◌, ◌∙◌, ◌+◌, true≢false, refl, sym, ap, map, option_map, Option, List, length, arith}
 use Rattle.std.specs.Prelude.{slice_get}
+use Rattle.serde_json.specs.Data.{Data}
 use Rattle.serde_json.specs.View.{view}
 use Rattle.handlebars_base.specs.RenderRefusals.{spot_of}
 use Rattle.handlebars_template.specs.Place.{Place}
@@ -30,10 +31,11 @@ use Rattle.handlebars_render.proofs.BoundCalls.{choice-entered, chooses-entered,
 use Rattle.handlebars_render.proofs.Leads.{body-seen, carries_on-choice, carries_on-leads, carries_on-part, inverse-seen, part_site}
 use Rattle.handlebars_render.proofs.Leaves.{carries_on-leaves}
 use Rattle.handlebars_render.proofs.Carry.{carries-run, carries_on-done, carries_on-handed, carries_on-in_block, carries_on-line, carries_on-no_memory, carries_on-no_value, carries_on-out_of_memory, carries_on-puts, carries_on-step, carries_on-task, carries_on-task_over, carries_on-without_escaping, restored}
-use Rattle.handlebars_meaning.specs.State.{push_frame, pop_frame, nearest_variables}
+use Rattle.handlebars_meaning.specs.State.{State, push_frame, pop_frame, nearest_variables}
 use Rattle.handlebars_render.proofs.Elements.{left_starts, left_goes, left_over, left_ends, whole_with}
 use Rattle.handlebars_render.proofs.Kept.{kept-refl, kept-trans, outer-kept, outer-trans}
-use Rattle.handlebars_render.proofs.Lent.{pop_frame-lent, named-lent, nearest-lent, one_more, partial_in-lend}
+use Rattle.handlebars_render.proofs.Lent.{in-turn, pop_frame-lent, named-lent, nearest-lent, one_more, partial_in-lend}
+use Rattle.handlebars_render.proofs.Nodes.{nodes-kept, nodes-pushed, nodes-turned}
 use Rattle.handlebars_render.proofs.Lists.{get_or-seen, below-seen, over-seen, place_there, looked_up, placed_marks}
 use Rattle.handlebars_render.proofs.Silent.{carries_on-does}
 use Rattle.handlebars_render.proofs.Sinks.{same-refl, same-trans}
@@ -339,9 +341,9 @@ each::render_in-returns-in_err-push_block-clause-renders g t c = λ site i block
 
 pub each::render_in-returns-clause-renders : goal.each::render_in-returns-clause-renders
 each::render_in-returns-clause-renders g t c = λ site i block v kept.
-    let more = one_more kept None c.block-bases.ensures in
+    let more = one_more kept None c.block-bases.ensures.bases in
     carries_on-in_block _ _ (frame_of c.args.scope) _ (ap (keeping more) c.in_ok-push_block.ensures.ok)
-    (ap (keeping kept) c.pop_block.ensures.state ∙ pop_frame-lent kept None c.block-bases.ensures (state_of c.render_part-answer.new.rc))
+    (ap (keeping kept) c.pop_block.ensures.state ∙ pop_frame-lent kept None c.block-bases.ensures.bases (state_of c.render_part-answer.new.rc))
     (rw (body-seen c.args.helper.now c.as_ref.result c.as_ref.ensures.value) at (c.render_part-answer.ensures.renders (body_at site i) more))
 
 pub each::render_each-returns-in_err-push_block-clause-renders : goal.each::render_each-returns-in_err-push_block-clause-renders
@@ -350,10 +352,10 @@ each::render_each-returns-in_err-push_block-clause-renders g t c = λ site block
 
 pub each::render_each-returns-clause-renders : goal.each::render_each-returns-clause-renders
 each::render_each-returns-clause-renders g t c = λ site block v kept.
-    let more = one_more kept None c.block-bases.ensures in
+    let more = one_more kept None c.block-bases.ensures.bases in
     carries_on-in_block _ _ empty_frame _
     (ap (keeping more) (c.in_ok-push_block.ensures.ok ∙ ap (λ (f : Frame). push_frame f (state_of c.args.rc.now)) c.new.ensures))
-    (ap (keeping kept) c.pop_block.ensures.state ∙ pop_frame-lent kept None c.block-bases.ensures (state_of c.take_turns-answer.new.rc))
+    (ap (keeping kept) c.pop_block.ensures.state ∙ pop_frame-lent kept None c.block-bases.ensures.bases (state_of c.take_turns-answer.new.rc))
     (c.take_turns-answer.ensures.renders site block v more (kept.bases, refl))
 
 -- ---- turns
@@ -369,7 +371,8 @@ each::take_turns-returns-in-Err-clause-renders g t c = λ site block v kept unle
     c.in-Some.ensures (c.turns.invariant.left site block v kept unlent)
     (carries_on-turn _ _ site c.turns.invariant.number (view_with_bodies block (call_view c.args.helper.now) v) (path_view c.args.path) (turn_view c.in-Some.turn)
     (rw (sym (binding-seen c.args.helper.now c.as_ref.result c.as_ref.ensures.value)) (nearest-lent kept (turn_frame (path_view c.args.path) _ (turn_view c.in-Some.turn)) _ _ (c.in_ok-set_up_turn.ensures.ok c.turns.invariant.below) unlent))
-    (rw (body-seen c.args.helper.now c.as_ref-in-Some.result c.as_ref-in-Some.ensures.value) at (c.in-Err.ensures.renders (body_at site c.turns.invariant.number) kept)))
+    (rw (body-seen c.args.helper.now c.as_ref-in-Some.result c.as_ref-in-Some.ensures.value) at (c.in-Err.ensures.renders (body_at site c.turns.invariant.number)
+    (in-turn kept (c.block-bases.ensures.bases ∙ ap (λ (bs : List (Option Data)). None ∷ bs) c.behind.ensures.bases) unlent))))
 
 pub each::take_turns-turns-init : goal.each::take_turns-turns-init
 each::take_turns-turns-init g t c =
@@ -389,7 +392,8 @@ each::take_turns-turns-preserved g t c = record {
       c.in-Some.ensures (c.turns.invariant.left site block v kept unlent)
       (carries_on-turn _ _ site c.turns.invariant.number (view_with_bodies block (call_view c.args.helper.now) v) (path_view c.args.path) (turn_view c.in-Some.turn)
       (rw (sym (binding-seen c.args.helper.now c.as_ref.result c.as_ref.ensures.value)) (nearest-lent kept (turn_frame (path_view c.args.path) _ (turn_view c.in-Some.turn)) _ _ (c.in_ok-set_up_turn.ensures.ok c.turns.invariant.below) unlent))
-      (rw (body-seen c.args.helper.now c.as_ref-in-Some.result c.as_ref-in-Some.ensures.value) at (c.in_default-render_part.ensures.renders (body_at site c.turns.invariant.number) kept)));
+      (rw (body-seen c.args.helper.now c.as_ref-in-Some.result c.as_ref-in-Some.ensures.value) at (c.in_default-render_part.ensures.renders (body_at site c.turns.invariant.number)
+      (in-turn kept (c.block-bases.ensures.bases ∙ ap (λ (bs : List (Option Data)). None ∷ bs) c.behind.ensures.bases) unlent))));
   same = same-trans _ _ _ c.turns.invariant.same c.in_default-render_part.ensures.stays.same;
   outer = outer-trans c.turns.invariant.outer
       (outer-trans c.in_ok-set_up_turn.ensures.outer (outer-kept c.in_default-render_part.ensures.stays.kept));
@@ -536,7 +540,7 @@ partial::include_tree-returns-clause-renders g t c = λ site there kept.
     let inner = push_frame (inclusion_block stands.0 (pair_values v.call.pairs) (nearest_variables s.blocks)) s in
     let begins = ap (lending (b ∷ kept.bases)) c.in_ok-name.ensures.ok
     ∙ ap (λ (f : Frame). with_current None (push_frame f s)) stands.2 in
-    let more = one_more kept b c.block-bases.ensures in
+    let more = one_more kept b c.block-bases.ensures.bases in
     elim c.match-body.branch [
       | partial::include_tree-in-Some+in-Ok-render_ahead w ↦
           rw (w.answer-is, w.sink-is, w.in-Some.is)
@@ -547,7 +551,7 @@ partial::include_tree-returns-clause-renders g t c = λ site there kept.
           (w.in-Ok-render_ahead.ensures.ahead (body_at site 0) more _)
           (λ ps. kept-more v.indent w0.indent (Some ps) kept.pieces w0.inclusions c.in-Ok.count (lending (b ∷ kept.bases) (state_of w.render_ahead.new.rc)) c.in-Ok.ensures.ok.1)
           (λ ps. ap (keeping kept) ((rw w.rc-is at c.end.ensures.state) ∙ ap (λ (n : Option Text). with_current n (pop_frame (state_of w.render_under.new.rc))) c.in_ok-name.ensures.name)
-          ∙ named-lent kept b c.block-bases.ensures (state_of c.args.rc.now).current (state_of w.render_under.new.rc))
+          ∙ named-lent kept b c.block-bases.ensures.bases (state_of c.args.rc.now).current (state_of w.render_under.new.rc))
           (λ ps is. w.render_under.ensures.renders there
           (record {
             pieces = Some ps ∷ kept.pieces;
@@ -564,7 +568,7 @@ partial::include_tree-returns-clause-renders g t c = λ site there kept.
           (inclusion-plain _ _ v there u stands.0 {c = None} c.in-Ok.ensures.ok.0 stands.1
           (begin_inclusion-so v.indent w0.indent None kept.pieces w0.inclusions c.in-Ok.count inner c.in-Ok.ensures.ok.1 begins)
           (ap (keeping kept) ((rw w.rc-is at c.end.ensures.state) ∙ ap (λ (n : Option Text). with_current n (pop_frame (state_of w.render_under-answer.new.rc))) c.in_ok-name.ensures.name)
-          ∙ named-lent kept b c.block-bases.ensures (state_of c.args.rc.now).current (state_of w.render_under-answer.new.rc))
+          ∙ named-lent kept b c.block-bases.ensures.bases (state_of c.args.rc.now).current (state_of w.render_under-answer.new.rc))
           (w.render_under-answer.ensures.renders there (record { pieces = None ∷ kept.pieces; bases = more.bases; holds = refl; lent = more.lent })))
     ]
 
@@ -585,3 +589,52 @@ partial::render_kept-returns-clause-renders g t c = λ site kept.
     (ap (keeping kept) c.take_name-name.ensures.state)
     (ap (keeping kept) (c.set_current_template_name.ensures.state ∙ ap (λ (n : Option Text). with_current n (state_of c.render_tree-answer.new.rc)) c.take_name-name.ensures.name))
     (c.render_tree-answer.ensures.renders (body_at site 0) kept)
+
+-- ---- nodes
+
+pub block::render_chosen-render_rest-requires : goal.block::render_chosen-render_rest-requires
+block::render_chosen-render_rest-requires g t c κs inside =
+    (search rules, (inside.0, (inside.1, nodes-kept _ _ c.in-Ok.ensures.stays.kept c.requires.nodes)))
+
+pub tree::render_tree-render_element-requires : goal.tree::render_tree-render_element-requires
+tree::render_tree-render_element-requires g t c κs inside = (
+  search rules,
+  (
+    inside.0,
+    (
+      inside.1,
+      nodes-kept _ _ c.elements.invariant.kept (nodes-kept _ _ c.in_ok-enter.ensures.kept c.requires.nodes),
+    ),
+  ),
+)
+
+pub steps::take_steps-take_step-requires : goal.steps::take_steps-take_step-requires
+steps::take_steps-take_step-requires g t c κs inside =
+    (search rules, (inside.0, (inside.1, nodes-kept _ _ c.steps.invariant.kept c.requires.nodes)))
+
+pub each::take_turns-render_part-requires : goal.each::take_turns-render_part-requires
+each::take_turns-render_part-requires g t c κs inside = (
+  search rules,
+  (
+    inside.0,
+    (
+      inside.1,
+      nodes-turned _ _ (path_view c.args.path) _ (turn_view c.in-Some.turn) c.block-bases.ensures.nodes c.behind.ensures.nodes
+          (ap (λ (s : State). s.blocks) (c.in_ok-set_up_turn.ensures.ok c.turns.invariant.below))
+          (c.turn_node.ensures _ (path_view c.args.path) c.requires.node) c.turns.invariant.outer c.requires.nodes,
+    ),
+  ),
+)
+
+pub partial::include_tree-render_under-requires : goal.partial::include_tree-render_under-requires
+partial::include_tree-render_under-requires g t c κs inside = (
+  search rules,
+  (
+    inside.0,
+    (
+      inside.1,
+      nodes-kept _ _ c.in-Ok-render_ahead.ensures.kept
+          (nodes-pushed _ c.block-bases.ensures.nodes (ap (λ (s : State). s.blocks) c.in_ok-name.ensures.ok) tt c.requires.nodes),
+    ),
+  ),
+)

@@ -8,12 +8,12 @@ ghost use Rattle.serde_json.specs.View.{view};
 ghost use Rattle.handlebars_base.specs.Answers.{Answers, answer_map, gives};
 ghost use Rattle.handlebars_base.specs.PathView.{reference_of, segments_of};
 ghost use Rattle.handlebars_base.specs.Scoped.{found_of, is_constant, present_in};
-ghost use Rattle.handlebars_scope.specs.Bases.{IsCurrent, bases_of, lend};
+ghost use Rattle.handlebars_scope.specs.Bases.{IsCurrent, IsNode, NodesLead, bases_of, lend, nodes_of};
 ghost use Rattle.handlebars_scope.specs.Resolve.{along, found_by, found_front, found_within, navigate, resolve, variable_at};
 ghost use Rattle.handlebars_scope.specs.Resolve.{if_any, index_of, longest, member_at, names_of, or_else, value_at};
 ghost use Rattle.handlebars_scope.specs.ScopeView.{frame_of, frames_of};
 ghost use Rattle.handlebars_scope.specs.Seeking.{Seeks};
-ghost use Rattle.handlebars_scope.specs.WayView.{hit_of, names_in, reached_of, way_view};
+ghost use Rattle.handlebars_scope.specs.WayView.{IsFromNode, hit_of, names_in, reached_of, way_view};
 
 use crate::block::BlockContext;
 use crate::context::bases::Bases;
@@ -31,7 +31,7 @@ pub fn resolve<'v>(
     given: &'v Json,
     path: &Path,
     blocks: &'v VecDeque<BlockContext>,
-    bases: &'v Bases<'v>,
+    bases: &'v Bases<'v, 'v>,
     recursive: bool,
 ) -> Result<Option<&'v Json>, RenderError>
     ensures { Answers (option_map (λ v. view v.now)) result
@@ -39,17 +39,22 @@ pub fn resolve<'v>(
         (resolve recursive (lend (bases_of bases.now) (frames_of blocks.now.items)) (reference_of path.now)
         (view given.now))) }
 {
-    answered(alloc, reach(given, path, blocks, bases, recursive))
+    answered(
+        alloc,
+        reach_from_data(given, path, blocks, bases, recursive),
+    )
 }
 
-/// The value that a path leads to, or why there is none, of which no refusal is made yet.
+/// The value that a path leads to, or why there is none, of which no refusal is made yet. It is walked from the node of its
+/// block, where that is lent one.
 pub fn reach<'v: 'n, 'n>(
     given: &'v Json,
     path: &'n Path,
     blocks: &'v VecDeque<BlockContext>,
-    bases: &'v Bases<'v>,
+    bases: &'v Bases<'v, 'v>,
     recursive: bool,
 ) -> Reached<'v, 'n>
+    requires nodes { NodesLead (nodes_of bases.now) (frames_of blocks.now.items) (view given.now) }
     ensures { reached_of result ≡ answer_map present_in
         (resolve recursive (lend (bases_of bases.now) (frames_of blocks.now.items)) (reference_of path.now)
         (view given.now)) }
@@ -60,15 +65,40 @@ pub fn reach<'v: 'n, 'n>(
     }
 }
 
+/// The value that a path leads to from the data itself, or why there is none. So it is where the nodes that are lent to blocks
+/// are of other data.
+pub fn reach_from_data<'v: 'n, 'n>(
+    given: &'v Json,
+    path: &'n Path,
+    blocks: &'v VecDeque<BlockContext>,
+    bases: &'v Bases<'v, 'v>,
+    recursive: bool,
+) -> Reached<'v, 'n>
+    ensures { reached_of result ≡ answer_map present_in
+        (resolve recursive (lend (bases_of bases.now) (frames_of blocks.now.items)) (reference_of path.now)
+        (view given.now)) }
+{
+    match path {
+        Path::Relative((segments, _)) => {
+            follow(
+                given,
+                way_of(blocks, bases, segments, recursive).from_data(),
+            )
+        }
+        Path::Local((level, name, _)) => if_found(variable_at(blocks, *level, name.as_str())),
+    }
+}
+
 /// What a path leads to, with the full path of a value of the data. A value that a block holds is copied.
 pub fn find<'a>(
     alloc: Global,
     given: &'a Json,
     path: &Path,
     blocks: &VecDeque<BlockContext>,
-    bases: &Bases<'_>,
+    bases: &Bases<'_, 'a>,
     recursive: bool,
 ) -> Result<ScopedJson<'a>, RenderError>
+    requires nodes { NodesLead (nodes_of bases.now) (frames_of blocks.now.items) (view given.now) }
     ensures found { Answers found_of result
         (resolve recursive (lend (bases_of bases.now) (frames_of blocks.now.items)) (reference_of path.now)
         (view given.now)) }
@@ -86,9 +116,10 @@ pub fn seek<'a, 'n>(
     given: &'a Json,
     path: &'n Path,
     blocks: &'n VecDeque<BlockContext>,
-    bases: &'n Bases<'n>,
+    bases: &'n Bases<'n, 'a>,
     recursive: bool,
 ) -> Result<ScopedJson<'a>, Unfound<'n>>
+    requires nodes { NodesLead (nodes_of bases.now) (frames_of blocks.now.items) (view given.now) }
     ensures found { Seeks result
         (resolve recursive (lend (bases_of bases.now) (frames_of blocks.now.items)) (reference_of path.now)
         (view given.now)) }
@@ -107,38 +138,46 @@ pub fn seek<'a, 'n>(
 pub fn current<'v>(
     given: &'v Json,
     blocks: &VecDeque<BlockContext>,
-    bases: &'v Bases<'v>,
+    bases: &'v Bases<'v, 'v>,
 ) -> Option<&'v Json>
+    requires nodes { NodesLead (nodes_of bases.now) (frames_of blocks.now.items) (view given.now) }
     ensures { IfSome result (λ v. IsCurrent (lend (bases_of bases.now) (frames_of blocks.now.items)) (view given.now)
         (view v.now)) }
 {
     match blocks.front() {
-        Some(block) => match bases.up(0) {
-            Some(value) => Some(value),
-            None => current_in(given, block),
-        },
+        Some(block) => {
+            let lent = bases.up(0);
+            match lent.base {
+                Some(value) => Some(value),
+                None => current_in(given, block, lent.node),
+            }
+        }
         None => Some(given),
     }
 }
 
-// The value of the data that a block stands at, where nothing is lent to it.
-fn current_in<'v>(given: &'v Json, block: &BlockContext) -> Option<&'v Json>
+// The value of the data that a block stands at, where nothing but its node is lent to it.
+fn current_in<'v>(given: &'v Json, block: &BlockContext, node: Option<&'v Json>) -> Option<&'v Json>
+    requires node { IsNode (view given.now) (frame_of block.now).base_path (option_map (λ v. view v.now) node) }
     ensures value { IfSome result (λ v. value_at (view given.now) (frame_of block.now).base_path ≡ gives (Some (view v.now))) }
     ensures path { IfSome result (λ v. (frame_of block.now).base_value ≡ None) }
 {
-    match block.base_value() {
-        Some(_) => None,
+    if block.base_value().is_some() {
+        return None;
+    }
+    match node {
+        Some(node) => Some(node),
         None => value_by_names(given, block.base_path()),
     }
 }
 
 /// What is lent to the nearest block, for where the data itself may not be lent.
-pub fn lent<'v>(blocks: &VecDeque<BlockContext>, bases: &'v Bases<'v>) -> Option<&'v Json>
+pub fn lent<'v>(blocks: &VecDeque<BlockContext>, bases: &'v Bases<'v, '_>) -> Option<&'v Json>
     ensures { IfSome result (λ v. (d : Data) → IsCurrent (lend (bases_of bases.now) (frames_of blocks.now.items)) d
         (view v.now)) }
 {
     match blocks.front() {
-        Some(_) => bases.up(0),
+        Some(_) => bases.up(0).base,
         None => None,
     }
 }
@@ -156,7 +195,11 @@ pub(crate) fn navigate<'a>(
     ensures plain { IfOk result (λ found. is_constant found ≡ false) }
 {
     let bases = Bases::outside();
-    match found_by(alloc, given, way_of(blocks, &bases, segments, recursive)) {
+    match found_by(
+        alloc,
+        given,
+        way_of(blocks, &bases, segments, recursive).from_data(),
+    ) {
         Ok(found) => Ok(found),
         Err(why) => Err(why.into_error(alloc)),
     }
@@ -166,14 +209,20 @@ pub(crate) fn navigate<'a>(
 fn found_by<'a, 'n>(
     alloc: Global,
     given: &'a Json,
-    way: Way<'n, 'n>,
+    way: Way<'n, 'n, 'a>,
 ) -> Result<ScopedJson<'a>, Unfound<'n>>
+    requires node { IsFromNode (view given.now) way }
     ensures found { Seeks result (found_by (way_view way.entry) (view given.now)) }
     ensures plain { IfOk result (λ found. is_constant found ≡ false) }
 {
     match way {
         Way::Within(held, rest) => found_within(held, rest),
-        Way::Along { base, bound, rest } => found_along(alloc, given, base, bound, rest),
+        Way::Along {
+            node,
+            base,
+            bound,
+            rest,
+        } => found_along(alloc, given, node, base, bound, rest),
         Way::UnderFront(base, name) => Ok(found_front(alloc, given, base, name)?),
     }
 }
@@ -193,16 +242,18 @@ fn found_within<'a, 'n>(held: &'n Json, rest: &'n [PathSeg]) -> Result<ScopedJso
 fn found_along<'a, 'n>(
     alloc: Global,
     given: &'a Json,
+    node: Option<&'a Json>,
     base: &'n [String],
     bound: &'n [String],
     rest: &'n [PathSeg],
 ) -> Result<ScopedJson<'a>, Unfound<'n>>
+    requires node { IsNode (view given.now) (names_in base.now) (option_map (λ v. view v.now) node) }
     ensures found { Seeks result (found_by
         (along (names_in base.now ++ (names_in bound.now ++ names_of (segments_of rest.now))))
         (view given.now)) }
     ensures plain { IfOk result (λ found. is_constant found ≡ false) }
 {
-    match along(given, base, bound, rest) {
+    match along(given, node, base, bound, rest) {
         Reached::Value(value) => Ok(ScopedJson::Context(value, joined(alloc, base, bound, rest)?)),
         Reached::Nothing => Ok(ScopedJson::Missing),
         Reached::NoIndex(name) => Err(Unfound::NoIndex(name)),
@@ -226,13 +277,20 @@ fn found_front<'a>(
 }
 
 // The value at the end of a way.
-fn follow<'v: 'n, 'n>(given: &'v Json, way: Way<'v, 'n>) -> Reached<'v, 'n>
+#[inline(always)]
+fn follow<'v: 'n, 'n>(given: &'v Json, way: Way<'v, 'n, 'v>) -> Reached<'v, 'n>
+    requires node { IsFromNode (view given.now) way }
     ensures { reached_of result
         ≡ answer_map present_in (found_by (way_view way.entry) (view given.now)) }
 {
     match way {
         Way::Within(held, rest) => along_segments(held, rest),
-        Way::Along { base, bound, rest } => along(given, base, bound, rest),
+        Way::Along {
+            node,
+            base,
+            bound,
+            rest,
+        } => along(given, node, base, bound, rest),
         Way::UnderFront(base, name) => match longest(given, base, name) {
             Some((_, value)) => Reached::Value(value),
             None => Reached::Nothing,
@@ -263,9 +321,29 @@ fn copied<'a>(found: Option<&Json>) -> Result<ScopedJson<'a>, AllocError>
 
 // ---- along names
 
-// Along a base path, what is bound below it, and the names of segments. Most names lead somewhere, so their
-// values alone are handed on at first.
+// Along a base path, what is bound below it, and the names of segments: from the node that the base path leads to, where
+// that is known.
+#[inline(always)]
 fn along<'v, 'n>(
+    given: &'v Json,
+    node: Option<&'v Json>,
+    base: &'n [String],
+    bound: &'n [String],
+    rest: &'n [PathSeg],
+) -> Reached<'v, 'n>
+    requires node { IsNode (view given.now) (names_in base.now) (option_map (λ v. view v.now) node) }
+    ensures { reached_of result
+        ≡ value_at (view given.now) (names_in base.now ++ (names_in bound.now ++ names_of (segments_of rest.now))) }
+{
+    match node {
+        Some(node) => along_from(node, &[], bound, rest),
+        None => along_from(given, base, bound, rest),
+    }
+}
+
+// From a value. Most names lead somewhere, so their values alone are handed on at first.
+#[inline(always)]
+fn along_from<'v, 'n>(
     given: &'v Json,
     base: &'n [String],
     bound: &'n [String],
@@ -346,6 +424,7 @@ fn member<'v, 'n>(value: &'v Json, name: &'n String) -> Reached<'v, 'n>
 }
 
 // The value that a base path, what is bound below it and segments lead to, where all names lead to one.
+#[inline(always)]
 fn along_values<'v>(
     given: &'v Json,
     base: &[String],
@@ -360,7 +439,8 @@ fn along_values<'v>(
     value_by_segments(at_bound, rest)
 }
 
-fn value_by_names<'v>(given: &'v Json, names: &[String]) -> Option<&'v Json>
+/// The value that names lead to; none where they lead to none.
+pub fn value_by_names<'v>(given: &'v Json, names: &[String]) -> Option<&'v Json>
     ensures { IfSome result (λ v. value_at (view given.now) (names_in names.now) ≡ gives (Some (view v.now))) }
 {
     let mut here = given;
@@ -373,6 +453,7 @@ fn value_by_names<'v>(given: &'v Json, names: &[String]) -> Option<&'v Json>
     Some(here)
 }
 
+#[inline(always)]
 fn value_by_segments<'v>(given: &'v Json, segments: &[PathSeg]) -> Option<&'v Json>
     ensures { IfSome result (λ v. value_at (view given.now) (names_of (segments_of segments.now))
         ≡ gives (Some (view v.now))) }

@@ -12,6 +12,7 @@ use Rattle.handlebars_render.specs.View.{state_with}
 use Rattle.handlebars_render.proofs.Evaluated.{alone-elements, alone_view, silent-ends, silent-goes, silent-refused}
 use Rattle.handlebars_render.proofs.Kept.{kept-trans}
 use Rattle.handlebars_render.proofs.Lists.{below-seen, get_or-seen, looked_up, over-seen, place_there, placed_marks}
+use Rattle.handlebars_render.proofs.Nodes.{nodes-kept}
 use Rattle.handlebars_render.proofs.evaluate.eval_tree.Goals as goal
 
 pub elements-preserved : goal.elements-preserved
@@ -50,3 +51,6 @@ returns-clause-evals g c = λ kept.
     (silent-ends _ (map alone_view c.deref-element-items.result.now) (map place_of c.args.template.now.mapping.items)
     c.elements.index _ _ (over-seen alone_view c.deref-element-items.result.now c.elements.index c.elements-test.false)
     (c.elements.invariant.0 kept))))
+
+pub eval_element-requires : goal.eval_element-requires
+eval_element-requires g c = record { nodes = nodes-kept _ _ c.elements.invariant.1 c.requires.nodes }

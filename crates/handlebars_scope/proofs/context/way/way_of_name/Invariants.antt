@@ -1,12 +1,16 @@
 use Rattle.std.proofs.Common.{◌≡◌, string_bytes}
 use Rattle.std.specs.VecDeque.Iter.{deque_iter_rest}
+use Rattle.serde_json.specs.Data.{Data}
 use Rattle.handlebars_base.specs.PathView.{segments_of}
+use Rattle.handlebars_scope.specs.Bases.{NodesLead, nodes_of}
 use Rattle.handlebars_scope.specs.Resolve.{way_of_name}
 use Rattle.handlebars_scope.specs.ScopeView.{frames_of}
 use Rattle.handlebars_scope.proofs.context.way.way_of_name.Given as goal
 
--- none of the blocks so far binds the name, so the rest decide
+-- none of the blocks so far binds the name, so the rest decide; and what is left is lent to them
 abbrev pub invariant-loop-block : goal.invariant-loop-block
 invariant-loop-block l =
-    way_of_name (frames_of (deque_iter_rest l.block-iterator)) (string_bytes l.name) (segments_of l.rest)
-    ≡ way_of_name (frames_of l.blocks.items) (string_bytes l.name) (segments_of l.rest)
+    (way_of_name (frames_of (deque_iter_rest l.block-iterator)) (string_bytes l.name) (segments_of l.rest)
+    ≡ way_of_name (frames_of l.blocks.items) (string_bytes l.name) (segments_of l.rest))
+    × ((d : Data) → NodesLead (nodes_of l.bases) (frames_of l.blocks.items) d
+    → NodesLead (nodes_of l.here) (frames_of (deque_iter_rest l.block-iterator)) d)
