@@ -1,14 +1,14 @@
 -- Paths that are alone in the tags of values.
-use Rattle.std.proofs.Common.{◌≡◌, ◌∙◌, Bool, true, false, Option, Some, None, refl, sym, ap}
+use Rattle.std.proofs.Common.{◌≡◌, ◌∙◌, true, Option, Some, None, refl, sym, ap}
 use Rattle.std.specs.Option.{MatchOption}
 use Rattle.handlebars_base.specs.Bytes.{Text}
 use Rattle.handlebars_base.specs.Path.{IsIdentifier}
 use Rattle.handlebars_lines.specs.Alone.{IsAlone}
-use Rattle.handlebars_lines.specs.Line.{value_name, Line, in_tag, IsLine}
+use Rattle.handlebars_lines.specs.Line.{value_name, Line, in_tag}
 use Rattle.handlebars_lines.specs.Parameter.{path_term, no_terms}
 use Rattle.handlebars_lines.proofs.Alone.{alone_line}
 use Rattle.handlebars_tags.specs.Kind.{TagKind, expression_kind, html_kind, html_sign_kind, block_kind, close_kind, inverse_kind, else_kind, raw_kind, raw_close_kind, decorator_kind, decorator_block_kind, partial_kind, partial_block_kind, comment_kind, closing_of}
-use Rattle.handlebars_tags.specs.Tag.{Tag, expression_tag, html_tag, Says, a_value, a_raw_value, a_signed_value}
+use Rattle.handlebars_tags.specs.Tag.{Tag, expression_tag, html_tag, a_value, a_raw_value, a_signed_value}
 use Rattle.handlebars_tags.specs.TagView.{NoClosedLine, NoneClosed, HoldsLine, HoldsPath, HasClosing, HasClosedLine, HasInside, value_tag, is_value_kind, is_escaped_kind}
 use Rattle.handlebars_tags.specs.declared.tag.inside.Inside.{Inside}
 use Rattle.handlebars_tags.specs.declared.tag.inside.PathSlice.{PathSlice}
