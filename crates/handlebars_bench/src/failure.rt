@@ -58,7 +58,10 @@ impl From<RenderError> for Failure {
 impl fmt::Display for Failure {
     fn fmt<W: fmt::Write>(&self, f: &mut fmt::Formatter<W>) -> fmt::Result {
         match self {
-            Failure::Usage => write!(f, "usage: handlebars_bench [times=N] WORK[=SIZE] .."),
+            Failure::Usage => write!(
+                f,
+                "usage: handlebars_bench [times=N] [writer] WORK[=SIZE] .."
+            ),
             Failure::NotJson => write!(f, "handlebars_bench: not JSON"),
             Failure::Uncompiled(cause) => write!(f, "{cause}"),
             Failure::Refused(cause) => write!(f, "{cause}"),

@@ -1,13 +1,26 @@
 //! What a work takes.
 
 use crate::clock::{elapsed, lesser, now};
+use crate::counter::Counter;
 use crate::failure::Failure;
 use crate::work::Work;
-use handlebars::{Context, JsonValue, Registry, RenderContext, Renderable, Template};
+use handlebars::{Context, JsonValue, NoFiles, Registry, Template};
 use log::sink::Discard;
 use std::alloc::Global;
+use std::io::{BufWriter, Write};
 use std::rt::Clock;
 use std::time::Duration;
+
+/// Where a work is rendered to.
+#[derive(Clone, Copy)]
+pub enum Target {
+    Text,
+    /// A writer that has a buffer in front of it, and counts what comes.
+    Writer,
+}
+
+// The name that a work's template is registered under.
+const NAME: &str = "work";
 
 /// The bytes of a work, and the least times that it took.
 #[derive(Clone, Copy)]
@@ -19,7 +32,7 @@ pub struct Measure {
     pub rendering: Duration,
 }
 
-// The bytes of a text that was rendered, and the least time that it took.
+// The bytes that were rendered, and the least time that it took.
 #[derive(Clone, Copy)]
 struct Rendering {
     bytes: usize,
@@ -33,12 +46,13 @@ pub fn measure_work<C: Clock>(
     work: Work,
     size: u32,
     times: u32,
+    target: Target,
 ) -> Result<Measure, Failure> {
     let data = work.data(alloc, size)?;
     let context = context(alloc, data.as_str())?;
     let source = work.source(alloc, size)?;
     let compiling = best_compiling(alloc, clock, source.as_str(), times)?;
-    let rendering = best_rendering(alloc, clock, source.as_str(), &context, times)?;
+    let rendering = best_rendering(alloc, clock, source.as_str(), &context, times, target)?;
     Ok(Measure {
         source: source.len(),
         data: data.len(),
@@ -79,22 +93,23 @@ fn one_compiling<C: Clock>(alloc: Global, clock: &C, source: &str) -> Result<Dur
     elapsed(clock, start)
 }
 
-// The bytes of the text, and the least time of so many renderings.
+// The bytes that so many renderings come to, and their least time.
 fn best_rendering<C: Clock>(
     alloc: Global,
     clock: &C,
     source: &str,
     data: &Context,
     times: u32,
+    target: Target,
 ) -> Result<Rendering, Failure> {
-    let template = Template::compile(alloc, source)?;
-    let registry = Registry::new(alloc)?;
+    let mut registry = Registry::new(alloc)?;
+    registry.register_template(NAME, Template::compile(alloc, source)?)?;
     let mut answer = Rendering {
         bytes: 0,
         least: Duration::MAX,
     };
     for _ in 0..times {
-        let next = one_rendering(alloc, clock, &registry, &template, data)?;
+        let next = one_rendering(alloc, clock, &registry, data, target)?;
         answer = Rendering {
             bytes: next.bytes,
             least: lesser(answer.least, next.least),
@@ -107,15 +122,30 @@ fn one_rendering<C: Clock>(
     alloc: Global,
     clock: &C,
     registry: &Registry,
-    template: &Template,
     data: &Context,
+    target: Target,
 ) -> Result<Rendering, Failure> {
-    let mut rc = RenderContext::new(alloc, None)?;
     let start = now(clock)?;
-    let text = template.renders(alloc, registry, data, &mut rc, &Discard)?;
+    let bytes = match target {
+        Target::Text => render_text(registry, data)?,
+        Target::Writer => render_to_writer(alloc, registry, data)?,
+    };
     let least = elapsed(clock, start)?;
-    Ok(Rendering {
-        bytes: text.len(),
-        least,
-    })
+    Ok(Rendering { bytes, least })
+}
+
+fn render_text(registry: &Registry, data: &Context) -> Result<usize, Failure> {
+    let text = registry.render_with_context(NAME, data, &Discard, &mut NoFiles)?;
+    Ok(text.len())
+}
+
+fn render_to_writer(alloc: Global, registry: &Registry, data: &Context) -> Result<usize, Failure> {
+    let Ok(mut buffer) = BufWriter::new(alloc, Counter::new()) else {
+        return Err(Failure::OutOfMemory);
+    };
+    registry.render_with_context_to_write(NAME, data, &mut buffer, &Discard, &mut NoFiles)?;
+    match buffer.flush() {
+        Ok(()) => Ok(buffer.get_ref().bytes()),
+        Err(_) => Err(Failure::CannotWrite),
+    }
 }

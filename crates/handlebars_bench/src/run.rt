@@ -3,7 +3,7 @@
 ghost use Rattle.std.specs.Prelude.{◌≡◌, ◌≤◌, [], Err, IfOk};
 
 use crate::failure::Failure;
-use crate::measure::{Measure, measure_work};
+use crate::measure::{Measure, Target, measure_work};
 use crate::words::{Argument, asked};
 use crate::work::Work;
 use std::alloc::Global;
@@ -57,10 +57,14 @@ fn run_tasks<C: Clock, O: Write>(
         return Err(Failure::Usage);
     }
     let mut times = None;
+    let mut target = Target::Text;
     for word in words {
         match asked(word.as_str()) {
             Some(Argument::Times(number)) => times = Some(number),
-            Some(Argument::Run(work, size)) => run_work(alloc, clock, work, size, times, out)?,
+            Some(Argument::Writer) => target = Target::Writer,
+            Some(Argument::Run(work, size)) => {
+                run_work(alloc, clock, work, size, times, target, out)?
+            }
             None => {}
         }
     }
@@ -74,10 +78,18 @@ fn run_work<C: Clock, O: Write>(
     work: Work,
     size: u32,
     times: Option<u32>,
+    target: Target,
     out: &mut O,
 ) -> Result<(), Failure> {
-    let measure = measure_work(alloc, clock, work, size, times.unwrap_or(1))?;
-    match tell(work.texts().name, size, &measure, times.is_some(), out) {
+    let measure = measure_work(alloc, clock, work, size, times.unwrap_or(1), target)?;
+    match tell(
+        work.texts().name,
+        size,
+        target,
+        &measure,
+        times.is_some(),
+        out,
+    ) {
         Ok(()) => Ok(()),
         Err(_) => Err(Failure::CannotWrite),
     }
@@ -86,16 +98,21 @@ fn run_work<C: Clock, O: Write>(
 fn tell<O: Write>(
     name: &str,
     size: u32,
+    target: Target,
     measure: &Measure,
     timed: bool,
     out: &mut O,
 ) -> io::Result<()> {
+    let to = match target {
+        Target::Text => "",
+        Target::Writer => " to a writer",
+    };
     let source = measure.source;
     let data = measure.data;
     let answer = measure.answer;
     write!(
         out,
-        "{name} of {size}: template {source}, data {data}, answer {answer} bytes"
+        "{name} of {size}{to}: template {source}, data {data}, answer {answer} bytes"
     )?;
     if timed {
         let compiling = measure.compiling.as_micros();
