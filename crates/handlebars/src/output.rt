@@ -66,7 +66,30 @@ impl<W: Write> Output for WriteOutput<'_, W> {
 }
 
 // In as many writes as the writer needs. A write that takes nothing is a fault, and behind a fault there is no other.
+// What is inlined is the first, which takes all for the most part.
+#[inline(always)]
 fn put_all<W: Write>(writer: &mut W, taken: &mut Taken, bytes: &[u8]) -> io::Result<()>
+    ensures ok { OnOk result (TakesText bytes.now (W.contents writer.old) taken.old.text
+        (W.contents writer.new) taken.new.text) }
+    ensures err { OnErr result ((front : Text) × IsPrefix front bytes.now
+        × TakesText front (W.contents writer.old) taken.old.text (W.contents writer.new) taken.new.text) }
+    ensures some { OnErr result (0 < length bytes.now) }
+{
+    if bytes.is_empty() {
+        return Ok(());
+    }
+    match put(writer, taken, bytes) {
+        Ok(count) if count == bytes.len() => Ok(()),
+        Ok(0) => Err(io::Error::from(ErrorKind::WriteZero)),
+        Ok(count) => put_rest(writer, taken, &bytes[count..]),
+        Err(cause) => Err(cause),
+    }
+}
+
+// What a first write has left.
+#[cold]
+#[inline(never)]
+fn put_rest<W: Write>(writer: &mut W, taken: &mut Taken, bytes: &[u8]) -> io::Result<()>
     ensures ok { OnOk result (TakesText bytes.now (W.contents writer.old) taken.old.text
         (W.contents writer.new) taken.new.text) }
     ensures err { OnErr result ((front : Text) × IsPrefix front bytes.now
@@ -85,12 +108,17 @@ fn put_all<W: Write>(writer: &mut W, taken: &mut Taken, bytes: &[u8]) -> io::Res
 }
 
 // One write, of which it is noted what it takes.
+#[inline(always)]
 fn put<W: Write>(writer: &mut W, taken: &mut Taken, bytes: &[u8]) -> io::Result<usize>
     ensures bound { WritesAtMost result bytes.now }
     ensures takes { TakesText (taken_of bytes.now result) (W.contents writer.old) taken.old.text
         (W.contents writer.new) taken.new.text }
 {
-    let count = writer.write(bytes)?;
-    *taken = taken.and(&bytes[..count]);
-    Ok(count)
+    match writer.write(bytes) {
+        Ok(count) => {
+            *taken = taken.and(&bytes[..count]);
+            Ok(count)
+        }
+        Err(cause) => Err(cause),
+    }
 }

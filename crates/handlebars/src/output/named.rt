@@ -43,6 +43,7 @@ impl<W: Write, K: Named> Output for NamedOutput<'_, W, K> {
 
     ghost held = { held_in };
 
+    #[inline(always)]
     fn write(&mut self, seg: &str) -> Result<(), io::Error> {
         match put_all(self.writer, &mut self.taken, seg.as_bytes()) {
             Ok(()) => Ok(()),

@@ -1,7 +1,7 @@
 use Rattle.std.proofs.Common.{◌≡◌, ◌++◌, length}
 use Rattle.handlebars_base.specs.Bytes.{Text}
 use Rattle.handlebars.specs.Writers.{TakesText}
-use Rattle.handlebars.proofs.output.put_all.Given as goal
+use Rattle.handlebars.proofs.output.put_rest.Given as goal
 
 -- what was taken stands in front of what is left
 abbrev pub invariant-writes : goal.invariant-writes
