@@ -1,5 +1,6 @@
 -- A rendering has one answer, whose pieces have their origins.
 use Rattle.std.proofs.Common.{◌≡◌, ◌≢◌, List, [], Option, None, Some, refl, sym, ap, ◌∙◌, subst}
+use Rattle.std.proofs.Math.Logic.{∥∥₁_map}
 use Rattle.handlebars_base.specs.Bytes.{Text}
 use Rattle.handlebars_base.specs.Reasons.{Refusal, TemplateRefusal, of_template}
 use Rattle.handlebars_base.specs.RenderRefusals.{plain_refusal, refusal_of}
@@ -8,13 +9,16 @@ use Rattle.handlebars_template.specs.Tree.{Tree}
 use Rattle.handlebars_tags.specs.Options.{Options}
 use Rattle.handlebars_template.specs.Compile.{Compilation, compiled, refused}
 use Rattle.handlebars_template.proofs.One.{one_compilation}
+use Rattle.handlebars_meaning.specs.Names.{included_names}
 use Rattle.handlebars_meaning.specs.Pieces.{Piece}
 use Rattle.handlebars_meaning.specs.State.{IsLawful, Setting, State, first_state}
 use Rattle.handlebars_meaning.specs.Means.{render_tree}
 use Rattle.handlebars_meaning.specs.Runs.{Outcome, Ended, Refused, Means}
 use Rattle.handlebars_render.specs.View.{GivesString, RefusesString}
-use Rattle.handlebars_meaning.specs.Answer.{Beginning, a_tree, no_tree, FromSource, compiles, does_not, FromName, is_stored, is_not, not_begun, rendered, GivesText, RefusesWith, HasOneAnswer, AnswerHasOrigins}
+use Rattle.handlebars_meaning.specs.Answer.{Beginning, a_tree, no_tree, FromSource, compiles, does_not, FromName, is_stored, is_not, not_begun, rendered, GivesText, RefusesWith, HasOneAnswer, AnswerHasOrigins, AnswerStays, NamedAnswerStays}
 use Rattle.handlebars_laws.proofs.Once.{comes_once}
+use Rattle.handlebars_laws.proofs.OtherTemplates.{same_answer_under_larger, answer_only_by_names, named_answer_only_by_names}
+use Rattle.handlebars_laws.proofs.RenamedRuns.{named_answer_as_source}
 use Rattle.handlebars_laws.proofs.RunLaws.{Runs-one}
 use Rattle.handlebars_laws.proofs.RunOrigins.{all_have_origins, comes_in_trees}
 use Rattle.handlebars_meaning.specs.Laws.{IsPlain}
@@ -88,17 +92,23 @@ pub a_tree≢no_tree : {t : Tree} {r : Refusal} → a_tree t ≡ no_tree r → �
 a_tree≢no_tree e = cc
 
 module _ (p : Setting) (lawful : IsLawful p.parts) (begins : Beginning → Type 0) (one : IsOne begins) where
-  Means-tree : {t u : Tree} {ps : List Piece} {o : Outcome} → t ≡ u → Means p u (first_state p.parts.recursive) ps o
-      → Means p t (first_state p.parts.recursive) ps o
-  Means-tree {ps = ps} {o = o} e r = subst (λ (t : Tree). Means p t (first_state p.parts.recursive) ps o) (sym e) r
+  -- a tree's run whose inclusions have these names
+  abbrev NamedMeans : Tree → List Piece → Outcome → List Text → Type 0
+  NamedMeans t ps o names = (r : Means p t (first_state p.parts.recursive) ps o) × (included_names r ≡ names)
+
+  Means-tree : {t u : Tree} {ps : List Piece} {o : Outcome} → t ≡ u → (r : Means p u (first_state p.parts.recursive) ps o)
+      → NamedMeans t ps o (included_names r)
+  Means-tree {ps = ps} {o = o} e r =
+      subst (λ (t : Tree). NamedMeans t ps o (included_names r)) (sym e) (r, refl)
 
   pub has_one_answer : HasOneAnswer p begins
   has_one_answer _ _ _ _ (not_begun {r = r} a) (not_begun {r = q} b) h i =
-      ∣ (refl, ap (λ (z : Refusal). Refused z) (no_tree-injective (one (no_tree r) (no_tree q) a b))) ∣₁
+      ∣ (refl, ap (λ (z : Refusal). Refused z) (no_tree-injective (one (no_tree r) (no_tree q) a b)), refl) ∣₁
   has_one_answer _ _ _ _ (not_begun {r = r} a) (rendered {t = t} b x) h i = absurd (a_tree≢no_tree (one (a_tree t) (no_tree r) b a))
   has_one_answer _ _ _ _ (rendered {t = t} b x) (not_begun {r = r} a) h i = absurd (a_tree≢no_tree (one (a_tree t) (no_tree r) b a))
   has_one_answer _ _ _ _ (rendered {t = t} a x) (rendered {t = u} b y) h i =
-      Runs-one lawful x (Means-tree (a_tree-injective (one (a_tree t) (a_tree u) a b)) y) h i
+      let n = Means-tree (a_tree-injective (one (a_tree t) (a_tree u) a b)) y in
+      ∥∥₁_map (Runs-one lawful x n.0 h i) (λ e. (e.0, e.1, e.2 ∙ n.1))
 
 -- ---- origins
 
@@ -109,6 +119,19 @@ answer_has_origins p begins ps o (rendered {t = t} a r) =
       all_have_origins p t (first_state p.parts.recursive) ps o plain r,
       (comes_once p t (first_state p.parts.recursive) ps o r, comes_in_trees p t (first_state p.parts.recursive) ps o plain r),
     )
+
+-- ---- what doesn't matter
+
+pub answer_stays : (p : Setting) (begins : Beginning → Type 0) → AnswerStays p begins
+answer_stays p begins =
+    record { larger = same_answer_under_larger p begins; others = answer_only_by_names p begins }
+
+pub named_answer_stays : (p : Setting) (name : Text) → NamedAnswerStays p name
+named_answer_stays p name = record {
+  larger = same_answer_under_larger p (FromName p.parts.template name);
+  others = named_answer_only_by_names p name;
+  source = named_answer_as_source p name;
+}
 
 -- ---- what calls answer
 

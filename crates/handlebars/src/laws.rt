@@ -4,10 +4,12 @@ ghost use Rattle.std.specs.Prelude.{◌≡◌, Bool, false, List, [], Option, Re
 ghost use Rattle.serde_json.specs.Data.{Data};
 ghost use Rattle.handlebars_base.specs.Bytes.{Text};
 ghost use Rattle.handlebars_meaning.specs.Answer.{FromName, FromSource};
+ghost use Rattle.handlebars_meaning.specs.Compiled.{CompilesSo};
 ghost use Rattle.handlebars_meaning.specs.Counted.{RendersCounted, JudgesCounted, EqualsCounted};
 ghost use Rattle.handlebars_meaning.specs.Counted.{ComparesCounted, WalksCounted};
 ghost use Rattle.handlebars_meaning.specs.Laws.{OneRun, StopsInBeginning, ComesOnce, ComesInTrees, AllHaveOrigins};
 ghost use Rattle.handlebars_meaning.specs.Laws.{ElementHasOrigins, LeavesAround, OnlyNamedCount, SameUnderLarger};
+ghost use Rattle.handlebars_meaning.specs.Marked.{DataIsNoMarkup, IndentsAreBlank};
 ghost use Rattle.handlebars.specs.Calls.{CallsAgree};
 ghost use Rattle.handlebars.specs.Dev.{ReadsFiles, ReadsFor, stored_under};
 ghost use Rattle.handlebars.specs.Files.{IsByName, Loaded, Stop, files_of, is_dev, path_under, remembered_path};
@@ -30,12 +32,12 @@ pub use handlebars_scope::laws::recursive_lookup_law;
 pub use handlebars_tags::laws::{clear_text, last_blanks, one_comment, one_tag, one_text};
 pub use handlebars_template::laws::{cuts_join, one_compilation, one_cut, one_parsing};
 
-/// Two runs of the same steps from the same state are one, unless they stop on the way; a run that stops on the way has
-/// written a beginning of the whole one's text; a run of a tree comes to no site twice, and all of its sites stand in
-/// trees of the run; and all that the run of a tree or of an element alone writes has an origin there, where escaping
-/// is on, no indentation is in force and nothing is kept at its start. A tree's run that ends well leaves what stands
-/// around it as it was. A run that isn't refused with the limit of inclusions is the same under every larger limit, and
-/// whatever stands under names that no inclusion of it has.
+/// Two runs of the same steps from the same state are one, with the names of its inclusions, unless they stop on the
+/// way; a run that stops on the way has written a beginning of the whole one's text; a run of a tree comes to no site
+/// twice, and all of its sites stand in trees of the run; and all that the run of a tree or of an element alone writes
+/// has an origin there, where escaping is on, no indentation is in force and nothing is kept at its start. A tree's run
+/// that ends well leaves what stands around it as it was. A run that isn't refused with the limit of inclusions is the
+/// same under every larger limit, and whatever stands under names that no inclusion of it has.
 pub fn laws_of_runs<E: OwnParts>(registry: &RegistryOf<E>, context: &Context)
     ensures one { OneRun (setting_of E.registered E.own registry.now context.now) }
     ensures beginning { StopsInBeginning (setting_of E.registered E.own registry.now context.now) }
@@ -76,6 +78,25 @@ pub fn dev_mode_law<E: OwnParts>()
         → SameAnswers (setting_under E.registered E.own read dev d) (FromSource (options_of dev) source)
         (setting_over E.registered E.own plain d) (FromSource (options_of plain) source) }
 {}
+
+/// Where the default escape is in force, and all trees under names are as compiling gives them, as are those in blocks
+/// that helpers of one's own hand over, data becomes no markup but where a template asks for it: each of `<`, `>`, `"`,
+/// `'`, the backquote and `=` in an answer's text stands in a text of a template, in the value of an html expression,
+/// or in a text that a helper of one's own chose to write; and each `&` in an escaped value begins one of the seven
+/// entities. Over such trees, indentation is spaces and tabs. What a source compiles to is such a tree.
+pub fn markup_law<E: OwnParts>()
+    ensures names { (r : RegistryOf E) (read : List Loaded) (d : Data) (name : Text)
+        → DataIsNoMarkup (setting_under E.registered E.own read r d) (FromName (stored_under read r) name) }
+    ensures sources { (r : RegistryOf E) (read : List Loaded) (d : Data) (source : Text)
+        → DataIsNoMarkup (setting_under E.registered E.own read r d) (FromSource (options_of r) source) }
+    ensures named_indents { (r : RegistryOf E) (read : List Loaded) (d : Data) (name : Text)
+        → IndentsAreBlank (setting_under E.registered E.own read r d) (FromName (stored_under read r) name) }
+    ensures source_indents { (r : RegistryOf E) (read : List Loaded) (d : Data) (source : Text)
+        → IndentsAreBlank (setting_under E.registered E.own read r d) (FromSource (options_of r) source) }
+    ensures compiled { CompilesSo }
+{
+    escape_laws();
+}
 
 /// The files that a registry remembers are in byte order of the names of their templates, each name once, and under
 /// each name stands what is remembered under it.

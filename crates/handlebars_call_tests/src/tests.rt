@@ -4,6 +4,7 @@
 mod blocks_of_scope;
 mod changes;
 mod contexts;
+mod counts;
 mod decorators;
 mod helpers;
 mod inclusions;

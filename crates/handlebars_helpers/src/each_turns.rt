@@ -2,7 +2,7 @@
 
 ghost use Rattle.std.specs.Prelude.{◌≡◌, option_map};
 ghost use Rattle.serde_json.specs.Data.{array, object};
-ghost use Rattle.serde_json.specs.View.{items_view, members_view};
+ghost use Rattle.serde_json.specs.View.{items_view, members_view, view};
 ghost use Rattle.handlebars_helpers.specs.Turns.{turns_of};
 ghost use Rattle.handlebars_helpers.specs.TurnsLeft.{turns_with};
 ghost use Rattle.handlebars_helpers.specs.View.{turn_view, turns_left};
@@ -16,6 +16,21 @@ use state::MembersLeft;
 pub use state::Turns;
 
 impl<'h> Turns<'h> {
+    /// The turns of a value: those of its items or members, and of any other value none.
+    pub fn of(value: &'h Json) -> Turns<'h>
+        ensures { turns_left result ≡ turns_of (view value.now) }
+    {
+        match value {
+            Json::Array(items) => Turns::of_items(items),
+            Json::Object(members) => Turns::of_members(members),
+            _ => Turns {
+                index: 0,
+                count: 0,
+                left: MembersLeft::OfArray([].iter()),
+            },
+        }
+    }
+
     /// The turns of an array.
     pub fn of_items(items: &'h Vec<Json>) -> Turns<'h>
         ensures { turns_left result ≡ turns_of (array (items_view items.now.items)) }

@@ -17,14 +17,14 @@ use Rattle.handlebars_helpers.specs.Turns.{Turn, turn_frame, with_block}
 use Rattle.handlebars_meaning.specs.Asks.{goes_on, is_refused}
 use Rattle.handlebars_meaning.specs.CarryOut.{view_with_bodies, render_branch, render_body, take_turns, render_with, render_word, take_step, take_steps, carry_out}
 use Rattle.handlebars_meaning.specs.Means.{line_in, render_chosen, render_helped, render_call, render_hook, render_found, render_lone_as, render_lone, render_expression}
-use Rattle.handlebars_meaning.specs.Origins.{body_tree, shown_call, is_lone, IsValue, Calls, by_name, by_name_or_hook, by_hook, Chooses, WritesValue, of_itself, of_helper}
+use Rattle.handlebars_meaning.specs.Origins.{body_tree, element_call, is_block, shown_call, is_lone, IsValue, Calls, by_name, by_name_or_hook, by_hook, Chooses, WritesValue, of_itself, of_helper}
 use Rattle.handlebars_meaning.specs.Pieces.{of_value, of_raw, of_word}
 use Rattle.handlebars_meaning.specs.Questions.{IsAnswered, value_of, view_of, helper_of, called_as, hook_for, choice_of, escape_of, steps_or_offer, HasRegisteredChoice, HasChoice}
 use Rattle.handlebars_meaning.specs.Sites.{body_at, inverse_at, Site}
 use Rattle.handlebars_meaning.specs.State.{Setting, State, push_frame, with_nearest, nearest_variables}
 use Rattle.handlebars_meaning.specs.Steps.{Task, One, Prog, ◌>>=◌, ◌>>◌}
 use Rattle.handlebars_meaning.specs.Writing.{rendered_if_any, write_rendered, write_value}
-use Rattle.handlebars_laws.proofs.Closed.{ComesToCall, element_body-call, element_inverse-call, Closed}
+use Rattle.handlebars_laws.proofs.Closed.{ComesToCall, call_of-shown, element_body-call, element_inverse-call, Closed}
 use Rattle.handlebars_laws.proofs.Law.{Law}
 use Rattle.handlebars_laws.proofs.Programs.{upto, any, Leads, Leads-any, answer-holds, return-holds, write_text-holds, in_block-holds, on_line-holds, render_branch-holds}
 use Rattle.handlebars_laws.proofs.Within.{StepsFrom, step_there, steps_behind}
@@ -74,7 +74,8 @@ module _ (p : Setting) (law : Law) (closed : Closed p law) (site : Site) (place 
 
       render_body-holds : (i : ℕ) (s : State) → law.Fits site s → Goes i (upto (i + 1)) s (render_body site i view)
       render_body-holds i s fits = render_branch-holds p law closed this i (body_at site i) (call_body c) s
-          (λ t is h. closed.body_part i comes (element_body-call e block c shown ∙ ap body_tree is) fits h)
+          (λ t is h. closed.body_part i comes (call_of-shown (is_block e) block (element_call e) c shown)
+          (element_body-call e block c shown ∙ ap body_tree is) fits h)
 
       render_inverse-holds : (i : ℕ) (s : State) → law.Fits site s
           → Goes i (upto (i + 1)) s (render_branch (inverse_at site i) (call_inverse c))

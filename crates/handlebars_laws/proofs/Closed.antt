@@ -8,7 +8,7 @@ use Rattle.handlebars_base.specs.Optional.{with_or}
 use Rattle.handlebars_base.specs.Scoped.{Found, present_in}
 use Rattle.handlebars_base.specs.Values.{word}
 use Rattle.handlebars_template.specs.Place.{Place}
-use Rattle.handlebars_template.specs.Tree.{Tree, tree, Elements, Element, raw_string, html_expression, partial_expression, partial_block, Call, call_name, call_args, call_body, call_inverse, Decorator, decorator_body, decorator_marks, body, Binding}
+use Rattle.handlebars_template.specs.Tree.{Tree, tree, Elements, Element, raw_string, html_expression, partial_expression, partial_block, Call, call_name, call_args, call_body, call_inverse, Decorator, decorator_name, decorator_args, decorator_body, decorator_marks, Binding}
 use Rattle.handlebars_scope.specs.LineState.{LineState}
 use Rattle.handlebars_scope.specs.Scopes.{Frame, empty_frame, Base}
 use Rattle.handlebars_helpers.specs.Callee.{LocalHelper}
@@ -16,8 +16,8 @@ use Rattle.handlebars_helpers.specs.CallView.{CallView}
 use Rattle.handlebars_helpers.specs.Choice.{the_word, the_steps}
 use Rattle.handlebars_helpers.specs.Own.{Step, writes, renders_body_in}
 use Rattle.handlebars_helpers.specs.Turns.{Turn, turn_frame, with_block}
-use Rattle.handlebars_meaning.specs.Inclusion.{newest, inclusion_block, joined_indent, begin_inclusion, named_as_before, end_inclusion}
-use Rattle.handlebars_meaning.specs.Origins.{nth, body_tree, element_call, element_tag, is_block, element_body, element_inverse, decorator_tag, inclusion_tag, shown_call, is_html, Chooses, WritesValue, Shows}
+use Rattle.handlebars_meaning.specs.Inclusion.{is_local, is_registered, is_own_block, newest, inclusion_block, joined_indent, begin_inclusion, named_as_before, end_inclusion}
+use Rattle.handlebars_meaning.specs.Origins.{nth, body_tree, element_call, is_block, element_body, element_inverse, decorator_tag, inclusion_tag, shown_call, is_html, Chooses, WritesValue, Shows, Finds, IsBlockAlone, SetsPartial}
 use Rattle.handlebars_meaning.specs.Pieces.{of_text, of_value, of_raw, of_word, of_step, Piece, pieces_of, put}
 use Rattle.handlebars_meaning.specs.Questions.{view_of, IsAnswered}
 use Rattle.handlebars_meaning.specs.Sites.{TreeSite, body_at, inverse_at, included_at, Site, element_in}
@@ -36,17 +36,19 @@ pub record ComesToCall (p : Setting) (law : Law) (site : Site) (e : Element) (bl
   pub shown : shown_call e ≡ Some (block, c)
   pub viewed : IsAnswered p s (view_of (call_name c) (call_args c)) (gives v)
 
--- The run comes to the tag of an inclusion.
-pub record ComesToTag (law : Law) (site : Site) (e : Element) (t : Decorator) (s : State) : Type 0 where
+-- The run comes to the tag of a decorator or of an inclusion, by its reader, in a state in which it has this view.
+pub record ComesToTag (p : Setting) (law : Law) (site : Site) (e : Element) (tag_of : Element → Option Decorator)
+    (t : Decorator) (s : State) (v : CallView) : Type 0 where
   pub comes : law.ComesTo site e s
-  pub tag : inclusion_tag e ≡ Some t
+  pub tag : tag_of e ≡ Some t
+  pub viewed : IsAnswered p s (view_of (decorator_name t) (decorator_args t)) (gives v)
 
 -- the body and the inverse of an element are those of its call or of its tag
 
 call_in : Option (Bool × Call) → Option Call
 call_in o = option_map (λ x. x.1) o
 
-call_of-shown : (b block : Bool) (o : Option Call) (c : Call)
+pub call_of-shown : (b block : Bool) (o : Option Call) (c : Call)
     → option_map {U = Bool × Call} (λ d. (b, d)) o ≡ Some (block, c) → o ≡ Some c
 unfolding call_in
 call_of-shown b block None c is = cc
@@ -55,7 +57,7 @@ call_of-shown b block (Some d) c is = ap call_in is
 pub element_body-call : (e : Element) (block : Bool) (c : Call) → shown_call e ≡ Some (block, c)
     → element_body e ≡ body_tree (call_body c)
 element_body-call e block c is = ap (λ (o : Option Call). with_or o (λ d. body_tree (call_body d))
-    (option_and_then (λ t. body_tree (decorator_body t)) (element_tag e))) (call_of-shown (is_block e) block (element_call e) c is)
+    (option_and_then (λ t. body_tree (decorator_body t)) (inclusion_tag e))) (call_of-shown (is_block e) block (element_call e) c is)
 
 pub element_inverse-call : (e : Element) (block : Bool) (c : Call) → shown_call e ≡ Some (block, c)
     → element_inverse e ≡ body_tree (call_inverse c)
@@ -74,6 +76,10 @@ abbrev pub MayKeep : (List Piece → Type 0) → Option (List Piece) → Type 0
 MayKeep may_write None = Unit {0}
 MayKeep may_write (Some ps) = may_write ps
 
+-- A partial is begun behind a state, by a tag that shows its indentation in another one.
+abbrev pub begun : State → Decorator → Option (List Piece) → State → State
+begun s t k n = begin_inclusion (joined_indent s.indent (decorator_marks t).indent) k n
+
 pub MayKeep-any : (kept : Option (List Piece)) → MayKeep (λ ps. Unit {0}) kept
 MayKeep-any None = tt
 MayKeep-any (Some ps) = tt
@@ -91,8 +97,8 @@ pub record Closed (p : Setting) (law : Law) : Type 0 where
   pub no_local_next : {s : State} (name : Text) → law.IsWell s → law.IsNext s (without_local name s)
   pub turn_next : {s : State} (path : Option (List Text)) (b : Binding) (t : Turn) → law.IsWell s
       → law.IsNext s (with_nearest (turn_frame path b t) s)
-  pub partial_next : {s before : State} {site : Site} {e : Element} {t : Decorator} {x : Tree} (name : Text)
-      → law.ComesTo site e before → decorator_tag e ≡ Some t → decorator_body t ≡ body x → law.IsWell s
+  pub partial_next : {s before : State} {site : Site} {e : Element} {t : Decorator} {v : CallView} {name : Text} {x : Tree}
+      → ComesToTag p law site e decorator_tag t before v → SetsPartial p t before v name x → law.IsWell s
       → law.IsNext s (with_nearest (with_partial name x) s)
   -- blocks of scope, and those that are entered
   pub block_well : {s : State} {f : Frame} → law.MayEnter f → law.IsWell s → law.IsWell (push_frame f s)
@@ -115,11 +121,8 @@ pub record Closed (p : Setting) (law : Law) : Type 0 where
   -- inclusions: the block of a tag, what is kept of it, and a partial that is begun and is over
   pub own_next : {s n : State} → law.IsWell s → law.IsNext s n → law.IsNext s (named_as_before s n)
   pub newest_keeps : {s : State} → law.IsWell s → MayKeep law.MayWrite (newest s.kept)
-  pub begun_well : {s n before : State} {site : Site} {e : Element} {t : Decorator} {f : Frame} {k : Option (List Piece)}
-      → ComesToTag law site e t before → law.IsWell s → law.IsNext (push_frame f s) n → MayKeep law.MayWrite k
-      → law.IsWell (begin_inclusion (joined_indent s.indent (decorator_marks t).indent) k n)
-  pub begun_fits : {site : Site} {s : State} {i : Option Text} {k : Option (List Piece)} → law.Fits site s
-      → law.Fits site (begin_inclusion i k s)
+  pub begun_well : {n : State} {i : Option Text} {k : Option (List Piece)} → law.IsWell n → MayKeep law.MayWrite k
+      → law.IsWell (begin_inclusion i k n)
   pub over_next : {s n z : State} {f : Frame} {i : Option Text} {k : Option (List Piece)} → law.IsWell s
       → law.IsNext (push_frame f s) n → law.IsNext (begin_inclusion i k n) z → law.IsNext s (end_inclusion s z)
   -- parts that begin, and parts of them
@@ -133,21 +136,33 @@ pub record Closed (p : Setting) (law : Law) : Type 0 where
   pub element_part : {at : TreeSite} {n : Option Text} {es : Elements} {places : List Place} {e : Element}
       {place : Option Place} {s z : State} (i : ℕ) → law.Begins (Whole at (tree n es places)) s → nth es i ≡ Some e
       → law.IsNext s z → law.IsPart (Whole at (tree n es places)) i z (One (element_in at i) place e)
-  pub body_part : {site : Site} {place : Option Place} {e : Element} {t : Tree} {before s : State} (i : ℕ)
-      → law.ComesTo site e before → element_body e ≡ Some t → law.Fits site s → law.IsWell s
+  pub body_part : {site : Site} {place : Option Place} {e : Element} {c : Call} {t : Tree} {before s : State} (i : ℕ)
+      → law.ComesTo site e before → element_call e ≡ Some c → element_body e ≡ Some t → law.Fits site s → law.IsWell s
       → law.IsPart (One site place e) i s (Whole (body_at site i) t)
   pub inverse_part : {site : Site} {place : Option Place} {e : Element} {t : Tree} {before s : State} (i : ℕ)
       → law.ComesTo site e before → element_inverse e ≡ Some t → law.Fits site s → law.IsWell s
       → law.IsPart (One site place e) i s (Whole (inverse_at site i) t)
-  pub local_part : {site : Site} {place : Option Place} {e : Element} {t : Tree} {before z s : State} (name : Text)
-      → law.ComesTo site e before → law.IsWell z → partial_in z.blocks name ≡ Some t → law.Fits site s → law.IsWell s
-      → law.IsPart (One site place e) 1 s (Whole (included_at site t) t)
-  pub registered_part : {site : Site} {place : Option Place} {e : Element} {t : Tree} {before s : State} (name : Text)
-      → law.ComesTo site e before → p.parts.template name ≡ Some t → law.Fits site s → law.IsWell s
-      → law.IsPart (One site place e) 1 s (Whole (included_at site t) t)
+  pub block_part : {site : Site} {place : Option Place} {e : Element} {t : Decorator} {x : Tree} {before s : State}
+      {v : CallView} → ComesToTag p law site e inclusion_tag t before v → IsBlockAlone p t before v
+      → element_body e ≡ Some x → law.Fits site s → law.IsWell s
+      → law.IsPart (One site place e) 0 s (Whole (body_at site 0) x)
+  -- what the name of an inclusion's tag finds, begun in a state n with the indentation that the tag shows in one before
+  pub local_part : {site : Site} {place : Option Place} {e : Element} {t : Decorator} {x : Tree} {before s n : State}
+      {v : CallView} {k : Option (List Piece)} → ComesToTag p law site e inclusion_tag t before v
+      → Finds p t before v (is_local x) → law.IsWell s → partial_in s.blocks v.name ≡ Some x → law.Fits site s
+      → law.Fits site n → law.IsWell (begun s t k n)
+      → law.IsPart (One site place e) 1 (begun s t k n) (Whole (included_at site x) x)
+  pub registered_part : {site : Site} {place : Option Place} {e : Element} {t : Decorator} {x : Tree} {before s n : State}
+      {v : CallView} {k : Option (List Piece)} → ComesToTag p law site e inclusion_tag t before v
+      → Finds p t before v (is_registered x) → law.Fits site s → law.Fits site n → law.IsWell (begun s t k n)
+      → law.IsPart (One site place e) 1 (begun s t k n) (Whole (included_at site x) x)
+  pub own_block_part : {site : Site} {place : Option Place} {e : Element} {t : Decorator} {x : Tree} {before s n : State}
+      {v : CallView} {k : Option (List Piece)} → ComesToTag p law site e inclusion_tag t before v
+      → Finds p t before v (is_own_block x) → element_body e ≡ Some x → law.Fits site s → law.Fits site n
+      → law.IsWell (begun s t k n) → law.IsPart (One site place e) 0 (begun s t k n) (Whole (body_at site 0) x)
   -- what is written
-  pub text_written : {site : Site} {t : Text} {s : State} → law.ComesTo site (raw_string t) s → law.IsWell s
-      → law.MayWrite (put (of_text site) s.indent t s.line).0
+  pub text_written : {site : Site} {t : Text} {s : State} → law.ComesTo site (raw_string t) s → law.Fits site s
+      → law.IsWell s → law.MayWrite (put (of_text site) s.indent t s.line).0
   pub value_written : {site : Site} {e : Element} {block : Bool} {c : Call} {before s : State} {v : CallView}
       {found : Found} (t : Text) → ComesToCall p law site e block c before v → WritesValue p block c before v found
       → law.Fits site s → s.escapes ≡ true → Shows p s true found t → law.IsWell s

@@ -18,3 +18,9 @@ pub mod Once
 pub mod OriginPieces
 pub mod RunStates
 pub mod RunOrigins
+pub mod CompiledTrees
+pub mod OwnSteps
+pub mod CompiledRuns
+pub mod MarkedPieces
+pub mod Renamed
+pub mod RenamedRuns

@@ -17,7 +17,7 @@ refusal_or : {A : Type 0} → Refusal → Answer A → Refusal
 refusal_or d (gives x) = d
 refusal_or d (refuses r) = r
 
-gives-injective : {A : Type 0} {x y : A} → gives x ≡ gives y → x ≡ y
+pub gives-injective : {A : Type 0} {x y : A} → gives x ≡ gives y → x ≡ y
 unfolding value_or
 gives-injective {x = x} e = ap (value_or x) e
 
@@ -56,4 +56,4 @@ IsAnswered-one p lawful s q = IsAnswered-related first_has_one p (record {
   offer = λ n x. (lawful.helpers n).offer x;
   deeds = λ n x. lawful.decorators n x;
   escape = λ t. lawful.escape t;
-}) p.parts.template p.parts.limit s q
+}) p.parts.template p.parts.limit s s.current q

@@ -7,7 +7,7 @@ use Rattle.handlebars_base.specs.Values.{word}
 use Rattle.handlebars_template.specs.Tree.{Tree, Element}
 use Rattle.handlebars_scope.specs.Indentation.{lines_of, takes_indent}
 use Rattle.handlebars_scope.specs.LineState.{LineState}
-use Rattle.handlebars_meaning.specs.Origins.{IsWithin, element_at, IsVisited, AreIndents, ComesFrom, HasOrigin, HaveOrigins}
+use Rattle.handlebars_meaning.specs.Origins.{IsWithin, tree_site_of, element_at, IsVisited, AreIndents, ComesFrom, HasOrigin, HaveOrigins}
 use Rattle.handlebars_meaning.specs.Pieces.{Origin, of_text, of_value, of_raw, of_word, of_step, of_indent, site_of, Piece, pieces_of, indent_pieces, pieces_between, pieces_before, put}
 use Rattle.handlebars_meaning.specs.Runs.{Front, none, cut_off, more}
 use Rattle.handlebars_meaning.specs.State.{Setting}
@@ -105,7 +105,7 @@ module _ (p : Setting) (u : Tree) (vs : List Visit) where
 
   -- by an element that stands at its site, to which the run comes
   pub put-origins : (o : Origin) (i : Option Text) (t : Text) (line : LineState) (e : Element)
-      → element_at u (site_of o) ≡ Some e → IsVisited vs (site_of o) → AreIndents u vs (unwrap_or i [])
+      → element_at u (site_of o) ≡ Some e → IsVisited vs (site_of o) → AreIndents p u vs (tree_site_of (site_of o)) (unwrap_or i [])
       → ((a : Text) → IsWithin a t → ComesFrom p u vs o a) → HaveOrigins p u vs (put o i t line).0
   put-origins o i t line e stands visited indents comes =
       let own = pieces_of-origins (of_indent (site_of o)) (unwrap_or i []) (record {

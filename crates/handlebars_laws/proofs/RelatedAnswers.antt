@@ -1,5 +1,5 @@
--- One pass through all questions, at two settings that differ in the registered templates and the limit: they are related
--- where what parts of one's own are asked is, by any relation that is kept where one answer is asked for after another.
+-- One pass through all questions, at two settings that differ in the registered templates and the limit, and in two states
+-- that differ in the current name: they are related where what parts of one's own are asked is, by any relation that is kept where one answer is asked for after another.
 use Rattle.std.proofs.Common.{ℕ, List, Option, None, Some}
 use Rattle.handlebars_base.specs.Answers.{Answer}
 use Rattle.handlebars_base.specs.Bytes.{Text}
@@ -35,52 +35,55 @@ abbrev pub other : Setting → (Text → Option Tree) → ℕ → Setting
 other p template limit = record p { parts = record p.parts { template = template; limit = limit } }
 
 module _ (r : Relation) (p : Setting) (own_related : OwnRelated r p.parts) (template : Text → Option Tree) (limit : ℕ)
-    (s : State) where
+    (s : State) (c : Option Text) where
   abbrev p' : Setting
   p' = other p template limit
+
+  abbrev s' : State
+  s' = record s { current = c }
 
   -- ---- helpers of one's own
 
   offer_or_text-related : (called : Text) (h : HelperView) (offer : Offer)
-      → r.Relates (offer_or_text p s called h offer) (offer_or_text p' s called h offer)
+      → r.Relates (offer_or_text p s called h offer) (offer_or_text p' s' called h offer)
   offer_or_text-related called h not_offered =
       r.then_related _ _ _ _ (own_related.steps called _) (λ steps. r.only_related _)
   offer_or_text-related called h offers_missing = r.only_related _
   offer_or_text-related called h (offers d) = r.only_related _
 
   HasRegisteredValue-related : (k : Callee) (h : HelperView)
-      → r.Relates (HasRegisteredValue p s k h) (HasRegisteredValue p' s k h)
+      → r.Relates (HasRegisteredValue p s k h) (HasRegisteredValue p' s' k h)
   HasRegisteredValue-related (built kind) h = r.only_related _
   HasRegisteredValue-related (own called) h =
       r.then_related _ _ _ _ (own_related.offer called _) (offer_or_text-related called h)
 
   HasHelpedValue-related : (target : Option Target) (h : HelperView)
-      → r.Relates (HasHelpedValue p s target h) (HasHelpedValue p' s target h)
+      → r.Relates (HasHelpedValue p s target h) (HasHelpedValue p' s' target h)
   HasHelpedValue-related None h = r.only_related _
   HasHelpedValue-related (Some (calls_registered k)) h = HasRegisteredValue-related k h
   HasHelpedValue-related (Some (calls_local called)) h =
       r.then_related _ _ _ _ (r.only_related _) (λ c. HasRegisteredValue-related c.0 c.1)
 
   steps_or_offer-related : (called : Text) (h : HelperView) (steps : Option (List Step))
-      → r.Relates (steps_or_offer p s called h steps) (steps_or_offer p' s called h steps)
+      → r.Relates (steps_or_offer p s called h steps) (steps_or_offer p' s' called h steps)
   steps_or_offer-related called h None =
       r.then_related _ _ _ _ (own_related.offer called _) (λ offer. r.only_related _)
   steps_or_offer-related called h (Some steps) = r.only_related _
 
   HasRegisteredChoice-related : (k : Callee) (h : HelperView)
-      → r.Relates (HasRegisteredChoice p s k h) (HasRegisteredChoice p' s k h)
+      → r.Relates (HasRegisteredChoice p s k h) (HasRegisteredChoice p' s' k h)
   HasRegisteredChoice-related (built kind) h = r.only_related _
   HasRegisteredChoice-related (own called) h =
       r.then_related _ _ _ _ (own_related.steps called _) (steps_or_offer-related called h)
 
-  HasChoice-related : (target : Target) (h : HelperView) → r.Relates (HasChoice p s target h) (HasChoice p' s target h)
+  HasChoice-related : (target : Target) (h : HelperView) → r.Relates (HasChoice p s target h) (HasChoice p' s' target h)
   HasChoice-related (calls_registered k) h = HasRegisteredChoice-related k h
   HasChoice-related (calls_local called) h =
       r.then_related _ _ _ _ (r.only_related _) (λ c. HasRegisteredChoice-related c.0 c.1)
 
   -- ---- decorators and escape functions of one's own
 
-  HasDeeds-related : (kind : DecoratorKind) (v : DecoratorView) → r.Relates (HasDeeds p s kind v) (HasDeeds p' s kind v)
+  HasDeeds-related : (kind : DecoratorKind) (v : DecoratorView) → r.Relates (HasDeeds p s kind v) (HasDeeds p' s' kind v)
   HasDeeds-related kind_inline v = r.only_related _
   HasDeeds-related (kind_own called) v = own_related.deeds called _
 
@@ -101,39 +104,39 @@ module _ (r : Relation) (p : Setting) (own_related : OwnRelated r p.parts) (temp
       r.then_related o o' _ _ z (λ ws. r.only_related _)))
 
   mutual
-    HasValue-related : (q : Param) → r.Relates (HasValue p s q) (HasValue p' s q)
+    HasValue-related : (q : Param) → r.Relates (HasValue p s q) (HasValue p' s' q)
     HasValue-related (subexpression e) = HasInnerValue-related e
     HasValue-related (name n) = r.only_related _
     HasValue-related (path l) = r.only_related _
     HasValue-related (literal d) = r.only_related _
 
-    HasInnerValue-related : (e : Element) → r.Relates (HasInnerValue p s e) (HasInnerValue p' s e)
+    HasInnerValue-related : (e : Element) → r.Relates (HasInnerValue p s e) (HasInnerValue p' s' e)
     HasInnerValue-related (expression (call n (args ps hs) names t marks)) = r.then_related _ _ _ _
         (is_viewed-related _ _ _ _ _ _ (HasName-related n) (HaveValues-related ps) (PairsHaveValues-related hs))
         (λ v. HasHelpedValue-related _ _)
     HasInnerValue-related e = r.only_related _
 
-    HasName-related : (q : Param) → r.Relates (HasName p s q) (HasName p' s q)
+    HasName-related : (q : Param) → r.Relates (HasName p s q) (HasName p' s' q)
     HasName-related (subexpression e) = r.then_related _ _ _ _ (HasInnerValue-related e) (λ v. r.only_related _)
     HasName-related (name n) = r.only_related _
     HasName-related (path l) = r.only_related _
     HasName-related (literal d) = r.only_related _
 
-    HaveValues-related : (qs : Params) → r.Relates (HaveValues p s qs) (HaveValues p' s qs)
+    HaveValues-related : (qs : Params) → r.Relates (HaveValues p s qs) (HaveValues p' s' qs)
     HaveValues-related no_params = r.only_related _
     HaveValues-related (param q qs) = r.then_related _ _ _ _ (is_written-related q _ _ (HasValue-related q))
         (λ v. r.then_related _ _ _ _ (HaveValues-related qs) (λ vs. r.only_related _))
 
-    PairsHaveValues-related : (hs : Pairs) → r.Relates (PairsHaveValues p s hs) (PairsHaveValues p' s hs)
+    PairsHaveValues-related : (hs : Pairs) → r.Relates (PairsHaveValues p s hs) (PairsHaveValues p' s' hs)
     PairsHaveValues-related no_pairs = r.only_related _
     PairsHaveValues-related (pair k q hs) = r.then_related _ _ _ _ (is_written-related q _ _ (HasValue-related q))
         (λ v. r.then_related _ _ _ _ (PairsHaveValues-related hs) (λ ws. r.only_related _))
 
-  HasView-related : (n : Param) (xs : Args) → r.Relates (HasView p s n xs) (HasView p' s n xs)
+  HasView-related : (n : Param) (xs : Args) → r.Relates (HasView p s n xs) (HasView p' s' n xs)
   HasView-related n xs = is_viewed-related _ _ _ _ _ _ (HasName-related n) (HaveValues-related (args_params xs))
       (PairsHaveValues-related (args_pairs xs))
 
-  pub IsAnswered-related : (q : Question) → r.Relates (IsAnswered p s q) (IsAnswered p' s q)
+  pub IsAnswered-related : (q : Question) → r.Relates (IsAnswered p s q) (IsAnswered p' s' q)
   IsAnswered-related (value_of q) = HasValue-related q
   IsAnswered-related (view_of n xs) = HasView-related n xs
   IsAnswered-related (helper_of n) = r.only_related _

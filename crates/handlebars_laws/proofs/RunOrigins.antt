@@ -1,30 +1,31 @@
 -- All that a run writes has an origin, and each site to which it comes stands in a tree of the run.
-use Rattle.std.proofs.Common.{◌≡◌, ℕ, List, Bool, true, false, not, ◌||◌, refl, sym, ap, ◌∙◌, Option, Some, None, option_and_then, arith}
+use Rattle.std.proofs.Common.{◌≡◌, ℕ, List, [], Bool, true, false, not, ◌||◌, refl, sym, ap, ◌∙◌, subst, unwrap_or, Option, Some, None, option_and_then, arith}
 use Rattle.std.specs.List.{Contains}
 use Rattle.std.proofs.lemmas.List.Elements.{Contains-append_left, Contains-append_right}
 use Rattle.handlebars_base.specs.Bytes.{Text}
 use Rattle.handlebars_base.specs.Optional.{with_or}
 use Rattle.handlebars_base.specs.Scoped.{Found, present_in}
 use Rattle.handlebars_base.specs.Values.{word}
-use Rattle.handlebars_template.specs.Tree.{Tree, Element, html_expression, Call, decorator_marks}
+use Rattle.handlebars_template.specs.Tree.{Tree, Element, html_expression, Call, Decorator}
 use Rattle.handlebars_scope.specs.Scopes.{Frame}
 use Rattle.handlebars_helpers.specs.CallView.{CallView}
 use Rattle.handlebars_helpers.specs.Turns.{turn_frame}
+use Rattle.handlebars_meaning.specs.Inclusion.{is_local, is_registered}
 use Rattle.handlebars_meaning.specs.Laws.{IsPlain, alone}
 use Rattle.handlebars_meaning.specs.Means.{render_alone}
-use Rattle.handlebars_meaning.specs.Origins.{IsWithin, nth_in, element_body, element_inverse, decorator_tag, inclusion_tag, tree_at, element_at, shown_call, is_html, is_raw_tree, is_raw_site, WritesValue, IsReached, IsVisited, IsCalled, Shows, IsOfShown, HaveOrigins, set_by, handed_over, IsLocalOfRun, IsTreeOfRun, is_first, is_body, is_inverse, is_local_of, is_stored, IsSiteOfRun, StandInTrees}
+use Rattle.handlebars_meaning.specs.Origins.{IsWithin, nth_in, element_call, element_body, element_inverse, decorator_tag, inclusion_tag, tree_site_of, tree_at, element_at, shown_call, is_html, is_raw_tree, is_raw_site, WritesValue, IsReached, IsVisited, IsCalled, Shows, IsOfShown, HaveOrigins, IsTagged, Finds, AreIndents, SetsPartial, set_by, handed_over, IsLocalOfRun, IsTreeOfRun, is_first, is_body, is_inverse, is_local_of, is_stored, IsSiteOfRun, StandInTrees}
 use Rattle.handlebars_meaning.specs.Pieces.{of_text, of_value, of_raw, of_step, Piece}
 use Rattle.handlebars_meaning.specs.Runs.{Outcome, Runs, Means}
-use Rattle.handlebars_meaning.specs.Sites.{first_tree, body_at, inverse_at, included_at, Site, element_in}
+use Rattle.handlebars_meaning.specs.Sites.{TreeSite, first_tree, body_at, inverse_at, included_at, Site, element_in}
 use Rattle.handlebars_meaning.specs.State.{Setting, State, with_partial}
 use Rattle.handlebars_meaning.specs.Steps.{Task, One, Whole, Done, Do}
 use Rattle.handlebars_meaning.specs.Visits.{Visit, arrival, visits}
 use Rattle.handlebars_meaning.specs.Writing.{rendered_if_any}
-use Rattle.handlebars_laws.proofs.Closed.{ComesToCall, Closed}
+use Rattle.handlebars_laws.proofs.Closed.{ComesToCall, ComesToTag, Closed}
 use Rattle.handlebars_laws.proofs.Law.{Law, Obeys, IsSound, Runs-obeys}
 use Rattle.handlebars_laws.proofs.Lists.{All-append}
 use Rattle.handlebars_laws.proofs.OriginPieces.{HaveOrigins-front, pieces_of-origins, put-origins}
-use Rattle.handlebars_laws.proofs.RunStates.{joined_indent-indents, IsFrameOfRun, IsOfRun, IsBehind, newest-origins, outer_frames-frames, nearest_as-frames, partial_in-local, with_partial-frame, turn_frame-frame, with_block-frame, first-of_run}
+use Rattle.handlebars_laws.proofs.RunStates.{block-indents, body_at-indents, inverse_at-indents, included_at-indents, own_block-indents, no_indent-indents, IsFrameOfRun, IsOfRun, IsBehind, newest-origins, outer_frames-frames, nearest_as-frames, partial_in-local, with_partial-frame, turn_frame-frame, with_block-frame, first-of_run}
 use Rattle.handlebars_laws.proofs.Walk.{todo-holds}
 use Rattle.handlebars_laws.proofs.Within.{all_begins}
 
@@ -33,15 +34,20 @@ raw-not true b is = ap not (sym is)
 raw-not false b is = ap not (sym is)
 
 -- whether escaping is off around an element
-abbrev is_raw_around : Tree → Site → Bool
+abbrev pub is_raw_around : Tree → Site → Bool
 is_raw_around u (element_in at i) = is_raw_tree u at
+
+-- the tree in which a part begins
+abbrev tree_before : Task → TreeSite
+tree_before (One site place e) = tree_site_of site
+tree_before (Whole at t) = at
 
 -- whether it is off where a part begins
 abbrev is_raw_before : Tree → Task → Bool
 is_raw_before u (One site place e) = is_raw_around u site
 is_raw_before u (Whole at t) = is_raw_tree u at
 
-is_raw_site-at : (u : Tree) (site : Site) (e : Element) → element_at u site ≡ Some e
+pub is_raw_site-at : (u : Tree) (site : Site) (e : Element) → element_at u site ≡ Some e
     → is_raw_site u site ≡ (is_html e || is_raw_around u site)
 is_raw_site-at u (element_in at i) e is = ap (λ (o : Option Element). with_or o is_html false || is_raw_tree u at) is
 
@@ -56,20 +62,27 @@ IsReached-visited reached = record { state = reached.first; comes = reached.come
 module _ (p : Setting) (u : Tree) (blocks : List Frame) (vs : List Visit) where
   -- ---- trees that stand in those of the run
 
-  body_at-of_run : (site : Site) (i : ℕ) → IsSiteOfRun p u blocks vs site → IsTreeOfRun p u blocks vs (body_at site i)
-  body_at-of_run (element_in at j) i h = is_body h
+  body_at-of_run : (site : Site) (i : ℕ) (t : Tree) → IsSiteOfRun p u blocks vs site → IsVisited vs site
+      → option_and_then element_body (element_at u site) ≡ Some t → IsTreeOfRun p u blocks vs (body_at site i)
+  body_at-of_run (element_in at j) i t h visited is = is_body h visited is
 
-  inverse_at-of_run : (site : Site) (i : ℕ) → IsSiteOfRun p u blocks vs site
-      → IsTreeOfRun p u blocks vs (inverse_at site i)
-  inverse_at-of_run (element_in at j) i h = is_inverse h
+  inverse_at-of_run : (site : Site) (i : ℕ) (t : Tree) → IsSiteOfRun p u blocks vs site → IsVisited vs site
+      → option_and_then element_inverse (element_at u site) ≡ Some t → IsTreeOfRun p u blocks vs (inverse_at site i)
+  inverse_at-of_run (element_in at j) i t h visited is = is_inverse h visited is
 
-  included_at-local : (site : Site) (t : Tree) → IsSiteOfRun p u blocks vs site → IsLocalOfRun p u blocks vs t
-      → IsTreeOfRun p u blocks vs (included_at site t)
-  included_at-local (element_in at j) t h is = is_local_of h is
+  included_at-local : (site : Site) (x : Tree) (t : Decorator) (s : State) (v : CallView) → IsSiteOfRun p u blocks vs site
+      → IsTagged p u vs site inclusion_tag t s v → Finds p t s v (is_local x) → IsLocalOfRun p u blocks vs v.name x
+      → IsTreeOfRun p u blocks vs (included_at site x)
+  included_at-local (element_in at j) x t s v h tagged finds is = is_local_of h tagged finds is
 
-  included_at-stored : (site : Site) (n : Text) (t : Tree) → IsSiteOfRun p u blocks vs site
-      → p.parts.template n ≡ Some t → IsTreeOfRun p u blocks vs (included_at site t)
-  included_at-stored (element_in at j) n t h is = is_stored h is
+  included_at-stored : (site : Site) (x : Tree) (t : Decorator) (s : State) (v : CallView) → IsSiteOfRun p u blocks vs site
+      → IsTagged p u vs site inclusion_tag t s v → Finds p t s v (is_registered x)
+      → IsTreeOfRun p u blocks vs (included_at site x)
+  included_at-stored (element_in at j) x t s v h tagged finds = is_stored h tagged finds
+
+  set-local : (site : Site) (n : Text) (x : Tree) (t : Decorator) (s : State) (v : CallView) → IsSiteOfRun p u blocks vs site
+      → IsTagged p u vs site decorator_tag t s v → SetsPartial p t s v n x → IsLocalOfRun p u blocks vs n x
+  set-local (element_in at j) n x t s v h tagged sets = set_by h tagged sets
 
   -- an element or a tree that stands at its site, in a tree of the run
   abbrev Stands : Task → Type 0
@@ -82,11 +95,25 @@ module _ (p : Setting) (u : Tree) (blocks : List Frame) (vs : List Visit) where
 
   -- ---- the law
 
-  -- A part begins at its site, with escaping as the tree has it there.
+  -- the indentation in force in a tree of the run, as its inclusions have it
+  abbrev IsIndented : TreeSite → State → Type 0
+  IsIndented at s = AreIndents p u vs at (unwrap_or s.indent [])
+
+  -- A part begins at its site, with escaping and the indentation as the tree has them there.
   record BeginsAt (t : Task) (s : State) : Type 0 where
     stands : Stands t
     raw : s.escapes ≡ not (is_raw_before u t)
+    indented : IsIndented (tree_before t) s
     of_run : IsOfRun p u blocks vs s
+
+  -- Steps of the element at a site go on, with both as they are there.
+  record FitsAt (site : Site) (s : State) : Type 0 where
+    raw : s.escapes ≡ not (is_raw_site u site)
+    indented : IsIndented (tree_site_of site) s
+
+  IsIndented-next : (at : TreeSite) (i j : Option Text) → j ≡ i → AreIndents p u vs at (unwrap_or i [])
+      → AreIndents p u vs at (unwrap_or j [])
+  IsIndented-next at i j is h = subst (λ (k : Option Text). AreIndents p u vs at (unwrap_or k [])) (sym is) h
 
   -- The run comes to an element at its site.
   record ComesAt (site : Site) (e : Element) (s : State) : Type 0 where
@@ -94,15 +121,15 @@ module _ (p : Setting) (u : Tree) (blocks : List Frame) (vs : List Visit) where
     stands : element_at u site ≡ Some e
     reached : IsReached vs site s
 
-  -- Escaping is on but at html expressions and within them, and states are of the run; so each part stands in a tree of the
-  -- run, and each piece has an origin.
+  -- Escaping is on but at html expressions and within them, the indentation is that of the inclusions around, and states are
+  -- of the run; so each part stands in a tree of the run, and each piece has an origin.
   abbrev has_origins : Law
   has_origins = record {
     IsWell = λ s. IsOfRun p u blocks vs s;
     IsNext = λ s n. IsBehind p u blocks vs s n;
     MayEnter = λ f. IsFrameOfRun p u blocks vs f;
     ComesTo = λ site e s. ComesAt site e s;
-    Fits = λ site s. s.escapes ≡ not (is_raw_site u site);
+    Fits = λ site s. FitsAt site s;
     Begins = λ t s. BeginsAt t s;
     IsPart = λ x m s t. BeginsAt t s;
     MayWrite = λ ps. HaveOrigins p u vs ps;
@@ -123,8 +150,8 @@ module _ (p : Setting) (u : Tree) (blocks : List Frame) (vs : List Visit) where
     join_in = λ x n m i xs ys le far a b. All-append _ xs ys a b;
   }
 
-  behind : {s n : State} → n.escapes ≡ s.escapes → IsOfRun p u blocks vs n → IsBehind p u blocks vs s n
-  behind is h = record { escapes = is; of_run = h }
+  behind : {s n : State} → n.escapes ≡ s.escapes → n.indent ≡ s.indent → IsOfRun p u blocks vs n → IsBehind p u blocks vs s n
+  behind is same h = record { escapes = is; indent = same; of_run = h }
 
   -- ---- what is written
 
@@ -134,6 +161,14 @@ module _ (p : Setting) (u : Tree) (blocks : List Frame) (vs : List Visit) where
     stands = element_at-read u site shown_call e (Some (block, c)) called.comes.stands called.shown;
     reached = called.comes.reached;
     viewed = called.viewed;
+  }
+
+  ComesToTag-tagged : {site : Site} {e : Element} {tag_of : Element → Option Decorator} {t : Decorator} {s : State}
+      {v : CallView} → ComesToTag p has_origins site e tag_of t s v → IsTagged p u vs site tag_of t s v
+  ComesToTag-tagged {site = site} {e = e} {tag_of = tag_of} {t = t} tagged = record {
+    stands = element_at-read u site tag_of e (Some t) tagged.comes.stands tagged.tag;
+    reached = tagged.comes.reached;
+    viewed = tagged.viewed;
   }
 
   -- a part of the text of the value that a call writes, escaped or not
@@ -159,39 +194,37 @@ module _ (p : Setting) (u : Tree) (blocks : List Frame) (vs : List Visit) where
 
   has_origins-closed : Closed p has_origins
   has_origins-closed = record {
-    same_next = λ h. behind refl h;
-    then_next = λ a b. behind (b.escapes ∙ a.escapes) b.of_run;
+    same_next = λ h. behind refl refl h;
+    then_next = λ a b. behind (b.escapes ∙ a.escapes) (b.indent ∙ a.indent) b.of_run;
     next_well = λ h. h.of_run;
-    next_fits = λ h is. is.escapes ∙ h;
-    line_next = λ l h. behind refl h;
-    name_next = λ name h. behind refl h;
-    data_next = λ d h. behind refl h;
-    local_next = λ name l h. behind refl h;
-    no_local_next = λ name h. behind refl h;
-    turn_next = λ {s = s} path b t h. behind refl (record {
+    next_fits = λ {site = site} {s = s} {n = n} h is.
+        record { raw = is.escapes ∙ h.raw; indented = IsIndented-next (tree_site_of site) s.indent n.indent is.indent h.indented };
+    line_next = λ l h. behind refl refl h;
+    name_next = λ name h. behind refl refl h;
+    data_next = λ d h. behind refl refl h;
+    local_next = λ name l h. behind refl refl h;
+    no_local_next = λ name h. behind refl refl h;
+    turn_next = λ {s = s} path b t h. behind refl refl (record {
       kept = h.kept;
-      indents = h.indents;
       frames = nearest_as-frames p u blocks vs (turn_frame path b t) s.blocks (turn_frame-frame p u blocks vs path b t) h.frames;
     });
-    partial_next = λ {s = s} {site = site} {e = e} {t = t} {x = x} name at tag is h. behind refl (record {
-      kept = h.kept;
-      indents = h.indents;
-      frames = nearest_as-frames p u blocks vs (with_partial name x) s.blocks (with_partial-frame p u blocks vs name x
-          (set_by site t (element_at-read u site decorator_tag e (Some t) at.stands tag) is
-          (IsReached-visited at.reached))) h.frames;
-    });
-    block_well = λ may h. record { kept = h.kept; indents = h.indents; frames = (may, h.frames) };
-    block_fits = λ h. h;
-    block_next = λ {n = n} is. behind is.escapes (record {
+    partial_next = λ {s = s} {before = before} {site = site} {t = t} {v = v} {name = name} {x = x} tagged sets h.
+        behind refl refl (record {
+          kept = h.kept;
+          frames = nearest_as-frames p u blocks vs (with_partial name x) s.blocks (with_partial-frame p u blocks vs name x
+              (set-local site name x t before v tagged.comes.of_run (ComesToTag-tagged tagged) sets)) h.frames;
+        });
+    block_well = λ may h. record { kept = h.kept; frames = (may, h.frames) };
+    block_fits = λ h. record { raw = h.raw; indented = h.indented };
+    block_next = λ {n = n} is. behind is.escapes is.indent (record {
       kept = is.of_run.kept;
-      indents = is.of_run.indents;
       frames = outer_frames-frames p u blocks vs n.blocks is.of_run.frames;
     });
     empty_enters = λ n t is. cc;
     with_enters = with_block-frame p u blocks vs;
     inclusion_enters = λ d hs variables n t is. cc;
     handed_enters = λ {site = site} {block = block} {c = c} {s = s} {v = v} {all = all} {f = f} i called answers is n t has.
-        handed_over f n (record {
+        handed_over f (record {
           site = site;
           block = block;
           helper = c;
@@ -213,20 +246,12 @@ module _ (p : Setting) (u : Tree) (blocks : List Frame) (vs : List Visit) where
         is = ap (λ (z : State). record z { escapes = false }) at.reached.is;
       };
     };
-    raw_next = λ is. behind refl is.of_run;
-    own_next = λ h is. behind is.escapes
-        (record { kept = is.of_run.kept; indents = h.indents; frames = is.of_run.frames });
+    raw_next = λ is. behind refl is.indent is.of_run;
+    own_next = λ h is. behind is.escapes refl (record { kept = is.of_run.kept; frames = is.of_run.frames });
     newest_keeps = λ {s = s} h. newest-origins p u blocks vs s.kept h.kept;
-    begun_well = λ {s = s} {site = site} {e = e} {t = t} tagged h is may. record {
-      kept = (may, is.of_run.kept);
-      indents = joined_indent-indents site t (element_at-read u site inclusion_tag e (Some t) tagged.comes.stands tagged.tag)
-          (IsReached-visited tagged.comes.reached) s.indent (decorator_marks t).indent refl h.indents;
-      frames = is.of_run.frames;
-    };
-    begun_fits = λ h. h;
-    over_next = λ {z = z} h first last. behind (last.escapes ∙ first.escapes) (record {
+    begun_well = λ h may. record { kept = (may, h.kept); frames = h.frames };
+    over_next = λ {z = z} h first last. behind (last.escapes ∙ first.escapes) refl (record {
       kept = h.kept;
-      indents = h.indents;
       frames = outer_frames-frames p u blocks vs z.blocks last.of_run.frames;
     });
     begins_well = λ h. h.of_run;
@@ -235,43 +260,79 @@ module _ (p : Setting) (u : Tree) (blocks : List Frame) (vs : List Visit) where
       stands = h.stands.1;
       reached = record { first = s; comes = known _ (0, omega arith, refl); is = refl };
     };
-    begins_fits = λ {site = site} {e = e} h is.
-        h.raw ∙ ap not (sym (is_raw_site-at u site e h.stands.1 ∙ ap (λ (b : Bool). b || is_raw_around u site) is));
-    begins_raw = λ {site = site} {c = c} h. ap not (sym (is_raw_site-at u site (html_expression c) h.stands.1));
-    element_part = λ i h is is_behind. record {
+    begins_fits = λ {site = site} {e = e} h is. record {
+      raw = h.raw
+          ∙ ap not (sym (is_raw_site-at u site e h.stands.1 ∙ ap (λ (b : Bool). b || is_raw_around u site) is));
+      indented = h.indented;
+    };
+    begins_raw = λ {site = site} {c = c} h. record {
+      raw = ap not (sym (is_raw_site-at u site (html_expression c) h.stands.1));
+      indented = h.indented;
+    };
+    element_part = λ {at = at} {s = s} {z = z} i h is is_behind. record {
       stands = (h.stands.0, ap (λ (o : Option Tree). nth_in o i) h.stands.1 ∙ is);
       raw = is_behind.escapes ∙ h.raw;
+      indented = IsIndented-next at s.indent z.indent is_behind.indent h.indented;
       of_run = is_behind.of_run;
     };
-    body_part = λ {site = site} {e = e} {t = t} i at is fits h. record {
-      stands = (body_at-of_run site i at.of_run, element_at-read u site element_body e (Some t) at.stands is);
-      raw = fits;
-      of_run = h;
-    };
-    inverse_part = λ {site = site} {e = e} {t = t} i at is fits h. record {
-      stands = (inverse_at-of_run site i at.of_run, element_at-read u site element_inverse e (Some t) at.stands is);
-      raw = fits;
-      of_run = h;
-    };
-    local_part = λ {site = site} {t = t} {z = z} name at well is fits h. record {
-      stands = (
-        included_at-local site t at.of_run (partial_in-local p u blocks vs z.blocks well.frames name t is),
-        refl,
-      );
-      raw = fits;
-      of_run = h;
-    };
-    registered_part = λ {site = site} {t = t} name at is fits h.
-        record { stands = (included_at-stored site name t at.of_run is, refl); raw = fits; of_run = h };
-    text_written = λ {site = site} {t = t} {s = s} at h.
-        put-origins p u vs (of_text site) s.indent t s.line _ at.stands (IsReached-visited at.reached) h.indents
+    body_part = λ {site = site} {e = e} {c = c} {t = t} i at call is fits h.
+        let there = element_at-read u site element_body e (Some t) at.stands is in record {
+          stands = (body_at-of_run site i t at.of_run (IsReached-visited at.reached) there, there);
+          raw = fits.raw;
+          indented = body_at-indents site i c fits.indented
+              (element_at-read u site element_call e (Some c) at.stands call);
+          of_run = h;
+        };
+    block_part = λ {site = site} {e = e} {t = t} {x = x} {before = before} {v = v} tagged alone is fits h.
+        let there = element_at-read u site element_body e (Some x) tagged.comes.stands is in record {
+          stands = (body_at-of_run site 0 x tagged.comes.of_run (IsReached-visited tagged.comes.reached) there, there);
+          raw = fits.raw;
+          indented = block-indents site t before v fits.indented (ComesToTag-tagged tagged) alone;
+          of_run = h;
+        };
+    inverse_part = λ {site = site} {e = e} {t = t} i at is fits h.
+        let there = element_at-read u site element_inverse e (Some t) at.stands is in record {
+          stands = (inverse_at-of_run site i t at.of_run (IsReached-visited at.reached) there, there);
+          raw = fits.raw;
+          indented = inverse_at-indents site i fits.indented;
+          of_run = h;
+        };
+    local_part = λ {site = site} {t = t} {x = x} {before = before} {s = s} {v = v} tagged finds well is fits fit h.
+        let there = ComesToTag-tagged tagged in record {
+          stands = (
+            included_at-local site x t before v tagged.comes.of_run there finds
+                (partial_in-local p u blocks vs s.blocks well.frames v.name x is),
+            refl,
+          );
+          raw = fit.raw;
+          indented = included_at-indents site x t s.indent fits.indented there.stands;
+          of_run = h;
+        };
+    registered_part = λ {site = site} {t = t} {x = x} {before = before} {s = s} {v = v} tagged finds fits fit h.
+        let there = ComesToTag-tagged tagged in record {
+          stands = (included_at-stored site x t before v tagged.comes.of_run there finds, refl);
+          raw = fit.raw;
+          indented = included_at-indents site x t s.indent fits.indented there.stands;
+          of_run = h;
+        };
+    own_block_part = λ {site = site} {e = e} {t = t} {x = x} {before = before} {s = s} {v = v} tagged finds is fits fit h.
+        let there = element_at-read u site element_body e (Some x) tagged.comes.stands is in record {
+          stands = (body_at-of_run site 0 x tagged.comes.of_run (IsReached-visited tagged.comes.reached) there, there);
+          raw = fit.raw;
+          indented = own_block-indents site x t before v s.indent fits.indented (ComesToTag-tagged tagged) finds;
+          of_run = h;
+        };
+    text_written = λ {site = site} {t = t} {s = s} at fits h.
+        put-origins p u vs (of_text site) s.indent t s.line _ at.stands (IsReached-visited at.reached) fits.indented
         (λ a within. record { all = t; stands = at.stands; state = s; reached = at.reached; is = within });
     value_written = λ {site = site} {s = s} {found = found} t called has fits is shows h.
         put-origins p u vs (of_value site found) s.indent t s.line _ called.comes.stands
-        (IsReached-visited called.comes.reached) h.indents (WritesValue-shown s true called has fits is shows);
+        (IsReached-visited called.comes.reached) fits.indented
+        (WritesValue-shown s true called has fits.raw is shows);
     raw_written = λ {site = site} {s = s} {found = found} called has fits is h.
         put-origins p u vs (of_raw site found) s.indent (rendered_if_any (present_in found)) s.line _ called.comes.stands
-        (IsReached-visited called.comes.reached) h.indents (WritesValue-shown s false called has fits is refl);
+        (IsReached-visited called.comes.reached) fits.indented
+        (WritesValue-shown s false called has fits.raw is refl);
     word_written = λ {c = c} {s = s} {v = v} b called says. (
       record { helper = c; state = s; view = v; called = ComesToCall-called called; says = says; is = all_begins (word b) },
       tt,
@@ -293,31 +354,37 @@ module _ (p : Setting) (u : Tree) (blocks : List Frame) (vs : List Visit) where
 
 -- ---- runs
 
--- a run of a part alone, from a plain state on, which stands where escaping is on
+-- a run of a part alone, from a plain state on, which stands where escaping is on, and no inclusion is around
 Do-obeys : (p : Setting) (u : Tree) (t : Task) (s : State) (ps : List Piece) (o : Outcome) → IsPlain s
-    → s.escapes ≡ not (is_raw_before u t) → (r : Runs p (Do t Done) s ps o) → Stands p u s.blocks (visits r) t
+    → s.escapes ≡ not (is_raw_before u t) → tree_before t ≡ first_tree → (r : Runs p (Do t Done) s ps o) → Stands p u s.blocks (visits r) t
     → Obeys (has_origins p u s.blocks (visits r)) (Whole first_tree u) (λ j z. Unit {0}) 0 ps o (visits r)
-Do-obeys p u t s ps o plain raw r stands =
+Do-obeys p u t s ps o plain raw first r stands =
     let law = has_origins p u s.blocks (visits r) in
     Runs-obeys p law (has_origins-sound p u s.blocks (visits r))
     (todo-holds p law (has_origins-closed p u s.blocks (visits r))) r (Whole first_tree u) (λ j z. Unit {0}) 0 (
       0,
       omega arith,
-      record { stands = stands; raw = raw; of_run = first-of_run p u s.blocks (visits r) s plain (λ f has. has) },
+      record {
+        stands = stands;
+        raw = raw;
+        indented = subst (λ (at : TreeSite). AreIndents p u (visits r) at (unwrap_or s.indent [])) (sym first)
+            (no_indent-indents s.indent plain.indent);
+        of_run = first-of_run p u s.blocks (visits r) s plain (λ f has. has);
+      },
       λ z is. tt,
     ) (λ v has. has)
 
 pub all_have_origins : (p : Setting) (t : Tree) (s : State) (ps : List Piece) (o : Outcome) → IsPlain s
     → (r : Means p t s ps o) → HaveOrigins p t (visits r) ps
 all_have_origins p t s ps o plain r =
-    (Do-obeys p t (Whole first_tree t) s ps o plain plain.escapes r (is_first, refl)).written
+    (Do-obeys p t (Whole first_tree t) s ps o plain plain.escapes refl r (is_first, refl)).written
 
 pub comes_in_trees : (p : Setting) (t : Tree) (s : State) (ps : List Piece) (o : Outcome) → IsPlain s
     → (r : Means p t s ps o) → StandInTrees p t s.blocks (visits r) (visits r)
 comes_in_trees p t s ps o plain r =
-    (Do-obeys p t (Whole first_tree t) s ps o plain plain.escapes r (is_first, refl)).are_in
+    (Do-obeys p t (Whole first_tree t) s ps o plain plain.escapes refl r (is_first, refl)).are_in
 
 pub element_has_origins : (p : Setting) (e : Element) (s : State) (ps : List Piece) (o : Outcome) → IsPlain s
     → (r : Runs p (render_alone e) s ps o) → HaveOrigins p (alone e) (visits r) ps
 element_has_origins p e s ps o plain r =
-    (Do-obeys p (alone e) (One (element_in first_tree 0) None e) s ps o plain plain.escapes r (is_first, refl)).written
+    (Do-obeys p (alone e) (One (element_in first_tree 0) None e) s ps o plain plain.escapes refl r (is_first, refl)).written

@@ -1,47 +1,75 @@
 -- States of a run: what is kept has origins, indentations are those of inclusions, and partials are those of the run.
-use Rattle.std.proofs.Common.{◌≡◌, List, [], ◌∷◌, Bool, true, false, refl, sym, ap, ◌∙◌, subst, Option, Some, None, unwrap_or, option_and_then, cond, arith}
+use Rattle.std.proofs.Common.{◌≡◌, ℕ, List, [], ◌∷◌, ◌++◌, append-nil, Bool, true, false, refl, sym, ap, ◌∙◌, subst, Option, Some, None, unwrap_or, option_and_then, cond, arith}
 use Rattle.std.specs.List.{AllByRecursion, Contains}
 use Rattle.std.specs.Str.{bytes_eq}
+use Rattle.std.proofs.lemmas.Slice.Eq.{bytes_eq-Decides}
 use Rattle.std.proofs.lemmas.List.Elements.{Contains-append_right}
 use Rattle.serde_json.specs.Data.{Data}
 use Rattle.handlebars_base.specs.Bytes.{Text}
-use Rattle.handlebars_template.specs.Tree.{Tree, Binding, Decorator, decorator_marks}
+use Rattle.handlebars_template.specs.Tree.{Tree, Binding, Call, Decorator, decorator_marks}
 use Rattle.handlebars_scope.specs.Resolve.{or_else}
 use Rattle.handlebars_scope.specs.Scopes.{Frame, empty_frame, Base, at_path, at_value, frame_at}
+use Rattle.handlebars_helpers.specs.CallView.{CallView}
 use Rattle.handlebars_helpers.specs.Turns.{Turn, turn_base, turn_frame, with_block}
-use Rattle.handlebars_meaning.specs.Inclusion.{newest, joined_indent}
+use Rattle.handlebars_meaning.specs.Inclusion.{is_own_block, newest, joined_indent}
 use Rattle.handlebars_meaning.specs.Laws.{IsPlain}
-use Rattle.handlebars_meaning.specs.Origins.{element_at, inclusion_tag, IsVisited, AreIndents, no_indents, one_indent_more, HaveOrigins, IsLocalOfRun, stood_in}
-use Rattle.handlebars_meaning.specs.Sites.{Site}
+use Rattle.handlebars_meaning.specs.Origins.{element_call, inclusion_tag, tree_site_of, element_at, IsTagged, Finds, IsBlockAlone, AreIndents, around_first, around_body, around_inverse, around_block, around_included, around_own_block, HaveOrigins, IsLocalOfRun, stood_in}
+use Rattle.handlebars_meaning.specs.Sites.{first_tree, body_at, inverse_at, included_at, Site, element_in}
 use Rattle.handlebars_meaning.specs.State.{KeptBlocks, Setting, State, outer_frames, nearest_as, partial_in, with_partial}
 use Rattle.handlebars_meaning.specs.Visits.{Visit}
 use Rattle.handlebars_laws.proofs.Closed.{MayKeep}
 
 -- ---- indentations
 
-pub joined_indent-indents : {u : Tree} {vs : List Visit} (site : Site) (t : Decorator)
-    → option_and_then inclusion_tag (element_at u site) ≡ Some t → IsVisited vs site → (i own : Option Text)
-    → (decorator_marks t).indent ≡ own → AreIndents u vs (unwrap_or i [])
-    → AreIndents u vs (unwrap_or (joined_indent i own) [])
-joined_indent-indents site t stands visited None None is h = h
-joined_indent-indents site t stands visited None (Some own) is h = one_indent_more site t h stands is visited
-joined_indent-indents site t stands visited (Some i) None is h = h
-joined_indent-indents site t stands visited (Some i) (Some own) is h = one_indent_more site t h stands is visited
+pub joined_indent-own : (i own : Option Text) → unwrap_or (joined_indent i own) [] ≡ unwrap_or i [] ++ unwrap_or own []
+joined_indent-own None None = refl
+joined_indent-own None (Some own) = refl
+joined_indent-own (Some i) None = sym (append-nil i)
+joined_indent-own (Some i) (Some own) = refl
 
-no_indent-indents : {u : Tree} {vs : List Visit} (i : Option Text) → i ≡ None → AreIndents u vs (unwrap_or i [])
-no_indent-indents None is = no_indents
-no_indent-indents (Some t) is = cc
+module _ {p : Setting} {u : Tree} {vs : List Visit} where
+  pub body_at-indents : (site : Site) (j : ℕ) (c : Call) {t : Text} → AreIndents p u vs (tree_site_of site) t
+      → option_and_then element_call (element_at u site) ≡ Some c → AreIndents p u vs (body_at site j) t
+  body_at-indents (element_in at i) j c h is = around_body h is
+
+  pub block-indents : (site : Site) (tag : Decorator) (s : State) (v : CallView) {t : Text}
+      → AreIndents p u vs (tree_site_of site) t → IsTagged p u vs site inclusion_tag tag s v → IsBlockAlone p tag s v
+      → AreIndents p u vs (body_at site 0) t
+  block-indents (element_in at i) tag s v h is alone = around_block h is alone
+
+  pub inverse_at-indents : (site : Site) (j : ℕ) {t : Text} → AreIndents p u vs (tree_site_of site) t
+      → AreIndents p u vs (inverse_at site j) t
+  inverse_at-indents (element_in at i) j h = around_inverse h
+
+  pub included_at-indents : (site : Site) (x : Tree) (tag : Decorator) (i : Option Text)
+      → AreIndents p u vs (tree_site_of site) (unwrap_or i []) → option_and_then inclusion_tag (element_at u site) ≡ Some tag
+      → AreIndents p u vs (included_at site x) (unwrap_or (joined_indent i (decorator_marks tag).indent) [])
+  included_at-indents (element_in at j) x tag i h is =
+      subst (AreIndents p u vs (included_at (element_in at j) x)) (sym (joined_indent-own i (decorator_marks tag).indent))
+      (around_included h is)
+
+  pub own_block-indents : (site : Site) (x : Tree) (tag : Decorator) (s : State) (v : CallView) (i : Option Text)
+      → AreIndents p u vs (tree_site_of site) (unwrap_or i []) → IsTagged p u vs site inclusion_tag tag s v
+      → Finds p tag s v (is_own_block x)
+      → AreIndents p u vs (body_at site 0) (unwrap_or (joined_indent i (decorator_marks tag).indent) [])
+  own_block-indents (element_in at j) x tag s v i h is finds =
+      subst (AreIndents p u vs (body_at (element_in at j) 0)) (sym (joined_indent-own i (decorator_marks tag).indent))
+      (around_own_block h is finds)
+
+  pub no_indent-indents : (i : Option Text) → i ≡ None → AreIndents p u vs first_tree (unwrap_or i [])
+  no_indent-indents None is = around_first
+  no_indent-indents (Some t) is = cc
 
 -- ---- partials
 
-None≢Some : {P : Type 0} {t : Tree} → None ≡ Some t → P
+pub None≢Some : {P : Type 0} {t : Tree} → None ≡ Some t → P
 None≢Some e = cc
 
 tree_or : Tree → Option Tree → Tree
 tree_or d None = d
 tree_or d (Some t) = t
 
-Some-injective : (x t : Tree) → Some x ≡ Some t → x ≡ t
+pub Some-injective : (x t : Tree) → Some x ≡ Some t → x ≡ t
 unfolding tree_or
 Some-injective x t is = ap (tree_or x) is
 
@@ -55,20 +83,20 @@ frame_at-partial (at_value d) f n = refl
 module _ (p : Setting) (u : Tree) (blocks : List Frame) (vs : List Visit) where
   -- a block of scope with no other partials than those of the run
   abbrev pub IsFrameOfRun : Frame → Type 0
-  IsFrameOfRun f = (n : Text) (t : Tree) → f.partial n ≡ Some t → IsLocalOfRun p u blocks vs t
+  IsFrameOfRun f = (n : Text) (t : Tree) → f.partial n ≡ Some t → IsLocalOfRun p u blocks vs n t
 
   -- Of the fields that matter, so that a change of any other keeps it.
-  pub record AreOfRun (ks : KeptBlocks) (indent : Option Text) (fs : List Frame) : Type 0 where
+  pub record AreOfRun (ks : KeptBlocks) (fs : List Frame) : Type 0 where
     pub kept : AllByRecursion (MayKeep (HaveOrigins p u vs)) ks
-    pub indents : AreIndents u vs (unwrap_or indent [])
     pub frames : AllByRecursion IsFrameOfRun fs
 
   abbrev pub IsOfRun : State → Type 0
-  IsOfRun s = AreOfRun s.kept s.indent s.blocks
+  IsOfRun s = AreOfRun s.kept s.blocks
 
-  -- a state behind another one: escaping is as it was
+  -- a state behind another one: escaping and the indentation are as they were
   pub record IsBehind (s n : State) : Type 0 where
     pub escapes : n.escapes ≡ s.escapes
+    pub indent : n.indent ≡ s.indent
     pub of_run : IsOfRun n
 
   pub newest-origins : (ks : KeptBlocks) → AllByRecursion (MayKeep (HaveOrigins p u vs)) ks
@@ -86,26 +114,30 @@ module _ (p : Setting) (u : Tree) (blocks : List Frame) (vs : List Visit) where
   nearest_as-frames change [] g h = tt
   nearest_as-frames change (f ∷ fs) g h = (g f h.0, h.1)
 
-  or_else-local : (a b : Option Tree) (t : Tree) → (a ≡ Some t → IsLocalOfRun p u blocks vs t)
-      → (b ≡ Some t → IsLocalOfRun p u blocks vs t) → or_else a b ≡ Some t → IsLocalOfRun p u blocks vs t
-  or_else-local None b t f g is = g is
-  or_else-local (Some x) b t f g is = f is
+  or_else-local : (n : Text) (a b : Option Tree) (t : Tree) → (a ≡ Some t → IsLocalOfRun p u blocks vs n t)
+      → (b ≡ Some t → IsLocalOfRun p u blocks vs n t) → or_else a b ≡ Some t → IsLocalOfRun p u blocks vs n t
+  or_else-local n None b t f g is = g is
+  or_else-local n (Some x) b t f g is = f is
 
   pub partial_in-local : (fs : List Frame) → AllByRecursion IsFrameOfRun fs → (n : Text) (t : Tree)
-      → partial_in fs n ≡ Some t → IsLocalOfRun p u blocks vs t
+      → partial_in fs n ≡ Some t → IsLocalOfRun p u blocks vs n t
   partial_in-local [] h n t is = cc
   partial_in-local (f ∷ fs) h n t is =
-      or_else-local (f.partial n) (partial_in fs n) t (h.0 n t) (partial_in-local fs h.1 n t) is
+      or_else-local n (f.partial n) (partial_in fs n) t (h.0 n t) (partial_in-local fs h.1 n t) is
 
-  cond-local : (b : Bool) (x o : Option Tree) (t : Tree) → (x ≡ Some t → IsLocalOfRun p u blocks vs t)
-      → (o ≡ Some t → IsLocalOfRun p u blocks vs t) → cond b x o ≡ Some t → IsLocalOfRun p u blocks vs t
-  cond-local true x o t f g is = f is
-  cond-local false x o t f g is = g is
+  -- a partial that is set under a name, and read by another one
+  put_at-local : (b : Bool) (name n : Text) (x : Tree) (o : Option Tree) (t : Tree) → (b ≡ true → name ≡ n)
+      → IsLocalOfRun p u blocks vs name x → (o ≡ Some t → IsLocalOfRun p u blocks vs n t) → cond b (Some x) o ≡ Some t
+      → IsLocalOfRun p u blocks vs n t
+  put_at-local true name n x o t same f g is =
+      subst (IsLocalOfRun p u blocks vs n) (Some-injective x t is)
+      (subst (λ (m : Text). IsLocalOfRun p u blocks vs m x) (same refl) f)
+  put_at-local false name n x o t same f g is = g is
 
-  pub with_partial-frame : (name : Text) (x : Tree) → IsLocalOfRun p u blocks vs x → (f : Frame) → IsFrameOfRun f
+  pub with_partial-frame : (name : Text) (x : Tree) → IsLocalOfRun p u blocks vs name x → (f : Frame) → IsFrameOfRun f
       → IsFrameOfRun (with_partial name x f)
-  with_partial-frame name x h f g = λ n t is. cond-local (bytes_eq name n) (Some x) (f.partial n) t
-      (λ same. subst (IsLocalOfRun p u blocks vs) (Some-injective x t same) h) (g n t) is
+  with_partial-frame name x h f g = λ n t is.
+      put_at-local (bytes_eq name n) name n x (f.partial n) t (bytes_eq-Decides name n).0 h (g n t) is
 
   pub turn_frame-frame : (path : Option (List Text)) (b : Binding) (t : Turn) (f : Frame) → IsFrameOfRun f
       → IsFrameOfRun (turn_frame path b t f)
@@ -124,13 +156,12 @@ module _ (p : Setting) (u : Tree) (blocks : List Frame) (vs : List Visit) where
   first_frames : (fs : List Frame) → ((f : Frame) → Contains fs f → Contains blocks f) → AllByRecursion IsFrameOfRun fs
   first_frames [] are = tt
   first_frames (f ∷ fs) are = (
-    λ n t is. stood_in f n (are f (0, omega arith, refl)) is,
+    λ n t is. stood_in f (are f (0, omega arith, refl)) is,
     first_frames fs (λ g has. are g (Contains-append_right (f ∷ []) fs g has)),
   )
 
   pub first-of_run : (s : State) → IsPlain s → ((f : Frame) → Contains s.blocks f → Contains blocks f) → IsOfRun s
   first-of_run s plain are = record {
     kept = no_kept-origins s.kept plain.kept;
-    indents = no_indent-indents s.indent plain.indent;
     frames = first_frames s.blocks are;
   }

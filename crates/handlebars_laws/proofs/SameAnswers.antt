@@ -1,4 +1,4 @@
--- What questions are answered doesn't depend on the registered templates and on the limit.
+-- What questions are answered doesn't depend on the registered templates, on the limit and on the current name.
 use Rattle.std.proofs.Common.{ℕ, Option}
 use Rattle.handlebars_base.specs.Answers.{Answer}
 use Rattle.handlebars_base.specs.Bytes.{Text}
@@ -20,11 +20,15 @@ then-are m n f g first next _ (is_refused i) = is_refused (first _ i)
 abbrev answers_are : Relation
 answers_are = record { Relates = λ m n. Are m n; only_related = λ x a i. i; then_related = then-are }
 
-pub same_answers : (p : Setting) (template : Text → Option Tree) (limit : ℕ) (s : State) (q : Question)
-    (a : Answer (Reply q)) → IsAnswered p s q a → IsAnswered (other p template limit) s q a
-same_answers p template limit s q = IsAnswered-related answers_are p (record {
+pub renamed_answers : (p : Setting) (template : Text → Option Tree) (limit : ℕ) (s : State) (c : Option Text) (q : Question)
+    (a : Answer (Reply q)) → IsAnswered p s q a → IsAnswered (other p template limit) (record s { current = c }) q a
+renamed_answers p template limit s c q = IsAnswered-related answers_are p (record {
   steps = λ n x a i. i;
   offer = λ n x a i. i;
   deeds = λ n x a i. i;
   escape = λ t a i. i;
-}) template limit s q
+}) template limit s c q
+
+pub same_answers : (p : Setting) (template : Text → Option Tree) (limit : ℕ) (s : State) (q : Question)
+    (a : Answer (Reply q)) → IsAnswered p s q a → IsAnswered (other p template limit) s q a
+same_answers p template limit s q = renamed_answers p template limit s s.current q

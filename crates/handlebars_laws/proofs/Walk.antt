@@ -1,18 +1,22 @@
 -- The walk through all that a template can say: what a closed law says holds of each element and of each tree.
 use Rattle.std.proofs.Common.{◌≡◌, ℕ, suc, ◌+◌, List, [], ◌∷◌, true, false, refl, sym, ap, ◌∙◌, Option, Some, arith}
+use Rattle.std.specs.List.{Contains}
+use Rattle.std.proofs.lemmas.List.Elements.{Contains-append_right}
+use Rattle.handlebars_base.specs.Answers.{gives}
 use Rattle.handlebars_base.specs.Bytes.{Text}
 use Rattle.handlebars_template.specs.Place.{Place}
-use Rattle.handlebars_template.specs.Tree.{tree, Elements, no_elements, element, Element, raw_string, html_expression, expression, helper_block, decorator_expression, decorator_block, partial_expression, partial_block, comment, Decorator, decorator_name, decorator_args, decorator_body, Body, no_body, body}
-use Rattle.handlebars_helpers.specs.Decoration.{Deed, sets_data, binds, unbinds, sets_partial}
+use Rattle.handlebars_template.specs.Tree.{Tree, tree, Elements, no_elements, element, Element, raw_string, html_expression, expression, helper_block, decorator_expression, decorator_block, partial_expression, partial_block, comment, Decorator, decorator_name, decorator_args, decorator_body, Body, no_body, body}
+use Rattle.handlebars_helpers.specs.CallView.{CallView}
+use Rattle.handlebars_helpers.specs.Decoration.{DecoratorKind, Deed, sets_data, binds, unbinds, sets_partial}
 use Rattle.handlebars_meaning.specs.Means.{shown_tag, set_partial, do_deed, do_deeds, render_expression, render_decorator, render_element, render_elements}
-use Rattle.handlebars_meaning.specs.Origins.{nth, decorator_tag}
+use Rattle.handlebars_meaning.specs.Origins.{nth, decorator_tag, SetsPartial}
 use Rattle.handlebars_meaning.specs.Pieces.{of_text}
-use Rattle.handlebars_meaning.specs.Questions.{view_of, decorator_of, deeds_of}
+use Rattle.handlebars_meaning.specs.Questions.{view_of, decorator_of, deeds_of, IsAnswered}
 use Rattle.handlebars_meaning.specs.Sites.{TreeSite, Site}
 use Rattle.handlebars_meaning.specs.State.{Setting, State}
 use Rattle.handlebars_meaning.specs.Steps.{Task, One, Whole, Done, ◌>>=◌, ◌>>◌}
 use Rattle.handlebars_laws.proofs.Calls.{render_call-holds, render_expression-holds}
-use Rattle.handlebars_laws.proofs.Closed.{Closed}
+use Rattle.handlebars_laws.proofs.Closed.{ComesToTag, Closed}
 use Rattle.handlebars_laws.proofs.Inclusions.{render_partial-holds}
 use Rattle.handlebars_laws.proofs.Law.{Law, PlanHolds}
 use Rattle.handlebars_laws.proofs.Programs.{upto, any, Leads, answer-holds, return-holds, write_text-holds, without_escaping-holds}
@@ -25,41 +29,58 @@ module _ (p : Setting) (law : Law) (closed : Closed p law) where
     abbrev this : Task
     this = One site place e
 
-    set_partial-holds : (name : Text) (b : Body) → decorator_body t ≡ b → (s : State)
-        → Leads p law this 0 (upto 0) s (set_partial name b)
-    unfolding ◌>>=◌
-    set_partial-holds name no_body is s h end i le next g = tt
-    set_partial-holds name (body x) is s h end i le next g = g i _ le (closed.partial_next name comes tag is h)
+    -- the deeds that its decorator answers for a view of the tag
+    module _ (v : CallView) (viewed : IsAnswered p before (view_of (decorator_name t) (decorator_args t)) (gives v))
+        (kind : DecoratorKind) (named : IsAnswered p before (decorator_of v.name) (gives kind)) (all : List Deed)
+        (answers : IsAnswered p before (deeds_of kind (shown_tag before.indent t v)) (gives all)) where
+      tagged : ComesToTag p law site e decorator_tag t before v
+      tagged = record { comes = comes; tag = tag; viewed = viewed }
 
-    do_deed-holds : (deed : Deed) (s : State) → Leads p law this 0 (upto 0) s (do_deed (decorator_body t) deed)
-    unfolding ◌>>=◌
-    do_deed-holds (sets_data d) s h end i le next g = g i _ le (closed.data_next d h)
-    do_deed-holds (binds name l) s h end i le next g = g i _ le (closed.local_next name l h)
-    do_deed-holds (unbinds name) s h end i le next g = g i _ le (closed.no_local_next name h)
-    do_deed-holds (sets_partial name) s h end i le next g =
-        set_partial-holds name (decorator_body t) refl s h end i le next g
+      sets : (name : Text) (x : Tree) → Contains all (sets_partial name) → decorator_body t ≡ body x
+          → SetsPartial p t before v name x
+      sets name x has is =
+          record { kind = kind; named = named; deeds = all; answers = answers; sets = has; is = is }
 
-    do_deeds-hold : (deeds : List Deed) (s : State) → Leads p law this 0 any s (do_deeds (decorator_body t) deeds)
-    unfolding ◌>>◌
-    do_deeds-hold [] s h end i le next g = g i s tt (closed.same_next h)
-    do_deeds-hold (deed ∷ deeds) s h end i le next g =
-        do_deed-holds deed s h end i le (λ u. do_deeds (decorator_body t) deeds next) (λ j n to is.
-        do_deeds-hold deeds n (closed.next_well is) end j to next (λ k z far same. g k z far (closed.then_next is same)))
+      set_partial-holds : (name : Text) (b : Body) → Contains all (sets_partial name) → decorator_body t ≡ b → (s : State)
+          → Leads p law this 0 (upto 0) s (set_partial name b)
+      unfolding ◌>>=◌
+      set_partial-holds name no_body has is s h end i le next g = tt
+      set_partial-holds name (body x) has is s h end i le next g =
+          g i _ le (closed.partial_next tagged (sets name x has is) h)
 
-    render_decorator-holds : (s : State) → Leads p law this 0 any s (render_decorator t)
+      do_deed-holds : (deed : Deed) → Contains all deed → (s : State)
+          → Leads p law this 0 (upto 0) s (do_deed (decorator_body t) deed)
+      unfolding ◌>>=◌
+      do_deed-holds (sets_data d) has s h end i le next g = g i _ le (closed.data_next d h)
+      do_deed-holds (binds name l) has s h end i le next g = g i _ le (closed.local_next name l h)
+      do_deed-holds (unbinds name) has s h end i le next g = g i _ le (closed.no_local_next name h)
+      do_deed-holds (sets_partial name) has s h end i le next g =
+          set_partial-holds name (decorator_body t) has refl s h end i le next g
+
+      do_deeds-hold : (deeds : List Deed) → ((deed : Deed) → Contains deeds deed → Contains all deed) → (s : State)
+          → Leads p law this 0 any s (do_deeds (decorator_body t) deeds)
+      unfolding ◌>>◌
+      do_deeds-hold [] are s h end i le next g = g i s tt (closed.same_next h)
+      do_deeds-hold (deed ∷ deeds) are s h end i le next g =
+          do_deed-holds deed (are deed (0, omega arith, refl)) s h end i le
+          (λ u. do_deeds (decorator_body t) deeds next) (λ j n to is.
+          do_deeds-hold deeds (λ d has. are d (Contains-append_right (deed ∷ []) deeds d has)) n (closed.next_well is) end
+          j to next (λ k z far same. g k z far (closed.then_next is same)))
+
+    render_decorator-holds : Leads p law this 0 any before (render_decorator t)
     unfolding ◌>>=◌
-    render_decorator-holds s h end i le next g =
-        answer-holds p law this end i s (view_of (decorator_name t) (decorator_args t)) _ (λ v viewed.
-        answer-holds p law this end i s (decorator_of v.name) _ (λ k is.
-        answer-holds p law this end i s (deeds_of k (shown_tag s.indent t v)) _ (λ deeds done.
-        do_deeds-hold deeds s h end i le next g)))
+    render_decorator-holds h end i le next g =
+        answer-holds p law this end i before (view_of (decorator_name t) (decorator_args t)) _ (λ v viewed.
+        answer-holds p law this end i before (decorator_of v.name) _ (λ k named.
+        answer-holds p law this end i before (deeds_of k (shown_tag before.indent t v)) _ (λ deeds answers.
+        do_deeds-hold v viewed k named deeds answers deeds (λ d has. has) before h end i le next g)))
 
   -- ---- elements
 
   render_element-holds : (site : Site) (place : Option Place) (e : Element) (s : State) → law.Begins (One site place e) s
       → law.ComesTo site e s → Leads p law (One site place e) 0 any s (render_element site e)
   render_element-holds site place (raw_string t) s begins comes =
-      write_text-holds p law closed (One site place (raw_string t)) s (of_text site) t (closed.text_written comes)
+      write_text-holds p law closed (One site place (raw_string t)) s (of_text site) t (closed.text_written comes (closed.begins_fits begins refl))
   render_element-holds site place (html_expression c) s begins comes =
       without_escaping-holds p law closed (One site place (html_expression c)) s (render_expression site c)
       (render_expression-holds p law closed site place (html_expression c) c refl (record s { escapes = false })
@@ -69,9 +90,9 @@ module _ (p : Setting) (law : Law) (closed : Closed p law) where
   render_element-holds site place (helper_block c) s begins comes =
       render_call-holds p law closed site place (helper_block c) true c refl s comes refl (closed.begins_fits begins refl)
   render_element-holds site place (decorator_expression t) s begins comes =
-      render_decorator-holds site place (decorator_expression t) t s comes refl s
+      render_decorator-holds site place (decorator_expression t) t s comes refl
   render_element-holds site place (decorator_block t) s begins comes =
-      render_decorator-holds site place (decorator_block t) t s comes refl s
+      render_decorator-holds site place (decorator_block t) t s comes refl
   render_element-holds site place (partial_expression t) s begins comes =
       render_partial-holds p law closed site place (partial_expression t) t refl s comes (closed.begins_fits begins refl)
   render_element-holds site place (partial_block t) s begins comes =

@@ -1,15 +1,15 @@
 -- What a rendering answers, at a setting, from a source or from a registered template.
-use Rattle.std.specs.Prelude.{◌≡◌, ◌≤◌, ℕ, List, [], Option, None, Some}
+use Rattle.std.specs.Prelude.{◌≡◌, ◌≢◌, ◌≤◌, ℕ, Bool, List, [], Option, None, Some}
 use Rattle.std.specs.List.{AllByRecursion}
 use Rattle.handlebars_base.specs.Bytes.{Text}
-use Rattle.handlebars_base.specs.Reasons.{Refusal, TemplateRefusal, of_template, template_not_found}
+use Rattle.handlebars_base.specs.Reasons.{Spot, Refusal, TemplateRefusal, of_template, template_not_found}
 use Rattle.handlebars_base.specs.RenderRefusals.{plain_refusal}
 use Rattle.handlebars_template.specs.Tree.{Tree}
 use Rattle.handlebars_tags.specs.Options.{Options}
 use Rattle.handlebars_template.specs.Compile.{Compiles, compiled, refused}
 use Rattle.handlebars_meaning.specs.Pieces.{Piece, join}
 use Rattle.handlebars_meaning.specs.State.{Setting, State, first_state}
-use Rattle.handlebars_meaning.specs.Runs.{Outcome, Ended, Refused, IsStop, Means}
+use Rattle.handlebars_meaning.specs.Runs.{Outcome, Ended, Refused, Faulted, NoMemory, IsStop, Means}
 use Rattle.handlebars_meaning.specs.Origins.{HaveOrigins, StandInTrees}
 use Rattle.handlebars_meaning.specs.Visits.{visits, ComeOnce}
 use Rattle.handlebars_meaning.specs.Names.{included_names}
@@ -49,11 +49,18 @@ pub record RefusesWith (p : Setting) (begins : Beginning → Type 0) (r : Refusa
   pub pieces : List Piece
   pub answers : RenderAnswers p begins pieces (Refused r)
 
--- There is at most one answer, but for runs that stop on the way: two are one, though it is not told how.
+-- the names of an answer's inclusions
+abbrev pub answer_names : {p : Setting} {begins : Beginning → Type 0} {ps : List Piece} {o : Outcome}
+    → RenderAnswers p begins ps o → List Text
+answer_names (not_begun b) = []
+answer_names (rendered b r) = included_names r
+
+-- There is at most one answer, but for runs that stop on the way: two are one, with its pieces, its outcome and the names of
+-- its inclusions, though it is not told how.
 abbrev pub HasOneAnswer : Setting → (Beginning → Type 0) → Type 0
 HasOneAnswer p begins = (ps qs : List Piece) (o q : Outcome)
-    → RenderAnswers p begins ps o → RenderAnswers p begins qs q
-    → (IsStop o → ⊥) → (IsStop q → ⊥) → ∥ (ps ≡ qs) × (o ≡ q) ∥₁
+    (a : RenderAnswers p begins ps o) (b : RenderAnswers p begins qs q)
+    → (IsStop o → ⊥) → (IsStop q → ⊥) → ∥ (ps ≡ qs) × (o ≡ q) × (answer_names a ≡ answer_names b) ∥₁
 
 -- The run of an answer comes to no site twice, all its sites stand in trees of the run, and each of its pieces comes from
 -- its site: it is a part of a text there, or of the value or the boolean helper's word that is written there in the state
@@ -73,15 +80,59 @@ abbrev pub SameAnswerUnderLarger : Setting → (Beginning → Type 0) → Type 0
 SameAnswerUnderLarger p begins = (n : ℕ) (ps : List Piece) (o : Outcome) → p.parts.limit ≤ n
     → RenderAnswers p begins ps o → IsNotForLimit p.parts.limit o → RenderAnswers (with_limit n p) begins ps o
 
--- the names of an answer's inclusions
-abbrev pub answer_names : {p : Setting} {begins : Beginning → Type 0} {ps : List Piece} {o : Outcome}
-    → RenderAnswers p begins ps o → List Text
-answer_names (not_begun b) = []
-answer_names (rendered b r) = included_names r
-
 -- An answer is the same whatever is registered under other names than those of its inclusions, where it begins alike.
 abbrev pub AnswerOnlyByNames : Setting → (Beginning → Type 0) → Type 0
 AnswerOnlyByNames p begins = (ps : List Piece) (o : Outcome) (a : RenderAnswers p begins ps o)
     (template : Text → Option Tree)
     → AllByRecursion (λ n. template n ≡ p.parts.template n) (answer_names a)
     → RenderAnswers (with_templates template p) begins ps o
+
+-- An answer by a name is the same whatever is registered under other names than that one and those of its inclusions.
+abbrev pub NamedAnswerOnlyByNames : Setting → Text → Type 0
+NamedAnswerOnlyByNames p name = (ps : List Piece) (o : Outcome) (a : RenderAnswers p (FromName p.parts.template name) ps o)
+    (template : Text → Option Tree) → template name ≡ p.parts.template name
+    → AllByRecursion (λ n. template n ≡ p.parts.template n) (answer_names a)
+    → RenderAnswers (with_templates template p) (FromName template name) ps o
+
+-- ---- the same by a name and by its source
+
+abbrev pub IsSamePlace : Spot → Spot → Type 0
+IsSamePlace s t = (s.line ≡ t.line) × (s.column ≡ t.column)
+
+-- Outcomes agree: both end well, both are refused for one reason at one place, or both stop on the way at one thing. The
+-- template that is named may be another.
+abbrev pub Agree : Outcome → Outcome → Type 0
+Agree (Ended s) (Ended t) = Unit {0}
+Agree (Refused r) (Refused q) = (r.reason ≡ q.reason) × IsSamePlace r.spot q.spot
+Agree (Faulted f) (Faulted g) = (f.at_word ≡ g.at_word) × IsSamePlace f.spot g.spot
+Agree NoMemory NoMemory = Unit {0}
+Agree o q = ⊥
+
+-- With these pieces there is an answer whose outcome agrees with this one.
+pub record HasAgreeingAnswer (p : Setting) (begins : Beginning → Type 0) (ps : List Piece) (o : Outcome) : Type 0 where
+  pub outcome : Outcome
+  pub answers : RenderAnswers p begins ps outcome
+  pub agrees : Agree o outcome
+
+-- Where what stands under a name is what a source compiles to under that name, and no inclusion of the run names it, an
+-- answer by the name agrees with one by the source, which has the same pieces.
+abbrev pub NamedAnswerAsSource : Setting → Text → Type 0
+NamedAnswerAsSource p name = (source : Text) (prevent_indent : Bool) (t : Tree) → p.parts.template name ≡ Some t
+    → Compiles source (record { name = Some name; prevent_indent = prevent_indent }) (compiled t)
+    → (ps : List Piece) (o : Outcome) (a : RenderAnswers p (FromName p.parts.template name) ps o)
+    → AllByRecursion (λ n. n ≢ name) (answer_names a)
+    → HasAgreeingAnswer p (FromSource (record { name = None; prevent_indent = prevent_indent }) source) ps o
+
+-- ---- what doesn't matter
+
+-- An answer stays the same under a larger limit, if it is no refusal for the limit, and whatever stands under names that no
+-- inclusion of the run names.
+pub record AnswerStays (p : Setting) (begins : Beginning → Type 0) : Type 0 where
+  pub larger : SameAnswerUnderLarger p begins
+  pub others : AnswerOnlyByNames p begins
+
+-- So does one by a name; and it agrees with one by the source that stands there.
+pub record NamedAnswerStays (p : Setting) (name : Text) : Type 0 where
+  pub larger : SameAnswerUnderLarger p (FromName p.parts.template name)
+  pub others : NamedAnswerOnlyByNames p name
+  pub source : NamedAnswerAsSource p name

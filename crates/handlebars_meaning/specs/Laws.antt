@@ -14,10 +14,11 @@ use Rattle.handlebars_meaning.specs.Runs.{Outcome, Ended, Refused, Faulted, NoMe
 use Rattle.handlebars_meaning.specs.Origins.{HaveOrigins, StandInTrees}
 use Rattle.handlebars_meaning.specs.Visits.{visits, ComeOnce}
 
--- two runs of the same steps that don't stop on the way are one, though it is not told how
+-- Two runs of the same steps that don't stop on the way are one, with its pieces, its outcome and the names of its inclusions,
+-- though it is not told how.
 abbrev pub OneRun : Setting → Type 0
-OneRun p = (k : Steps) (s : State) (ps qs : List Piece) (o q : Outcome)
-    → Runs p k s ps o → Runs p k s qs q → (IsStop o → ⊥) → (IsStop q → ⊥) → ∥ (ps ≡ qs) × (o ≡ q) ∥₁
+OneRun p = (k : Steps) (s : State) (ps qs : List Piece) (o q : Outcome) (a : Runs p k s ps o) (b : Runs p k s qs q)
+    → (IsStop o → ⊥) → (IsStop q → ⊥) → ∥ (ps ≡ qs) × (o ≡ q) × (included_names a ≡ included_names b) ∥₁
 
 -- a run that stops on the way has written a beginning of what the whole run writes
 abbrev pub StopsInBeginning : Setting → Type 0

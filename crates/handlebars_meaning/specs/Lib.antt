@@ -18,3 +18,5 @@ pub mod Origins
 pub mod Laws
 pub mod Counted
 pub mod Answer
+pub mod Compiled
+pub mod Marked

@@ -1,22 +1,27 @@
 -- Where each piece of a run comes from.
-use Rattle.std.specs.Prelude.{◌≡◌, ℕ, slice_get, zero, suc, Bool, true, false, not, ◌&&◌, ◌||◌, List, [], ◌++◌, Option, None, Some, option_map}
+use Rattle.std.specs.Prelude.{◌≡◌, ℕ, slice_get, zero, suc, Bool, true, false, not, ◌&&◌, ◌||◌, List, [], ◌++◌, Option, None, Some, option_map, unwrap_or}
 use Rattle.std.specs.List.{AllByRecursion, Contains}
+use Rattle.std.specs.Str.{bytes_eq}
 use Rattle.serde_json.specs.Data.{Data}
 use Rattle.handlebars_base.specs.Answers.{gives}
 use Rattle.handlebars_base.specs.Bytes.{Text}
 use Rattle.handlebars_base.specs.Optional.{◌>>=◌, with_or}
 use Rattle.handlebars_base.specs.Scoped.{Found, value, missing, present_in}
 use Rattle.handlebars_base.specs.Values.{word}
-use Rattle.handlebars_template.specs.Tree.{Tree, tree_elements, Elements, no_elements, element, Element, raw_string, html_expression, expression, helper_block, decorator_expression, decorator_block, partial_expression, partial_block, Call, call_name, call_args, call_body, call_inverse, is_value, Decorator, decorator_body, decorator_marks, Body, no_body, body}
+use Rattle.handlebars_template.specs.Tree.{Tree, tree_elements, Elements, no_elements, element, Element, raw_string, html_expression, expression, helper_block, decorator_expression, decorator_block, partial_expression, partial_block, Call, call_name, call_args, call_body, call_inverse, is_value, Decorator, decorator_name, decorator_args, decorator_body, decorator_marks, Body, no_body, body}
 use Rattle.handlebars_base.specs.Outputs.{IsPrefix}
 use Rattle.handlebars_helpers.specs.CallView.{CallView}
 use Rattle.handlebars_helpers.specs.Callee.{Target}
 use Rattle.handlebars_helpers.specs.Choice.{Choice, the_value, the_word, the_steps}
+use Rattle.handlebars_helpers.specs.Decoration.{DecoratorKind, Deed, sets_partial}
 use Rattle.handlebars_helpers.specs.Own.{Step, writes, renders_body_in}
 use Rattle.handlebars_scope.specs.Scopes.{Frame}
 use Rattle.handlebars_meaning.specs.CarryOut.{view_with_bodies}
+use Rattle.handlebars_meaning.specs.Inclusion.{Partial, is_local, is_registered, is_own_block, is_current, partial_for}
+use Rattle.handlebars_meaning.specs.Including.{partial_block_name}
+use Rattle.handlebars_meaning.specs.Means.{shown_tag}
 use Rattle.handlebars_meaning.specs.Pieces.{Origin, of_text, of_value, of_raw, of_word, of_step, of_indent, Piece}
-use Rattle.handlebars_meaning.specs.Questions.{value_of, view_of, helper_of, called_as, hook_for, choice_of, escape_of, IsAnswered}
+use Rattle.handlebars_meaning.specs.Questions.{value_of, view_of, helper_of, called_as, hook_for, choice_of, escape_of, decorator_of, deeds_of, IsAnswered}
 use Rattle.handlebars_meaning.specs.Sites.{TreeSite, first_tree, body_at, inverse_at, included_at, Site, element_in}
 use Rattle.handlebars_meaning.specs.State.{Setting, State}
 use Rattle.handlebars_meaning.specs.Visits.{Visit}
@@ -37,21 +42,13 @@ abbrev pub body_tree : Body → Option Tree
 body_tree no_body = None
 body_tree (body t) = Some t
 
--- the call that an element is, and the tag of a decorator or an inclusion
+-- the call that an element is, the tag of a decorator, and that of an inclusion
 abbrev pub element_call : Element → Option Call
 element_call (html_expression c) = Some c
 element_call (expression c) = Some c
 element_call (helper_block c) = Some c
 element_call e = None
 
-abbrev pub element_tag : Element → Option Decorator
-element_tag (decorator_expression t) = Some t
-element_tag (decorator_block t) = Some t
-element_tag (partial_expression t) = Some t
-element_tag (partial_block t) = Some t
-element_tag e = None
-
--- the tag of a decorator alone, and that of an inclusion
 abbrev pub decorator_tag : Element → Option Decorator
 decorator_tag (decorator_expression t) = Some t
 decorator_tag (decorator_block t) = Some t
@@ -70,12 +67,18 @@ abbrev pub is_html : Element → Bool
 is_html (html_expression c) = true
 is_html e = false
 
--- the body and the inverse of an element
+-- The body and the inverse that an element renders: those of a call, and the block of an inclusion. A decorator's tag renders
+-- none.
 abbrev pub element_body : Element → Option Tree
-element_body e = with_or (element_call e) (λ c. body_tree (call_body c)) (element_tag e >>= (λ t. body_tree (decorator_body t)))
+element_body e =
+    with_or (element_call e) (λ c. body_tree (call_body c)) (inclusion_tag e >>= (λ t. body_tree (decorator_body t)))
 
 abbrev pub element_inverse : Element → Option Tree
 element_inverse e = element_call e >>= (λ c. body_tree (call_inverse c))
+
+-- the site of the tree in which an element stands
+abbrev pub tree_site_of : Site → TreeSite
+tree_site_of (element_in at i) = at
 
 -- the tree and the element at their sites, in a run that begins with the tree u
 abbrev mutual
@@ -211,21 +214,58 @@ pub record IsOfStep (p : Setting) (u : Tree) (vs : List Visit) (site : Site) (i 
   pub step : slice_get steps i ≡ Some (writes all)
   pub is : IsPrefix t all
 
--- the indentations of inclusions to which the run comes, joined, those of the outer ones first
-pub data AreIndents (u : Tree) (vs : List Visit) : Text → Type 0 where
-  no_indents : AreIndents u vs []
-  one_indent_more : {t own : Text} (site : Site) (tag : Decorator) → AreIndents u vs t
-      → (element_at u site >>= inclusion_tag) ≡ Some tag → (decorator_marks tag).indent ≡ Some own → IsVisited vs site
-      → AreIndents u vs (t ++ own)
+-- the tag of the decorator or of the inclusion at the site, by its reader, in a state in which the run comes there
+pub record IsTagged (p : Setting) (u : Tree) (vs : List Visit) (site : Site) (tag_of : Element → Option Decorator)
+    (tag : Decorator) (s : State) (v : CallView) : Type 0 where
+  pub stands : (element_at u site >>= tag_of) ≡ Some tag
+  pub reached : IsReached vs site s
+  pub viewed : IsAnswered p s (view_of (decorator_name tag) (decorator_args tag)) (gives v)
 
--- indentations that the element at the site writes, to which the run comes, or a beginning of them, where the run stopped
--- within
-pub record IsOfIndent (u : Tree) (vs : List Visit) (site : Site) (t : Text) : Type 0 where
+-- What an inclusion by a tag of this view finds by its name in a state. It isn't the name of the template whose elements are
+-- being rendered, which is refused, nor that of a kept text, which is written.
+pub record Finds (p : Setting) (tag : Decorator) (s : State) (v : CallView) (found : Partial) : Type 0 where
+  pub other : is_current v.name s.current ≡ false
+  pub no_kept : bytes_eq partial_block_name v.name ≡ false
+  pub finds : partial_for p.parts s v.name (decorator_body tag) ≡ found
+
+-- the indentation of a tag, or none
+abbrev pub own_indent : Decorator → Text
+own_indent tag = unwrap_or (decorator_marks tag).indent []
+
+-- The block of an inclusion's tag is rendered in no inclusion by that tag: ahead of the tree that its name finds, or in the
+-- place of a kept text, where its name is that of the kept text.
+pub data IsBlockAlone (p : Setting) (tag : Decorator) (s : State) (v : CallView) : Type 0 where
+  ahead_of_local : {t : Tree} → Finds p tag s v (is_local t) → IsBlockAlone p tag s v
+  ahead_of_registered : {t : Tree} → Finds p tag s v (is_registered t) → IsBlockAlone p tag s v
+  in_place_of_kept : bytes_eq partial_block_name v.name ≡ true → IsBlockAlone p tag s v
+
+-- The indentations of the inclusions around a tree of a run, joined, the outer ones first. The first tree has none around
+-- it. The body and the inverse of a call have those around it, and so has the block of an inclusion's tag that is rendered
+-- alone. A tree that an inclusion includes has that one's too: what its name finds, be it the tag's own block.
+pub data AreIndents (p : Setting) (u : Tree) (vs : List Visit) : TreeSite → Text → Type 0 where
+  around_first : AreIndents p u vs first_tree []
+  around_body : {at : TreeSite} {i j : ℕ} {c : Call} {t : Text} → AreIndents p u vs at t
+      → (element_at u (element_in at i) >>= element_call) ≡ Some c → AreIndents p u vs (body_at (element_in at i) j) t
+  around_inverse : {at : TreeSite} {i j : ℕ} {t : Text} → AreIndents p u vs at t
+      → AreIndents p u vs (inverse_at (element_in at i) j) t
+  around_block : {at : TreeSite} {i : ℕ} {tag : Decorator} {s : State} {v : CallView} {t : Text} → AreIndents p u vs at t
+      → IsTagged p u vs (element_in at i) inclusion_tag tag s v → IsBlockAlone p tag s v
+      → AreIndents p u vs (body_at (element_in at i) 0) t
+  around_included : {at : TreeSite} {i : ℕ} {x : Tree} {tag : Decorator} {t : Text} → AreIndents p u vs at t
+      → (element_at u (element_in at i) >>= inclusion_tag) ≡ Some tag
+      → AreIndents p u vs (included_at (element_in at i) x) (t ++ own_indent tag)
+  around_own_block : {at : TreeSite} {i : ℕ} {x : Tree} {tag : Decorator} {s : State} {v : CallView} {t : Text}
+      → AreIndents p u vs at t → IsTagged p u vs (element_in at i) inclusion_tag tag s v
+      → Finds p tag s v (is_own_block x) → AreIndents p u vs (body_at (element_in at i) 0) (t ++ own_indent tag)
+
+-- the indentations around the element at the site, to which the run comes and which writes them, or a beginning of them,
+-- where the run stopped within
+pub record IsOfIndent (p : Setting) (u : Tree) (vs : List Visit) (site : Site) (t : Text) : Type 0 where
   pub writer : Element
   pub stands : element_at u site ≡ Some writer
   pub visited : IsVisited vs site
   pub all : Text
-  pub indents : AreIndents u vs all
+  pub indents : AreIndents p u vs (tree_site_of site) all
   pub is : IsPrefix t all
 
 -- Of a run over the tree u that comes to these sites.
@@ -235,7 +275,7 @@ ComesFrom p u vs (of_value site found) t = IsOfShown p u vs true site found t
 ComesFrom p u vs (of_raw site found) t = IsOfShown p u vs false site found t
 ComesFrom p u vs (of_word site b) t = IsOfWord p u vs site b t
 ComesFrom p u vs (of_step site i) t = IsOfStep p u vs site i t
-ComesFrom p u vs (of_indent site) t = IsOfIndent u vs site t
+ComesFrom p u vs (of_indent site) t = IsOfIndent p u vs site t
 
 abbrev pub HasOrigin : Setting → Tree → List Visit → Piece → Type 0
 HasOrigin p u vs piece = ComesFrom p u vs piece.origin piece.text
@@ -258,27 +298,43 @@ pub record IsHandedOver (p : Setting) (u : Tree) (vs : List Visit) (f : Frame) :
   pub index : ℕ
   pub step : slice_get steps index ≡ Some (renders_body_in f)
 
--- A local partial of a run: the body of a decorator's tag to which the run comes; or one that stood in a block before, with
--- which the run began or which a helper of one's own handed over.
-pub data IsLocalOfRun (p : Setting) (u : Tree) (blocks : List Frame) (vs : List Visit) : Tree → Type 0 where
-  set_by : {t : Tree} (site : Site) (tag : Decorator) → (element_at u site >>= decorator_tag) ≡ Some tag
-      → decorator_body tag ≡ body t → IsVisited vs site → IsLocalOfRun p u blocks vs t
-  stood_in : {t : Tree} (f : Frame) (n : Text) → Contains blocks f → f.partial n ≡ Some t → IsLocalOfRun p u blocks vs t
-  handed_over : {t : Tree} (f : Frame) (n : Text) → IsHandedOver p u vs f → f.partial n ≡ Some t
-      → IsLocalOfRun p u blocks vs t
+-- The decorator of a tag of this view has a deed in a state that sets this partial under this name: the tag's body.
+pub record SetsPartial (p : Setting) (tag : Decorator) (s : State) (v : CallView) (n : Text) (t : Tree) : Type 0 where
+  pub kind : DecoratorKind
+  pub named : IsAnswered p s (decorator_of v.name) (gives kind)
+  pub deeds : List Deed
+  pub answers : IsAnswered p s (deeds_of kind (shown_tag s.indent tag v)) (gives deeds)
+  pub sets : Contains deeds (sets_partial n)
+  pub is : decorator_body tag ≡ body t
 
--- A tree of a run that begins with the tree u in these blocks: that one; a body or an inverse in one of the run; or a local
--- partial or a registered tree that an inclusion in one of the run found.
-pub data IsTreeOfRun (p : Setting) (u : Tree) (blocks : List Frame) (vs : List Visit) : TreeSite → Type 0 where
-  is_first : IsTreeOfRun p u blocks vs first_tree
-  is_body : {at : TreeSite} {i j : ℕ} → IsTreeOfRun p u blocks vs at
-      → IsTreeOfRun p u blocks vs (body_at (element_in at i) j)
-  is_inverse : {at : TreeSite} {i j : ℕ} → IsTreeOfRun p u blocks vs at
-      → IsTreeOfRun p u blocks vs (inverse_at (element_in at i) j)
-  is_local_of : {at : TreeSite} {i : ℕ} {t : Tree} → IsTreeOfRun p u blocks vs at → IsLocalOfRun p u blocks vs t
-      → IsTreeOfRun p u blocks vs (included_at (element_in at i) t)
-  is_stored : {at : TreeSite} {i : ℕ} {n : Text} {t : Tree} → IsTreeOfRun p u blocks vs at → p.parts.template n ≡ Some t
-      → IsTreeOfRun p u blocks vs (included_at (element_in at i) t)
+mutual
+  -- A tree of a run that begins with the tree u in these blocks: that one; a body or an inverse of an element in one of the
+  -- run, to which the run comes; or the tree that the name of an inclusion's tag in one of the run finds, to which the run
+  -- comes: a local partial of the run, or a registered tree.
+  pub data IsTreeOfRun (p : Setting) (u : Tree) (blocks : List Frame) (vs : List Visit) : TreeSite → Type 0 where
+    is_first : IsTreeOfRun p u blocks vs first_tree
+    is_body : {at : TreeSite} {i j : ℕ} {t : Tree} → IsTreeOfRun p u blocks vs at → IsVisited vs (element_in at i)
+        → (element_at u (element_in at i) >>= element_body) ≡ Some t → IsTreeOfRun p u blocks vs (body_at (element_in at i) j)
+    is_inverse : {at : TreeSite} {i j : ℕ} {t : Tree} → IsTreeOfRun p u blocks vs at → IsVisited vs (element_in at i)
+        → (element_at u (element_in at i) >>= element_inverse) ≡ Some t
+        → IsTreeOfRun p u blocks vs (inverse_at (element_in at i) j)
+    is_local_of : {at : TreeSite} {i : ℕ} {t : Tree} {tag : Decorator} {s : State} {v : CallView}
+        → IsTreeOfRun p u blocks vs at → IsTagged p u vs (element_in at i) inclusion_tag tag s v
+        → Finds p tag s v (is_local t) → IsLocalOfRun p u blocks vs v.name t
+        → IsTreeOfRun p u blocks vs (included_at (element_in at i) t)
+    is_stored : {at : TreeSite} {i : ℕ} {t : Tree} {tag : Decorator} {s : State} {v : CallView}
+        → IsTreeOfRun p u blocks vs at → IsTagged p u vs (element_in at i) inclusion_tag tag s v
+        → Finds p tag s v (is_registered t) → IsTreeOfRun p u blocks vs (included_at (element_in at i) t)
+
+  -- A local partial of a run, by its name: one that the decorator of a tag in a tree of the run sets, to which the run comes;
+  -- or one that stood in a block before, with which the run began or which a helper of one's own handed over.
+  pub data IsLocalOfRun (p : Setting) (u : Tree) (blocks : List Frame) (vs : List Visit) : Text → Tree → Type 0 where
+    set_by : {at : TreeSite} {i : ℕ} {n : Text} {t : Tree} {tag : Decorator} {s : State} {v : CallView}
+        → IsTreeOfRun p u blocks vs at → IsTagged p u vs (element_in at i) decorator_tag tag s v
+        → SetsPartial p tag s v n t → IsLocalOfRun p u blocks vs n t
+    stood_in : {n : Text} {t : Tree} (f : Frame) → Contains blocks f → f.partial n ≡ Some t → IsLocalOfRun p u blocks vs n t
+    handed_over : {n : Text} {t : Tree} (f : Frame) → IsHandedOver p u vs f → f.partial n ≡ Some t
+        → IsLocalOfRun p u blocks vs n t
 
 -- a site in a tree of a run
 abbrev pub IsSiteOfRun : Setting → Tree → List Frame → List Visit → Site → Type 0

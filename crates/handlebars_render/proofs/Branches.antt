@@ -19,7 +19,8 @@ use Rattle.handlebars_meaning.specs.Means.{render_call}
 use Rattle.handlebars_meaning.specs.Sites.{Site}
 use Rattle.handlebars_meaning.specs.State.{Setting, State, helper_for}
 use Rattle.handlebars_meaning.specs.Values.{HasName, HasValue, HasView, as_written, path_value}
-use Rattle.handlebars_render.specs.Next.{Judges, LeavesCall, path_alone, wanting}
+use Rattle.handlebars_render.specs.Next.{Judges, LeavesCall, wanting}
+use Rattle.handlebars_render.specs.Places.{path_alone}
 use Rattle.handlebars_render.specs.View.{RefusesValue}
 use Rattle.handlebars_render.proofs.Leaves.{leaves-called, refuses-view}
 use Rattle.handlebars_render.proofs.LoneValues.{reached-none, reached-value}

@@ -29,7 +29,7 @@ use Rattle.handlebars_render.specs.declared.boxed.BoxedError.{BoxedError}
 use Rattle.handlebars_render.specs.Next.{ComesTo, IsCall, Leaves, LeavesCall, Settles}
 use Rattle.handlebars_render.specs.View.{Moment, Answered, CarriesOn, CarriesOut, GivesValue, RefusesValue, goes_on, is_over, name_alone, with_line}
 use Rattle.handlebars_render.specs.declared.next.Next.{Next}
-use Rattle.handlebars_render.specs.declared.next.Next.TheVariants.{Done, Branch, Call as Calls, Hook as Hooks}
+use Rattle.handlebars_render.specs.declared.next.Next.TheVariants.{Done, Branch, Each, With, Call as Calls, Hook as Hooks}
 use Rattle.handlebars_render.proofs.BoundCalls.{choice-line}
 use Rattle.handlebars_render.proofs.Asked.{gives-ask, refuses-ask, refuses-bind}
 use Rattle.handlebars_render.proofs.Carry.{at, carries-no_value}
@@ -226,6 +226,8 @@ module _ (p : Setting) (may : Error → Type 0) where
         → Leaves p m s n → ComesTo p site block c n may (at s h) r new → ComesTo p site block c m may (at s h) r new
     comes_to-leaves m n s h new (Ok (Done line)) leaves a = leaves-carries_on m n leaves a
     comes_to-leaves m n s h new (Ok (Branch b)) leaves a = (call-leaves p site block c m n leaves a.0, a.1)
+    comes_to-leaves m n s h new (Ok (Each place)) leaves a = ((call-leaves p site block c m n leaves a.0.0, a.0.1), a.1)
+    comes_to-leaves m n s h new (Ok (With place)) leaves a = ((call-leaves p site block c m n leaves a.0.0, a.0.1), a.1)
     comes_to-leaves m n s h new (Ok (Calls x)) leaves a = (call-leaves p site block c m n leaves a.0, a.1)
     comes_to-leaves m n s h new (Ok (Hooks x)) leaves a = (call-leaves p site block c m n leaves a.0, a.1)
     comes_to-leaves m n s h new (Err e) leaves a = leaves-carries_on m n leaves a
@@ -238,6 +240,8 @@ module _ (p : Setting) (may : Error → Type 0) where
         (subst (λ (z : LineState). CarriesOn p m may (at s h) (Ok tt) (at (with_line z s) h)) (sym a.1)
         (carries_on-gives m a.0))
     comes_to-settles m s h new (Ok (Branch b)) same a = (a, same)
+    comes_to-settles m s h new (Ok (Each place)) same a = (a, same)
+    comes_to-settles m s h new (Ok (With place)) same a = (a, same)
     comes_to-settles m s h new (Ok (Calls x)) same a = (a, same)
     comes_to-settles m s h new (Ok (Hooks x)) same a = (a, same)
     comes_to-settles m s h new (Err e) same a =
@@ -262,6 +266,8 @@ module _ (p : Setting) (site : Site) (block : Bool) (c : Call) where
       → IsCall p s block k v r → Leaves p m s (render_helped site block c k v) → Settles p site block c m s r
   settles-call m k v (Ok (Done line)) is leaves = absurd is
   settles-call m k v (Ok (Branch b)) is leaves = absurd is
+  settles-call m k v (Ok (Each place)) is leaves = absurd is
+  settles-call m k v (Ok (With place)) is leaves = absurd is
   settles-call m k v (Ok (Calls b)) is leaves = record { target = k; view = v; leaves = leaves; chooses = is c }
   settles-call m k v (Ok (Hooks b)) is leaves = absurd is
   settles-call m k v (Err e) is leaves = λ other.
@@ -281,6 +287,8 @@ module _ (p : Setting) (site : Site) (block : Bool) (c : Call) where
       → Settles p site block c n s r → Settles p site block c m s r
   settles-leaves m n (Ok (Done line)) leaves a = ((λ k ps o r. leaves k ps o (a.0 k ps o r)), a.1)
   settles-leaves m n (Ok (Branch b)) leaves a = call-leaves p site block c m n leaves a
+  settles-leaves m n (Ok (Each place)) leaves a = (call-leaves p site block c m n leaves a.0, a.1)
+  settles-leaves m n (Ok (With place)) leaves a = (call-leaves p site block c m n leaves a.0, a.1)
   settles-leaves m n (Ok (Calls x)) leaves a = call-leaves p site block c m n leaves a
   settles-leaves m n (Ok (Hooks x)) leaves a = call-leaves p site block c m n leaves a
   settles-leaves m n (Err e) leaves a = λ other. refuses-leaves p m n leaves (a other)

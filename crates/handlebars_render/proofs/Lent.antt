@@ -1,5 +1,6 @@
 -- States whose blocks are lent their bases.
-use Rattle.std.proofs.Common.{◌≡◌, List, [], ◌∷◌, Option, Some, None, refl, sym, ap, ◌∙◌}
+use Rattle.std.proofs.Common.{◌≡◌, List, [], ◌∷◌, Option, Some, None, option_map, refl, sym, ap, ◌∙◌}
+use Rattle.std.proofs.lemmas.List.{append-nil}
 use Rattle.serde_json.specs.Data.{Data}
 use Rattle.std.specs.Prelude.{unwrap_or}
 use Rattle.handlebars_base.specs.Answers.{Answer, answer_map, gives, refuses}
@@ -12,7 +13,10 @@ use Rattle.handlebars_scope.specs.Resolve.{or_else, resolve}
 use Rattle.handlebars_scope.specs.Scopes.{Frame}
 use Rattle.handlebars_scope.specs.declared.context.bases.Bases.TheVariants.{Outside}
 use Rattle.handlebars_scope.proofs.Bases.{bases_of-Outside}
-use Rattle.handlebars_meaning.specs.State.{State, pop_frame, nearest_as, nearest_variables, outer_frames, partial_in, with_nearest, with_partial}
+use Rattle.handlebars_meaning.specs.Inclusion.{newest}
+use Rattle.handlebars_meaning.specs.Pieces.{join, of_text}
+use Rattle.handlebars_meaning.specs.Sites.{element_in, first_tree}
+use Rattle.handlebars_meaning.specs.State.{KeptBlocks, State, pop_frame, nearest_as, nearest_variables, outer_frames, partial_in, with_nearest, with_partial}
 use Rattle.handlebars_meaning.specs.Values.{as_read, without_path}
 use Rattle.handlebars_render.specs.View.{KeptIn, IsUnlent, Within, with_current, keeping, lending, read_in}
 
@@ -20,6 +24,18 @@ use Rattle.handlebars_render.specs.View.{KeptIn, IsUnlent, Within, with_current,
 
 abbrev pub kept-outside : KeptIn (record { text = None; inclusions = 0; indent = None; bases = bases_of Outside })
 kept-outside = record { pieces = []; bases = []; holds = refl; lent = sym bases_of-Outside }
+
+abbrev kept_text : Option Text → KeptBlocks
+kept_text None = []
+kept_text (Some t) = Some (record { origin = of_text (element_in first_tree 0); text = t } ∷ []) ∷ []
+
+kept_text-holds : (t : Option Text) → option_map join (newest (kept_text t)) ≡ t
+kept_text-holds None = refl
+kept_text-holds (Some t) = ap (λ (u : Text). Some u) (append-nil t)
+
+-- there are pieces whose text is kept
+pub kept-any : (w : Within) → KeptIn w
+kept-any w = record { pieces = kept_text w.text; bases = w.bases; holds = kept_text-holds w.text; lent = refl }
 
 -- one more block is lent this, or nothing
 abbrev pub one_more : {w : Within} → KeptIn w → (b : Option Data) {bs : List (Option Data)} → bs ≡ b ∷ w.bases

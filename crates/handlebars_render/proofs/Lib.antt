@@ -2,6 +2,7 @@ pub mod Carry
 pub mod Puts
 mod Asked
 mod Branches
+mod Places
 mod Elements
 mod Calls
 mod Leaves

@@ -1,31 +1,24 @@
 -- The nodes that are lent to blocks.
-use Rattle.std.proofs.Common.{◌≡◌, ◌<◌, ◌^◌, ◌++◌, ℕ, List, [], ◌∷◌, Option, None, Some, option_map, Bor, decimal, IfSome, refl, sym, ap, ◌∙◌, subst}
+use Rattle.std.proofs.Common.{◌≡◌, ◌<◌, ◌^◌, ℕ, List, [], ◌∷◌, Option, None, Some, option_map, Bor, decimal, IfSome, refl, sym, ap, ◌∙◌, subst}
 use Rattle.serde_json.specs.Data.{Data, null, boolean, number, string, array, object}
 use Rattle.serde_json.specs.Find.{at, get}
 use Rattle.serde_json.specs.View.{view}
 use Rattle.serde_json.specs.declared.value.Value.{Value}
 use Rattle.handlebars_base.specs.Answers.{Answer, gives}
 use Rattle.handlebars_base.specs.Bytes.{Text}
-use Rattle.handlebars_scope.specs.Bases.{IsNode, NodesLead, lent_behind, nodes_of}
+use Rattle.handlebars_scope.specs.Bases.{IsNode, NodesLead, lent_behind}
 use Rattle.handlebars_scope.specs.Resolve.{item_at, member_at, then_at, value_at}
 use Rattle.handlebars_scope.specs.Scopes.{Frame}
-use Rattle.handlebars_scope.specs.declared.context.bases.Bases.{Bases}
-use Rattle.handlebars_scope.specs.declared.context.bases.Bases.TheVariants.{Outside}
-use Rattle.handlebars_scope.proofs.Bases.{nodes-behind, nodes_of-Outside}
 use Rattle.handlebars_scope.proofs.IndexNames.{index_of-decimal}
 use Rattle.handlebars_scope.proofs.Ways.{value_at-on}
 use Rattle.handlebars_template.specs.Tree.{Binding}
 use Rattle.handlebars_helpers.specs.Turns.{Turn, turn_frame, turn_name}
-use Rattle.handlebars_meaning.specs.State.{State, nearest_as, outer_frames}
+use Rattle.handlebars_meaning.specs.State.{nearest_as, outer_frames}
 use Rattle.handlebars_render.specs.Nodes.{IsNodeAt, below}
 use Rattle.handlebars_render.specs.View.{HasOuter, IsKept, state_of, without_partials}
 use Rattle.handlebars_render.specs.declared.context.RenderContext.{RenderContext}
 
 -- ---- outside of every block
-
-pub nodes-outside : (bases : Bases) (fs : List Frame) (d : Data) → bases ≡ Outside → NodesLead (nodes_of bases) fs d
-nodes-outside bases fs d is =
-    subst (λ (ns : List (Option Data)). NodesLead ns fs d) (sym (ap nodes_of is ∙ nodes_of-Outside)) tt
 
 pub nodes-empty : {ns : List (Option Data)} (fs : List Frame) (d : Data) → ns ≡ [] → NodesLead ns fs d
 nodes-empty fs d is = subst (λ (ns : List (Option Data)). NodesLead ns fs d) (sym is) tt

@@ -1,6 +1,6 @@
 -- What the calls that write a text say.
 use Rattle.std.proofs.Common.{◌≡◌, ◌≢◌, Bool, true, false, [], Option, None, Some, Result, Ok, Err, refl, sym, ap, ◌∙◌, subst, append-nil, inl, inr}
-use Rattle.std.specs.Prelude.{unwrap_or, IfErr, IfOk, IsErrAnd}
+use Rattle.std.specs.Prelude.{unwrap_or, IfOk, IsErrAnd}
 use Rattle.std.specs.declared.io.Error.{Error}
 use Rattle.std.specs.declared.io.ErrorKind.TheVariants.{OutOfMemory}
 use Rattle.std.specs.IoError.{error_kind}
@@ -12,7 +12,7 @@ use Rattle.handlebars_base.specs.declared.error.render_error.RenderError.{Render
 use Rattle.handlebars_base.specs.declared.error.render_error.RenderErrorReason.TheVariants.{IOError}
 use Rattle.handlebars_base.specs.Values.{rendered}
 use Rattle.handlebars_base.specs.declared.output.StringOutput.{StringOutput}
-use Rattle.handlebars_base.specs.Outputs.{Held, IsWhole, IsCutOff, Written, held_of, write_reason}
+use Rattle.handlebars_base.specs.Outputs.{Held, IsWhole, IsCutOff, held_of, write_reason}
 use Rattle.handlebars_base.specs.Escape.{escaped}
 use Rattle.handlebars_scope.specs.LineState.{LineState, line_behind}
 use Rattle.handlebars_base.specs.Shown.{escaped_if}

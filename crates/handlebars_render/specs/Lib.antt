@@ -8,6 +8,7 @@ pub mod Shows
 pub mod Writes
 pub mod OwnChoice
 pub mod Lending
+pub mod Places
 pub mod Next
 pub mod Silent
 pub mod Inclusions

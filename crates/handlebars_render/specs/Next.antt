@@ -8,7 +8,7 @@ use Rattle.handlebars_base.specs.RenderRefusals.{reason_in, refusal_of}
 use Rattle.handlebars_base.specs.Scoped.{Found, data_in}
 use Rattle.handlebars_base.specs.Values.{truth}
 use Rattle.handlebars_base.specs.declared.error.render_error.RenderError.{RenderError}
-use Rattle.handlebars_template.specs.Tree.{Args, Call, args, no_pairs, no_params, param, path}
+use Rattle.handlebars_template.specs.Tree.{Call, path}
 use Rattle.handlebars_scope.specs.LineView.{line_of}
 use Rattle.handlebars_base.specs.Outputs.{Held}
 use Rattle.handlebars_meaning.specs.Pieces.{Piece}
@@ -26,8 +26,9 @@ use Rattle.handlebars_meaning.specs.Steps.{Steps, Prog}
 use Rattle.handlebars_meaning.specs.Values.{HasValue}
 use Rattle.handlebars_render.specs.View.{Moment, CarriesOn, GivesValue, RefusesValue, called_view, with_line}
 use Rattle.handlebars_render.specs.Bound.{GoesTo, callee_in}
+use Rattle.handlebars_render.specs.Places.{IsThere, block_of, turns_at}
 use Rattle.handlebars_render.specs.declared.next.Next.{Next}
-use Rattle.handlebars_render.specs.declared.next.Next.TheVariants.{Done, Branch, Call as Calls, Hook as Hooks}
+use Rattle.handlebars_render.specs.declared.next.Next.TheVariants.{Done, Branch, Each, With, Call as Calls, Hook as Hooks}
 use Rattle.handlebars_render.specs.declared.bound.BoundCall.{BoundCall}
 
 -- The helper of a call is asked what it chooses, and that is carried out, in the bracket of a call or without it.
@@ -55,6 +56,10 @@ HasBoundChoice p s block c b = HasRegisteredChoice p s (callee_in b) (view_with_
 abbrev pub Settles : Setting → Site → Bool → Call → Prog (Unit {0}) → State → Result Next RenderError → Type 0
 Settles p site block c m s (Ok (Done line)) = GivesValue p m s tt × (line_of line ≡ s.line)
 Settles p site block c m s (Ok (Branch b)) = LeavesCall p site block c m s true (only (gives (body_if b)))
+Settles p site block c m s (Ok (Each place)) =
+    LeavesCall p site block c m s true (only (gives (turns_at place.value))) × IsThere p.given place.value
+Settles p site block c m s (Ok (With place)) =
+    LeavesCall p site block c m s true (only (gives (block_of place.value))) × IsThere p.given place.value
 Settles p site block c m s (Ok (Calls b)) = LeavesCall p site block c m s true (HasBoundChoice p s block c b.value)
 Settles p site block c m s (Ok (Hooks b)) = LeavesCall p site block c m s false (HasBoundChoice p s block c b.value)
 Settles p site block c m s (Err e) = reason_in e ≢ out_of_memory → RefusesValue p m s (refusal_of e)
@@ -67,6 +72,12 @@ ComesTo p site block c m may before (Ok (Done line)) held =
     CarriesOn p m may before (Ok tt) (record { state = with_line (line_of line) before.state; held = held })
 ComesTo p site block c m may before (Ok (Branch b)) held =
     LeavesCall p site block c m before.state true (only (gives (body_if b))) × (held ≡ before.held)
+ComesTo p site block c m may before (Ok (Each place)) held =
+    (LeavesCall p site block c m before.state true (only (gives (turns_at place.value))) × IsThere p.given place.value)
+    × (held ≡ before.held)
+ComesTo p site block c m may before (Ok (With place)) held =
+    (LeavesCall p site block c m before.state true (only (gives (block_of place.value))) × IsThere p.given place.value)
+    × (held ≡ before.held)
 ComesTo p site block c m may before (Ok (Calls b)) held =
     LeavesCall p site block c m before.state true (HasBoundChoice p before.state block c b.value) × (held ≡ before.held)
 ComesTo p site block c m may before (Ok (Hooks b)) held =
@@ -78,6 +89,8 @@ ComesTo p site block c m may before (Err e) held =
 abbrev pub IsCall : Setting → State → Bool → Target → CallView → Result Next RenderError → Type 0
 IsCall p s block k v (Ok (Done line)) = ⊥
 IsCall p s block k v (Ok (Branch b)) = ⊥
+IsCall p s block k v (Ok (Each place)) = ⊥
+IsCall p s block k v (Ok (With place)) = ⊥
 IsCall p s block k v (Ok (Calls b)) = GoesTo p s block k v (Ok b)
 IsCall p s block k v (Ok (Hooks b)) = ⊥
 IsCall p s block k v (Err e) = GoesTo p s block k v (Err e)
@@ -88,10 +101,6 @@ IsCall p s block k v (Err e) = GoesTo p s block k v (Err e)
 abbrev pub wanting : Bool → Kind
 wanting true = kind_if
 wanting false = kind_unless
-
--- a path as the only parameter, without pairs
-abbrev pub path_alone : Reference → Args
-path_alone r = args (param (path r) no_params) no_pairs
 
 -- Whether the value of the path counts as true, or it is refused.
 abbrev pub Judges : Setting → State → Reference → Result Bool RenderError → Type 0

@@ -1,12 +1,17 @@
 //! Rendering blocks and expressions, and what their helpers choose.
 
-ghost use Rattle.std.specs.Prelude.{◌≡◌, Bool};
+ghost use Rattle.std.specs.Prelude.{◌≡◌, Bool, option_map};
+ghost use Rattle.serde_json.specs.View.{view};
 ghost use Rattle.handlebars_template.specs.TreeView.{call_view};
+ghost use Rattle.handlebars_scope.specs.Bases.{IsNode};
+ghost use Rattle.handlebars_scope.specs.Contexts.{data_of};
+ghost use Rattle.handlebars_scope.specs.ScopeView.{frame_of};
 ghost use Rattle.handlebars_scope.specs.LineState.{LineState};
 ghost use Rattle.handlebars_base.specs.Answers.{gives};
 ghost use Rattle.handlebars_helpers.specs.CallView.{CallView};
 ghost use Rattle.handlebars_helpers.specs.Callee as calls;
 ghost use Rattle.handlebars_helpers.specs.Choice.{body_if};
+ghost use Rattle.handlebars_helpers.specs.View.{path_view};
 ghost use Rattle.handlebars_meaning.specs.CarryOut.{view_with_bodies, render_branch};
 ghost use Rattle.handlebars_meaning.specs.Means.{line_in, line_out, render_chosen, render_helped, render_tag};
 ghost use Rattle.handlebars_meaning.specs.Questions.{HasChoice};
@@ -14,21 +19,28 @@ ghost use Rattle.handlebars_meaning.specs.Sites.{Site, TreeSite};
 ghost use Rattle.handlebars_render.specs.Bound.{callee_in};
 ghost use Rattle.handlebars_render.specs.Chosen.{part_if, part_view, render_rest};
 ghost use Rattle.handlebars_render.specs.Judgement.{Carries, CarriesWith, Stays};
+ghost use Rattle.handlebars_render.specs.Nodes.{IsNodeAt};
+ghost use Rattle.handlebars_render.specs.Places.{IsThere, block_of, turns_at};
 ghost use Rattle.handlebars_render.specs.Targets.{ChoosesFor};
 ghost use Rattle.handlebars_render.specs.View.{IsKept, KeptIn, called_view, setting_in, state_of, state_with, within, HasNodes};
 
 use crate::bound::BoundCall;
 use crate::boxed::BoxedError;
-use crate::chosen::{ToRender, settle_choice};
+use crate::chosen::{ToRender, block_at, settle_choice};
 use crate::context::RenderContext;
-use crate::each::{block_node, render_each, render_in};
+use crate::each::{render_each, render_in};
 use crate::environment::Environment;
 use crate::next::{Next, settle_tag};
 use crate::registered::Registered;
 use crate::sink::Sink;
 use crate::steps::take_steps;
 use crate::tree::render_tree;
+use handlebars_base::json::value::Json;
 use handlebars_base::output::Output;
+use handlebars_helpers::each_turns::Turns;
+use handlebars_helpers::turn::Base;
+use handlebars_scope::block::BlockContext;
+use handlebars_scope::context::place::Place;
 use handlebars_template::template::{HelperTemplate, Template};
 
 /// Renders a block, or an expression: a value is written, or a helper is called.
@@ -51,6 +63,8 @@ pub fn render_tag<'a, O: Output, P: Registered>(
             Ok(())
         }
         Ok(Next::Branch(truth)) => render_branch(helper, environment, truth, rc, sink),
+        Ok(Next::Each(place)) => call_each(helper, environment, place, rc, sink),
+        Ok(Next::With(place)) => call_with(helper, environment, place, rc, sink),
         Ok(Next::Call(bound)) => render_call(helper, environment, block, bound, rc, sink),
         Ok(Next::Hook(bound)) => render_chosen(helper, environment, block, bound, rc, sink),
         Err(e) => Err(e),
@@ -78,6 +92,67 @@ fn render_branch<'a, O: Output, P: Registered>(
     let produced = rc.get_content_produced();
     enter_call(rc, helper.indent_before_write);
     let answer = render_part(part_if(helper, truth), environment, rc, sink);
+    leave_call(rc, before, produced);
+    answer
+}
+
+// Renders the body of a call of `each` over what stands here in the data, in the bracket of the call.
+#[cycle(render)]
+fn call_each<'a, O: Output, P: Registered>(
+    helper: &'a HelperTemplate,
+    environment: &Environment<'_, 'a, P>,
+    place: Box<Place<'a>>,
+    rc: &mut RenderContext,
+    sink: &mut Sink<'_, O>,
+) -> Result<(), BoxedError>
+    requires nodes { HasNodes environment.now rc.old }
+    requires node { IsThere (data_of environment.now.given.now) place.value }
+    ensures renders { (site : Site) (block : Bool) (target : calls.Target) (v : CallView) (kept : KeptIn (within environment.now))
+        → HasChoice (setting_in P.parts environment.now) (state_with kept rc.old) target
+        (view_with_bodies block (call_view helper.now) v) (gives (turns_at place.entry.value))
+        → CarriesWith P.parts O.held O.may_give environment.now rc sink result kept
+        (render_helped site block (call_view helper.now) target v) }
+    ensures stays { Stays rc sink }
+{
+    let before = rc.get_indent_before_write();
+    let produced = rc.get_content_produced();
+    enter_call(rc, helper.indent_before_write);
+    let answer = render_each(
+        helper,
+        environment,
+        Some(&place.path),
+        Some(place.node),
+        Turns::of(place.node),
+        rc,
+        sink,
+    );
+    leave_call(rc, before, produced);
+    answer
+}
+
+// Renders the body of a call of `with` in a block that stands here in the data, in the bracket of the call.
+#[cycle(render)]
+fn call_with<'a, O: Output, P: Registered>(
+    helper: &'a HelperTemplate,
+    environment: &Environment<'_, 'a, P>,
+    place: Box<Place<'a>>,
+    rc: &mut RenderContext,
+    sink: &mut Sink<'_, O>,
+) -> Result<(), BoxedError>
+    requires nodes { HasNodes environment.now rc.old }
+    requires node { IsThere (data_of environment.now.given.now) place.value }
+    ensures renders { (site : Site) (block : Bool) (target : calls.Target) (v : CallView) (kept : KeptIn (within environment.now))
+        → HasChoice (setting_in P.parts environment.now) (state_with kept rc.old) target
+        (view_with_bodies block (call_view helper.now) v) (gives (block_of place.entry.value))
+        → CarriesWith P.parts O.held O.may_give environment.now rc sink result kept
+        (render_helped site block (call_view helper.now) target v) }
+    ensures stays { Stays rc sink }
+{
+    let before = rc.get_indent_before_write();
+    let produced = rc.get_content_produced();
+    let scope = block_at(environment.alloc, helper, Base::Path(&place.path), rc)?;
+    enter_call(rc, helper.indent_before_write);
+    let answer = render_in(helper, environment, scope, Some(place.node), rc, sink);
     leave_call(rc, before, produced);
     answer
 }
@@ -178,13 +253,39 @@ fn render_rest<'a, O: Output, P: Registered>(
         ToRender::Body => render_part(part_if(helper, true), environment, rc, sink),
         ToRender::Inverse => render_part(part_if(helper, false), environment, rc, sink),
         ToRender::BodyIn(scope) => {
-            let node = block_node(environment.given, &scope);
+            let node = block_node(environment, &scope, rc);
             render_in(helper, environment, scope, node, rc, sink)
         }
         ToRender::BodyInTurns(path, turns) => {
-            render_each(helper, environment, path, turns, rc, sink)
+            let node = node_at(environment, path, rc);
+            render_each(helper, environment, path, node, turns, rc, sink)
         }
         ToRender::Steps(steps) => take_steps(helper, environment, steps, rc, sink),
+    }
+}
+
+// The value of the given data that the base path of a block leads to.
+fn block_node<'a, P: Registered>(
+    environment: &Environment<'_, 'a, P>,
+    scope: &BlockContext,
+    rc: &RenderContext,
+) -> Option<&'a Json>
+    ensures { IsNode (data_of environment.now.given.now) (frame_of scope.now).base_path (option_map (λ v. view v.now) result) }
+{
+    rc.node_at(environment.given.data(), scope.base_path())
+}
+
+// The value of the given data that a path leads to, if there is a path.
+fn node_at<'a, P: Registered>(
+    environment: &Environment<'_, 'a, P>,
+    path: Option<&Vec<String>>,
+    rc: &RenderContext,
+) -> Option<&'a Json>
+    ensures { IsNodeAt (data_of environment.now.given.now) (path_view path.entry) (option_map (λ v. view v.now) result) }
+{
+    match path {
+        Some(path) => rc.node_at(environment.given.data(), path),
+        None => None,
     }
 }
 

@@ -10,7 +10,8 @@ ghost use Rattle.handlebars_template.specs.TreeView.{call_view};
 ghost use Rattle.handlebars_base.specs.Bytes.{Text};
 ghost use Rattle.handlebars_helpers.specs.Callee.{built, calls_registered};
 ghost use Rattle.handlebars_render.specs.Boxed.{answer_of, error_of};
-ghost use Rattle.handlebars_render.specs.Next.{Judges, path_alone, wanting};
+ghost use Rattle.handlebars_render.specs.Next.{Judges, wanting};
+ghost use Rattle.handlebars_render.specs.Places.{path_alone};
 ghost use Rattle.handlebars_render.specs.Targets.{target_in};
 ghost use Rattle.handlebars_render.specs.Judgement.{InState};
 ghost use Rattle.handlebars_render.specs.View.{HasNodes};
@@ -52,8 +53,8 @@ fn wanted(target: Option<Target>) -> Option<bool>
     }
 }
 
-// The one parameter of a call, where it is a path, and there are no pairs.
-fn lone_path(helper: &HelperTemplate) -> Option<&Path>
+/// The one parameter of a call, where it is a path, and there are no pairs.
+pub fn lone_path(helper: &HelperTemplate) -> Option<&Path>
     ensures { IfSome result (λ path. call_args (call_view helper.now) ≡ path_alone (reference_of path.now)) }
 {
     if helper.params.len() != 1 || !helper.hash.is_empty() {

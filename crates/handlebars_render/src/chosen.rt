@@ -143,8 +143,8 @@ fn settle_own<'v, O: Output, P: Registered>(
     }
 }
 
-// The block of scope that stands at a base.
-fn block_at(
+/// The block of scope of a call of `with` that stands at a base.
+pub fn block_at(
     alloc: Global,
     helper: &HelperTemplate,
     base: Base,

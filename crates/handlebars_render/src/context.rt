@@ -1,42 +1,29 @@
 //! The state of a rendering.
 
-ghost use Rattle.std.specs.Prelude.{◌≡◌, ◌≢◌, [], not, IfOk, IfErr, IfSome, OnOk, OnErr, None, Some, true, false, is_some, map, option_map, slice_get, string_bytes};
+ghost use Rattle.std.specs.Prelude.{◌≡◌, not, IfOk, OnOk, OnErr, true, false, is_some, map, option_map, slice_get, string_bytes};
 ghost use Rattle.std.specs.Borrow.{sem};
 ghost use Rattle.serde_json.specs.View.{view};
-ghost use Rattle.handlebars_base.specs.Answers.{Answers, answer_map, gives, refuses};
-ghost use Rattle.handlebars_base.specs.Path.{relative};
-ghost use Rattle.handlebars_base.specs.PathView.{reference_of};
-ghost use Rattle.handlebars_base.specs.Reasons.{out_of_memory};
-ghost use Rattle.handlebars_base.specs.RenderRefusals.{reason_in, refusal_of};
-ghost use Rattle.handlebars_base.specs.Scoped.{found_of, is_constant, present_in};
 ghost use Rattle.handlebars_template.specs.TreeView.{binding_of, binding_view, tree_view};
-ghost use Rattle.handlebars_scope.specs.Bases.{NodesLead, bases_of, lend, nodes_of};
 ghost use Rattle.handlebars_scope.specs.Contexts.{data_of};
-ghost use Rattle.handlebars_scope.specs.Resolve.{resolve};
 ghost use Rattle.handlebars_scope.specs.ScopeView.{frame_of, frames_of, variables_of};
-ghost use Rattle.handlebars_scope.specs.WayView.{reached_of};
 ghost use Rattle.handlebars_helpers.specs.OwnView.{local_of};
 ghost use Rattle.handlebars_helpers.specs.Turns.{turn_frame};
 ghost use Rattle.handlebars_helpers.specs.View.{path_view, turn_view};
-ghost use Rattle.handlebars_meaning.specs.Values as values;
-ghost use Rattle.handlebars_meaning.specs.Values.{Evaluates};
 ghost use Rattle.handlebars_render.specs.Lending.{LendsBlock};
 ghost use Rattle.handlebars_meaning.specs.State.{push_frame, first_state, pop_frame, nearest_variables, partial_in, with_data, with_local, with_nearest, with_partial, without_local};
-ghost use Rattle.handlebars_render.specs.View.{lending, state_of, read_in, root_of, has_failed, HasOuter, IsKept, NearestBelow};
+ghost use Rattle.handlebars_render.specs.View.{state_of, root_of, has_failed, HasOuter, IsKept, NearestBelow};
 
 mod lines;
+mod lookup;
 mod names;
 
 use crate::null::Null;
-use handlebars_base::error::RenderError;
-use handlebars_base::json::path::Path;
-use handlebars_base::json::value::{Json, ScopedJson};
+use handlebars_base::json::value::Json;
 use handlebars_helpers::own::LocalHelper;
 use handlebars_helpers::turn::{Turn, set_up_next_turn, set_up_turn};
 use handlebars_scope::block::BlockContext;
-use handlebars_scope::context::bases::Bases;
-use handlebars_scope::context::reached::Reached;
-use handlebars_scope::context::{Context, walk};
+use handlebars_scope::context::Context;
+use handlebars_scope::context::looked_up::LookedUp;
 use handlebars_scope::line::LineState;
 use handlebars_scope::local_vars::LocalVars;
 use handlebars_template::template::{BlockParam, Template};
@@ -62,6 +49,8 @@ pub struct RenderContext {
     local_helpers: BTreeMap<String, LocalHelper>,
     // What is lent where a value of changed data is missing.
     null: Null,
+    // How many members of the data were looked up for paths.
+    looked_up: LookedUp,
 }
 
 // By hand, so that each place that lets one go is one call.
@@ -79,6 +68,7 @@ impl Drop for RenderContext {
             changed: _,
             local_helpers: _,
             null: _,
+            looked_up: _,
         } = self;
     }
 }
@@ -108,6 +98,7 @@ impl RenderContext {
             changed: None,
             local_helpers: BTreeMap::new(alloc),
             null: Null::new(),
+            looked_up: LookedUp::new(),
         })
     }
 
@@ -335,118 +326,6 @@ impl RenderContext {
         !self.local_helpers.is_empty() && self.local_helpers.contains_key(name)
     }
 
-    // What a path leads to in these blocks, of which some are lent their bases, and in this data where it wasn't
-    // changed; nothing is copied.
-    pub(super) fn reach<'v: 'n, 'n>(
-        &'v self,
-        given: &'v Json,
-        path: &'n Path,
-        bases: &'v Bases<'v, 'v>,
-    ) -> Reached<'v, 'n>
-        requires nodes { NodesLead (nodes_of bases.now) (state_of self.now).blocks (view given.now) }
-        ensures { reached_of result ≡ answer_map present_in
-            (read_in (lending (bases_of bases.now) (state_of self.now)) (view given.now) (reference_of path.now)) }
-    {
-        match &self.changed {
-            None => walk::reach(given, path, &self.blocks, bases, self.recursive_lookup),
-            Some(context) => self.reach_changed(context, path, bases),
-        }
-    }
-
-    // What a path leads to in changed data, where a missing value is null.
-    fn reach_changed<'v: 'n, 'n>(
-        &'v self,
-        context: &'v Context,
-        path: &'n Path,
-        bases: &'v Bases<'v, 'v>,
-    ) -> Reached<'v, 'n>
-        ensures { reached_of result ≡ answer_map present_in (answer_map values.without_path (resolve
-            (state_of self.now).recursive (lend (bases_of bases.now) (state_of self.now).blocks) (reference_of path.now)
-            (data_of context.now))) }
-    {
-        match walk::reach_from_data(
-            context.data(),
-            path,
-            &self.blocks,
-            bases,
-            self.recursive_lookup,
-        ) {
-            Reached::Value(value) => Reached::Value(value),
-            Reached::Nothing => Reached::Value(self.null.value()),
-            Reached::NoIndex(name) => Reached::NoIndex(name),
-        }
-    }
-
-    // The value that the empty path leads to, where neither a block of this context nor changed data holds it, so that
-    // the context may change while it is lent.
-    pub(super) fn lent_current<'v>(
-        &self,
-        given: &'v Json,
-        bases: &'v Bases<'v, 'v>,
-    ) -> Option<&'v Json>
-        requires nodes { NodesLead (nodes_of bases.now) (state_of self.now).blocks (view given.now) }
-        ensures { IfSome result (λ v. answer_map present_in
-            (read_in (lending (bases_of bases.now) (state_of self.now)) (view given.now) (relative [] []))
-            ≡ gives (Some (view v.now))) }
-    {
-        match &self.changed {
-            None => walk::current(given, &self.blocks, bases),
-            Some(_context) => walk::lent(&self.blocks, bases),
-        }
-    }
-
-    // What a path leads to, with the full path of a value of the data, where it wasn't changed. A value that a block
-    // holds is copied, and so is one of changed data.
-    pub(super) fn find<'a>(
-        &self,
-        given: &'a Json,
-        path: &Path,
-        bases: &Bases<'_, 'a>,
-    ) -> Result<ScopedJson<'a>, RenderError>
-        requires nodes { NodesLead (nodes_of bases.now) (state_of self.now).blocks (view given.now) }
-        ensures found { Answers found_of result
-            (read_in (lending (bases_of bases.now) (state_of self.now)) (view given.now) (reference_of path.now)) }
-        ensures plain { IfOk result (λ found. is_constant found ≡ false) }
-    {
-        match &self.changed {
-            None => walk::find(
-                self.alloc,
-                given,
-                path,
-                &self.blocks,
-                bases,
-                self.recursive_lookup,
-            ),
-            Some(context) => self.find_changed(context, path, bases),
-        }
-    }
-
-    // What a path leads to in changed data, where no value has a path and a missing one is null.
-    fn find_changed<'a>(
-        &self,
-        context: &Context,
-        path: &Path,
-        bases: &Bases<'_, '_>,
-    ) -> Result<ScopedJson<'a>, RenderError>
-        ensures found { Answers found_of result (answer_map values.without_path (resolve
-            (state_of self.now).recursive (lend (bases_of bases.now) (state_of self.now).blocks) (reference_of path.now)
-            (data_of context.now))) }
-        ensures plain { IfOk result (λ found. is_constant found ≡ false) }
-    {
-        match walk::resolve(
-            self.alloc,
-            context.data(),
-            path,
-            &self.blocks,
-            bases,
-            self.recursive_lookup,
-        ) {
-            Ok(Some(found)) => Ok(ScopedJson::Derived(found.clone()?)),
-            Ok(None) => Ok(ScopedJson::Derived(Json::Null)),
-            Err(e) => Err(e),
-        }
-    }
-
     /// Whether values are written as they are, and not escaped.
     pub fn is_disable_escape(&self) -> bool
         ensures { result ≡ not (state_of self.now).escapes }
@@ -468,32 +347,6 @@ impl RenderContext {
         ensures { result ≡ (state_of self.now).escapes }
     {
         self.escapes
-    }
-
-    /// What a text leads to, as a path, in the blocks of scope and the data. A refusal changes nothing
-    /// here.
-    pub fn evaluate<'rc>(
-        &self,
-        context: &'rc Context,
-        path: &str,
-    ) -> Result<ScopedJson<'rc>, RenderError>
-        ensures ok { IfOk result (λ found. Evaluates (state_of self.now).recursive (state_of self.now).blocks
-            (data_of context.now) path.now (gives (found_of found))) }
-        ensures err { IfErr result (λ e. reason_in e ≢ out_of_memory
-            → Evaluates (state_of self.now).recursive (state_of self.now).blocks
-            (data_of context.now) path.now (refuses (refusal_of e))) }
-        ensures plain { IfOk result (λ found. is_constant found ≡ false) }
-    {
-        let reference = Path::parse(self.alloc, path)?;
-        let bases = Bases::outside();
-        walk::find(
-            self.alloc,
-            context.data(),
-            &reference,
-            &self.blocks,
-            &bases,
-            self.recursive_lookup,
-        )
     }
 
     // From now on renderings are refused.

@@ -31,9 +31,7 @@ use handlebars_base::output::Output;
 use handlebars_helpers::each_turns::Turns;
 use handlebars_helpers::turn::Turn;
 use handlebars_scope::block::BlockContext;
-use handlebars_scope::context::Context;
 use handlebars_scope::context::bases::Bases;
-use handlebars_scope::context::walk::value_by_names;
 use handlebars_template::template::HelperTemplate;
 
 /// The body, in a block, of which this node is known, or none.
@@ -64,17 +62,19 @@ pub fn render_in<'a, O: Output, P: Registered>(
     answer
 }
 
-/// The body for each member, in one block.
+/// The body for each member, in one block, over what has this path, if it has one, and this node, if that is known.
 #[cycle(render)]
 pub fn render_each<'a, O: Output, P: Registered>(
     helper: &'a HelperTemplate,
     environment: &Environment<'_, 'a, P>,
     path: Option<&Vec<String>>,
+    node: Option<&'a Json>,
     turns: Turns,
     rc: &mut RenderContext,
     sink: &mut Sink<'_, O>,
 ) -> Result<(), BoxedError>
     requires nodes { HasNodes environment.now rc.old }
+    requires node { IsNodeAt (data_of environment.now.given.now) (path_view path) (option_map (λ v. view v.now) node) }
     ensures renders { (site : Site) (block : Bool) (v : CallView)
         → Carries P.parts O.held O.may_give environment.now rc sink result
         (in_block empty_frame (take_turns site 0 (view_with_bodies block (call_view helper.now) v) (path_view path.entry)
@@ -87,7 +87,6 @@ pub fn render_each<'a, O: Output, P: Registered>(
         bases: &bases,
         ..*environment
     };
-    let node = node_at(environment.given, path);
     let answer = take_turns(helper, &nearer, path, node, turns, rc, sink);
     rc.pop_block();
     answer
@@ -128,23 +127,6 @@ fn take_turns<'a, O: Output, P: Registered>(
         }
     }
     Ok(())
-}
-
-/// The value of the given data that a path leads to, if there is a path.
-pub fn node_at<'a>(given: &'a Context, path: Option<&Vec<String>>) -> Option<&'a Json>
-    ensures { IsNodeAt (data_of given.now) (path_view path.entry) (option_map (λ v. view v.now) result) }
-{
-    match path {
-        Some(path) => value_by_names(given.data(), path),
-        None => None,
-    }
-}
-
-/// The value of the given data that the base path of a block leads to.
-pub fn block_node<'a>(given: &'a Context, scope: &BlockContext) -> Option<&'a Json>
-    ensures { IsNode (data_of given.now) (frame_of scope.now).base_path (option_map (λ v. view v.now) result) }
-{
-    value_by_names(given.data(), scope.base_path())
 }
 
 // The node of a turn, by that of what is walked.

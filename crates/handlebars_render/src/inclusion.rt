@@ -37,6 +37,7 @@ pub struct LentBlock<'v> {
 
 /// The block of an inclusion: it stands at a value, merged with the pairs, which are bound to their keys too, and has the
 /// variables of the nearest block. Without pairs the value is lent to it, unless the context holds it.
+#[inline(always)]
 pub fn inclusion_block<'v, P: Registered>(
     tag: &'v Decorator,
     environment: &Environment<'v, 'v, P>,

@@ -22,6 +22,7 @@ mod next;
 mod null;
 mod own;
 mod partial;
+mod place;
 pub mod registered;
 pub mod sink;
 mod steps;

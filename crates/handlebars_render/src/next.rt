@@ -15,7 +15,7 @@ ghost use Rattle.handlebars_render.specs.Boxed.{answer_of, error_of};
 ghost use Rattle.handlebars_render.specs.Next.{ComesTo, IsCall, Settles};
 ghost use Rattle.handlebars_render.specs.Targets.{target_in};
 ghost use Rattle.handlebars_render.specs.Judgement.{AtMoment, InState};
-ghost use Rattle.handlebars_render.specs.View.{setting_in, called_view, IsSame, HasNodes};
+ghost use Rattle.handlebars_render.specs.View.{setting_in, called_view, state_of, IsSame, HasNodes};
 
 use crate::bound::{BoundCall, bind_boxed};
 use crate::boxed::BoxedError;
@@ -24,22 +24,29 @@ use crate::called::{Called, helper_not_found};
 use crate::context::RenderContext;
 use crate::environment::Environment;
 use crate::lone::settle_lone;
+use crate::place::settle_placed;
 use crate::registered::{Registered, Target, helper_for};
 use crate::sink::Sink;
 use crate::value::{expand_as_name, pairs_values, params_values};
 use handlebars_base::output::Output;
+use handlebars_scope::context::place::Place;
 use handlebars_scope::line::LineState;
 use handlebars_template::template::HelperTemplate;
 use std::borrow::CowStr;
 
-/// What an expression or a block comes to, once its name and its values are known.
+/// What an expression or a block comes to, once its name and its values are known. Most are lone values that are written, so
+/// what is left of others is in a box.
 #[derive(Drop)]
 pub enum Next<'a> {
     /// All is done, and this is the line behind it.
     Done(LineState),
     /// The body of the call is to be rendered, or its inverse, in the bracket of a call.
     Branch(bool),
-    /// A helper is to be called, in the bracket of a call. It is in a box, since most answers are of the other kinds.
+    /// The body is to be rendered for each member of what stands here in the data, in the bracket of a call.
+    Each(Box<Place<'a>>),
+    /// The body is to be rendered in a block that stands here in the data, in the bracket of a call.
+    With(Box<Place<'a>>),
+    /// A helper is to be called, in the bracket of a call.
     Call(Box<BoundCall<'a>>),
     /// The hook of a missing value is to be called, in no bracket.
     Hook(Box<BoundCall<'a>>),
@@ -129,6 +136,27 @@ fn settle_named<'a, P: Registered>(
             Ok(truth) => Ok(Next::Branch(takes(wanted, truth))),
             Err(e) => Err(e),
         },
+        None => settle_unbranched(helper, environment, block, name, target, rc),
+    }
+}
+
+// A call by this written name, which has this helper, if any, and isn't of `if` or `unless` by a path.
+fn settle_unbranched<'a, P: Registered>(
+    helper: &'a HelperTemplate,
+    environment: &Environment<'_, 'a, P>,
+    block: bool,
+    name: &'a str,
+    target: Option<Target>,
+    rc: &RenderContext,
+) -> Result<Next<'a>, BoxedError>
+    requires nodes { HasNodes environment.now rc.now }
+    ensures { as_name (call_name (call_view helper.now)) ≡ Some name.now
+        → option_map (target_in block name.now) target ≡ helper_for (P.parts environment.now.parts.now) (state_of rc.now) block name.now
+        → (site : Site) → InState P.parts environment.now rc.now (λ p s. Settles p site block (call_view helper.now)
+        (render_call site block (call_view helper.now)) s (answer_of result)) }
+{
+    match settle_placed(helper, environment, target, rc) {
+        Some(next) => Ok(next),
         None => settle_viewed(
             helper,
             environment,

@@ -10,6 +10,7 @@ use handlebars_lines::line::{Enclosure, NameMode, split_line};
 use handlebars_lines::literal::split_literal;
 use handlebars_lines::worth::literal_value;
 use handlebars_scope::context::bases::Bases;
+use handlebars_scope::context::looked_up::LookedUp;
 use handlebars_scope::context::walk::resolve;
 use handlebars_template::template::{Parameter, Template, TemplateOptions};
 use std::alloc::{AllocError, Global};
@@ -121,7 +122,15 @@ impl Call {
     fn resolved(&self, alloc: Global, path: &str) -> Result<String, RenderError> {
         let path = Path::parse(alloc, path)?;
         let blocks = VecDeque::new(alloc);
-        let found = resolve(alloc, &self.data, &path, &blocks, &Bases::Outside, false)?;
+        let found = resolve(
+            alloc,
+            &self.data,
+            &path,
+            &blocks,
+            &Bases::Outside,
+            false,
+            &LookedUp::new(),
+        )?;
         Ok(format!(in alloc; "{found:?}")?)
     }
 }

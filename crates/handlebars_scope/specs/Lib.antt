@@ -3,6 +3,7 @@ pub mod Wraps
 pub mod Scopes
 pub mod Bases
 pub mod Resolve
+pub mod Placing
 pub mod Fronts
 pub mod LineState
 pub mod LineView

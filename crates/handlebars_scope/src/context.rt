@@ -12,6 +12,11 @@ ghost use Rattle.handlebars_base.specs.Reasons.{nowhere, out_of_memory, serde_er
 ghost use Rattle.handlebars_base.specs.RenderRefusals.{reason_in, spot_of};
 
 pub mod bases;
+mod fronts;
+mod full_path;
+pub mod looked_up;
+pub mod members;
+pub mod place;
 mod range;
 pub mod reached;
 pub mod walk;

@@ -23,15 +23,15 @@ use Rattle.handlebars_worked.specs.ScopeRows.{natural}
 
 -- ---- what is unfolded to compile a source: of each tag, of parameters, and of literals
 
-unfoldable on_lines : ⊤
+unfoldable pub on_lines : ⊤
 unfolding beginning_of closing_of chars line.name_step line.behind_step line.line_step texts.behind_byte path.plain_at path.part_at path.links_at path.links_of path.start_without_at_sign path.start_at path.shape_at path.shape_of path.reference_from path.path_at
 on_lines = tt
 
-unfoldable on_parameters : ⊤
+unfoldable pub on_parameters : ⊤
 unfolding line.key_and_equals_at line.parameter_step line.item_step literal.literal_at literal.plain_at literal.undoubled_at literal.unbracketed_at literal.value_token literal.token_at
 on_parameters = tt
 
-unfoldable on_literals : ⊤
+unfoldable pub on_literals : ⊤
 unfolding literal.keeps_at is_in_range number_of worth_of before serde_json_on_literals
 on_literals = tt
 

@@ -12,3 +12,4 @@ mod DeedRows
 mod InclusionRows
 mod KeptRows
 mod InclusionSources
+mod PieceRows

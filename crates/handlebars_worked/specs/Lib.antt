@@ -8,3 +8,4 @@ pub mod DeedRows
 pub mod InclusionRows
 pub mod KeptRows
 pub mod InclusionSources
+pub mod PieceRows

@@ -2,8 +2,8 @@
 //! first, into a text or to a writer. In dev mode the files of templates are read anew first, and their trees laid over
 //! the stored ones; without it the reader isn't asked. What each call answers is what the language's definition gives,
 //! at the registry and over the data: the text that is the join of the pieces of the one answer, or its refusal, with
-//! reason, position and name. Each piece comes from a tree of the run and the data. The logger is given the lines of
-//! `log`.
+//! reason, position and name. Each piece comes from a tree of the run and the data. A larger limit changes no answer
+//! but a refusal for it, and templates that nothing names change none. The logger is given the lines of `log`.
 
 ghost use Rattle.std.specs.Prelude.{◌≡◌, ◌≢◌, IfOk, IfErr, OnErr, List, None, Some, option_map, string_bytes, false};
 ghost use Rattle.serde_json.specs.Data.{Data};
@@ -16,6 +16,7 @@ ghost use Rattle.handlebars_template.specs.TreeView.{tree_view};
 ghost use Rattle.handlebars_scope.specs.Contexts.{data_of};
 ghost use Rattle.handlebars_meaning.specs.Answer.{FromSource, FromName, GivesText};
 ghost use Rattle.handlebars_meaning.specs.Answer.{RefusesWith, HasOneAnswer, AnswerHasOrigins};
+ghost use Rattle.handlebars_meaning.specs.Answer.{AnswerStays, NamedAnswerStays};
 ghost use Rattle.handlebars_meaning.specs.State.{first_state};
 ghost use Rattle.handlebars_render.specs.View.{state_of, root_of, has_failed};
 ghost use Rattle.handlebars.specs.Calls.{BeginsWith, Converts, ConvertsOr, Writes};
@@ -99,6 +100,8 @@ impl<E: OwnParts> RegistryOf<E> {
         ensures origins { (read : List Loaded)
             → AnswerHasOrigins (setting_under E.registered E.own read self.now (data_of ctx.now))
             (FromName (stored_under read self.now) name.now) }
+        ensures stays { (read : List Loaded)
+            → NamedAnswerStays (setting_under E.registered E.own read self.now (data_of ctx.now)) name.now }
         ensures asks { AsksFor R.reads self.now (Some name.now) files.old files.new }
         ensures unread { is_dev self.now ≡ false → files.new ≡ files.old }
     {
@@ -162,6 +165,8 @@ impl<E: OwnParts> RegistryOf<E> {
         ensures origins { (read : List Loaded)
             → AnswerHasOrigins (setting_under E.registered E.own read self.now (data_of ctx.now))
             (FromName (stored_under read self.now) name.now) }
+        ensures stays { (read : List Loaded)
+            → NamedAnswerStays (setting_under E.registered E.own read self.now (data_of ctx.now)) name.now }
         ensures asks { AsksFor R.reads self.now (Some name.now) files.old files.new }
         ensures unread { is_dev self.now ≡ false → files.new ≡ files.old }
     {
@@ -274,6 +279,9 @@ impl<E: OwnParts> RegistryOf<E> {
         ensures origins { (read : List Loaded)
             → AnswerHasOrigins (setting_under E.registered E.own read self.now (data_of ctx.now))
             (FromSource (options_of self.now) source.now) }
+        ensures stays { (read : List Loaded)
+            → AnswerStays (setting_under E.registered E.own read self.now (data_of ctx.now))
+            (FromSource (options_of self.now) source.now) }
         ensures asks { AsksFor R.reads self.now None files.old files.new }
         ensures unread { is_dev self.now ≡ false → files.new ≡ files.old }
     {
@@ -331,6 +339,9 @@ impl<E: OwnParts> RegistryOf<E> {
             (FromSource (options_of self.now) source.now) }
         ensures origins { (read : List Loaded)
             → AnswerHasOrigins (setting_under E.registered E.own read self.now (data_of ctx.now))
+            (FromSource (options_of self.now) source.now) }
+        ensures stays { (read : List Loaded)
+            → AnswerStays (setting_under E.registered E.own read self.now (data_of ctx.now))
             (FromSource (options_of self.now) source.now) }
         ensures asks { AsksFor R.reads self.now None files.old files.new }
         ensures unread { is_dev self.now ≡ false → files.new ≡ files.old }

@@ -204,7 +204,7 @@ fn keeps_partial(rt: &impl Abort, alloc: Global, registry: &mut Registry, name: 
     decorates(rt, registry, name, boxed(rt, alloc, keeping));
 }
 
-const WORLD: &str = r#"{"hello":"world","a":{"x":1}}"#;
+const WORLD: &str = r#"{"hello":"world","a":{"x":1},"l":[1,2]}"#;
 
 fn set_data(rt: &impl Abort, alloc: Global, bench: &Bench) {
     let rows = [
@@ -212,6 +212,12 @@ fn set_data(rt: &impl Abort, alloc: Global, bench: &Bench) {
         (
             "{{#with a}}{{x}}{{*foo}}{{x}}{{@root.hello}}{{/with}}",
             r#"Ok("1war")"#,
+        ),
+        ("{{#with a}}{{x}}{{*other}}{{x}}{{/with}}", r#"Ok("12")"#),
+        ("{{#with a}}{{x}}{{*empty}}{{x}}{{/with}}", r#"Ok("1")"#),
+        (
+            "{{#each l}}{{this}}{{*other}}{{this}};{{/each}}",
+            r#"Ok("1;;")"#,
         ),
         ("{{*keep}}", NO_BODY),
         ("a{{#*keep}}b{{/keep}}c", r#"Ok("ac")"#),
@@ -226,6 +232,8 @@ fn decorators_set_data(rt: HostRuntime) {
     let alloc = rt.alloc();
     let mut bench = Bench::new(&rt, alloc, WORLD);
     sets_data(&rt, alloc, &mut bench.registry, "foo", r#"{"hello":"war"}"#);
+    sets_data(&rt, alloc, &mut bench.registry, "other", r#"{"a":{"x":2}}"#);
+    sets_data(&rt, alloc, &mut bench.registry, "empty", "{}");
     keeps_partial(&rt, alloc, &mut bench.registry, "keep");
     set_data(&rt, alloc, &bench);
     bench.registry.set_strict_mode(true);

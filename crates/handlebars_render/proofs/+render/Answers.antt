@@ -1,40 +1,44 @@
-use Rattle.std.proofs.Common.{rules, None, Some, ◌∷◌, ◌∙◌, ◌+◌, true≢false, refl, sym, ap, map, option_map, Option, List, length, arith}
+use Rattle.std.proofs.Common.{rules, None, Some, ◌∷◌, ◌∙◌, ◌+◌, true≢false, refl, sym, ap, subst, map, option_map, Option, List, length, arith}
 use Rattle.std.specs.Prelude.{slice_get}
 use Rattle.serde_json.specs.Data.{Data}
 use Rattle.serde_json.specs.View.{view}
 use Rattle.handlebars_base.specs.RenderRefusals.{spot_of}
 use Rattle.handlebars_template.specs.Place.{Place}
-use Rattle.handlebars_template.specs.Tree.{Tree, tree_name, CallMarks, call_marks}
+use Rattle.handlebars_template.specs.Tree.{Tree, tree_name, CallMarks, call_binding, call_marks}
 use Rattle.handlebars_template.specs.TreeView.{call_view, decorator_view, element_view, place_of}
 use Rattle.handlebars_template.specs.declared.template.tree.TemplateMapping.{TemplateMapping}
 use Rattle.handlebars_template.proofs.Levels.{call_marks-view, element_view-Expression, element_view-HelperBlock, element_view-DecoratorExpression, element_view-DecoratorBlock, element_view-PartialExpression, element_view-PartialBlock, element_view-Comment, element_view-RawString}
 use Rattle.handlebars_template.proofs.Trees.{tree_view-out}
 use Rattle.handlebars_meaning.specs.Pieces.{of_text}
-use Rattle.handlebars_meaning.specs.Sites.{body_at, inverse_at, element_in}
+use Rattle.handlebars_meaning.specs.Sites.{body_at, inverse_at, element_in, first_tree}
 use Rattle.handlebars_helpers.specs.Choice.{body_if}
 use Rattle.handlebars_scope.specs.ScopeView.{frame_of}
 use Rattle.handlebars_helpers.specs.OwnView.{step_of}
-use Rattle.handlebars_helpers.specs.Turns.{turn_frame}
+use Rattle.handlebars_helpers.specs.Turns.{turn_frame, with_block}
 use Rattle.handlebars_helpers.specs.View.{helper_view, path_view, turn_view}
-use Rattle.handlebars_scope.specs.Scopes.{Frame, empty_frame}
-use Rattle.handlebars_meaning.specs.CarryOut.{view_with_bodies}
+use Rattle.handlebars_scope.specs.Bases.{IsNode}
+use Rattle.handlebars_scope.specs.Contexts.{data_of}
+use Rattle.handlebars_scope.specs.Scopes.{Frame, at_path, empty_frame}
+use Rattle.handlebars_scope.specs.WayView.{names_in}
+use Rattle.handlebars_meaning.specs.CarryOut.{in_block, render_body, render_with, view_with_bodies}
 use Rattle.handlebars_meaning.specs.Means.{line_in, render_chosen, render_decorator}
 use Rattle.handlebars_meaning.specs.Runs.{named_as, placed_at}
 use Rattle.handlebars_render.specs.Boxed.{answer_of, error_of}
 use Rattle.handlebars_render.specs.declared.boxed.BoxedError.TheVariants.{OutOfMemory}
 use Rattle.handlebars_render.specs.declared.bound.BoundCall.{BoundCall}
 use Rattle.handlebars_render.specs.Chosen.{part_view, render_rest}
+use Rattle.handlebars_render.specs.Places.{block_of, turns_at}
 use Rattle.handlebars_base.specs.Bytes.{Text}
 use Rattle.handlebars_render.specs.View.{with_current, called_view, keeping, lending, setting_in, state_of, state_with, within}
 use Rattle.handlebars_render.proofs.Calls.{entered_as}
 use Rattle.handlebars_render.proofs.BoundCalls.{choice-entered, chooses-entered, chooses-parts}
-use Rattle.handlebars_render.proofs.Leads.{body-seen, carries_on-choice, carries_on-leads, carries_on-part, inverse-seen, part_site}
+use Rattle.handlebars_render.proofs.Leads.{body-seen, carries_on-choice, carries_on-leads, carries_on-part, inverse-seen, leads-block, part_site}
 use Rattle.handlebars_render.proofs.Leaves.{carries_on-leaves}
 use Rattle.handlebars_render.proofs.Carry.{carries-run, carries_on-done, carries_on-handed, carries_on-in_block, carries_on-line, carries_on-no_memory, carries_on-no_value, carries_on-out_of_memory, carries_on-puts, carries_on-step, carries_on-task, carries_on-task_over, carries_on-without_escaping, restored}
 use Rattle.handlebars_meaning.specs.State.{State, push_frame, pop_frame, nearest_variables}
 use Rattle.handlebars_render.proofs.Elements.{left_starts, left_goes, left_over, left_ends, whole_with}
 use Rattle.handlebars_render.proofs.Kept.{kept-refl, kept-trans, outer-kept, outer-trans}
-use Rattle.handlebars_render.proofs.Lent.{in-turn, pop_frame-lent, named-lent, nearest-lent, one_more, partial_in-lend}
+use Rattle.handlebars_render.proofs.Lent.{in-turn, kept-any, nearest_variables-lend, pop_frame-lent, named-lent, nearest-lent, one_more, partial_in-lend}
 use Rattle.handlebars_render.proofs.Nodes.{nodes-kept, nodes-pushed, nodes-turned}
 use Rattle.handlebars_render.proofs.Lists.{get_or-seen, below-seen, over-seen, place_there, looked_up, placed_marks}
 use Rattle.handlebars_render.proofs.Silent.{carries_on-does}
@@ -67,6 +71,18 @@ block::render_tag-returns-in-Ok-Branch-clause-renders g t c = λ site kept.
     carries_on-leaves _ _ _ _ left.0.leaves left.1
     (c.render_branch.ensures.renders site c.args.block left.0.target left.0.view kept (left.0.chooses _ refl))
 
+pub block::render_tag-returns-in-Ok-Each-clause-renders : goal.block::render_tag-returns-in-Ok-Each-clause-renders
+block::render_tag-returns-in-Ok-Each-clause-renders g t c = λ site kept.
+    let left = rw c.in-Ok-Each.field-0-is at (c.in-Ok-Each.ensures.comes site kept) in
+    carries_on-leaves _ _ _ _ left.0.0.leaves left.1
+    (c.call_each.ensures.renders site c.args.block left.0.0.target left.0.0.view kept (left.0.0.chooses _ refl))
+
+pub block::render_tag-returns-in-Ok-With-clause-renders : goal.block::render_tag-returns-in-Ok-With-clause-renders
+block::render_tag-returns-in-Ok-With-clause-renders g t c = λ site kept.
+    let left = rw c.in-Ok-With.field-0-is at (c.in-Ok-With.ensures.comes site kept) in
+    carries_on-leaves _ _ _ _ left.0.0.leaves left.1
+    (c.call_with.ensures.renders site c.args.block left.0.0.target left.0.0.view kept (left.0.0.chooses _ refl))
+
 pub block::render_tag-returns-in-Ok-Call-clause-renders : goal.block::render_tag-returns-in-Ok-Call-clause-renders
 block::render_tag-returns-in-Ok-Call-clause-renders g t c = λ site kept.
     let left = rw c.in-Ok-Call.field-0-is at (c.in-Ok-Call.ensures.comes site kept) in
@@ -95,6 +111,41 @@ block::render_branch-returns-clause-renders g t c = λ site block target v kept 
     (carries_on-choice p _ site target h (body_if c.args.truth) (choice-entered p (state_with kept c.args.rc.now) _ _ target h _ entered has)
     (carries_on-part p _ site block (call_view c.args.helper.now) v c.args.truth
     (rw c.part_if.ensures at (c.render_part-answer.ensures.renders (part_site site c.args.truth) kept))))
+
+pub block::call_each-returns-clause-renders : goal.block::call_each-returns-clause-renders
+block::call_each-returns-clause-renders g t c = λ site block target v kept has.
+    let p = setting_in g.P.Registered.parts c.args.environment.now in
+    let h = view_with_bodies block (call_view c.args.helper.now) v in
+    let marked = ap (λ (m : CallMarks). m.indent_before_write) (call_marks-view c.args.helper.now) in
+    let entered = entered_as (state_with kept c.args.rc.now) (state_with kept c.enter_call.new.rc) _ _ marked (ap (keeping kept) c.enter_call.ensures.state) in
+    carries_on-line _ _ (line_in (call_marks (call_view c.args.helper.now)).indent_before_write) (render_chosen site target h)
+    entered
+    (ap (keeping kept) (c.leave_call.ensures.state (state_of c.args.rc.now).line (sym c.get_indent_before_write-before.ensures)
+    (sym c.get_content_produced-produced.ensures)))
+    (carries_on-choice p _ site target h (turns_at c.args.place.value) (choice-entered p (state_with kept c.args.rc.now) _ _ target h _ entered has)
+    (rw (c.of.ensures, c.deref.ensures, c.deref-3.ensures) at (c.render_each-answer.ensures.renders site block v kept)))
+
+pub block::call_with-returns-in_err-scope-clause-renders : goal.block::call_with-returns-in_err-scope-clause-renders
+block::call_with-returns-in_err-scope-clause-renders g t c = λ site block target v kept has.
+    carries_on-out_of_memory _ _ c.from_residual.result c.from_residual.ensures.1
+
+pub block::call_with-returns-clause-renders : goal.block::call_with-returns-clause-renders
+block::call_with-returns-clause-renders g t c = λ site block target v kept has.
+    let p = setting_in g.P.Registered.parts c.args.environment.now in
+    let h = view_with_bodies block (call_view c.args.helper.now) v in
+    let base = at_path (names_in c.args.place.value.path.items) in
+    let marked = ap (λ (m : CallMarks). m.indent_before_write) (call_marks-view c.args.helper.now) in
+    let entered = entered_as (state_with kept c.args.rc.now) (state_with kept c.enter_call.new.rc) _ _ marked (ap (keeping kept) c.enter_call.ensures.state) in
+    carries_on-line _ _ (line_in (call_marks (call_view c.args.helper.now)).indent_before_write) (render_chosen site target h)
+    entered
+    (ap (keeping kept) (c.leave_call.ensures.state (state_of c.args.rc.now).line (sym c.get_indent_before_write-before.ensures)
+    (sym c.get_content_produced-produced.ensures)))
+    (carries_on-choice p _ site target h (block_of c.args.place.value) (choice-entered p (state_with kept c.args.rc.now) _ _ target h _ entered has)
+    (carries_on-leads p _ (render_with site h base) (λ (u : Unit {0}). in_block (frame_of c.in_ok-scope.scope) (render_body site 0 h)) tt
+    (leads-block p _ site h base (frame_of c.in_ok-scope.scope)
+    ((rw c.deref.ensures at c.in_ok-scope.ensures) ∙ ap (with_block base (call_binding (call_view c.args.helper.now)))
+    (sym (nearest_variables-lend kept.bases (state_of c.args.rc.now).blocks) ∙ sym (ap (λ (s : State). nearest_variables s.blocks) entered))))
+    (c.render_in-answer.ensures.renders site 0 block v kept)))
 
 pub block::render_call-returns-clause-renders : goal.block::render_call-returns-clause-renders
 block::render_call-returns-clause-renders g t c = λ site target v kept chooses.
@@ -591,6 +642,67 @@ partial::render_kept-returns-clause-renders g t c = λ site kept.
     (c.render_tree-answer.ensures.renders (body_at site 0) kept)
 
 -- ---- nodes
+
+pub block::render_tag-call_each-requires : goal.block::render_tag-call_each-requires
+block::render_tag-call_each-requires g t c κs inside = (
+  search rules,
+  (
+    inside.0,
+    (
+      inside.1,
+      (
+        c.requires.nodes,
+        (rw c.in-Ok-Each.field-0-is at
+            (c.in-Ok-Each.ensures.comes (element_in first_tree 0) (kept-any (within c.args.environment.now)))).0.1,
+      ),
+    ),
+  ),
+)
+
+pub block::render_tag-call_with-requires : goal.block::render_tag-call_with-requires
+block::render_tag-call_with-requires g t c κs inside = (
+  search rules,
+  (
+    inside.0,
+    (
+      inside.1,
+      (
+        c.requires.nodes,
+        (rw c.in-Ok-With.field-0-is at
+            (c.in-Ok-With.ensures.comes (element_in first_tree 0) (kept-any (within c.args.environment.now)))).0.1,
+      ),
+    ),
+  ),
+)
+
+pub block::call_each-render_each-answer-requires : goal.block::call_each-render_each-answer-requires
+block::call_each-render_each-answer-requires g t c κs inside = (
+  search rules,
+  (
+    inside.0,
+    (
+      inside.1,
+      (nodes-kept _ _ c.enter_call.ensures.kept c.requires.nodes, rw (c.deref.ensures, c.deref-2.ensures) c.requires.node),
+    ),
+  ),
+)
+
+pub block::call_with-render_in-answer-requires : goal.block::call_with-render_in-answer-requires
+block::call_with-render_in-answer-requires g t c κs inside = (
+  search rules,
+  (
+    inside.0,
+    (
+      inside.1,
+      (
+        nodes-kept _ _ c.enter_call.ensures.kept c.requires.nodes,
+        rw c.deref-2.ensures
+            (subst (λ (names : List Text). IsNode (data_of c.args.environment.now.given.now) names (Some (view c.args.place.value.node.now)))
+            (sym (ap (λ (f : Frame). f.base_path) (rw c.deref.ensures at c.in_ok-scope.ensures))) c.requires.node),
+      ),
+    ),
+  ),
+)
 
 pub block::render_chosen-render_rest-requires : goal.block::render_chosen-render_rest-requires
 block::render_chosen-render_rest-requires g t c κs inside =

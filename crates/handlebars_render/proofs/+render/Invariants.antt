@@ -29,6 +29,12 @@ decreases-block::render_tag g l = 16 * l.environment.now.room + 12
 abbrev pub decreases-block::render_branch : goal.decreases-block::render_branch
 decreases-block::render_branch g l = 16 * l.environment.now.room + 11
 
+abbrev pub decreases-block::call_each : goal.decreases-block::call_each
+decreases-block::call_each g l = 16 * l.environment.now.room + 11
+
+abbrev pub decreases-block::call_with : goal.decreases-block::call_with
+decreases-block::call_with g l = 16 * l.environment.now.room + 11
+
 abbrev pub decreases-block::render_call : goal.decreases-block::render_call
 decreases-block::render_call g l = 16 * l.environment.now.room + 11
 

@@ -53,6 +53,7 @@ impl RenderContext {
     }
 
     // An inclusion begins, in this block. The name that was the current one is given.
+    #[inline(always)]
     pub(crate) fn begin(&mut self, block: BlockContext) -> Result<Option<String>, AllocError>
         ensures name { IfOk result (λ name. option_map string_bytes name ≡ (state_of self.old).current) }
         ensures ok { OnOk result (state_of self.new ≡ with_current None (push_frame (frame_of block) (state_of self.old))) }

@@ -1,22 +1,27 @@
 //! Where paths lead in blocks of scope and data.
 
-ghost use Rattle.std.specs.Prelude.{◌≡◌, ◌≤◌, ◌++◌, ◌∷◌, [], None, Some, false, length, option_map, string_bytes};
-ghost use Rattle.std.specs.Prelude.{◌<◌, IfOk, IfSome, OnOk};
-ghost use Rattle.std.specs.Char.{digit_value};
+ghost use Rattle.std.specs.Prelude.{◌≡◌, ◌++◌, None, Some, false, option_map, string_bytes};
+ghost use Rattle.std.specs.Prelude.{IfOk, IfSome};
 ghost use Rattle.serde_json.specs.Data.{Data};
 ghost use Rattle.serde_json.specs.View.{view};
 ghost use Rattle.handlebars_base.specs.Answers.{Answers, answer_map, gives};
 ghost use Rattle.handlebars_base.specs.PathView.{reference_of, segments_of};
 ghost use Rattle.handlebars_base.specs.Scoped.{found_of, is_constant, present_in};
 ghost use Rattle.handlebars_scope.specs.Bases.{IsCurrent, IsNode, NodesLead, bases_of, lend, nodes_of};
+ghost use Rattle.handlebars_scope.specs.Placing.{IsPlaced};
 ghost use Rattle.handlebars_scope.specs.Resolve.{along, found_by, found_front, found_within, navigate, resolve, variable_at};
-ghost use Rattle.handlebars_scope.specs.Resolve.{if_any, index_of, longest, member_at, names_of, or_else, value_at};
+ghost use Rattle.handlebars_scope.specs.Resolve.{longest, names_of, value_at};
 ghost use Rattle.handlebars_scope.specs.ScopeView.{frame_of, frames_of};
 ghost use Rattle.handlebars_scope.specs.Seeking.{Seeks};
-ghost use Rattle.handlebars_scope.specs.WayView.{IsFromNode, hit_of, names_in, reached_of, way_view};
+ghost use Rattle.handlebars_scope.specs.WayView.{IsFromNode, names_in, reached_of, way_view};
 
 use crate::block::BlockContext;
 use crate::context::bases::Bases;
+use crate::context::fronts::longest;
+use crate::context::full_path::{front, joined};
+use crate::context::looked_up::LookedUp;
+use crate::context::members::{along_names, along_segments, enter};
+use crate::context::place::{Place, Placed};
 use crate::context::reached::{Reached, Unfound, answered, if_found};
 use crate::context::way::{Way, way_of};
 use handlebars_base::error::RenderError;
@@ -33,6 +38,7 @@ pub fn resolve<'v>(
     blocks: &'v VecDeque<BlockContext>,
     bases: &'v Bases<'v, 'v>,
     recursive: bool,
+    looked_up: &LookedUp,
 ) -> Result<Option<&'v Json>, RenderError>
     ensures { Answers (option_map (λ v. view v.now)) result
         (answer_map present_in
@@ -41,7 +47,7 @@ pub fn resolve<'v>(
 {
     answered(
         alloc,
-        reach_from_data(given, path, blocks, bases, recursive),
+        reach_from_data(given, path, blocks, bases, recursive, looked_up),
     )
 }
 
@@ -53,6 +59,7 @@ pub fn reach<'v: 'n, 'n>(
     blocks: &'v VecDeque<BlockContext>,
     bases: &'v Bases<'v, 'v>,
     recursive: bool,
+    looked_up: &LookedUp,
 ) -> Reached<'v, 'n>
     requires nodes { NodesLead (nodes_of bases.now) (frames_of blocks.now.items) (view given.now) }
     ensures { reached_of result ≡ answer_map present_in
@@ -60,7 +67,9 @@ pub fn reach<'v: 'n, 'n>(
         (view given.now)) }
 {
     match path {
-        Path::Relative((segments, _)) => follow(given, way_of(blocks, bases, segments, recursive)),
+        Path::Relative((segments, _)) => {
+            follow(given, way_of(blocks, bases, segments, recursive), looked_up)
+        }
         Path::Local((level, name, _)) => if_found(variable_at(blocks, *level, name.as_str())),
     }
 }
@@ -73,6 +82,7 @@ pub fn reach_from_data<'v: 'n, 'n>(
     blocks: &'v VecDeque<BlockContext>,
     bases: &'v Bases<'v, 'v>,
     recursive: bool,
+    looked_up: &LookedUp,
 ) -> Reached<'v, 'n>
     ensures { reached_of result ≡ answer_map present_in
         (resolve recursive (lend (bases_of bases.now) (frames_of blocks.now.items)) (reference_of path.now)
@@ -83,6 +93,7 @@ pub fn reach_from_data<'v: 'n, 'n>(
             follow(
                 given,
                 way_of(blocks, bases, segments, recursive).from_data(),
+                looked_up,
             )
         }
         Path::Local((level, name, _)) => if_found(variable_at(blocks, *level, name.as_str())),
@@ -97,6 +108,7 @@ pub fn find<'a>(
     blocks: &VecDeque<BlockContext>,
     bases: &Bases<'_, 'a>,
     recursive: bool,
+    looked_up: &LookedUp,
 ) -> Result<ScopedJson<'a>, RenderError>
     requires nodes { NodesLead (nodes_of bases.now) (frames_of blocks.now.items) (view given.now) }
     ensures found { Answers found_of result
@@ -104,7 +116,7 @@ pub fn find<'a>(
         (view given.now)) }
     ensures plain { IfOk result (λ found. is_constant found ≡ false) }
 {
-    match seek(alloc, given, path, blocks, bases, recursive) {
+    match seek(alloc, given, path, blocks, bases, recursive, looked_up) {
         Ok(found) => Ok(found),
         Err(why) => Err(why.into_error(alloc)),
     }
@@ -118,6 +130,7 @@ pub fn seek<'a, 'n>(
     blocks: &'n VecDeque<BlockContext>,
     bases: &'n Bases<'n, 'a>,
     recursive: bool,
+    looked_up: &LookedUp,
 ) -> Result<ScopedJson<'a>, Unfound<'n>>
     requires nodes { NodesLead (nodes_of bases.now) (frames_of blocks.now.items) (view given.now) }
     ensures found { Seeks result
@@ -127,7 +140,12 @@ pub fn seek<'a, 'n>(
 {
     match path {
         Path::Relative((segments, _)) => {
-            found_by(alloc, given, way_of(blocks, bases, segments, recursive))
+            found_by(
+                alloc,
+                given,
+                way_of(blocks, bases, segments, recursive),
+                looked_up,
+            )
         }
         Path::Local((level, name, _)) => Ok(copied(variable_at(blocks, *level, name.as_str()))?),
     }
@@ -139,6 +157,7 @@ pub fn current<'v>(
     given: &'v Json,
     blocks: &VecDeque<BlockContext>,
     bases: &'v Bases<'v, 'v>,
+    looked_up: &LookedUp,
 ) -> Option<&'v Json>
     requires nodes { NodesLead (nodes_of bases.now) (frames_of blocks.now.items) (view given.now) }
     ensures { IfSome result (λ v. IsCurrent (lend (bases_of bases.now) (frames_of blocks.now.items)) (view given.now)
@@ -149,7 +168,7 @@ pub fn current<'v>(
             let lent = bases.up(0);
             match lent.base {
                 Some(value) => Some(value),
-                None => current_in(given, block, lent.node),
+                None => current_in(given, block, lent.node, looked_up),
             }
         }
         None => Some(given),
@@ -157,7 +176,12 @@ pub fn current<'v>(
 }
 
 // The value of the data that a block stands at, where nothing but its node is lent to it.
-fn current_in<'v>(given: &'v Json, block: &BlockContext, node: Option<&'v Json>) -> Option<&'v Json>
+fn current_in<'v>(
+    given: &'v Json,
+    block: &BlockContext,
+    node: Option<&'v Json>,
+    looked_up: &LookedUp,
+) -> Option<&'v Json>
     requires node { IsNode (view given.now) (frame_of block.now).base_path (option_map (λ v. view v.now) node) }
     ensures value { IfSome result (λ v. value_at (view given.now) (frame_of block.now).base_path ≡ gives (Some (view v.now))) }
     ensures path { IfSome result (λ v. (frame_of block.now).base_value ≡ None) }
@@ -167,7 +191,7 @@ fn current_in<'v>(given: &'v Json, block: &BlockContext, node: Option<&'v Json>)
     }
     match node {
         Some(node) => Some(node),
-        None => value_by_names(given, block.base_path()),
+        None => node_at(given, block.base_path(), looked_up),
     }
 }
 
@@ -199,6 +223,7 @@ pub(crate) fn navigate<'a>(
         alloc,
         given,
         way_of(blocks, &bases, segments, recursive).from_data(),
+        &LookedUp::new(),
     ) {
         Ok(found) => Ok(found),
         Err(why) => Err(why.into_error(alloc)),
@@ -210,6 +235,7 @@ fn found_by<'a, 'n>(
     alloc: Global,
     given: &'a Json,
     way: Way<'n, 'n, 'a>,
+    looked_up: &LookedUp,
 ) -> Result<ScopedJson<'a>, Unfound<'n>>
     requires node { IsFromNode (view given.now) way }
     ensures found { Seeks result (found_by (way_view way.entry) (view given.now)) }
@@ -222,8 +248,8 @@ fn found_by<'a, 'n>(
             base,
             bound,
             rest,
-        } => found_along(alloc, given, node, base, bound, rest),
-        Way::UnderFront(base, name) => Ok(found_front(alloc, given, base, name)?),
+        } => found_along(alloc, given, node, base, bound, rest, looked_up),
+        Way::UnderFront(base, name) => Ok(found_front(alloc, given, base, name, looked_up)?),
     }
 }
 
@@ -232,7 +258,7 @@ fn found_within<'a, 'n>(held: &'n Json, rest: &'n [PathSeg]) -> Result<ScopedJso
         (answer_map found_within (value_at (view held.now) (names_of (segments_of rest.now)))) }
     ensures plain { IfOk result (λ found. is_constant found ≡ false) }
 {
-    match along_segments(held, rest) {
+    match along_segments(held, rest).0 {
         Reached::Value(value) => Ok(copied(Some(value))?),
         Reached::Nothing => Ok(ScopedJson::Missing),
         Reached::NoIndex(name) => Err(Unfound::NoIndex(name)),
@@ -246,6 +272,7 @@ fn found_along<'a, 'n>(
     base: &'n [String],
     bound: &'n [String],
     rest: &'n [PathSeg],
+    looked_up: &LookedUp,
 ) -> Result<ScopedJson<'a>, Unfound<'n>>
     requires node { IsNode (view given.now) (names_in base.now) (option_map (λ v. view v.now) node) }
     ensures found { Seeks result (found_by
@@ -253,7 +280,7 @@ fn found_along<'a, 'n>(
         (view given.now)) }
     ensures plain { IfOk result (λ found. is_constant found ≡ false) }
 {
-    match along(given, node, base, bound, rest) {
+    match along(given, node, base, bound, rest, looked_up) {
         Reached::Value(value) => Ok(ScopedJson::Context(value, joined(alloc, base, bound, rest)?)),
         Reached::Nothing => Ok(ScopedJson::Missing),
         Reached::NoIndex(name) => Err(Unfound::NoIndex(name)),
@@ -265,12 +292,13 @@ fn found_front<'a>(
     given: &'a Json,
     base: &[String],
     name: &String,
+    looked_up: &LookedUp,
 ) -> Result<ScopedJson<'a>, AllocError>
     ensures found { IfOk result (λ found. found_of found ≡ found_front (names_in base.now) (string_bytes name.now)
         (longest (view given.now) (names_in base.now) (string_bytes name.now))) }
     ensures plain { IfOk result (λ found. is_constant found ≡ false) }
 {
-    match longest(given, base, name) {
+    match longest(given, base, name, looked_up) {
         Some((kept, value)) => Ok(ScopedJson::Context(value, front(alloc, &base[..kept], name)?)),
         None => Ok(ScopedJson::Missing),
     }
@@ -278,20 +306,24 @@ fn found_front<'a>(
 
 // The value at the end of a way.
 #[inline(always)]
-fn follow<'v: 'n, 'n>(given: &'v Json, way: Way<'v, 'n, 'v>) -> Reached<'v, 'n>
+fn follow<'v: 'n, 'n>(
+    given: &'v Json,
+    way: Way<'v, 'n, 'v>,
+    looked_up: &LookedUp,
+) -> Reached<'v, 'n>
     requires node { IsFromNode (view given.now) way }
     ensures { reached_of result
         ≡ answer_map present_in (found_by (way_view way.entry) (view given.now)) }
 {
     match way {
-        Way::Within(held, rest) => along_segments(held, rest),
+        Way::Within(held, rest) => along_segments(held, rest).0,
         Way::Along {
             node,
             base,
             bound,
             rest,
-        } => along(given, node, base, bound, rest),
-        Way::UnderFront(base, name) => match longest(given, base, name) {
+        } => along(given, node, base, bound, rest, looked_up),
+        Way::UnderFront(base, name) => match longest(given, base, name, looked_up) {
             Some((_, value)) => Reached::Value(value),
             None => Reached::Nothing,
         },
@@ -330,298 +362,124 @@ fn along<'v, 'n>(
     base: &'n [String],
     bound: &'n [String],
     rest: &'n [PathSeg],
+    looked_up: &LookedUp,
 ) -> Reached<'v, 'n>
     requires node { IsNode (view given.now) (names_in base.now) (option_map (λ v. view v.now) node) }
     ensures { reached_of result
         ≡ value_at (view given.now) (names_in base.now ++ (names_in bound.now ++ names_of (segments_of rest.now))) }
 {
     match node {
-        Some(node) => along_from(node, &[], bound, rest),
-        None => along_from(given, base, bound, rest),
+        Some(node) => along_from(node, bound, rest, looked_up),
+        None => along_all(given, base, bound, rest, looked_up),
     }
 }
 
-// From a value. Most names lead somewhere, so their values alone are handed on at first.
+// From the data, along all names.
+#[inline(always)]
+fn along_all<'v, 'n>(
+    given: &'v Json,
+    base: &'n [String],
+    bound: &'n [String],
+    rest: &'n [PathSeg],
+    looked_up: &LookedUp,
+) -> Reached<'v, 'n>
+    ensures { reached_of result
+        ≡ value_at (view given.now) (names_in base.now ++ (names_in bound.now ++ names_of (segments_of rest.now))) }
+{
+    match along_names(given, base) {
+        (Reached::Value(at_base), first) => {
+            let (reached, further) = enter(at_base, bound, rest);
+            looked_up.add(first.saturating_add(further));
+            reached
+        }
+        (stopped, members) => {
+            looked_up.add(members);
+            stopped
+        }
+    }
+}
+
+// From a node.
 #[inline(always)]
 fn along_from<'v, 'n>(
-    given: &'v Json,
-    base: &'n [String],
+    node: &'v Json,
     bound: &'n [String],
     rest: &'n [PathSeg],
+    looked_up: &LookedUp,
 ) -> Reached<'v, 'n>
-    ensures { reached_of result
-        ≡ value_at (view given.now) (names_in base.now ++ (names_in bound.now ++ names_of (segments_of rest.now))) }
+    ensures { reached_of result ≡ value_at (view node.now) (names_in bound.now ++ names_of (segments_of rest.now)) }
 {
-    match along_values(given, base, bound, rest) {
-        Some(value) => Reached::Value(value),
-        None => along_each(given, base, bound, rest),
-    }
+    let (reached, members) = enter(node, bound, rest);
+    looked_up.add(members);
+    reached
 }
 
-// What a base path, what is bound below it and segments lead to, name by name, or why there is no value.
-#[inline(never)]
-fn along_each<'v, 'n>(
-    given: &'v Json,
-    base: &'n [String],
-    bound: &'n [String],
-    rest: &'n [PathSeg],
-) -> Reached<'v, 'n>
-    ensures { reached_of result
-        ≡ value_at (view given.now) (names_in base.now ++ (names_in bound.now ++ names_of (segments_of rest.now))) }
+/// The value of the data that names lead to; none where they lead to none.
+pub fn node_at<'v>(given: &'v Json, names: &[String], looked_up: &LookedUp) -> Option<&'v Json>
+    ensures { IsNode (view given.now) (names_in names.now) (option_map (λ v. view v.now) result) }
 {
-    let at_base = match along_names(given, base) {
-        Reached::Value(at_base) => at_base,
-        other => return other,
-    };
-    match along_names(at_base, bound) {
-        Reached::Value(at_bound) => along_segments(at_bound, rest),
-        other => other,
-    }
-}
-
-fn along_names<'v, 'n>(given: &'v Json, names: &'n [String]) -> Reached<'v, 'n>
-    ensures { reached_of result ≡ value_at (view given.now) (names_in names.now) }
-{
-    let mut here = given;
-    for name in names {
-        match member(here, name) {
-            Reached::Value(next) => here = next,
-            other => return other,
-        }
-    }
-    Reached::Value(here)
-}
-
-// Along the names of segments; the others add nothing.
-fn along_segments<'v, 'n>(given: &'v Json, segments: &'n [PathSeg]) -> Reached<'v, 'n>
-    ensures { reached_of result ≡ value_at (view given.now) (names_of (segments_of segments.now)) }
-{
-    let mut here = given;
-    for segment in segments {
-        match segment {
-            PathSeg::Named(name) => match member(here, name) {
-                Reached::Value(next) => here = next,
-                other => return other,
-            },
-            PathSeg::Ruled(_) => {}
-        }
-    }
-    Reached::Value(here)
-}
-
-// One name further.
-fn member<'v, 'n>(value: &'v Json, name: &'n String) -> Reached<'v, 'n>
-    ensures { reached_of result ≡ member_at (view value.now) (string_bytes name.now) }
-{
-    match value {
-        Json::Array(_) => match index_of(name.as_str()) {
-            Some(index) => if_found(value.get(index)),
-            None => Reached::NoIndex(name.as_str()),
-        },
-        Json::Object(_) => if_found(value.get(name.as_str())),
-        _ => Reached::Nothing,
-    }
-}
-
-// The value that a base path, what is bound below it and segments lead to, where all names lead to one.
-#[inline(always)]
-fn along_values<'v>(
-    given: &'v Json,
-    base: &[String],
-    bound: &[String],
-    rest: &[PathSeg],
-) -> Option<&'v Json>
-    ensures { IfSome result (λ v. value_at (view given.now)
-        (names_in base.now ++ (names_in bound.now ++ names_of (segments_of rest.now))) ≡ gives (Some (view v.now))) }
-{
-    let at_base = value_by_names(given, base)?;
-    let at_bound = value_by_names(at_base, bound)?;
-    value_by_segments(at_bound, rest)
-}
-
-/// The value that names lead to; none where they lead to none.
-pub fn value_by_names<'v>(given: &'v Json, names: &[String]) -> Option<&'v Json>
-    ensures { IfSome result (λ v. value_at (view given.now) (names_in names.now) ≡ gives (Some (view v.now))) }
-{
-    let mut here = given;
-    for name in names {
-        match value_by_name(here, name) {
-            Some(next) => here = next,
-            None => return None,
-        }
-    }
-    Some(here)
-}
-
-#[inline(always)]
-fn value_by_segments<'v>(given: &'v Json, segments: &[PathSeg]) -> Option<&'v Json>
-    ensures { IfSome result (λ v. value_at (view given.now) (names_of (segments_of segments.now))
-        ≡ gives (Some (view v.now))) }
-{
-    let mut here = given;
-    for segment in segments {
-        match segment {
-            PathSeg::Named(name) => match value_by_name(here, name) {
-                Some(next) => here = next,
-                None => return None,
-            },
-            PathSeg::Ruled(_) => {}
-        }
-    }
-    Some(here)
-}
-
-// The value one name further, where there is one.
-fn value_by_name<'v>(value: &'v Json, name: &String) -> Option<&'v Json>
-    ensures { IfSome result (λ v. member_at (view value.now) (string_bytes name.now) ≡ gives (Some (view v.now))) }
-{
-    match value {
-        Json::Array(_) => match index_of(name.as_str()) {
-            Some(index) => value.get(index),
-            None => None,
-        },
-        Json::Object(_) => value.get(name.as_str()),
+    let (reached, members) = along_names(given, names);
+    looked_up.add(members);
+    match reached {
+        Reached::Value(node) => Some(node),
         _ => None,
     }
 }
 
-fn index_of(text: &str) -> Option<usize>
-    ensures { result ≡ index_of text.now }
-{
-    match short_index(text.as_bytes()) {
-        Some(index) => Some(index),
-        None => text.parse::<usize>().ok(),
-    }
-}
+// ---- places
 
-// The index that a usual name is, which has one to four digits.
-fn short_index(name: &[u8]) -> Option<usize>
-    ensures { IfSome result (λ index. index_of name.now ≡ Some index) }
-{
-    match name {
-        [ones] => digit(*ones),
-        [tens, ones] => Some(digit(*tens)? * 10 + digit(*ones)?),
-        [hundreds, tens, ones] => {
-            Some((digit(*hundreds)? * 10 + digit(*tens)?) * 10 + digit(*ones)?)
-        }
-        [thousands, hundreds, tens, ones] => {
-            let hundreds = digit(*thousands)? * 10 + digit(*hundreds)?;
-            Some((hundreds * 10 + digit(*tens)?) * 10 + digit(*ones)?)
-        }
-        _ => None,
-    }
-}
-
-// The value of an ASCII digit.
-fn digit(byte: u8) -> Option<usize>
-    ensures { IfSome result (λ value. (value ≡ digit_value byte) × (value < 10)) }
-{
-    match byte {
-        b'0'..=b'9' => Some((byte - b'0') as usize),
-        _ => None,
-    }
-}
-
-// ---- under the longest front
-
-// What a name leads to under the longest front of a base path that has it, and how many names of the
-// path that front keeps. The path is walked once, and each value on it remembered until a further one
-// has the name.
-fn longest<'a>(given: &'a Json, base: &[String], name: &String) -> Option<(usize, &'a Json)>
-    ensures longest { option_map hit_of result
-        ≡ longest (view given.now) (names_in base.now) (string_bytes name.now) }
-    ensures kept { IfSome result (λ hit. hit.0 ≤ length base.now) }
-{
-    let mut here = given;
-    let mut best = None;
-    for (kept, link) in base.iter().enumerate() {
-        best = hit_at(here, name, kept, best);
-        match member_if_any(here, link) {
-            Some(next) => here = next,
-            None => return best,
-        }
-    }
-    hit_at(here, name, base.len(), best)
-}
-
-// What the name leads to from here, behind so many names, or what was found before.
-fn hit_at<'a>(
-    here: &'a Json,
-    name: &String,
-    kept: usize,
-    before: Option<(usize, &'a Json)>,
-) -> Option<(usize, &'a Json)>
-    ensures { option_map hit_of result
-        ≡ or_else (option_map (λ d. (kept, d)) (if_any (member_at (view here.now) (string_bytes name.now))))
-        (option_map hit_of before.entry) }
-{
-    match member_if_any(here, name) {
-        Some(value) => Some((kept, value)),
-        None => before,
-    }
-}
-
-// One name further, where a wrong index counts as missing.
-fn member_if_any<'a>(value: &'a Json, name: &String) -> Option<&'a Json>
-    ensures { option_map (λ v. view v.now) result ≡ if_any (member_at (view value.now) (string_bytes name.now)) }
-{
-    match value {
-        Json::Array(_) => match index_of(name.as_str()) {
-            Some(index) => value.get(index),
-            None => None,
-        },
-        Json::Object(_) => value.get(name.as_str()),
-        _ => None,
-    }
-}
-
-// ---- full paths
-
-// The names of a front of a base path, and a name.
-fn front(alloc: Global, kept: &[String], name: &String) -> Result<Vec<String>, AllocError>
-    ensures { IfOk result (λ path. names_in path.items ≡ names_in kept.now ++ string_bytes name.now ∷ []) }
-{
-    let mut path = Vec::new(alloc);
-    push_names(&mut path, kept)?;
-    path.push(name.clone()?)?;
-    Ok(path)
-}
-
-// The names of a base path, of what is bound below it, and of segments.
-fn joined(
+/// Where a path leads in the data, with its full path, where that is told without a copy of a value.
+pub fn place<'a>(
     alloc: Global,
+    given: &'a Json,
+    path: &Path,
+    blocks: &VecDeque<BlockContext>,
+    bases: &Bases<'_, 'a>,
+    recursive: bool,
+    looked_up: &LookedUp,
+) -> Placed<'a>
+    requires nodes { NodesLead (nodes_of bases.now) (frames_of blocks.now.items) (view given.now) }
+    ensures { IsPlaced result (view given.now)
+        (resolve recursive (lend (bases_of bases.now) (frames_of blocks.now.items)) (reference_of path.now)
+        (view given.now)) }
+{
+    match path {
+        Path::Relative((segments, _)) => {
+            match way_of(blocks, bases, segments, recursive) {
+                Way::Along {
+                    node,
+                    base,
+                    bound,
+                    rest,
+                } => placed_along(alloc, given, node, base, bound, rest, looked_up),
+                Way::Within(_, _) => Placed::Untold,
+                Way::UnderFront(_, _) => Placed::Untold,
+            }
+        }
+        Path::Local(_) => Placed::Untold,
+    }
+}
+
+fn placed_along<'a>(
+    alloc: Global,
+    given: &'a Json,
+    node: Option<&'a Json>,
     base: &[String],
     bound: &[String],
     rest: &[PathSeg],
-) -> Result<Vec<String>, AllocError>
-    ensures { IfOk result (λ path. names_in path.items
-        ≡ names_in base.now ++ (names_in bound.now ++ names_of (segments_of rest.now))) }
+    looked_up: &LookedUp,
+) -> Placed<'a>
+    requires node { IsNode (view given.now) (names_in base.now) (option_map (λ v. view v.now) node) }
+    ensures { IsPlaced result (view given.now) (found_by
+        (along (names_in base.now ++ (names_in bound.now ++ names_of (segments_of rest.now))))
+        (view given.now)) }
 {
-    let mut path = Vec::new(alloc);
-    push_names(&mut path, base)?;
-    push_names(&mut path, bound)?;
-    push_segments(&mut path, rest)?;
-    Ok(path)
-}
-
-fn push_names(path: &mut Vec<String>, names: &[String]) -> Result<(), AllocError>
-    ensures { OnOk result (names_in path.new.items ≡ names_in path.old.items ++ names_in names.now) }
-{
-    for name in names {
-        path.push(name.clone()?)?;
+    match along(given, node, base, bound, rest, looked_up) {
+        Reached::Value(node) => match joined(alloc, base, bound, rest) {
+            Ok(path) => Placed::At(Place { path, node }),
+            Err(AllocError) => Placed::Untold,
+        },
+        Reached::Nothing => Placed::Nowhere,
+        Reached::NoIndex(_) => Placed::Untold,
     }
-    Ok(())
-}
-
-// Adds the names of segments.
-fn push_segments(path: &mut Vec<String>, segments: &[PathSeg]) -> Result<(), AllocError>
-    ensures { OnOk result (names_in path.new.items ≡ names_in path.old.items ++ names_of (segments_of segments.now)) }
-{
-    for segment in segments {
-        match segment {
-            PathSeg::Named(name) => path.push(name.clone()?)?,
-            PathSeg::Ruled(_) => {}
-        }
-    }
-    Ok(())
 }

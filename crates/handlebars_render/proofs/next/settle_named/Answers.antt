@@ -22,7 +22,4 @@ returns-in-Err g c = λ named site kept.
     c.in-Some.ensures.path (error_of c.in-Err.e) (c.in-Err.ensures kept)
 
 pub returns-in-None : goal.returns-in-None
-returns-in-None g c = λ named site kept.
-    c.settle_viewed.ensures site kept
-    (named-written _ _ (call_name (call_view c.args.helper.now)) c.args.name.now named)
-    (c.helper_for-target.ensures)
+returns-in-None g c = λ named site kept. c.settle_unbranched.ensures named (c.helper_for-target.ensures) site kept

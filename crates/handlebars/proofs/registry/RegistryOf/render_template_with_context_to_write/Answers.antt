@@ -2,7 +2,7 @@ use Rattle.handlebars_base.specs.TemplateRefusals.{template_refusal_of}
 use Rattle.handlebars_scope.specs.Contexts.{data_of}
 use Rattle.handlebars_template.specs.TreeView.{tree_view}
 use Rattle.handlebars.proofs.Asks.{asks-nothing}
-use Rattle.handlebars.proofs.AnswerLaws.{FromSource-one, has_one_answer, answer_has_origins}
+use Rattle.handlebars.proofs.AnswerLaws.{FromSource-one, has_one_answer, answer_has_origins, answer_stays}
 use Rattle.handlebars.proofs.OverLaws.{over-lawful}
 use Rattle.handlebars.proofs.WritesRead.{writes-source, writes-uncompiled}
 use Rattle.handlebars.proofs.registry.RegistryOf.render_template_with_context_to_write.Goals as goal
@@ -24,12 +24,18 @@ returns-in-Ok-clause-one g c = λ read. has_one_answer _ (over-lawful g.E.OwnPar
 pub returns-in-Ok-clause-origins : goal.returns-in-Ok-clause-origins
 returns-in-Ok-clause-origins g c = λ read. answer_has_origins _ _
 
+pub returns-in-Ok-clause-stays : goal.returns-in-Ok-clause-stays
+returns-in-Ok-clause-stays g c = λ read. answer_stays _ _
+
 pub returns-in-Err-clause-one : goal.returns-in-Err-clause-one
 returns-in-Err-clause-one g c = λ read. has_one_answer _ (over-lawful g.E.OwnParts.registered g.E.OwnParts.own c.args.self.now (data_of c.args.ctx.now) read c.keeps_law.ensures)
     _ (FromSource-one _ _)
 
 pub returns-in-Err-clause-origins : goal.returns-in-Err-clause-origins
 returns-in-Err-clause-origins g c = λ read. answer_has_origins _ _
+
+pub returns-in-Err-clause-stays : goal.returns-in-Err-clause-stays
+returns-in-Err-clause-stays g c = λ read. answer_stays _ _
 
 pub returns-in-Err-clause-asks : goal.returns-in-Err-clause-asks
 returns-in-Err-clause-asks g c = asks-nothing g.R.TemplateReader.reads c.args.self.now _ c.args.files.now

@@ -1,5 +1,5 @@
 use Rattle.handlebars_scope.specs.Contexts.{data_of}
-use Rattle.handlebars.proofs.AnswerLaws.{FromName-one, has_one_answer, answer_has_origins}
+use Rattle.handlebars.proofs.AnswerLaws.{FromName-one, has_one_answer, answer_has_origins, named_answer_stays}
 use Rattle.handlebars.proofs.OverLaws.{over-lawful}
 use Rattle.handlebars.proofs.WritesRead.{writes-by-name, writes-unread}
 use Rattle.handlebars.proofs.registry.RegistryOf.render_with_context_to_write.Goals as goal
@@ -19,9 +19,15 @@ returns-in-Ok-clause-one g c = λ read. has_one_answer _ (over-lawful g.E.OwnPar
 pub returns-in-Ok-clause-origins : goal.returns-in-Ok-clause-origins
 returns-in-Ok-clause-origins g c = λ read. answer_has_origins _ _
 
+pub returns-in-Ok-clause-stays : goal.returns-in-Ok-clause-stays
+returns-in-Ok-clause-stays g c = λ read. named_answer_stays _ _
+
 pub returns-in-Err-clause-one : goal.returns-in-Err-clause-one
 returns-in-Err-clause-one g c = λ read. has_one_answer _ (over-lawful g.E.OwnParts.registered g.E.OwnParts.own c.args.self.now (data_of c.args.ctx.now) read c.keeps_law.ensures)
     _ (FromName-one _ _)
 
 pub returns-in-Err-clause-origins : goal.returns-in-Err-clause-origins
 returns-in-Err-clause-origins g c = λ read. answer_has_origins _ _
+
+pub returns-in-Err-clause-stays : goal.returns-in-Err-clause-stays
+returns-in-Err-clause-stays g c = λ read. named_answer_stays _ _
