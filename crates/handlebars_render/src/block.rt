@@ -96,7 +96,9 @@ fn render_branch<'a, O: Output, P: Registered>(
     answer
 }
 
-// Renders the body of a call of `each` over what stands here in the data, in the bracket of the call.
+// Renders the body of a call of `each` over what stands here in the data, in the bracket of the call. It stands outside of
+// `render_tag`, of which nested branches take little of the stack.
+#[inline(never)]
 #[cycle(render)]
 fn call_each<'a, O: Output, P: Registered>(
     helper: &'a HelperTemplate,
@@ -130,7 +132,9 @@ fn call_each<'a, O: Output, P: Registered>(
     answer
 }
 
-// Renders the body of a call of `with` in a block that stands here in the data, in the bracket of the call.
+// Renders the body of a call of `with` in a block that stands here in the data, in the bracket of the call. It stands outside
+// of `render_tag` too.
+#[inline(never)]
 #[cycle(render)]
 fn call_with<'a, O: Output, P: Registered>(
     helper: &'a HelperTemplate,
