@@ -1,0 +1,171 @@
+-- Templates that are blind to the texts of their data: what they do with a value doesn't depend on what its texts say, but
+-- where it is written, escaped.
+use Rattle.std.specs.List.{filter}
+use Rattle.std.specs.Prelude.{◌≡◌, ℕ, Bool, true, false, ◌||◌, ◌==◌, [], ◌∷◌, unwrap_or}
+use Rattle.handlebars_base.specs.Bytes.{Text}
+use Rattle.handlebars_base.specs.EscapeLaws.{marks}
+use Rattle.handlebars_base.specs.Optional.{with_or}
+use Rattle.handlebars_base.specs.Path.{raw_of}
+use Rattle.handlebars_base.specs.Values.{rendered}
+use Rattle.handlebars_template.specs.Tree.{Tree, tree, Elements, no_elements, element, Element, raw_string, html_expression, expression, helper_block, decorator_expression, decorator_block, partial_expression, partial_block, comment, Call, call, Decorator, decorator, DecoratorMarks, Args, args, args_params, args_pairs, Param, name, path, literal, subexpression, Params, no_params, param, Pairs, no_pairs, pair, lacks_pairs, Bodies, bodies, Body, no_body, body}
+use Rattle.handlebars_helpers.specs.Callee.{Callee, built, own}
+use Rattle.handlebars_helpers.specs.Choice.{Kind, kind_if, kind_unless, kind_each, kind_with, kind_lookup, kind_raw, kind_log, kind_eq, kind_ne, kind_gt, kind_gte, kind_lt, kind_lte, kind_and, kind_or, kind_not, kind_len}
+use Rattle.handlebars_helpers.specs.Decoration.{DecoratorKind, kind_inline, kind_own}
+use Rattle.handlebars_helpers.specs.Escaping.{for_html}
+use Rattle.handlebars_helpers.specs.OwnAnswers.{Registrations}
+use Rattle.handlebars_meaning.specs.State.{hook}
+
+-- ---- the marks of html
+
+-- whether a byte is one of `<`, `>`, `"`, `'`, the backquote and `=`
+abbrev pub is_among : Text → ℕ → Bool
+is_among [] b = false
+is_among (m ∷ ms) b = (m == b) || is_among ms b
+
+abbrev pub is_mark : ℕ → Bool
+is_mark = is_among marks
+
+-- the marks of a text, in order
+abbrev pub marks_in : Text → Text
+marks_in = filter is_mark
+
+-- ---- helpers and decorators
+
+-- A helper that chooses alike for values that differ in texts alone. Of the others `eq` and `lookup`, say, read what a text
+-- says, and `len` how long it is.
+abbrev pub is_blind : Kind → Bool
+is_blind kind_if = true
+is_blind kind_unless = true
+is_blind kind_each = true
+is_blind kind_with = true
+is_blind kind_raw = true
+is_blind kind_and = true
+is_blind kind_or = true
+is_blind kind_not = true
+is_blind kind_lookup = false
+is_blind kind_log = false
+is_blind kind_eq = false
+is_blind kind_ne = false
+is_blind kind_gt = false
+is_blind kind_gte = false
+is_blind kind_lt = false
+is_blind kind_lte = false
+is_blind kind_len = false
+
+-- Nothing is known of a helper of one's own.
+abbrev pub is_blind_callee : Callee → Bool
+is_blind_callee (built k) = is_blind k
+is_blind_callee (own n) = false
+
+abbrev pub is_blind_decorator : DecoratorKind → Bool
+is_blind_decorator kind_inline = true
+is_blind_decorator (kind_own n) = false
+
+module _ (r : Registrations) where
+  -- what stands under a name, if anything does, is blind
+  abbrev pub calls_blind : Text → Bool
+  calls_blind n = with_or (r.helper n) is_blind_callee true
+
+  abbrev pub decorates_blind : Text → Bool
+  decorates_blind n = with_or (r.decorator n) is_blind_decorator true
+
+-- ---- templates
+
+-- The name is written, and not made in parentheses, which could make it of a text; and this is so of it.
+abbrev pub IsWritten : (Text → Bool) → Param → Type 0
+IsWritten test (name n) = test n ≡ true
+IsWritten test (path p) = test (raw_of p) ≡ true
+IsWritten test (literal d) = test (rendered d) ≡ true
+IsWritten test (subexpression e) = ⊥
+
+-- The first parameter, if there is one, is a literal: `inline` takes it for a name.
+abbrev pub IsLiteralFirst : Params → Type 0
+IsLiteralFirst no_params = Unit {0}
+IsLiteralFirst (param (name n) qs) = ⊥
+IsLiteralFirst (param (path p) qs) = ⊥
+IsLiteralFirst (param (literal d) qs) = Unit {0}
+IsLiteralFirst (param (subexpression e) qs) = ⊥
+
+-- Indentation is written once for each line, and there may be as many lines as a text has.
+abbrev pub IsUnmarkedIndent : DecoratorMarks → Type 0
+IsUnmarkedIndent m = marks_in (unwrap_or m.indent []) ≡ []
+
+module _ (r : Registrations) where
+  abbrev mutual
+    pub IsBlindTree : Tree → Type 0
+    IsBlindTree (tree n es places) = AreBlindElements es
+
+    pub AreBlindElements : Elements → Type 0
+    AreBlindElements no_elements = Unit {0}
+    AreBlindElements (element e es) = IsBlindElement e × AreBlindElements es
+
+    -- An html expression writes the marks of its value.
+    pub IsBlindElement : Element → Type 0
+    IsBlindElement (raw_string t) = Unit {0}
+    IsBlindElement (html_expression c) = ⊥
+    IsBlindElement (expression c) = IsBlindCall c
+    IsBlindElement (helper_block c) = IsBlindCall c
+    IsBlindElement (decorator_expression t) = IsBlindTag t
+    IsBlindElement (decorator_block t) = IsBlindTag t
+    IsBlindElement (partial_expression t) = IsBlindInclusion t
+    IsBlindElement (partial_block t) = IsBlindInclusion t
+    IsBlindElement (comment t) = Unit {0}
+
+    pub IsBlindCall : Call → Type 0
+    IsBlindCall (call n xs b t m) = IsWritten (calls_blind r) n × AreBlindArgs xs × AreBlindBodies t
+
+    pub IsBlindTag : Decorator → Type 0
+    IsBlindTag (decorator n xs b m) =
+        IsWritten (decorates_blind r) n × IsLiteralFirst (args_params xs) × AreBlindArgs xs × IsBlindBody b
+
+    -- Pairs are merged into the value, where a text counts as its characters.
+    pub IsBlindInclusion : Decorator → Type 0
+    IsBlindInclusion (decorator n xs b m) =
+        IsWritten (λ t. true) n × (lacks_pairs (args_pairs xs) ≡ true) × IsUnmarkedIndent m × AreBlindArgs xs
+        × IsBlindBody b
+
+    pub AreBlindArgs : Args → Type 0
+    AreBlindArgs (args ps hs) = AreBlindParams ps × AreBlindPairs hs
+
+    -- In parentheses stands a call, without bodies; nothing else has a value there.
+    pub IsBlindInner : Element → Type 0
+    IsBlindInner (raw_string t) = Unit {0}
+    IsBlindInner (html_expression c) = Unit {0}
+    IsBlindInner (expression c) = IsBlindInnerCall c
+    IsBlindInner (helper_block c) = Unit {0}
+    IsBlindInner (decorator_expression t) = Unit {0}
+    IsBlindInner (decorator_block t) = Unit {0}
+    IsBlindInner (partial_expression t) = Unit {0}
+    IsBlindInner (partial_block t) = Unit {0}
+    IsBlindInner (comment t) = Unit {0}
+
+    pub IsBlindInnerCall : Call → Type 0
+    IsBlindInnerCall (call n xs b t m) = IsWritten (calls_blind r) n × AreBlindArgs xs
+
+    pub IsBlindParam : Param → Type 0
+    IsBlindParam (name n) = Unit {0}
+    IsBlindParam (path p) = Unit {0}
+    IsBlindParam (literal d) = Unit {0}
+    IsBlindParam (subexpression e) = IsBlindInner e
+
+    pub AreBlindParams : Params → Type 0
+    AreBlindParams no_params = Unit {0}
+    AreBlindParams (param q qs) = IsBlindParam q × AreBlindParams qs
+
+    pub AreBlindPairs : Pairs → Type 0
+    AreBlindPairs no_pairs = Unit {0}
+    AreBlindPairs (pair k q hs) = IsBlindParam q × AreBlindPairs hs
+
+    pub AreBlindBodies : Bodies → Type 0
+    AreBlindBodies (bodies b i) = IsBlindBody b × IsBlindBody i
+
+    pub IsBlindBody : Body → Type 0
+    IsBlindBody no_body = Unit {0}
+    IsBlindBody (body t) = IsBlindTree t
+
+-- ---- registries
+
+-- Values are escaped for html, and the hooks, which are called under names without a helper, are blind.
+pub record HasBlindParts (r : Registrations) : Type 0 where
+  pub escape : r.escape ≡ for_html
+  pub hooks : (block : Bool) → calls_blind r (hook block) ≡ true
