@@ -1,5 +1,5 @@
 -- A rendering has one answer, whose pieces have their origins.
-use Rattle.std.proofs.Common.{◌≡◌, ◌≢◌, List, [], Option, None, Some, refl, sym, ap, ◌∙◌, subst}
+use Rattle.std.proofs.Common.{◌≡◌, List, [], Option, None, Some, refl, sym, ap, ◌∙◌, subst}
 use Rattle.std.proofs.Math.Logic.{∥∥₁_map}
 use Rattle.handlebars_base.specs.Bytes.{Text}
 use Rattle.handlebars_base.specs.Reasons.{Refusal, TemplateRefusal, of_template}

@@ -24,3 +24,6 @@ pub mod Agreement
 mod Evaluated
 mod KeptBytes
 mod TakenWalks
+mod MarkupFaults
+mod MarkupNames
+mod MarkupRead

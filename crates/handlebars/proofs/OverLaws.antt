@@ -133,7 +133,7 @@ module _ {S : Type 0} (reads : S → Text → Result (String Global) Error → S
       λ memory. other (ap (λ (z : Refusal). z.reason) is ∙ ap (λ (z : TemplateReason). reason_for f z) memory) in
       not_compiled (refuses not_memory) refl is
 
-  pub source-refused : (s : S) (f : TemplateRefusal) (answer : Result (String Global) RenderError)
+  pub source-refused : {X : Type 0} (s : S) (f : TemplateRefusal) (answer : Result X RenderError)
       → (f.reason ≢ template_out_of_memory → Compiles source options (refused f))
       → IsErrAnd answer (λ d. refusal_of d ≡ plain_refusal (of_template f))
       → IfErr answer (λ d. reason_in d ≢ out_of_memory → RefusesSource reads r options source s s Refuses d)

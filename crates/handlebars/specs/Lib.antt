@@ -8,3 +8,4 @@ pub mod Folder
 pub mod Dev
 pub mod Over
 pub mod Readers
+pub mod Markup

@@ -40,6 +40,7 @@ pub use handlebars_helpers::own::function::{FnHelper, FnSteps, HelperFn};
 pub use handlebars_helpers::own::{HelperResult, HelperStep, HelperValue, LocalHelper};
 pub use handlebars_helpers::refusal::FnRefusal;
 pub use handlebars_helpers::view::Helper;
+pub use handlebars_markup::fault::{MarkupFault, MarkupFaultReason};
 pub use handlebars_render::context::RenderContext;
 pub use handlebars_render::write::indent_aware_write;
 pub use handlebars_scope::block::{BlockContext, BlockParamHolder, BlockParams};
@@ -52,7 +53,7 @@ pub use handlebars_template::template::{
     Template, TemplateElement, TemplateMapping, TemplateOptions,
 };
 pub use output::{StringWriter, WriteOutput};
-pub use registry::{Registry, Registry as Handlebars, RegistryOf};
+pub use registry::{Markup, Registry, Registry as Handlebars, RegistryOf};
 pub use render::partial::expand_partial;
 pub use render::{Evaluable, Expand, Renderable};
 pub use serde_json::Value as JsonValue;

@@ -17,11 +17,13 @@ ghost use Rattle.handlebars.specs.View.{modes_of, named_options, stored_tree};
 mod calls;
 mod dev;
 mod files;
+mod markup;
 mod reading;
 mod stored;
 mod writing;
 
 use crate::registry::dev::DevFiles;
+pub use crate::registry::markup::Markup;
 use handlebars_base::error::TemplateError;
 use handlebars_helpers::decorators::entry::DecoratorEntryOf;
 use handlebars_helpers::entries::{BoxedEntries, Entries, OwnParts};

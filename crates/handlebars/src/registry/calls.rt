@@ -3,7 +3,8 @@
 //! the stored ones; without it the reader isn't asked. What each call answers is what the language's definition gives,
 //! at the registry and over the data: the text that is the join of the pieces of the one answer, or its refusal, with
 //! reason, position and name. Each piece comes from a tree of the run and the data. A larger limit changes no answer
-//! but a refusal for it, and templates that nothing names change none. The logger is given the lines of `log`.
+//! but a refusal for it, and templates that nothing names change none. Over data that differs in texts alone, blind templates
+//! write the same markup. The logger is given the lines of `log`.
 
 ghost use Rattle.std.specs.Prelude.{◌≡◌, ◌≢◌, IfOk, IfErr, OnErr, List, None, Some, option_map, string_bytes, false};
 ghost use Rattle.serde_json.specs.Data.{Data};
@@ -17,6 +18,7 @@ ghost use Rattle.handlebars_scope.specs.Contexts.{data_of};
 ghost use Rattle.handlebars_meaning.specs.Answer.{FromSource, FromName, GivesText};
 ghost use Rattle.handlebars_meaning.specs.Answer.{RefusesWith, HasOneAnswer, AnswerHasOrigins};
 ghost use Rattle.handlebars_meaning.specs.Answer.{AnswerStays, NamedAnswerStays};
+ghost use Rattle.handlebars_markup.specs.TwoRuns.{HasFixedMarkup};
 ghost use Rattle.handlebars_meaning.specs.State.{first_state};
 ghost use Rattle.handlebars_render.specs.View.{state_of, root_of, has_failed};
 ghost use Rattle.handlebars.specs.Calls.{BeginsWith, Converts, ConvertsOr, Writes};
@@ -102,6 +104,9 @@ impl<E: OwnParts> RegistryOf<E> {
             (FromName (stored_under read self.now) name.now) }
         ensures stays { (read : List Loaded)
             → NamedAnswerStays (setting_under E.registered E.own read self.now (data_of ctx.now)) name.now }
+        ensures alike { (read : List Loaded)
+            → HasFixedMarkup (setting_under E.registered E.own read self.now (data_of ctx.now))
+            (FromName (stored_under read self.now) name.now) }
         ensures asks { AsksFor R.reads self.now (Some name.now) files.old files.new }
         ensures unread { is_dev self.now ≡ false → files.new ≡ files.old }
     {
@@ -167,6 +172,9 @@ impl<E: OwnParts> RegistryOf<E> {
             (FromName (stored_under read self.now) name.now) }
         ensures stays { (read : List Loaded)
             → NamedAnswerStays (setting_under E.registered E.own read self.now (data_of ctx.now)) name.now }
+        ensures alike { (read : List Loaded)
+            → HasFixedMarkup (setting_under E.registered E.own read self.now (data_of ctx.now))
+            (FromName (stored_under read self.now) name.now) }
         ensures asks { AsksFor R.reads self.now (Some name.now) files.old files.new }
         ensures unread { is_dev self.now ≡ false → files.new ≡ files.old }
     {
@@ -282,6 +290,9 @@ impl<E: OwnParts> RegistryOf<E> {
         ensures stays { (read : List Loaded)
             → AnswerStays (setting_under E.registered E.own read self.now (data_of ctx.now))
             (FromSource (options_of self.now) source.now) }
+        ensures alike { (read : List Loaded)
+            → HasFixedMarkup (setting_under E.registered E.own read self.now (data_of ctx.now))
+            (FromSource (options_of self.now) source.now) }
         ensures asks { AsksFor R.reads self.now None files.old files.new }
         ensures unread { is_dev self.now ≡ false → files.new ≡ files.old }
     {
@@ -343,6 +354,9 @@ impl<E: OwnParts> RegistryOf<E> {
         ensures stays { (read : List Loaded)
             → AnswerStays (setting_under E.registered E.own read self.now (data_of ctx.now))
             (FromSource (options_of self.now) source.now) }
+        ensures alike { (read : List Loaded)
+            → HasFixedMarkup (setting_under E.registered E.own read self.now (data_of ctx.now))
+            (FromSource (options_of self.now) source.now) }
         ensures asks { AsksFor R.reads self.now None files.old files.new }
         ensures unread { is_dev self.now ≡ false → files.new ≡ files.old }
     {
@@ -376,7 +390,7 @@ impl<E: OwnParts> RegistryOf<E> {
     }
 
     // The tree of a source that has no name.
-    fn compiled(&self, source: &str) -> Result<Template, TemplateError>
+    pub(crate) fn compiled(&self, source: &str) -> Result<Template, TemplateError>
         ensures ok { IfOk result (λ t. Compiles source.now (options_of self.now) (compiled (tree_view t))) }
         ensures err { IfErr result (λ e. (template_refusal_of e).reason ≢ template_out_of_memory
             → Compiles source.now (options_of self.now) (refused (template_refusal_of e))) }

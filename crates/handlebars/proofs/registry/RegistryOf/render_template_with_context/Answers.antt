@@ -3,6 +3,7 @@ use Rattle.handlebars_base.specs.TemplateRefusals.{template_refusal_of}
 use Rattle.handlebars_scope.specs.Contexts.{data_of}
 use Rattle.handlebars_template.specs.TreeView.{tree_view}
 use Rattle.handlebars.proofs.Asks.{asks-nothing}
+use Rattle.handlebars_markup.proofs.FixedMarkup.{two_runs}
 use Rattle.handlebars.proofs.AnswerLaws.{FromSource-one, has_one_answer, answer_has_origins, answer_stays}
 use Rattle.handlebars.proofs.OverLaws.{over-lawful, gives-by-source, refuses-by-source, source-fails-at-file, source-refused}
 use Rattle.handlebars.proofs.registry.RegistryOf.render_template_with_context.Goals as goal
@@ -33,6 +34,10 @@ pub returns-in_err-template-clause-one : goal.returns-in_err-template-clause-one
 returns-in_err-template-clause-one g c = λ read. has_one_answer _ (over-lawful g.E.OwnParts.registered g.E.OwnParts.own c.args.self.now (data_of c.args.ctx.now) read c.keeps_law.ensures)
     _ (FromSource-one _ _)
 
+pub returns-in_err-template-clause-alike : goal.returns-in_err-template-clause-alike
+returns-in_err-template-clause-alike g c = λ read. two_runs _ (over-lawful g.E.OwnParts.registered g.E.OwnParts.own c.args.self.now (data_of c.args.ctx.now) read c.keeps_law.ensures)
+    _ (FromSource-one _ _)
+
 pub returns-in_err-template-clause-origins : goal.returns-in_err-template-clause-origins
 returns-in_err-template-clause-origins g c = λ read. answer_has_origins _ _
 
@@ -41,6 +46,10 @@ returns-in_err-template-clause-stays g c = λ read. answer_stays _ _
 
 pub returns-in_err-read-clause-one : goal.returns-in_err-read-clause-one
 returns-in_err-read-clause-one g c = λ read. has_one_answer _ (over-lawful g.E.OwnParts.registered g.E.OwnParts.own c.args.self.now (data_of c.args.ctx.now) read c.keeps_law.ensures)
+    _ (FromSource-one _ _)
+
+pub returns-in_err-read-clause-alike : goal.returns-in_err-read-clause-alike
+returns-in_err-read-clause-alike g c = λ read. two_runs _ (over-lawful g.E.OwnParts.registered g.E.OwnParts.own c.args.self.now (data_of c.args.ctx.now) read c.keeps_law.ensures)
     _ (FromSource-one _ _)
 
 pub returns-in_err-read-clause-origins : goal.returns-in_err-read-clause-origins
@@ -53,6 +62,10 @@ pub returns-in_err-rc-clause-one : goal.returns-in_err-rc-clause-one
 returns-in_err-rc-clause-one g c = λ read. has_one_answer _ (over-lawful g.E.OwnParts.registered g.E.OwnParts.own c.args.self.now (data_of c.args.ctx.now) read c.keeps_law.ensures)
     _ (FromSource-one _ _)
 
+pub returns-in_err-rc-clause-alike : goal.returns-in_err-rc-clause-alike
+returns-in_err-rc-clause-alike g c = λ read. two_runs _ (over-lawful g.E.OwnParts.registered g.E.OwnParts.own c.args.self.now (data_of c.args.ctx.now) read c.keeps_law.ensures)
+    _ (FromSource-one _ _)
+
 pub returns-in_err-rc-clause-origins : goal.returns-in_err-rc-clause-origins
 returns-in_err-rc-clause-origins g c = λ read. answer_has_origins _ _
 
@@ -61,6 +74,10 @@ returns-in_err-rc-clause-stays g c = λ read. answer_stays _ _
 
 pub returns-clause-one : goal.returns-clause-one
 returns-clause-one g c = λ read. has_one_answer _ (over-lawful g.E.OwnParts.registered g.E.OwnParts.own c.args.self.now (data_of c.args.ctx.now) read c.keeps_law.ensures)
+    _ (FromSource-one _ _)
+
+pub returns-clause-alike : goal.returns-clause-alike
+returns-clause-alike g c = λ read. two_runs _ (over-lawful g.E.OwnParts.registered g.E.OwnParts.own c.args.self.now (data_of c.args.ctx.now) read c.keeps_law.ensures)
     _ (FromSource-one _ _)
 
 pub returns-clause-origins : goal.returns-clause-origins

@@ -2,6 +2,7 @@ use Rattle.handlebars_base.specs.TemplateRefusals.{template_refusal_of}
 use Rattle.handlebars_scope.specs.Contexts.{data_of}
 use Rattle.handlebars_template.specs.TreeView.{tree_view}
 use Rattle.handlebars.proofs.Asks.{asks-nothing}
+use Rattle.handlebars_markup.proofs.FixedMarkup.{two_runs}
 use Rattle.handlebars.proofs.AnswerLaws.{FromSource-one, has_one_answer, answer_has_origins, answer_stays}
 use Rattle.handlebars.proofs.OverLaws.{over-lawful}
 use Rattle.handlebars.proofs.WritesRead.{writes-source, writes-uncompiled}
@@ -21,6 +22,10 @@ pub returns-in-Ok-clause-one : goal.returns-in-Ok-clause-one
 returns-in-Ok-clause-one g c = λ read. has_one_answer _ (over-lawful g.E.OwnParts.registered g.E.OwnParts.own c.args.self.now (data_of c.args.ctx.now) read c.keeps_law.ensures)
     _ (FromSource-one _ _)
 
+pub returns-in-Ok-clause-alike : goal.returns-in-Ok-clause-alike
+returns-in-Ok-clause-alike g c = λ read. two_runs _ (over-lawful g.E.OwnParts.registered g.E.OwnParts.own c.args.self.now (data_of c.args.ctx.now) read c.keeps_law.ensures)
+    _ (FromSource-one _ _)
+
 pub returns-in-Ok-clause-origins : goal.returns-in-Ok-clause-origins
 returns-in-Ok-clause-origins g c = λ read. answer_has_origins _ _
 
@@ -29,6 +34,10 @@ returns-in-Ok-clause-stays g c = λ read. answer_stays _ _
 
 pub returns-in-Err-clause-one : goal.returns-in-Err-clause-one
 returns-in-Err-clause-one g c = λ read. has_one_answer _ (over-lawful g.E.OwnParts.registered g.E.OwnParts.own c.args.self.now (data_of c.args.ctx.now) read c.keeps_law.ensures)
+    _ (FromSource-one _ _)
+
+pub returns-in-Err-clause-alike : goal.returns-in-Err-clause-alike
+returns-in-Err-clause-alike g c = λ read. two_runs _ (over-lawful g.E.OwnParts.registered g.E.OwnParts.own c.args.self.now (data_of c.args.ctx.now) read c.keeps_law.ensures)
     _ (FromSource-one _ _)
 
 pub returns-in-Err-clause-origins : goal.returns-in-Err-clause-origins

@@ -3,6 +3,7 @@ use Rattle.std.proofs.lemmas.Result.{IfOk-weaker, IfErr-weaker, err_from_is_err_
 use Rattle.handlebars_base.specs.Reasons.{template_not_found}
 use Rattle.handlebars_base.specs.RenderRefusals.{plain_refusal}
 use Rattle.handlebars_scope.specs.Contexts.{data_of}
+use Rattle.handlebars_markup.proofs.FixedMarkup.{two_runs}
 use Rattle.handlebars.proofs.AnswerLaws.{FromName-one, has_one_answer, answer_has_origins, named_answer_stays}
 use Rattle.handlebars.proofs.OverLaws.{over-lawful, gives-by-name, refuses-by-name, not-found-by-name, fails-at-file}
 use Rattle.handlebars.proofs.registry.RegistryOf.render_with_context.Goals as goal
@@ -33,6 +34,10 @@ pub returns-in_err-read-clause-one : goal.returns-in_err-read-clause-one
 returns-in_err-read-clause-one g c = λ read. has_one_answer _ (over-lawful g.E.OwnParts.registered g.E.OwnParts.own c.args.self.now (data_of c.args.ctx.now) read c.keeps_law.ensures)
     _ (FromName-one _ _)
 
+pub returns-in_err-read-clause-alike : goal.returns-in_err-read-clause-alike
+returns-in_err-read-clause-alike g c = λ read. two_runs _ (over-lawful g.E.OwnParts.registered g.E.OwnParts.own c.args.self.now (data_of c.args.ctx.now) read c.keeps_law.ensures)
+    _ (FromName-one _ _)
+
 pub returns-in_err-read-clause-origins : goal.returns-in_err-read-clause-origins
 returns-in_err-read-clause-origins g c = λ read. answer_has_origins _ _
 
@@ -41,6 +46,10 @@ returns-in_err-read-clause-stays g c = λ read. named_answer_stays _ _
 
 pub returns-in_err-name-clause-one : goal.returns-in_err-name-clause-one
 returns-in_err-name-clause-one g c = λ read. has_one_answer _ (over-lawful g.E.OwnParts.registered g.E.OwnParts.own c.args.self.now (data_of c.args.ctx.now) read c.keeps_law.ensures)
+    _ (FromName-one _ _)
+
+pub returns-in_err-name-clause-alike : goal.returns-in_err-name-clause-alike
+returns-in_err-name-clause-alike g c = λ read. two_runs _ (over-lawful g.E.OwnParts.registered g.E.OwnParts.own c.args.self.now (data_of c.args.ctx.now) read c.keeps_law.ensures)
     _ (FromName-one _ _)
 
 pub returns-in_err-name-clause-origins : goal.returns-in_err-name-clause-origins
@@ -53,6 +62,10 @@ pub returns-in_default-clause-one : goal.returns-in_default-clause-one
 returns-in_default-clause-one g c = λ read. has_one_answer _ (over-lawful g.E.OwnParts.registered g.E.OwnParts.own c.args.self.now (data_of c.args.ctx.now) read c.keeps_law.ensures)
     _ (FromName-one _ _)
 
+pub returns-in_default-clause-alike : goal.returns-in_default-clause-alike
+returns-in_default-clause-alike g c = λ read. two_runs _ (over-lawful g.E.OwnParts.registered g.E.OwnParts.own c.args.self.now (data_of c.args.ctx.now) read c.keeps_law.ensures)
+    _ (FromName-one _ _)
+
 pub returns-in_default-clause-origins : goal.returns-in_default-clause-origins
 returns-in_default-clause-origins g c = λ read. answer_has_origins _ _
 
@@ -63,6 +76,10 @@ pub returns-in_err-rc-clause-one : goal.returns-in_err-rc-clause-one
 returns-in_err-rc-clause-one g c = λ read. has_one_answer _ (over-lawful g.E.OwnParts.registered g.E.OwnParts.own c.args.self.now (data_of c.args.ctx.now) read c.keeps_law.ensures)
     _ (FromName-one _ _)
 
+pub returns-in_err-rc-clause-alike : goal.returns-in_err-rc-clause-alike
+returns-in_err-rc-clause-alike g c = λ read. two_runs _ (over-lawful g.E.OwnParts.registered g.E.OwnParts.own c.args.self.now (data_of c.args.ctx.now) read c.keeps_law.ensures)
+    _ (FromName-one _ _)
+
 pub returns-in_err-rc-clause-origins : goal.returns-in_err-rc-clause-origins
 returns-in_err-rc-clause-origins g c = λ read. answer_has_origins _ _
 
@@ -71,6 +88,10 @@ returns-in_err-rc-clause-stays g c = λ read. named_answer_stays _ _
 
 pub returns-clause-one : goal.returns-clause-one
 returns-clause-one g c = λ read. has_one_answer _ (over-lawful g.E.OwnParts.registered g.E.OwnParts.own c.args.self.now (data_of c.args.ctx.now) read c.keeps_law.ensures)
+    _ (FromName-one _ _)
+
+pub returns-clause-alike : goal.returns-clause-alike
+returns-clause-alike g c = λ read. two_runs _ (over-lawful g.E.OwnParts.registered g.E.OwnParts.own c.args.self.now (data_of c.args.ctx.now) read c.keeps_law.ensures)
     _ (FromName-one _ _)
 
 pub returns-clause-origins : goal.returns-clause-origins

@@ -1,4 +1,5 @@
 use Rattle.handlebars_scope.specs.Contexts.{data_of}
+use Rattle.handlebars_markup.proofs.FixedMarkup.{two_runs}
 use Rattle.handlebars.proofs.AnswerLaws.{FromName-one, has_one_answer, answer_has_origins, named_answer_stays}
 use Rattle.handlebars.proofs.OverLaws.{over-lawful}
 use Rattle.handlebars.proofs.WritesRead.{writes-by-name, writes-unread}
@@ -16,6 +17,10 @@ pub returns-in-Ok-clause-one : goal.returns-in-Ok-clause-one
 returns-in-Ok-clause-one g c = λ read. has_one_answer _ (over-lawful g.E.OwnParts.registered g.E.OwnParts.own c.args.self.now (data_of c.args.ctx.now) read c.keeps_law.ensures)
     _ (FromName-one _ _)
 
+pub returns-in-Ok-clause-alike : goal.returns-in-Ok-clause-alike
+returns-in-Ok-clause-alike g c = λ read. two_runs _ (over-lawful g.E.OwnParts.registered g.E.OwnParts.own c.args.self.now (data_of c.args.ctx.now) read c.keeps_law.ensures)
+    _ (FromName-one _ _)
+
 pub returns-in-Ok-clause-origins : goal.returns-in-Ok-clause-origins
 returns-in-Ok-clause-origins g c = λ read. answer_has_origins _ _
 
@@ -24,6 +29,10 @@ returns-in-Ok-clause-stays g c = λ read. named_answer_stays _ _
 
 pub returns-in-Err-clause-one : goal.returns-in-Err-clause-one
 returns-in-Err-clause-one g c = λ read. has_one_answer _ (over-lawful g.E.OwnParts.registered g.E.OwnParts.own c.args.self.now (data_of c.args.ctx.now) read c.keeps_law.ensures)
+    _ (FromName-one _ _)
+
+pub returns-in-Err-clause-alike : goal.returns-in-Err-clause-alike
+returns-in-Err-clause-alike g c = λ read. two_runs _ (over-lawful g.E.OwnParts.registered g.E.OwnParts.own c.args.self.now (data_of c.args.ctx.now) read c.keeps_law.ensures)
     _ (FromName-one _ _)
 
 pub returns-in-Err-clause-origins : goal.returns-in-Err-clause-origins

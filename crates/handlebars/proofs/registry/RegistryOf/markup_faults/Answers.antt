@@ -1,0 +1,20 @@
+use Rattle.std.proofs.lemmas.Result.{err_from_is_err_and}
+use Rattle.handlebars.proofs.MarkupRead.{told-by-name}
+use Rattle.handlebars.proofs.OverLaws.{fails-at-file}
+use Rattle.handlebars.proofs.registry.RegistryOf.markup_faults.Goals as goal
+
+pub returns-in_err-read-clause-err : goal.returns-in_err-read-clause-err
+returns-in_err-read-clause-err g c =
+    let p = err_from_is_err_and c.from_residual.result c.from_residual.ensures.1 in
+    rw (p.1, p.2) (λ other. fails-at-file _ _ _ _ _ _ c.in_err-read.field-0.0 c.in_err-read.ensures.err)
+
+pub returns-clause-ok : goal.returns-clause-ok
+returns-clause-ok g c =
+    let all = c.in_ok-read.ensures.ok in
+    let found = c.in_ok-check_registered.ensures in
+    record {
+      read = all.0;
+      reads_all = all.1;
+      holds = told-by-name g.E.OwnParts.registered g.E.OwnParts.own c.args.self.now all.0 c.in_ok-read.read c.new-faults.result.items
+          c.check_registered.new.faults.items found.0 all.2 c.new-faults.ensures.items found.1 found.2;
+    }
