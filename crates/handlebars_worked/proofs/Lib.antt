@@ -13,3 +13,4 @@ mod InclusionRows
 mod KeptRows
 mod InclusionSources
 mod PieceRows
+mod MarkupRows

@@ -9,3 +9,4 @@ pub mod InclusionRows
 pub mod KeptRows
 pub mod InclusionSources
 pub mod PieceRows
+pub mod MarkupRows
