@@ -8,6 +8,7 @@ mod counts;
 mod decorators;
 mod helpers;
 mod inclusions;
+mod markup;
 mod names;
 mod own_parts;
 mod own_refusals;
