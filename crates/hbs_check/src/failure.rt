@@ -1,0 +1,68 @@
+//! Why a run can't say whether the markup is fixed.
+
+ghost use Rattle.std.specs.Prelude.{◌≡◌};
+
+use handlebars::{RenderError, TemplateError};
+use std::alloc::AllocError;
+use std::io::ErrorKind;
+use std::{fmt, io};
+
+/// Why a run can't say whether the markup is fixed; the text is a path.
+#[derive(Drop)]
+pub enum Failure<'a> {
+    Usage,
+    CannotRead(&'a str),
+    /// A template of the folder is refused.
+    NotRegistered(TemplateError),
+    /// The template is refused.
+    Refused(RenderError),
+    OutOfMemory,
+    CannotWrite,
+}
+
+impl<'a> Failure<'a> {
+    /// The failure of a reader at a path.
+    pub fn of_reader(path: &'a str, cause: io::Error) -> Failure<'a> {
+        match cause.kind() {
+            ErrorKind::OutOfMemory => Failure::OutOfMemory,
+            _ => Failure::CannotRead(path),
+        }
+    }
+}
+
+impl From<AllocError> for Failure<'_> {
+    fn from(_e: AllocError) -> Self
+        ensures { result ≡ Failure.OutOfMemory }
+    {
+        Failure::OutOfMemory
+    }
+}
+
+impl From<TemplateError> for Failure<'_> {
+    fn from(cause: TemplateError) -> Self
+        ensures { result ≡ Failure.NotRegistered cause }
+    {
+        Failure::NotRegistered(cause)
+    }
+}
+
+impl From<RenderError> for Failure<'_> {
+    fn from(cause: RenderError) -> Self
+        ensures { result ≡ Failure.Refused cause }
+    {
+        Failure::Refused(cause)
+    }
+}
+
+impl fmt::Display for Failure<'_> {
+    fn fmt<W: fmt::Write>(&self, f: &mut fmt::Formatter<W>) -> fmt::Result {
+        match self {
+            Failure::Usage => write!(f, "usage: hbs_check [--strict] TEMPLATE [FOLDER]"),
+            Failure::CannotRead(path) => write!(f, "hbs_check: cannot read {path}"),
+            Failure::NotRegistered(cause) => write!(f, "{cause}"),
+            Failure::Refused(cause) => write!(f, "{cause}"),
+            Failure::OutOfMemory => write!(f, "Out of memory"),
+            Failure::CannotWrite => write!(f, "hbs_check: cannot write"),
+        }
+    }
+}
