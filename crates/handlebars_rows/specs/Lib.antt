@@ -1,3 +1,4 @@
+pub mod Marks
 pub mod Outcomes
 pub mod Replies
 pub mod Wanted

@@ -1,6 +1,7 @@
 -- What is wanted of a rendering.
-use Rattle.std.specs.Prelude.{◌≡◌, IfSome, Some, option_map, Result, String, string_bytes}
+use Rattle.std.specs.Prelude.{◌≡◌, IfOk, IfSome, Some, option_map, Result, String, string_bytes}
 use Rattle.std.specs.declared.alloc.Global.{Global}
+use Rattle.handlebars_rows.specs.Marks.{HasMarks}
 use Rattle.handlebars_rows.specs.Outcomes.{handed_of, handed_out, outcome_view}
 use Rattle.handlebars_rows.specs.declared.outcome.Outcome.{Outcome}
 use Rattle.handlebars_rows.specs.declared.outcome.Refusal.{Refusal}
@@ -11,10 +12,15 @@ use Rattle.handlebars_rows.specs.declared.told.Wanted.{Wanted}
 abbrev pub Prints : Told → Wanted → Type 0
 Prints told wanted = IfSome wanted.printed (λ text. option_map string_bytes told.printed ≡ Some (string_bytes text))
 
--- A call hands out the wanted text, or none where a refusal is wanted, and prints what is wanted.
+-- A call hands out the wanted text, or none where a refusal is wanted, and prints what is wanted; a text has the wanted
+-- marks.
 abbrev pub IsHandedOut : Result (String Global) Refusal → Told → Wanted → Type 0
-IsHandedOut text told wanted = (handed_of text ≡ handed_out (outcome_view wanted.outcome)) × Prints told wanted
+IsHandedOut text told wanted =
+    (handed_of text ≡ handed_out (outcome_view wanted.outcome)) × Prints told wanted
+    × IfOk text (λ t. HasMarks (string_bytes t) wanted.marks)
 
--- What is written is the wanted text, and the refusal behind it the wanted one, and is printed so.
+-- What is written is the wanted text, with the wanted marks, and the refusal behind it the wanted one, and is printed so.
 abbrev pub IsWritten : Outcome → Told → Wanted → Type 0
-IsWritten outcome told wanted = (outcome_view outcome ≡ outcome_view wanted.outcome) × Prints told wanted
+IsWritten outcome told wanted =
+    (outcome_view outcome ≡ outcome_view wanted.outcome) × Prints told wanted
+    × HasMarks (string_bytes outcome.text) wanted.marks

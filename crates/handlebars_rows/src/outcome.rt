@@ -62,11 +62,27 @@ impl Refusal {
     }
 }
 
-fn copied(name: Option<&String>) -> Result<Option<String>, AllocError> {
+/// A text of its own, if there is one.
+pub fn copied(name: Option<&String>) -> Result<Option<String>, AllocError> {
     match name {
         Some(name) => Ok(Some(name.clone()?)),
         None => Ok(None),
     }
+}
+
+/// The refusal of this reason, if there is one.
+pub fn refused(
+    reason: Option<String>,
+    line: Option<usize>,
+    column: Option<usize>,
+    template: Option<String>,
+) -> Option<Refusal> {
+    reason.map(|reason| Refusal {
+        reason,
+        line,
+        column,
+        template,
+    })
 }
 
 impl fmt::Display for Outcome {

@@ -1,13 +1,14 @@
 //! Rows that render a template.
 
 use crate::failure::RowFailure;
-use crate::outcome::{Outcome, Refusal};
+use crate::other::{Other, OtherFields, Shared};
+use crate::outcome::{Outcome, copied, refused};
 use crate::pen::Taking;
 use crate::steps::Step;
 use crate::told::Wanted;
 use crate::{fields, kept, pen, steps};
 use serde_json::{Map, Value as JsonValue};
-use std::alloc::Global;
+use std::alloc::{AllocError, Global};
 use std::fmt;
 use std::io::ErrorKind;
 
@@ -42,6 +43,8 @@ pub struct Rendering {
     /// The fault of the output when it takes no more.
     pub fault: ErrorKind,
     pub wanted: Wanted,
+    /// The second run, over other data, where there is one.
+    pub other: Option<Other>,
 }
 
 impl Drop for Rendering {
@@ -63,6 +66,7 @@ impl Drop for Rendering {
             takes: _,
             fault: _,
             wanted: _,
+            other: _,
         } = self;
     }
 }
@@ -171,6 +175,7 @@ struct Fields {
     takes: Option<usize>,
     fault: Option<ErrorKind>,
     text: Option<String>,
+    marks: Option<String>,
     reason: Option<String>,
     line: Option<usize>,
     column: Option<usize>,
@@ -178,6 +183,7 @@ struct Fields {
     printed: Option<String>,
     logged: Option<Vec<JsonValue>>,
     asked: Option<Vec<JsonValue>>,
+    other: OtherFields,
 }
 
 impl Drop for Fields {
@@ -200,6 +206,7 @@ impl Drop for Fields {
             takes: _,
             fault: _,
             text: _,
+            marks: _,
             reason: _,
             line: _,
             column: _,
@@ -207,6 +214,7 @@ impl Drop for Fields {
             printed: _,
             logged: _,
             asked: _,
+            other: _,
         } = self;
     }
 }
@@ -272,6 +280,7 @@ impl Fields {
     ) -> Result<(), RowFailure> {
         match name.as_str() {
             "text" => fields::set_text(&mut self.text, alloc, name, value),
+            "marks" => fields::set_text(&mut self.marks, alloc, name, value),
             "reason" => fields::set_text(&mut self.reason, alloc, name, value),
             "line" => fields::set_number(&mut self.line, name, &value),
             "column" => fields::set_number(&mut self.column, name, &value),
@@ -279,16 +288,17 @@ impl Fields {
             "printed" => fields::set_text(&mut self.printed, alloc, name, value),
             "logged" => fields::set_lines(&mut self.logged, name, value),
             "asked" => fields::set_list(&mut self.asked, name, value),
-            _ => Err(RowFailure::Field(name, "is no field")),
+            _ => self.other.take(alloc, name, value),
         }
     }
 
     // What only stands beside another field.
     fn check(&self) -> Result<(), RowFailure> {
-        if self.reason.is_none() && self.tells_of_refusal() {
-            return Err(RowFailure::Fields(
-                "a line, a column, a template or a printed text without a reason",
-            ));
+        if self.reason.is_none() && self.printed.is_some() {
+            return Err(RowFailure::Fields("a printed text without a reason"));
+        }
+        if self.reason.is_none() && !self.other.has_reason() && self.has_place() {
+            return Err(RowFailure::Fields("a line, a column or a template without a reason"));
         }
         if self.takes.is_none() && self.fault.is_some() {
             return Err(RowFailure::Fields("a fault without an output that takes so much"));
@@ -296,18 +306,16 @@ impl Fields {
         if self.takes.is_some() && self.is_for_calls() {
             return Err(RowFailure::Fields("an output beside what the calls alone have"));
         }
-        Ok(())
+        self.other.check()
     }
 
     fn is_for_calls(&self) -> bool {
         self.files.is_some() || self.steps.is_some() || self.over.is_some() || self.to.is_some()
     }
 
-    fn tells_of_refusal(&self) -> bool {
-        self.line.is_some()
-            || self.column.is_some()
-            || self.template.is_some()
-            || self.printed.is_some()
+    // Whether the place of a refusal is wanted.
+    fn has_place(&self) -> bool {
+        self.line.is_some() || self.column.is_some() || self.template.is_some()
     }
 
     // With steps, the empty source stands where none does, and renders to the empty text.
@@ -329,11 +337,23 @@ impl Fields {
             .text
             .take()
             .ok_or(RowFailure::Fields("the text is missing"))?;
-        Ok(fields.rendering(rendered, text))
+        let other = fields.take_other()?;
+        Ok(fields.rendering(rendered, text, other))
+    }
+
+    fn take_other(&mut self) -> Result<Option<Other>, AllocError> {
+        let shared = Shared {
+            reason: copied(self.reason.as_ref())?,
+            line: self.line,
+            column: self.column,
+            template: copied(self.template.as_ref())?,
+            marks: copied(self.marks.as_ref())?,
+        };
+        Ok(std::mem::take(&mut self.other).into_other(shared))
     }
 
     // Of fields that may stand together.
-    fn rendering(self, rendered: Rendered, text: String) -> Rendering {
+    fn rendering(self, rendered: Rendered, text: String, other: Option<Other>) -> Rendering {
         let Fields {
             templates,
             helpers,
@@ -352,6 +372,7 @@ impl Fields {
             takes,
             fault,
             text: _,
+            marks,
             reason,
             line,
             column,
@@ -359,13 +380,8 @@ impl Fields {
             printed,
             logged,
             asked,
+            other: _,
         } = self;
-        let refusal = reason.map(|reason| Refusal {
-            reason,
-            line,
-            column,
-            template,
-        });
         Rendering {
             templates,
             helpers,
@@ -383,11 +399,16 @@ impl Fields {
             takes,
             fault: fault.unwrap_or(ErrorKind::NotFound),
             wanted: Wanted {
-                outcome: Outcome { text, refusal },
+                outcome: Outcome {
+                    text,
+                    refusal: refused(reason, line, column, template),
+                },
+                marks,
                 printed,
                 logged,
                 asked,
             },
+            other,
         }
     }
 }

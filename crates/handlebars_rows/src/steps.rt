@@ -2,7 +2,7 @@
 
 use crate::failure::RowFailure;
 use crate::names::Names;
-use crate::outcome::Refusal;
+use crate::outcome::{Refusal, refused};
 use crate::{fields, kept};
 use serde_json::{Map, Value as JsonValue};
 use std::alloc::Global;
@@ -229,16 +229,10 @@ impl Fields {
             asked,
             names,
         } = self;
-        let refusal = reason.map(|reason| Refusal {
-            reason,
-            line,
-            column,
-            template,
-        });
         Step {
             deed: with_options(deed, extension, hidden, temporary),
             wanted: Wants {
-                refusal,
+                refusal: refused(reason, line, column, template),
                 asked,
                 names,
             },

@@ -16,6 +16,8 @@ use std::fmt;
 #[derive(Drop)]
 pub struct Wanted {
     pub outcome: Outcome,
+    /// The marks of the text, if they are wanted.
+    pub marks: Option<String>,
     /// The whole text of the error, if that is wanted.
     pub printed: Option<String>,
     /// The lines that the logger sees, each a level and a text, if they are wanted.
@@ -130,6 +132,9 @@ impl fmt::Display for Wanted {
     fn fmt<W: fmt::Write>(&self, f: &mut fmt::Formatter<W>) -> fmt::Result {
         let outcome = &self.outcome;
         write!(f, "    wanted:     {outcome}")?;
+        if let Some(marks) = &self.marks {
+            write!(f, "\n      marks: {marks:?}")?;
+        }
         if let Some(text) = &self.printed {
             write!(f, "\n      printed: {text:?}")?;
         }

@@ -1,6 +1,7 @@
 //! What a rendering answers.
 
-ghost use Rattle.std.specs.Prelude.{◌≡◌, ◌&&◌, IfOk, IsTrue, IfSome, is_some};
+ghost use Rattle.std.specs.Prelude.{◌≡◌, ◌&&◌, IfOk, IsTrue, IfSome, is_some, string_bytes};
+ghost use Rattle.handlebars_rows.specs.Marks.{HasMarks};
 ghost use Rattle.handlebars_rows.specs.Outcomes.{outcome_view, handed_of, handed_out};
 ghost use Rattle.handlebars_rows.specs.Wanted.{IsHandedOut, IsWritten};
 ghost use Rattle.handlebars_rows.specs.Ways.{has_output, has_text, has_writer, is_over};
@@ -8,8 +9,9 @@ ghost use Rattle.handlebars_rows.specs.Ways.{has_output, has_text, has_writer, i
 use crate::calls;
 use crate::output::write_template;
 use crate::shelf::Shelf;
-use handlebars::RenderError;
+use handlebars::{JsonValue, RenderError};
 use handlebars_rows::bounded::Bounded;
+use handlebars_rows::marks::{MarksOf, has_marks};
 use handlebars_rows::names::Names;
 use handlebars_rows::outcome::{Outcome, Refusal};
 use handlebars_rows::pen::{Pen, Taking};
@@ -49,8 +51,8 @@ pub struct Written {
 }
 
 impl Answer {
-    /// Renders a row in each way that it has.
-    pub fn of(alloc: Global, row: &Rendering) -> Result<Answer, AllocError>
+    /// Renders a row over data in each way that it has.
+    pub fn of(alloc: Global, row: &Rendering, data: &JsonValue) -> Result<Answer, AllocError>
         ensures registry { IfOk result (λ a. is_some a.registry
             ≡ (has_text row.now && is_over (Over.Context) row.now)) }
         ensures converted { IfOk result (λ a. is_some a.converted
@@ -61,11 +63,11 @@ impl Answer {
         ensures converting { IfOk result (λ a. is_some a.converting
             ≡ (has_writer row.now && is_over (Over.Value) row.now)) }
     {
-        let registry = Handed::asked(alloc, row, Over::Context)?;
-        let converted = Handed::asked(alloc, row, Over::Value)?;
-        let template = Written::to_output(alloc, row)?;
-        let writer = Written::asked(alloc, row, Over::Context)?;
-        let converting = Written::asked(alloc, row, Over::Value)?;
+        let registry = Handed::asked(alloc, row, data, Over::Context)?;
+        let converted = Handed::asked(alloc, row, data, Over::Value)?;
+        let template = Written::to_output(alloc, row, data)?;
+        let writer = Written::asked(alloc, row, data, Over::Context)?;
+        let converting = Written::asked(alloc, row, data, Over::Value)?;
         Ok(Answer {
             registry,
             converted,
@@ -117,19 +119,29 @@ fn are_written(written: &Option<Written>, wanted: &Wanted) -> bool
 }
 
 impl Handed {
-    fn asked(alloc: Global, row: &Rendering, over: Over) -> Result<Option<Handed>, AllocError>
+    fn asked(
+        alloc: Global,
+        row: &Rendering,
+        data: &JsonValue,
+        over: Over,
+    ) -> Result<Option<Handed>, AllocError>
         ensures { IfOk result (λ handed. is_some handed ≡ (has_text row.now && is_over over row.now)) }
     {
         match row.has_text() && row.is_over(over) {
-            true => Ok(Some(Handed::of(alloc, row, over)?)),
+            true => Ok(Some(Handed::of(alloc, row, data, over)?)),
             false => Ok(None),
         }
     }
 
-    fn of(alloc: Global, row: &Rendering, over: Over) -> Result<Handed, AllocError> {
+    fn of(
+        alloc: Global,
+        row: &Rendering,
+        data: &JsonValue,
+        over: Over,
+    ) -> Result<Handed, AllocError> {
         let log = Memory::new(alloc);
         let mut files = Shelf::new(alloc);
-        let answer = calls::text(alloc, row, over, &log, &mut files);
+        let answer = calls::text(alloc, row, data, over, &log, &mut files);
         let told = Told::of(alloc, &answer, log, files.take_asked())?;
         let text = match answer {
             Ok(text) => Ok(text),
@@ -141,7 +153,18 @@ impl Handed {
     fn comes_to(&self, wanted: &Wanted) -> bool
         ensures { IsTrue result → IsHandedOut self.now.text self.now.told wanted.now }
     {
-        hands_out(&self.text, &wanted.outcome) && self.told.comes_to(wanted)
+        hands_out(&self.text, &wanted.outcome)
+            && self.told.comes_to(wanted)
+            && has_marks_if_whole(&self.text, &wanted.marks)
+    }
+}
+
+fn has_marks_if_whole(handed: &Result<String, Refusal>, wanted: &Option<String>) -> bool
+    ensures { IsTrue result → IfOk handed.now (λ text. HasMarks (string_bytes text) wanted.now) }
+{
+    match handed {
+        Ok(text) => has_marks(text.as_str(), wanted),
+        Err(_) => true,
     }
 }
 
@@ -157,37 +180,55 @@ fn hands_out(handed: &Result<String, Refusal>, wanted: &Outcome) -> bool
 }
 
 impl Written {
-    fn asked(alloc: Global, row: &Rendering, over: Over) -> Result<Option<Written>, AllocError>
+    fn asked(
+        alloc: Global,
+        row: &Rendering,
+        data: &JsonValue,
+        over: Over,
+    ) -> Result<Option<Written>, AllocError>
         ensures { IfOk result (λ written. is_some written ≡ (has_writer row.now && is_over over row.now)) }
     {
         match row.has_writer() && row.is_over(over) {
-            true => Ok(Some(Written::of(alloc, row, over)?)),
+            true => Ok(Some(Written::of(alloc, row, data, over)?)),
             false => Ok(None),
         }
     }
 
-    fn of(alloc: Global, row: &Rendering, over: Over) -> Result<Written, AllocError> {
+    fn of(
+        alloc: Global,
+        row: &Rendering,
+        data: &JsonValue,
+        over: Over,
+    ) -> Result<Written, AllocError> {
         let log = Memory::new(alloc);
         let mut files = Shelf::new(alloc);
         let mut pen = Pen::new(alloc, row.to.unwrap_or(Taking::all()));
-        let answer = calls::write(alloc, row, over, &mut pen, &log, &mut files);
+        let answer = calls::write(alloc, row, data, over, &mut pen, &log, &mut files);
         let text = pen.text(alloc)?;
         Written::with(alloc, text, &answer, log, files.take_asked())
     }
 
-    fn to_output(alloc: Global, row: &Rendering) -> Result<Option<Written>, AllocError>
+    fn to_output(
+        alloc: Global,
+        row: &Rendering,
+        data: &JsonValue,
+    ) -> Result<Option<Written>, AllocError>
         ensures { IfOk result (λ written. is_some written ≡ has_output row.now) }
     {
         match row.has_output() {
-            true => Ok(Some(Written::of_template(alloc, row)?)),
+            true => Ok(Some(Written::of_template(alloc, row, data)?)),
             false => Ok(None),
         }
     }
 
-    fn of_template(alloc: Global, row: &Rendering) -> Result<Written, AllocError> {
+    fn of_template(
+        alloc: Global,
+        row: &Rendering,
+        data: &JsonValue,
+    ) -> Result<Written, AllocError> {
         let log = Memory::new(alloc);
         let mut out = Bounded::new(alloc, row.takes.unwrap_or(usize::MAX), row.fault);
-        let answer = write_template(alloc, row, &mut out, &log);
+        let answer = write_template(alloc, row, data, &mut out, &log);
         Written::with(alloc, out.into_string(), &answer, log, Names::new(alloc))
     }
 
@@ -212,17 +253,21 @@ impl Written {
     fn comes_to(&self, wanted: &Wanted) -> bool
         ensures { IsTrue result → IsWritten self.now.outcome self.now.told wanted.now }
     {
-        self.outcome.equals(&wanted.outcome) && self.told.comes_to(wanted)
+        self.outcome.equals(&wanted.outcome)
+            && self.told.comes_to(wanted)
+            && has_marks(self.outcome.text.as_str(), &wanted.marks)
     }
 }
 
-impl fmt::Display for Answer {
-    fn fmt<W: fmt::Write>(&self, f: &mut fmt::Formatter<W>) -> fmt::Result {
-        show_handed(f, "registry:  ", &self.registry)?;
-        show_handed(f, "converted: ", &self.converted)?;
-        show_written(f, "template:  ", &self.template)?;
-        show_written(f, "writer:    ", &self.writer)?;
-        show_written(f, "converting:", &self.converting)
+impl Answer {
+    /// Prints what it comes to in each way, with the marks of texts where marks are wanted.
+    pub fn show<W: fmt::Write>(&self, f: &mut fmt::Formatter<W>, wanted: &Wanted) -> fmt::Result {
+        let marked = wanted.marks.is_some();
+        show_handed(f, "registry:  ", &self.registry, marked)?;
+        show_handed(f, "converted: ", &self.converted, marked)?;
+        show_written(f, "template:  ", &self.template, marked)?;
+        show_written(f, "writer:    ", &self.writer, marked)?;
+        show_written(f, "converting:", &self.converting, marked)
     }
 }
 
@@ -230,13 +275,18 @@ fn show_handed<W: fmt::Write>(
     f: &mut fmt::Formatter<W>,
     way: &str,
     handed: &Option<Handed>,
+    marked: bool,
 ) -> fmt::Result {
     let Some(handed) = handed else {
         return Ok(());
     };
     let told = &handed.told;
     match &handed.text {
-        Ok(text) => write!(f, "\n    {way} {text:?}{told}"),
+        Ok(text) => {
+            write!(f, "\n    {way} {text:?}")?;
+            show_marks(f, text.as_str(), marked)?;
+            write!(f, "{told}")
+        }
         Err(refusal) => write!(f, "\n    {way} {refusal}{told}"),
     }
 }
@@ -245,11 +295,21 @@ fn show_written<W: fmt::Write>(
     f: &mut fmt::Formatter<W>,
     way: &str,
     written: &Option<Written>,
+    marked: bool,
 ) -> fmt::Result {
     let Some(written) = written else {
         return Ok(());
     };
     let outcome = &written.outcome;
     let told = &written.told;
-    write!(f, "\n    {way} {outcome}{told}")
+    write!(f, "\n    {way} {outcome}")?;
+    show_marks(f, outcome.text.as_str(), marked)?;
+    write!(f, "{told}")
+}
+
+fn show_marks<W: fmt::Write>(f: &mut fmt::Formatter<W>, text: &str, marked: bool) -> fmt::Result {
+    match marked {
+        true => write!(f, "\n      marks: {}", MarksOf(text)),
+        false => Ok(()),
+    }
 }

@@ -8,28 +8,30 @@ use handlebars_rows::rendering::{Over, Rendered, Rendering};
 use log::sink::Memory;
 use std::alloc::Global;
 
-/// What the call for a text answers.
+/// What the call for a text answers over data.
 pub fn text(
     alloc: Global,
     row: &Rendering,
+    data: &JsonValue,
     over: Over,
     log: &Memory,
     files: &mut Shelf,
 ) -> Result<String, RenderError> {
     let registry = registry_of(alloc, row, files)?;
     match over {
-        Over::Context => text_over_context(&registry, row, log, files),
-        Over::Value => text_over_value(&registry, row, log, files),
+        Over::Context => text_over_context(&registry, row, data, log, files),
+        Over::Value => text_over_value(&registry, row, data, log, files),
     }
 }
 
 fn text_over_context(
     registry: &Registry,
     row: &Rendering,
+    data: &JsonValue,
     log: &Memory,
     files: &mut Shelf,
 ) -> Result<String, RenderError> {
-    let data = context(&row.data)?;
+    let data = context(data)?;
     match &row.rendered {
         Rendered::Source(source) => {
             registry.render_template_with_context(source.as_str(), &data, log, files)
@@ -41,21 +43,21 @@ fn text_over_context(
 fn text_over_value(
     registry: &Registry,
     row: &Rendering,
+    data: &JsonValue,
     log: &Memory,
     files: &mut Shelf,
 ) -> Result<String, RenderError> {
     match &row.rendered {
-        Rendered::Source(source) => {
-            registry.render_template(source.as_str(), &row.data, log, files)
-        }
-        Rendered::Name(name) => registry.render(name.as_str(), &row.data, log, files),
+        Rendered::Source(source) => registry.render_template(source.as_str(), data, log, files),
+        Rendered::Name(name) => registry.render(name.as_str(), data, log, files),
     }
 }
 
-/// What the call that writes answers.
+/// What the call that writes answers over data.
 pub fn write(
     alloc: Global,
     row: &Rendering,
+    data: &JsonValue,
     over: Over,
     pen: &mut Pen,
     log: &Memory,
@@ -63,19 +65,20 @@ pub fn write(
 ) -> Result<(), RenderError> {
     let registry = registry_of(alloc, row, files)?;
     match over {
-        Over::Context => write_over_context(&registry, row, pen, log, files),
-        Over::Value => write_over_value(&registry, row, pen, log, files),
+        Over::Context => write_over_context(&registry, row, data, pen, log, files),
+        Over::Value => write_over_value(&registry, row, data, pen, log, files),
     }
 }
 
 fn write_over_context(
     registry: &Registry,
     row: &Rendering,
+    data: &JsonValue,
     pen: &mut Pen,
     log: &Memory,
     files: &mut Shelf,
 ) -> Result<(), RenderError> {
-    let data = context(&row.data)?;
+    let data = context(data)?;
     match &row.rendered {
         Rendered::Source(source) => {
             let source = source.as_str();
@@ -90,11 +93,11 @@ fn write_over_context(
 fn write_over_value(
     registry: &Registry,
     row: &Rendering,
+    data: &JsonValue,
     pen: &mut Pen,
     log: &Memory,
     files: &mut Shelf,
 ) -> Result<(), RenderError> {
-    let data = &row.data;
     match &row.rendered {
         Rendered::Source(source) => {
             registry.render_template_to_write(source.as_str(), data, pen, log, files)
@@ -103,7 +106,7 @@ fn write_over_value(
     }
 }
 
-/// The context of a row's data.
+/// The context of data.
 pub fn context(data: &JsonValue) -> Result<Context, RenderError> {
     Context::try_from(data.clone()?)
 }

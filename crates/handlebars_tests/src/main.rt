@@ -3,6 +3,7 @@
 #![tactic(auto)]
 
 mod answer;
+mod answers;
 mod asked;
 mod calls;
 mod output;

@@ -4,23 +4,24 @@ use crate::calls::context;
 use crate::registered::registry_of;
 use crate::shelf::Shelf;
 use handlebars::{
-    Context, Registry, RenderContext, RenderError, RenderErrorReason, Renderable, Template,
-    TemplateOptions,
+    Context, JsonValue, Registry, RenderContext, RenderError, RenderErrorReason, Renderable,
+    Template, TemplateOptions,
 };
 use handlebars_rows::bounded::Bounded;
 use handlebars_rows::rendering::{Rendered, Rendering};
 use log::sink::Memory;
 use std::alloc::Global;
 
-/// What the template of a row answers that is rendered to an output.
+/// What the template of a row answers that is rendered over data to an output.
 pub fn write_template(
     alloc: Global,
     row: &Rendering,
+    data: &JsonValue,
     out: &mut Bounded,
     log: &Memory,
 ) -> Result<(), RenderError> {
     let registry = registry_of(alloc, row, &mut Shelf::new(alloc))?;
-    let data = context(&row.data)?;
+    let data = context(data)?;
     match &row.rendered {
         Rendered::Source(source) => write_source(alloc, &registry, source, &data, out, log),
         Rendered::Name(name) => write_named(alloc, &registry, name, &data, out, log),

@@ -1,6 +1,6 @@
 //! A run of the program.
 
-use crate::answer::Answer;
+use crate::answers::Answers;
 use crate::asked::reply;
 use crate::row::{Row, rows};
 use handlebars_rows::call::Call;
@@ -68,7 +68,7 @@ struct Difference {
 // What a row comes to.
 #[derive(Drop)]
 enum Answered {
-    Rendering(Answer),
+    Rendering(Answers),
     Call(Reply),
 }
 
@@ -83,11 +83,11 @@ impl Answered {
 }
 
 fn of_rendering(alloc: Global, row: &Rendering) -> Result<Option<Answered>, AllocError> {
-    let answer = Answer::of(alloc, row)?;
-    if answer.comes_to(&row.wanted) {
+    let answers = Answers::of(alloc, row)?;
+    if answers.come_to(row) {
         return Ok(None);
     }
-    Ok(Some(Answered::Rendering(answer)))
+    Ok(Some(Answered::Rendering(answers)))
 }
 
 fn of_call(alloc: Global, call: &Call) -> Result<Option<Answered>, AllocError> {
@@ -119,9 +119,7 @@ impl fmt::Display for Difference {
         let row = &self.row;
         writeln!(f, "  row {number}: {row}")?;
         match (row, &self.answer) {
-            (Row::Rendering(row), Answered::Rendering(answer)) => {
-                write!(f, "{}{answer}", row.wanted)
-            }
+            (Row::Rendering(row), Answered::Rendering(answers)) => answers.show(f, row),
             (Row::Call(call), Answered::Call(reply)) => {
                 let wanted = &call.wanted;
                 write!(f, "    wanted:   {wanted}\n    answered: {reply}")

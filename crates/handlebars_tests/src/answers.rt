@@ -1,0 +1,63 @@
+//! What the runs of a row answer.
+
+ghost use Rattle.std.specs.Prelude.{◌≡◌, IfOk, IfSome, IsTrue, is_some};
+ghost use Rattle.handlebars_tests.specs.Comes.{ComesTo, OtherComesTo};
+
+use crate::answer::Answer;
+use handlebars_rows::other::Other;
+use handlebars_rows::rendering::Rendering;
+use std::alloc::{AllocError, Global};
+use std::fmt;
+
+/// What a row comes to, and what over its other data, where it has some.
+#[derive(Drop)]
+pub struct Answers {
+    pub first: Answer,
+    pub other: Option<Answer>,
+}
+
+impl Answers {
+    /// Renders a row over its data and over its other data.
+    pub fn of(alloc: Global, row: &Rendering) -> Result<Answers, AllocError>
+        ensures { IfOk result (λ answers. is_some answers.other ≡ is_some row.now.other) }
+    {
+        let first = Answer::of(alloc, row, &row.data)?;
+        let other = match &row.other {
+            Some(other) => Some(Answer::of(alloc, row, &other.data)?),
+            None => None,
+        };
+        Ok(Answers { first, other })
+    }
+
+    /// Whether both come to what is wanted of them.
+    pub fn come_to(&self, row: &Rendering) -> bool
+        ensures first { IsTrue result → ComesTo self.now.first row.now.wanted }
+        ensures other { IsTrue result → OtherComesTo self.now row.now }
+    {
+        self.first.comes_to(&row.wanted) && come_to_other(&self.other, &row.other)
+    }
+
+    /// Prints what is wanted, and what they come to.
+    pub fn show<W: fmt::Write>(&self, f: &mut fmt::Formatter<W>, row: &Rendering) -> fmt::Result {
+        write!(f, "{}", row.wanted)?;
+        self.first.show(f, &row.wanted)?;
+        match (&self.other, &row.other) {
+            (Some(answer), Some(other)) => {
+                write!(f, "\n    over {}\n{}", other.data, other.wanted)?;
+                answer.show(f, &other.wanted)
+            }
+            _ => Ok(()),
+        }
+    }
+}
+
+fn come_to_other(answer: &Option<Answer>, other: &Option<Other>) -> bool
+    ensures { IsTrue result → IfSome answer.now
+        (λ answer. IfSome other.now (λ other. ComesTo answer other.wanted)) }
+{
+    match (answer, other) {
+        (Some(answer), Some(other)) => answer.comes_to(&other.wanted),
+        (None, None) => true,
+        _ => false,
+    }
+}
