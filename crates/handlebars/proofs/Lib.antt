@@ -26,4 +26,5 @@ mod KeptBytes
 mod TakenWalks
 mod MarkupFaults
 mod MarkupNames
+mod MarkupOrder
 mod MarkupRead

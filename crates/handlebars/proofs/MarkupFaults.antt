@@ -24,7 +24,7 @@ use Rattle.handlebars_markup.specs.TwoRuns.{registrations}
 use Rattle.handlebars_markup.specs.declared.fault.MarkupFault.{MarkupFault}
 use Rattle.handlebars_markup.proofs.Faults.{decide_trees, decide_parts}
 use Rattle.handlebars.specs.Files.{laid_over}
-use Rattle.handlebars.specs.Markup.{NoSource, IsFaultOf, of_parts, of_source, of_stored, TellsFaults, IsAllBlind, Judges, first_told, faults_under, faults_under_all, names_in, unread}
+use Rattle.handlebars.specs.Markup.{NoSource, IsFaultOf, of_parts, of_source, of_stored, TellsFaults, IsAllBlind, faults_under, faults_under_all, names_in, unread}
 
 -- ---- elements of lists
 
@@ -219,11 +219,6 @@ module _ (p : Parts) where
     };
     source = λ t b. (decide_trees (registrations p) None t).0 (empty-list _ (λ f c. Contains-nil f (h.all f (of_source b c))));
   }
-
-  pub first_told-judges : (begins : Beginning → Type 0) (ms : List MarkupFault) → TellsFaults p begins (map fault_of ms)
-      → Judges p begins (first_told ms)
-  first_told-judges begins [] h = blind-untold begins h
-  first_told-judges begins (m ∷ ms) h = (map fault_of ms, h)
 
 -- the same trees under names
 module _ (p : Parts) (begins : Beginning → Type 0) where

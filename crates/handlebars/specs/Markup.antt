@@ -1,7 +1,11 @@
--- What is told of the markup that a registry's templates write: every place that keeps it from being fixed.
+-- What is told of the markup that a registry's templates write: every place that keeps it from being fixed, in order.
+use Rattle.std.specs.Cmp.Lexicographic.{slice_cmp}
 use Rattle.std.specs.Global.{Global}
-use Rattle.std.specs.List.{filter, Contains}
-use Rattle.std.specs.Prelude.{◌≡◌, is_some, not, List, [], ◌∷◌, ◌++◌, Option, None, Some, String, map, string_bytes}
+use Rattle.std.specs.List.{filter, list_any, Contains}
+use Rattle.std.specs.List.Sorted.{IsStrictlySortedBy}
+use Rattle.std.specs.Ordering.{nat_cmp}
+use Rattle.std.specs.Prelude.{◌≡◌, Bool, cond, is_some, not, List, [], ◌∷◌, ◌++◌, Option, None, Some, String, map, string_bytes}
+use Rattle.std.specs.Str.{bytes_eq}
 use Rattle.handlebars_base.specs.Bytes.{Text}
 use Rattle.handlebars_base.specs.Optional.{with_or}
 use Rattle.handlebars_template.specs.Tree.{Tree}
@@ -13,8 +17,9 @@ use Rattle.handlebars_markup.specs.declared.fault.MarkupFault.{MarkupFault}
 use Rattle.handlebars_markup.specs.FaultsView.{fault_of}
 use Rattle.handlebars_markup.specs.Faults.{Fault, faults_of_parts, faults_of_tree}
 use Rattle.handlebars_markup.specs.TwoRuns.{IsBlind, registrations}
-use Rattle.handlebars.specs.Files.{Loaded, tree_among}
+use Rattle.handlebars.specs.Files.{laid_over}
 use Rattle.handlebars.specs.Over.{parts_over}
+use Rattle.handlebars.specs.View.{stored_tree}
 use Rattle.handlebars.specs.declared.registry.RegistryOf.{RegistryOf}
 use Rattle.handlebars.specs.declared.registry.markup.Markup.{Markup}
 
@@ -40,16 +45,6 @@ module _ (p : Parts) (begins : Beginning → Type 0) where
     pub registered : IsBlind p
     pub source : (t : Tree) → begins (a_tree t) → IsBlindTree (registrations p) t
 
-module _ {E : Type 0} (registered : E → Registrations) (own : E → OwnAnswers) where
-  -- what a run reads, with trees that were read over those of a registry
-  abbrev pub parts_under : List Loaded → RegistryOf E → Parts
-  parts_under read r = parts_over registered own (tree_among read) r
-
--- The markup is fixed only where all is blind; where it isn't, the first fault is told.
-abbrev pub Judges : Parts → (Beginning → Type 0) → Markup → Type 0
-Judges p begins Markup.Fixed = IsAllBlind p begins
-Judges p begins (Markup.NotFixed m) = (fs : List Fault) × TellsFaults p begins (fault_of m ∷ fs)
-
 -- ---- name by name
 
 -- the faults of what stands under a name, if anything does
@@ -67,6 +62,70 @@ names_in es = map (λ e. string_bytes e.0) es
 -- those of them under which nothing was read
 abbrev pub unread : (Text → Option Tree) → List Text → List Text
 unread read = filter (λ n. not (is_some (read n)))
+
+-- ---- in which order
+
+abbrev pub AreInByteOrder : List Text → Type 0
+AreInByteOrder = IsStrictlySortedBy (slice_cmp nat_cmp)
+
+abbrev pub is_among : Text → List Text → Bool
+is_among n = list_any (bytes_eq n)
+
+-- These are the names under which trees stand, in byte order, each once.
+pub record AreNamesOf (trees : Text → Option Tree) (ns : List Text) : Type 0 where
+  pub order : AreInByteOrder ns
+  pub names : (n : Text) → is_among n ns ≡ is_some (trees n)
+
+-- the trees below, less those under whose names others stand above
+abbrev pub uncovered : (Text → Option Tree) → (Text → Option Tree) → Text → Option Tree
+uncovered above below n = cond (is_some (above n)) None (below n)
+
+-- A rendering begins with this tree, or with none of its own.
+abbrev pub BeginsWith : (Beginning → Type 0) → Option Tree → Type 0
+BeginsWith begins (Some t) = begins (a_tree t)
+BeginsWith begins None = (t : Tree) → begins (a_tree t) → ⊥
+
+-- the faults of that tree
+abbrev pub faults_of_own : Registrations → Option Tree → List Fault
+faults_of_own r t = with_or t (faults_of_tree r None) []
+
+module _ (r : Registrations) (above below : Text → Option Tree) where
+  -- the faults of what is registered: beside templates, under these names, and under those
+  abbrev pub faults_registered : List Text → List Text → List Fault
+  faults_registered ns ms =
+      faults_of_parts r ++ (faults_under_all r (laid_over above below) ns ++ faults_under_all r (laid_over above below) ms)
+
+  -- First come the faults of the tree that a rendering begins with, in the order of its source; then those of what is
+  -- registered beside templates; then those of the trees above, in byte order of name; and then those of all others, in
+  -- byte order of name too.
+  pub record AreToldInOrder (begins : Beginning → Type 0) (fs : List Fault) : Type 0 where
+    pub own : Option Tree
+    pub begins_with : BeginsWith begins own
+    pub first : List Text
+    pub rest : List Text
+    pub are_above : AreNamesOf above first
+    pub are_below : AreNamesOf (uncovered above below) rest
+    pub told : fs ≡ faults_of_own r own ++ faults_registered first rest
+
+-- There is one such list, where a rendering begins with no more than one tree of its own.
+abbrev pub AreToldOnce : Type 0
+AreToldOnce = (r : Registrations) (above below : Text → Option Tree) (begins : Beginning → Type 0)
+    → ((t u : Tree) → begins (a_tree t) → begins (a_tree u) → t ≡ u) → (fs gs : List Fault)
+    → AreToldInOrder r above below begins fs → AreToldInOrder r above below begins gs → fs ≡ gs
+
+-- ---- what is told
+
+module _ {E : Type 0} (registered : E → Registrations) (own : E → OwnAnswers) (trees : Text → Option Tree) (r : RegistryOf E)
+    (begins : Beginning → Type 0) where
+  -- All faults are told and no others, with these trees over those of a registry, in order.
+  pub record Tells (fs : List Fault) : Type 0 where
+    pub faults : TellsFaults (parts_over registered own trees r) begins fs
+    pub order : AreToldInOrder (registered r.entries) trees (stored_tree r) begins fs
+
+  -- The markup is fixed only where all is blind; where it isn't, the first of all faults is told.
+  abbrev pub Judges : Markup → Type 0
+  Judges Markup.Fixed = IsAllBlind (parts_over registered own trees r) begins
+  Judges (Markup.NotFixed m) = (fs : List Fault) × Tells (fault_of m ∷ fs)
 
 -- ---- what is told first
 

@@ -8,10 +8,9 @@ ghost use Rattle.handlebars_meaning.specs.Answer.{FromSource};
 ghost use Rattle.handlebars_markup.specs.Faults.{Fault};
 ghost use Rattle.handlebars_markup.specs.FaultsView.{Finds, fault_of};
 ghost use Rattle.handlebars.specs.Dev.{AsksFor, HasRead, RefusesReading, RefusesSource};
-ghost use Rattle.handlebars.specs.Files.{is_dev, laid_over, tree_in};
-ghost use Rattle.handlebars.specs.Markup.{Judges, NoSource, TellsFaults, first_told, faults_under, faults_under_all};
-ghost use Rattle.handlebars.specs.Markup.{names_in, parts_under, unread};
-ghost use Rattle.handlebars.specs.Over.{parts_over};
+ghost use Rattle.handlebars.specs.Files.{is_dev, laid_over, tree_among, tree_in};
+ghost use Rattle.handlebars.specs.Markup.{AreInByteOrder, Judges, NoSource, Tells, first_told, faults_under, faults_under_all};
+ghost use Rattle.handlebars.specs.Markup.{names_in, unread};
 ghost use Rattle.handlebars.specs.View.{options_of, stored_tree};
 
 use crate::registry::RegistryOf;
@@ -43,13 +42,20 @@ fn first_of(faults: Vec<MarkupFault>) -> Markup
     }
 }
 
+// The names of a map of templates are in byte order, each once.
+fn names_are_in_order(templates: &BTreeMap<String, Template>)
+    ensures { AreInByteOrder (names_in templates.now.entries) }
+{
+    let _count = templates.len();
+}
+
 // By name.
 impl<E: OwnParts> RegistryOf<E> {
     /// Whether the markup of what is rendered by name is fixed, or the first place that keeps it from being so. In dev mode
     /// the files of templates are read anew, as for a rendering.
     pub fn markup_is_fixed<R: TemplateReader>(&self, files: &mut R) -> Result<Markup, RenderError>
         ensures ok { IfOk result (λ m. HasRead R.reads self.now None files.old files.new (λ read.
-            Judges (parts_under E.registered E.own read self.now) NoSource m)) }
+            Judges E.registered E.own (tree_among read) self.now NoSource m)) }
         ensures err { IfErr result (λ e. reason_in e ≢ out_of_memory
             → RefusesReading R.reads self.now None files.old files.new (λ read f. ⊥) e) }
         ensures asks { AsksFor R.reads self.now None files.old files.new }
@@ -69,7 +75,7 @@ impl<E: OwnParts> RegistryOf<E> {
         files: &mut R,
     ) -> Result<Vec<MarkupFault>, RenderError>
         ensures ok { IfOk result (λ faults. HasRead R.reads self.now None files.old files.new (λ read.
-            TellsFaults (parts_under E.registered E.own read self.now) NoSource (map fault_of faults.items))) }
+            Tells E.registered E.own (tree_among read) self.now NoSource (map fault_of faults.items))) }
         ensures err { IfErr result (λ e. reason_in e ≢ out_of_memory
             → RefusesReading R.reads self.now None files.old files.new (λ read f. ⊥) e) }
         ensures asks { AsksFor R.reads self.now None files.old files.new }
@@ -91,7 +97,7 @@ impl<E: OwnParts> RegistryOf<E> {
         files: &mut R,
     ) -> Result<Markup, RenderError>
         ensures ok { IfOk result (λ m. HasRead R.reads self.now None files.old files.new (λ read.
-            Judges (parts_under E.registered E.own read self.now) (FromSource (options_of self.now) source.now) m)) }
+            Judges E.registered E.own (tree_among read) self.now (FromSource (options_of self.now) source.now) m)) }
         ensures err { IfErr result (λ e. reason_in e ≢ out_of_memory
             → RefusesSource R.reads self.now (options_of self.now) source.now files.old files.new (λ read f. ⊥) e) }
         ensures asks { AsksFor R.reads self.now None files.old files.new }
@@ -111,7 +117,7 @@ impl<E: OwnParts> RegistryOf<E> {
         files: &mut R,
     ) -> Result<Vec<MarkupFault>, RenderError>
         ensures ok { IfOk result (λ faults. HasRead R.reads self.now None files.old files.new (λ read.
-            TellsFaults (parts_under E.registered E.own read self.now) (FromSource (options_of self.now) source.now)
+            Tells E.registered E.own (tree_among read) self.now (FromSource (options_of self.now) source.now)
             (map fault_of faults.items))) }
         ensures err { IfErr result (λ e. reason_in e ≢ out_of_memory
             → RefusesSource R.reads self.now (options_of self.now) source.now files.old files.new (λ read f. ⊥) e) }
@@ -136,8 +142,10 @@ impl<E: OwnParts> RegistryOf<E> {
         faults: &mut Vec<MarkupFault>,
     ) -> Result<(), AllocError>
         ensures { OnOk result ((fs : List Fault) × Finds faults.old.items faults.new.items fs
-            × TellsFaults (parts_over E.registered E.own (tree_in read.now) self.now) NoSource fs) }
+            × Tells E.registered E.own (tree_in read.now) self.now NoSource fs) }
     {
+        names_are_in_order(read);
+        names_are_in_order(&self.templates);
         check_parts(self.alloc, &self.entries, faults)?;
         self.check_read(read, faults)?;
         self.check_stored(read, faults)

@@ -2,15 +2,13 @@ use Rattle.std.proofs.lemmas.Result.{on_ok_weaker}
 use Rattle.handlebars_markup.specs.Faults.{faults_of_parts}
 use Rattle.handlebars.specs.Files.{laid_over, tree_in}
 use Rattle.handlebars.specs.Markup.{faults_under_all, names_in, unread}
-use Rattle.handlebars.specs.Over.{parts_over}
 use Rattle.handlebars.specs.View.{stored_tree}
-use Rattle.handlebars.proofs.MarkupFaults.{named-both, tells-registered}
 use Rattle.handlebars.proofs.MarkupNames.{finds-then}
+use Rattle.handlebars.proofs.MarkupRead.{told-in-maps}
 use Rattle.handlebars.proofs.registry.RegistryOf.check_registered.Goals as goal
 
 pub returns : goal.returns
 returns g c =
-    let parts = parts_over g.E.OwnParts.registered g.E.OwnParts.own (tree_in c.args.read.now) c.args.self.now in
     let r = g.E.OwnParts.registered c.args.self.now.entries in
     let template = laid_over (tree_in c.args.read.now) (stored_tree c.args.self.now) in
     let ns = names_in c.args.read.now.entries in
@@ -21,5 +19,6 @@ returns g c =
           c.in_ok-check_parts.ensures
           (finds-then c.check_parts.new.faults.items c.check_read.new.faults.items c.check_stored.new.faults.items
           (faults_under_all r template ns) (faults_under_all r template ms) c.in_ok-check_read.ensures h),
-      tells-registered parts ns ms (named-both c.args.read.now.entries c.args.self.now.templates.entries),
+      told-in-maps g.E.OwnParts.registered g.E.OwnParts.own c.args.self.now c.args.read.now c.names_are_in_order.ensures
+          c.names_are_in_order-2.ensures,
     )) c.check_stored.ensures
