@@ -1,10 +1,10 @@
 -- Laws of every run at one setting.
-use Rattle.std.specs.Prelude.{◌≡◌, ◌≢◌, ◌≤◌, ℕ, Bool, true, List, [], length, Option, None}
+use Rattle.std.specs.Prelude.{◌≡◌, ◌≢◌, ◌≤◌, ℕ, Bool, true, false, List, [], length, Option, None}
 use Rattle.std.specs.List.{AllByRecursion}
 use Rattle.handlebars_template.specs.Tree.{Tree, tree, no_elements, element, Element}
 use Rattle.handlebars_base.specs.Bytes.{Text}
 use Rattle.handlebars_base.specs.Outputs.{IsPrefix}
-use Rattle.handlebars_base.specs.Reasons.{inclusion_limit}
+use Rattle.handlebars_base.specs.Reasons.{helper_not_found, inclusion_limit}
 use Rattle.handlebars_meaning.specs.Pieces.{Piece, join}
 use Rattle.handlebars_meaning.specs.State.{KeptBlocks, Setting, State}
 use Rattle.handlebars_meaning.specs.Steps.{Steps}
@@ -107,3 +107,20 @@ abbrev pub OnlyNamedCount : Setting → Type 0
 OnlyNamedCount p = (k : Steps) (s : State) (ps : List Piece) (o : Outcome) (r : Runs p k s ps o)
     (template : Text → Option Tree)
     → AllByRecursion (λ n. template n ≡ p.parts.template n) (included_names r) → Runs (with_templates template p) k s ps o
+
+-- ---- sections
+
+-- the outcome is no refusal of a call whose name has no helper
+abbrev pub IsNotForHelper : Outcome → Type 0
+IsNotForHelper (Ended s) = Unit {0}
+IsNotForHelper (Refused r) = (n : Text) → r.reason ≢ helper_not_found n
+IsNotForHelper (Faulted f) = Unit {0}
+IsNotForHelper NoMemory = Unit {0}
+
+abbrev pub with_sections : Setting → Setting
+with_sections p = record p { parts = record p.parts { sections = true } }
+
+-- A tree's run without sections that isn't refused for a name without a helper is the same with sections.
+abbrev pub SameWithSections : Setting → Type 0
+SameWithSections p = p.parts.sections ≡ false → (t : Tree) (s : State) (ps : List Piece) (o : Outcome)
+    → Means p t s ps o → IsNotForHelper o → Means (with_sections p) t s ps o

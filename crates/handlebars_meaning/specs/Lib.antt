@@ -1,6 +1,7 @@
 pub mod State
 pub mod Asks
 pub mod Values
+pub mod Sections
 pub mod Questions
 pub mod Sites
 pub mod Pieces

@@ -66,12 +66,13 @@ abbrev pub render_helped : Site → Bool → Call → Target → CallView → Pr
 render_helped site block c k v =
     in_bracket (call_marks c).indent_before_write (render_chosen site k (view_with_bodies block c v))
 
--- A block, and an expression with parameters or pairs, calls the helper of its name, else the hook.
+-- A block, and an expression with parameters or pairs, calls the helper of its name, else the hook; a block that has neither
+-- may be a section, and is then called as one.
 abbrev pub render_call : Site → Bool → Call → Prog (Unit {0})
 render_call site block c = do
   v ← ask (view_of (call_name c) (call_args c))
-  k ← ask (called_as block v.name)
-  render_helped site block c k v
+  called ← ask (called_as block c v)
+  render_helped site block c called.0 called.1
 
 -- ---- lone expressions
 

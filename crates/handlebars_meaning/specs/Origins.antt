@@ -143,20 +143,24 @@ pub record IsValue (p : Setting) (block : Bool) (c : Call) (s : State) (v : Call
   pub no_helper : IsAnswered p s (helper_of v.name) (gives None)
   pub has : IsAnswered p s (value_of (call_name c)) (gives found)
 
--- A call by a name calls the helper of the name, or else the hook; a lone expression calls the hook only for a missing
--- value.
-pub data Calls (p : Setting) (block : Bool) (c : Call) (s : State) (v : CallView) (target : Target) : Type 0 where
-  by_name : is_lone block c ≡ true → IsAnswered p s (helper_of v.name) (gives (Some target)) → Calls p block c s v target
-  by_name_or_hook : is_lone block c ≡ false → IsAnswered p s (called_as block v.name) (gives target)
-      → Calls p block c s v target
-  by_hook : IsValue p block c s v missing → IsAnswered p s (hook_for (call_name c)) (gives (Some target))
-      → Calls p block c s v target
+-- What a call of this view calls, and the view that it is shown: of a lone expression the helper of its name, or else the
+-- hook, for a missing value; of any other call the helper of its name, or else the hook, or of a section the helper that it
+-- is by its value.
+pub data Calls (p : Setting) (block : Bool) (c : Call) (s : State) (v : CallView) : Target → CallView → Type 0 where
+  by_name : {target : Target} → is_lone block c ≡ true → IsAnswered p s (helper_of v.name) (gives (Some target))
+      → Calls p block c s v target v
+  as_called : {target : Target} {shown : CallView} → is_lone block c ≡ false
+      → IsAnswered p s (called_as block c v) (gives (target, shown)) → Calls p block c s v target shown
+  by_hook : {target : Target} → IsValue p block c s v missing
+      → IsAnswered p s (hook_for (call_name c)) (gives (Some target)) → Calls p block c s v target v
 
--- A call of this view, of a block or an expression, calls a helper or the hook in a state, and that chooses this.
+-- A call of this view, of a block or an expression, calls a helper in a state, and that chooses this for the view that it is
+-- shown.
 pub record Chooses (p : Setting) (block : Bool) (c : Call) (s : State) (v : CallView) (choice : Choice) : Type 0 where
   pub target : Target
-  pub calls : Calls p block c s v target
-  pub chooses : IsAnswered p s (choice_of target (view_with_bodies block c v)) (gives choice)
+  pub shown : CallView
+  pub calls : Calls p block c s v target shown
+  pub chooses : IsAnswered p s (choice_of target (view_with_bodies block c shown)) (gives choice)
 
 -- A call of this view writes this value in a state: its own, as a lone expression, or the one that its helper chooses.
 pub data WritesValue (p : Setting) (block : Bool) (c : Call) (s : State) (v : CallView) : Found → Type 0 where

@@ -1,11 +1,11 @@
 -- What the steps of a run ask, and what it is answered. Here alone a run reads its setting: the data, the helpers and the
 -- decorators, how values are escaped and the mode.
-use Rattle.std.specs.Prelude.{Bool, false, if◌then◌else◌, List, Option, None, Some}
+use Rattle.std.specs.Prelude.{Bool, false, ◌&&◌, if◌then◌else◌, List, Option, None, Some}
 use Rattle.handlebars_base.specs.Answers.{Answer, gives, refuses_for}
 use Rattle.handlebars_base.specs.Bytes.{Text}
-use Rattle.handlebars_base.specs.Reasons.{decorator_not_found, helper_not_found, missing_variable}
+use Rattle.handlebars_base.specs.Reasons.{decorator_not_found, missing_variable}
 use Rattle.handlebars_base.specs.Scoped.{Found}
-use Rattle.handlebars_template.specs.Tree.{Param, Args, as_name}
+use Rattle.handlebars_template.specs.Tree.{Param, Args, Call, call_name, is_value, as_name}
 use Rattle.handlebars_helpers.specs.CallView.{CallView, HelperView}
 use Rattle.handlebars_helpers.specs.Callee.{Callee, built, own, Target, calls_registered, calls_local}
 use Rattle.handlebars_helpers.specs.Choice.{Choice, built_in_choice, null_or_refusal, the_value, the_steps, nothing}
@@ -14,18 +14,19 @@ use Rattle.handlebars_helpers.specs.Escaping.{HasEscaped}
 use Rattle.handlebars_helpers.specs.Own.{Step, Offer, not_offered, offers_missing, offers}
 use Rattle.handlebars_helpers.specs.OwnDecorator.{DecoratorQuestion}
 use Rattle.handlebars_meaning.specs.Asks.{Asks, only, ◌>>=◌}
+use Rattle.handlebars_meaning.specs.Sections.{HasSectionIf}
 use Rattle.handlebars_meaning.specs.State.{Parts, Setting, State, hook, helper_named, helper_for, registered_target, local_call}
 use Rattle.handlebars_meaning.specs.Values.{HasSteps, HasOffer, HasValue, HasView}
 
 -- the value of a parameter; the view of a call or of another tag, by its name and its arguments; the helper of a name, if
--- it has one; the helper or the hook that a call by a name calls, of a block or not; the hook that is called for a
--- parameter without a value, if there is one; what a helper chooses for a call; the text of a value, escaped; the
+-- it has one; what a call of this view calls, of a block or not, and the view that it is shown; the hook that is called for
+-- a parameter without a value, if there is one; what a helper chooses for a call; the text of a value, escaped; the
 -- decorator of a name, and its deeds for a tag
 pub data Question : Type 0 where
   value_of : Param → Question
   view_of : Param → Args → Question
   helper_of : Text → Question
-  called_as : Bool → Text → Question
+  called_as : Bool → Call → CallView → Question
   hook_for : Param → Question
   choice_of : Target → HelperView → Question
   escape_of : Text → Question
@@ -36,17 +37,18 @@ abbrev pub Reply : Question → Type 0
 Reply (value_of q) = Found
 Reply (view_of n xs) = CallView
 Reply (helper_of name) = Option Target
-Reply (called_as block name) = Target
+Reply (called_as block c v) = Target × CallView
 Reply (hook_for q) = Option Target
 Reply (choice_of target h) = Choice
 Reply (escape_of t) = Text
 Reply (decorator_of name) = DecoratorKind
 Reply (deeds_of kind v) = List Deed
 
--- A call by a name that calls nothing is refused.
-abbrev pub helper_or_refusal : Text → Option Target → Answer Target
-helper_or_refusal name None = refuses_for (helper_not_found name)
-helper_or_refusal name (Some k) = gives k
+-- The helper of the name, or the hook, is called with the call's own view. Where there is neither, a block without
+-- parameters and pairs is a section, if there are sections.
+abbrev pub HasCalled : Setting → State → Bool → Call → CallView → Option Target → Asks (Target × CallView)
+HasCalled p s block c v None = HasSectionIf (p.parts.sections && (block && is_value c)) p s (call_name c) v
+HasCalled p s block c v (Some k) = only (gives (k, v))
 
 -- A tag whose name no decorator has is refused.
 abbrev pub decorator_or_refusal : Text → Option DecoratorKind → Answer DecoratorKind
@@ -95,7 +97,7 @@ abbrev pub IsAnswered : Setting → State → (q : Question) → Asks (Reply q)
 IsAnswered p s (value_of q) = HasValue p s q
 IsAnswered p s (view_of n xs) = HasView p s n xs
 IsAnswered p s (helper_of name) = only (gives (helper_named p.parts s name))
-IsAnswered p s (called_as block name) = only (helper_or_refusal name (helper_for p.parts s block name))
+IsAnswered p s (called_as block c v) = HasCalled p s block c v (helper_for p.parts s block v.name)
 IsAnswered p s (hook_for q) = only (hook_or_refusal p.parts q)
 IsAnswered p s (choice_of target h) = HasChoice p s target h
 IsAnswered p s (escape_of t) = HasEscaped p.parts.escape p.parts.own_escape t

@@ -19,9 +19,9 @@ use Rattle.handlebars_meaning.specs.Pieces.{Piece}
 
 -- What a registry has for a run: what stands under a name of helpers, if anything does, and what a helper of one's own of
 -- that name answers; the decorator under a name, if there is one, and what one of one's own answers; how values are escaped,
--- and what an escape function of one's own answers; whether its mode is strict, and whether lookup is recursive in the runs
--- that it begins; the tree under a name of templates, if there is one, and how many inclusions may be rendered one within
--- another.
+-- and what an escape function of one's own answers; whether its mode is strict, whether lookup is recursive in the runs that
+-- it begins, and whether a block that has no helper acts on the value of its name; the tree under a name of templates, if
+-- there is one, and how many inclusions may be rendered one within another.
 pub record Parts : Type 1 where
   pub helper : Text → Option Callee
   pub own : Text → OwnHelper
@@ -31,6 +31,7 @@ pub record Parts : Type 1 where
   pub own_escape : OwnEscape
   pub strict : Bool
   pub recursive : Bool
+  pub sections : Bool
   pub template : Text → Option Tree
   pub limit : ℕ
 
