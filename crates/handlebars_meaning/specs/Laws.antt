@@ -117,10 +117,11 @@ IsNotForHelper (Refused r) = (n : Text) → r.reason ≢ helper_not_found n
 IsNotForHelper (Faulted f) = Unit {0}
 IsNotForHelper NoMemory = Unit {0}
 
-abbrev pub with_sections : Setting → Setting
-with_sections p = record p { parts = record p.parts { sections = true } }
+-- with sections or without
+abbrev pub with_sections : Bool → Setting → Setting
+with_sections on p = record p { parts = record p.parts { sections = on } }
 
 -- A tree's run without sections that isn't refused for a name without a helper is the same with sections.
 abbrev pub SameWithSections : Setting → Type 0
-SameWithSections p = p.parts.sections ≡ false → (t : Tree) (s : State) (ps : List Piece) (o : Outcome)
-    → Means p t s ps o → IsNotForHelper o → Means (with_sections p) t s ps o
+SameWithSections p = (t : Tree) (s : State) (ps : List Piece) (o : Outcome)
+    → Means (with_sections false p) t s ps o → IsNotForHelper o → Means (with_sections true p) t s ps o
