@@ -17,7 +17,7 @@ use Rattle.handlebars_helpers.specs.Turns.{Turn, turn_frame, with_block}
 use Rattle.handlebars_meaning.specs.Asks.{goes_on, is_refused}
 use Rattle.handlebars_meaning.specs.CarryOut.{view_with_bodies, render_branch, render_body, take_turns, render_with, render_word, take_step, take_steps, carry_out}
 use Rattle.handlebars_meaning.specs.Means.{line_in, render_chosen, render_helped, render_call, render_hook, render_found, render_lone_as, render_lone, render_expression}
-use Rattle.handlebars_meaning.specs.Origins.{body_tree, element_call, is_block, shown_call, is_lone, IsValue, Calls, by_name, by_name_or_hook, by_hook, Chooses, WritesValue, of_itself, of_helper}
+use Rattle.handlebars_meaning.specs.Origins.{body_tree, element_call, is_block, shown_call, is_lone, IsValue, Calls, by_name, as_called, by_hook, Chooses, WritesValue, of_itself, of_helper}
 use Rattle.handlebars_meaning.specs.Pieces.{of_value, of_raw, of_word}
 use Rattle.handlebars_meaning.specs.Questions.{IsAnswered, value_of, view_of, helper_of, called_as, hook_for, choice_of, escape_of, steps_or_offer, HasRegisteredChoice, HasChoice}
 use Rattle.handlebars_meaning.specs.Sites.{body_at, inverse_at, Site}
@@ -26,7 +26,7 @@ use Rattle.handlebars_meaning.specs.Steps.{Task, One, Prog, ◌>>=◌, ◌>>◌}
 use Rattle.handlebars_meaning.specs.Writing.{rendered_if_any, write_rendered, write_value}
 use Rattle.handlebars_laws.proofs.Closed.{ComesToCall, call_of-shown, element_body-call, element_inverse-call, Closed}
 use Rattle.handlebars_laws.proofs.Law.{Law}
-use Rattle.handlebars_laws.proofs.Programs.{upto, any, Leads, Leads-any, answer-holds, return-holds, write_text-holds, in_block-holds, on_line-holds, render_branch-holds}
+use Rattle.handlebars_laws.proofs.Programs.{upto, any, Leads, Leads-any, ask-holds, return-holds, write_text-holds, in_block-holds, on_line-holds, render_branch-holds}
 use Rattle.handlebars_laws.proofs.Within.{StepsFrom, step_there, steps_behind}
 
 -- ---- what a helper chooses doesn't depend on the line
@@ -63,9 +63,11 @@ module _ (p : Setting) (law : Law) (closed : Closed p law) (site : Site) (place 
 
   module _ (block : Bool) (c : Call) (shown : shown_call e ≡ Some (block, c)) (before : State)
       (comes : law.ComesTo site e before) where
-    module _ (v : CallView) (viewed : IsAnswered p before (view_of (call_name c) (call_args c)) (gives v)) where
+    -- with its own view, and with the one that its helper is shown
+    module _ (v : CallView) (viewed : IsAnswered p before (view_of (call_name c) (call_args c)) (gives v))
+        (seen : CallView) where
       abbrev view : HelperView
-      view = view_with_bodies block c v
+      view = view_with_bodies block c seen
 
       called : ComesToCall p law site e block c before v
       called = record { comes = comes; shown = shown; viewed = viewed }
@@ -114,7 +116,7 @@ module _ (p : Setting) (law : Law) (closed : Closed p law) (site : Site) (place 
           → WritesValue p block c before v found → Goes 0 any s (write_rendered site found b)
       unfolding ◌>>=◌
       write_rendered-holds s found true is fits has = λ h end i le next g.
-          answer-holds p law this end i s (escape_of (rendered_if_any (present_in found))) _ (λ t shows.
+          ask-holds p law this end i s (escape_of (rendered_if_any (present_in found))) _ (λ t shows.
           write_text-holds p law closed this s (of_value site found) t
           (closed.value_written t called has fits is shows) h end i le next g)
       write_rendered-holds s found false is fits has =
@@ -128,12 +130,12 @@ module _ (p : Setting) (law : Law) (closed : Closed p law) (site : Site) (place 
 
       -- ---- what the helper that is called chose
 
-      module _ (k : Target) (calls : Calls p block c before v k) where
+      module _ (k : Target) (calls : Calls p block c before v k seen) where
         abbrev Chose : Choice → Type 0
         Chose choice = IsAnswered p before (choice_of k view) (gives choice)
 
         chooses : (choice : Choice) → Chose choice → Chooses p block c before v choice
-        chooses choice chose = record { target = k; calls = calls; chooses = chose }
+        chooses choice chose = record { target = k; shown = seen; calls = calls; chooses = chose }
 
         -- only an expression writes a word
         MayWrite-word : (b : Bool) → block ≡ false → Chose (the_word b)
@@ -194,10 +196,10 @@ module _ (p : Setting) (law : Law) (closed : Closed p law) (site : Site) (place 
             → Goes 0 any s (render_chosen site k view)
         unfolding ◌>>=◌
         render_chosen-holds s fits same h end i le next g =
-            answer-holds p law this end i s (choice_of k view) _ (λ choice chose.
+            ask-holds p law this end i s (choice_of k view) _ (λ choice chose.
             carry_out-holds s choice fits (same _ chose) h end i le next g)
 
-        render_helped-holds : law.Fits site before → Goes 0 any before (render_helped site block c k v)
+        render_helped-holds : law.Fits site before → Goes 0 any before (render_helped site block c k seen)
         render_helped-holds fits h =
             let enter = line_in (call_marks c).indent_before_write in
             on_line-holds p law closed this before enter (render_chosen site k view)
@@ -207,9 +209,9 @@ module _ (p : Setting) (law : Law) (closed : Closed p law) (site : Site) (place 
     pub render_call-holds : is_lone block c ≡ false → law.Fits site before → Goes 0 any before (render_call site block c)
     unfolding ◌>>=◌
     render_call-holds not_lone fits h end i le next g =
-        answer-holds p law this end i before (view_of (call_name c) (call_args c)) _ (λ v viewed.
-        answer-holds p law this end i before (called_as block v.name) _ (λ k is.
-        render_helped-holds v viewed k (by_name_or_hook not_lone is) fits h end i le next g))
+        ask-holds p law this end i before (view_of (call_name c) (call_args c)) _ (λ v viewed.
+        ask-holds p law this end i before (called_as block c v) _ (λ x is.
+        render_helped-holds v viewed x.1 x.0 (as_called not_lone is) fits h end i le next g))
 
   -- ---- expressions
 
@@ -221,30 +223,30 @@ module _ (p : Setting) (law : Law) (closed : Closed p law) (site : Site) (place 
             → IsValue p false c s v missing → Goes 0 any s (render_hook site c v o)
         render_hook-holds None is has = return-holds p law closed this s
         render_hook-holds (Some k) is has =
-            render_chosen-holds false c shown s comes v viewed k (by_hook has is) s fits (λ a same. same)
+            render_chosen-holds false c shown s comes v viewed v k (by_hook has is) s fits (λ a same. same)
 
         render_found-holds : (found : Found) → IsValue p false c s v found → Goes 0 any s (render_found site c v found)
         unfolding ◌>>=◌
         render_found-holds (walked d path) has =
-            write_value-holds false c shown s comes v viewed s (walked d path) fits (of_itself has)
-        render_found-holds (value d) has = write_value-holds false c shown s comes v viewed s (value d) fits (of_itself has)
+            write_value-holds false c shown s comes v viewed v s (walked d path) fits (of_itself has)
+        render_found-holds (value d) has = write_value-holds false c shown s comes v viewed v s (value d) fits (of_itself has)
         render_found-holds missing has = λ h end i le next g.
-            answer-holds p law this end i s (hook_for (call_name c)) _ (λ o is.
+            ask-holds p law this end i s (hook_for (call_name c)) _ (λ o is.
             render_hook-holds o is has h end i le next g)
 
         render_lone_as-holds : (o : Option Target) → IsAnswered p s (helper_of v.name) (gives o)
             → Goes 0 any s (render_lone_as site c v o)
         unfolding ◌>>=◌
         render_lone_as-holds None without = λ h end i le next g.
-            answer-holds p law this end i s (value_of (call_name c)) _ (λ found has.
+            ask-holds p law this end i s (value_of (call_name c)) _ (λ found has.
             render_found-holds found (record { lone = lone; no_helper = without; has = has }) h end i le next g)
-        render_lone_as-holds (Some k) helps = render_helped-holds false c shown s comes v viewed k (by_name lone helps) fits
+        render_lone_as-holds (Some k) helps = render_helped-holds false c shown s comes v viewed v k (by_name lone helps) fits
 
       render_lone-holds : Goes 0 any s (render_lone site c)
       unfolding ◌>>=◌
       render_lone-holds h end i le next g =
-          answer-holds p law this end i s (view_of (call_name c) (call_args c)) _ (λ v viewed.
-          answer-holds p law this end i s (helper_of v.name) _ (λ o is.
+          ask-holds p law this end i s (view_of (call_name c) (call_args c)) _ (λ v viewed.
+          ask-holds p law this end i s (helper_of v.name) _ (λ o is.
           render_lone_as-holds v viewed o is h end i le next g))
 
     render_expression-as : (b : Bool) → is_value c ≡ b → Goes 0 any s (render_expression site c)

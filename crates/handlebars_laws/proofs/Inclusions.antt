@@ -21,7 +21,7 @@ use Rattle.handlebars_meaning.specs.State.{Setting, State, push_frame, nearest_v
 use Rattle.handlebars_meaning.specs.Steps.{Task, One, Whole, Steps, Get, Set, Do, Prog, return, ◌>>=◌, ◌>>◌}
 use Rattle.handlebars_laws.proofs.Closed.{ComesToTag, element_body-tag, MayKeep, begun, Closed}
 use Rattle.handlebars_laws.proofs.Law.{Law, Holds}
-use Rattle.handlebars_laws.proofs.Programs.{upto, any, After, Leads, answer-holds, on_line-holds}
+use Rattle.handlebars_laws.proofs.Programs.{upto, any, After, Leads, ask-holds, on_line-holds}
 
 -- ---- what is found: a local partial, a registered tree, or the tag's own block
 
@@ -109,7 +109,7 @@ module _ (p : Setting) (law : Law) (closed : Closed p law) (site : Site) (place 
   base_value-holds : (s : State) (xs : List PathAndData) (end : ℕ → State → Type 0) (i : ℕ) (next : Data → Steps)
       → ((d : Data) → Holds p law this end i s (next d)) → Holds p law this end i s (base_value xs next)
   unfolding ◌>>=◌
-  base_value-holds s [] end i next g = answer-holds p law this end i s (value_of here) _ (λ found is. g (data_in found))
+  base_value-holds s [] end i next g = ask-holds p law this end i s (value_of here) _ (λ found is. g (data_in found))
   base_value-holds s (x ∷ xs) end i next g = g (data_in x.found)
 
   -- by a view that the tag has in the state before, on a line that is made of the one there
@@ -195,6 +195,6 @@ module _ (p : Setting) (law : Law) (closed : Closed p law) (site : Site) (place 
   pub render_partial-holds : law.Fits site before → Goes before (render_partial site t)
   unfolding ◌>>=◌
   render_partial-holds fits h end i le next g =
-      answer-holds p law this end i before (view_of (decorator_name t) (decorator_args t)) _ (λ v viewed.
+      ask-holds p law this end i before (view_of (decorator_name t) (decorator_args t)) _ (λ v viewed.
       on_line-holds p law closed this before (line_at (decorator_marks t)) (include_tag site t v)
       (include_tag-holds _ v viewed (closed.next_fits fits (closed.line_next _ h))) h end i le next g)

@@ -1,6 +1,7 @@
 -- What a law says along a run, and that it holds of each run whose steps are as it says.
-use Rattle.std.proofs.Common.{ℕ, ◌+◌, ◌≤◌, List, [], ◌++◌, subst, append_assoc, arith}
-use Rattle.handlebars_base.specs.Answers.{Answer}
+use Rattle.std.proofs.Common.{◌≡◌, ℕ, ◌+◌, ◌≤◌, List, [], ◌++◌, subst, append_assoc, arith}
+use Rattle.handlebars_base.specs.Answers.{Answer, refuses}
+use Rattle.handlebars_base.specs.Reasons.{Refusal}
 use Rattle.handlebars_template.specs.Tree.{Element}
 use Rattle.handlebars_scope.specs.Scopes.{Frame}
 use Rattle.handlebars_meaning.specs.Inclusion.{partial_for}
@@ -36,14 +37,15 @@ pub record Law : Type 1 where
 
 module _ (p : Setting) (law : Law) (x : Task) where
   -- These steps of the part x are as the law says, from a state and from a number of parts on; and where they are done, the
-  -- first argument holds of the number and the state to which they came.
+  -- first argument holds of the number and the state to which they came. Where a question is refused, nothing follows.
   abbrev pub Holds : (ℕ → State → Type 0) → ℕ → State → Steps → Type 0
   Holds end n s Done = end n s
   Holds end n s (Refuse r) = Unit {0}
   Holds end n s (Write at_word ps k) = law.MayWrite ps × Holds end n s k
   Holds end n s (Get f) = Holds end n s (f s)
   Holds end n s (Set z k) = Holds end n z k
-  Holds end n s (Ask q f) = (a : Answer (Reply q)) → IsAnswered p s q a → Holds end n s (f a)
+  Holds end n s (Ask q f) =
+      ((r : Refusal) → f (refuses r) ≡ Refuse r) × ((a : Answer (Reply q)) → IsAnswered p s q a → Holds end n s (f a))
   Holds end n s (Do t k) =
       (m : ℕ) × (n ≤ m) × law.IsPart x m s t × ((z : State) → law.IsNext s z → Holds end (m + 1) z k)
   Holds end n s (Capture m f) = Holds (λ j z. (ps : List Piece) → law.MayWrite ps → Holds end j z (f ps)) n s m
@@ -115,7 +117,7 @@ module _ (p : Setting) (law : Law) (sound : IsSound law) (plan : PlanHolds p law
       }
   Runs-obeys (got r) x end n h known = Runs-obeys r x end n h known
   Runs-obeys (set r) x end n h known = Runs-obeys r x end n h known
-  Runs-obeys (asked a i r) x end n h known = Runs-obeys r x end n (h a i) known
+  Runs-obeys (asked a i r) x end n h known = Runs-obeys r x end n (h.1 a i) known
   Runs-obeys (did {s = s} {next = z} {t = t} {ps = ps} {qs = qs} a b) x end n h known =
       let arrives = sound.first_known (arrival t s) (visits a ++ visits b) known in
       let behind = sound.later_known (arrival t s) (visits a ++ visits b) known in

@@ -15,7 +15,7 @@ use Rattle.handlebars_laws.proofs.Walk.{todo-holds}
 
 -- ---- the law: of a state behind another alone
 
-abbrev leaves_it : Law
+abbrev pub leaves_it : Law
 leaves_it = record {
   IsWell = λ s. Unit {0};
   IsNext = λ s n. around n ≡ around s;
@@ -29,7 +29,7 @@ leaves_it = record {
   AreIn = λ x n m vs. Unit {0};
 }
 
-leaves_it-sound : IsSound leaves_it
+pub leaves_it-sound : IsSound leaves_it
 leaves_it-sound = record {
   part_begins = λ h. tt;
   none_written = tt;
@@ -81,7 +81,7 @@ around-end_inclusion s n z f indent k first last =
 
 -- ---- all that templates do leaves it
 
-leaves_it-closed : (p : Setting) → Closed p leaves_it
+pub leaves_it-closed : (p : Setting) → Closed p leaves_it
 leaves_it-closed p = record {
   same_next = λ h. refl;
   then_next = λ a b. b ∙ a;

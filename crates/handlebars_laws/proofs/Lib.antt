@@ -14,6 +14,7 @@ pub mod Calls
 pub mod Inclusions
 pub mod Walk
 pub mod LeftAround
+pub mod Sections
 pub mod Once
 pub mod OriginPieces
 pub mod RunStates

@@ -1,10 +1,14 @@
 -- A question has at most one answer.
-use Rattle.std.proofs.Common.{◌≡◌, sym, ap, ◌∙◌, subst}
+use Rattle.std.proofs.Common.{◌≡◌, refl, sym, ap, ◌∙◌, subst}
 use Rattle.std.proofs.Math.Logic.{∥∥₁_elim, ∥∥₁_map, ∥∥₁_prop}
 use Rattle.handlebars_base.specs.Answers.{Answer, gives, refuses}
+use Rattle.handlebars_base.specs.Bytes.{Text}
 use Rattle.handlebars_base.specs.Reasons.{Refusal}
+use Rattle.handlebars_base.proofs.PathShapes.{one_meaning}
+use Rattle.handlebars_helpers.specs.CallView.{CallView}
 use Rattle.handlebars_helpers.specs.Own.{HasOne}
 use Rattle.handlebars_meaning.specs.Asks.{Asks, ◌>>=◌, goes_on, is_refused}
+use Rattle.handlebars_meaning.specs.Sections.{ReadsAsPath, reads, reads_not}
 use Rattle.handlebars_meaning.specs.State.{IsLawful, Setting, State}
 use Rattle.handlebars_meaning.specs.Questions.{Question, IsAnswered}
 use Rattle.handlebars_laws.proofs.RelatedAnswers.{Relation, IsAnswered-related}
@@ -24,7 +28,7 @@ gives-injective {x = x} e = ap (value_or x) e
 abbrev no_value : (A : Type 0) → Refusal → Answer A
 no_value A r = refuses r
 
-refuses-injective : (A : Type 0) {r q : Refusal} → no_value A r ≡ no_value A q → r ≡ q
+pub refuses-injective : (A : Type 0) {r q : Refusal} → no_value A r ≡ no_value A q → r ≡ q
 unfolding refusal_or
 refuses-injective A {r = r} e = ap (refusal_or r) e
 
@@ -42,12 +46,19 @@ then-one m f one ones _ _ (is_refused {r = r} i) (goes_on {x = x} j g) =
 then-one {A = A} {B = B} m f one ones _ _ (is_refused {r = r} i) (is_refused {r = q} j) =
     ∥∥₁_map (one (refuses r) (refuses q) i j) (λ e. ap (no_value B) (refuses-injective A e))
 
+ReadsAsPath-one : (n : Text) (v : CallView) → HasOne (ReadsAsPath n v)
+ReadsAsPath-one n v _ _ (reads {r = r} i) (reads {r = q} j) = ∣ ap (λ z. gives z) (one_meaning n r q i j) ∣₁
+ReadsAsPath-one n v _ _ (reads {r = r} i) (reads_not none) = absurd (none r i)
+ReadsAsPath-one n v _ _ (reads_not none) (reads {r = r} i) = absurd (none r i)
+ReadsAsPath-one n v _ _ (reads_not none) (reads_not other) = ∣ refl ∣₁
+
 -- A question that has one answer is related to any other.
 abbrev first_has_one : Relation
 first_has_one = record {
   Relates = λ m n. HasOne m;
   only_related = λ x a b e g. ∣ e ∙ sym g ∣₁;
   then_related = λ m n f g. then-one m f;
+  path_related = ReadsAsPath-one;
 }
 
 pub IsAnswered-one : (p : Setting) (lawful : IsLawful p.parts) (s : State) (q : Question) → HasOne (IsAnswered p s q)

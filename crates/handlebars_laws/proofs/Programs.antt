@@ -11,7 +11,7 @@ use Rattle.handlebars_meaning.specs.Pieces.{Origin, put}
 use Rattle.handlebars_meaning.specs.Questions.{Question, Reply, IsAnswered}
 use Rattle.handlebars_meaning.specs.Sites.{TreeSite}
 use Rattle.handlebars_meaning.specs.State.{Setting, State, push_frame, pop_frame}
-use Rattle.handlebars_meaning.specs.Steps.{Task, Whole, Steps, Get, Set, Prog, return, ◌>>=◌, ◌>>◌, answer}
+use Rattle.handlebars_meaning.specs.Steps.{Task, Whole, Steps, Get, Set, Prog, return, ◌>>=◌, ◌>>◌, answer, ask}
 use Rattle.handlebars_meaning.specs.Writing.{write_text}
 use Rattle.handlebars_laws.proofs.Law.{Law, Holds}
 use Rattle.handlebars_laws.proofs.Closed.{Closed}
@@ -36,11 +36,15 @@ module _ (p : Setting) (law : Law) (x : Task) where
   pub Leads-any : {n m : ℕ} {s : State} (k : Prog (Unit {0})) → Leads n (upto m) s k → Leads n any s k
   Leads-any k f h end i le next g = f h end i le next (λ j z to is. g j z tt is)
 
-  pub answer-holds : (end : ℕ → State → Type 0) (n : ℕ) (s : State) (q : Question) (f : Reply q → Steps)
+  answer-holds : (end : ℕ → State → Type 0) (n : ℕ) (s : State) (q : Question) (f : Reply q → Steps)
       → ((v : Reply q) → IsAnswered p s q (gives v) → Holds p law x end n s (f v))
       → (a : Answer (Reply q)) → IsAnswered p s q a → Holds p law x end n s (answer a f)
   answer-holds end n s q f h (gives v) is = h v is
   answer-holds end n s q f h (refuses r) is = tt
+
+  pub ask-holds : (end : ℕ → State → Type 0) (n : ℕ) (s : State) (q : Question) (f : Reply q → Steps)
+      → ((v : Reply q) → IsAnswered p s q (gives v) → Holds p law x end n s (f v)) → Holds p law x end n s (ask q f)
+  ask-holds end n s q f h = (λ r. refl, answer-holds end n s q f h)
 
 module _ (p : Setting) (law : Law) (closed : Closed p law) (x : Task) where
   pub return-holds : {n : ℕ} (s : State) → Leads p law x n any s (return tt)

@@ -1,20 +1,22 @@
--- One pass through all questions, at two settings that differ in the registered templates and the limit, and in two states
--- that differ in the current name: they are related where what parts of one's own are asked is, by any relation that is kept where one answer is asked for after another.
-use Rattle.std.proofs.Common.{ℕ, List, Option, None, Some}
+-- One pass through all questions, at two settings that differ in the registered templates, in the limit and in whether there
+-- are sections, and in two states that differ in the current name: they are related where what parts of one's own are asked
+-- is, and what is asked of sections, by any relation that is kept where one answer is asked for after another.
+use Rattle.std.proofs.Common.{ℕ, Bool, true, false, ◌&&◌, List, Option, None, Some}
 use Rattle.handlebars_base.specs.Answers.{Answer}
 use Rattle.handlebars_base.specs.Bytes.{Text}
 use Rattle.handlebars_base.specs.PathAndData.{PathAndData}
 use Rattle.handlebars_base.specs.Scoped.{Found}
-use Rattle.handlebars_helpers.specs.CallView.{HelperView}
+use Rattle.handlebars_helpers.specs.CallView.{CallView, HelperView}
 use Rattle.handlebars_helpers.specs.Callee.{Callee, built, own, Target, calls_registered, calls_local}
 use Rattle.handlebars_helpers.specs.Decoration.{DecoratorKind, kind_inline, kind_own, DecoratorView}
 use Rattle.handlebars_helpers.specs.Escaping.{Escaping, HasEscaped, for_html, for_plain, by_own}
 use Rattle.handlebars_helpers.specs.Own.{HelperQuestion, Step, Offer, not_offered, offers_missing, offers}
 use Rattle.handlebars_helpers.specs.OwnDecorator.{DecoratorQuestion}
-use Rattle.handlebars_template.specs.Tree.{Tree, Element, expression, call, Args, args, args_params, args_pairs, Param, name, path, literal, subexpression, Params, no_params, param, Pairs, no_pairs, pair}
+use Rattle.handlebars_template.specs.Tree.{Tree, Element, expression, Call, call, call_name, is_value, Args, args, args_params, args_pairs, Param, name, path, literal, subexpression, Params, no_params, param, Pairs, no_pairs, pair}
 use Rattle.handlebars_meaning.specs.Asks.{Asks, only, ◌>>=◌}
-use Rattle.handlebars_meaning.specs.State.{Parts, Setting, State}
-use Rattle.handlebars_meaning.specs.Questions.{Question, value_of, view_of, helper_of, called_as, hook_for, choice_of, escape_of, decorator_of, deeds_of, steps_or_offer, HasRegisteredChoice, HasChoice, HasDeeds, IsAnswered}
+use Rattle.handlebars_meaning.specs.Sections.{ReadsAsPath, HasSectionPath, HasSectionIf}
+use Rattle.handlebars_meaning.specs.State.{Parts, Setting, State, helper_for}
+use Rattle.handlebars_meaning.specs.Questions.{Question, value_of, view_of, helper_of, called_as, hook_for, choice_of, escape_of, decorator_of, deeds_of, HasCalled, steps_or_offer, HasRegisteredChoice, HasChoice, HasDeeds, IsAnswered}
 use Rattle.handlebars_meaning.specs.Values.{offer_or_text, HasRegisteredValue, HasHelpedValue, is_written, is_viewed, HasValue, HasInnerValue, HasView, HasName, HaveValues, PairsHaveValues}
 
 pub record Relation : Type 1 where
@@ -22,6 +24,7 @@ pub record Relation : Type 1 where
   pub only_related : {A : Type 0} (x : Answer A) → Relates (only x) (only x)
   pub then_related : {A B : Type 0} (m n : Asks A) (f g : A → Asks B) → Relates m n → ((x : A) → Relates (f x) (g x))
       → Relates (m >>= f) (n >>= g)
+  pub path_related : (n : Text) (v : CallView) → Relates (ReadsAsPath n v) (ReadsAsPath n v)
 
 -- What parts of one's own are asked is related to itself.
 pub record OwnRelated (r : Relation) (p : Parts) : Type 0 where
@@ -30,14 +33,19 @@ pub record OwnRelated (r : Relation) (p : Parts) : Type 0 where
   pub deeds : (n : Text) (x : DecoratorQuestion) → r.Relates (p.own_decorator n x) (p.own_decorator n x)
   pub escape : (t : Text) → r.Relates (p.own_escape t) (p.own_escape t)
 
--- the setting with other templates and another limit
+-- the setting with other templates and another limit, and with sections or without
+abbrev pub other_with : Setting → (Text → Option Tree) → ℕ → Bool → Setting
+other_with p template limit sections =
+    record p { parts = record p.parts { template = template; limit = limit; sections = sections } }
+
+-- and with sections if it has them
 abbrev pub other : Setting → (Text → Option Tree) → ℕ → Setting
-other p template limit = record p { parts = record p.parts { template = template; limit = limit } }
+other p template limit = other_with p template limit p.parts.sections
 
 module _ (r : Relation) (p : Setting) (own_related : OwnRelated r p.parts) (template : Text → Option Tree) (limit : ℕ)
-    (s : State) (c : Option Text) where
+    (sections : Bool) (s : State) (c : Option Text) where
   abbrev p' : Setting
-  p' = other p template limit
+  p' = other_with p template limit sections
 
   abbrev s' : State
   s' = record s { current = c }
@@ -136,13 +144,46 @@ module _ (r : Relation) (p : Setting) (own_related : OwnRelated r p.parts) (temp
   HasView-related n xs = is_viewed-related _ _ _ _ _ _ (HasName-related n) (HaveValues-related (args_params xs))
       (PairsHaveValues-related (args_pairs xs))
 
-  pub IsAnswered-related : (q : Question) → r.Relates (IsAnswered p s q) (IsAnswered p' s' q)
-  IsAnswered-related (value_of q) = HasValue-related q
-  IsAnswered-related (view_of n xs) = HasView-related n xs
-  IsAnswered-related (helper_of n) = r.only_related _
-  IsAnswered-related (called_as block n) = r.only_related _
-  IsAnswered-related (hook_for q) = r.only_related _
-  IsAnswered-related (choice_of target h) = HasChoice-related target h
-  IsAnswered-related (escape_of t) = HasEscaped-related p.parts.escape t
-  IsAnswered-related (decorator_of n) = r.only_related _
-  IsAnswered-related (deeds_of kind v) = HasDeeds-related kind v
+  -- ---- sections
+
+  HasSectionPath-related : (q : Param) (v : CallView) → r.Relates (HasSectionPath q v) (HasSectionPath q v)
+  HasSectionPath-related (name n) v = r.path_related n v
+  HasSectionPath-related (path l) v = r.only_related _
+  HasSectionPath-related (literal d) v = r.only_related _
+  HasSectionPath-related (subexpression e) v = r.only_related _
+
+  pub HasSectionIf-related : (b : Bool) (q : Param) (v : CallView)
+      → r.Relates (HasSectionIf b p s q v) (HasSectionIf b p' s' q v)
+  HasSectionIf-related true q v = r.then_related _ _ _ _ (HasSectionPath-related q v)
+      (λ l. r.then_related _ _ _ _ (r.only_related _) (λ found. r.only_related _))
+  HasSectionIf-related false q v = r.only_related _
+
+  -- What a block without a helper is asked is related, if it has no parameters and pairs or not.
+  abbrev pub SectionsRelated : Type 0
+  SectionsRelated = (b : Bool) (q : Param) (v : CallView)
+      → r.Relates (HasSectionIf (p.parts.sections && b) p s q v) (HasSectionIf (sections && b) p' s' q v)
+
+  HasCalled-related : SectionsRelated → (block : Bool) (e : Call) (v : CallView) (target : Option Target)
+      → r.Relates (HasCalled p s block e v target) (HasCalled p' s' block e v target)
+  HasCalled-related are block e v None = are (block && is_value e) (call_name e) v
+  HasCalled-related are block e v (Some k) = r.only_related _
+
+  pub IsAnswered-related_with : SectionsRelated → (q : Question) → r.Relates (IsAnswered p s q) (IsAnswered p' s' q)
+  IsAnswered-related_with are (value_of q) = HasValue-related q
+  IsAnswered-related_with are (view_of n xs) = HasView-related n xs
+  IsAnswered-related_with are (helper_of n) = r.only_related _
+  IsAnswered-related_with are (called_as block e v) =
+      HasCalled-related are block e v (helper_for p.parts s block v.name)
+  IsAnswered-related_with are (hook_for q) = r.only_related _
+  IsAnswered-related_with are (choice_of target h) = HasChoice-related target h
+  IsAnswered-related_with are (escape_of t) = HasEscaped-related p.parts.escape t
+  IsAnswered-related_with are (decorator_of n) = r.only_related _
+  IsAnswered-related_with are (deeds_of kind v) = HasDeeds-related kind v
+
+-- where there are sections in both settings, or in none
+pub IsAnswered-related : (r : Relation) (p : Setting) → OwnRelated r p.parts → (template : Text → Option Tree) (limit : ℕ)
+    (s : State) (c : Option Text) (q : Question)
+    → r.Relates (IsAnswered p s q) (IsAnswered (other p template limit) (record s { current = c }) q)
+IsAnswered-related r p own_related template limit s c =
+    IsAnswered-related_with r p own_related template limit p.parts.sections s c
+    (λ b. HasSectionIf-related r p own_related template limit p.parts.sections s c (p.parts.sections && b))

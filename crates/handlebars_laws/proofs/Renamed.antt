@@ -195,7 +195,7 @@ module _ (p : Setting) (n : Text) where
         → Goes s c (render_call site block e) (render_call site block e)
     unfolding ◌>>=◌
     render_call-goes block e s c h k l g = both_ask (answer-twin s c _ _ (λ v.
-        both_ask (answer-twin s c _ _ (λ target. render_helped-goes block e target v s c h k l g))))
+        both_ask (answer-twin s c _ _ (λ x. render_helped-goes block e x.0 x.1 s c h k l g))))
 
     render_hook-goes : (e : Call) (v : CallView) (o : Option Target) (s : State) (c : Option Text)
         → Goes s c (render_hook site e v o) (render_hook site e v o)

@@ -18,7 +18,12 @@ then-are m n f g first next _ (goes_on {x = x} {a = a} i h) = goes_on (first _ i
 then-are m n f g first next _ (is_refused i) = is_refused (first _ i)
 
 abbrev answers_are : Relation
-answers_are = record { Relates = λ m n. Are m n; only_related = λ x a i. i; then_related = then-are }
+answers_are = record {
+  Relates = λ m n. Are m n;
+  only_related = λ x a i. i;
+  then_related = then-are;
+  path_related = λ n v a i. i;
+}
 
 pub renamed_answers : (p : Setting) (template : Text → Option Tree) (limit : ℕ) (s : State) (c : Option Text) (q : Question)
     (a : Answer (Reply q)) → IsAnswered p s q a → IsAnswered (other p template limit) (record s { current = c }) q a

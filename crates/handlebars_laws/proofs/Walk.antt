@@ -19,7 +19,7 @@ use Rattle.handlebars_laws.proofs.Calls.{render_call-holds, render_expression-ho
 use Rattle.handlebars_laws.proofs.Closed.{ComesToTag, Closed}
 use Rattle.handlebars_laws.proofs.Inclusions.{render_partial-holds}
 use Rattle.handlebars_laws.proofs.Law.{Law, PlanHolds}
-use Rattle.handlebars_laws.proofs.Programs.{upto, any, Leads, answer-holds, return-holds, write_text-holds, without_escaping-holds}
+use Rattle.handlebars_laws.proofs.Programs.{upto, any, Leads, ask-holds, return-holds, write_text-holds, without_escaping-holds}
 
 module _ (p : Setting) (law : Law) (closed : Closed p law) where
   -- ---- decorators
@@ -70,9 +70,9 @@ module _ (p : Setting) (law : Law) (closed : Closed p law) where
     render_decorator-holds : Leads p law this 0 any before (render_decorator t)
     unfolding ◌>>=◌
     render_decorator-holds h end i le next g =
-        answer-holds p law this end i before (view_of (decorator_name t) (decorator_args t)) _ (λ v viewed.
-        answer-holds p law this end i before (decorator_of v.name) _ (λ k named.
-        answer-holds p law this end i before (deeds_of k (shown_tag before.indent t v)) _ (λ deeds answers.
+        ask-holds p law this end i before (view_of (decorator_name t) (decorator_args t)) _ (λ v viewed.
+        ask-holds p law this end i before (decorator_of v.name) _ (λ k named.
+        ask-holds p law this end i before (deeds_of k (shown_tag before.indent t v)) _ (λ deeds answers.
         do_deeds-hold v viewed k named deeds answers deeds (λ d has. has) before h end i le next g)))
 
   -- ---- elements
