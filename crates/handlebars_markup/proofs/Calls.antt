@@ -11,9 +11,9 @@ use Rattle.handlebars_helpers.specs.Choice.{Choice, the_body, the_inverse, body_
 use Rattle.handlebars_helpers.specs.Turns.{Turn, turn_frame, with_block}
 use Rattle.handlebars_meaning.specs.CarryOut.{view_with_bodies, render_body, take_turns, render_with, render_word, carry_out}
 use Rattle.handlebars_meaning.specs.Means.{line_in, render_chosen, render_helped, render_call, render_hook, render_found, render_lone_as, render_lone, render_expression}
-use Rattle.handlebars_meaning.specs.Questions.{IsAnswered, HasChoice, value_of, view_of, helper_of, called_as, hook_for, choice_of, helper_or_refusal, hook_or_refusal}
+use Rattle.handlebars_meaning.specs.Questions.{IsAnswered, HasChoice, value_of, view_of, helper_of, called_as, hook_for, choice_of, hook_or_refusal}
 use Rattle.handlebars_meaning.specs.Sites.{body_at, inverse_at, Site}
-use Rattle.handlebars_meaning.specs.State.{Setting, State, push_frame, with_nearest, nearest_variables, helper_named, helper_for}
+use Rattle.handlebars_meaning.specs.State.{Setting, State, push_frame, with_nearest, nearest_variables, helper_named}
 use Rattle.handlebars_meaning.specs.Steps.{◌>>=◌, ◌>>◌}
 use Rattle.handlebars_markup.specs.Blind.{calls_blind, IsWritten, AreBlindArgs, IsBlindBody}
 use Rattle.handlebars_markup.specs.TwoRuns.{registrations}
@@ -23,8 +23,9 @@ use Rattle.handlebars_markup.proofs.Asked.{AreAnswered, only-answered, AreAnswer
 use Rattle.handlebars_markup.proofs.Choices.{built_in_choice-alike}
 use Rattle.handlebars_markup.proofs.Frames.{empty_frame-alike, turn_frame-alike, with_block-alike, nearest_variables-alike}
 use Rattle.handlebars_markup.proofs.Programs.{AreSides, LeadAlike, ask-alike, if-alike, write_value-alike, in_block-alike, on_line-alike, render_branch-alike}
+use Rattle.handlebars_markup.proofs.Sections.{AreAlikeCalls, called_as-alike}
 use Rattle.handlebars_markup.proofs.States.{empty_frame-blind, turn_frame-blind, with_block-blind, push_frame-alike, with_nearest-alike}
-use Rattle.handlebars_markup.proofs.Targets.{IsBlindTarget, IsSameTarget, AreSameTargets, helper_named-alike, called_as-alike, hook_or_refusal-alike}
+use Rattle.handlebars_markup.proofs.Targets.{IsBlindTarget, AreSameTargets, helper_named-alike, hook_or_refusal-alike}
 use Rattle.handlebars_markup.proofs.TwoSettings.{HasTwin, twin}
 use Rattle.handlebars_markup.proofs.Views.{AreValuesOf, AreViewsOf, IsWritten-param, HasValue-alike, HasView-alike}
 
@@ -146,15 +147,12 @@ module _ (p : Setting) (w : HasTwin p) (site : Site) (c : Call)
       ask-alike p w AreViews s t (IsAnswered p s (view_of (call_name c) (call_args c)))
       (IsAnswered (twin p w) t (view_of (call_name c) (call_args c))) _ _
       (HasView-alike p w s t h (calls_blind (registrations p.parts)) (call_name c) (call_args c) written blind_args)
-      (λ v u e. ask-alike p w IsSameTarget s t (IsAnswered p s (called_as block v.name))
-      (IsAnswered (twin p w) t (called_as block u.name)) (λ k. render_helped site block c k v next)
-      (λ k. render_helped site block c k u next')
-      (only-answered IsSameTarget (helper_or_refusal v.name (helper_for p.parts s block v.name))
-      (helper_or_refusal u.name (helper_for p.parts t block u.name))
-      (called_as-alike p.parts s t h w.blind.parts block v.name u.name e.views.name e.passes))
-      (λ k l same. subst (λ (z : Target). DoAlike p w s (render_helped site block c k v next) t
-      (render_helped site block c z u next')) same.0
-      (render_helped-alike p w site block c blind_body blind_inverse s t v u k h e.views same.1 next next' g)))
+      (λ v u e. ask-alike p w AreAlikeCalls s t (IsAnswered p s (called_as block c v))
+      (IsAnswered (twin p w) t (called_as block c u)) (λ x. render_helped site block c x.0 x.1 next)
+      (λ y. render_helped site block c y.0 y.1 next') (called_as-alike p w s t h v u e.views block c e.passes)
+      (λ x y same. subst (λ (z : Target). DoAlike p w s (render_helped site block c x.0 x.1 next) t
+      (render_helped site block c z y.1 next')) same.0.0
+      (render_helped-alike p w site block c blind_body blind_inverse s t x.1 y.1 x.0 h same.1 same.0.1 next next' g)))
 
   -- ---- lone expressions
 

@@ -12,6 +12,7 @@ pub mod Frames
 pub mod Inclusions
 pub mod Marks
 pub mod Programs
+pub mod Sections
 pub mod States
 pub mod Targets
 pub mod TwoSettings

@@ -3,13 +3,13 @@ use Rattle.std.proofs.Common.{◌≡◌, Bool, true, false, Option, None, Some, 
 use Rattle.handlebars_base.specs.Answers.{gives, refuses_for}
 use Rattle.handlebars_base.specs.Bytes.{Text}
 use Rattle.handlebars_base.specs.Optional.{with_or}
-use Rattle.handlebars_base.specs.Reasons.{helper_not_found, decorator_not_found, missing_variable}
+use Rattle.handlebars_base.specs.Reasons.{decorator_not_found, missing_variable}
 use Rattle.handlebars_base.specs.RenderRefusals.{plain_refusal}
 use Rattle.handlebars_template.specs.Tree.{Param, as_name}
 use Rattle.handlebars_scope.specs.Resolve.{or_else}
 use Rattle.handlebars_helpers.specs.Callee.{Callee, Target, calls_registered, calls_local}
 use Rattle.handlebars_helpers.specs.Decoration.{DecoratorKind}
-use Rattle.handlebars_meaning.specs.Questions.{helper_or_refusal, decorator_or_refusal, hook_or_refusal}
+use Rattle.handlebars_meaning.specs.Questions.{decorator_or_refusal, hook_or_refusal}
 use Rattle.handlebars_meaning.specs.State.{Parts, State, hook, registered_target, helper_named, helper_for}
 use Rattle.handlebars_markup.specs.Blind.{is_blind_callee, is_blind_decorator, calls_blind, decorates_blind, HasBlindParts}
 use Rattle.handlebars_markup.specs.TwoRuns.{registrations}
@@ -28,14 +28,6 @@ AreSameTargets x y = (x ≡ y) × IsBlindTarget x
 abbrev pub IsSameTarget : Target → Target → Type 0
 IsSameTarget x y = (x ≡ y) × IsBlindTarget (Some x)
 
-target_or : Target → Option Target → Target
-target_or d None = d
-target_or d (Some x) = x
-
-Some-target : (x y : Target) → Some x ≡ Some y → x ≡ y
-unfolding target_or
-Some-target x y is = ap (target_or x) is
-
 -- ---- what is registered
 
 option_map-blind : (o : Option Callee) → with_or o is_blind_callee true ≡ true
@@ -52,13 +44,6 @@ or_else-blind None q h k = k
 or_else-blind (Some x) q h k = h
 
 -- ---- by names
-
-helper_or_refusal-alike : (n m : Text) (o q : Option Target) → n ≡ m → o ≡ q → IsBlindTarget o
-    → AreAlikeAnswers IsSameTarget (helper_or_refusal n o) (helper_or_refusal m q)
-helper_or_refusal-alike n m None None same is blind = ap (λ (z : Text). plain_refusal (helper_not_found z)) same
-helper_or_refusal-alike n m (Some x) (Some y) same is blind = (Some-target x y is, blind)
-helper_or_refusal-alike n m None (Some y) same is blind = cc
-helper_or_refusal-alike n m (Some x) None same is blind = cc
 
 module _ (p : Parts) (s t : State) (h : AreAlikeStates (registrations p) s t) where
   -- There are no local helpers.
@@ -86,13 +71,6 @@ module _ (p : Parts) (s t : State) (h : AreAlikeStates (registrations p) s t) wh
           or_else-blind (helper_named p s n) (registered_target p (hook block)) named.1
               (registered_target-blind p (hook block) (blind.hooks block)),
         )
-
-    pub called_as-alike : (block : Bool) (n m : Text) → n ≡ m → calls_blind (registrations p) n ≡ true
-        → AreAlikeAnswers IsSameTarget (helper_or_refusal n (helper_for p s block n))
-        (helper_or_refusal m (helper_for p t block m))
-    called_as-alike block n m same is =
-        let k = helper_for-alike block n m same is in
-        helper_or_refusal-alike n m (helper_for p s block n) (helper_for p t block m) same k.0 k.1
 
 pub hook_or_refusal-alike : (p : Parts) → HasBlindParts (registrations p) → (q : Param)
     → AreAlikeAnswers AreSameTargets (hook_or_refusal p q) (hook_or_refusal p q)

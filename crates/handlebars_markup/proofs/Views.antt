@@ -125,7 +125,7 @@ is_viewed-alike test xs m m' n n' o o' named valued paired =
     }))))
 
 module _ (p : Setting) (w : HasTwin p) (s t : State) (h : AreAlikeStates (registrations p.parts) s t) where
-  path_value-alike : (l : Reference) → AreAlikeAnswers AreAlikeFound (path_value p s l) (path_value (twin p w) t l)
+  pub path_value-alike : (l : Reference) → AreAlikeAnswers AreAlikeFound (path_value p s l) (path_value (twin p w) t l)
   path_value-alike l =
       let here = resolve s.recursive s.blocks l (data_at p s) in
       as_read-alike s.changed t.changed here (resolve t.recursive t.blocks l (data_at (twin p w) t)) h.changed

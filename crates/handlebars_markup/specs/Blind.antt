@@ -62,7 +62,8 @@ is_blind_decorator kind_inline = true
 is_blind_decorator (kind_own n) = false
 
 module _ (r : Registrations) where
-  -- what stands under a name, if anything does, is blind
+  -- What stands under a name, if anything does, is blind. Where nothing does, a block may be a section, which calls `if`,
+  -- `each` or `with`: these are blind, and alike values call the same one.
   abbrev pub calls_blind : Text → Bool
   calls_blind n = with_or (r.helper n) is_blind_callee true
 
@@ -71,7 +72,8 @@ module _ (r : Registrations) where
 
 -- ---- templates
 
--- The name is written, and not made in parentheses, which could make it of a text; and this is so of it.
+-- The name is written, and not made in parentheses, which could make it of a text; and this is so of it. Of a path it is so
+-- of its text: what is registered under that is called before the path is followed.
 abbrev pub IsWritten : (Text → Bool) → Param → Type 0
 IsWritten test (name n) = test n ≡ true
 IsWritten test (path p) = test (raw_of p) ≡ true
