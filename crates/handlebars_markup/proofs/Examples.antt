@@ -1,13 +1,16 @@
 -- Where the definitions have their edges.
 use Rattle.std.proofs.Common.{◌≡◌, Bool, true, false, [], ◌∷◌, None, codes, refl}
-use Rattle.serde_json.specs.Data.{string}
+use Rattle.serde_json.specs.Data.{Data, string, array, no_items, item}
 use Rattle.handlebars_base.specs.Bytes.{Text}
 use Rattle.handlebars_base.specs.Path.{named, relative}
 use Rattle.handlebars_template.specs.Tree.{Tree, tree, no_elements, element, raw_string, html_expression, expression, helper_block, call, Call, args, no_arguments, Param, name, path, literal, subexpression, no_params, param, no_pairs, no_binding, bodies, no_body, body, CallMarks}
-use Rattle.handlebars_helpers.specs.Callee.{first_callee}
+use Rattle.handlebars_scope.specs.Scopes.{put_at}
+use Rattle.handlebars_helpers.specs.Callee.{built, first_callee}
+use Rattle.handlebars_helpers.specs.Choice.{kind_each, kind_len}
 use Rattle.handlebars_helpers.specs.Decoration.{built_in_decorator}
 use Rattle.handlebars_helpers.specs.Escaping.{for_html}
 use Rattle.handlebars_helpers.specs.OwnAnswers.{Registrations}
+use Rattle.handlebars_meaning.specs.Sections.{section_kind}
 use Rattle.handlebars_meaning.specs.State.{hook}
 use Rattle.handlebars_markup.specs.Alike.{AreAlikeTexts, AreAlike}
 use Rattle.handlebars_markup.specs.Blind.{marks_in, calls_blind, IsBlindTree, HasBlindParts}
@@ -81,3 +84,41 @@ eq_is_not_blind h = let is : false ≡ true = h.0.1.0.0.0 in cc
 -- Nor is `{{{a}}}`, which writes the marks of its value.
 html_is_not_blind : IsBlindTree first (tree None (element (html_expression a_value) no_elements) []) → ⊥
 html_is_not_blind h = h.0
+
+-- ---- sections
+
+-- a block with no parameters and no pairs, of this name, around the tree
+abbrev section : Param → Tree → Tree
+section n t =
+    tree None (element (helper_block (call n no_arguments no_binding (bodies (body t) no_body) block_marks)) no_elements) []
+
+-- the path `a.b`
+abbrev a_b : Param
+a_b = path (relative (named (codes "a") ∷ named (codes "b") ∷ []) (codes "a.b"))
+
+abbrev list_of : Data → Data
+list_of d = array (item d no_items)
+
+-- Over lists of one text each `{{#a}}..{{/a}}` takes one turn, whatever the texts say, and it is blind.
+lists_are_alike : AreAlike (list_of (string (codes "x"))) (list_of (string (codes "\"><")))
+lists_are_alike = (tt, tt)
+
+list_takes_turns : (d : Data) → section_kind (list_of d) ≡ kind_each
+list_takes_turns d = refl
+
+section_is_blind : IsBlindTree first (section (name (codes "a")) title)
+section_is_blind = ((refl, (tt, tt), ((tt, ((refl, (tt, tt), (tt, tt)), (tt, tt))), tt)), tt)
+
+-- `{{#len}}..{{/len}}` is not: the helper of the name is called, and reads how long a text is.
+len_is_not_blind : IsBlindTree first (section (name (codes "len")) title) → ⊥
+len_is_not_blind h = let is : false ≡ true = h.0.0 in cc
+
+-- `{{#a.b}}..{{/a.b}}` is blind, and isn't where such a helper stands under `a.b`.
+path_is_blind : IsBlindTree first (section a_b title)
+path_is_blind = ((refl, (tt, tt), ((tt, ((refl, (tt, tt), (tt, tt)), (tt, tt))), tt)), tt)
+
+abbrev with_reader : Registrations
+with_reader = record first { helper = put_at (codes "a.b") (built kind_len) first_callee }
+
+named_path_is_not_blind : IsBlindTree with_reader (section a_b title) → ⊥
+named_path_is_not_blind h = let is : false ≡ true = h.0.0 in cc
