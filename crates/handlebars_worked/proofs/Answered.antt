@@ -1,11 +1,15 @@
 -- The answers of questions, computed: each question has one.
-use Rattle.std.proofs.Common.{List, Option, None, Some, refl}
+use Rattle.std.proofs.Common.{◌≡◌, Bool, true, false, ◌&&◌, List, Option, None, Some, refl, sym, ◌∙◌}
 use Rattle.handlebars_base.specs.Answers.{Answer, gives, refuses}
 use Rattle.handlebars_base.specs.Bytes.{Text}
+use Rattle.handlebars_base.specs.Path.{Reference}
 use Rattle.handlebars_base.specs.PathAndData.{PathAndData}
+use Rattle.handlebars_base.specs.PathReading.{path_of}
+use Rattle.handlebars_base.proofs.PathShapes.{path_known, path_is}
+use Rattle.std.proofs.lemmas.Option.{none-some}
 use Rattle.handlebars_base.specs.Scoped.{Found}
-use Rattle.handlebars_template.specs.Tree.{Element, raw_string, html_expression, expression, helper_block, decorator_expression, decorator_block, partial_expression, partial_block, comment, call, args, args_params, args_pairs, Param, name, path, literal, subexpression, Params, no_params, param, Pairs, no_pairs, pair}
-use Rattle.handlebars_helpers.specs.CallView.{HelperView}
+use Rattle.handlebars_template.specs.Tree.{Element, raw_string, html_expression, expression, helper_block, decorator_expression, decorator_block, partial_expression, partial_block, comment, Call, call, call_name, is_value, args, args_params, args_pairs, Param, name, path, literal, subexpression, Params, no_params, param, Pairs, no_pairs, pair}
+use Rattle.handlebars_helpers.specs.CallView.{CallView, HelperView}
 use Rattle.handlebars_helpers.specs.Callee.{Callee, built, Target, calls_registered, calls_local}
 use Rattle.handlebars_helpers.specs.Callee as callee
 use Rattle.handlebars_helpers.specs.Decoration.{DecoratorKind, kind_inline, kind_own, DecoratorView}
@@ -13,9 +17,10 @@ use Rattle.handlebars_helpers.specs.Escaping.{Escaping, for_html, for_plain, by_
 use Rattle.handlebars_helpers.specs.OwnDecorator.{DecoratorQuestion, OwnDecorator, no_own_decorator}
 use Rattle.handlebars_helpers.specs.Own.{HelperQuestion, Step, Offer, not_offered, offers_missing, offers, OwnHelper, no_own}
 use Rattle.handlebars_meaning.specs.Asks.{Asks, only, ◌>>=◌, goes_on, is_refused}
-use Rattle.handlebars_meaning.specs.State.{Parts, Setting, State, local_call}
-use Rattle.handlebars_meaning.specs.Questions.{Question, value_of, view_of, helper_of, called_as, hook_for, choice_of, escape_of, decorator_of, deeds_of, steps_or_offer, HasRegisteredChoice, HasChoice, decorator_question, HasDeeds, IsAnswered}
-use Rattle.handlebars_meaning.specs.Values.{helper_question, HasSteps, HasOffer, offer_or_text, HasRegisteredValue, HasHelpedValue, is_written, is_viewed, HasValue, HasInnerValue, HasName, HaveValues, PairsHaveValues}
+use Rattle.handlebars_meaning.specs.Sections.{without_helper, ReadsAsPath, reads, reads_not, HasSectionPath, HasSectionIf}
+use Rattle.handlebars_meaning.specs.State.{Parts, Setting, State, helper_for, local_call}
+use Rattle.handlebars_meaning.specs.Questions.{Question, value_of, view_of, helper_of, called_as, hook_for, choice_of, escape_of, decorator_of, deeds_of, HasCalled, steps_or_offer, HasRegisteredChoice, HasChoice, decorator_question, HasDeeds, IsAnswered}
+use Rattle.handlebars_meaning.specs.Values.{helper_question, HasSteps, HasOffer, offer_or_text, HasRegisteredValue, HasHelpedValue, is_written, is_viewed, path_value, HasValue, HasInnerValue, HasName, HaveValues, PairsHaveValues}
 
 abbrev pub HasAnswer : {A : Type 0} → Asks A → Type 0
 HasAnswer {A = A} m = (a : Answer A) × m a
@@ -147,13 +152,36 @@ abbrev mutual
       answered_then (is_written q (HasValue p s q)) _ (written q (HasValue p s q) (value_in p own s q))
       (λ v. answered_then (PairsHaveValues p s hs) _ (pairs_in p own s hs) (λ vs. known _))
 
+-- ---- sections
+
+-- a name that reads as a path, or as none
+abbrev reads_from : (n : Text) (v : CallView) (o : Option Reference) → path_of n ≡ o → HasAnswer (ReadsAsPath n v)
+reads_from n v (Some r) is = (gives r, reads (path_is n r is))
+reads_from n v None is = (without_helper v, reads_not (λ r h. none-some r (sym is ∙ path_known n r h)))
+
+abbrev section_path_in : (q : Param) (v : CallView) → HasAnswer (HasSectionPath q v)
+section_path_in (name n) v = reads_from n v (path_of n) refl
+section_path_in (path r) v = known _
+section_path_in (literal d) v = known _
+section_path_in (subexpression e) v = known _
+
+abbrev section_in : (p : Setting) (s : State) (b : Bool) (q : Param) (v : CallView) → HasAnswer (HasSectionIf b p s q v)
+section_in p s true q v = answered_then (HasSectionPath q v) _ (section_path_in q v)
+    (λ r. answered_then (only (path_value p s r)) _ (known _) (λ found. known _))
+section_in p s false q v = known _
+
+abbrev called_in : (p : Setting) (s : State) (block : Bool) (c : Call) (v : CallView) (target : Option Target)
+    → HasAnswer (HasCalled p s block c v target)
+called_in p s block c v None = section_in p s (p.parts.sections && (block && is_value c)) (call_name c) v
+called_in p s block c v (Some k) = known _
+
 abbrev pub answer_in : (p : Setting) (own : Knows p.parts) (s : State) (q : Question) → HasAnswer (IsAnswered p s q)
 answer_in p own s (value_of q) = value_in p own s q
 answer_in p own s (view_of n xs) =
     viewed (HasName p s n) (HaveValues p s (args_params xs)) (PairsHaveValues p s (args_pairs xs)) (name_in p own s n)
     (values_in p own s (args_params xs)) (pairs_in p own s (args_pairs xs))
 answer_in p own s (helper_of n) = known _
-answer_in p own s (called_as block n) = known _
+answer_in p own s (called_as block c v) = called_in p s block c v (helper_for p.parts s block v.name)
 answer_in p own s (hook_for q) = known _
 answer_in p own s (choice_of target h) = choice_in p own s target h
 answer_in p own s (escape_of t) = escaped_in p own p.parts.escape t

@@ -6,6 +6,8 @@ mod ScopeTrees
 mod ScopeRows
 mod HelperTrees
 mod HelperRows
+mod SectionTrees
+mod SectionRows
 mod OwnRows
 mod DecoratorRows
 mod DeedRows

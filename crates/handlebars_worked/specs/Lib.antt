@@ -2,6 +2,7 @@ pub mod SourceRows
 pub mod Rows
 pub mod ScopeRows
 pub mod HelperRows
+pub mod SectionRows
 pub mod OwnRows
 pub mod DecoratorRows
 pub mod DeedRows

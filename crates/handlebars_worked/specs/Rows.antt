@@ -42,6 +42,7 @@ first_parts = record {
   own_escape = no_own_escape;
   strict = false;
   recursive = false;
+  sections = true;
   template = nothing_at;
   limit = 64;
 }
@@ -191,9 +192,10 @@ abbrev pub NoParamRow : Type 0
 NoParamRow = (given : Data) (b i : Body)
     → IsRefusedFor given (block (codes "if") [] b i) (param_not_found_for_index (codes "if") 0)
 
--- A block is refused where no helper has its name: {{#a}}..{{/a}}.
+-- A block with a parameter is refused where no helper has its name: {{#a null}}..{{/a}}.
 abbrev pub BlockRow : Type 0
-BlockRow = (given : Data) (b i : Body) → IsRefusedFor given (block (codes "a") [] b i) (helper_not_found (codes "a"))
+BlockRow = (given : Data) (b i : Body)
+    → IsRefusedFor given (block (codes "a") (literal null ∷ []) b i) (helper_not_found (codes "a"))
 
 -- an `if` in parentheses, over what stands under a name
 abbrev pub nested_if : Text → Param

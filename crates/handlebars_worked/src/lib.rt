@@ -12,6 +12,7 @@ mod own;
 mod pieces;
 mod rows;
 mod scopes;
+mod sections;
 mod sources;
 
 pub use decorators::worked_decorators;
@@ -24,4 +25,5 @@ pub use own::worked_own_helpers;
 pub use pieces::worked_pieces;
 pub use rows::worked_rows;
 pub use scopes::worked_scopes;
+pub use sections::worked_sections;
 pub use sources::worked_sources;
