@@ -1,6 +1,6 @@
 -- An answer in dev mode is that of a registry without it that holds the trees that were read.
 use mathlib.Core.Path.{fun_ext}
-use Rattle.std.proofs.Common.{◌≡◌, List, Option, None, sym, ap, ◌∙◌, subst}
+use Rattle.std.proofs.Common.{◌≡◌, true, List, Option, None, sym, ap, ◌∙◌, subst}
 use Rattle.serde_json.specs.Data.{Data}
 use Rattle.handlebars_base.specs.Bytes.{Text}
 use Rattle.handlebars_tags.specs.Options.{Options}
@@ -28,6 +28,7 @@ module _ {E : Type 0} (registered : E → Registrations) (own : E → OwnAnswers
       own_escape = (own e).escape;
       strict = m.strict;
       recursive = m.recursive;
+      sections = true;
       template = template;
       limit = m.limit;
     };

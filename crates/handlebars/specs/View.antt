@@ -1,6 +1,6 @@
 -- What a registry and its contexts stand for.
 use Rattle.std.specs.BTreeMap.{get_by_text}
-use Rattle.std.specs.Prelude.{ℕ, Bool, Option, None, Some, option_map}
+use Rattle.std.specs.Prelude.{ℕ, Bool, true, Option, None, Some, option_map}
 use Rattle.serde_json.specs.Data.{Data}
 use Rattle.handlebars_base.specs.Bytes.{Text}
 use Rattle.handlebars_tags.specs.Options.{Options}
@@ -53,6 +53,7 @@ module _ {E : Type 0} where
       own_escape = (own r.entries).escape;
       strict = r.strict_mode;
       recursive = r.recursive_lookup;
+      sections = true;
       template = stored_tree r;
       limit = r.inclusion_limit;
     }

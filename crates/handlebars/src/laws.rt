@@ -9,6 +9,7 @@ ghost use Rattle.handlebars_meaning.specs.Counted.{RendersCounted, JudgesCounted
 ghost use Rattle.handlebars_meaning.specs.Counted.{ComparesCounted, WalksCounted};
 ghost use Rattle.handlebars_meaning.specs.Laws.{OneRun, StopsInBeginning, ComesOnce, ComesInTrees, AllHaveOrigins};
 ghost use Rattle.handlebars_meaning.specs.Laws.{ElementHasOrigins, LeavesAround, OnlyNamedCount, SameUnderLarger};
+ghost use Rattle.handlebars_meaning.specs.Laws.{SameWithSections};
 ghost use Rattle.handlebars_meaning.specs.Marked.{DataIsNoMarkup, IndentsAreBlank};
 ghost use Rattle.handlebars.specs.Calls.{CallsAgree};
 ghost use Rattle.handlebars.specs.Dev.{ReadsFiles, ReadsFor, stored_under};
@@ -38,7 +39,8 @@ pub use handlebars_template::laws::{cuts_join, one_compilation, one_cut, one_par
 /// twice, and all of its sites stand in trees of the run; and all that the run of a tree or of an element alone writes
 /// has an origin there, where escaping is on, no indentation is in force and nothing is kept at its start. A tree's run
 /// that ends well leaves what stands around it as it was. A run that isn't refused with the limit of inclusions is the
-/// same under every larger limit, and whatever stands under names that no inclusion of it has.
+/// same under every larger limit, and whatever stands under names that no inclusion of it has. A tree's run in the language
+/// without sections that isn't refused for a name without a helper is the same with them.
 pub fn laws_of_runs<E: OwnParts>(registry: &RegistryOf<E>, context: &Context)
     ensures one { OneRun (setting_of E.registered E.own registry.now context.now) }
     ensures beginning { StopsInBeginning (setting_of E.registered E.own registry.now context.now) }
@@ -49,6 +51,7 @@ pub fn laws_of_runs<E: OwnParts>(registry: &RegistryOf<E>, context: &Context)
     ensures around { LeavesAround (setting_of E.registered E.own registry.now context.now) }
     ensures larger { SameUnderLarger (setting_of E.registered E.own registry.now context.now) }
     ensures named { OnlyNamedCount (setting_of E.registered E.own registry.now context.now) }
+    ensures sections { SameWithSections (setting_of E.registered E.own registry.now context.now) }
 {
     registry.entries.keeps_law();
 }

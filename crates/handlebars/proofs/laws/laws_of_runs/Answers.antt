@@ -3,6 +3,7 @@ use Rattle.handlebars_laws.proofs.RunLaws.{Runs-one, Runs-beginning}
 use Rattle.handlebars_laws.proofs.Once.{comes_once}
 use Rattle.handlebars_laws.proofs.RunOrigins.{all_have_origins, comes_in_trees, element_has_origins}
 use Rattle.handlebars_laws.proofs.OtherTemplates.{only_named_count, same_under_larger}
+use Rattle.handlebars_laws.proofs.Sections.{runs_stay}
 use Rattle.handlebars.specs.View.{setting_of}
 use Rattle.handlebars.proofs.OwnLaws.{parts-lawful}
 use Rattle.handlebars.proofs.laws.laws_of_runs.Goals as goal
@@ -21,4 +22,5 @@ returns g c =
       around = leaves_around p;
       larger = same_under_larger p;
       named = only_named_count p;
+      sections = runs_stay p;
     }
