@@ -17,6 +17,7 @@ pub mod BindingReading
 pub mod Bindings
 pub mod LineFronts
 pub mod LineEnds
+pub mod OpeningNames
 pub mod LineSteps
 pub mod LineBounds
 pub mod LinesRead

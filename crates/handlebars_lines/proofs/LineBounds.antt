@@ -3,11 +3,11 @@ use Rattle.std.proofs.Common.{◌≡◌, ◌≢◌, ℕ, suc, ◌+◌, ◌<◌, 
 use Rattle.handlebars_base.proofs.Fronts.{starts-length}
 use Rattle.handlebars_lines.specs.Runs.{goes}
 use Rattle.handlebars_lines.specs.Literal.{Bracket, spelled_lead, Literal, quoted, single_quoted, number, word, empty, filled, Entries, closing, another, spelled_literal, spelled_entries, literal_depth, entries_depth}
-use Rattle.handlebars_lines.specs.Line.{NameMode, identifier_name, value_name, close_name, IsPlainName, Enclosure}
+use Rattle.handlebars_lines.specs.Line.{NameMode, identifier_name, value_name, close_name, opening_name, IsPlainName, Enclosure}
 use Rattle.handlebars_lines.specs.LineReading.{Event, LineStand, line_step, height}
 use Rattle.handlebars_lines.proofs.Stepping.{Shortens}
 use Rattle.handlebars_lines.proofs.LineFronts.{begins_single, path_begins, literal_begins}
-use Rattle.handlebars_lines.proofs.LineSteps.{ParameterStepped, to_nested, to_literal, to_path, LineStepped, to_inner, to_plain, to_name, to_parameter, to_pair, to_closed, line_stepped}
+use Rattle.handlebars_lines.proofs.LineSteps.{ParameterStepped, to_nested, to_literal, to_path, LineStepped, to_inner, to_plain, to_name, to_section, to_parameter, to_pair, to_closed, line_stepped}
 
 -- ---- a literal is as long as it is deep
 
@@ -69,6 +69,7 @@ plain_length : (mode : NameMode) (t rest : List ℕ) → IsPlainName mode t rest
 plain_length identifier_name t rest h = some_length t h.0
 plain_length value_name t rest h = absurd h
 plain_length close_name t rest h = some_length t h.0
+plain_length opening_name t rest h = some_length t h.0
 
 step_bounds : (s : LineStand) (t : List ℕ) (x : Event) (s' : LineStand) (t' : List ℕ) → LineStepped s t x s' t' → LineBounds s.level t x s' t'
 step_bounds s t x s' t' (to_inner mode n w takes is is' ev white whole) =
@@ -79,6 +80,10 @@ step_bounds s t x s' t' (to_plain mode n raw is is' ev whole h) =
     let first = plain_length mode raw t' h in
     rw (is, is', ev) (record { shorter = omega (arith, long, first); level_within = omega (arith, long, first); height_within = omega (arith, long, first) })
 step_bounds s t x s' t' (to_name n raw means is is' ev whole h) =
+    let long = ap length whole ∙ length-append raw t' in
+    let first = starts-length begins_single raw (path_begins raw means h) in
+    rw (is, is', ev) (record { shorter = omega (arith, long, first); level_within = omega (arith, long, first); height_within = omega (arith, long, first) })
+step_bounds s t x s' t' (to_section n raw means is is' ev whole h opens) =
     let long = ap length whole ∙ length-append raw t' in
     let first = starts-length begins_single raw (path_begins raw means h) in
     rw (is, is', ev) (record { shorter = omega (arith, long, first); level_within = omega (arith, long, first); height_within = omega (arith, long, first) })

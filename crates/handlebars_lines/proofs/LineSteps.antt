@@ -1,7 +1,7 @@
 -- What each step of a line takes from the text, and how far it goes.
 use Rattle.std.proofs.Common.{◌≡◌, ◌≢◌, ℕ, zero, suc, ◌+◌, ◌-◌, Bool, true, false, cond, List, [], ◌∷◌, ◌++◌, length, Option, Some, None, refl, sym, ap, subst, ◌∙◌, arith, inl, inr}
 use Rattle.std.specs.Prelude.{◌==◌}
-use Rattle.std.specs.List.{prefix_len}
+use Rattle.std.specs.List.{prefix_len, list_all}
 use Rattle.std.proofs.lemmas.Bool.{false≢true}
 use Rattle.std.proofs.lemmas.List.{take-append-drop}
 use Rattle.std.proofs.Math.Dec.{eqb-suc-zero}
@@ -16,14 +16,16 @@ use Rattle.handlebars_base.proofs.Runs.{prefix_pass}
 use Rattle.handlebars_lines.specs.Runs.{ReadingStep, goes, ends, stuck}
 use Rattle.handlebars_lines.specs.Literal.{Literal, spelled_literal, literal_depth, IsLiteralAt}
 use Rattle.handlebars_lines.specs.LiteralReading.{LiteralSlice, literal_at}
-use Rattle.handlebars_lines.specs.Line.{NameMode, identifier_name, value_name, close_name, IsPlainName, Enclosure, is_end, Closes}
-use Rattle.handlebars_lines.specs.LineReading.{Event, opened, literal_event, path_event, name_event, closed, Stand, at_name, at_items, at_end, LineStand, line_stand, key_and_equals_at, behind_name, open_step, plain_step, name_step, is_excluded, parameter_step, item_step, next_step, behind_step, line_step}
-use Rattle.handlebars_lines.specs.CloseName.{close_name_at}
+use Rattle.handlebars_lines.specs.Line.{NameMode, identifier_name, value_name, close_name, opening_name, IsPlainName, opens_section, Enclosure, is_end, Closes}
+use Rattle.handlebars_lines.specs.LineReading.{Event, opened, literal_event, path_event, name_event, closed, Stand, at_name, at_items, at_end, LineStand, line_stand, key_and_equals_at, behind_name, open_step, plain_step, section_step, opening_step, name_step, is_excluded, parameter_step, item_step, next_step, behind_step, line_step}
+use Rattle.handlebars_lines.specs.CloseName.{close_name_at, is_close_name}
+use Rattle.handlebars_lines.specs.Parameter.{path_shape, no_items}
 use Rattle.handlebars_lines.proofs.CloseNames.{close_name-whole}
 use Rattle.handlebars_lines.proofs.Stepping.{goes-parts}
 use Rattle.handlebars_lines.proofs.Endings.{goes-not_stuck, goes-not_ends}
 use Rattle.handlebars_lines.proofs.LiteralsFound.{literal_at-some}
 use Rattle.handlebars_lines.proofs.LineMarks.{slice_at-some, key_and_equals_at-some}
+use Rattle.handlebars_lines.proofs.OpeningNames.{path_identifier}
 
 -- ---- what a step takes
 
@@ -37,6 +39,7 @@ abbrev pub takes_parentheses : NameMode → Bool
 takes_parentheses identifier_name = false
 takes_parentheses value_name = true
 takes_parentheses close_name = true
+takes_parentheses opening_name = false
 
 abbrev pub is_at_name : Stand → Bool
 is_at_name (at_name mode) = true
@@ -47,6 +50,7 @@ pub data LineStepped (s : LineStand) (t : List ℕ) (x : Event) (s' : LineStand)
   to_inner : (mode : NameMode) (n : ℕ) (w : List ℕ) → takes_parentheses mode ≡ true → s ≡ line_stand (at_name mode) n → s' ≡ line_stand (at_name value_name) (suc n) → x ≡ opened None (suc n) → IsWhite w → t ≡ 40 ∷ (w ++ t') → LineStepped s t x s' t'
   to_plain : (mode : NameMode) (n : ℕ) (raw : List ℕ) → s ≡ line_stand (at_name mode) n → s' ≡ line_stand at_items n → x ≡ name_event raw → t ≡ raw ++ t' → IsPlainName mode raw t' → LineStepped s t x s' t'
   to_name : (n : ℕ) (raw : List ℕ) (means : Reference) → s ≡ line_stand (at_name value_name) n → s' ≡ line_stand (behind_name raw) n → x ≡ path_event None raw n → t ≡ raw ++ t' → IsPath raw means → LineStepped s t x s' t'
+  to_section : (n : ℕ) (raw : List ℕ) (means : Reference) → s ≡ line_stand (at_name opening_name) n → s' ≡ line_stand at_end n → x ≡ path_event None raw n → t ≡ raw ++ t' → IsPath raw means → opens_section (path_shape raw means) no_items ≡ true → LineStepped s t x s' t'
   to_parameter : (n : ℕ) (w r : List ℕ) → s ≡ line_stand at_items n → IsWhite w → w ≢ [] → t ≡ w ++ r → ParameterStepped None n r x s' t' → LineStepped s t x s' t'
   to_pair : (n : ℕ) (w key u v r : List ℕ) → s ≡ line_stand at_items n → IsWhite w → w ≢ [] → IsIdentifier key → IsWhite u → IsWhite v → t ≡ w ++ (key ++ (u ++ 61 ∷ (v ++ r))) → ParameterStepped (Some key) n r x s' t' → LineStepped s t x s' t'
   to_closed : (n : ℕ) (st : Stand) (w : List ℕ) → s ≡ line_stand st (suc n) → is_at_name st ≡ false → s' ≡ line_stand at_items n → x ≡ closed → IsWhite w → t ≡ w ++ 41 ∷ t' → LineStepped s t x s' t'
@@ -139,6 +143,31 @@ close_parts t name rest e = close_name-whole t ∙ ap (λ (z : List ℕ × List 
 close_is : (t : List ℕ) (p : List ℕ × List ℕ) → close_name_at t ≡ p → p.0 ≢ [] → IsPlainName close_name p.0 p.1
 close_is t p e some = (some, ap close_name_at (sym (close_parts t p.0 p.1 e)) ∙ e)
 
+-- a path, and what follows it
+record PathFound (t : List ℕ) (p : List ℕ × List ℕ) : Type 0 where
+  means : Reference
+  whole : t ≡ p.0 ++ p.1
+  is : IsPath p.0 means
+
+opens : (raw : List ℕ) (means : Reference) → list_all is_symbol raw ≡ false → is_close_name raw ≡ true → opens_section (path_shape raw means) no_items ≡ true
+opens raw means mark closes = rw (mark, closes) refl
+
+section_stepped : (n : ℕ) (t : List ℕ) (p : List ℕ × List ℕ) (x : Event) (s' : LineStand) (t' : List ℕ) → PathFound t p → list_all is_symbol p.0 ≡ false → section_step n p ≡ goes x s' t' → LineStepped (line_stand (at_name opening_name) n) t x s' t'
+section_stepped n t p x s' t' found mark e = elim (cond_is (is_close_name p.0) (goes (path_event None p.0 n) (line_stand at_end n) p.1) stuck (goes x s' t') e) [
+  | inl closes ↦
+      let same = goes-parts (path_event None p.0 n) x (line_stand at_end n) s' p.1 t' closes.1 in
+      to_section n p.0 found.means refl (sym same.states) (sym same.events) (found.whole ∙ ap (λ (z : List ℕ). p.0 ++ z) same.lefts) found.is (opens p.0 found.means mark closes.0)
+  | inr fails ↦ goes-not_stuck (goes x s' t') x s' t' refl (sym fails.1)
+]
+
+opening_stepped : (n : ℕ) (t : List ℕ) (p : List ℕ × List ℕ) (x : Event) (s' : LineStand) (t' : List ℕ) → PathFound t p → opening_step n p ≡ goes x s' t' → LineStepped (line_stand (at_name opening_name) n) t x s' t'
+opening_stepped n t p x s' t' found e = elim (cond_is (list_all is_symbol p.0) (goes (name_event p.0) (line_stand at_items n) p.1) (section_step n p) (goes x s' t') e) [
+  | inl name ↦
+      let same = goes-parts (name_event p.0) x (line_stand at_items n) s' p.1 t' name.1 in
+      to_plain opening_name n p.0 refl (sym same.states) (sym same.events) (found.whole ∙ ap (λ (z : List ℕ). p.0 ++ z) same.lefts) (path_identifier p.0 found.means found.is name.0)
+  | inr other ↦ section_stepped n t p x s' t' found other.0 other.1
+]
+
 name_stepped : (mode : NameMode) (n : ℕ) (t : List ℕ) (x : Event) (s' : LineStand) (t' : List ℕ) → name_step mode n t ≡ goes x s' t' → LineStepped (line_stand (at_name mode) n) t x s' t'
 unfolding name_step
 name_stepped identifier_name n t x s' t' e =
@@ -150,6 +179,12 @@ name_stepped value_name n t x s' t' e = elim (with_or_is (behind_byte 40 t) (ope
 name_stepped close_name n t x s' t' e = elim (with_or_is (behind_byte 40 t) (open_step None n) (plain_step n (close_name_at t)) (goes x s' t') e) [
   | inl inner ↦ opened_stepped close_name n t inner.0 x s' t' refl inner.1 inner.2
   | inr name ↦ plain_stepped close_name n t (close_name_at t) x s' t' (close_name-whole t) (close_is t (close_name_at t) refl) name.1
+]
+name_stepped opening_name n t x s' t' e = elim (with_or_is (slice_at t) (opening_step n) stuck (goes x s' t') e) [
+  | inl found ↦
+      let p = slice_at-some t found.0 found.1 in
+      opening_stepped n t found.0 x s' t' (record { means = p.means; whole = p.whole; is = p.is }) found.2
+  | inr fails ↦ goes-not_stuck (goes x s' t') x s' t' refl (sym fails.1)
 ]
 
 -- ---- behind white
@@ -253,11 +288,21 @@ opened_ends : (n : ℕ) (o : Option (List ℕ)) (other : ReadingStep Event LineS
 opened_ends n None other h = h
 opened_ends n (Some r) other h = refl
 
+opening_ends : (n : ℕ) (q : Option (List ℕ × List ℕ)) → is_ends (with_or q (opening_step n) stuck) ≡ false
+opening_ends n None = refl
+opening_ends n (Some p) = on (list_all is_symbol p.0) (is_close_name p.0)
+  where
+    on : (c d : Bool) → is_ends (cond c (goes (name_event p.0) (line_stand at_items n) p.1) (cond d (goes (path_event None p.0 n) (line_stand at_end n) p.1) stuck)) ≡ false
+    on true d = refl
+    on false true = refl
+    on false false = refl
+
 name_ends : (mode : NameMode) (n : ℕ) (t : List ℕ) → is_ends (name_step mode n t) ≡ false
 unfolding name_step
 name_ends identifier_name n t = plain_ends n (symbols_of t, behind_symbols t)
 name_ends value_name n t = opened_ends n (behind_byte 40 t) (value_step n t) (value_ends n t)
 name_ends close_name n t = opened_ends n (behind_byte 40 t) (plain_step n (close_name_at t)) (plain_ends n (close_name_at t))
+name_ends opening_name n t = opening_ends n (slice_at t)
 
 item_ends : (n : ℕ) (t : List ℕ) → is_ends (item_step n t) ≡ false
 unfolding item_step

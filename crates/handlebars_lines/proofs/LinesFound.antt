@@ -1,11 +1,11 @@
 -- Lines: what is spelled so is read.
-use Rattle.std.proofs.Common.{◌≡◌, ◌≢◌, ℕ, zero, suc, ◌+◌, ◌-◌, Bool, true, false, List, [], ◌∷◌, ◌++◌, length, Option, Some, None, refl, sym, ap, subst, ◌∙◌, append_assoc, arith}
-use Rattle.std.specs.Prelude.{◌==◌}
+use Rattle.std.proofs.Common.{◌≡◌, ◌≢◌, ℕ, zero, suc, ◌+◌, ◌-◌, Bool, true, false, List, [], ◌∷◌, ◌++◌, Option, Some, None, refl, sym, ap, subst, ◌∙◌, append_assoc, arith}
+use Rattle.std.specs.Prelude.{◌==◌, not}
 use Rattle.std.specs.List.{list_all, prefix_len}
 use Rattle.std.proofs.Math.Dec.{eqb-suc-zero}
-use Rattle.std.proofs.lemmas.Bool.{eqb-true, false≢true}
+use Rattle.std.proofs.lemmas.Bool.{eqb-true, false≢true, and_parts, not-true}
 use Rattle.handlebars_base.specs.Bytes.{is_white, behind_white, is_symbol}
-use Rattle.handlebars_base.specs.Path.{IsIdentifier, Reference, IsPath}
+use Rattle.handlebars_base.specs.Path.{IsIdentifier, Reference, IsPath, plain, in_parts, meaning}
 use Rattle.handlebars_base.specs.Texts.{IsWhite, starts, behind_byte}
 use Rattle.handlebars_base.proofs.Fronts.{behind_white-skips, behind_white-append, starts-other, starts-append, behind_byte-not, behind_byte-same}
 use Rattle.handlebars_base.proofs.Bytes.{other_byte}
@@ -14,15 +14,18 @@ use Rattle.handlebars_base.proofs.Runs.{prefix_len-none, run-front, run-rest}
 use Rattle.handlebars_lines.specs.Runs.{goes, ends}
 use Rattle.handlebars_lines.specs.Literal.{Literal, spelled_literal, IsLiteral, literal_depth, goes_on}
 use Rattle.handlebars_lines.specs.Parameter.{TermShape, literal_shape, path_shape, nested_shape, Items, no_items, parameter_item, pair_item, spelled_shape, spelled_items, is_name, IsChosen, Fits, AreItems}
-use Rattle.handlebars_lines.specs.Line.{NameMode, identifier_name, value_name, close_name, NameShape, plain_name, term_name, spelled_name, IsPlainName, IsName, Enclosure, in_parentheses, is_end, Closes}
+use Rattle.handlebars_lines.specs.Line.{NameMode, identifier_name, value_name, close_name, opening_name, NameShape, plain_name, term_name, spelled_name, IsPlainName, opens_section, IsName, Enclosure, in_parentheses, is_end, Closes}
 use Rattle.handlebars_lines.specs.LineReading.{Event, opened, literal_event, path_event, name_event, closed, Stand, at_name, at_items, at_end, LineStand, line_stand, behind_name, name_step, is_excluded, parameter_step, item_step, behind_step, line_step}
 use Rattle.handlebars_lines.proofs.Stepping.{Runs, last, onward}
+use Rattle.handlebars_lines.specs.CloseName.{is_close_name}
 use Rattle.handlebars_lines.proofs.CloseNames.{close_name-parenthesis}
 use Rattle.handlebars_lines.proofs.LineSteps.{takes_parentheses, is_at_name}
 use Rattle.handlebars_lines.proofs.LineMarks.{slice_at-stops, literal_at-finds, literal_at-missing, key_and_equals_at-append}
-use Rattle.handlebars_lines.proofs.LineFronts.{follows_no_symbol, begins, begins_single, begins_no_white, path_begins, literal_begins, shape_starts, key_starts, single_no_parenthesis, Follows, follows_stops, items_follow, no_key}
+use Rattle.handlebars_lines.proofs.LineFronts.{follows_no_symbol, begins, begins_single, begins_no_white, path_begins, literal_begins, shape_starts, key_starts, single_no_parenthesis, Follows, follows_stops, closing_follows, items_follow, no_key}
 use Rattle.handlebars_lines.proofs.LineEnds.{item_no_end}
 use Rattle.handlebars_lines.proofs.LinesRead.{events, item_events, name_events, IsAllowed, nested_group, events_group, pair_group}
+use Rattle.handlebars_lines.proofs.Alone.{name_path}
+use Rattle.handlebars_lines.proofs.OpeningNames.{not_empty, symbols_pass}
 
 -- ---- steps: a parenthesis, a literal, a path
 
@@ -38,6 +41,7 @@ name_opens around value_name n w t takes white start =
     rw (behind_byte-same 40 (w ++ t), behind_white-append w t white (begins_no_white t start)) refl
 name_opens around close_name n w t takes white start =
     rw (behind_byte-same 40 (w ++ t), behind_white-append w t white (begins_no_white t start)) refl
+name_opens around opening_name n w t takes white start = absurd cc
 
 path_no_parenthesis : (t rest : List ℕ) (means : Reference) → IsPath t means → behind_byte 40 (t ++ rest) ≡ None
 path_no_parenthesis t rest means h = single_no_parenthesis (t ++ rest) (starts-append begins_single t rest (path_begins t means h))
@@ -51,10 +55,6 @@ unfolding line_step name_step
 name_goes_on around n t rest means h f =
     rw (path_no_parenthesis t rest means h, slice_at-stops t rest means h (follows_stops rest f)) refl
 
-not_empty : (t : List ℕ) → t ≢ [] → (length t == 0) ≡ false
-not_empty [] some = absurd (some refl)
-not_empty (b ∷ t) some = eqb-suc-zero (length t)
-
 plain_goes_on : (around : Enclosure) (mode : NameMode) (n : ℕ) (t rest : List ℕ) → IsPlainName mode t rest → Follows rest → line_step around (line_stand (at_name mode) n) (t ++ rest) ≡ goes (name_event t) (line_stand at_items n) rest
 unfolding line_step name_step
 plain_goes_on around identifier_name n t rest h f =
@@ -63,6 +63,9 @@ plain_goes_on around identifier_name n t rest h f =
 plain_goes_on around value_name n t rest h f = absurd h
 plain_goes_on around close_name n t rest h f =
     rw (close_name-parenthesis (t ++ rest) t rest h.1 h.0, h.1, not_empty t h.0) refl
+plain_goes_on around opening_name n t rest h f =
+    let is = name_path t h in
+    rw (slice_at-stops t rest (meaning t (in_parts false (plain t) [])) is (follows_stops rest f), symbols_pass t h.1) refl
 
 literal_goes_on : (key : Option (List ℕ)) (n : ℕ) (l : Literal) (rest : List ℕ) → IsLiteral l → starts goes_on rest ≡ false → parameter_step key n (spelled_literal l ++ rest) ≡ goes (literal_event key (spelled_literal l) (n + literal_depth l)) (line_stand at_items n) rest
 unfolding parameter_step
@@ -255,6 +258,21 @@ mutual
       subst (λ (z : List ℕ). Runs (line_step around) (line_stand at_items n) z (item_events n (pair_item w key u v p more) ++ xs) e) (pair_group w key u v (spelled_shape p) (spelled_items more) rest)
       (subst (λ (z : List Event). Runs (line_step around) (line_stand at_items n) from z e) (sym (append_assoc (events n (Some key) p) (item_events n more) xs)) first)
 
+-- a path that opens a section
+section_goes_on : (around : Enclosure) (n : ℕ) (t rest : List ℕ) (means : Reference) → IsPath t means → opens_section (path_shape t means) no_items ≡ true → Follows rest
+    → line_step around (line_stand (at_name opening_name) n) (t ++ rest) ≡ goes (path_event None t n) (line_stand at_end n) rest
+unfolding line_step name_step
+section_goes_on around n t rest means h opens f =
+    let both = and_parts (not (list_all is_symbol t)) (is_close_name t) opens in
+    rw (slice_at-stops t rest means h (follows_stops rest f), not-true (list_all is_symbol t) both.0, both.1) refl
+
+section_runs : (around : Enclosure) (r : List ℕ) (means : Reference) (items : Items) (t : List ℕ) (xs : List Event) (e : List ℕ) → opens_section (path_shape r means) items ≡ true → IsPath r means → Closes around t
+    → Runs (line_step around) (line_stand at_items 0) (spelled_items items ++ t) xs e → Runs (line_step around) (line_stand (at_name opening_name) 0) (r ++ (spelled_items items ++ t)) (path_event None r 0 ∷ xs) e
+section_runs around r means no_items t xs e opens h closes runs =
+    onward (path_event None r 0) (line_stand at_end 0) t (section_goes_on around 0 r t means h opens (closing_follows around t closes)) (end_runs around 0 t xs e closes runs)
+section_runs around r means (parameter_item w p more) t xs e opens h closes runs = absurd (false≢true opens)
+section_runs around r means (pair_item w key u v p more) t xs e opens h closes runs = absurd (false≢true opens)
+
 -- a name that is no plain text, of this mode
 term_runs : (around : Enclosure) (mode : NameMode) (p : TermShape) (items : Items) (t : List ℕ) (xs : List Event) (e : List ℕ) → IsName mode (term_name p) items (spelled_items items ++ t) → AreItems items t → Closes around t
     → Runs (line_step around) (line_stand at_items 0) (spelled_items items ++ t) xs e → Runs (line_step around) (line_stand (at_name mode) 0) (spelled_shape p ++ (spelled_items items ++ t)) (events 0 None p ++ xs) e
@@ -265,6 +283,9 @@ term_runs around close_name (literal_shape l) items t xs e named are_items close
 term_runs around close_name (path_shape r means) items t xs e named are_items closes runs = absurd (false≢true named.0)
 term_runs around close_name (nested_shape w name inner v) items t xs e named are_items closes runs =
     nested_runs around close_name refl w name inner v (name_runs around name) (items_run around inner) 0 (spelled_items items ++ t) xs e named.1 runs
+term_runs around opening_name (literal_shape l) items t xs e named are_items closes runs = absurd (false≢true named.0)
+term_runs around opening_name (path_shape r means) items t xs e named are_items closes runs = section_runs around r means items t xs e named.0 named.1 closes runs
+term_runs around opening_name (nested_shape w name inner v) items t xs e named are_items closes runs = absurd (false≢true named.0)
 
 pub line_runs : (around : Enclosure) (mode : NameMode) (name : NameShape) (items : Items) (t : List ℕ) → IsName mode name items (spelled_items items ++ t) → AreItems items t → Closes around t
     → Runs (line_step around) (line_stand (at_name mode) 0) (spelled_name name ++ (spelled_items items ++ t)) (name_events 0 name ++ (item_events 0 items ++ [])) t

@@ -11,11 +11,11 @@ use Rattle.handlebars_lines.specs.Runs.{ends}
 use Rattle.handlebars_lines.specs.Literal.{Literal, spelled_literal, literal_depth, goes_on}
 use Rattle.handlebars_lines.specs.LiteralReading.{literal_at}
 use Rattle.handlebars_lines.specs.Parameter.{TermShape, literal_shape, path_shape, nested_shape, Items, no_items, parameter_item, pair_item, spelled_shape, spelled_items, is_name, IsFree, IsChosen, Fits, AreItems}
-use Rattle.handlebars_lines.specs.Line.{NameMode, value_name, close_name, identifier_name, NameShape, plain_name, term_name, spelled_name, IsPlainName, IsName, Enclosure, Closes}
+use Rattle.handlebars_lines.specs.Line.{NameMode, value_name, close_name, identifier_name, opening_name, NameShape, plain_name, term_name, spelled_name, IsPlainName, IsName, Enclosure, Closes}
 use Rattle.handlebars_lines.specs.LineReading.{Event, opened, literal_event, path_event, name_event, closed, Stand, at_name, at_items, at_end, LineStand, behind_name, is_excluded, line_step}
 use Rattle.handlebars_lines.proofs.Stepping.{Runs, last, onward}
 use Rattle.handlebars_lines.proofs.LineMarks.{literal_at-finds}
-use Rattle.handlebars_lines.proofs.LineSteps.{ParameterStepped, to_nested, to_literal, to_path, LineStepped, takes_parentheses, is_at_name, to_inner, to_plain, to_name, to_parameter, to_pair, to_closed, line_stepped, line_ends}
+use Rattle.handlebars_lines.proofs.LineSteps.{ParameterStepped, to_nested, to_literal, to_path, LineStepped, takes_parentheses, is_at_name, to_inner, to_plain, to_name, to_section, to_parameter, to_pair, to_closed, line_stepped, line_ends}
 
 -- ---- what the steps find of a line
 
@@ -314,6 +314,7 @@ nested_named : (mode : NameMode) (w : List ℕ) (name : TermShape) (inner : Item
 nested_named identifier_name w name inner v items rest takes fits = absurd cc
 nested_named value_name w name inner v items rest takes fits = (refl, fits)
 nested_named close_name w name inner v items rest takes fits = (refl, fits)
+nested_named opening_name w name inner v items rest takes fits = absurd cc
 
 step_read : (around : Enclosure) (s : LineStand) (t : List ℕ) (x : Event) (s' : LineStand) (t' : List ℕ) (xs : List Event) (e : List ℕ) → LineStepped s t x s' t' → ReadsAt around s' t' xs e → ReadsAt around s t (x ∷ xs) e
 step_read around s t x s' t' xs e (to_inner mode n w takes is is' ev white whole) after =
@@ -347,6 +348,19 @@ step_read around s t x s' t' xs e (to_name n raw means is is' ev whole h) after 
     let then : Reads around (behind_name raw) n t' xs e = subst (λ (z : LineStand). ReadsAt around z t' xs e) is' after in
     let line = name_then around n raw t t' means xs e whole h then in
     subst (λ (z : LineStand). ReadsAt around z t (x ∷ xs) e) (sym is) (subst (λ (z : Event). LineThen value_name around n t (z ∷ xs) e) (sym ev) line)
+step_read around s t x s' t' xs e (to_section n raw means is is' ev whole h opens) after =
+    let then : Shuts around n t' xs e = subst (λ (z : LineStand). ReadsAt around z t' xs e) is' after in
+    subst (λ (z : LineStand). ReadsAt around z t (x ∷ xs) e) (sym is) (record {
+      name = term_name (path_shape raw means);
+      items = no_items;
+      rest = t';
+      others = xs;
+      is_name = (opens, h);
+      are_items = tt;
+      whole = whole;
+      found = ap (λ (z : Event). z ∷ xs) ev;
+      shuts = then;
+    })
 step_read around s t x s' t' xs e (to_parameter n w r is white some whole p) after =
     subst (λ (z : LineStand). ReadsAt around z t (x ∷ xs) e) (sym is)
     (parameter_item_then around n w r t (x ∷ xs) e white some whole (parameter_then around None n r x s' t' xs e p after))

@@ -20,3 +20,7 @@ close_name_at t =
     if starts (λ b. b == left_bracket) t then enclosed_at right_bracket t
     else (if starts (λ b. b == single_quote) t then enclosed_at single_quote t
     else (take (prefix_len is_close_symbol t) t, drop (prefix_len is_close_symbol t) t))
+
+-- The whole text is a close name, empty or not.
+abbrev pub is_close_name : Text → Bool
+is_close_name t = length (close_name_at t).1 == 0

@@ -1,12 +1,13 @@
 -- Lines: a name, and parameters and pairs behind it. What the name may be is the mode of the line; any line in
 -- parentheses has that of a value.
-use Rattle.std.specs.Prelude.{◌≡◌, ◌≢◌, ℕ, Bool, true, false, ◌||◌, ◌==◌, max, [], ◌++◌}
-use Rattle.handlebars_base.specs.Bytes.{Text, right_brace, behind_white}
+use Rattle.std.specs.Prelude.{◌≡◌, ◌≢◌, ℕ, Bool, true, false, not, ◌&&◌, ◌||◌, ◌==◌, max, [], ◌++◌}
+use Rattle.std.specs.List.{list_all}
+use Rattle.handlebars_base.specs.Bytes.{Text, is_symbol, right_brace, behind_white}
 use Rattle.handlebars_base.specs.Path.{IsIdentifier}
 use Rattle.handlebars_base.specs.Texts.{starts}
 use Rattle.handlebars_lines.specs.Binding.{begins_binding}
-use Rattle.handlebars_lines.specs.CloseName.{close_name_at}
-use Rattle.handlebars_lines.specs.Parameter.{right_parenthesis, Term, name_term, Terms, TermShape, literal_shape, path_shape, nested_shape, Items, spelled_shape, spelled_items, is_name, Fits, AreItems, term_of, terms_of, depth_of, items_depth}
+use Rattle.handlebars_lines.specs.CloseName.{close_name_at, is_close_name}
+use Rattle.handlebars_lines.specs.Parameter.{right_parenthesis, Term, name_term, Terms, TermShape, literal_shape, path_shape, nested_shape, Items, spelled_shape, spelled_items, is_name, lacks_items, Fits, AreItems, term_of, terms_of, depth_of, items_depth}
 
 abbrev pub tilde : ℕ
 tilde = 126
@@ -33,12 +34,14 @@ Closes around left = is_end around left ≡ true
 
 -- ---- the name
 
--- What a line's name may be: an identifier, as for a block; an identifier or, with nothing behind it, a path, as for a
--- value; or the name in a closing tag. In place of the last two a line in parentheses may stand.
+-- What a line's name may be: an identifier, as for a raw block; an identifier or, with nothing behind it, a path, as for
+-- a value; the name in a closing tag; or an identifier or, with nothing behind it, a path that a closing tag may name, as
+-- for a block. In place of a value's name or a closing one a line in parentheses may stand.
 pub data NameMode : Type 0 where
   identifier_name : NameMode
   value_name : NameMode
   close_name : NameMode
+  opening_name : NameMode
 
 -- a name by its text, or as a parameter is spelled
 pub data NameShape : Type 0 where
@@ -54,17 +57,25 @@ abbrev pub IsPlainName : NameMode → Text → Text → Type 0
 IsPlainName identifier_name t rest = IsIdentifier t
 IsPlainName value_name t rest = ⊥
 IsPlainName close_name t rest = (t ≢ []) × (close_name_at (t ++ rest) ≡ (t, rest))
+IsPlainName opening_name t rest = IsIdentifier t
 
 abbrev pub is_nested : TermShape → Bool
 is_nested (literal_shape l) = false
 is_nested (path_shape t means) = false
 is_nested (nested_shape w name items v) = true
 
+-- A section is opened by a path with no items behind it, which is no identifier, and which a closing tag may name.
+abbrev pub opens_section : TermShape → Items → Bool
+opens_section (literal_shape l) items = false
+opens_section (path_shape t means) items = lacks_items items && (not (list_all is_symbol t) && is_close_name t)
+opens_section (nested_shape w name inner v) items = false
+
 -- a name as a parameter is spelled, with these items behind it
 abbrev pub is_term_name : NameMode → TermShape → Items → Bool
 is_term_name identifier_name p items = false
 is_term_name value_name p items = is_name p items
 is_term_name close_name p items = is_nested p
+is_term_name opening_name p items = opens_section p items
 
 -- the name of a line with these items, in front of the rest
 abbrev pub IsName : NameMode → NameShape → Items → Text → Type 0

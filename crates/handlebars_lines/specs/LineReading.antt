@@ -9,8 +9,8 @@ use Rattle.handlebars_base.specs.Texts.{starts, behind_byte, symbols_of, behind_
 use Rattle.handlebars_lines.specs.Runs.{ReadingStep, goes, ends, stuck}
 use Rattle.handlebars_lines.specs.LiteralReading.{literal_at}
 use Rattle.handlebars_lines.specs.Parameter.{left_parenthesis, right_parenthesis, Term, literal_term, path_term, name_term, call_term, Terms, no_terms, term, is_reserved}
-use Rattle.handlebars_lines.specs.CloseName.{close_name_at}
-use Rattle.handlebars_lines.specs.Line.{NameMode, identifier_name, value_name, close_name, Enclosure, is_end}
+use Rattle.handlebars_lines.specs.CloseName.{close_name_at, is_close_name}
+use Rattle.handlebars_lines.specs.Line.{NameMode, identifier_name, value_name, close_name, opening_name, Enclosure, is_end}
 
 -- ---- what steps take
 
@@ -60,12 +60,22 @@ open_step key n r = goes (opened key (suc n)) (line_stand (at_name value_name) (
 abbrev pub plain_step : ℕ → Text × Text → ReadingStep Event LineStand
 plain_step n p = if length p.0 == 0 then stuck else goes (name_event p.0) (line_stand at_items n) p.1
 
+-- a path that a closing tag may name, with nothing behind it
+abbrev pub section_step : ℕ → Text × Text → ReadingStep Event LineStand
+section_step n p = if is_close_name p.0 then goes (path_event None p.0 n) (line_stand at_end n) p.1 else stuck
+
+-- by the path in front, and what follows it: an identifier is a name by its text
+abbrev pub opening_step : ℕ → Text × Text → ReadingStep Event LineStand
+opening_step n p =
+    if list_all is_symbol p.0 then goes (name_event p.0) (line_stand at_items n) p.1 else section_step n p
+
 unfoldable pub name_step : NameMode → ℕ → Text → ReadingStep Event LineStand
 name_step identifier_name n t = plain_step n (symbols_of t, behind_symbols t)
 name_step value_name n t =
     with_or (behind_byte left_parenthesis t) (open_step None n)
     (with_or (slice_at t) (λ p. goes (path_event None p.0 n) (line_stand (behind_name p.0) n) p.1) stuck)
 name_step close_name n t = with_or (behind_byte left_parenthesis t) (open_step None n) (plain_step n (close_name_at t))
+name_step opening_name n t = with_or (slice_at t) (opening_step n) stuck
 
 -- a reserved word behind no key
 abbrev pub is_excluded : Option Text → Text → Bool

@@ -4,7 +4,7 @@ use Rattle.std.specs.Option.{option_map}
 use denote.Ref.{Bor}
 use Rattle.handlebars_base.specs.Bytes.{Text}
 use Rattle.handlebars_lines.specs.Runs.{ReadingStep, goes, ends, stuck}
-use Rattle.handlebars_lines.specs.Line.{NameMode, identifier_name, value_name, close_name, Enclosure, in_tag, in_block, in_parentheses}
+use Rattle.handlebars_lines.specs.Line.{NameMode, identifier_name, value_name, close_name, opening_name, Enclosure, in_tag, in_block, in_parentheses}
 use Rattle.handlebars_lines.specs.LineReading.{Event, opened, literal_event, path_event, name_event, closed, Stand, at_name, at_items, at_end, LineStand, line_stand, height}
 use Rattle.handlebars_lines.specs.declared.line.step.Enclosure.{Enclosure as ReadEnclosure}
 use Rattle.handlebars_lines.specs.declared.line.step.Enclosure.TheVariants.{Tag, Block, Parentheses}
@@ -27,6 +27,7 @@ abbrev pub mode_of : ReadNameMode → NameMode
 mode_of name_mode.Identifier = identifier_name
 mode_of name_mode.Value = value_name
 mode_of name_mode.Close = close_name
+mode_of name_mode.Opening = opening_name
 
 -- two texts, wherever they lie
 abbrev pub texts_of : Bor Text × Bor Text → Text × Text

@@ -13,7 +13,7 @@ mod close_name;
 mod marks;
 mod step;
 
-pub use alone::{LonePath, NamedPath, path_alone, path_named};
+pub use alone::{LonePath, NamedPath, path_alone, path_named, path_slice};
 pub use close_name::close_name_at;
 pub use step::{Enclosure, Event, LineStand, NameMode, Stand, Step, take_step};
 
@@ -62,6 +62,7 @@ fn split_alone(mode: NameMode, around: Enclosure, text: &str) -> Option<LineSlic
             None => None,
         },
         NameMode::Close => None,
+        NameMode::Opening => None,
     }
 }
 

@@ -44,7 +44,7 @@ pub struct LonePath<'a> {
 
 /// A name that is the path in front. Where it answers none, that says nothing.
 #[inline(always)]
-fn name_front(text: &str) -> Option<PathSlice<'_>>
+pub(super) fn name_front(text: &str) -> Option<PathSlice<'_>>
     ensures slice { IfSome result (λ slice. slice_at text.now ≡ Some (slice_of slice)) }
     ensures name { IfSome result (λ slice. IsIdentifier slice.raw.now) }
 {

@@ -2,7 +2,7 @@
 
 ghost use Rattle.std.specs.Prelude.{◌≡◌, ◌==◌, ◌<◌, drop};
 ghost use Rattle.std.specs.List.{prefix_len, position};
-ghost use Rattle.handlebars_lines.specs.CloseName.{is_close_symbol, enclosed_at, close_name_at};
+ghost use Rattle.handlebars_lines.specs.CloseName.{is_close_symbol, enclosed_at, close_name_at, is_close_name};
 ghost use Rattle.handlebars_lines.specs.LineView.{texts_of};
 
 use handlebars_base::json::path::marks::is_symbol;
@@ -17,6 +17,13 @@ pub fn close_name_at(text: &str) -> (&str, &str)
         [_, ..] => text.split_at(close_symbols_len(text.as_bytes())),
         [] => ("", text),
     }
+}
+
+/// Whether the whole text is a close name, empty or not.
+pub(super) fn is_close_name(text: &str) -> bool
+    ensures { result ≡ is_close_name text.now }
+{
+    close_name_at(text).1.is_empty()
 }
 
 /// Up to the mark and with it, where it stands behind the first byte; and what follows.

@@ -2,16 +2,19 @@
 
 ghost use Rattle.std.specs.Prelude.{◌≡◌, ◌<◌, ◌^◌, IfOk};
 ghost use Rattle.handlebars_lines.specs.Parameter.{is_reserved};
-ghost use Rattle.handlebars_lines.specs.LineReading.{at_name, line_stand, behind_name, open_step, plain_step, name_step, is_excluded, parameter_step, item_step, next_step, behind_step, line_step};
+ghost use Rattle.handlebars_base.specs.PathView.{slice_of};
+ghost use Rattle.handlebars_lines.specs.Line.{opening_name};
+ghost use Rattle.handlebars_lines.specs.LineReading.{at_name, line_stand, behind_name, open_step, plain_step, section_step, opening_step, name_step, is_excluded, parameter_step, item_step, next_step, behind_step, line_step};
 ghost use Rattle.handlebars_lines.specs.LineView.{mode_of, enclosure_of, key_of, stand_of, line_stand_of, step_of, height_of};
 
-use super::alone::path_slice;
-use super::close_name::close_name_at;
+use super::alone::{name_front, path_slice};
+use super::close_name::{close_name_at, is_close_name};
 use super::marks::{is_end, key_and_equals_at};
 use crate::literal::literal_at;
 use handlebars_base::json::path::marks::{
     all_symbols, behind_byte, behind_white, starts_white, symbols,
 };
+use handlebars_base::json::path::{PathSlice, split_path};
 use std::alloc::{AllocError, Global};
 
 /// Where a line stands: it ends before `~` or `}` in a tag, there or before `as |` in the tag of a block, and before
@@ -23,13 +26,15 @@ pub enum Enclosure {
     Parentheses,
 }
 
-/// What a line's name may be: an identifier, as for a block; an identifier or, with nothing behind it, a path, as for a
-/// value; or the name in a closing tag. In place of the last two a line in parentheses may stand.
+/// What a line's name may be: an identifier, as for a raw block; an identifier or, with nothing behind it, a path, as for
+/// a value; the name in a closing tag; or an identifier or, with nothing behind it, a path that a closing tag may name, as
+/// for a block. In place of a value's name or a closing one a line in parentheses may stand.
 #[derive(Clone, Copy)]
 pub enum NameMode {
     Identifier,
     Value,
     Close,
+    Opening,
 }
 
 /// How a line may go on.
@@ -141,6 +146,46 @@ fn plain_step<'a>(level: usize, name: &'a str, rest: &'a str) -> Step<'a>
     Step::Goes(Event::Name(name), state, rest)
 }
 
+/// A path that a closing tag may name, with nothing behind it.
+fn section_step(level: usize, slice: PathSlice<'_>) -> Step<'_>
+    ensures { step_of result ≡ section_step level (slice_of slice.entry) }
+{
+    if !is_close_name(slice.raw) {
+        return Step::Stuck;
+    }
+    let state = LineStand {
+        stand: Stand::End,
+        level,
+    };
+    Step::Goes(Event::Path(None, slice.raw, level), state, slice.rest)
+}
+
+/// By the path in front, and what follows it: an identifier is a name by its text.
+fn opening_step(level: usize, slice: PathSlice<'_>) -> Step<'_>
+    ensures { step_of result ≡ opening_step level (slice_of slice.entry) }
+{
+    if !all_symbols(slice.raw) {
+        return section_step(level, slice);
+    }
+    let state = LineStand {
+        stand: Stand::Items,
+        level,
+    };
+    Step::Goes(Event::Name(slice.raw), state, slice.rest)
+}
+
+/// The name of a block, where it isn't known that an identifier stands there.
+#[inline(never)]
+#[tactic(auto, unfolding(crate::specs::LineReading::name_step))]
+fn path_step(level: usize, text: &str) -> Step<'_>
+    ensures { step_of result ≡ name_step opening_name level text.now }
+{
+    match split_path(text) {
+        Some(slice) => opening_step(level, slice),
+        None => Step::Stuck,
+    }
+}
+
 #[inline(always)]
 #[tactic(auto, unfolding(crate::specs::LineReading::name_step))]
 fn name_step(mode: NameMode, level: usize, text: &str) -> Step<'_>
@@ -169,6 +214,10 @@ fn name_step(mode: NameMode, level: usize, text: &str) -> Step<'_>
                 let (name, rest) = close_name_at(text);
                 plain_step(level, name, rest)
             }
+        },
+        NameMode::Opening => match name_front(text) {
+            Some(slice) => plain_step(level, slice.raw, slice.rest),
+            None => path_step(level, text),
         },
     }
 }
