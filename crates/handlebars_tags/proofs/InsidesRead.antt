@@ -31,7 +31,7 @@ line_read k mode t left line content depth (Some i) is deep h = record {
 }
 
 pub line_inside : (k : TagKind) (mode : NameMode) (of : Line → Tag) (t : Text) (content : Content) (i : Inside) → ((line : Line) → tag_depth (of line) ≡ line.depth)
-    → ((line : Line) (rest : Text) → IsLine mode in_tag t line rest → Says k t (of line) rest) → ((tag : Tag) → HoldsLine mode of t tag → Holds content tag)
+    → ((line : Line) (rest : Text) → IsLine mode in_tag t line rest → Says true k t (of line) rest) → ((tag : Tag) → HoldsLine mode of t tag → Holds content tag)
     → HasClosedLine k mode t content i → HasInside k t i
 line_inside k mode of t content i deep says holds h = record {
   tag = of h.line;
@@ -68,32 +68,29 @@ partial_block_read t (Some i) h = line_inside partial_block_kind close_name part
 -- ---- blocks
 
 -- how the tag of a kind is made of the line of a block
-pub record Blocks (k : TagKind) (of : BlockLine → Tag) (t inside : Text) (content : Content) (read : BlockRead) : Type 0 where
-  pub only : OnlyBlock k of t inside
+pub record Blocks (k : TagKind) (mode : NameMode) (of : BlockLine → Tag) (t inside : Text) (content : Content) (read : BlockRead) : Type 0 where
+  pub only : OnlyBlock k mode of t inside
   pub deep : (line : BlockLine) → tag_depth (of line) ≡ line.depth
-  pub says : (line : BlockLine) (rest : Text) → IsBlockLine t line rest → line.binding ≡ bound_names_of read.slice.binding → Says k inside (of line) rest
+  pub says : (line : BlockLine) (rest : Text) → IsBlockLine mode t line rest → line.binding ≡ bound_names_of read.slice.binding → Says true k inside (of line) rest
   pub holds : (tag : Tag) → HoldsBlock of read.slice tag → Holds content tag
 
-pub block_read : (k : TagKind) (of : BlockLine → Tag) (t inside : Text) (content : Content) (read : BlockRead) (r : Option Inside) → Blocks k of t inside content read → HasBlock t read
+pub block_read : (k : TagKind) (mode : NameMode) (of : BlockLine → Tag) (t inside : Text) (content : Content) (read : BlockRead) (r : Option Inside) → Blocks k mode of t inside content read → HasBlock mode t read
     → MatchOption r (closing_of k read.rest.now ≡ None) (λ i. HasClosing k read.rest.now content read.depth i)
     → MatchOption r (NoneClosed k inside) (λ i. HasInside k inside i × (i.long_ahead ≡ true))
-block_read k of t inside content read None b has none =
-    let is : IsBlockLine t has.line read.rest.now = subst (λ (z : Text). IsBlockLine z has.line read.rest.now) has.whole has.is_slice.is_line in
-    none_closing-block k of t inside read.rest.now has.line b.only is none
-block_read k of t inside content read (Some i) b has h =
-    let is : IsBlockLine t has.line read.rest.now = subst (λ (z : Text). IsBlockLine z has.line read.rest.now) has.whole has.is_slice.is_line in (
-      record {
-        tag = of has.line;
-        is = record { behind = read.rest.now; says = b.says has.line read.rest.now is has.is_slice.is_binding; closes = h.closes };
-        deep = b.deep has.line ∙ has.deep ∙ sym h.deep;
-        holds = subst (λ (z : Content). Holds z (of has.line)) (sym h.is_content) (b.holds (of has.line) (record { line = has.line; rest = read.rest.now; is_slice = has.is_slice; gives = refl }));
-      },
-      h.ahead,
-    )
+block_read k mode of t inside content read None b has none = none_closing-block k mode of t inside read.rest.now has.line b.only has.is_line none
+block_read k mode of t inside content read (Some i) b has h = (
+  record {
+    tag = of has.line;
+    is = record { behind = read.rest.now; says = b.says has.line read.rest.now has.is_line has.is_slice.is_binding; closes = h.closes };
+    deep = b.deep has.line ∙ has.deep ∙ sym h.deep;
+    holds = subst (λ (z : Content). Holds z (of has.line)) (sym h.is_content) (b.holds (of has.line) (record { line = has.line; rest = read.rest.now; is_slice = has.is_slice; gives = refl }));
+  },
+  h.ahead,
+)
 
 -- ---- texts
 
-pub text_read : (k : TagKind) (t behind : Text) (tag : Tag) (content : Content) (i : Inside) → Says k t tag behind → tag_depth tag ≡ 0 → Holds content tag → HasClosing k behind content 0 i
+pub text_read : (k : TagKind) (t behind : Text) (tag : Tag) (content : Content) (i : Inside) → Says true k t tag behind → tag_depth tag ≡ 0 → Holds content tag → HasClosing k behind content 0 i
     → HasInside k t i × (i.long_ahead ≡ true)
 text_read k t behind tag content i says deep holds h = (
   record {

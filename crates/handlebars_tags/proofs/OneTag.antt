@@ -7,11 +7,11 @@ use Rattle.handlebars_base.specs.Bytes.{Text, right_brace, behind_white}
 use Rattle.handlebars_base.specs.Texts.{starts, behind_byte}
 use Rattle.handlebars_base.proofs.Fronts.{starts-other, behind_byte-not}
 use Rattle.handlebars_base.proofs.Bytes.{other_byte}
-use Rattle.handlebars_lines.specs.Line.{NameMode, value_name, close_name, Line, in_tag, tilde}
+use Rattle.handlebars_lines.specs.Line.{NameMode, identifier_name, value_name, close_name, Line, in_tag, tilde}
 use Rattle.handlebars_lines.proofs.LineFronts.{begins}
 use Rattle.handlebars_lines.proofs.Lines.{one_line}
 use Rattle.handlebars_tags.specs.Kind.{TagKind, expression_kind, html_kind, html_sign_kind, block_kind, close_kind, inverse_kind, else_kind, raw_kind, raw_close_kind, decorator_kind, decorator_block_kind, partial_kind, partial_block_kind, comment_kind, beginning_of, closing_of}
-use Rattle.handlebars_tags.specs.Tag.{Tag, comment_tag, BlockLine, IsBlockLine, Tildes, OneTag}
+use Rattle.handlebars_tags.specs.Tag.{Tag, comment_tag, BlockLine, IsBlockLine, block_mode, Tildes, OneTag}
 use Rattle.handlebars_tags.specs.TagView.{IsClosed}
 use Rattle.handlebars_tags.proofs.LineNames.{line_starts}
 use Rattle.handlebars_tags.proofs.BlockLines.{one_block_line}
@@ -39,37 +39,37 @@ one_named mode of t tag tag' rest rest' h k =
     let one = one_line mode in_tag t h.line k.line rest rest' h.is k.is in
     record { tags = h.gives ∙ ap of one.0 ∙ sym k.gives; rests = one.1 }
 
-one_block : (of : BlockLine → Tag) (t : Text) (tag tag' : Tag) (rest rest' : Text) → BlockSaid of t tag rest → BlockSaid of t tag' rest' → OneSaid tag tag' rest rest'
-one_block of t tag tag' rest rest' h k =
-    let one = one_block_line t h.line k.line rest rest' h.is k.is in
+one_block : (mode : NameMode) (of : BlockLine → Tag) (t : Text) (tag tag' : Tag) (rest rest' : Text) → BlockSaid mode of t tag rest → BlockSaid mode of t tag' rest' → OneSaid tag tag' rest rest'
+one_block mode of t tag tag' rest rest' h k =
+    let one = one_block_line mode t h.line k.line rest rest' h.is k.is in
     record { tags = h.gives ∙ ap of one.0 ∙ sym k.gives; rests = one.1 }
 
 one_text : (tag tag' said : Tag) (rest rest' left : Text) → TextSaid tag said rest left → TextSaid tag' said rest' left → OneSaid tag tag' rest rest'
 one_text tag tag' said rest rest' left h k = record { tags = h.gives ∙ sym k.gives; rests = h.rests ∙ sym k.rests }
 
-closed_line : {A : Type 0} (t rest : Text) (line : BlockLine) (p : Bool × Text) → closing_of else_kind t ≡ Some p → IsBlockLine (behind_white t) line rest → A
+closed_line : {A : Type 0} (t rest : Text) (line : BlockLine) (p : Bool × Text) → closing_of else_kind t ≡ Some p → IsBlockLine identifier_name (behind_white t) line rest → A
 closed_line t rest line p e h = absurd (none-some p (sym (line_open t (line_starts h.is_line)) ∙ e))
 
 -- both closed
-one_said : (k : TagKind) (t : Text) (tag tag' : Tag) (rest rest' : Text) (p q : Bool × Text) → closing_of k rest ≡ Some p → closing_of k rest' ≡ Some q → Said k t tag rest → Said k t tag' rest'
+one_said : (sections : Bool) (k : TagKind) (t : Text) (tag tag' : Tag) (rest rest' : Text) (p q : Bool × Text) → closing_of k rest ≡ Some p → closing_of k rest' ≡ Some q → Said sections k t tag rest → Said sections k t tag' rest'
     → OneSaid tag tag' rest rest'
-one_said expression_kind t tag tag' rest rest' p q e f h k = one_named value_name _ t tag tag' rest rest' h k
-one_said html_kind t tag tag' rest rest' p q e f h k = one_named value_name _ t tag tag' rest rest' h k
-one_said html_sign_kind t tag tag' rest rest' p q e f h k = one_named value_name _ t tag tag' rest rest' h k
-one_said block_kind t tag tag' rest rest' p q e f h k = one_block _ t tag tag' rest rest' h k
-one_said close_kind t tag tag' rest rest' p q e f h k = one_text tag tag' _ rest rest' _ h k
-one_said inverse_kind t tag tag' rest rest' p q e f h k = one_text tag tag' _ rest rest' _ h k
-one_said else_kind t tag tag' rest rest' p q e f (inl h) (inl k) = one_text tag tag' _ rest rest' _ h k
-one_said else_kind t tag tag' rest rest' p q e f (inl h) (inr k) = closed_line t rest' k.said.line p (ap (closing_of else_kind) (sym h.rests) ∙ e) k.said.is
-one_said else_kind t tag tag' rest rest' p q e f (inr h) (inl k) = closed_line t rest h.said.line q (ap (closing_of else_kind) (sym k.rests) ∙ f) h.said.is
-one_said else_kind t tag tag' rest rest' p q e f (inr h) (inr k) = one_block _ (behind_white t) tag tag' rest rest' h.said k.said
-one_said raw_kind t tag tag' rest rest' p q e f h k = one_block _ t tag tag' rest rest' h k
-one_said raw_close_kind t tag tag' rest rest' p q e f h k = one_text tag tag' _ rest rest' _ h.said k.said
-one_said decorator_kind t tag tag' rest rest' p q e f h k = one_block _ t tag tag' rest rest' h.said k.said
-one_said decorator_block_kind t tag tag' rest rest' p q e f h k = one_block _ t tag tag' rest rest' h.said k.said
-one_said partial_kind t tag tag' rest rest' p q e f h k = one_named close_name _ t tag tag' rest rest' h k
-one_said partial_block_kind t tag tag' rest rest' p q e f h k = one_named close_name _ t tag tag' rest rest' h k
-one_said comment_kind t tag tag' rest rest' p q e f h k =
+one_said sections expression_kind t tag tag' rest rest' p q e f h k = one_named value_name _ t tag tag' rest rest' h k
+one_said sections html_kind t tag tag' rest rest' p q e f h k = one_named value_name _ t tag tag' rest rest' h k
+one_said sections html_sign_kind t tag tag' rest rest' p q e f h k = one_named value_name _ t tag tag' rest rest' h k
+one_said sections block_kind t tag tag' rest rest' p q e f h k = one_block (block_mode sections) _ t tag tag' rest rest' h k
+one_said sections close_kind t tag tag' rest rest' p q e f h k = one_text tag tag' _ rest rest' _ h k
+one_said sections inverse_kind t tag tag' rest rest' p q e f h k = one_text tag tag' _ rest rest' _ h k
+one_said sections else_kind t tag tag' rest rest' p q e f (inl h) (inl k) = one_text tag tag' _ rest rest' _ h k
+one_said sections else_kind t tag tag' rest rest' p q e f (inl h) (inr k) = closed_line t rest' k.said.line p (ap (closing_of else_kind) (sym h.rests) ∙ e) k.said.is
+one_said sections else_kind t tag tag' rest rest' p q e f (inr h) (inl k) = closed_line t rest h.said.line q (ap (closing_of else_kind) (sym k.rests) ∙ f) h.said.is
+one_said sections else_kind t tag tag' rest rest' p q e f (inr h) (inr k) = one_block identifier_name _ (behind_white t) tag tag' rest rest' h.said k.said
+one_said sections raw_kind t tag tag' rest rest' p q e f h k = one_block identifier_name _ t tag tag' rest rest' h k
+one_said sections raw_close_kind t tag tag' rest rest' p q e f h k = one_text tag tag' _ rest rest' _ h.said k.said
+one_said sections decorator_kind t tag tag' rest rest' p q e f h k = one_block identifier_name _ t tag tag' rest rest' h.said k.said
+one_said sections decorator_block_kind t tag tag' rest rest' p q e f h k = one_block identifier_name _ t tag tag' rest rest' h.said k.said
+one_said sections partial_kind t tag tag' rest rest' p q e f h k = one_named close_name _ t tag tag' rest rest' h k
+one_said sections partial_block_kind t tag tag' rest rest' p q e f h k = one_named close_name _ t tag tag' rest rest' h k
+one_said sections comment_kind t tag tag' rest rest' p q e f h k =
     let one = one_comment t h.kept k.kept rest rest' h.is k.is in
     record { tags = h.gives ∙ ap comment_tag one.0 ∙ sym k.gives; rests = one.1 }
 
@@ -80,18 +80,18 @@ record OneClosed (tag tag' : Tag) (right right' : Bool) (rest rest' : Text) : Ty
   rights : right ≡ right'
   rests : rest ≡ rest'
 
-one_closed : (k : TagKind) (t : Text) (tag tag' : Tag) (right right' : Bool) (rest rest' : Text) → IsClosed k t tag right rest → IsClosed k t tag' right' rest' → OneClosed tag tag' right right' rest rest'
-one_closed k t tag tag' right right' rest rest' h g =
-    let one = one_said k t tag tag' h.behind g.behind (right, rest) (right', rest') h.closes g.closes (said k t tag h.behind h.says) (said k t tag' g.behind g.says) in
+one_closed : (sections : Bool) (k : TagKind) (t : Text) (tag tag' : Tag) (right right' : Bool) (rest rest' : Text) → IsClosed sections k t tag right rest → IsClosed sections k t tag' right' rest' → OneClosed tag tag' right right' rest rest'
+one_closed sections k t tag tag' right right' rest rest' h g =
+    let one = one_said sections k t tag tag' h.behind g.behind (right, rest) (right', rest') h.closes g.closes (said sections k t tag h.behind h.says) (said sections k t tag' g.behind g.says) in
     let ends : ◌≡◌ {A = Bool × Text} (right, rest) (right', rest') = same_Some (right, rest) (right', rest') (sym h.closes ∙ ap (closing_of k) one.rests ∙ g.closes) in
     record { tags = one.tags; rights = ap (λ (p : Bool × Text). p.0) ends; rests = ap (λ (p : Bool × Text). p.1) ends }
 
 pub one_tag : OneTag
-one_tag left slice slice' rest rest' t t' tildes tildes' e f h g =
+one_tag sections left slice slice' rest rest' t t' tildes tildes' e f h g =
     let begins : beginning_of left ≡ Some h.begins = ap beginning_of e ∙ h.is_beginning in
-    let first = tag-closed left slice rest h.begins t tildes begins e h in
-    let second = tag-closed left slice' rest' h.begins t' tildes' begins f g in
-    let one = one_closed h.begins.kind h.begins.inside t t' tildes.right tildes'.right rest rest' first.0 second.0 in
+    let first = tag-closed sections left slice rest h.begins t tildes begins e h in
+    let second = tag-closed sections left slice' rest' h.begins t' tildes' begins f g in
+    let one = one_closed sections h.begins.kind h.begins.inside t t' tildes.right tildes'.right rest rest' first.0 second.0 in
     let lefts : tildes.left ≡ tildes'.left = sym first.1 ∙ second.1 in
     let slices : slice ++ rest' ≡ slice' ++ rest' = ap (λ (z : Text). slice ++ z) (sym one.rests) ∙ sym e ∙ f in
     (append_cancel_right slice slice' rest' slices, one.rests, one.tags, same_tildes tildes tildes' lefts one.rights)

@@ -75,7 +75,7 @@ end-binding t rest means (is_bound b) =
     grouped : (a b c d e : Text) → (a ++ (b ++ (c ++ bar ∷ (d ++ bar ∷ [])))) ++ e ≡ a ++ (b ++ (c ++ bar ∷ (d ++ bar ∷ e)))
     grouped a b c d e = simp append_assoc
 
-end-block : (t rest : Text) (line : BlockLine) → IsBlockLine t line rest → IsSuffix t rest
+end-block : {mode : NameMode} (t rest : Text) (line : BlockLine) → IsBlockLine mode t line rest → IsSuffix t rest
 end-block t rest line x = end-behind t x.behind rest (end-line x.is_line) (end-binding x.behind rest line.binding x.binds)
 
 end-close_name : (t : Text) → IsSuffix t (close_name_at t).1
@@ -85,24 +85,24 @@ end-comment : (t kept rest : Text) → IsComment t kept rest → IsSuffix t rest
 end-comment t _ _ (long body whole is) = (body, whole)
 end-comment t _ _ (compact body whole none is) = (body, whole)
 
-end-says : (k : TagKind) (t : Text) (tag : Tag) (rest : Text) → Says k t tag rest → IsSuffix t rest
-end-says expression_kind t tag rest h = let s = said expression_kind t tag rest h in end-line s.is
-end-says html_kind t tag rest h = let s = said html_kind t tag rest h in end-line s.is
-end-says html_sign_kind t tag rest h = let s = said html_sign_kind t tag rest h in end-line s.is
-end-says block_kind t tag rest h = let s = said block_kind t tag rest h in end-block t rest s.line s.is
-end-says close_kind t tag rest h = let s = said close_kind t tag rest h in subst (IsSuffix t) (sym s.rests) (end-close_name t)
-end-says inverse_kind t tag rest h = let s = said inverse_kind t tag rest h in subst (IsSuffix t) (sym s.rests) (end-all t)
-end-says else_kind t tag rest h = elim (said else_kind t tag rest h) [
+end-says : (sections : Bool) (k : TagKind) (t : Text) (tag : Tag) (rest : Text) → Says sections k t tag rest → IsSuffix t rest
+end-says sections expression_kind t tag rest h = let s = said sections expression_kind t tag rest h in end-line s.is
+end-says sections html_kind t tag rest h = let s = said sections html_kind t tag rest h in end-line s.is
+end-says sections html_sign_kind t tag rest h = let s = said sections html_sign_kind t tag rest h in end-line s.is
+end-says sections block_kind t tag rest h = let s = said sections block_kind t tag rest h in end-block t rest s.line s.is
+end-says sections close_kind t tag rest h = let s = said sections close_kind t tag rest h in subst (IsSuffix t) (sym s.rests) (end-close_name t)
+end-says sections inverse_kind t tag rest h = let s = said sections inverse_kind t tag rest h in subst (IsSuffix t) (sym s.rests) (end-all t)
+end-says sections else_kind t tag rest h = elim (said sections else_kind t tag rest h) [
   | inl s ↦ subst (IsSuffix t) (sym s.rests) (end-all t)
   | inr s ↦ end-behind t (behind_white t) rest (end-white t) (end-block (behind_white t) rest s.said.line s.said.is)
 ]
-end-says raw_kind t tag rest h = let s = said raw_kind t tag rest h in end-block t rest s.line s.is
-end-says raw_close_kind t tag rest h = let s = said raw_close_kind t tag rest h in subst (IsSuffix t) (sym s.said.rests) (end-drop (prefix_len is_symbol t) t)
-end-says decorator_kind t tag rest h = let s = said decorator_kind t tag rest h in end-block t rest s.said.line s.said.is
-end-says decorator_block_kind t tag rest h = let s = said decorator_block_kind t tag rest h in end-block t rest s.said.line s.said.is
-end-says partial_kind t tag rest h = let s = said partial_kind t tag rest h in end-line s.is
-end-says partial_block_kind t tag rest h = let s = said partial_block_kind t tag rest h in end-line s.is
-end-says comment_kind t tag rest h = let s = said comment_kind t tag rest h in end-comment t s.kept rest s.is
+end-says sections raw_kind t tag rest h = let s = said sections raw_kind t tag rest h in end-block t rest s.line s.is
+end-says sections raw_close_kind t tag rest h = let s = said sections raw_close_kind t tag rest h in subst (IsSuffix t) (sym s.said.rests) (end-drop (prefix_len is_symbol t) t)
+end-says sections decorator_kind t tag rest h = let s = said sections decorator_kind t tag rest h in end-block t rest s.said.line s.said.is
+end-says sections decorator_block_kind t tag rest h = let s = said sections decorator_block_kind t tag rest h in end-block t rest s.said.line s.said.is
+end-says sections partial_kind t tag rest h = let s = said sections partial_kind t tag rest h in end-line s.is
+end-says sections partial_block_kind t tag rest h = let s = said sections partial_block_kind t tag rest h in end-line s.is
+end-says sections comment_kind t tag rest h = let s = said sections comment_kind t tag rest h in end-comment t s.kept rest s.is
 
-pub end-closed : (k : TagKind) (t : Text) (tag : Tag) (right : Bool) (rest : Text) → IsClosed k t tag right rest → IsSuffix t rest
-end-closed k t tag right rest h = end-behind t h.behind rest (end-says k t tag h.behind h.says) (end-closing k h.behind (right, rest) h.closes)
+pub end-closed : (sections : Bool) (k : TagKind) (t : Text) (tag : Tag) (right : Bool) (rest : Text) → IsClosed sections k t tag right rest → IsSuffix t rest
+end-closed sections k t tag right rest h = end-behind t h.behind rest (end-says sections k t tag h.behind h.says) (end-closing k h.behind (right, rest) h.closes)

@@ -1,13 +1,13 @@
 -- A tag is not empty.
-use Rattle.std.proofs.Common.{◌++◌, ◌<◌, length, arith, length-append}
+use Rattle.std.proofs.Common.{Bool, ◌++◌, ◌<◌, length, arith, length-append}
 use Rattle.handlebars_base.specs.Bytes.{Text}
 use Rattle.handlebars_base.proofs.Ends.{length-end}
 use Rattle.handlebars_tags.specs.Tag.{Tag, Tildes, IsTag}
 use Rattle.handlebars_tags.proofs.Beginnings.{begun}
 use Rattle.handlebars_tags.proofs.TagEnds.{end-closed}
 
-pub length-tag : (slice rest : Text) (t : Tag) (tildes : Tildes) → IsTag slice rest t tildes → 0 < length slice
-length-tag slice rest t tildes x =
+pub length-tag : (sections : Bool) (slice rest : Text) (t : Tag) (tildes : Tildes) → IsTag sections slice rest t tildes → 0 < length slice
+length-tag sections slice rest t tildes x =
     let inside = (begun (slice ++ rest) x.begins x.is_beginning).shorter in
-    let end = length-end x.begins.inside rest (end-closed x.begins.kind x.begins.inside t tildes.right rest (record { behind = x.behind; says = x.says; closes = x.closes })) in
+    let end = length-end x.begins.inside rest (end-closed sections x.begins.kind x.begins.inside t tildes.right rest (record { behind = x.behind; says = x.says; closes = x.closes })) in
     omega (arith, inside, end, length-append slice rest)

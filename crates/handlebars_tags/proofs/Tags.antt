@@ -1,5 +1,5 @@
 -- Tags: what is read in front of a text stands there, where none is read none stands, and there is one.
-use Rattle.std.proofs.Common.{◌≡◌, Bool, ◌++◌, Some, None, refl, sym, ap, subst, ◌∙◌}
+use Rattle.std.proofs.Common.{◌≡◌, Bool, true, ◌++◌, Some, None, refl, sym, ap, subst, ◌∙◌}
 use Rattle.std.proofs.lemmas.Option.{same_Some, none-some}
 use Rattle.handlebars_base.specs.Bytes.{Text}
 use Rattle.handlebars_base.specs.Texts.{IsSuffix}
@@ -14,28 +14,28 @@ use Rattle.handlebars_tags.proofs.TagEnds.{end-closed}
 -- ---- what is inside a tag is closed
 
 -- a tag in front of the text that begins so
-pub tag-closed : (left slice rest : Text) (b : TagBeginning) (t : Tag) (tildes : Tildes) → beginning_of left ≡ Some b → left ≡ slice ++ rest → IsTag slice rest t tildes
-    → IsClosed b.kind b.inside t tildes.right rest × (b.tilde ≡ tildes.left)
-tag-closed left slice rest b t tildes e whole is =
+pub tag-closed : (sections : Bool) (left slice rest : Text) (b : TagBeginning) (t : Tag) (tildes : Tildes) → beginning_of left ≡ Some b → left ≡ slice ++ rest → IsTag sections slice rest t tildes
+    → IsClosed sections b.kind b.inside t tildes.right rest × (b.tilde ≡ tildes.left)
+tag-closed sections left slice rest b t tildes e whole is =
     let same : is.begins ≡ b = same_Some is.begins b (sym is.is_beginning ∙ ap beginning_of (sym whole) ∙ e) in (
-      subst (λ (z : TagBeginning). IsClosed z.kind z.inside t tildes.right rest) same (record { behind = is.behind; says = is.says; closes = is.closes }),
+      subst (λ (z : TagBeginning). IsClosed sections z.kind z.inside t tildes.right rest) same (record { behind = is.behind; says = is.says; closes = is.closes }),
       ap (λ (z : TagBeginning). z.tilde) (sym same) ∙ is.left,
     )
 
 -- ---- where none is read
 
-pub none-beginning : (left : Text) → beginning_of left ≡ None → NoTag left
-none-beginning left none slice rest t tildes whole is = none-some is.begins (sym none ∙ ap beginning_of whole ∙ is.is_beginning)
+pub none-beginning : (sections : Bool) (left : Text) → beginning_of left ≡ None → NoTag sections left
+none-beginning sections left none slice rest t tildes whole is = none-some is.begins (sym none ∙ ap beginning_of whole ∙ is.is_beginning)
 
-pub none-inside : (left : Text) (b : TagBeginning) → beginning_of left ≡ Some b → NoneClosed b.kind b.inside → NoTag left
+pub none-inside : (left : Text) (b : TagBeginning) → beginning_of left ≡ Some b → NoneClosed b.kind b.inside → NoTag true left
 none-inside left b e none slice rest t tildes whole is =
-    let h = tag-closed left slice rest b t tildes e whole is in
+    let h = tag-closed true left slice rest b t tildes e whole is in
     none t tildes.right rest h.0
 
 -- ---- what is read
 
 pub end-inside : (left : Text) (b : TagBeginning) (i : Inside) → beginning_of left ≡ Some b → HasInside b.kind b.inside i → IsSuffix left i.rest.now
-end-inside left b i e h = end-behind left b.inside i.rest.now (begun left b e).end (end-closed b.kind b.inside h.tag i.right i.rest.now h.is)
+end-inside left b i e h = end-behind left b.inside i.rest.now (begun left b e).end (end-closed true b.kind b.inside h.tag i.right i.rest.now h.is)
 
 pub tag_read : (left : Text) (b : TagBeginning) (i : Inside) (long_ahead : Bool) → beginning_of left ≡ Some b → HasInside b.kind b.inside i
     → HasTag left (record { content = i.content; left = b.tilde; right = i.right; depth = i.depth; rest = i.rest; long_ahead = long_ahead })

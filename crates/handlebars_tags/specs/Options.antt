@@ -1,14 +1,17 @@
 -- How a source is compiled.
-use Rattle.std.specs.Prelude.{Bool, false, Option, None, Some}
+use Rattle.std.specs.Prelude.{Bool, true, false, Option, None, Some}
 use Rattle.handlebars_base.specs.Bytes.{Text}
 
--- the name of the template, if it has one, and whether inclusions have no indentation
+-- the name of the template, if it has one, whether inclusions have no indentation, and whether a path may open a block,
+-- as a section
 pub record Options : Type 0 where
   pub name : Option Text
   pub prevent_indent : Bool
+  pub sections : Bool
 
+-- There are sections, unless they are left out.
 abbrev pub no_options : Options
-no_options = record { name = None; prevent_indent = false }
+no_options = record { name = None; prevent_indent = false; sections = true }
 
 -- nothing but a name
 abbrev pub named_options : Text → Options

@@ -3,11 +3,11 @@ use Rattle.std.specs.Prelude.{◌≡◌, ℕ, Bool, true, false, ◌++◌, Some,
 use Rattle.handlebars_base.specs.Bytes.{Text}
 use Rattle.handlebars_base.specs.Path.{IsIdentifier}
 use Rattle.handlebars_lines.specs.Alone.{IsAlone, IsNamed}
-use Rattle.handlebars_lines.specs.Line.{NameMode, value_name, close_name, Line, in_tag, in_block, IsLine}
+use Rattle.handlebars_lines.specs.Line.{NameMode, identifier_name, value_name, close_name, opening_name, Line, in_tag, in_block, IsLine}
 use Rattle.handlebars_lines.specs.Binding.{unbound}
 use Rattle.handlebars_lines.specs.BindingView.{bound_names_of}
 use Rattle.handlebars_tags.specs.Kind.{TagKind, expression_kind, html_kind, html_sign_kind, closing_of}
-use Rattle.handlebars_tags.specs.Tag.{BlockLine, IsBlockLine, Tag, expression_tag, html_tag, block_tag, inverse_tag, chain_tag, close_tag, raw_tag, raw_close_tag, decorator_tag, decorator_block_tag, partial_tag, partial_block_tag, comment_tag, tag_depth, Says, IsTag}
+use Rattle.handlebars_tags.specs.Tag.{BlockLine, written_name, IsBlockLine, Tag, expression_tag, html_tag, block_tag, inverse_tag, chain_tag, close_tag, raw_tag, raw_close_tag, decorator_tag, decorator_block_tag, partial_tag, partial_block_tag, comment_tag, tag_depth, Says, IsTag}
 use Rattle.handlebars_tags.specs.declared.tag.inside.PathSlice.{PathSlice}
 use Rattle.handlebars_tags.specs.declared.tag.inside.BlockSlice.{BlockSlice}
 use Rattle.handlebars_tags.specs.declared.tag.inside.Content.{Content}
@@ -19,14 +19,18 @@ use Rattle.handlebars_tags.specs.declared.tag.TagSlice.{TagSlice}
 -- ---- what stands inside tags, with what closes it
 
 -- What is inside a tag of this kind says so much, and is closed with a tilde or without, and the rest follows.
-pub record IsClosed (kind : TagKind) (inside : Text) (tag : Tag) (right : Bool) (rest : Text) : Type 0 where
+pub record IsClosed (sections : Bool) (kind : TagKind) (inside : Text) (tag : Tag) (right : Bool) (rest : Text) : Type 0 where
   pub behind : Text
-  pub says : Says kind inside tag behind
+  pub says : Says sections kind inside tag behind
   pub closes : closing_of kind behind ≡ Some (right, rest)
 
--- nothing is said there and closed
+-- nothing is said there and closed, with sections, as the program reads
 abbrev pub NoneClosed : TagKind → Text → Type 0
-NoneClosed kind inside = (tag : Tag) (right : Bool) (rest : Text) → IsClosed kind inside tag right rest → ⊥
+NoneClosed kind inside = (tag : Tag) (right : Bool) (rest : Text) → IsClosed true kind inside tag right rest → ⊥
+
+-- no line of a block with a name of this mode is there
+abbrev pub NoBlockLine : NameMode → Text → Type 0
+NoBlockLine mode t = (line : BlockLine) (rest : Text) → IsBlockLine mode t line rest → ⊥
 
 -- no line with a name of this mode is there, or it isn't closed
 abbrev pub NoClosedLine : TagKind → NameMode → Text → Type 0
@@ -75,11 +79,11 @@ pub record HasNamed (text raw : Text) : Type 0 where
   pub left : Text
   pub is : IsNamed in_block text name raw left
 
--- A text, which begins with a line of a block or of a decorator, a name, the one path behind it, where it is told,
--- and what it binds are those of the line.
+-- A text, which begins with a line of a block or of a decorator, a name as it is written, the one path behind it, where it
+-- is told, and what it binds are those of the line. Where only an identifier may be the name the line means the same.
 pub record IsBlockSlice (slice : BlockSlice) (line : BlockLine) (rest : Text) : Type 0 where
-  pub is_line : IsBlockLine slice.line.now line rest
-  pub is_name : line.name ≡ slice.name.now
+  pub is_line : IsBlockLine opening_name slice.line.now line rest
+  pub is_name : written_name line.name ≡ slice.name.now
   pub is_path : IfSome slice.path (λ raw. HasNamed slice.line.now raw.now)
   pub is_binding : line.binding ≡ bound_names_of slice.binding
 
@@ -106,11 +110,11 @@ Holds (content.Partial text) tag = HoldsLine close_name partial_tag text.now tag
 Holds (content.PartialBlock text) tag = HoldsLine close_name partial_block_tag text.now tag
 Holds (content.Comment text) tag = tag ≡ comment_tag text.now
 
--- The line of a block was read so.
-pub record HasBlock (text : Text) (read : BlockRead) : Type 0 where
+-- The line of a block, with a name of this mode, was read so.
+pub record HasBlock (mode : NameMode) (text : Text) (read : BlockRead) : Type 0 where
   pub line : BlockLine
+  pub is_line : IsBlockLine mode text line read.rest.now
   pub is_slice : IsBlockSlice read.slice line read.rest.now
-  pub whole : read.slice.line.now ≡ text
   pub deep : line.depth ≡ read.depth
 
 -- This closes a tag of the kind behind what it says, so deep.
@@ -129,21 +133,21 @@ pub record HasClosedLine (kind : TagKind) (mode : NameMode) (text : Text) (conte
 
 -- The line of a decorator was read so.
 pub record HasDecorator (text : Text) (read : BlockRead) : Type 0 where
-  pub has : HasBlock text read
+  pub has : HasBlock identifier_name text read
   pub binds_none : bound_names_of read.slice.binding ≡ unbound
 
 -- What stands inside a tag of this kind, and closes it, was read so.
 pub record HasInside (kind : TagKind) (inside : Text) (read : Inside) : Type 0 where
   pub tag : Tag
-  pub is : IsClosed kind inside tag read.right read.rest.now
+  pub is : IsClosed true kind inside tag read.right read.rest.now
   pub deep : tag_depth tag ≡ read.depth
   pub holds : Holds read.content tag
 
--- Such a tag stands in front of the text.
+-- Such a tag stands in front of the text, in the language with sections.
 pub record HasTag (left : Text) (read : TagSlice) : Type 0 where
   pub slice : Text
   pub tag : Tag
   pub whole : left ≡ slice ++ read.rest.now
-  pub is_tag : IsTag slice read.rest.now tag (record { left = read.left; right = read.right })
+  pub is_tag : IsTag true slice read.rest.now tag (record { left = read.left; right = read.right })
   pub deep : tag_depth tag ≡ read.depth
   pub holds : Holds read.content tag

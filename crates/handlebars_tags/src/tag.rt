@@ -1,6 +1,6 @@
 //! Tags: what stands at the braces in front of a source.
 
-ghost use Rattle.std.specs.Prelude.{IfOk, IfSome, MatchOption};
+ghost use Rattle.std.specs.Prelude.{true, IfOk, IfSome, MatchOption};
 ghost use Rattle.handlebars_tags.specs.Comment.{HasNoLong};
 ghost use Rattle.handlebars_tags.specs.Tag.{NoTag};
 ghost use Rattle.handlebars_tags.specs.TagView.{HasTag};
@@ -28,15 +28,15 @@ pub struct TagSlice<'a> {
     pub long_ahead: bool,
 }
 
-/// The tag in front of what is left of a source. `long_ahead` says whether a long comment may end there, so that only
-/// one search for its end finds none.
+/// The tag in front of what is left of a source, where a path may open a block, as a section. `long_ahead` says whether a
+/// long comment may end there, so that only one search for its end finds none.
 pub fn split_tag<'a>(
     alloc: Global,
     left: &'a str,
     long_ahead: bool,
 ) -> Result<Option<TagSlice<'a>>, AllocError>
     requires { HasNoLong long_ahead left.now }
-    ensures reads { IfOk result (λ read. MatchOption read (NoTag left.now) (λ slice. HasTag left.now slice)) }
+    ensures reads { IfOk result (λ read. MatchOption read (NoTag true left.now) (λ slice. HasTag left.now slice)) }
     ensures ahead { IfOk result (λ read. IfSome read (λ slice. HasNoLong slice.long_ahead slice.rest.now)) }
 {
     let Some(begins) = beginning_of(left) else {

@@ -1,17 +1,16 @@
 //! What stands inside tags, with what closes it.
 
-ghost use Rattle.std.specs.Prelude.{◌≡◌, true, IfOk, IfSome, MatchOption, Some, None, codes, drop};
+ghost use Rattle.std.specs.Prelude.{◌≡◌, Bool, true, IfOk, IfSome, MatchOption, Some, None, codes, drop};
 ghost use Rattle.handlebars_base.specs.Bytes.{Text};
 ghost use Rattle.handlebars_base.specs.Path.{IsIdentifier};
-ghost use Rattle.handlebars_base.specs.Texts.{symbols_of};
 ghost use Rattle.handlebars_lines.specs.Alone.{IsAlone};
 ghost use Rattle.handlebars_lines.specs.Line.{identifier_name, value_name, close_name, Line, in_tag, in_block, IsLine};
 ghost use Rattle.handlebars_lines.specs.LineView.{mode_of};
 ghost use Rattle.handlebars_tags.specs.Comment.{HasNoLong};
 ghost use Rattle.handlebars_tags.specs.Kind.{behind_text, closing_of, comment_kind, else_kind, block_kind, raw_kind, raw_close_kind, close_kind, decorator_kind, decorator_block_kind};
 ghost use Rattle.handlebars_tags.specs.KindView.{kind_of};
-ghost use Rattle.handlebars_tags.specs.Tag.{BlockLine, IsBlockLine, IsDecoratorLine};
-ghost use Rattle.handlebars_tags.specs.TagView.{NoneClosed, NoClosedLine, HasBlock, HasDecorator, HasClosing, HasClosedLine, HasInside, HasNamed, is_value_kind, is_escaped_kind};
+ghost use Rattle.handlebars_tags.specs.Tag.{BlockLine, written_name, block_mode, IsDecoratorLine};
+ghost use Rattle.handlebars_tags.specs.TagView.{NoneClosed, NoBlockLine, NoClosedLine, HasBlock, HasDecorator, HasClosing, HasClosedLine, HasInside, HasNamed, is_value_kind, is_escaped_kind};
 
 use super::beginning::{TagBeginning, TagKind};
 use super::closing::closing_of;
@@ -19,7 +18,7 @@ use crate::comment::split_comment;
 use handlebars_base::json::path::marks::{behind_white, starts_white, symbols};
 use handlebars_lines::binding::{BoundNames, split_binding};
 use handlebars_lines::line::{
-    Enclosure, LonePath, NameMode, close_name_at, path_alone, path_named, split_terms,
+    Enclosure, LonePath, NameMode, close_name_at, path_alone, path_named, path_slice, split_terms,
 };
 use std::alloc::{AllocError, Global};
 
@@ -58,8 +57,8 @@ pub struct PathSlice<'a> {
     pub is_escaped: bool,
 }
 
-/// The line of a block or of a decorator: the text that begins with it, its name, the one path behind that, where it is
-/// known, and what it binds.
+/// The line of a block or of a decorator: the text that begins with it, its name as it is written, which is a path where it
+/// opens a section, the one path behind that, where it is known, and what it binds.
 #[derive(Clone, Copy)]
 pub struct BlockSlice<'a> {
     pub line: &'a str,
@@ -284,7 +283,7 @@ fn block(alloc: Global, text: &str) -> Result<Option<Inside<'_>>, AllocError>
     ensures { IfOk result (λ read. MatchOption read (NoneClosed block_kind text.now)
         (λ inside. HasInside block_kind text.now inside × (inside.long_ahead ≡ true))) }
 {
-    match block_line(alloc, text)? {
+    match block_line(alloc, true, text)? {
         Some(line) => Ok(closed(
             TagKind::Block,
             Content::Block(line.slice),
@@ -299,7 +298,7 @@ fn raw_block(alloc: Global, text: &str) -> Result<Option<Inside<'_>>, AllocError
     ensures { IfOk result (λ read. MatchOption read (NoneClosed raw_kind text.now)
         (λ inside. HasInside raw_kind text.now inside × (inside.long_ahead ≡ true))) }
 {
-    match block_line(alloc, text)? {
+    match block_line(alloc, false, text)? {
         Some(line) => Ok(closed(
             TagKind::Raw,
             Content::RawBlock(line.slice),
@@ -321,7 +320,7 @@ fn inverse(alloc: Global, text: &str) -> Result<Option<Inside<'_>>, AllocError>
     if !starts_white(text) {
         return Ok(None);
     }
-    match block_line(alloc, behind_white(text))? {
+    match block_line(alloc, false, behind_white(text))? {
         Some(line) => Ok(closed(
             TagKind::Else,
             Content::Chain(line.slice),
@@ -410,27 +409,48 @@ pub struct BlockRead<'a> {
     pub rest: &'a str,
 }
 
-/// A line whose name is an identifier, and the block parameters behind it, if any.
-fn block_line(alloc: Global, text: &str) -> Result<Option<BlockRead<'_>>, AllocError>
-    ensures { IfOk result (λ read. MatchOption read ((line : BlockLine) (rest : Text) → IsBlockLine text.now line rest → ⊥)
-        (λ read. HasBlock text.now read)) }
+/// What the name of a line may be, where it may open a section or not.
+fn block_mode(sections: bool) -> NameMode
+    ensures { mode_of result ≡ block_mode sections }
+{
+    if sections {
+        NameMode::Opening
+    } else {
+        NameMode::Identifier
+    }
+}
+
+/// A line that may open a section or not, and the block parameters behind it, if any.
+fn block_line(
+    alloc: Global,
+    sections: bool,
+    text: &str,
+) -> Result<Option<BlockRead<'_>>, AllocError>
+    ensures { IfOk result (λ read. MatchOption read (NoBlockLine (block_mode sections) text.now)
+        (λ read. HasBlock (block_mode sections) text.now read)) }
 {
     match path_named(Enclosure::Block, text) {
         Some(found) => Ok(bound_line(text, found.name, Some(found.raw), 0, found.rest)),
-        None => block_terms(alloc, text),
+        None => block_terms(alloc, sections, text),
     }
 }
 
 /// The line, where it isn't known that one path alone stands behind its name.
-fn block_terms(alloc: Global, text: &str) -> Result<Option<BlockRead<'_>>, AllocError>
-    ensures { IfOk result (λ read. MatchOption read ((line : BlockLine) (rest : Text) → IsBlockLine text.now line rest → ⊥)
-        (λ read. HasBlock text.now read)) }
+fn block_terms(
+    alloc: Global,
+    sections: bool,
+    text: &str,
+) -> Result<Option<BlockRead<'_>>, AllocError>
+    ensures { IfOk result (λ read. MatchOption read (NoBlockLine (block_mode sections) text.now)
+        (λ read. HasBlock (block_mode sections) text.now read)) }
 {
-    let Some(line) = split_terms(alloc, NameMode::Identifier, Enclosure::Block, text)? else {
+    let Some(line) = split_terms(alloc, block_mode(sections), Enclosure::Block, text)? else {
         return Ok(None);
     };
-    let (name, _) = symbols(text);
-    Ok(bound_line(text, name, None, line.depth, line.rest))
+    match path_slice(text) {
+        Some(name) => Ok(bound_line(text, name.raw, None, line.depth, line.rest)),
+        None => Ok(None),
+    }
 }
 
 /// The line that ends here, and the block parameters behind it, if any.
@@ -441,10 +461,10 @@ fn bound_line<'a>(
     depth: usize,
     behind: &'a str,
 ) -> Option<BlockRead<'a>>
-    ensures { (line : Line) → IsLine identifier_name in_block text.now line behind.now → line.depth ≡ depth
-        → name.now ≡ symbols_of text.now → IfSome path.entry (λ raw. HasNamed text.now raw.now)
-        → MatchOption result ((line : BlockLine) (rest : Text) → IsBlockLine text.now line rest → ⊥)
-        (λ read. HasBlock text.now read) }
+    ensures { (sections : Bool) (line : Line) → IsLine (block_mode sections) in_block text.now line behind.now
+        → line.depth ≡ depth → written_name line.name ≡ name.now → IfSome path.entry (λ raw. HasNamed text.now raw.now)
+        → MatchOption result (NoBlockLine (block_mode sections) text.now)
+        (λ read. HasBlock (block_mode sections) text.now read) }
 {
     match split_binding(behind) {
         Some(binding) => Some(BlockRead {
@@ -461,12 +481,12 @@ fn bound_line<'a>(
     }
 }
 
-/// The line of a decorator: that of a block, with no block parameters.
+/// The line of a decorator: one named by an identifier, with no block parameters.
 fn decorator_line(alloc: Global, text: &str) -> Result<Option<BlockRead<'_>>, AllocError>
     ensures { IfOk result (λ read. MatchOption read ((line : BlockLine) (rest : Text) → IsDecoratorLine text.now line rest → ⊥)
         (λ read. HasDecorator text.now read)) }
 {
-    let Some(line) = block_line(alloc, text)? else {
+    let Some(line) = block_line(alloc, false, text)? else {
         return Ok(None);
     };
     match line.slice.binding {

@@ -1,4 +1,4 @@
-use Rattle.std.proofs.Common.{sym, ◌∙◌}
+use Rattle.std.proofs.Common.{true, sym, ◌∙◌}
 use Rattle.handlebars_tags.specs.KindView.{beginning_view}
 use Rattle.handlebars_tags.proofs.Beginnings.{begun}
 use Rattle.handlebars_tags.proofs.Comments.{HasNoLong-end}
@@ -7,7 +7,7 @@ use Rattle.handlebars_tags.proofs.tag.split_tag.Goals as goal
 use Rattle.handlebars_tags.proofs.tag.split_tag.Goals.{then-long_ahead, else-long_ahead}
 
 pub returns-in_default-clause-reads : goal.returns-in_default-clause-reads
-returns-in_default-clause-reads c = none-beginning c.args.left.now (sym c.in_default.ensures)
+returns-in_default-clause-reads c = none-beginning true c.args.left.now (sym c.in_default.ensures)
 
 pub read_inside-requires-clause-comment : goal.read_inside-requires-clause-comment
 read_inside-requires-clause-comment c = (begun c.args.left.now (beginning_view c.in-Some.begins) (sym c.in-Some.ensures)).comment

@@ -1,13 +1,13 @@
 use Rattle.std.proofs.Common.{refl}
 use Rattle.handlebars_lines.specs.Line.{in_block}
 use Rattle.handlebars_lines.proofs.Alone.{named_line}
-use Rattle.handlebars_tags.proofs.BlockLines.{named-symbols}
+use Rattle.handlebars_tags.proofs.LineNames.{to_block}
 use Rattle.handlebars_tags.proofs.tag.inside.block_line.Goals as goal
 
 pub returns-in-Some : goal.returns-in-Some
 returns-in-Some c =
+    let t = c.args.text.now in
     let found = c.in-Some.found in
     let is = rw c.in-Some.is at c.path_named.ensures in
-    c.bound_line.ensures _ (named_line in_block c.args.text.now found.name.now found.raw.now found.rest.now is) refl
-    (named-symbols c.args.text.now found.name.now found.raw.now found.rest.now is)
+    c.bound_line.ensures c.args.sections _ (to_block c.args.sections t found.rest.now _ (named_line in_block t found.name.now found.raw.now found.rest.now is)) refl refl
     (record { name = found.name.now; left = found.rest.now; is = is })

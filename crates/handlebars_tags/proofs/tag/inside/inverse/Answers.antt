@@ -1,3 +1,4 @@
+use Rattle.handlebars_lines.specs.Line.{identifier_name}
 use Rattle.std.proofs.Common.{◌≡◌, refl, sym, ◌∙◌, true}
 use Rattle.handlebars_base.specs.Bytes.{behind_white, is_white}
 use Rattle.handlebars_base.specs.Texts.{starts}
@@ -20,10 +21,10 @@ returns-in-Some-2 c =
     let t = c.args.text.now in
     let line = c.in-Some-2.line in
     let white : starts is_white t ≡ true = sym c.starts_white.ensures ∙ c.if-not-starts_white.false in
-    block_read else_kind chain_tag (behind_white t) t (Chain line.slice) line c.closed-in-Some-2.result (chains t line c.in_default.ensures white)
+    block_read else_kind identifier_name chain_tag (behind_white t) t (Chain line.slice) line c.closed-in-Some-2.result (chains t line c.in_default.ensures white)
     (rw (c.in-Some-2.is, c.behind_white.ensures) at c.in_ok-line.ensures) c.closed-in-Some-2.ensures
 
 pub returns-in-None : goal.returns-in-None
 returns-in-None c =
     let t = c.args.text.now in
-    none-block else_kind chain_tag (behind_white t) t (only_chain t c.in_default.ensures) (rw (c.in-None.is, c.behind_white.ensures) at c.in_ok-line.ensures)
+    none-block else_kind identifier_name chain_tag (behind_white t) t (only_chain t c.in_default.ensures) (rw (c.in-None.is, c.behind_white.ensures) at c.in_ok-line.ensures)
