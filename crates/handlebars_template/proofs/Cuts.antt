@@ -56,11 +56,11 @@ unfolding count
 one_beginning starts starts n = record { here = refl; edge = refl; slices = refl }
 one_beginning starts (goes_on q y) n = absurd (omega arith)
 one_beginning (goes_on r x) starts n = absurd (omega arith)
-one_beginning {s} (goes_on {before = b} {edge = e} {ps = ps} r x) (goes_on {before = c} {edge = f} {ps = qs} q y) n =
+one_beginning {s} {o} (goes_on {before = b} {edge = e} {ps = ps} r x) (goes_on {before = c} {edge = f} {ps = qs} q y) n =
     let a = one_beginning r q (suc-cancel (count r) (count q) n) in
     let left : x.text ++ (x.slice ++ x.rest) ≡ y.text ++ (y.slice ++ y.rest) = append-behind s b c (x.text ++ (x.slice ++ x.rest)) (y.text ++ (y.slice ++ y.rest)) a.here x.whole y.whole in
     let texts = same_text e f x.text y.text x.kept y.kept (x.slice ++ x.rest) (y.slice ++ y.rest) a.edge left x.is_text y.is_text in
-    let one = one_tag (x.slice ++ x.rest) x.slice y.slice x.rest y.rest x.tag y.tag x.tildes y.tildes refl texts.follows x.is_tag y.is_tag in
+    let one = one_tag o.sections (x.slice ++ x.rest) x.slice y.slice x.rest y.rest x.tag y.tag x.tildes y.tildes refl texts.follows x.is_tag y.is_tag in
     let bc = a.here in let ef = a.edge in let pq = a.slices in let xy = texts.slices in let kl = texts.kept in
     let slice = one.0 in let rest = one.1 in let tag = one.2 in let tildes = one.3 in
     record { here = cc; edge = cc; slices = cc }
@@ -102,18 +102,18 @@ back {s} (goes_on {before = b} {edge = e} {ps = ps} r x) n lt = elim (split n (c
 -- ---- a reading that ends
 
 -- behind a text nothing goes on
-pub record Ends (s b : Text) (e : Edge) (x kept left : Text) : Type 0 where
+pub record Ends (o : Options) (s b : Text) (e : Edge) (x kept left : Text) : Type 0 where
   pub whole : s ≡ b ++ (x ++ left)
   pub is_text : IsText (braces_behind e) left x kept
-  pub none : NoTagBehind e left
+  pub none : NoTagBehind o e left
 
-ends_not : {o : Options} (s b c : Text) (e f : Edge) (x kept left : Text) → b ≡ c → e ≡ f → TextAndTag s o b e → Ends s c f x kept left → ⊥
+ends_not : {o : Options} (s b c : Text) (e f : Edge) (x kept left : Text) → b ≡ c → e ≡ f → TextAndTag s o b e → Ends o s c f x kept left → ⊥
 ends_not s b c e f x kept left bc ef g h =
     let is : g.text ++ (g.slice ++ g.rest) ≡ x ++ left = append-behind s b c (g.text ++ (g.slice ++ g.rest)) (x ++ left) bc g.whole h.whole in
     let texts = same_text e f g.text x g.kept kept (g.slice ++ g.rest) left ef is g.is_text h.is_text in
     h.none g.slice g.rest g.tag g.tildes (sym texts.follows) g.is_tag (ap (λ (z : Edge). may_follow z g.tag) (sym ef) ∙ g.may_follow)
 
-pub no_longer : {s : Text} {o : Options} {b c x kept left : Text} {e f : Edge} {ps qs : List Slice} → (r : Reads s o b e ps) → Ends s b e x kept left → (q : Reads s o c f qs) → count r < count q → ⊥
+pub no_longer : {s : Text} {o : Options} {b c x kept left : Text} {e f : Edge} {ps qs : List Slice} → (r : Reads s o b e ps) → Ends o s b e x kept left → (q : Reads s o c f qs) → count r < count q → ⊥
 no_longer {s} {b = b} {x = x} {kept = kept} {left = left} {e = e} r h q lt =
     let k = back q (count r) lt in
     let a = one_beginning k.begins r k.long in
@@ -128,7 +128,7 @@ by_order n m = elim (cases_Bool (n == m)) [
   ]
 ]
 
-pub both_end : {s : Text} {o : Options} {b c x y k l left more : Text} {e f : Edge} {ps qs : List Slice} → (r : Reads s o b e ps) → Ends s b e x k left → (q : Reads s o c f qs) → Ends s c f y l more → OneBeginning b c e f ps qs
+pub both_end : {s : Text} {o : Options} {b c x y k l left more : Text} {e f : Edge} {ps qs : List Slice} → (r : Reads s o b e ps) → Ends o s b e x k left → (q : Reads s o c f qs) → Ends o s c f y l more → OneBeginning b c e f ps qs
 both_end r h q k = elim (by_order (count r) (count q)) [
   | inl same ↦ one_beginning r q same
   | inr other ↦ elim other [
@@ -137,7 +137,7 @@ both_end r h q k = elim (by_order (count r) (count q)) [
   ]
 ]
 
-pub same_end : (s b c x y k l left more : Text) (e f : Edge) → b ≡ c → e ≡ f → Ends s b e x k left → Ends s c f y l more → SameText x y k l left more
+pub same_end : {o : Options} (s b c x y k l left more : Text) (e f : Edge) → b ≡ c → e ≡ f → Ends o s b e x k left → Ends o s c f y l more → SameText x y k l left more
 same_end s b c x y k l left more e f bc ef h g = same_text e f x y k l left more ef (append-behind s b c (x ++ left) (y ++ more) bc h.whole g.whole) h.is_text g.is_text
 
 -- ---- cuts
@@ -149,15 +149,15 @@ beginning_of-nil : beginning_of [] ≡ None
 unfolding beginning_of behind_byte
 beginning_of-nil = refl
 
-nothing_there : (e : Edge) → NoTagBehind e []
-nothing_there e [] rest t tildes is tag may = none-some tag.begins (sym beginning_of-nil ∙ ap beginning_of is ∙ tag.is_beginning)
-nothing_there e (b ∷ slice) rest t tildes is tag may = nil-cons b (slice ++ rest) is
+nothing_there : (o : Options) (e : Edge) → NoTagBehind o e []
+nothing_there o e [] rest t tildes is tag may = none-some tag.begins (sym beginning_of-nil ∙ ap beginning_of is ∙ tag.is_beginning)
+nothing_there o e (b ∷ slice) rest t tildes is tag may = nil-cons b (slice ++ rest) is
 
-pub cut_ends : (s : Text) (o : Options) (ps : List Slice) → (c : IsCut s o ps) → Ends s c.before c.edge c.text c.kept []
+pub cut_ends : (s : Text) (o : Options) (ps : List Slice) → (c : IsCut s o ps) → Ends o s c.before c.edge c.text c.kept []
 cut_ends s o ps c = record {
   whole = c.whole ∙ ap (λ (z : Text). c.before ++ z) (sym (append-nil c.text));
   is_text = c.is_text;
-  none = nothing_there c.edge;
+  none = nothing_there o c.edge;
 }
 
 pub one_cut : OneCut

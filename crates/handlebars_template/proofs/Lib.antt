@@ -3,6 +3,7 @@ pub mod Scan
 pub mod TagsBuilt
 pub mod Cuts
 pub mod One
+pub mod Stays
 pub mod Trees
 pub mod Levels
 pub mod Running

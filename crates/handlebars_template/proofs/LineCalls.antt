@@ -1,7 +1,6 @@
 -- The loop that builds a line's call: what it keeps, and what it comes to.
-use Rattle.std.proofs.Common.{◌≡◌, ◌∙◌, Bool, true, false, List, [], ◌∷◌, Option, Some, None, length, refl, sym, ap, subst, arith}
-use Rattle.std.specs.List.{list_all, AllByRecursion}
-use Rattle.std.proofs.lemmas.Bool.{and_parts}
+use Rattle.std.proofs.Common.{◌≡◌, ◌∙◌, Bool, true, false, List, [], Option, Some, None, length, refl, sym, ap, subst, arith}
+use Rattle.std.specs.List.{list_all}
 use Rattle.std.proofs.lemmas.List.{append-nil}
 use Rattle.std.proofs.lemmas.Option.{same_Some, none-some}
 use Rattle.std.specs.Prelude.{◌==◌, option_map, Result, Ok, Err, IfOk, IfSome}
@@ -14,10 +13,11 @@ use Rattle.handlebars_base.proofs.OptionBinds.{nonempty}
 use Rattle.handlebars_base.specs.PathReading.{path_of}
 use Rattle.handlebars_base.specs.Optional.{◌>>=◌}
 use Rattle.handlebars_lines.specs.Runs.{goes, ends, stuck}
-use Rattle.handlebars_lines.specs.Line.{NameMode, identifier_name, value_name, Enclosure, Line, IsLine}
+use Rattle.handlebars_lines.specs.Line.{NameMode, opening_name, value_name, Enclosure, Line, IsLine}
 use Rattle.handlebars_lines.specs.Parameter.{path_term, name_term, Terms, no_terms, term}
 use Rattle.handlebars_lines.specs.Alone.{IsAlone, IsNamed}
 use Rattle.handlebars_lines.proofs.Alone.{name_path, alone_line, named_line}
+use Rattle.handlebars_lines.proofs.OpeningNames.{pass_symbols, line_stays}
 use Rattle.handlebars_lines.specs.LineReading.{Event, at_name, LineStand, line_stand, line_step, OpenLines, first_lines, build}
 use Rattle.handlebars_lines.proofs.LineEvents.{build_all}
 use Rattle.handlebars_lines.proofs.Endings.{Through, through-goes, runs-goes, runs-ends, runs-stuck}
@@ -124,13 +124,18 @@ lone-read around t raw rest h (Err e) found = tt
 -- ---- one path behind a name
 
 pub named-path : (around : Enclosure) (t name raw rest : Text) (means : Reference) → IsNamed around t name raw rest → Some means ≡ path_of raw
-    → (xs : Args) → xs ≡ add_argument None (path means) no_arguments → (line : Line) (left : Text) → IsLine identifier_name around t line left → HasArguments line xs
+    → (xs : Args) → xs ≡ add_argument None (path means) no_arguments → (line : Line) (left : Text) → IsLine opening_name around t line left → HasArguments line xs
 named-path around t name raw rest means h found xs is line left l =
     let one : Line = record { name = name_term name; terms = term None (path_term h.means) no_terms; depth = 0 } in
-    let same : line ≡ one = (one_line identifier_name around t line one left rest l (named_line around t name raw rest h)).0 in
+    let same : line ≡ one = (one_line opening_name around t line one left rest l (line_stays around t one rest (named_line around t name raw rest h))).0 in
     let read : means ≡ h.means = same_Some means h.means (found ∙ path_known raw h.means h.is_path) in
     let terms : line.terms ≡ term None (path_term means) no_terms = ap (λ (z : Line). z.terms) same ∙ ap (λ (z : Reference). term None (path_term z) no_terms) (sym read) in
-    record { arguments = is ∙ ap (arguments_in no_arguments) (sym terms); refused = ap (λ (z : Terms). first_refused (literals_in z)) (sym terms) }
+    record {
+      name = name;
+      is_name = ap (λ (z : Line). z.name) same;
+      arguments = is ∙ ap (arguments_in no_arguments) (sym terms);
+      refused = ap (λ (z : Terms). first_refused (literals_in z)) (sym terms);
+    }
 
 -- a name alone
 pub path_of-name : (raw : Text) → IsIdentifier raw → Some (relative (name_segments raw) raw) ≡ path_of raw
@@ -139,8 +144,4 @@ path_of-name raw id =
     ∙ sym (path_known raw (meaning raw (in_parts false (plain raw) [])) (name_path raw id))
 
 pub identifier : (raw : Text) → false ≡ (length raw == 0) → list_all is_symbol raw ≡ true → IsIdentifier raw
-identifier raw some all = ((λ e. absurd (omega (arith, nonempty raw some, ap length e))), symbols raw all)
-  where
-    symbols : (t : Text) → list_all is_symbol t ≡ true → AllByRecursion (λ b. is_symbol b ≡ true) t
-    symbols [] h = tt
-    symbols (b ∷ t) h = let both = and_parts (is_symbol b) (list_all is_symbol t) h in (both.0, symbols t both.1)
+identifier raw some all = ((λ e. absurd (omega (arith, nonempty raw some, ap length e))), pass_symbols raw all)

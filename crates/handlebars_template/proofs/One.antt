@@ -71,7 +71,7 @@ record Stuck (s : Text) (options : Options) (o : Compilation) : Type 0 where
   pub stands : IsUnreadable s options at
   pub is : o ≡ refused (unreadable_tag options at)
 
-stuck_ends : (s : Text) (options : Options) (at : Place) → (u : IsUnreadable s options at) → Ends s u.before u.edge u.text u.kept u.left
+stuck_ends : (s : Text) (options : Options) (at : Place) → (u : IsUnreadable s options at) → Ends options s u.before u.edge u.text u.kept u.left
 stuck_ends s options at u = record { whole = u.whole; is_text = u.is_text; none = u.none }
 
 -- a fault in a beginning is there in what goes on behind it
@@ -88,7 +88,7 @@ refuses_longer {ps = ps} {qs = qs} {options = options} r q fault more bad le = e
 ]
 
 -- where a reading ends, a fault of the syntax is in what was read
-early_refuses : {s b c x kept left : Text} {e f : Edge} {ps qs : List Slice} {options : Options} → (r : Reads s options b e ps) → Ends s b e x kept left → (q : Reads s options c f qs) (fault : NestFault) (more : List Slice)
+early_refuses : {s b c x kept left : Text} {e f : Edge} {ps qs : List Slice} {options : Options} → (r : Reads s options b e ps) → Ends options s b e x kept left → (q : Reads s options c f qs) (fault : NestFault) (more : List Slice)
     → Refuses syntax_alone (pieces_in options qs) fault → Refuses syntax_alone (pieces_in options (ps ++ more)) fault
 early_refuses r ends q fault more bad = elim (by_order (count q) (count r)) [
   | inl same ↦ refuses_longer r q fault more bad (inl same)

@@ -1,5 +1,5 @@
 -- What running a source's reading and nesting answers, the source compiles to.
-use Rattle.std.proofs.Common.{◌≡◌, ℕ, zero, suc, ◌-◌, true, Option, Some, None, List, [], ◌∷◌, ◌++◌, length, take, refl, sym, ap, ◌∙◌, subst, append_assoc}
+use Rattle.std.proofs.Common.{◌≡◌, Bool, ℕ, zero, suc, ◌-◌, true, Option, Some, None, List, [], ◌∷◌, ◌++◌, length, take, refl, sym, ap, ◌∙◌, subst, append_assoc}
 use Rattle.std.specs.Str.{bytes_eq}
 use Rattle.std.proofs.lemmas.List.{append-nil}
 use Rattle.std.proofs.lemmas.Option.{same_Some, none-some}
@@ -62,8 +62,8 @@ slice_before t rest = take (length t - length rest) t
 abbrev next_with : Edge → Text → Text → TagFound → Option TextThenTag
 next_with e text left f = guarded (may_follow e f.tag) (text, slice_before left f.rest, f)
 
-abbrev next_at : Edge → Text → Option TextThenTag
-next_at e left = text_at (braces_behind e) left >>= λ x. tag_at x.1 >>= λ f. guarded (bytes_eq (slice_before x.1 f.rest ++ f.rest) x.1) f >>= next_with e x.0 x.1
+abbrev next_at : Bool → Edge → Text → Option TextThenTag
+next_at sections e left = text_at (braces_behind e) left >>= λ x. tag_at sections x.1 >>= λ f. guarded (bytes_eq (slice_before x.1 f.rest ++ f.rest) x.1) f >>= next_with e x.0 x.1
 
 -- where a reading is, with what is left behind it
 pub record Spot : Type 0 where
@@ -83,18 +83,18 @@ spot_behind s x =
     }
 
 -- so many tags on
-abbrev spot_at : ℕ → Spot → Option Spot
-spot_at zero s = Some s
-spot_at (suc n) s = next_at s.edge s.left >>= λ x. spot_at n (spot_behind s x)
+abbrev spot_at : Bool → ℕ → Spot → Option Spot
+spot_at sections zero s = Some s
+spot_at sections (suc n) s = next_at sections s.edge s.left >>= λ x. spot_at sections n (spot_behind s x)
 
 pub record IsAt (source : Text) (options : Options) (s : Spot) : Type 0 where
   pub begins : Reads source options s.before s.edge s.slices
   pub whole : source ≡ s.before ++ s.left
 
-next_at-is : (source : Text) (options : Options) (s : Spot) (x : TextThenTag) → next_at s.edge s.left ≡ Some x → IsAt source options s → IsAt source options (spot_behind s x)
+next_at-is : (source : Text) (options : Options) (s : Spot) (x : TextThenTag) → next_at options.sections s.edge s.left ≡ Some x → IsAt source options s → IsAt source options (spot_behind s x)
 next_at-is source options s x e h =
     let words = bind_some (text_at (braces_behind s.edge) s.left) _ x e in
-    let tag = bind_some (tag_at words.0.1) _ x words.2 in
+    let tag = bind_some (tag_at options.sections words.0.1) _ x words.2 in
     let same = bind_some (guarded (bytes_eq (slice_before words.0.1 tag.0.rest ++ tag.0.rest) words.0.1) tag.0) _ x tag.2 in
     let f = same.0 in
     let cut = guarded_some (bytes_eq (slice_before words.0.1 tag.0.rest ++ tag.0.rest) words.0.1) tag.0 f same.1 in
@@ -102,7 +102,7 @@ next_at-is source options s x e h =
     let slice : Text = slice_before words.0.1 f.rest in
     let joins : slice ++ f.rest ≡ words.0.1 = subst (λ (z : TagFound). slice_before words.0.1 z.rest ++ z.rest ≡ words.0.1) cut.1 ((bytes_eq-Decides (slice_before words.0.1 tag.0.rest ++ tag.0.rest) words.0.1).0 cut.0) in
     let w = text_at-is (braces_behind s.edge) s.left words.0 words.1 in
-    let is = tag_at-is slice f.rest f (ap tag_at joins ∙ tag.1 ∙ ap (λ (z : TagFound). Some z) cut.1) refl in
+    let is = tag_at-is options.sections slice f.rest f (ap (tag_at options.sections) joins ∙ tag.1 ∙ ap (λ (z : TagFound). Some z) cut.1) refl in
     let all : source ≡ s.before ++ (words.0.0 ++ (slice ++ f.rest)) = h.whole ∙ ap (λ (z : Text). s.before ++ z) (w.whole ∙ ap (λ (z : Text). words.0.0 ++ z) (sym joins)) in
     let next : TextAndTag source options s.before s.edge = record {
       text = words.0.0;
@@ -121,10 +121,10 @@ next_at-is source options s x e h =
       whole = all ∙ regroup_four s.before words.0.0 slice f.rest;
     })
 
-spot_at-is : (n : ℕ) (source : Text) (options : Options) (s r : Spot) → spot_at n s ≡ Some r → IsAt source options s → IsAt source options r
+spot_at-is : (n : ℕ) (source : Text) (options : Options) (s r : Spot) → spot_at options.sections n s ≡ Some r → IsAt source options s → IsAt source options r
 spot_at-is zero source options s r e h = subst (IsAt source options) (same_Some s r e) h
 spot_at-is (suc n) source options s r e h =
-    let x = bind_some (next_at s.edge s.left) _ r e in
+    let x = bind_some (next_at options.sections s.edge s.left) _ r e in
     spot_at-is n source options (spot_behind s x.0) r x.2 (next_at-is source options s x.0 x.1 h)
 
 abbrev pub first_spot : Text → Spot
@@ -150,7 +150,7 @@ of_beginning options r (stops f) = Some (refused (refusal_for options f))
 of_beginning options r (goes d fs es) = text_at (braces_behind r.edge) r.left >>= of_whole options r
 
 abbrev pub answer : Options → ℕ → Spot → Option Compilation
-answer options n s = spot_at n s >>= λ r. of_beginning options r (run syntax_alone (pieces_in options r.slices) 0 [] [])
+answer options n s = spot_at options.sections n s >>= λ r. of_beginning options r (run syntax_alone (pieces_in options r.slices) 0 [] [])
 
 nests_in : {t : Checks} {d : ℕ} {ps : List SourcePiece} {es : List PlacedElement} → OpensSoFar t d ps [] es → Nests t 0 ps es
 nests_in (no_block h) = h
@@ -189,7 +189,7 @@ of_beginning-is options source r (goes d fs es) c h loose e =
 -- from any beginning, so many tags on
 pub answer-compiles : (options : Options) (source : Text) (n : ℕ) (s : Spot) (c : Compilation) → IsAt source options s → answer options n s ≡ Some c → Compiles source options c
 answer-compiles options source n s c h e =
-    let r = bind_some (spot_at n s) _ c e in
+    let r = bind_some (spot_at options.sections n s) _ c e in
     of_beginning-is options source r.0 (run syntax_alone (pieces_in options r.0.slices) 0 [] []) c (spot_at-is n source options s r.0 r.1 h) (ran syntax_alone (pieces_in options r.0.slices)) r.2
 
 abbrev pub answer_of : Options → ℕ → Text → Option Compilation
@@ -201,7 +201,7 @@ answer_of-compiles options n source c e = answer-compiles options source n (firs
 -- ---- by hand
 
 -- a text and a tag where the source begins
-pub first_tag : (options : Options) (text kept slice rest : Text) (f : TagFound) → IsText two_braces (slice ++ rest) text kept → tag_at (slice ++ rest) ≡ Some f → f.rest ≡ rest
+pub first_tag : (options : Options) (text kept slice rest : Text) (f : TagFound) → IsText two_braces (slice ++ rest) text kept → tag_at options.sections (slice ++ rest) ≡ Some f → f.rest ≡ rest
     → IsAt (text ++ (slice ++ rest)) options (record {
       before = text ++ slice;
       edge = edge_of [] text f.tag f.tildes rest;
@@ -218,14 +218,14 @@ first_tag options text kept slice rest f words e is = record {
     rest = rest;
     whole = refl;
     is_text = words;
-    is_tag = tag_at-is slice rest f e is;
+    is_tag = tag_at-is options.sections slice rest f e is;
     may_follow = refl;
   });
   whole = sym (append_assoc text slice rest);
 }
 
 -- a text where the source begins, and braces with which no tag begins
-pub first_unreadable : (options : Options) (text left : Text) → IsText two_braces left text text → braces two_braces left ≡ true → NoTag left
+pub first_unreadable : (options : Options) (text left : Text) → IsText two_braces left text text → braces two_braces left ≡ true → NoTag options.sections left
     → Compiles (text ++ left) options (refused (unreadable_tag options (place text)))
 first_unreadable options text left words marks none = no_tag (record {
   before = [];

@@ -85,9 +85,9 @@ Scans-start source options slice kept left e is parts h = record {
 }
 
 -- a tag that may stand behind the text
-pub record TagHere (left : Text) (e : Edge) (t : Tag) (tildes : Tildes) (spelled rest : Text) : Type 0 where
+pub record TagHere (sections : Bool) (left : Text) (e : Edge) (t : Tag) (tildes : Tildes) (spelled rest : Text) : Type 0 where
   pub whole : left ≡ spelled ++ rest
-  pub is_tag : IsTag spelled rest t tildes
+  pub is_tag : IsTag sections spelled rest t tildes
   pub follows : may_follow e t ≡ true
 
 -- a text and a tag
@@ -101,7 +101,7 @@ Reads-along source options before x k spelled slices t at p q there e n m a b c 
 -- where the code stands behind the text, what the text before it ends with, and what the tag does to it
 pub record TagStands {source : Text} {options : Options} {slice kept left : Text} {at : Place} {fresh : Bool} {e : Edge} {late : Option NestFault} {d : ℕ} {fs : List BlockSoFar} {es : List PlacedElement}
     (h : Scans source options slice kept left at fresh e late d fs es) (t : Tag) (tildes : Tildes) (spelled rest : Text) (q : Place) (mid : Bool) (n : Edge) : Type 0 where
-  pub here : TagHere left e t tildes spelled rest
+  pub here : TagHere options.sections left e t tildes spelled rest
   pub there : q ≡ place_behind at slice
   pub lines : mid ≡ fold is_fresh_behind fresh slice
   pub edge : n ≡ edge_with mid (last_blanks slice) t tildes rest
@@ -213,17 +213,17 @@ IsText-some (a_byte b clear h) lt = IsText-some h lt
 IsText-some (two_escaped two clear h) lt = IsText-some h lt
 IsText-some (four_escaped h) lt = IsText-some h lt
 
-pub NoTagBehind-none : (e : Edge) (left : Text) → NoTag left → NoTagBehind e left
-NoTagBehind-none e left none slice rest t tildes is h f = none slice rest t tildes is h
+pub NoTagBehind-none : (options : Options) (e : Edge) (left : Text) → NoTag options.sections left → NoTagBehind options e left
+NoTagBehind-none options e left none slice rest t tildes is h f = none slice rest t tildes is h
 
 -- behind the opening of a raw block stands a tag that isn't its end
-pub NoTagBehind-other : OneTag → (e : Edge) (left slice rest : Text) (t : Tag) (tildes : Tildes) → left ≡ slice ++ rest → IsTag slice rest t tildes → may_follow e t ≡ false → NoTagBehind e left
-NoTagBehind-other tags e left slice rest t tildes is h other slice' rest' t' tildes' is' h' f =
-    let one = tags left slice slice' rest rest' t t' tildes tildes' is is' h h' in
+pub NoTagBehind-other : OneTag → (options : Options) (e : Edge) (left slice rest : Text) (t : Tag) (tildes : Tildes) → left ≡ slice ++ rest → IsTag options.sections slice rest t tildes → may_follow e t ≡ false → NoTagBehind options e left
+NoTagBehind-other tags options e left slice rest t tildes is h other slice' rest' t' tildes' is' h' f =
+    let one = tags options.sections left slice slice' rest rest' t t' tildes tildes' is is' h h' in
     false≢true (sym other ∙ ap (may_follow e) one.2 ∙ f)
 
 pub Compiles-unreadable : {source : Text} {options : Options} {slice kept left : Text} {at : Place} {fresh : Bool} {e : Edge} {late : Option NestFault} {d : ℕ} {fs : List BlockSoFar} {es : List PlacedElement}
-    → Scans source options slice kept left at fresh e late d fs es → 0 < length left → NoTagBehind e left → (q : Place) → q ≡ place_behind at slice
+    → Scans source options slice kept left at fresh e late d fs es → 0 < length left → NoTagBehind options e left → (q : Place) → q ≡ place_behind at slice
     → Compiles source options (refused (unreadable_tag options q))
 Compiles-unreadable {source} {options} {slice} {kept} {left} {at} {fresh} {e} {late} {d} {fs} {es} h lt none q qe = no_tag (record {
   before = h.before;
@@ -328,9 +328,9 @@ IsCharBoundary-seam left s rest e u = rw (length-front left s rest e) (IsCharBou
 pub IsUtf8-front : (left s rest : Text) → left ≡ s ++ rest → IsUtf8 left → IsUtf8 rest → IsUtf8 s
 IsUtf8-front left s rest e u v = subst IsUtf8 (take-front left s rest e) (IsUtf8-take left (length left - length rest) u (IsCharBoundary-seam left s rest e v))
 
-pub length-rest : (left spelled rest x y : Text) (t : Tag) (tildes : Tildes) → left ≡ spelled ++ rest → IsTag spelled rest t tildes → rest ≡ x ++ y → length y < length left
-length-rest left spelled rest x y t tildes is fits cut =
-    let some = length-tag spelled rest t tildes fits in
+pub length-rest : (sections : Bool) (left spelled rest x y : Text) (t : Tag) (tildes : Tildes) → left ≡ spelled ++ rest → IsTag sections spelled rest t tildes → rest ≡ x ++ y → length y < length left
+length-rest sections left spelled rest x y t tildes is fits cut =
+    let some = length-tag sections spelled rest t tildes fits in
     omega (arith, some, ap length is, length-append spelled rest, ap length cut, length-append x y)
 
 -- ---- in the code's own values

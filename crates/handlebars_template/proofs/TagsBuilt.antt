@@ -1,12 +1,12 @@
 -- What is built of tags, and what it stands for.
-use Rattle.std.proofs.Common.{◌≡◌, ℕ, Bool, true, false, cond, refl, sym, ap, subst, ◌∙◌, Option, option_map}
+use Rattle.std.proofs.Common.{◌≡◌, ℕ, Bool, true, false, cond, List, [], ◌++◌, refl, sym, ap, subst, ◌∙◌, Option, option_map}
+use Rattle.std.proofs.lemmas.Bool.{false≢true}
 use Rattle.handlebars_base.specs.Bytes.{Text}
-use Rattle.handlebars_lines.specs.Binding as means
-use Rattle.handlebars_lines.specs.Parameter.{TermShape, literal_shape, path_shape, nested_shape, Items, term_of}
-use Rattle.handlebars_lines.specs.Line.{NameMode, value_name, close_name, Line, in_tag, IsLine, NameShape, plain_name, term_name, is_nested, IsName, term_of_name}
+use Rattle.handlebars_lines.specs.Parameter.{Term, name_term, Terms, TermShape, literal_shape, path_shape, nested_shape, Items, no_items, parameter_item, pair_item, term_of, terms_of}
+use Rattle.handlebars_lines.specs.Line.{NameMode, value_name, close_name, opening_name, Line, in_tag, in_block, IsLine, NameShape, plain_name, term_name, is_nested, IsName, term_of_name}
 use Rattle.handlebars_lines.specs.Alone.{IsAlone}
 use Rattle.handlebars_lines.specs.LineView.{key_of}
-use Rattle.handlebars_tags.specs.Tag.{Tag, expression_tag, html_tag, tag_depth, BlockLine}
+use Rattle.handlebars_tags.specs.Tag.{Tag, expression_tag, html_tag, tag_depth, BlockLine, written_name}
 use Rattle.handlebars_tags.specs.Options.{Options}
 use Rattle.handlebars_tags.specs.Trim.{Edge}
 use Rattle.handlebars_tags.specs.TagView.{Holds, HoldsLine, HoldsPath, HoldsBlock, IsBlockSlice, value_tag}
@@ -15,9 +15,9 @@ use Rattle.handlebars_tags.specs.declared.tag.inside.PathSlice.{PathSlice}
 use Rattle.handlebars_tags.specs.declared.tag.inside.Content.{Content}
 use Rattle.handlebars_tags.specs.declared.tag.inside.Content.TheVariants as content
 use Rattle.handlebars_template.specs.Place.{Place}
-use Rattle.handlebars_template.specs.Tree.{Element, decorator, Args, no_arguments, lacks_arguments, Param, name, no_binding, no_body, call_name, call_args}
+use Rattle.handlebars_template.specs.Tree.{Element, decorator, Args, no_arguments, lacks_arguments, Param, name, Binding, no_binding, no_body, call_name, call_args}
 use Rattle.handlebars_template.specs.TreeView.{param_view, arguments_view}
-use Rattle.handlebars_template.specs.Calls.{named_param, name_before, param_of, arguments_in, call_of, first_refused, literals_in, line_literals}
+use Rattle.handlebars_template.specs.Calls.{named_param, name_before, param_of, arguments_in, call_of, first_refused, literals_of, literals_in, line_literals}
 use Rattle.handlebars_template.specs.Nest.{BlockKind, helper_opening, partial_opening, Opening as Said, SourcePiece, leaf, opens, chains}
 use Rattle.handlebars_template.specs.NestView.{opening_view, early, Looks, Does}
 use Rattle.handlebars_template.specs.Compile.{block_binding, is_indented, opening_of, closing_name, partial_opening_of, indentation, partial_of, tag_piece}
@@ -28,18 +28,62 @@ use Rattle.handlebars_template.specs.declared.template.nest.Nesting.{Nesting}
 use Rattle.handlebars_template.specs.declared.template.nest.SyntaxFault.{SyntaxFault}
 use Rattle.handlebars_template.specs.declared.template.tags.BuiltOpening.{BuiltOpening}
 
-abbrev said : BlockKind → Text → Args → means.BoundNames → Bool → Said
-said k n xs b indent =
-    record { kind = k; name = name n; closing = n; arguments = xs; binding = block_binding b; indent = indent }
+-- ---- what the opening tag of a block says
+
+abbrev said : BlockKind → Param → Text → Args → Binding → Bool → Said
+said k n closing xs b indent =
+    record { kind = k; name = n; closing = closing; arguments = xs; binding = b; indent = indent }
 
 abbrev with_arguments : Args → Said → Said
 with_arguments xs o =
     record { kind = o.kind; name = o.name; closing = o.closing; arguments = xs; binding = o.binding; indent = o.indent }
 
--- a bare opening with the arguments of its line
-pub said-along : {k : BlockKind} {n m : Text} {xs ys : Args} {b c : means.BoundNames} {i : Bool} {o : Said} → o ≡ said k n no_arguments b i → xs ≡ ys → n ≡ m → b ≡ c
-    → with_arguments xs o ≡ said k m ys c i
-said-along {k} {n} {m} {xs} {ys} {b} {c} {i} {o} is args names bindings = ap (with_arguments xs) is ∙ rw (args, names, bindings) refl
+pub said-along : (k : BlockKind) (e : Edge) (line : BlockLine) (n : Param) (closing : Text) (xs : Args) (b : Binding) (i : Bool) → n ≡ param_of line.name → closing ≡ written_name line.name
+    → xs ≡ arguments_in no_arguments line.terms → b ≡ block_binding line.binding → i ≡ is_indented e → said k n closing xs b i ≡ opening_of k e line
+said-along k e line n closing xs b i names closes arguments binds indented = rw (names, closes, arguments, binds, indented) refl
+
+-- a bare opening, by its name's text, with the arguments of its line
+pub said-named : (k : BlockKind) (e : Edge) (line : BlockLine) (n closing : Text) (xs : Args) (b : Binding) (o : Said) → o ≡ said k (name closing) closing no_arguments b (is_indented e)
+    → line.name ≡ name_term n → written_name line.name ≡ closing → xs ≡ arguments_in no_arguments line.terms → b ≡ block_binding line.binding → with_arguments xs o ≡ opening_of k e line
+said-named k e line n closing xs b o is named written arguments binds =
+    let same : closing ≡ n = sym written ∙ ap written_name named in
+    ap (with_arguments xs) is
+    ∙ said-along k e line (name closing) closing xs b (is_indented e) (ap name same ∙ ap param_of (sym named)) (sym written) arguments binds refl
+
+name_before-kept : (xs : Args) (p : Param) → named_param p ≡ p → name_before xs p ≡ p
+name_before-kept xs p is = on (lacks_arguments xs)
+  where
+    on : (b : Bool) → cond b p (named_param p) ≡ p
+    on true = refl
+    on false = is
+
+-- The name of a block is a text, or a path with no arguments behind it: it stands as it is, and has no literals.
+record OpensBlock (name : Term) (terms : Terms) : Type 0 where
+  kept : name_before (arguments_in no_arguments terms) (param_of name) ≡ param_of name
+  no_literals : literals_of name ≡ []
+
+opens_block : (x : NameShape) (items : Items) (rest : Text) → IsName opening_name x items rest → OpensBlock (term_of_name x) (terms_of items)
+opens_block (plain_name t) items rest is = record { kept = name_before-kept (arguments_in no_arguments (terms_of items)) (name t) refl; no_literals = refl }
+opens_block (term_name (literal_shape l)) items rest is = absurd (false≢true is.0)
+opens_block (term_name (path_shape t means)) no_items rest is = record { kept = refl; no_literals = refl }
+opens_block (term_name (path_shape t means)) (parameter_item w p more) rest is = absurd (false≢true is.0)
+opens_block (term_name (path_shape t means)) (pair_item w key u v p more) rest is = absurd (false≢true is.0)
+opens_block (term_name (nested_shape w head inner v)) items rest is = absurd (false≢true is.0)
+
+-- what was built of the line of a block
+pub record IsBlockOf (line : Line) (built : BuiltLine) : Type 0 where
+  pub name : param_view built.name ≡ param_of line.name
+  pub arguments : arguments_view built.arguments ≡ arguments_in no_arguments line.terms
+  pub refused : key_of built.refused ≡ first_refused (literals_in line.terms)
+
+pub block_built : (t rest : Text) (line : Line) (built : BuiltLine) → IsLine opening_name in_block t line rest → IsCallOf line built → IsBlockOf line built
+block_built t rest line built is call =
+    let opens : OpensBlock line.name line.terms = subst (λ (z : Line). OpensBlock z.name z.terms) (sym is.gives) (opens_block is.name is.items _ is.is_name) in
+    record {
+      name = ap call_name call.call ∙ opens.kept;
+      arguments = ap call_args call.call;
+      refused = call.refused ∙ ap (λ (z : List Text). first_refused (z ++ literals_in line.terms)) opens.no_literals;
+    }
 
 -- ---- the name of an inclusion
 
@@ -52,13 +96,6 @@ kept_shape (nested_shape w head items v) is = refl
 kept_name : (x : NameShape) (items : Items) (rest : Text) → IsName close_name x items rest → named_param (param_of (term_of_name x)) ≡ param_of (term_of_name x)
 kept_name (plain_name t) items rest is = refl
 kept_name (term_name p) items rest is = kept_shape p is.0
-
-name_before-kept : (xs : Args) (p : Param) → named_param p ≡ p → name_before xs p ≡ p
-name_before-kept xs p is = on (lacks_arguments xs)
-  where
-    on : (b : Bool) → cond b p (named_param p) ≡ p
-    on true = refl
-    on false = is
 
 -- what was built of the line of an inclusion
 pub record IsInclusionOf (line : Line) (built : BuiltLine) : Type 0 where

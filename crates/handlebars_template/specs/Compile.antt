@@ -5,7 +5,7 @@ use Rattle.handlebars_base.specs.Reasons.{TemplateReason, TemplateRefusal, inval
 use Rattle.handlebars_lines.specs.Binding.{BoundNames, unbound, bound, both_bound}
 use Rattle.handlebars_lines.specs.Line.{Line}
 use Rattle.handlebars_tags.specs.Text.{IsText, braces}
-use Rattle.handlebars_tags.specs.Tag.{Tag, expression_tag, html_tag, block_tag, inverse_tag, chain_tag, close_tag, raw_tag, raw_close_tag, decorator_tag, decorator_block_tag, partial_tag, partial_block_tag, comment_tag, BlockLine, Tildes, IsTag}
+use Rattle.handlebars_tags.specs.Tag.{Tag, expression_tag, html_tag, block_tag, inverse_tag, chain_tag, close_tag, raw_tag, raw_close_tag, decorator_tag, decorator_block_tag, partial_tag, partial_block_tag, comment_tag, BlockLine, written_name, Tildes, IsTag}
 use Rattle.handlebars_tags.specs.Trim.{Edge, braces_behind, trimmed, has_element}
 use Rattle.handlebars_tags.specs.Options.{Options}
 use Rattle.handlebars_template.specs.Place.{Place, place}
@@ -26,12 +26,12 @@ block_binding (both_bound x y) = both (name x) (name y)
 abbrev pub is_indented : Edge → Bool
 is_indented e = e.standalone && not e.left
 
--- what the opening tag of a block says, and that of a decorator
+-- What the opening tag of a block says, and that of a decorator: its name closes the block, as it is written.
 abbrev pub opening_of : BlockKind → Edge → BlockLine → Opening
 opening_of kind e line = record {
   kind = kind;
-  name = name line.name;
-  closing = line.name;
+  name = param_of line.name;
+  closing = written_name line.name;
   arguments = arguments_in no_arguments line.terms;
   binding = block_binding line.binding;
   indent = is_indented e;
@@ -131,9 +131,9 @@ refusal_for options (mismatched k n m p) = record (syntax_refusal [] options p) 
 refusal_for options (no_value raw) = invalid raw
 
 -- No tag that may follow this edge stands in front.
-abbrev pub NoTagBehind : Edge → Text → Type 0
-NoTagBehind e left = (slice rest : Text) (t : Tag) (tildes : Tildes)
-    → left ≡ slice ++ rest → IsTag slice rest t tildes → may_follow e t ≡ true → ⊥
+abbrev pub NoTagBehind : Options → Edge → Text → Type 0
+NoTagBehind options e left = (slice rest : Text) (t : Tag) (tildes : Tildes)
+    → left ≡ slice ++ rest → IsTag options.sections slice rest t tildes → may_follow e t ≡ true → ⊥
 
 -- At this place, behind texts and tags that nest so far, and one more text, stand braces with which no tag begins that
 -- may stand there.
@@ -151,7 +151,7 @@ pub record IsUnreadable (source : Text) (options : Options) (at : Place) : Type 
   pub whole : source ≡ before ++ (text ++ left)
   pub is_text : IsText (braces_behind edge) left text kept
   pub marks : braces (braces_behind edge) left ≡ true
-  pub none : NoTagBehind edge left
+  pub none : NoTagBehind options edge left
   pub there : at ≡ place (before ++ text)
 
 -- ---- outcomes

@@ -27,7 +27,7 @@ pub record TextAndTag (source : Text) (options : Options) (before : Text) (edge 
   pub rest : Text
   pub whole : source ≡ before ++ (text ++ (slice ++ rest))
   pub is_text : IsText (braces_behind edge) (slice ++ rest) text kept
-  pub is_tag : IsTag slice rest tag tildes
+  pub is_tag : IsTag options.sections slice rest tag tildes
   pub may_follow : may_follow edge tag ≡ true
 
 abbrev pub tag_place : {source : Text} {options : Options} {before : Text} {edge : Edge} → TextAndTag source options before edge → Place

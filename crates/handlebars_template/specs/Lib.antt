@@ -5,6 +5,7 @@ pub mod Nest
 pub mod Machine
 pub mod Cut
 pub mod Compile
+pub mod Stays
 pub mod ParameterParsing
 pub mod TreeView
 pub mod LineBuildingView

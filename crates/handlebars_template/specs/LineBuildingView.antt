@@ -3,7 +3,7 @@ use Rattle.std.specs.Prelude.{◌≡◌, Bool, true, false, ◌||◌, List, [], 
 use Rattle.handlebars_base.specs.Bytes.{Text}
 use Rattle.handlebars_base.specs.Optional.{with_or}
 use Rattle.handlebars_base.specs.Path.{Reference}
-use Rattle.handlebars_lines.specs.Parameter.{path_term, Terms, no_terms, term}
+use Rattle.handlebars_lines.specs.Parameter.{path_term, name_term, Terms, no_terms, term}
 use Rattle.handlebars_lines.specs.Line.{Line}
 use Rattle.handlebars_lines.specs.LineReading.{OpenLine, OpenLines}
 use Rattle.handlebars_lines.specs.LineView.{key_of}
@@ -100,7 +100,9 @@ pub record IsPathAlone (line : Line) (means : Reference) : Type 0 where
   pub name : line.name ≡ path_term means
   pub terms : line.terms ≡ no_terms
 
--- these arguments, and no literal that is refused
+-- a name by its text, these arguments, and no literal that is refused
 pub record HasArguments (line : Line) (xs : Args) : Type 0 where
+  pub name : Text
+  pub is_name : line.name ≡ name_term name
   pub arguments : xs ≡ arguments_in no_arguments line.terms
   pub refused : None ≡ first_refused (literals_in line.terms)

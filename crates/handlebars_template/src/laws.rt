@@ -3,6 +3,7 @@
 ghost use Rattle.handlebars_template.specs.Compile.{OneCompilation};
 ghost use Rattle.handlebars_template.specs.Cut.{CutsJoin, OneCut};
 ghost use Rattle.handlebars_template.specs.ParameterParsing.{OneParsing};
+ghost use Rattle.handlebars_template.specs.Stays.{TreesStay};
 
 /// The slices of a cut join to its source.
 pub fn cuts_join()
@@ -17,6 +18,11 @@ pub fn one_cut()
 /// A source has at most one outcome: a tree or a refusal, and not both.
 pub fn one_compilation()
     ensures { OneCompilation }
+{}
+
+/// A source that compiles to a tree where no path opens a block compiles to the same tree where one may.
+pub fn trees_stay()
+    ensures { TreesStay }
 {}
 
 /// A text is parsed as a parameter, or refused, and not both.

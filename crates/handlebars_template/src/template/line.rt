@@ -2,16 +2,15 @@
 
 ghost use Rattle.std.specs.Prelude.{◌≡◌, None, IfOk, IfSome, option_map, string_bytes};
 ghost use Rattle.handlebars_base.specs.Bytes.{Text};
-ghost use Rattle.handlebars_lines.specs.Line.{identifier_name, in_block, Line, IsLine};
+ghost use Rattle.handlebars_lines.specs.Line.{opening_name, in_block, Line, IsLine};
 ghost use Rattle.handlebars_lines.specs.LineView.{mode_of, enclosure_of};
 ghost use Rattle.handlebars_base.specs.PathView.{reference_of};
 ghost use Rattle.handlebars_tags.specs.TagView.{HasNamed};
 ghost use Rattle.handlebars_template.specs.LineBuildingView.{built_call, IsBuilt, IsCallOf, IsPathAlone, HasArguments};
 ghost use Rattle.handlebars_template.specs.Calls.{add_argument};
-ghost use Rattle.handlebars_template.specs.Tree.{expression, decorator, no_arguments, no_binding, no_body, path as means};
+ghost use Rattle.handlebars_template.specs.Tree.{expression, decorator, no_arguments, no_body, path as means};
 ghost use Rattle.handlebars_template.specs.TreeView.{call_view, decorator_view, param_view, arguments_view, subexpression_view};
-ghost use Rattle.handlebars_template.specs.Nest.{partial_opening};
-ghost use Rattle.handlebars_template.specs.NestView.{opening_view};
+ghost use Rattle.handlebars_template.specs.NestView.{names_view, kind_view, opening_view};
 
 use crate::template::arguments::Arguments;
 use crate::template::build::{first_calls, known_path, path_of};
@@ -99,15 +98,21 @@ impl BuiltLine<'_> {
         }
     }
 
-    /// What the opening tag of an inclusion's block says, which this text closes.
-    pub fn opening(self, closing: String, indent_before_write: bool) -> BlockOpening
+    /// What the opening tag of a block says, which this text closes.
+    pub fn opening(
+        self,
+        kind: BlockKind,
+        closing: String,
+        names: BlockNames,
+        indent_before_write: bool,
+    ) -> BlockOpening
         ensures { opening_view result
             ≡ record {
-              kind = partial_opening;
+              kind = kind_view kind;
               name = param_view self.entry.name;
               closing = string_bytes closing;
               arguments = arguments_view self.entry.arguments;
-              binding = no_binding;
+              binding = names_view names;
               indent = indent_before_write;
             } }
     {
@@ -117,25 +122,13 @@ impl BuiltLine<'_> {
             refused: _,
         } = self;
         BlockOpening {
-            kind: BlockKind::Partial,
+            kind,
             name,
             closing,
             arguments,
-            names: BlockNames::Unbound,
+            names,
             indent_before_write,
         }
-    }
-
-    /// The arguments alone.
-    pub fn into_arguments(self) -> Arguments
-        ensures { arguments_view result ≡ arguments_view self.entry.arguments }
-    {
-        let BuiltLine {
-            name: _,
-            arguments,
-            refused: _,
-        } = self;
-        arguments
     }
 }
 
@@ -158,6 +151,7 @@ pub fn lone_path(
         },
         NameMode::Identifier => Ok(None),
         NameMode::Close => Ok(None),
+        NameMode::Opening => Ok(None),
     }
 }
 
@@ -166,7 +160,7 @@ pub fn lone_path(
 pub fn named_arguments(alloc: Global, path: Option<&str>) -> Result<Option<Arguments>, AllocError>
     ensures { IfOk result (λ read. IfSome read (λ arguments. (text : Text) (line : Line) (left : Text)
         → IfSome path.entry (λ raw. HasNamed text raw.now)
-        → IsLine identifier_name in_block text line left → HasArguments line (arguments_view arguments))) }
+        → IsLine opening_name in_block text line left → HasArguments line (arguments_view arguments))) }
 {
     match path {
         Some(raw) => match path_of(alloc, raw)? {

@@ -198,7 +198,7 @@ struct BuiltOpening<'a> {
     refused: Option<&'a str>,
 }
 
-// With no arguments yet.
+// With a name by its text, and no arguments yet.
 fn bare_opening(
     alloc: Global,
     block: BlockSlice<'_>,
@@ -249,7 +249,7 @@ fn opening<'a>(
     }))
 }
 
-// What opens a block, built term by term, for a line of any parameters.
+// What opens a block, built term by term, for a line of any parameters, and for one that opens a section.
 #[inline(never)]
 fn opening_by_terms<'a>(
     alloc: Global,
@@ -260,12 +260,13 @@ fn opening_by_terms<'a>(
     ensures { IfOk result (λ built. (line : BlockLine) (rest : Text) → IsBlockSlice block.entry line rest
         → IsOpening (kind_view kind) (edge_view edge.entry) line built) }
 {
-    let Some(line) = build_terms(alloc, NameMode::Identifier, Enclosure::Block, block.line)? else {
+    let Some(line) = build_terms(alloc, NameMode::Opening, Enclosure::Block, block.line)? else {
         return Ok(None);
     };
-    let mut opening = bare_opening(alloc, block, kind, edge)?;
     let refused = line.refused;
-    opening.arguments = line.into_arguments();
+    let closing = String::from_str(alloc, block.name)?;
+    let names = block_names(alloc, block.binding)?;
+    let opening = line.opening(kind, closing, names, is_indented(edge));
     Ok(Some(BuiltOpening { opening, refused }))
 }
 
@@ -453,7 +454,8 @@ fn begin_partial(
     };
     let refused = line.refused;
     let closing = closing_name(alloc, &line.name)?;
-    let opening = line.opening(closing, is_indented(edge));
+    let names = BlockNames::Unbound;
+    let opening = line.opening(BlockKind::Partial, closing, names, is_indented(edge));
     nesting.begin(alloc, at, opening, refused)
 }
 

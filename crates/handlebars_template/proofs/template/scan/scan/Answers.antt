@@ -1,4 +1,4 @@
-use Rattle.std.proofs.Common.{◌≡◌, None, ◌≤◌, arith, rules, sym, ap, ◌∙◌, length, string_bytes}
+use Rattle.std.proofs.Common.{◌≡◌, true, None, ◌≤◌, arith, rules, sym, ap, ◌∙◌, length, string_bytes}
 use Rattle.std.specs.List.{fold}
 use Rattle.std.specs.Str.{IsUtf8}
 use Rattle.handlebars_base.proofs.OptionBinds.{empty, nonempty}
@@ -38,14 +38,14 @@ advance-at-requires-clause-column c = omega (arith, Scans-fits c.tags.invariant.
 pub returns-in_default : goal.returns-in_default
 returns-in_default c =
     let left = c.tags.front.rest.now in
-    Compiles-unreadable c.tags.invariant.scans (nonempty left c.tags-test.ensures) (NoTagBehind-none (edge_view c.tags.edge) left (rw c.in_default.is at c.in_ok-tag.ensures.reads)) (place_of c.advance-at.result) c.advance-at.ensures
+    Compiles-unreadable c.tags.invariant.scans (nonempty left c.tags-test.ensures) (NoTagBehind-none (options_view c.args.options.now) (edge_view c.tags.edge) left (rw c.in_default.is at c.in_ok-tag.ensures.reads)) (place_of c.advance-at.result) c.advance-at.ensures
 
 pub returns-then-not-may_follow : goal.returns-then-not-may_follow
 returns-then-not-may_follow c =
     let left = c.tags.front.rest.now in
     let f = rw c.in-Some.is at c.in_ok-tag.ensures.reads in
     let other = sym (c.may_follow.ensures f.tag f.holds) ∙ c.if-not-may_follow.true in
-    Compiles-unreadable c.tags.invariant.scans (nonempty left c.tags-test.ensures) (NoTagBehind-other one_tag (edge_view c.tags.edge) left f.slice c.in-Some.tag.rest.now f.tag _ f.whole f.is_tag other) (place_of c.advance-at.result) c.advance-at.ensures
+    Compiles-unreadable c.tags.invariant.scans (nonempty left c.tags-test.ensures) (NoTagBehind-other one_tag (options_view c.args.options.now) (edge_view c.tags.edge) left f.slice c.in-Some.tag.rest.now f.tag _ f.whole f.is_tag other) (place_of c.advance-at.result) c.advance-at.ensures
 
 pub split_at-requires : goal.split_at-requires
 split_at-requires c =
@@ -90,7 +90,7 @@ pub tags-smaller : goal.tags-smaller
 tags-smaller c =
     let f = rw c.in-Some.is at c.in_ok-tag.ensures.reads in
     let front = c.in_ok-front-2.front in
-    length-rest c.tags.front.rest.now f.slice c.in-Some.tag.rest.now front.slice.now front.rest.now f.tag _ f.whole f.is_tag c.in_ok-front-2.ensures.whole
+    length-rest true c.tags.front.rest.now f.slice c.in-Some.tag.rest.now front.slice.now front.rest.now f.tag _ f.whole f.is_tag c.in_ok-front-2.ensures.whole
 
 pub tags-preserved : goal.tags-preserved
 tags-preserved c =
