@@ -45,7 +45,7 @@ module _ {E : Type 0} (registered : E → Registrations) (own : E → OwnAnswers
       ∙ ap (λ (f : Text → Option Tree). setting_from plain.entries (modes_of plain) f) trees-same
 
   options-same : options_of dev ≡ options_of plain
-  options-same = ap (λ (m : Modes). record { name = None; prevent_indent = m.prevent_indent }) (sym holds.modes)
+  options-same = ap (λ (m : Modes). record { name = None; prevent_indent = m.prevent_indent; sections = true }) (sym holds.modes)
 
   abbrev AnswersAlike : (Beginning → Type 0) → (Beginning → Type 0) → Type 0
   AnswersAlike begins starts = SameAnswers (setting_under registered own read dev d) begins (setting_over registered own plain d) starts

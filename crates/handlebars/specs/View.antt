@@ -22,7 +22,7 @@ pub record Modes : Type 0 where
 
 -- how sources of this name are compiled
 abbrev pub named_options : Bool → Text → Options
-named_options prevent_indent name = record { name = Some name; prevent_indent = prevent_indent }
+named_options prevent_indent name = record { name = Some name; prevent_indent = prevent_indent; sections = true }
 
 module _ {E : Type 0} where
   abbrev pub modes_of : RegistryOf E → Modes
@@ -39,7 +39,7 @@ module _ {E : Type 0} where
 
   -- how a registry compiles sources that have no name
   abbrev pub options_of : RegistryOf E → Options
-  options_of r = record { name = None; prevent_indent = r.prevent_indent }
+  options_of r = record { name = None; prevent_indent = r.prevent_indent; sections = true }
 
   -- What a run reads, by what stands under the names of a registry's entries and what those of one's own answer.
   module _ (registered : E → Registrations) (own : E → OwnAnswers) where

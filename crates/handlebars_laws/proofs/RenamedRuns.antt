@@ -190,10 +190,10 @@ module _ (p : Setting) (n : Text) where
 
 module _ (source name : Text) (prevent_indent : Bool) where
   abbrev under_name : Options
-  under_name = record { name = Some name; prevent_indent = prevent_indent }
+  under_name = record { name = Some name; prevent_indent = prevent_indent; sections = true }
 
   abbrev without_name : Options
-  without_name = record { name = None; prevent_indent = prevent_indent }
+  without_name = record { name = None; prevent_indent = prevent_indent; sections = true }
 
   Reads-unnamed : {before : Text} {edge : Edge} {ps : List Slice} → Reads source under_name before edge ps
       → Reads source without_name before edge ps
@@ -265,10 +265,10 @@ Some-injective a b = cc
 module _ (p : Setting) (name : Text) where
   -- a run of what stands under the name, as one of the tree that the source compiles to
   tree-alike : (source : Text) (prevent_indent : Bool) (t : Tree)
-      → Compiles source (record { name = Some name; prevent_indent = prevent_indent }) (compiled t)
+      → Compiles source (record { name = Some name; prevent_indent = prevent_indent; sections = true }) (compiled t)
       → (ps : List Piece) (o : Outcome) (r : Means p t (first_state p.parts.recursive) ps o)
       → AllByRecursion (λ m. m ≢ name) (included_names r)
-      → HasAgreeingAnswer p (FromSource (record { name = None; prevent_indent = prevent_indent }) source) ps o
+      → HasAgreeingAnswer p (FromSource (record { name = None; prevent_indent = prevent_indent; sections = true }) source) ps o
   tree-alike source prevent_indent t (whole {ps = slices} {es = es} c nests) ps o r names =
       let other = Means-unnamed p name _ _ (first_state p.parts.recursive) ps o r names in record {
         outcome = other.outcome;
@@ -280,5 +280,5 @@ module _ (p : Setting) (name : Text) where
   named_answer_as_source source prevent_indent t is c ps o (not_begun (is_not none)) names = absurd (Some≢None is none)
   named_answer_as_source source prevent_indent t is c ps o (rendered {t = x} (is_stored stands) r) names =
       tree-alike source prevent_indent x
-      (subst (λ (z : Tree). Compiles source (record { name = Some name; prevent_indent = prevent_indent }) (compiled z))
+      (subst (λ (z : Tree). Compiles source (record { name = Some name; prevent_indent = prevent_indent; sections = true }) (compiled z))
       (Some-injective is stands) c) ps o r names
