@@ -1,10 +1,10 @@
 -- What is left of a program once names and values are known.
-use Rattle.std.proofs.Common.{◌≡◌, ◌≢◌, Bool, true, false, [], Option, None, Some, Result, Ok, Err, sym, ap, ◌∙◌, subst}
+use Rattle.std.proofs.Common.{◌≡◌, ◌≢◌, Bool, true, false, [], Option, None, Some, Result, Ok, Err, refl, sym, ap, ◌∙◌, subst}
 use Rattle.std.specs.Prelude.{IsErrAnd, if◌then◌else◌}
 use Rattle.std.specs.declared.io.Error.{Error}
 use Rattle.handlebars_base.specs.Answers.{Answer, IsRefusal, gives, refuses, refuses_for}
 use Rattle.handlebars_base.specs.Bytes.{Text}
-use Rattle.handlebars_base.specs.Reasons.{Refusal, helper_not_found, missing_variable, out_of_memory}
+use Rattle.handlebars_base.specs.Reasons.{Refusal, missing_variable, out_of_memory}
 use Rattle.handlebars_base.specs.RenderRefusals.{plain_refusal, reason_in, refusal_of}
 use Rattle.handlebars_base.specs.Scoped.{missing}
 use Rattle.handlebars_base.specs.declared.error.render_error.RenderError.{RenderError}
@@ -18,7 +18,7 @@ use Rattle.handlebars_helpers.specs.Choice.{Choice}
 use Rattle.handlebars_meaning.specs.Asks.{Asks, is_refused}
 use Rattle.handlebars_meaning.specs.CarryOut.{view_with_bodies}
 use Rattle.handlebars_meaning.specs.Means.{line_in, render_chosen, render_helped, render_call, render_hook, render_found, render_lone_as, render_lone, render_expression}
-use Rattle.handlebars_meaning.specs.Questions.{HasChoice, value_of, view_of, helper_of, called_as, hook_for, helper_or_refusal}
+use Rattle.handlebars_meaning.specs.Questions.{HasCalled, HasChoice, IsAnswered, value_of, view_of, helper_of, called_as, hook_for}
 use Rattle.handlebars_meaning.specs.Runs.{Runs, Refused, asked, got, refused, set}
 use Rattle.handlebars_meaning.specs.Sites.{Site}
 use Rattle.handlebars_meaning.specs.State.{Setting, State, hook, helper_for, helper_named, registered_target}
@@ -69,36 +69,37 @@ module _ (p : Setting) where
   module _ (site : Site) (block : Bool) (c : Call) where
     -- the view of a call is made
     leaves-viewed : (v : CallView) {s : State} → HasView p s (call_name c) (call_args c) (gives v)
-        → Leaves p (render_call site block c) s (ask (called_as block v.name) >>= (λ k. render_helped site block c k v))
+        → Leaves p (render_call site block c) s (ask (called_as block c v) >>= (λ x. render_helped site block c x.0 x.1))
     leaves-viewed v g = leaves-value_of (ask (view_of (call_name c) (call_args c)))
-        (λ v. ask (called_as block v.name) >>= (λ k. render_helped site block c k v)) v
+        (λ v. ask (called_as block c v) >>= (λ x. render_helped site block c x.0 x.1)) v
         (gives-ask p (view_of (call_name c) (call_args c)) v g)
 
-    -- and its helper looked up
+    -- and it is known what is called
+    pub leaves-called_as : (v : CallView) (x : Target × CallView) {s : State} → HasView p s (call_name c) (call_args c) (gives v)
+        → IsAnswered p s (called_as block c v) (gives x) → Leaves p (render_call site block c) s (render_helped site block c x.0 x.1)
+    leaves-called_as v x {s = s} g is =
+        leaves-trans (render_call site block c) (ask (called_as block c v) >>= (λ x. render_helped site block c x.0 x.1))
+        (render_helped site block c x.0 x.1) (leaves-viewed v g)
+        (leaves-value_of (ask (called_as block c v)) (λ x. render_helped site block c x.0 x.1) x
+        (gives-ask p (called_as block c v) x is))
+
+    -- a helper of the name, or the hook
     pub leaves-called : (v : CallView) (k : Target) {s : State} → HasView p s (call_name c) (call_args c) (gives v)
         → Some k ≡ helper_for p.parts s block v.name
         → Leaves p (render_call site block c) s (render_helped site block c k v)
-    leaves-called v k {s = s} g is =
-        leaves-trans (render_call site block c) (ask (called_as block v.name) >>= (λ k. render_helped site block c k v))
-        (render_helped site block c k v) (leaves-viewed v g)
-        (leaves-value_of (ask (called_as block v.name)) (λ k. render_helped site block c k v) k
-        (gives-ask p (called_as block v.name) k (ap (helper_or_refusal v.name) is)))
+    leaves-called v k {s = s} g is = leaves-called_as v (k, v) g
+        (subst (λ (z : Option Target). HasCalled p s block c v z (gives (k, v))) is refl)
+
+    pub refuses-called : (v : CallView) {s : State} {r : Refusal} → HasView p s (call_name c) (call_args c) (gives v)
+        → IsAnswered p s (called_as block c v) (refuses r) → RefusesValue p (render_call site block c) s r
+    refuses-called v g is =
+        refuses-leaves (render_call site block c) (ask (called_as block c v) >>= (λ x. render_helped site block c x.0 x.1))
+        (leaves-viewed v g) (refuses-bind p (ask (called_as block c v)) _ (refuses-ask p (called_as block c v) is))
 
     pub refuses-view : {s : State} {r : Refusal} → HasView p s (call_name c) (call_args c) (refuses r)
         → RefusesValue p (render_call site block c) s r
     refuses-view is = refuses-bind p (ask (view_of (call_name c) (call_args c))) _
         (refuses-ask p (view_of (call_name c) (call_args c)) is)
-
-    -- no helper has the name, and there is no hook
-    pub refuses-unknown : (v : CallView) {s : State} (e : RenderError)
-        → HasView p s (call_name c) (call_args c) (gives v) → None ≡ helper_for p.parts s block v.name
-        → IsRefusal (plain_refusal (helper_not_found v.name)) e → reason_in e ≢ out_of_memory
-        → RefusesValue p (render_call site block c) s (refusal_of e)
-    refuses-unknown v e g is why other =
-        refuses-leaves (render_call site block c) (ask (called_as block v.name) >>= (λ k. render_helped site block c k v))
-        (leaves-viewed v g)
-        (refuses-bind p (ask (called_as block v.name)) _ (refuses-ask p (called_as block v.name)
-        (ap (λ (z : Refusal). refuses z) (why other) ∙ ap (helper_or_refusal v.name) is)))
 
   -- an expression that isn't lone, and one that is
   pub leaves-expression : (site : Site) (c : Call) {s : State} → false ≡ is_value c

@@ -3,6 +3,7 @@ pub mod Puts
 mod Asked
 mod Branches
 mod Places
+mod Sections
 mod Elements
 mod Calls
 mod Leaves

@@ -10,6 +10,7 @@ pub mod OwnChoice
 pub mod Lending
 pub mod Places
 pub mod Next
+pub mod Sections
 pub mod Silent
 pub mod Inclusions
 pub mod Nodes

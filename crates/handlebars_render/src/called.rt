@@ -1,6 +1,6 @@
 //! What a call or another tag shows of itself, and what a call in parentheses comes to.
 
-ghost use Rattle.std.specs.Prelude.{◌≡◌, ◌++◌, [], IfErr, IfOk, Some, false, map, option_map, string_bytes};
+ghost use Rattle.std.specs.Prelude.{◌≡◌, ◌++◌, ◌∷◌, [], IfErr, IfOk, Some, false, map, option_map, string_bytes};
 ghost use Rattle.std.specs.Cow.{cow_str_bytes};
 ghost use Rattle.serde_json.specs.Data.{string};
 ghost use Rattle.handlebars_base.specs.Answers.{IsRefusal};
@@ -131,6 +131,21 @@ impl<'a> Called<'a> {
     {
         let Called { name, params, hash } = self;
         Decorator::new(name, params, hash, tag.template.as_ref(), indent)
+    }
+
+    /// The call with this value as its one parameter.
+    pub fn over(self, alloc: Global, value: PathAndJson<'a>) -> Result<Called<'a>, AllocError>
+        ensures { IfOk result (λ call. called_view call
+            ≡ record (called_view self.entry) { params = path_and_data value.entry ∷ [] }) }
+    {
+        let Called {
+            name,
+            params: _,
+            hash,
+        } = self;
+        let mut params = Vec::new(alloc);
+        params.push(value)?;
+        Ok(Called { name, params, hash })
     }
 
     /// The call with these values before its parameters.

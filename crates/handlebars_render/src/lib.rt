@@ -24,6 +24,7 @@ mod own;
 mod partial;
 mod place;
 pub mod registered;
+mod section;
 pub mod sink;
 mod steps;
 pub mod tree;

@@ -20,12 +20,13 @@ ghost use Rattle.handlebars_render.specs.View.{setting_in, called_view, state_of
 use crate::bound::{BoundCall, bind_boxed};
 use crate::boxed::BoxedError;
 use crate::branch::{branching, condition};
-use crate::called::{Called, helper_not_found};
+use crate::called::Called;
 use crate::context::RenderContext;
 use crate::environment::Environment;
 use crate::lone::settle_lone;
 use crate::place::settle_placed;
 use crate::registered::{Registered, Target, helper_for};
+use crate::section::settle_section;
 use crate::sink::Sink;
 use crate::value::{expand_as_name, pairs_values, params_values};
 use handlebars_base::output::Output;
@@ -196,7 +197,7 @@ fn settle_viewed<'a, P: Registered>(
     let call = Called { name, params, hash };
     match target {
         Some(target) => to_call(environment, rc, target, block, call),
-        None => Err(helper_not_found(environment.alloc, call.name.as_str())),
+        None => settle_section(helper, environment, block, call, rc),
     }
 }
 

@@ -90,6 +90,10 @@ pub trait Registered {
     fn strict(&self) -> bool
         ensures { result ≡ (parts self.now).strict };
 
+    /// Whether blocks that call nothing act on the value of their name.
+    fn sections(&self) -> bool
+        ensures { result ≡ (parts self.now).sections };
+
     /// Gives a line to the logger.
     fn log(&self, level: Level, text: &str);
 

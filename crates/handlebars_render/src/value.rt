@@ -6,10 +6,12 @@ ghost use Rattle.std.specs.Cmp.Lexicographic.{slice_cmp};
 ghost use Rattle.std.specs.Cow.{cow_str_bytes};
 ghost use Rattle.std.specs.Ordering.{nat_cmp};
 ghost use Rattle.handlebars_base.specs.PathAndData.{path_and_data};
+ghost use Rattle.handlebars_base.specs.PathView.{reference_of};
 ghost use Rattle.handlebars_base.specs.Scoped.{found_of, is_constant};
 ghost use Rattle.handlebars_template.specs.Tree.{as_name, call_args, call_name, expression};
 ghost use Rattle.handlebars_template.specs.TreeView.{call_view, param_view, params_view, pairs_view, subexpression_view};
-ghost use Rattle.handlebars_meaning.specs.Values.{HasValue, HasWrittenValue, HasName, HasInnerValue, HaveValues, PairsHaveValues, HasView, is_literal};
+ghost use Rattle.handlebars_meaning.specs.Asks.{only};
+ghost use Rattle.handlebars_meaning.specs.Values.{HasValue, HasWrittenValue, HasName, HasInnerValue, HaveValues, PairsHaveValues, HasView, is_literal, path_value};
 ghost use Rattle.handlebars_render.specs.Boxed.{answer_of};
 ghost use Rattle.handlebars_render.specs.Judgement.{InState};
 ghost use Rattle.handlebars_render.specs.View.{called_view, pairs_seen, Yields, HasNodes};
@@ -19,6 +21,7 @@ use crate::called::{Called, helped_value};
 use crate::context::RenderContext;
 use crate::environment::Environment;
 use crate::registered::Registered;
+use handlebars_base::json::path::Path;
 use handlebars_base::json::value::{JsonRender, PathAndJson, ScopedJson};
 use handlebars_template::template::{HelperTemplate, Parameter, Subexpression, TemplateElement};
 use std::alloc::{AllocError, Global};
@@ -39,14 +42,27 @@ pub fn expands<'a, P: Registered>(
 {
     match parameter {
         Parameter::Name(_) => Ok(ScopedJson::Missing),
-        Parameter::Path(path) => {
-            match rc.find(environment.given.data(), path, environment.bases) {
-                Ok(value) => Ok(value),
-                Err(e) => Err(BoxedError::new(environment.alloc, e)),
-            }
-        }
+        Parameter::Path(path) => find(environment, rc, path),
         Parameter::Literal(value) => Ok(ScopedJson::Constant(value)),
         Parameter::Subexpression(inner) => inner_value(environment, rc, inner),
+    }
+}
+
+/// What a path leads to.
+#[inline(always)]
+pub fn find<'a, P: Registered>(
+    environment: &Environment<'_, 'a, P>,
+    rc: &RenderContext,
+    path: &Path,
+) -> Result<ScopedJson<'a>, BoxedError>
+    requires nodes { HasNodes environment.now rc.now }
+    ensures value { InState P.parts environment.now rc.now (λ p s. Yields
+        (only (path_value p s (reference_of path.now))) found_of (answer_of result)) }
+    ensures plain { IfOk result (λ found. is_constant found ≡ false) }
+{
+    match rc.find(environment.given.data(), path, environment.bases) {
+        Ok(value) => Ok(value),
+        Err(e) => Err(BoxedError::new(environment.alloc, e)),
     }
 }
 

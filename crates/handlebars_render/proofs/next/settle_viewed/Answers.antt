@@ -3,11 +3,12 @@ use Rattle.std.specs.Cow.{cow_str_bytes}
 use Rattle.handlebars_template.specs.TreeView.{call_view}
 use Rattle.handlebars_template.proofs.Levels.{call_params-view, call_pairs-view}
 use Rattle.handlebars_meaning.specs.Asks.{goes_on, is_refused}
-use Rattle.handlebars_render.specs.Boxed.{answer_of, error_of}
+use Rattle.handlebars_render.specs.Boxed.{answer_of}
 use Rattle.handlebars_base.specs.PathAndData.{path_and_data}
 use Rattle.handlebars_render.specs.Targets.{target_in}
 use Rattle.handlebars_render.specs.View.{pairs_seen}
-use Rattle.handlebars_render.proofs.Leaves.{leaves-called, refuses-view, refuses-unknown, settles-call, settles-handed}
+use Rattle.handlebars_render.proofs.Leaves.{leaves-called, refuses-view, settles-call, settles-handed}
+use Rattle.handlebars_render.proofs.Sections.{settles-unhelped}
 use Rattle.handlebars_render.proofs.next.settle_viewed.Goals as goal
 
 pub returns-in_err-params : goal.returns-in_err-params
@@ -33,12 +34,12 @@ returns-in-Some g c = λ site kept named is.
     (goes_on named (goes_on (c.in_ok-params.ensures kept) (goes_on (c.in_ok-hash.ensures kept) refl))))
     (sym (ap (option_map (target_in c.args.block (cow_str_bytes c.args.name))) c.in-Some.is) ∙ is))
 
-pub returns : goal.returns
-returns g c = λ site kept named is.
-    refuses-unknown _ site c.args.block (call_view c.args.helper.now)
+pub returns-in-None : goal.returns-in-None
+returns-in-None g c = λ site kept named is.
+    settles-unhelped _ _ (call_view c.args.helper.now)
     (record { name = cow_str_bytes c.args.name; params = map path_and_data c.in_ok-params.params.items; pairs = pairs_seen c.in_ok-hash.hash.entries })
-    (error_of c.helper_not_found.result)
+    c.args.block (answer_of c.settle_section.result)
     (rw (call_params-view c.args.helper.now, call_pairs-view c.args.helper.now)
     (goes_on named (goes_on (c.in_ok-params.ensures kept) (goes_on (c.in_ok-hash.ensures kept) refl))))
     (sym (ap (option_map (target_in c.args.block (cow_str_bytes c.args.name))) c.in-None.is) ∙ is)
-    (rw c.as_str.ensures.value at c.helper_not_found.ensures)
+    (c.settle_section.ensures kept) site

@@ -1,21 +1,14 @@
-use Rattle.std.proofs.Common.{Ok, Err, refl, sym, ap, ◌∙◌, subst}
-use Rattle.handlebars_base.specs.Answers.{Answers, gives}
+use Rattle.std.proofs.Common.{refl, sym, ap, ◌∙◌}
+use Rattle.handlebars_base.specs.Answers.{gives}
 use Rattle.handlebars_base.specs.Bytes.{Text}
 use Rattle.handlebars_base.specs.PathAndData.{PathAndData, path_and_data}
-use Rattle.handlebars_base.specs.PathView.{reference_of}
 use Rattle.handlebars_base.specs.Scoped.{found_of}
-use Rattle.handlebars_scope.specs.Contexts.{data_of}
 use Rattle.handlebars_template.specs.TreeView.{call_view, pairs_view}
 use Rattle.handlebars_template.proofs.Levels.{call_name-view, call_params-view, call_pairs-view, element_view-Expression, param_view-Path, param_view-Subexpression}
 use Rattle.handlebars_meaning.specs.Asks.{goes_on, is_refused}
-use Rattle.handlebars_template.specs.Tree.{path}
-use Rattle.handlebars_meaning.specs.Values.{HasValue}
-use Rattle.handlebars_render.specs.Boxed.{answer_of, error_of}
-use Rattle.handlebars_render.specs.View.{setting_in, state_of, state_with}
-use Rattle.handlebars_render.proofs.Carry.{yields-handed}
-use Rattle.handlebars_render.proofs.Lent.{read-lent}
+use Rattle.handlebars_render.specs.Boxed.{answer_of}
 use Rattle.handlebars_render.proofs.Ordered.{follows-next, inserted-last, map-push, pairs_seen-push}
-use Rattle.handlebars_render.proofs.Values.{pairs-end, pairs-go, pairs-over, params-end, params-go, params-here, params-over, params-past, subexpression_view-out, inner_value-parts, yields-answer, handed_on, yields-inner_value, yields-then, written-as}
+use Rattle.handlebars_render.proofs.Values.{pairs-end, pairs-go, pairs-over, params-end, params-go, params-here, params-over, params-past, subexpression_view-out, inner_value-parts, handed_on, yields-inner_value, yields-then, written-as}
 use Rattle.handlebars_render.proofs.value.+value.Goals as goal
 
 pub called-returns-in_err-name : goal.called-returns-in_err-name
@@ -56,19 +49,8 @@ pub expand_as_name-returns-in-Err : goal.expand_as_name-returns-in-Err
 expand_as_name-returns-in-Err g t c = λ kept other. rw (c.in-Subexpression.is, param_view-Subexpression)
     (is_refused (c.in-Err.ensures.value kept other))
 
-pub expands-returns-in-Ok-clause-value : goal.expands-returns-in-Ok-clause-value
-expands-returns-in-Ok-clause-value g t c = λ kept. rw (c.in-Path.is, param_view-Path)
-    (yields-answer found_of _ (Ok c.in-Ok.value) (subst (λ a. Answers found_of (Ok c.in-Ok.value) a)
-    (read-lent kept (state_of c.args.rc.now) (data_of c.args.environment.now.given.now) (reference_of c.in-Path.path))
-    (rw c.data.ensures.value at c.in-Ok.ensures.found)))
-
-pub expands-returns-in-Err-clause-value : goal.expands-returns-in-Err-clause-value
-expands-returns-in-Err-clause-value g t c = λ kept. rw (c.in-Path.is, param_view-Path)
-    (yields-handed (HasValue (setting_in g.P.Registered.parts c.args.environment.now) (state_with kept c.args.rc.now) (path (reference_of c.in-Path.path)))
-    c.in-Err.e (error_of c.new.result) c.new.ensures
-    (yields-answer found_of _ (Err c.in-Err.e) (subst (λ a. Answers found_of (Err c.in-Err.e) a)
-    (read-lent kept (state_of c.args.rc.now) (data_of c.args.environment.now.given.now) (reference_of c.in-Path.path))
-    (rw c.data.ensures.value at c.in-Err.ensures.found))))
+pub expands-returns-in-Path-clause-value : goal.expands-returns-in-Path-clause-value
+expands-returns-in-Path-clause-value g t c = λ kept. rw (c.in-Path.is, param_view-Path) (c.find.ensures.value kept)
 
 pub expands-returns-in-Subexpression-clause-value : goal.expands-returns-in-Subexpression-clause-value
 expands-returns-in-Subexpression-clause-value g t c = λ kept. rw (c.in-Subexpression.is, param_view-Subexpression)

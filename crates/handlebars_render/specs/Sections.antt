@@ -1,0 +1,27 @@
+-- What blocks come to that act on the value of their name.
+use Rattle.std.specs.Prelude.{Bool, Result}
+use Rattle.handlebars_base.specs.Answers.{Answer, gives}
+use Rattle.handlebars_base.specs.Path.{Reference}
+use Rattle.handlebars_base.specs.declared.error.render_error.RenderError.{RenderError}
+use Rattle.handlebars_template.specs.Tree.{Call, Param, call_args, call_name}
+use Rattle.handlebars_helpers.specs.CallView.{CallView}
+use Rattle.handlebars_helpers.specs.Callee.{Target}
+use Rattle.handlebars_meaning.specs.Asks.{Asks, only, ◌>>=◌}
+use Rattle.handlebars_meaning.specs.Means.{render_call}
+use Rattle.handlebars_meaning.specs.Questions.{IsAnswered, called_as}
+use Rattle.handlebars_meaning.specs.Sections.{section_call}
+use Rattle.handlebars_meaning.specs.Sites.{Site}
+use Rattle.handlebars_meaning.specs.State.{Setting, State}
+use Rattle.handlebars_meaning.specs.Values.{HasView, path_value}
+use Rattle.handlebars_render.specs.Next.{Settles}
+use Rattle.handlebars_render.specs.declared.next.Next.{Next}
+
+-- Where a call has this view, and is answered this when it is asked what it calls, it settles so.
+abbrev pub SettlesAs : Setting → State → Bool → Call → CallView → Asks (Target × CallView) → Result Next RenderError → Type 0
+SettlesAs p s block c v called r = HasView p s (call_name c) (call_args c) (gives v)
+    → ((a : Answer (Target × CallView)) → called a → IsAnswered p s (called_as block c v) a)
+    → (site : Site) → Settles p site block c (render_call site block c) s r
+
+-- what a section by this path calls
+abbrev pub HasSectionAt : Setting → State → Param → CallView → Reference → Asks (Target × CallView)
+HasSectionAt p s q v r = only (path_value p s r) >>= (λ found. only (gives (section_call q v found)))

@@ -1,0 +1,157 @@
+//! Sections: blocks whose name has no helper, which act on the value of that name.
+
+ghost use Rattle.std.specs.Prelude.{◌≡◌, ◌&&◌, None, false, true};
+ghost use Rattle.serde_json.specs.View.{view};
+ghost use Rattle.handlebars_base.specs.Answers.{gives};
+ghost use Rattle.handlebars_base.specs.PathView.{reference_of};
+ghost use Rattle.handlebars_base.specs.Scoped.{data_in, found_of, is_constant};
+ghost use Rattle.handlebars_template.specs.Tree.{call_name, is_value, name};
+ghost use Rattle.handlebars_template.specs.TreeView.{call_view};
+ghost use Rattle.handlebars_helpers.specs.View.{kind_of};
+ghost use Rattle.handlebars_meaning.specs.Asks.{only};
+ghost use Rattle.handlebars_meaning.specs.Questions.{HasCalled};
+ghost use Rattle.handlebars_meaning.specs.Sections.{HasSection, section_call, section_kind};
+ghost use Rattle.handlebars_meaning.specs.Values.{is_literal};
+ghost use Rattle.handlebars_render.specs.Boxed.{answer_of};
+ghost use Rattle.handlebars_render.specs.Judgement.{InState};
+ghost use Rattle.handlebars_render.specs.Sections.{HasSectionAt, SettlesAs};
+ghost use Rattle.handlebars_render.specs.View.{HasNodes, called_view};
+
+use crate::boxed::BoxedError;
+use crate::called::{Called, helper_not_found};
+use crate::context::RenderContext;
+use crate::environment::Environment;
+use crate::next::{Next, to_call};
+use crate::registered::{Registered, Target};
+use crate::value::{find, written};
+use handlebars_base::json::path::{Path, read_path};
+use handlebars_base::json::value::{Json, PathAndJson, ScopedJson};
+use handlebars_helpers::built_in::BuiltIn;
+use handlebars_template::template::{HelperTemplate, Parameter};
+
+/// What a call comes to whose name has no helper and no hook: a block may be a section. Most calls have a helper, so this
+/// stays apart.
+#[inline(never)]
+pub fn settle_section<'a, P: Registered>(
+    helper: &'a HelperTemplate,
+    environment: &Environment<'_, 'a, P>,
+    block: bool,
+    call: Called<'a>,
+    rc: &RenderContext,
+) -> Result<Next<'a>, BoxedError>
+    requires nodes { HasNodes environment.now rc.now }
+    ensures { InState P.parts environment.now rc.now (λ p s. SettlesAs p s block (call_view helper.now) (called_view call.entry)
+        (HasCalled p s block (call_view helper.now) (called_view call.entry) None) (answer_of result)) }
+{
+    if may_be_section(helper, environment.parts, block) {
+        section(helper, environment, call, rc)
+    } else {
+        Err(helper_not_found(environment.alloc, call.name.as_str()))
+    }
+}
+
+// Whether a call without a helper may be a section: it is one of a block without parameters and pairs.
+fn may_be_section<P: Registered>(helper: &HelperTemplate, parts: &P, block: bool) -> bool
+    ensures { result ≡ ((P.parts parts.now).sections && (block && is_value (call_view helper.now))) }
+{
+    parts.sections() && block && helper.is_value()
+}
+
+// A section is by a path, or by a name that reads as one.
+fn section<'a, P: Registered>(
+    helper: &'a HelperTemplate,
+    environment: &Environment<'_, 'a, P>,
+    call: Called<'a>,
+    rc: &RenderContext,
+) -> Result<Next<'a>, BoxedError>
+    requires nodes { HasNodes environment.now rc.now }
+    ensures { InState P.parts environment.now rc.now (λ p s. SettlesAs p s true (call_view helper.now) (called_view call.entry)
+        (HasSection p s (call_name (call_view helper.now)) (called_view call.entry)) (answer_of result)) }
+{
+    match &helper.name {
+        Parameter::Path(path) => section_at(helper, environment, path, call, rc),
+        Parameter::Name(text) => section_named(helper, environment, text.as_str(), call, rc),
+        Parameter::Literal(_) => Err(helper_not_found(environment.alloc, call.name.as_str())),
+        Parameter::Subexpression(_) => Err(helper_not_found(environment.alloc, call.name.as_str())),
+    }
+}
+
+// A section by a name, which is read as a path once, however many turns follow.
+fn section_named<'a, P: Registered>(
+    helper: &'a HelperTemplate,
+    environment: &Environment<'_, 'a, P>,
+    text: &str,
+    call: Called<'a>,
+    rc: &RenderContext,
+) -> Result<Next<'a>, BoxedError>
+    requires nodes { HasNodes environment.now rc.now }
+    ensures { call_name (call_view helper.now) ≡ name text.now → InState P.parts environment.now rc.now
+        (λ p s. SettlesAs p s true (call_view helper.now) (called_view call.entry)
+        (HasSection p s (call_name (call_view helper.now)) (called_view call.entry)) (answer_of result)) }
+{
+    match read_path(environment.alloc, text)? {
+        Some(path) => section_at(helper, environment, &path, call, rc),
+        None => Err(helper_not_found(environment.alloc, call.name.as_str())),
+    }
+}
+
+// A section acts on what its path leads to.
+fn section_at<'a, P: Registered>(
+    helper: &'a HelperTemplate,
+    environment: &Environment<'_, 'a, P>,
+    path: &Path,
+    call: Called<'a>,
+    rc: &RenderContext,
+) -> Result<Next<'a>, BoxedError>
+    requires nodes { HasNodes environment.now rc.now }
+    ensures { is_literal (call_name (call_view helper.now)) ≡ false → InState P.parts environment.now rc.now
+        (λ p s. SettlesAs p s true (call_view helper.now) (called_view call.entry)
+        (HasSectionAt p s (call_name (call_view helper.now)) (called_view call.entry) (reference_of path.now)) (answer_of result)) }
+{
+    match find(environment, rc, path) {
+        Ok(value) => section_over(helper, environment, value, call, rc),
+        Err(e) => Err(e),
+    }
+}
+
+// A section over this value calls a built-in helper, which has the value as its one parameter.
+fn section_over<'a, P: Registered>(
+    helper: &'a HelperTemplate,
+    environment: &Environment<'_, 'a, P>,
+    value: ScopedJson<'a>,
+    call: Called<'a>,
+    rc: &RenderContext,
+) -> Result<Next<'a>, BoxedError>
+    ensures { is_constant value.entry ≡ is_literal (call_name (call_view helper.now)) → InState P.parts environment.now rc.now
+        (λ p s. SettlesAs p s true (call_view helper.now) (called_view call.entry)
+        (only (gives (section_call (call_name (call_view helper.now)) (called_view call.entry) (found_of value.entry))))
+        (answer_of result)) }
+{
+    let kind = section_kind(&value);
+    let value = PathAndJson::new(written(environment.alloc, &helper.name)?, value);
+    let call = call.over(environment.alloc, value)?;
+    to_call(environment, rc, Target::Built(kind), true, call)
+}
+
+// By its value a section is `each`, `if` or `with`.
+fn section_kind(value: &ScopedJson) -> BuiltIn
+    ensures { kind_of result ≡ section_kind (data_in (found_of value.now)) }
+{
+    match value.as_json() {
+        Some(value) => kind_for(value),
+        None => BuiltIn::With,
+    }
+}
+
+fn kind_for(value: &Json) -> BuiltIn
+    ensures { kind_of result ≡ section_kind (view value.now) }
+{
+    match value {
+        Json::Array(_) => BuiltIn::Each,
+        Json::Bool(_) => BuiltIn::If,
+        Json::Null => BuiltIn::With,
+        Json::Number(_) => BuiltIn::With,
+        Json::String(_) => BuiltIn::With,
+        Json::Object(_) => BuiltIn::With,
+    }
+}
