@@ -127,6 +127,10 @@ impl<E: OwnParts, T: Trees, L: Log> Registered for Logging<'_, E, T, L> {
         self.registry.strict_mode()
     }
 
+    fn sections(&self) -> bool {
+        true
+    }
+
     fn log(&self, level: Level, text: &str) {
         log!(self.log; level, "{text}");
     }
