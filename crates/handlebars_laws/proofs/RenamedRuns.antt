@@ -188,12 +188,12 @@ module _ (p : Setting) (n : Text) where
 
 -- ---- what a source compiles to, under a name and without one
 
-module _ (source name : Text) (prevent_indent : Bool) where
+module _ (source name : Text) (options : Options) where
   abbrev under_name : Options
-  under_name = record { name = Some name; prevent_indent = prevent_indent; sections = true }
+  under_name = record options { name = Some name }
 
   abbrev without_name : Options
-  without_name = record { name = None; prevent_indent = prevent_indent; sections = true }
+  without_name = record options { name = None }
 
   Reads-unnamed : {before : Text} {edge : Edge} {ps : List Slice} → Reads source under_name before edge ps
       → Reads source without_name before edge ps
@@ -264,21 +264,21 @@ Some-injective a b = cc
 
 module _ (p : Setting) (name : Text) where
   -- a run of what stands under the name, as one of the tree that the source compiles to
-  tree-alike : (source : Text) (prevent_indent : Bool) (t : Tree)
-      → Compiles source (record { name = Some name; prevent_indent = prevent_indent; sections = true }) (compiled t)
+  tree-alike : (source : Text) (options : Options) (t : Tree)
+      → Compiles source (record options { name = Some name }) (compiled t)
       → (ps : List Piece) (o : Outcome) (r : Means p t (first_state p.parts.recursive) ps o)
       → AllByRecursion (λ m. m ≢ name) (included_names r)
-      → HasAgreeingAnswer p (FromSource (record { name = None; prevent_indent = prevent_indent; sections = true }) source) ps o
-  tree-alike source prevent_indent t (whole {ps = slices} {es = es} c nests) ps o r names =
+      → HasAgreeingAnswer p (FromSource (record options { name = None }) source) ps o
+  tree-alike source options t (whole {ps = slices} {es = es} c nests) ps o r names =
       let other = Means-unnamed p name _ _ (first_state p.parts.recursive) ps o r names in record {
         outcome = other.outcome;
-        answers = rendered (compiles (whole-unnamed source name prevent_indent slices es c nests)) other.runs;
+        answers = rendered (compiles (whole-unnamed source name options slices es c nests)) other.runs;
         agrees = other.agrees;
       }
 
   pub named_answer_as_source : NamedAnswerAsSource p name
-  named_answer_as_source source prevent_indent t is c ps o (not_begun (is_not none)) names = absurd (Some≢None is none)
-  named_answer_as_source source prevent_indent t is c ps o (rendered {t = x} (is_stored stands) r) names =
-      tree-alike source prevent_indent x
-      (subst (λ (z : Tree). Compiles source (record { name = Some name; prevent_indent = prevent_indent; sections = true }) (compiled z))
+  named_answer_as_source source options t is c ps o (not_begun (is_not none)) names = absurd (Some≢None is none)
+  named_answer_as_source source options t is c ps o (rendered {t = x} (is_stored stands) r) names =
+      tree-alike source options x
+      (subst (λ (z : Tree). Compiles source (record options { name = Some name }) (compiled z))
       (Some-injective is stands) c) ps o r names

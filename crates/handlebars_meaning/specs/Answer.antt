@@ -1,5 +1,5 @@
 -- What a rendering answers, at a setting, from a source or from a registered template.
-use Rattle.std.specs.Prelude.{◌≡◌, ◌≢◌, ◌≤◌, ℕ, Bool, true, List, [], Option, None, Some}
+use Rattle.std.specs.Prelude.{◌≡◌, ◌≢◌, ◌≤◌, ℕ, List, [], Option, None, Some}
 use Rattle.std.specs.List.{AllByRecursion}
 use Rattle.handlebars_base.specs.Bytes.{Text}
 use Rattle.handlebars_base.specs.Reasons.{Spot, Refusal, TemplateRefusal, of_template, template_not_found}
@@ -117,11 +117,11 @@ pub record HasAgreeingAnswer (p : Setting) (begins : Beginning → Type 0) (ps :
 -- Where what stands under a name is what a source compiles to under that name, and no inclusion of the run names it, an
 -- answer by the name agrees with one by the source, which has the same pieces.
 abbrev pub NamedAnswerAsSource : Setting → Text → Type 0
-NamedAnswerAsSource p name = (source : Text) (prevent_indent : Bool) (t : Tree) → p.parts.template name ≡ Some t
-    → Compiles source (record { name = Some name; prevent_indent = prevent_indent; sections = true }) (compiled t)
+NamedAnswerAsSource p name = (source : Text) (options : Options) (t : Tree) → p.parts.template name ≡ Some t
+    → Compiles source (record options { name = Some name }) (compiled t)
     → (ps : List Piece) (o : Outcome) (a : RenderAnswers p (FromName p.parts.template name) ps o)
     → AllByRecursion (λ n. n ≢ name) (answer_names a)
-    → HasAgreeingAnswer p (FromSource (record { name = None; prevent_indent = prevent_indent; sections = true }) source) ps o
+    → HasAgreeingAnswer p (FromSource (record options { name = None }) source) ps o
 
 -- ---- what doesn't matter
 
