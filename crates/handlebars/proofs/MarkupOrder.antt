@@ -186,8 +186,8 @@ own-once begins one (Some t) None b c = absurd (c t b)
 own-once begins one None (Some u) b c = absurd (b u c)
 own-once begins one None None b c = refl
 
-pub told-once : AreToldOnce
-told-once r above below begins one fs gs f g =
+pub told-once : (begins : Beginning → Type 0) → ((t u : Tree) → begins (a_tree t) → begins (a_tree u) → t ≡ u) → AreToldOnce begins
+told-once begins one r above below fs gs f g =
     f.told
     ∙ ap (λ o. faults_of_own r o ++ faults_registered r above below f.first f.rest)
     (own-once begins one f.own g.own f.begins_with g.begins_with)

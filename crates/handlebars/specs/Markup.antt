@@ -107,10 +107,9 @@ module _ (r : Registrations) (above below : Text → Option Tree) where
     pub are_below : AreNamesOf (uncovered above below) rest
     pub told : fs ≡ faults_of_own r own ++ faults_registered first rest
 
--- There is one such list, where a rendering begins with no more than one tree of its own.
-abbrev pub AreToldOnce : Type 0
-AreToldOnce = (r : Registrations) (above below : Text → Option Tree) (begins : Beginning → Type 0)
-    → ((t u : Tree) → begins (a_tree t) → begins (a_tree u) → t ≡ u) → (fs gs : List Fault)
+-- There is one such list.
+abbrev pub AreToldOnce : (Beginning → Type 0) → Type 0
+AreToldOnce begins = (r : Registrations) (above below : Text → Option Tree) (fs gs : List Fault)
     → AreToldInOrder r above below begins fs → AreToldInOrder r above below begins gs → fs ≡ gs
 
 -- ---- what is told

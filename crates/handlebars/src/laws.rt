@@ -3,6 +3,7 @@
 ghost use Rattle.std.specs.Prelude.{◌≡◌, Bool, false, List, [], Option, Result};
 ghost use Rattle.serde_json.specs.Data.{Data};
 ghost use Rattle.handlebars_base.specs.Bytes.{Text};
+ghost use Rattle.handlebars_tags.specs.Options.{Options};
 ghost use Rattle.handlebars_meaning.specs.Answer.{FromName, FromSource};
 ghost use Rattle.handlebars_meaning.specs.Compiled.{CompilesSo};
 ghost use Rattle.handlebars_meaning.specs.Counted.{RendersCounted, JudgesCounted, EqualsCounted};
@@ -15,7 +16,7 @@ ghost use Rattle.handlebars.specs.Calls.{CallsAgree};
 ghost use Rattle.handlebars.specs.Dev.{ReadsFiles, ReadsFor, stored_under};
 ghost use Rattle.handlebars.specs.Files.{IsByName, Loaded, Stop, files_of, is_dev, path_under, remembered_path};
 ghost use Rattle.handlebars.specs.Folder.{FileFilter, Walkable, Walks};
-ghost use Rattle.handlebars.specs.Markup.{AreToldOnce};
+ghost use Rattle.handlebars.specs.Markup.{AreToldOnce, NoSource};
 ghost use Rattle.handlebars.specs.Over.{HoldsRead, SameAnswers, setting_under};
 ghost use Rattle.handlebars.specs.Readers.{AnswersAlike, HasOneEnd, IsSameList, IsSameRead};
 ghost use Rattle.handlebars.specs.View.{options_of, setting_of, setting_over, stored_tree};
@@ -107,7 +108,8 @@ pub fn markup_law<E: OwnParts>()
 /// The places that keep markup from being fixed are told in one order: of the trees under names there is one list in byte
 /// order, and a rendering begins with at most one tree.
 pub fn one_list_of_faults()
-    ensures { AreToldOnce }
+    ensures names { AreToldOnce NoSource }
+    ensures sources { (options : Options) (source : Text) → AreToldOnce (FromSource options source) }
 {}
 
 /// The files that a registry remembers are in byte order of the names of their templates, each name once, and under
