@@ -27,6 +27,13 @@ fn data_are_set(rt: HostRuntime) {
         "{{x}}{{#with this}}{{x}}{{/with}}[{{y}}]{{len x}}",
         r#"Ok("bb[]1")"#,
     );
+    gives(
+        &rt,
+        alloc,
+        &mut bench,
+        "{{#x}}{{this}}{{/x}}{{#y}}z{{else}}n{{/y}}{{#this}}{{x}}{{/this}}",
+        r#"Ok("bnb")"#,
+    );
 }
 
 // A name is bound to what is registered under another one, and a constant goes before the parameters.
@@ -63,4 +70,19 @@ fn names_are_bound(rt: HostRuntime) {
     gives(&rt, alloc, &mut bench, r#"{{len "abc"}}"#, r#"Ok("3")"#);
     bind(&rt, alloc, &mut bench, "h", "none");
     gives(&rt, alloc, &mut bench, "{{h}}", GONE);
+}
+
+// A block by a bound name is no section, also where nothing is registered under the name that it is bound to.
+#[test]
+fn bound_names_are_no_sections(rt: HostRuntime) {
+    let alloc = rt.alloc();
+    let mut bench = Bench::new(&rt, alloc, r#"{"h":true}"#);
+    gives(&rt, alloc, &mut bench, "{{#h}}x{{/h}}", r#"Ok("x")"#);
+    bind(&rt, alloc, &mut bench, "h", "len");
+    let source = "{{#h}}x{{/h}}{{#./h}}y{{/./h}}";
+    gives(&rt, alloc, &mut bench, source, r#"Ok("2y")"#);
+    bench.rc.unregister_local_helper("h");
+    gives(&rt, alloc, &mut bench, "{{#h}}x{{/h}}", r#"Ok("x")"#);
+    bind(&rt, alloc, &mut bench, "h", "none");
+    gives(&rt, alloc, &mut bench, "{{#h}}x{{/h}}", GONE);
 }

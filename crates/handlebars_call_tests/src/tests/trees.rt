@@ -33,9 +33,11 @@ fn boxed<T: Drop>(rt: &impl Abort, alloc: Global, value: T) -> Box<T> {
     Box::new(alloc, value).expect(rt, "memory")
 }
 
-// A block of a name that has no helper.
+// A block of a name that has no helper, with a parameter.
 fn unknown(rt: &impl Abort, alloc: Global) -> TemplateElement {
-    let call = call_of(rt, alloc, "none", Vec::new(alloc), true);
+    let mut params = Vec::new(alloc);
+    params.push(one(rt, alloc)).expect(rt, "memory");
+    let call = call_of(rt, alloc, "none", params, true);
     TemplateElement::HelperBlock(boxed(rt, alloc, call))
 }
 
@@ -175,6 +177,34 @@ fn name(rt: &impl Abort, alloc: Global, text: &str) -> Parameter {
 
 fn path(rt: &impl Abort, alloc: Global, text: &str) -> Parameter {
     Parameter::Path(Path::parse(alloc, text).expect(rt, "a path"))
+}
+
+// What a block by this name gives, with nothing behind it.
+fn gives_section(rt: &impl Abort, alloc: Global, name: Parameter, wanted: &str) {
+    let mut call = call_of(rt, alloc, "", Vec::new(alloc), true);
+    call.name = name;
+    let element = TemplateElement::HelperBlock(with_body(rt, alloc, call, "[{{this}}]"));
+    gives_alone(rt, alloc, element, wanted);
+}
+
+const NO_PATH: &str =
+    r#"Err(RenderError { template_name: None, line_no: None, column_no: None, reason: HelperNotFound("x y") })"#;
+
+const NO_NAME: &str =
+    r#"Err(RenderError { template_name: None, line_no: None, column_no: None, reason: HelperNotFound("1") })"#;
+
+// A block acts on the value of its name where that is a path, or a text that reads as one.
+#[test]
+fn sections_are_named_by_paths(rt: HostRuntime) {
+    let alloc = rt.alloc();
+    gives_section(&rt, alloc, name(&rt, alloc, "x"), r#"Ok("[1]")"#);
+    gives_section(&rt, alloc, name(&rt, alloc, "this.[x]"), r#"Ok("[1]")"#);
+    gives_section(&rt, alloc, path(&rt, alloc, "this.[x]"), r#"Ok("[1]")"#);
+    gives_section(&rt, alloc, name(&rt, alloc, "none"), r#"Ok("")"#);
+    gives_section(&rt, alloc, name(&rt, alloc, "x y"), NO_PATH);
+    gives_section(&rt, alloc, one(&rt, alloc), NO_NAME);
+    let call = Parameter::parse(alloc, r#"(len "x")"#).expect(&rt, "a parameter");
+    gives_section(&rt, alloc, call, NO_NAME);
 }
 
 // What `each` gives over the data where it has this to bind.
