@@ -33,9 +33,7 @@ pub use handlebars_lines::laws::{
 use handlebars_scope::context::Context;
 pub use handlebars_scope::laws::recursive_lookup_law;
 pub use handlebars_tags::laws::{clear_text, last_blanks, one_comment, one_tag, one_text};
-pub use handlebars_template::laws::{
-    cuts_join, one_compilation, one_cut, one_parsing, trees_stay,
-};
+pub use handlebars_template::laws::{cuts_join, one_compilation, one_cut, one_parsing, trees_stay};
 
 /// Two runs of the same steps from the same state are one, with the names of its inclusions, unless they stop on the
 /// way; a run that stops on the way has written a beginning of the whole one's text; a run of a tree comes to no site
