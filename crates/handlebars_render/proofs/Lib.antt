@@ -4,6 +4,7 @@ mod Asked
 mod Branches
 mod Places
 mod Sections
+mod PlacedSections
 mod Elements
 mod Calls
 mod Leaves

@@ -125,16 +125,16 @@ each-members place ms empty inverse o seen some none chooses =
 abbrev pub IsLeaf : Data → Type 0
 IsLeaf d = (strict : Bool) (h : HelperView) (param : PathAndData) → walk_or_inverse strict h param d ≡ inverse_or_refusal strict h param
 
-view-Null : view json.Null ≡ null
+pub view-Null : view json.Null ≡ null
 view-Null = search (rules, the_lemmas)
 
-view-Bool : (b : Bool) → view (json.Bool b) ≡ boolean b
+pub view-Bool : (b : Bool) → view (json.Bool b) ≡ boolean b
 view-Bool b = search (rules, the_lemmas)
 
-view-Number : (n : Number) → view (json.Number n) ≡ number (number_view n)
+pub view-Number : (n : Number) → view (json.Number n) ≡ number (number_view n)
 view-Number n = search (rules, the_lemmas)
 
-view-String : (t : String Global) → view (json.String t) ≡ string (string_bytes t)
+pub view-String : (t : String Global) → view (json.String t) ≡ string (string_bytes t)
 view-String t = search (rules, the_lemmas)
 
 pub leaf-null : (v : Value) → v ≡ json.Null → IsLeaf (view v)
@@ -229,7 +229,7 @@ module _ {K : Type 0} (p : Setting) (s : K → State) (c : Call) (target : Optio
 
 -- ---- what it settles
 
-left-chosen : (p : Setting) (site : Site) (block : Bool) (c : Call) (m : Prog (Unit {0})) (s : State) (next : Next) (x : Answer Choice)
+pub left-chosen : (p : Setting) (site : Site) (block : Bool) (c : Call) (m : Prog (Unit {0})) (s : State) (next : Next) (x : Answer Choice)
     → Chooses x next → IsNextThere p.given next
     → ((choice : Choice) → x ≡ gives choice → LeavesCall p site block c m s true (only (gives choice)))
     → Settles p site block c m s (Ok next)

@@ -1,19 +1,24 @@
 -- What blocks come to that act on the value of their name.
-use Rattle.std.specs.Prelude.{Bool, Result}
+use Rattle.std.specs.Prelude.{◌≡◌, Bool, true, [], ◌∷◌, Result}
 use Rattle.handlebars_base.specs.Answers.{Answer, gives}
 use Rattle.handlebars_base.specs.Path.{Reference}
+use Rattle.handlebars_base.specs.PathAndData.{PathAndData}
+use Rattle.handlebars_base.specs.Scoped.{Found, data_in}
 use Rattle.handlebars_base.specs.declared.error.render_error.RenderError.{RenderError}
 use Rattle.handlebars_template.specs.Tree.{Call, Param, call_args, call_name}
-use Rattle.handlebars_helpers.specs.CallView.{CallView}
+use Rattle.handlebars_helpers.specs.CallView.{CallView, HelperView}
 use Rattle.handlebars_helpers.specs.Callee.{Target}
+use Rattle.handlebars_helpers.specs.Choice.{Choice, built_in_choice}
 use Rattle.handlebars_meaning.specs.Asks.{Asks, only, ◌>>=◌}
+use Rattle.handlebars_meaning.specs.CarryOut.{view_with_bodies}
 use Rattle.handlebars_meaning.specs.Means.{render_call}
 use Rattle.handlebars_meaning.specs.Questions.{IsAnswered, called_as}
-use Rattle.handlebars_meaning.specs.Sections.{section_call}
+use Rattle.handlebars_meaning.specs.Sections.{section_call, section_kind}
 use Rattle.handlebars_meaning.specs.Sites.{Site}
 use Rattle.handlebars_meaning.specs.State.{Setting, State}
-use Rattle.handlebars_meaning.specs.Values.{HasView, path_value}
+use Rattle.handlebars_meaning.specs.Values.{HasView, as_written, path_value}
 use Rattle.handlebars_render.specs.Next.{Settles}
+use Rattle.handlebars_render.specs.Places.{Chooses, IsNextThere}
 use Rattle.handlebars_render.specs.declared.next.Next.{Next}
 
 -- Where a call has this view, and is answered this when it is asked what it calls, it settles so.
@@ -25,3 +30,18 @@ SettlesAs p s block c v called r = HasView p s (call_name c) (call_args c) (give
 -- what a section by this path calls
 abbrev pub HasSectionAt : Setting → State → Param → CallView → Reference → Asks (Target × CallView)
 HasSectionAt p s q v r = only (path_value p s r) >>= (λ found. only (gives (section_call q v found)))
+
+-- ---- the short way
+
+-- what a section chooses by its value, which this parameter has
+abbrev pub section_choice : Bool → HelperView → PathAndData → Answer Choice
+section_choice strict h param =
+    built_in_choice strict (section_kind (data_in param.found)) (record h { call = record h.call { params = param ∷ [] } })
+
+-- The path leads to a value. This is what a section chooses for it, and it stands in the data.
+pub record LeavesSection (p : Setting) (s : State) (c : Call) (r : Reference) (next : Next) : Type 0 where
+  pub found : Found
+  pub value : gives found ≡ path_value p s r
+  pub chosen : (v : CallView) → Chooses (section_choice p.parts.strict (view_with_bodies true c v)
+      (as_written (call_name c) found)) next
+  pub there : IsNextThere p.given next

@@ -62,15 +62,15 @@ fn each_or_with(helper: &HelperTemplate, target: Option<Target>) -> Option<bool>
     }
 }
 
-// Whether a call isn't refused where it has nothing to walk: in strict mode it is, without an inverse.
-fn may_invert(helper: &HelperTemplate, strict: bool) -> bool
+/// Whether a call isn't refused where it has nothing to walk: in strict mode it is, without an inverse.
+pub fn may_invert(helper: &HelperTemplate, strict: bool) -> bool
     ensures { result ≡ not (strict && lacks (call_inverse (call_view helper.now))) }
 {
     !strict || helper.inverse.is_some()
 }
 
-// What `each` comes to there, where the inverse may be taken or not.
-fn each_at<'a>(alloc: Global, placed: Placed<'a>, inverse: bool) -> Option<Next<'a>>
+/// What `each` comes to there, where the inverse may be taken or not.
+pub fn each_at<'a>(alloc: Global, placed: Placed<'a>, inverse: bool) -> Option<Next<'a>>
     ensures chosen { IfSome result (TellsChoice placed.entry HasBody each_choice inverse) }
     ensures there { (d : Data) → IsPlaceThere d placed.entry → IfSome result (IsNextThere d) }
 {
@@ -100,8 +100,8 @@ fn turns_or_inverse<'a>(alloc: Global, empty: bool, place: Place<'a>) -> Option<
     }
 }
 
-// What `with` comes to there, where the inverse may be taken or not.
-fn with_at<'a>(alloc: Global, placed: Placed<'a>, inverse: bool) -> Option<Next<'a>>
+/// What `with` comes to there, where the inverse may be taken or not.
+pub fn with_at<'a>(alloc: Global, placed: Placed<'a>, inverse: bool) -> Option<Next<'a>>
     ensures chosen { IfSome result (TellsChoice placed.entry AnyView with_choice inverse) }
     ensures there { (d : Data) → IsPlaceThere d placed.entry → IfSome result (IsNextThere d) }
 {

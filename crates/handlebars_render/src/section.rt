@@ -1,12 +1,14 @@
 //! Sections: blocks whose name has no helper, which act on the value of that name.
 
-ghost use Rattle.std.specs.Prelude.{◌≡◌, ◌&&◌, None, false, true};
+ghost use Rattle.std.specs.Prelude.{◌≡◌, ◌&&◌, IfSome, None, false, true};
+ghost use Rattle.serde_json.specs.Data.{Data};
 ghost use Rattle.serde_json.specs.View.{view};
 ghost use Rattle.handlebars_base.specs.Answers.{gives};
 ghost use Rattle.handlebars_base.specs.PathView.{reference_of};
 ghost use Rattle.handlebars_base.specs.Scoped.{data_in, found_of, is_constant};
-ghost use Rattle.handlebars_template.specs.Tree.{call_name, is_value, name};
+ghost use Rattle.handlebars_template.specs.Tree.{call_body, call_name, is_value, name};
 ghost use Rattle.handlebars_template.specs.TreeView.{call_view};
+ghost use Rattle.handlebars_helpers.specs.Choice.{lacks};
 ghost use Rattle.handlebars_helpers.specs.View.{kind_of};
 ghost use Rattle.handlebars_meaning.specs.Asks.{only};
 ghost use Rattle.handlebars_meaning.specs.Questions.{HasCalled};
@@ -14,7 +16,8 @@ ghost use Rattle.handlebars_meaning.specs.Sections.{HasSection, section_call, se
 ghost use Rattle.handlebars_meaning.specs.Values.{is_literal};
 ghost use Rattle.handlebars_render.specs.Boxed.{answer_of};
 ghost use Rattle.handlebars_render.specs.Judgement.{InState};
-ghost use Rattle.handlebars_render.specs.Sections.{HasSectionAt, SettlesAs};
+ghost use Rattle.handlebars_render.specs.Places.{HasBody, IsNextThere, IsPlaceThere, TellsChoice};
+ghost use Rattle.handlebars_render.specs.Sections.{HasSectionAt, LeavesSection, SettlesAs, section_choice};
 ghost use Rattle.handlebars_render.specs.View.{HasNodes, called_view};
 
 use crate::boxed::BoxedError;
@@ -22,12 +25,15 @@ use crate::called::{Called, helper_not_found};
 use crate::context::RenderContext;
 use crate::environment::Environment;
 use crate::next::{Next, to_call};
+use crate::place::{each_at, may_invert, with_at};
 use crate::registered::{Registered, Target};
 use crate::value::{find, written};
 use handlebars_base::json::path::{Path, read_path};
 use handlebars_base::json::value::{Json, PathAndJson, ScopedJson};
 use handlebars_helpers::built_in::BuiltIn;
+use handlebars_scope::context::place::Placed;
 use handlebars_template::template::{HelperTemplate, Parameter};
+use std::alloc::Global;
 
 /// What a call comes to whose name has no helper and no hook: a block may be a section. Most calls have a helper, so this
 /// stays apart.
@@ -97,6 +103,69 @@ fn section_named<'a, P: Registered>(
 
 // A section acts on what its path leads to.
 fn section_at<'a, P: Registered>(
+    helper: &'a HelperTemplate,
+    environment: &Environment<'_, 'a, P>,
+    path: &Path,
+    call: Called<'a>,
+    rc: &RenderContext,
+) -> Result<Next<'a>, BoxedError>
+    requires nodes { HasNodes environment.now rc.now }
+    ensures { is_literal (call_name (call_view helper.now)) ≡ false → InState P.parts environment.now rc.now
+        (λ p s. SettlesAs p s true (call_view helper.now) (called_view call.entry)
+        (HasSectionAt p s (call_name (call_view helper.now)) (called_view call.entry) (reference_of path.now)) (answer_of result)) }
+{
+    match placed_section(helper, environment, path, rc) {
+        Some(next) => Ok(next),
+        None => section_found(helper, environment, path, call, rc),
+    }
+}
+
+// What a section with a body comes to, where it is known where its path leads in the data. One that is refused has none.
+fn placed_section<'a, P: Registered>(
+    helper: &'a HelperTemplate,
+    environment: &Environment<'_, 'a, P>,
+    path: &Path,
+    rc: &RenderContext,
+) -> Option<Next<'a>>
+    requires nodes { HasNodes environment.now rc.now }
+    ensures { IfSome result (λ next. InState P.parts environment.now rc.now
+        (λ p s. LeavesSection p s (call_view helper.now) (reference_of path.now) next)) }
+{
+    if lacks_body(helper) {
+        return None;
+    }
+    let placed = rc.place(environment.given.data(), path, environment.bases);
+    let inverse = may_invert(helper, environment.parts.strict());
+    acts_at(environment.alloc, placed, inverse)
+}
+
+fn lacks_body(helper: &HelperTemplate) -> bool
+    ensures { result ≡ lacks (call_body (call_view helper.now)) }
+{
+    helper.template.is_none()
+}
+
+// What a section with a body comes to there, where the inverse may be taken or not.
+fn acts_at<'a>(alloc: Global, placed: Placed<'a>, inverse: bool) -> Option<Next<'a>>
+    ensures chosen { IfSome result (TellsChoice placed.entry HasBody section_choice inverse) }
+    ensures there { (d : Data) → IsPlaceThere d placed.entry → IfSome result (IsNextThere d) }
+{
+    match placed {
+        Placed::At(place) => match place.node {
+            Json::Array(_) => each_at(alloc, Placed::At(place), inverse),
+            Json::Bool(truth) => Some(Next::Branch(*truth)),
+            Json::Null => with_at(alloc, Placed::At(place), inverse),
+            Json::Number(_) => with_at(alloc, Placed::At(place), inverse),
+            Json::String(_) => with_at(alloc, Placed::At(place), inverse),
+            Json::Object(_) => with_at(alloc, Placed::At(place), inverse),
+        },
+        Placed::Nowhere => with_at(alloc, Placed::Nowhere, inverse),
+        Placed::Untold => None,
+    }
+}
+
+// A section acts on the value that its path finds.
+fn section_found<'a, P: Registered>(
     helper: &'a HelperTemplate,
     environment: &Environment<'_, 'a, P>,
     path: &Path,
