@@ -1,5 +1,5 @@
 -- What is told over the trees that were read.
-use Rattle.std.proofs.Common.{◌≡◌, List, [], ◌++◌, map, Option, None, Result, String, Global, sym, ap, ◌∙◌, subst}
+use Rattle.std.proofs.Common.{◌≡◌, List, [], ◌∷◌, ◌++◌, map, Option, None, Result, String, Global, sym, ap, ◌∙◌, subst}
 use Rattle.std.specs.BTreeMap.{BTreeMap}
 use Rattle.std.specs.Option.{option_or}
 use Rattle.std.specs.declared.io.Error.{Error}
