@@ -64,7 +64,8 @@ is_nested (literal_shape l) = false
 is_nested (path_shape t means) = false
 is_nested (nested_shape w name items v) = true
 
--- A section is opened by a path with no items behind it, which is no identifier, and which a closing tag may name.
+-- Where there are sections, a path may name a block: one with no items behind it, which is no identifier, and which a
+-- closing tag may name, too.
 abbrev pub opens_section : TermShape → Items → Bool
 opens_section (literal_shape l) items = false
 opens_section (path_shape t means) items = lacks_items items && (not (list_all is_symbol t) && is_close_name t)

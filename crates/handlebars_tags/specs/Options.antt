@@ -2,8 +2,8 @@
 use Rattle.std.specs.Prelude.{Bool, true, false, Option, None, Some}
 use Rattle.handlebars_base.specs.Bytes.{Text}
 
--- the name of the template, if it has one, whether inclusions have no indentation, and whether a path may open a block,
--- as a section
+-- the name of the template, if it has one, whether inclusions have no indentation, and whether there are sections, so that
+-- a path may name a block
 pub record Options : Type 0 where
   pub name : Option Text
   pub prevent_indent : Bool

@@ -71,7 +71,7 @@ pub record IsBlockLine (mode : NameMode) (text : Text) (means : BlockLine) (rest
   pub is_line : IsLine mode in_block text (record { name = means.name; terms = means.terms; depth = means.depth }) behind
   pub binds : IsBinding behind means.binding rest
 
--- A block is named by an identifier; where there are sections, also by a path that opens one.
+-- A block is named by an identifier; where there are sections, a path may name it, too.
 abbrev pub block_mode : Bool → NameMode
 block_mode true = opening_name
 block_mode false = identifier_name

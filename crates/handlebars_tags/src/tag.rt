@@ -28,8 +28,8 @@ pub struct TagSlice<'a> {
     pub long_ahead: bool,
 }
 
-/// The tag in front of what is left of a source, where a path may open a block, as a section. `long_ahead` says whether a
-/// long comment may end there, so that only one search for its end finds none.
+/// The tag in front of what is left of a source, where a path may name a block. `long_ahead` says whether a long comment
+/// may end there, so that only one search for its end finds none.
 pub fn split_tag<'a>(
     alloc: Global,
     left: &'a str,

@@ -20,7 +20,7 @@ pub fn one_compilation()
     ensures { OneCompilation }
 {}
 
-/// A source that compiles to a tree where no path opens a block compiles to the same tree where one may.
+/// A source that compiles to a tree where no path may name a block compiles to the same tree where one may.
 pub fn trees_stay()
     ensures { TreesStay }
 {}

@@ -57,8 +57,8 @@ pub struct PathSlice<'a> {
     pub is_escaped: bool,
 }
 
-/// The line of a block or of a decorator: the text that begins with it, its name as it is written, which is a path where it
-/// opens a section, the one path behind that, where it is known, and what it binds.
+/// The line of a block or of a decorator: the text that begins with it, its name as it is written, which may be a path, the
+/// one path behind that, where it is known, and what it binds.
 #[derive(Clone, Copy)]
 pub struct BlockSlice<'a> {
     pub line: &'a str,
@@ -409,7 +409,7 @@ pub struct BlockRead<'a> {
     pub rest: &'a str,
 }
 
-/// What the name of a line may be, where it may open a section or not.
+/// What the name of a block may be, with sections or without.
 fn block_mode(sections: bool) -> NameMode
     ensures { mode_of result ≡ block_mode sections }
 {
@@ -420,7 +420,7 @@ fn block_mode(sections: bool) -> NameMode
     }
 }
 
-/// A line that may open a section or not, and the block parameters behind it, if any.
+/// The line of a block, with sections or without, and the block parameters behind it, if any.
 fn block_line(
     alloc: Global,
     sections: bool,

@@ -249,7 +249,7 @@ fn opening<'a>(
     }))
 }
 
-// What opens a block, built term by term, for a line of any parameters, and for one that opens a section.
+// What opens a block, built term by term, for a line of any parameters, and for one that a path names.
 #[inline(never)]
 fn opening_by_terms<'a>(
     alloc: Global,
