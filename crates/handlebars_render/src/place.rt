@@ -70,6 +70,7 @@ pub fn may_invert(helper: &HelperTemplate, strict: bool) -> bool
 }
 
 /// What `each` comes to there, where the inverse may be taken or not.
+#[inline(always)]
 pub fn each_at<'a>(alloc: Global, placed: Placed<'a>, inverse: bool) -> Option<Next<'a>>
     ensures chosen { IfSome result (TellsChoice placed.entry HasBody each_choice inverse) }
     ensures there { (d : Data) → IsPlaceThere d placed.entry → IfSome result (IsNextThere d) }
@@ -101,6 +102,7 @@ fn turns_or_inverse<'a>(alloc: Global, empty: bool, place: Place<'a>) -> Option<
 }
 
 /// What `with` comes to there, where the inverse may be taken or not.
+#[inline(always)]
 pub fn with_at<'a>(alloc: Global, placed: Placed<'a>, inverse: bool) -> Option<Next<'a>>
     ensures chosen { IfSome result (TellsChoice placed.entry AnyView with_choice inverse) }
     ensures there { (d : Data) → IsPlaceThere d placed.entry → IfSome result (IsNextThere d) }
