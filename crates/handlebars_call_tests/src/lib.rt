@@ -4,7 +4,6 @@
 pub mod caller;
 pub mod memory;
 pub mod pages;
-pub mod parts;
 pub mod strangers;
 #[cfg(test)]
 mod tests;

@@ -246,16 +246,70 @@ pub fn set_fault(
     Ok(())
 }
 
-/// The kind of fault of that name.
+/// The kind of fault of that name, by std's names.
 pub fn fault(value: &JsonValue) -> Option<ErrorKind> {
-    match value.as_str()? {
+    let name = value.as_str()?;
+    fault_of_files(name)
+        .or(fault_of_connections(name))
+        .or(other_fault(name))
+}
+
+fn fault_of_files(name: &str) -> Option<ErrorKind> {
+    match name {
         "NotFound" => Some(ErrorKind::NotFound),
         "PermissionDenied" => Some(ErrorKind::PermissionDenied),
-        "BrokenPipe" => Some(ErrorKind::BrokenPipe),
+        "AlreadyExists" => Some(ErrorKind::AlreadyExists),
+        "NotADirectory" => Some(ErrorKind::NotADirectory),
         "IsADirectory" => Some(ErrorKind::IsADirectory),
+        "DirectoryNotEmpty" => Some(ErrorKind::DirectoryNotEmpty),
+        "ReadOnlyFilesystem" => Some(ErrorKind::ReadOnlyFilesystem),
+        "FilesystemLoop" => Some(ErrorKind::FilesystemLoop),
+        "StaleNetworkFileHandle" => Some(ErrorKind::StaleNetworkFileHandle),
+        "StorageFull" => Some(ErrorKind::StorageFull),
+        "NotSeekable" => Some(ErrorKind::NotSeekable),
+        "QuotaExceeded" => Some(ErrorKind::QuotaExceeded),
+        "FileTooLarge" => Some(ErrorKind::FileTooLarge),
+        "InvalidFilename" => Some(ErrorKind::InvalidFilename),
+        "TooManyLinks" => Some(ErrorKind::TooManyLinks),
+        "CrossesDevices" => Some(ErrorKind::CrossesDevices),
+        _ => None,
+    }
+}
+
+fn fault_of_connections(name: &str) -> Option<ErrorKind> {
+    match name {
+        "ConnectionRefused" => Some(ErrorKind::ConnectionRefused),
+        "ConnectionReset" => Some(ErrorKind::ConnectionReset),
+        "HostUnreachable" => Some(ErrorKind::HostUnreachable),
+        "NetworkUnreachable" => Some(ErrorKind::NetworkUnreachable),
+        "ConnectionAborted" => Some(ErrorKind::ConnectionAborted),
+        "NotConnected" => Some(ErrorKind::NotConnected),
+        "AddrInUse" => Some(ErrorKind::AddrInUse),
+        "AddrNotAvailable" => Some(ErrorKind::AddrNotAvailable),
+        "NetworkDown" => Some(ErrorKind::NetworkDown),
+        "BrokenPipe" => Some(ErrorKind::BrokenPipe),
+        "TimedOut" => Some(ErrorKind::TimedOut),
+        "WouldBlock" => Some(ErrorKind::WouldBlock),
+        "InProgress" => Some(ErrorKind::InProgress),
+        _ => None,
+    }
+}
+
+fn other_fault(name: &str) -> Option<ErrorKind> {
+    match name {
+        "InvalidInput" => Some(ErrorKind::InvalidInput),
         "InvalidData" => Some(ErrorKind::InvalidData),
+        "WriteZero" => Some(ErrorKind::WriteZero),
+        "ResourceBusy" => Some(ErrorKind::ResourceBusy),
+        "ExecutableFileBusy" => Some(ErrorKind::ExecutableFileBusy),
+        "Deadlock" => Some(ErrorKind::Deadlock),
+        "ArgumentListTooLong" => Some(ErrorKind::ArgumentListTooLong),
         "Interrupted" => Some(ErrorKind::Interrupted),
+        "Unsupported" => Some(ErrorKind::Unsupported),
+        "UnexpectedEof" => Some(ErrorKind::UnexpectedEof),
         "OutOfMemory" => Some(ErrorKind::OutOfMemory),
+        "Other" => Some(ErrorKind::Other),
+        "Uncategorized" => Some(ErrorKind::Uncategorized),
         _ => None,
     }
 }

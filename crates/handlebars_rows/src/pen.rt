@@ -31,6 +31,15 @@ impl Taking {
         }
     }
 
+    /// These few bytes a write, with this one failing so.
+    pub fn failing(most: usize, fails: u64, fault: Option<ErrorKind>) -> Taking {
+        Taking {
+            most,
+            fails: Some(fails),
+            fault,
+        }
+    }
+
     // As a field of this name says, if there is such a one.
     fn with(self, name: &str, value: &JsonValue) -> Option<Taking> {
         match name {
@@ -120,6 +129,16 @@ impl Pen {
     /// All that was taken; bytes that aren't UTF-8 come out as U+FFFD.
     pub fn text(&self, alloc: Global) -> Result<String, AllocError> {
         String::from_utf8_lossy(alloc, self.taken.as_slice())
+    }
+
+    /// All that was taken.
+    pub fn taken(&self) -> &[u8] {
+        self.taken.as_slice()
+    }
+
+    /// How often it was asked to write.
+    pub fn writes(&self) -> u64 {
+        self.writes
     }
 
     fn takes(&mut self, buf: &[u8]) -> io::Result<usize>

@@ -38,6 +38,8 @@ pub struct Rendering {
     pub over: Option<Over>,
     /// What the writer takes, where there is one.
     pub to: Option<Taking>,
+    /// Whether it is written to writers that fail, too, at each write in turn.
+    pub sweep: bool,
     /// How many bytes the output takes, if not all.
     pub takes: Option<usize>,
     /// The fault of the output when it takes no more.
@@ -63,6 +65,7 @@ impl Drop for Rendering {
             data: _,
             over: _,
             to: _,
+            sweep: _,
             takes: _,
             fault: _,
             wanted: _,
@@ -172,6 +175,7 @@ struct Fields {
     data: Option<JsonValue>,
     over: Option<Over>,
     to: Option<Taking>,
+    sweep: bool,
     takes: Option<usize>,
     fault: Option<ErrorKind>,
     text: Option<String>,
@@ -203,6 +207,7 @@ impl Drop for Fields {
             data: _,
             over: _,
             to: _,
+            sweep: _,
             takes: _,
             fault: _,
             text: _,
@@ -248,6 +253,7 @@ impl Fields {
             "json" => self.set_json(alloc, name, value),
             "over" => fields::set_over(&mut self.over, name, &value),
             "to" => pen::set_taking(&mut self.to, name, &value),
+            "sweep" => fields::set_boolean(&mut self.sweep, name, &value),
             "takes" => fields::set_number(&mut self.takes, name, &value),
             "fault" => fields::set_fault(&mut self.fault, name, &value),
             _ => self.take_wanted(alloc, name, value),
@@ -306,11 +312,18 @@ impl Fields {
         if self.takes.is_some() && self.is_for_calls() {
             return Err(RowFailure::Fields("an output beside what the calls alone have"));
         }
+        if self.sweep && self.to.is_some() {
+            return Err(RowFailure::Fields("a writer beside those of a sweep"));
+        }
         self.other.check()
     }
 
     fn is_for_calls(&self) -> bool {
-        self.files.is_some() || self.steps.is_some() || self.over.is_some() || self.to.is_some()
+        self.files.is_some()
+            || self.steps.is_some()
+            || self.over.is_some()
+            || self.to.is_some()
+            || self.sweep
     }
 
     // Whether the place of a refusal is wanted.
@@ -369,6 +382,7 @@ impl Fields {
             data,
             over,
             to,
+            sweep,
             takes,
             fault,
             text: _,
@@ -396,6 +410,7 @@ impl Fields {
             data: data.unwrap_or(JsonValue::Null),
             over,
             to,
+            sweep,
             takes,
             fault: fault.unwrap_or(ErrorKind::NotFound),
             wanted: Wanted {

@@ -228,8 +228,14 @@ impl Written {
     ) -> Result<Written, AllocError> {
         let log = Memory::new(alloc);
         let mut out = Bounded::new(alloc, row.takes.unwrap_or(usize::MAX), row.fault);
-        let answer = write_template(alloc, row, data, &mut out, &log);
-        Written::with(alloc, out.into_string(), &answer, log, Names::new(alloc))
+        let mut again = Bounded::new(alloc, row.takes.unwrap_or(usize::MAX), row.fault);
+        let answer = write_template(alloc, row, data, &mut out, &mut again, &log);
+        let text = out.into_string();
+        let answer = match text == again.into_string() {
+            true => answer,
+            false => Err(RenderError::new(alloc, "has another text when it is rendered again")),
+        };
+        Written::with(alloc, text, &answer, log, Names::new(alloc))
     }
 
     fn with(

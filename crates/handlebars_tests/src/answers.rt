@@ -1,23 +1,26 @@
 //! What the runs of a row answer.
 
-ghost use Rattle.std.specs.Prelude.{◌≡◌, IfOk, IfSome, IsTrue, is_some};
+ghost use Rattle.std.specs.Prelude.{◌≡◌, IfOk, IfSome, IsTrue, is_none, is_some, true};
 ghost use Rattle.handlebars_tests.specs.Comes.{ComesTo, OtherComesTo};
 
 use crate::answer::Answer;
+use crate::sweep::{Swept, sweep};
 use handlebars_rows::other::Other;
 use handlebars_rows::rendering::Rendering;
 use std::alloc::{AllocError, Global};
 use std::fmt;
 
-/// What a row comes to, and what over its other data, where it has some.
+/// What a row comes to, what over its other data, where it has some, and which of its failing writers comes to something
+/// else than is to stand then, if one does.
 #[derive(Drop)]
 pub struct Answers {
     pub first: Answer,
     pub other: Option<Answer>,
+    pub swept: Option<Swept>,
 }
 
 impl Answers {
-    /// Renders a row over its data and over its other data.
+    /// Renders a row over its data, over its other data, and to the writers of its sweep.
     pub fn of(alloc: Global, row: &Rendering) -> Result<Answers, AllocError>
         ensures { IfOk result (λ answers. is_some answers.other ≡ is_some row.now.other) }
     {
@@ -26,21 +29,32 @@ impl Answers {
             Some(other) => Some(Answer::of(alloc, row, &other.data)?),
             None => None,
         };
-        Ok(Answers { first, other })
+        let swept = sweep(alloc, row)?;
+        Ok(Answers {
+            first,
+            other,
+            swept,
+        })
     }
 
-    /// Whether both come to what is wanted of them.
+    /// Whether all come to what is wanted of them.
     pub fn come_to(&self, row: &Rendering) -> bool
         ensures first { IsTrue result → ComesTo self.now.first row.now.wanted }
         ensures other { IsTrue result → OtherComesTo self.now row.now }
+        ensures swept { IsTrue result → is_none self.now.swept ≡ true }
     {
-        self.first.comes_to(&row.wanted) && come_to_other(&self.other, &row.other)
+        self.first.comes_to(&row.wanted)
+            && come_to_other(&self.other, &row.other)
+            && self.swept.is_none()
     }
 
     /// Prints what is wanted, and what they come to.
     pub fn show<W: fmt::Write>(&self, f: &mut fmt::Formatter<W>, row: &Rendering) -> fmt::Result {
         write!(f, "{}", row.wanted)?;
         self.first.show(f, &row.wanted)?;
+        if let Some(swept) = &self.swept {
+            write!(f, "\n    {swept}")?;
+        }
         match (&self.other, &row.other) {
             (Some(answer), Some(other)) => {
                 write!(f, "\n    over {}\n{}", other.data, other.wanted)?;

@@ -11,6 +11,7 @@ mod registered;
 mod row;
 mod run;
 mod shelf;
+mod sweep;
 
 use run::run;
 use std::process::ExitCode;

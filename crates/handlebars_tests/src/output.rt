@@ -9,22 +9,24 @@ use handlebars::{
 };
 use handlebars_rows::bounded::Bounded;
 use handlebars_rows::rendering::{Rendered, Rendering};
-use log::sink::Memory;
+use log::Log;
+use log::sink::{Discard, Memory};
 use std::alloc::Global;
 
-/// What the template of a row answers that is rendered over data to an output.
+/// What the template of a row answers that is rendered over data to an output, and once more to another one.
 pub fn write_template(
     alloc: Global,
     row: &Rendering,
     data: &JsonValue,
     out: &mut Bounded,
+    again: &mut Bounded,
     log: &Memory,
 ) -> Result<(), RenderError> {
     let registry = registry_of(alloc, row, &mut Shelf::new(alloc))?;
     let data = context(data)?;
     match &row.rendered {
-        Rendered::Source(source) => write_source(alloc, &registry, source, &data, out, log),
-        Rendered::Name(name) => write_named(alloc, &registry, name, &data, out, log),
+        Rendered::Source(source) => write_source(alloc, &registry, source, &data, out, again, log),
+        Rendered::Name(name) => write_named(alloc, &registry, name, &data, out, again, log),
     }
 }
 
@@ -34,6 +36,7 @@ fn write_source(
     source: &String,
     data: &Context,
     out: &mut Bounded,
+    again: &mut Bounded,
     log: &Memory,
 ) -> Result<(), RenderError> {
     let options = TemplateOptions {
@@ -41,7 +44,7 @@ fn write_source(
         prevent_indent: registry.prevent_indent(),
     };
     let template = Template::compile2(alloc, source.as_str(), options)?;
-    write_tree(alloc, registry, &template, data, out, log)
+    write_tree(alloc, registry, &template, data, out, again, log)
 }
 
 fn write_named(
@@ -50,23 +53,42 @@ fn write_named(
     name: &String,
     data: &Context,
     out: &mut Bounded,
+    again: &mut Bounded,
     log: &Memory,
 ) -> Result<(), RenderError> {
     match registry.get_template(name.as_str()) {
-        Some(template) => write_tree(alloc, registry, template, data, out, log),
+        Some(template) => write_tree(alloc, registry, template, data, out, again, log),
         None => Err(RenderErrorReason::TemplateNotFound(name.clone()?).into()),
     }
 }
 
-// Where the context doesn't tell of a refusal, or an output is asked again that has refused a segment, this is another
-// refusal, which no row wants.
+// Where the context doesn't tell of a refusal, an output is asked again that has refused a segment, or a tree that is
+// rendered again ends otherwise, this is another refusal, which no row wants.
 fn write_tree(
     alloc: Global,
     registry: &Registry,
     template: &Template,
     data: &Context,
     out: &mut Bounded,
+    again: &mut Bounded,
     log: &Memory,
+) -> Result<(), RenderError> {
+    let answer = write_once(alloc, registry, template, data, out, log);
+    let second = write_once(alloc, registry, template, data, again, &Discard);
+    if second.is_err() == answer.is_err() {
+        answer
+    } else {
+        Err(RenderError::new(alloc, "ends otherwise when it is rendered again"))
+    }
+}
+
+fn write_once<L: Log>(
+    alloc: Global,
+    registry: &Registry,
+    template: &Template,
+    data: &Context,
+    out: &mut Bounded,
+    log: &L,
 ) -> Result<(), RenderError> {
     let mut rc = RenderContext::new(alloc, template.name.as_ref())?;
     rc.set_recursive_lookup(registry.recursive_lookup());

@@ -3,6 +3,8 @@
 ghost use Rattle.std.specs.IoError.{error_kind};
 ghost use Rattle.std.specs.Prelude.{◌≡◌, ◌≢◌, ◌<◌, ◌≤◌};
 ghost use Rattle.std.specs.declared.io.ErrorKind.TheVariants.{OutOfMemory};
+ghost use Rattle.handlebars_base.specs.Reasons.{io_error};
+ghost use Rattle.handlebars_base.specs.RenderRefusals.{plain_refusal, refusal_of};
 
 use handlebars::{RenderError, TemplateError};
 use std::alloc::AllocError;
@@ -19,7 +21,6 @@ pub enum Failure<'a> {
     NotRegistered(TemplateError),
     Refused(RenderError),
     OutOfMemory,
-    CannotWrite,
 }
 
 impl<'a> Failure<'a> {
@@ -34,6 +35,19 @@ impl<'a> Failure<'a> {
         }
     }
 
+    /// The failure of the output behind a rendering that ended well: the error that the rendering would have been refused
+    /// with, but for its place.
+    pub fn of_output(cause: io::Error) -> Failure<'a>
+        ensures memory { error_kind cause ≡ OutOfMemory → result ≡ Failure.OutOfMemory }
+        ensures other { error_kind cause ≢ OutOfMemory → (e : RenderError) × (result ≡ Failure.Refused e)
+            × (refusal_of e ≡ plain_refusal (io_error (error_kind cause))) }
+    {
+        match cause.kind() {
+            ErrorKind::OutOfMemory => Failure::OutOfMemory,
+            _ => Failure::Refused(RenderError::from(cause)),
+        }
+    }
+
     /// The status that a run ends with: 2 for wrong words, a template or data file that can't be read, and data that
     /// isn't JSON, and else 1.
     pub fn status(&self) -> u8
@@ -45,7 +59,6 @@ impl<'a> Failure<'a> {
         ensures template { (cause : _) → self.now ≡ Failure.NotRegistered cause → result ≡ 1 }
         ensures refused { (cause : _) → self.now ≡ Failure.Refused cause → result ≡ 1 }
         ensures memory { self.now ≡ Failure.OutOfMemory → result ≡ 1 }
-        ensures unwritten { self.now ≡ Failure.CannotWrite → result ≡ 1 }
     {
         match self {
             Failure::Usage => 2,
@@ -54,7 +67,6 @@ impl<'a> Failure<'a> {
             Failure::NotRegistered(_) => 1,
             Failure::Refused(_) => 1,
             Failure::OutOfMemory => 1,
-            Failure::CannotWrite => 1,
         }
     }
 }
@@ -92,7 +104,6 @@ impl fmt::Display for Failure<'_> {
             Failure::NotRegistered(cause) => write!(f, "{cause}"),
             Failure::Refused(cause) => write!(f, "{cause}"),
             Failure::OutOfMemory => write!(f, "Out of memory"),
-            Failure::CannotWrite => write!(f, "hbs: cannot write"),
         }
     }
 }

@@ -311,15 +311,36 @@ fn renders_with_a_folder(rt: HostRuntime) {
     includes(&rt, alloc, "", unread, (1, 3), "", no_file);
 }
 
-#[test]
-fn outlives_its_outputs(rt: HostRuntime) {
-    let alloc = rt.alloc();
-    let mut files = readable(alloc, "a", "null");
+// Over an output that takes nothing.
+fn breaks_off(
+    rt: &impl Abort,
+    alloc: Global,
+    template: &'static str,
+    data: &'static str,
+    err: &str,
+) {
+    let mut files = readable(alloc, template, data);
     let given = words(alloc, &["t.hbs", "d.json"]);
     let mut told = Vec::new(alloc);
     let status = run(alloc, given, &mut files, &mut Broken, &mut told);
-    is_text(&rt, told, "hbs: cannot write\n");
+    is_text(rt, told, err);
     assert_eq!(rt; status, 1);
+}
+
+// It has ten thousand bytes, which is more than the buffer keeps.
+const LONG: &str =
+    "{{#each this}}{{#each ../this}}{{#each ../../this}}ten bytes.{{/each}}{{/each}}{{/each}}";
+
+const WITHIN: &str = "Error rendering \"Unnamed template\" line 1, col 52: IO Error: broken pipe\n";
+
+// The error is the rendering's own, whether it shows while the rendering goes on or behind it.
+#[test]
+fn outlives_its_outputs(rt: HostRuntime) {
+    let alloc = rt.alloc();
+    breaks_off(&rt, alloc, "a", "null", "IO Error: broken pipe\n");
+    breaks_off(&rt, alloc, LONG, "[0,1,2,3,4,5,6,7,8,9]", WITHIN);
+    breaks_off(&rt, alloc, "a{{a.x}}", r#"{"a":[1]}"#, BY_NAME);
+    let mut files = readable(alloc, "a", "null");
 
     let mut written = Vec::new(alloc);
     let none = words(alloc, &[]);

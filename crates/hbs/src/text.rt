@@ -64,7 +64,7 @@ fn write_text<'a, O: Write>(
 fn written<'a>(answer: io::Result<()>) -> Result<(), Failure<'a>> {
     match answer {
         Ok(()) => Ok(()),
-        Err(_) => Err(Failure::CannotWrite),
+        Err(cause) => Err(Failure::of_output(cause)),
     }
 }
 

@@ -1,6 +1,6 @@
 //! Helpers, decorators and escape functions of one's own, registered and asked.
 
-ghost use Rattle.std.specs.Prelude.{◌≡◌, ◌∷◌, [], MatchResult, Some, codes};
+ghost use Rattle.std.specs.Prelude.{◌≡◌, ◌++◌, ◌∷◌, [], MatchResult, Some, codes};
 ghost use Rattle.handlebars_base.specs.Reasons.{out_of_memory};
 ghost use Rattle.handlebars_helpers.specs.Decoration.{binds};
 ghost use Rattle.handlebars_helpers.specs.DecoratorsView.{deeds_of};
@@ -8,16 +8,18 @@ ghost use Rattle.handlebars_helpers.specs.FnRefusals.{refused_for};
 ghost use Rattle.handlebars_helpers.specs.Own.{writes};
 ghost use Rattle.handlebars_helpers.specs.OwnView.{steps_of};
 ghost use Rattle.handlebars_helpers.specs.View.{helper_view};
-ghost use Rattle.handlebars_call_tests.specs.Parts.{shown_at};
+ghost use Rattle.handlebars_parts.specs.Parts.{shown_at};
 
-use crate::parts::decorators::{Binding, Keeping, SettingData, Unbinding};
-use crate::parts::escape::Doubled;
-use crate::parts::functions::{renamed, written};
-use crate::parts::helpers::{Absent, Distance, Marked, Offered, Twice};
-use crate::tests::helpers::{Bench, data_of, text_of};
+use crate::tests::helpers::{Bench, data_of, json_of, text_of};
 use handlebars::{
     Context, Decorator, DecoratorDef, DecoratorEntry, DecoratorFn, EscapeFn, EscapeKind,
     FnDecorator, FnDeeds, FnHelper, FnSteps, Helper, HelperDef, HelperEntry, HelperFn, Registry,
+};
+use handlebars_parts::decorators::{Binding, Keeping, SettingData, SettingTwice, Unbinding};
+use handlebars_parts::escape::Doubled;
+use handlebars_parts::functions::{renamed, said};
+use handlebars_parts::helpers::{
+    Absent, Distance, Marked, Offered, Saying, Silent, Stepping, Twice, Valued,
 };
 use std::alloc::Global;
 use std::process::Abort;
@@ -116,6 +118,46 @@ fn helpers_are_asked(rt: HostRuntime) {
 const GONE: &str =
     r#"Err(RenderError { template_name: None, line_no: Some(1), column_no: Some(7), reason: HelperNotFound("none") })"#;
 
+// A helper that writes a text, and renders its inverse, its body, and its body at 7.
+fn puts_stepping(rt: &impl Abort, alloc: Global, registry: &mut Registry) {
+    let stepping = Stepping {
+        alloc,
+        text: text_of(rt, alloc, "1"),
+        value: json_of(rt, alloc, "7"),
+    };
+    puts(rt, registry, "s", boxed(rt, alloc, stepping));
+}
+
+fn are_odd(rt: &impl Abort, alloc: Global, bench: &Bench) {
+    let rows = [
+        ("{{#e}}a{{/e}}", r#"Ok("")"#),
+        ("[{{e}}{{e 1}}{{{e}}}]", r#"Ok("[]")"#),
+        ("{{#s}}{{this}}{{else}}i{{/s}}", r#"Ok("1id7")"#),
+        ("{{s}}{{#s}}{{/s}}", r#"Ok("11")"#),
+        ("{{#s}}{{.}}{{../this}}{{/s}}", r#"Ok("1dd7d")"#),
+        (
+            "[{{f}}{{len (f)}}{{#if (f)}}y{{else}}n{{/if}}]",
+            r#"Ok("[0n]")"#,
+        ),
+    ];
+    for (source, wanted) in rows {
+        bench.answers(rt, alloc, source, wanted);
+    }
+}
+
+// No step at all, each kind of step in one answer, and a number outside the range.
+#[test]
+fn odd_helpers_are_asked(rt: HostRuntime) {
+    let alloc = rt.alloc();
+    let mut bench = Bench::new(&rt, alloc, "\"d\"");
+    let registry = &mut bench.registry;
+    puts(&rt, registry, "e", boxed(&rt, alloc, Silent { alloc }));
+    puts_stepping(&rt, alloc, registry);
+    let value = json_of(&rt, alloc, "1.5");
+    puts(&rt, registry, "f", boxed(&rt, alloc, Valued { value }));
+    are_odd(&rt, alloc, &bench);
+}
+
 // A decorator that makes the first name one of the other one.
 fn binds_name(
     rt: &impl Abort,
@@ -195,6 +237,18 @@ fn sets_data(rt: &impl Abort, alloc: Global, registry: &mut Registry, name: &str
     );
 }
 
+// A decorator that sets two data: the second ones are there then.
+fn sets_twice(rt: &impl Abort, alloc: Global, registry: &mut Registry, name: &str) {
+    let first = data_of(rt, alloc, r#"{"a":{"x":1}}"#);
+    let second = data_of(rt, alloc, r#"{"a":{"x":2}}"#);
+    let setting = SettingTwice {
+        alloc,
+        first,
+        second,
+    };
+    decorates(rt, registry, name, boxed(rt, alloc, setting));
+}
+
 fn keeps_partial(rt: &impl Abort, alloc: Global, registry: &mut Registry, name: &str) {
     let partial = text_of(rt, alloc, "p");
     let keeping = Keeping {
@@ -219,8 +273,14 @@ fn set_data(rt: &impl Abort, alloc: Global, bench: &Bench) {
             "{{#each l}}{{this}}{{*other}}{{this}};{{/each}}",
             r#"Ok("1;;")"#,
         ),
+        ("{{*twice}}{{a.x}}", r#"Ok("2")"#),
         ("{{*keep}}", NO_BODY),
         ("a{{#*keep}}b{{/keep}}c", r#"Ok("ac")"#),
+        ("{{#*keep}}b{{/keep}}{{> p}}", r#"Ok("b")"#),
+        (
+            "{{#with a}}{{#*keep}}{{x}}{{/keep}}{{> p}}{{/with}}",
+            r#"Ok("1")"#,
+        ),
     ];
     for (source, wanted) in rows {
         bench.answers(rt, alloc, source, wanted);
@@ -234,6 +294,7 @@ fn decorators_set_data(rt: HostRuntime) {
     sets_data(&rt, alloc, &mut bench.registry, "foo", r#"{"hello":"war"}"#);
     sets_data(&rt, alloc, &mut bench.registry, "other", r#"{"a":{"x":2}}"#);
     sets_data(&rt, alloc, &mut bench.registry, "empty", "{}");
+    sets_twice(&rt, alloc, &mut bench.registry, "twice");
     keeps_partial(&rt, alloc, &mut bench.registry, "keep");
     set_data(&rt, alloc, &bench);
     bench.registry.set_strict_mode(true);
@@ -258,17 +319,34 @@ fn escape_functions_are_asked(rt: HostRuntime) {
     bench.answers(&rt, alloc, "{{x}}", r#"Ok("&lt;")"#);
 }
 
-fn puts_function(rt: &impl Abort, alloc: Global, registry: &mut Registry) {
-    let f: HelperFn = Box::new(
+fn puts_function(rt: &impl Abort, registry: &mut Registry, name: &str, f: FnHelper) {
+    let answer = registry.register_helper(name, HelperEntry::Function(f));
+    answer.expect(rt, "memory");
+}
+
+fn puts_functions(rt: &impl Abort, alloc: Global, registry: &mut Registry) {
+    let second: HelperFn = Box::new(
         alloc,
         move |h: &Helper, _data: &Context, _changed: &Option<&Context>, _strict: bool| -> FnSteps
-            ensures { MatchResult result (λ steps. steps_of steps ≡ Some (writes (shown_at 0 (helper_view h.now)) ∷ []))
+            ensures { MatchResult result
+                (λ steps. steps_of steps
+                ≡ Some (writes (codes "2nd helper: " ++ shown_at 0 (helper_view h.now)) ∷ []))
                 (λ e. refused_for e ≡ out_of_memory) }
-        { written(alloc, h) },
+        { said(alloc, "2nd helper: ", h) },
     )
     .expect(rt, "memory");
-    let answer = registry.register_helper("written", HelperEntry::Function(FnHelper::new(f)));
-    answer.expect(rt, "memory");
+    puts_function(rt, registry, "another-simple-helper", FnHelper::new(second));
+    let third: HelperFn = Box::new(
+        alloc,
+        move |h: &Helper, _data: &Context, _changed: &Option<&Context>, _strict: bool| -> FnSteps
+            ensures { MatchResult result
+                (λ steps. steps_of steps
+                ≡ Some (writes (codes "3rd helper: " ++ shown_at 0 (helper_view h.now)) ∷ []))
+                (λ e. refused_for e ≡ out_of_memory) }
+        { said(alloc, "3rd helper: ", h) },
+    )
+    .expect(rt, "memory");
+    puts_function(rt, registry, "closure-helper", FnHelper::new(third));
 }
 
 fn decorates_with_function(rt: &impl Abort, alloc: Global, registry: &mut Registry) {
@@ -289,12 +367,19 @@ fn decorates_with_function(rt: &impl Abort, alloc: Global, registry: &mut Regist
     answer.expect(rt, "memory");
 }
 
+// A struct and two functions in one template, and a decorator that is a function.
 #[test]
 fn functions_are_asked(rt: HostRuntime) {
     let alloc = rt.alloc();
     let mut bench = Bench::new(&rt, alloc, "null");
-    puts_function(&rt, alloc, &mut bench.registry);
+    let text = text_of(&rt, alloc, "1st helper: ");
+    let simple = boxed(&rt, alloc, Saying { alloc, text });
+    puts(&rt, &mut bench.registry, "simple-helper", simple);
+    puts_functions(&rt, alloc, &mut bench.registry);
     decorates_with_function(&rt, alloc, &mut bench.registry);
-    let source = r#"{{written "<"}}{{*renamed}}{{size "abc"}}"#;
-    bench.answers(&rt, alloc, source, r#"Ok("<3")"#);
+    let source = "{{simple-helper 1}}\n{{another-simple-helper 2}}\n{{closure-helper 3}}";
+    let wanted = r#"Ok("1st helper: 1\n2nd helper: 2\n3rd helper: 3")"#;
+    bench.answers(&rt, alloc, source, wanted);
+    let source = r#"{{closure-helper "<"}}{{*renamed}}{{size "abc"}}"#;
+    bench.answers(&rt, alloc, source, r#"Ok("3rd helper: <3")"#);
 }

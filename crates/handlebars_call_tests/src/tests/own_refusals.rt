@@ -1,11 +1,11 @@
 //! What a caller's own parts refuse with: what is printed, and the cause that is kept.
 
-use crate::parts::refusing::Refusing;
 use crate::tests::helpers::{Bench, prints, refused};
 use handlebars::{
     DecoratorDef, DecoratorEntry, EscapeFn, EscapeKind, HelperDef, HelperEntry, NoFiles,
     RenderError, RenderErrorReason,
 };
+use handlebars_parts::refusing::Refusing;
 use log::sink::Discard;
 use std::alloc::Global;
 use std::io::ErrorKind;

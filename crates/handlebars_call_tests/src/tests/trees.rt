@@ -79,6 +79,9 @@ fn gives_placeless(rt: &impl Abort, alloc: Global, element: TemplateElement, wan
 const NO_HELPER: &str =
     r#"Err(RenderError { template_name: Some("t"), line_no: None, column_no: None, reason: HelperNotFound("none") })"#;
 
+const NO_LENGTH: &str =
+    r#"Err(RenderError { template_name: Some("t"), line_no: None, column_no: None, reason: ParamNotFoundForName("len", "x") })"#;
+
 const NO_HELPER_THERE: &str =
     "Err(RenderError { template_name: Some(\"t\"), line_no: Some(3), column_no: Some(4), \
         reason: HelperNotFound(\"none\") })";
@@ -88,6 +91,12 @@ const NO_PARTIAL: &str =
 
 const NO_DECORATOR: &str =
     r#"Err(RenderError { template_name: Some("t"), line_no: None, column_no: None, reason: DecoratorNotFound("d") })"#;
+
+// `{{len}}`.
+fn length(rt: &impl Abort, alloc: Global) -> TemplateElement {
+    let call = call_of(rt, alloc, "len", Vec::new(alloc), false);
+    TemplateElement::Expression(boxed(rt, alloc, call))
+}
 
 fn refuses_names(rt: &impl Abort, alloc: Global) {
     let element = TemplateElement::PartialExpression(naming(rt, alloc, "p"));
@@ -105,6 +114,7 @@ fn refuses_names(rt: &impl Abort, alloc: Global) {
 fn elements_render_by_hand(rt: HostRuntime) {
     let alloc = rt.alloc();
     gives_placeless(&rt, alloc, unknown(&rt, alloc), NO_HELPER);
+    gives_placeless(&rt, alloc, length(&rt, alloc), NO_LENGTH);
     refuses_names(&rt, alloc);
     let mapping = vec![in alloc; TemplateMapping(3, 4)].expect(&rt, "memory");
     gives_in(&rt, alloc, unknown(&rt, alloc), mapping, NO_HELPER_THERE);

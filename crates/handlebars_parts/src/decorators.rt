@@ -7,7 +7,7 @@ ghost use Rattle.handlebars_base.specs.Answers.{gives};
 ghost use Rattle.handlebars_helpers.specs.Decoration.{binds, sets_data, sets_partial, unbinds};
 ghost use Rattle.handlebars_helpers.specs.DecoratorsView.{tag_view};
 ghost use Rattle.handlebars_scope.specs.Contexts.{data_of};
-ghost use Rattle.handlebars_call_tests.specs.Parts.{first_values};
+ghost use Rattle.handlebars_parts.specs.Parts.{first_values};
 
 use handlebars::{Context, Decorator, DecoratorDef, DecoratorResult, DecoratorStep, JsonValue};
 use std::alloc::{AllocError, Global};
@@ -31,6 +31,35 @@ impl DecoratorDef for SettingData {
     ) -> DecoratorResult {
         let data = self.data.clone(self.alloc)?;
         Ok(vec![in self.alloc; DecoratorStep::SetContext(data)]?)
+    }
+
+    ghost one_deeds = { λ d q a b i j. ∣ i ∙ sym j ∣₁ };
+}
+
+/// Sets data, and then other data in the place of these.
+#[derive(Drop)]
+pub struct SettingTwice {
+    pub alloc: Global,
+    pub first: Context,
+    pub second: Context,
+}
+
+impl DecoratorDef for SettingTwice {
+    ghost has_deeds = { λ d q a. a ≡ gives (sets_data (data_of d.first) ∷ sets_data (data_of d.second) ∷ []) };
+
+    fn call(
+        &self,
+        _d: &Decorator,
+        _data: &Context,
+        _changed: Option<&Context>,
+        _strict: bool,
+    ) -> DecoratorResult {
+        let first = self.first.clone(self.alloc)?;
+        let second = self.second.clone(self.alloc)?;
+        Ok(vec![in self.alloc;
+            DecoratorStep::SetContext(first),
+            DecoratorStep::SetContext(second),
+        ]?)
     }
 
     ghost one_deeds = { λ d q a b i j. ∣ i ∙ sym j ∣₁ };

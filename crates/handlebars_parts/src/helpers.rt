@@ -1,16 +1,20 @@
 //! Helpers of a caller's own. Each states what it answers, and that this is one answer.
 
-ghost use Rattle.std.specs.Prelude.{◌≡◌, ◌∷◌, [], IfOk, None, Some, string_bytes};
+ghost use Rattle.std.specs.Prelude.{◌≡◌, ◌++◌, ◌∷◌, [], IfOk, None, Some, string_bytes};
 ghost use Rattle.std.proofs.Common.{sym, ◌∙◌};
 ghost use Rattle.serde_json.specs.Data.{string};
+ghost use Rattle.serde_json.specs.View.{view};
 ghost use Rattle.handlebars_base.specs.Answers.{gives};
 ghost use Rattle.handlebars_helpers.specs.Own.{not_offered, offers, offers_missing};
-ghost use Rattle.handlebars_helpers.specs.Own.{renders_body, renders_inverse, writes};
+ghost use Rattle.handlebars_helpers.specs.Own.{renders_body, renders_body_in, renders_inverse, writes};
 ghost use Rattle.handlebars_helpers.specs.View.{helper_view};
-ghost use Rattle.handlebars_call_tests.specs.Parts.{distance, shown_at};
+ghost use Rattle.handlebars_scope.specs.ScopeView.{frame_of};
+ghost use Rattle.handlebars_scope.specs.Scopes.{empty_frame};
+ghost use Rattle.handlebars_parts.specs.Parts.{distance, shown_at};
 
 use handlebars::{
-    Context, Helper, HelperDef, HelperResult, HelperStep, HelperValue, JsonValue, RenderError,
+    BlockContext, Context, Helper, HelperDef, HelperResult, HelperStep, HelperValue, JsonValue,
+    RenderError,
 };
 use std::alloc::{AllocError, Global};
 
@@ -153,6 +157,174 @@ impl HelperDef for Absent {
         _strict: bool,
     ) -> HelperResult {
         Ok(None)
+    }
+
+    ghost one_steps = { λ h q a b i j. ∣ i ∙ sym j ∣₁ };
+
+    ghost one_offer = { λ h q a b i j. ∣ i ∙ sym j ∣₁ };
+}
+
+/// Does nothing: it has steps, and there are none.
+#[derive(Drop)]
+pub struct Silent {
+    pub alloc: Global,
+}
+
+impl HelperDef for Silent {
+    ghost has_steps = { λ h q a. a ≡ gives (Some []) };
+
+    ghost has_offer = { λ h q a. a ≡ gives not_offered };
+
+    fn call_inner(
+        &self,
+        _h: &Helper,
+        _data: &Context,
+        _changed: Option<&Context>,
+        _strict: bool,
+    ) -> Result<HelperValue, RenderError> {
+        Ok(HelperValue::NotOffered)
+    }
+
+    fn call(
+        &self,
+        _h: &Helper,
+        _data: &Context,
+        _changed: Option<&Context>,
+        _strict: bool,
+    ) -> HelperResult {
+        Ok(Some(Vec::new(self.alloc)))
+    }
+
+    ghost one_steps = { λ h q a b i j. ∣ i ∙ sym j ∣₁ };
+
+    ghost one_offer = { λ h q a b i j. ∣ i ∙ sym j ∣₁ };
+}
+
+/// Writes a text, and renders its inverse, its body, and its body in a block that stands at a value.
+#[derive(Drop)]
+pub struct Stepping {
+    pub alloc: Global,
+    pub text: String,
+    pub value: JsonValue,
+}
+
+impl Stepping {
+    // A block at the value.
+    fn block(&self) -> Result<BlockContext, AllocError>
+        ensures { IfOk result (λ b. frame_of b ≡ record empty_frame { base_value = Some (view self.now.value) }) }
+    {
+        let mut block = BlockContext::new(self.alloc);
+        block.set_base_value(self.value.clone()?);
+        Ok(block)
+    }
+}
+
+impl HelperDef for Stepping {
+    ghost has_steps = { λ h q a. a ≡ gives (Some (writes (string_bytes h.text) ∷ renders_inverse ∷ renders_body
+        ∷ renders_body_in (record empty_frame { base_value = Some (view h.value) }) ∷ [])) };
+
+    ghost has_offer = { λ h q a. a ≡ gives not_offered };
+
+    fn call_inner(
+        &self,
+        _h: &Helper,
+        _data: &Context,
+        _changed: Option<&Context>,
+        _strict: bool,
+    ) -> Result<HelperValue, RenderError> {
+        Ok(HelperValue::NotOffered)
+    }
+
+    fn call(
+        &self,
+        _h: &Helper,
+        _data: &Context,
+        _changed: Option<&Context>,
+        _strict: bool,
+    ) -> HelperResult {
+        let text = self.text.clone()?;
+        let block = self.block()?;
+        Ok(Some(vec![in self.alloc;
+            HelperStep::Write(text),
+            HelperStep::Inverse,
+            HelperStep::Body,
+            HelperStep::BodyIn(block),
+        ]?))
+    }
+
+    ghost one_steps = { λ h q a b i j. ∣ i ∙ sym j ∣₁ };
+
+    ghost one_offer = { λ h q a b i j. ∣ i ∙ sym j ∣₁ };
+}
+
+/// Has no steps, and offers its value, whatever it is.
+#[derive(Drop)]
+pub struct Valued {
+    pub value: JsonValue,
+}
+
+impl HelperDef for Valued {
+    ghost has_steps = { λ h q a. a ≡ gives None };
+
+    ghost has_offer = { λ h q a. a ≡ gives (offers (view h.value)) };
+
+    fn call_inner(
+        &self,
+        _h: &Helper,
+        _data: &Context,
+        _changed: Option<&Context>,
+        _strict: bool,
+    ) -> Result<HelperValue, RenderError> {
+        Ok(HelperValue::Value(self.value.clone()?))
+    }
+
+    fn call(
+        &self,
+        _h: &Helper,
+        _data: &Context,
+        _changed: Option<&Context>,
+        _strict: bool,
+    ) -> HelperResult {
+        Ok(None)
+    }
+
+    ghost one_steps = { λ h q a b i j. ∣ i ∙ sym j ∣₁ };
+
+    ghost one_offer = { λ h q a b i j. ∣ i ∙ sym j ∣₁ };
+}
+
+/// Writes a text, and its parameter.
+#[derive(Drop)]
+pub struct Saying {
+    pub alloc: Global,
+    pub text: String,
+}
+
+impl HelperDef for Saying {
+    ghost has_steps = { λ h q a. a ≡ gives (Some (writes (string_bytes h.text ++ shown_at 0 q.view) ∷ [])) };
+
+    ghost has_offer = { λ h q a. a ≡ gives not_offered };
+
+    fn call_inner(
+        &self,
+        _h: &Helper,
+        _data: &Context,
+        _changed: Option<&Context>,
+        _strict: bool,
+    ) -> Result<HelperValue, RenderError> {
+        Ok(HelperValue::NotOffered)
+    }
+
+    fn call(
+        &self,
+        h: &Helper,
+        _data: &Context,
+        _changed: Option<&Context>,
+        _strict: bool,
+    ) -> HelperResult {
+        let mut text = self.text.clone()?;
+        text.push_str(shown(self.alloc, h, 0)?.as_str())?;
+        Ok(Some(vec![in self.alloc; HelperStep::Write(text)]?))
     }
 
     ghost one_steps = { λ h q a b i j. ∣ i ∙ sym j ∣₁ };

@@ -1,6 +1,6 @@
 //! Functions of a caller's own that stand for a helper and for a decorator.
 
-ghost use Rattle.std.specs.Prelude.{◌≡◌, ◌∷◌, [], MatchResult, Some, codes};
+ghost use Rattle.std.specs.Prelude.{◌≡◌, ◌++◌, ◌∷◌, [], MatchResult, Some, codes};
 ghost use Rattle.handlebars_base.specs.Reasons.{out_of_memory};
 ghost use Rattle.handlebars_helpers.specs.Decoration.{binds};
 ghost use Rattle.handlebars_helpers.specs.DecoratorsView.{deeds_of};
@@ -8,19 +8,21 @@ ghost use Rattle.handlebars_helpers.specs.FnRefusals.{refused_for};
 ghost use Rattle.handlebars_helpers.specs.Own.{writes};
 ghost use Rattle.handlebars_helpers.specs.OwnView.{steps_of};
 ghost use Rattle.handlebars_helpers.specs.View.{helper_view};
-ghost use Rattle.handlebars_call_tests.specs.Parts.{shown_at};
+ghost use Rattle.handlebars_parts.specs.Parts.{shown_at};
 
-use crate::parts::helpers::shown;
+use crate::helpers::shown;
 use handlebars::{DecoratorStep, FnDeeds, FnSteps, Helper, HelperStep};
 use std::alloc::Global;
 
-/// Writes its parameter.
-pub fn written(alloc: Global, h: &Helper) -> FnSteps
-    ensures { MatchResult result (λ steps. steps_of steps ≡ Some (writes (shown_at 0 (helper_view h.now)) ∷ []))
+/// Writes a text, and its parameter.
+pub fn said(alloc: Global, text: &str, h: &Helper) -> FnSteps
+    ensures { MatchResult result
+        (λ steps. steps_of steps ≡ Some (writes (text.now ++ shown_at 0 (helper_view h.now)) ∷ []))
         (λ e. refused_for e ≡ out_of_memory) }
 {
-    let text = shown(alloc, h, 0)?;
-    Ok(Some(vec![in alloc; HelperStep::Write(text)]?))
+    let mut said = String::from_str(alloc, text)?;
+    said.push_str(shown(alloc, h, 0)?.as_str())?;
+    Ok(Some(vec![in alloc; HelperStep::Write(said)]?))
 }
 
 /// Makes `size` a name of `len`.
