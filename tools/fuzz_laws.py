@@ -1,0 +1,231 @@
+"""The laws by which tools/fuzz compares what the rows of a case answer."""
+import fuzz_cases
+from fuzz_rows import Refusal, by_bytes, read_refusal, read_texts
+
+# ---- the laws: each yields the labels of the rows that break it, and what differs
+
+ALL = ("text", "refusal", "printed", "logged")
+# What refuses data with a number that no context takes.
+NO_DATA = Refusal("Number outside the kept range", None, None, None)
+
+
+def is_out(data):
+    """Whether no context takes the data."""
+    if isinstance(data, (dict, list)):
+        return any(map(is_out, data.values() if isinstance(data, dict) else data))
+    return isinstance(data, float) or isinstance(data, int) and not -(2**63) <= data < 2**64
+
+
+def differing(one, other, parts=ALL):
+    return [f"{it}: {getattr(one, it)!r} / {getattr(other, it)!r}" for it in parts if getattr(one, it) != getattr(other, it)]
+
+
+class Judged:
+    """A case with its answers, and what the laws say of them."""
+
+    def __init__(self, rows, answers):
+        self.rows, self.case, self.answers = rows, rows.case, answers
+        self.at = {label: ways["writer"] for label, ways in answers.items() if "writer" in ways}
+        self.first = self.at["source"]
+        # why templates don't compile
+        self.faults = {name: self.at["alone", name].refusal for name in rows.all}
+        self.broken = [it for it in by_bytes(rows.partials) if self.faults[it]]
+        self.main_fault = self.faults[rows.name]
+        self.no_data = is_out(self.case.data)
+
+    def compiles(self):
+        return not self.broken and not self.main_fault and not self.no_data
+
+    def for_the_limit(self):
+        return self.first.refusal is not None and self.first.refusal.reason == f"Inclusions nest deeper than {self.rows.limit}"
+
+    def ways(self):
+        """All ways of each row agree with its writer, or, of one that has none, there is one way alone."""
+        for label, ways in self.answers.items():
+            writer = ways.get("writer")
+            for way, it in ways.items() if writer else ():
+                handed = way in ("registry", "converted")
+                parts = ("refusal", "printed", "logged", "asked") if handed else (*ALL, "asked")
+                what = differing(it, writer, parts)
+                if handed and it.text != (None if writer.refusal else writer.text):
+                    what.append(f"text: {it.text!r} / {writer.text!r}")
+                if what:
+                    yield [label], f"{way} and writer: {what}"
+
+    def alone(self):
+        """The first template that doesn't compile refuses all, and nothing is written."""
+        wanted = None
+        if self.broken:
+            wanted = self.faults[self.broken[0]]
+        elif self.no_data:
+            wanted = NO_DATA
+        elif self.main_fault:
+            wanted = self.in_unnamed(self.main_fault)
+        if wanted and (self.first.refusal != wanted or self.first.text != ""):
+            yield ["source", ("alone", wanted.template or self.rows.name)], f"{self.first!r} / {wanted}"
+        for name, fault in self.faults.items():
+            if fault and fault.template not in (None, name) or self.at["alone", name].text:
+                yield [("alone", name)], f"another template: {fault}"
+
+    def in_unnamed(self, fault):
+        return fault._replace(template="Unnamed" if fault.template == self.rows.name else fault.template)
+
+    def name(self):
+        """By name as by source, but for the name of the refusal."""
+        wanted, named = self.first.refusal, self.at["name"]
+        if self.no_data and self.main_fault and not self.broken:
+            wanted = self.main_fault
+        elif wanted and wanted.line is not None and wanted.template in (None, "Unnamed"):
+            wanted = wanted._replace(template=self.rows.name)
+        what = differing(named, self.first, ("text", "logged"))
+        if what or named.refusal != wanted:
+            yield ["source", "name"], f"{what} {named.refusal} / {wanted}"
+
+    def as_first(self, label, law_labels=(), parts=ALL):
+        what = differing(self.at[label], self.first, parts)
+        if what:
+            yield ["source", label, *law_labels], str(what)
+
+    def byte(self):
+        yield from self.as_first("byte")
+
+    def others(self):
+        for label in ("added", "replaced", "taken"):
+            yield from self.as_first(label)
+
+    def fails(self):
+        failing = self.at["fails"]
+        if differing(failing, self.first):
+            begins = self.first.text.startswith(failing.text.rstrip("\ufffd")) and len(failing.text) <= len(self.first.text) + 3
+            if not failing.refusal or failing.refusal.line is None or not begins or self.refused_early():
+                yield ["source", "fails"], f"{failing!r} / {self.first!r}"
+
+    def refused_early(self):
+        return bool(self.broken or self.main_fault or self.no_data)
+
+    def takes(self):
+        taking, whole = self.answers["takes"]["template"], self.answers["source"]["template"]
+        if len(whole.text.encode("utf-8")) <= self.rows.takes:
+            what = differing(taking, whole)
+            if what:
+                yield ["source", "takes"], str(what)
+        elif not taking.refusal or taking.refusal.line is None or not whole.text.startswith(taking.text):
+            yield ["source", "takes"], f"{taking!r} / {whole!r}"
+        elif len(taking.text.encode("utf-8")) > self.rows.takes:
+            yield ["takes"], f"{taking!r} is too long"
+
+    def larger(self):
+        larger = self.at["larger"]
+        if not self.for_the_limit():
+            yield from self.as_first("larger")
+        elif not larger.text.startswith(self.first.text) or larger.logged[: len(self.first.logged)] != self.first.logged:
+            yield ["source", "larger"], f"no beginning: {self.first!r} / {larger!r}"
+
+    def step_of(self, label, number):
+        """The refusal of a step that refuses a row, the paths that it asked for, and the names that there are then."""
+        answer, begin = self.at[label], f"step {number}: "
+        reason, at, fault = answer.refusal.reason if answer.refusal else "", len(begin), None
+        if not reason.startswith(begin) or answer.refusal[1:] != (None, None, None):
+            return None
+        if answer.text or answer.logged or answer.asked:
+            return None
+        if reason.startswith("refused: ", at):
+            fault, at = read_refusal(reason, at)
+            at += len("; ")
+        asked, at = read_texts(reason, at + len("asked for "))
+        names, at = read_texts(reason, at + len("; has "))
+        return (fault, asked, names) if at == len(reason) else None
+
+    def walked(self):
+        """The step of the folder: up to the first file that doesn't compile."""
+        asked, names = [], set()
+        for path, name in self.rows.walk:
+            asked.append(path)
+            if name is not None and self.faults.get(name):
+                return self.faults[name], asked, by_bytes(names)
+            names |= set() if name is None else {name}
+        return None, asked, by_bytes(names)
+
+    def folder(self):
+        if self.broken:
+            came = self.step_of("folder", 1)
+            if came != self.walked():
+                yield ["folder", *(("alone", it) for it in self.broken)], f"{came} / {self.walked()}"
+        else:
+            yield from self.as_first("folder")
+
+    def listed(self):
+        came = self.step_of("listed", 1)
+        if came != self.walked():
+            yield ["listed"], f"{came} / {self.walked()}"
+
+    def read_in(self, order, stops):
+        """The paths of files that are read in this order, up to the first that doesn't compile if it stops there."""
+        read = []
+        for name in order:
+            read.append(self.rows.paths[name])
+            if stops and self.faults[name]:
+                break
+        return read
+
+    def dev(self):
+        rows, partials = self.rows, by_bytes(self.rows.partials)
+        for label, names in (("dev", partials), ("dev name", by_bytes(rows.all))):
+            broken = [it for it in names if self.faults[it]]
+            if broken:
+                came = self.step_of(label, 2)
+                wanted = self.faults[broken[0]], self.read_in(names, True), names[: names.index(broken[0])]
+                if came != wanted:
+                    yield [label], f"{came} / {wanted}"
+            else:
+                order = partials if label == "dev" else [rows.name, *partials]
+                yield from self.as_read(label, order, self.at["name" if label == "dev name" else "source"])
+        for label in ("anew", "anew name"):
+            yield from self.anew(label)
+
+    def anew(self, label):
+        rows, partials = self.rows, by_bytes(self.rows.partials)
+        order = partials if label == "anew" else [rows.name, *partials]
+        broken = [it for it in order if self.faults[it]]
+        if self.no_data:
+            yield from self.refused_as(label, NO_DATA, [])
+        elif label == "anew" and self.main_fault:
+            yield from self.refused_as(label, self.in_unnamed(self.main_fault), [])
+        elif broken:
+            yield from self.refused_as(label, self.faults[broken[0]], self.read_in(order, True))
+        else:
+            yield from self.as_read(label, order, self.at["source" if label == "anew" else "name"])
+
+    def refused_as(self, label, wanted, asked):
+        it = self.at[label]
+        if it.refusal != wanted or it.text or it.logged or it.asked != asked:
+            yield [label], f"{it!r} / {wanted}, asked {asked}"
+
+    def as_read(self, label, order, wanted):
+        what = differing(self.at[label], wanted)
+        asked = self.read_in(order, True) if not self.refused_early() else []
+        if what or self.at[label].asked != asked:
+            yield [label, "name" if "name" in label else "source"], f"{what}, asked {self.at[label].asked} / {asked}"
+
+    def marks(self):
+        if not self.keeps_marks_out():
+            return
+        for label, ways in self.answers.items():
+            for way, it in ways.items():
+                if any(mark in (it.text or "") for mark in fuzz_cases.MARKS):
+                    yield [label], f"{way}: {it.text!r}"
+
+    def keeps_marks_out(self):
+        return fuzz_cases.keeps_marks_out(self.case)
+
+
+LAWS = ["ways", "alone", "name", "byte", "fails", "takes", "larger", "others", "folder", "listed", "dev", "marks"]
+
+
+def findings(rows, answers):
+    """The laws that the answers break, each with labels of rows and what differs."""
+    ended = [label for label, it in answers.items() if isinstance(it, str)]
+    if ended:
+        return [("ended", ended[:1], answers[ended[0]])]
+    judged = Judged(rows, answers)
+    return [(law, *it) for law in LAWS for it in getattr(judged, law)()]
