@@ -24,12 +24,12 @@ impl Answers {
     pub fn of(alloc: Global, row: &Rendering) -> Result<Answers, AllocError>
         ensures { IfOk result (λ answers. is_some answers.other ≡ is_some row.now.other) }
     {
+        let swept = sweep(alloc, row)?;
         let first = Answer::of(alloc, row, &row.data)?;
         let other = match &row.other {
             Some(other) => Some(Answer::of(alloc, row, &other.data)?),
             None => None,
         };
-        let swept = sweep(alloc, row)?;
         Ok(Answers {
             first,
             other,
