@@ -4,7 +4,6 @@ A template is a list of pieces, each a text or a whole tag. Names of data and of
 Blocks of inclusions go to partials that stand behind in the list of names, and inclusions without a block to any: so a text
 that is kept for `@partial-block` doesn't double with each turn of an endless recursion."""
 import dataclasses
-import json
 
 
 @dataclasses.dataclass
@@ -474,7 +473,3 @@ def smaller_cases(case):
     # by characters, where it doesn't matter which of them are of tags
     if not keeps_marks_out(case):
         yield from smaller_pieces(case, lambda pieces: ([it] for it in cuts("".join(pieces))))
-
-
-def shown(case):
-    return json.dumps(dataclasses.asdict(case), ensure_ascii=False)

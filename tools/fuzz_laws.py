@@ -81,10 +81,10 @@ class Judged:
         if what or named.refusal != wanted:
             yield ["source", "name"], f"{what} {named.refusal} / {wanted}"
 
-    def as_first(self, label, law_labels=(), parts=ALL):
-        what = differing(self.at[label], self.first, parts)
+    def as_first(self, label):
+        what = differing(self.at[label], self.first)
         if what:
-            yield ["source", label, *law_labels], str(what)
+            yield ["source", label], str(what)
 
     def byte(self):
         yield from self.as_first("byte")
