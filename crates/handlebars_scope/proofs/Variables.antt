@@ -1,7 +1,7 @@
 -- Maps by name, and the variables of a block, of which four have a place of their own.
-use Rattle.std.proofs.Common.{◌≡◌, ◌≢◌, Bool, true, false, cond, is_eq, List, [], ◌∷◌, Option, Some, None, option_map, String, Global, string_bytes, string_cmp, nat_cmp, bytes_eq, codes, refl, sym, ap, ◌∙◌}
+use Rattle.std.proofs.Common.{◌≡◌, ◌≢◌, Bool, true, false, cond, is_eq, ℕ, List, [], ◌∷◌, length, is_some, Option, Some, None, option_map, String, Global, string_bytes, string_cmp, nat_cmp, bytes_eq, codes, refl, sym, ap, ◌∙◌}
 use Rattle.std.proofs.lemmas.Bool.{false≢true}
-use Rattle.std.proofs.lemmas.Map.Text.{btree_map_updates_text}
+use Rattle.std.proofs.lemmas.Map.Text.{btree_map_updates_text, is_eq-slice_cmp}
 use Rattle.std.proofs.lemmas.Slice.Eq.{bytes_eq-Decides}
 use Rattle.std.specs.BTreeMap.{BTreeMap, IsClone, Updates, get_by_text, is_at}
 use Rattle.std.specs.Cmp.Lexicographic.{slice_cmp}
@@ -34,6 +34,19 @@ pub get_by_text-empty : {X Y : Type 0} (f : X → Y) (m : BTreeMap (String Globa
     → (name : Text) → option_map f (get_by_text m name) ≡ None
 get_by_text-empty f m is name =
     ap (λ es. option_map f (lookup (is_at (λ k. slice_cmp nat_cmp name (string_bytes k))) es)) is
+
+-- a map with an entry has something under that entry's name
+pub get_by_text-first : {X Y : Type 0} (f : X → Y) (m : BTreeMap (String Global) X) (es : List (String Global × X))
+    → es ≡ m.entries → length es ≢ 0 → (name : Text) × (is_some (option_map f (get_by_text m name)) ≡ true)
+get_by_text-first f m [] is some = absurd (some refl)
+get_by_text-first f m (e ∷ es) is some =
+    let name = string_bytes e.0 in
+    let test = is_at (λ k. slice_cmp nat_cmp name (string_bytes k)) in (
+      name,
+      ap (λ all. is_some (option_map f (lookup test all))) (sym is)
+          ∙ ap (λ b. is_some (option_map f (cond b (Some e.1) (lookup test es))))
+          (is_eq-slice_cmp name name ∙ (bytes_eq-Decides name name).1 refl),
+    )
 
 -- ---- a value put under a name
 

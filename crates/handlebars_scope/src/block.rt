@@ -1,9 +1,10 @@
 //! Blocks of scope: what `each`, `with` and an inclusion put around what they render.
 
-ghost use Rattle.std.specs.Prelude.{◌≡◌, ◌==◌, IfOk, IsTrue, OnErr, OnOk, Some, codes, map, option_map, string_bytes};
+ghost use Rattle.std.specs.Prelude.{◌≡◌, ◌==◌, IfOk, IsTrue, OnErr, OnOk, Some, codes, false, is_some, map, option_map, string_bytes, true};
 ghost use Rattle.std.specs.Borrow.{sem};
 ghost use Rattle.serde_json.specs.Data.{boolean, number, unsigned};
 ghost use Rattle.serde_json.specs.View.{view};
+ghost use Rattle.handlebars_base.specs.Bytes.{Text};
 ghost use Rattle.handlebars_template.specs.TreeView.{tree_view};
 ghost use Rattle.handlebars_scope.specs.Lending.{LendsPath, LendsVariables};
 ghost use Rattle.handlebars_scope.specs.Scopes.{bound_path, bound_value, empty_frame, nothing_at, put_at};
@@ -247,6 +248,14 @@ impl BlockContext {
         ensures { option_map (λ t. tree_view t.now.value) result ≡ (frame_of self.now).partial name.now }
     {
         self.local_partials.get(name)
+    }
+
+    /// Whether no template stands in this block under a name.
+    pub fn has_no_partials(&self) -> bool
+        ensures none { IsTrue result → (frame_of self.now).partial ≡ nothing_at }
+        ensures some { result ≡ false → (name : Text) × (is_some ((frame_of self.now).partial name) ≡ true) }
+    {
+        self.local_partials.is_empty()
     }
 
     /// Puts a template under a name in this block. Where memory is refused, nothing is changed.

@@ -1,0 +1,16 @@
+use Rattle.std.proofs.Common.{List, ℕ, refl, sym, ◌∙◌}
+use Rattle.std.proofs.lemmas.Bool.{false≢true}
+use Rattle.std.proofs.lemmas.List.{nil_from_length}
+use Rattle.handlebars_template.specs.TreeView.{tree_view}
+use Rattle.handlebars_scope.proofs.Variables.{get_by_text-empty, get_by_text-first}
+use Rattle.handlebars_scope.proofs.block.BlockContext.has_no_partials.Goals as goal
+
+pub returns-clause-none : goal.returns-clause-none
+returns-clause-none c is =
+    let all = λ (name : List ℕ). get_by_text-empty (λ t. tree_view t.value) c.args.self.now.local_partials
+    (nil_from_length c.args.self.now.local_partials.entries (c.is_empty.ensures.0 is)) name in
+    λ i name. all name i
+
+pub returns-clause-some : goal.returns-clause-some
+returns-clause-some c is = get_by_text-first (λ t. tree_view t.value) c.args.self.now.local_partials
+    c.args.self.now.local_partials.entries refl (λ none. false≢true (sym is ∙ c.is_empty.ensures.1 none))
