@@ -1,5 +1,5 @@
 -- Maps by name, and the variables of a block, of which four have a place of their own.
-use Rattle.std.proofs.Common.{◌≡◌, ◌≢◌, Bool, true, false, cond, is_eq, ℕ, List, [], ◌∷◌, length, is_some, Option, Some, None, option_map, String, Global, string_bytes, string_cmp, nat_cmp, bytes_eq, codes, refl, sym, ap, ◌∙◌}
+use Rattle.std.proofs.Common.{◌≡◌, ◌≢◌, Bool, true, false, cond, is_eq, List, [], ◌∷◌, length, is_some, Option, Some, None, option_map, String, Global, string_bytes, string_cmp, nat_cmp, bytes_eq, codes, refl, sym, ap, ◌∙◌}
 use Rattle.std.proofs.lemmas.Bool.{false≢true}
 use Rattle.std.proofs.lemmas.Map.Text.{btree_map_updates_text, is_eq-slice_cmp}
 use Rattle.std.proofs.lemmas.Slice.Eq.{bytes_eq-Decides}
