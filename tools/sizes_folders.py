@@ -72,9 +72,6 @@ def row_of_inclusions(size, stack=STACK):
 
 @sized(65_535, "inclusions")
 def inclusions_in_each_other(size):
-    # At its full size this is known to fail, and is to fail while it is so: each inclusion looks for a local partial of its
-    # name in every block of scope around it, so the looks go with the square of the size, and the time does at least
-    # (docs/SPEED.md, Hostile sizes).
     return row_of_inclusions(size, 1 << 30)
 
 

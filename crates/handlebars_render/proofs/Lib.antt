@@ -8,6 +8,8 @@ mod PlacedSections
 mod Elements
 mod Calls
 mod Leaves
+mod Bare
+mod LentBlocks
 mod Kept
 mod Lists
 mod Evaluates
@@ -19,6 +21,7 @@ mod Shows
 mod BoundCalls
 mod Leads
 mod Changed
+mod Nearest
 mod Turns
 pub mod Silent
 mod Evaluated

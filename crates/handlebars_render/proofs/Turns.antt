@@ -1,5 +1,5 @@
 -- What turns and blocks of scope carry out.
-use Rattle.std.proofs.Common.{◌≡◌, ℕ, ◌+◌, ◌<◌, arith, length, slice_index_or, slice_set, List, [], ◌∷◌, Option, None, Some, option_map, Result, Ok, Err, refl, sym, ap, ◌∙◌, subst}
+use Rattle.std.proofs.Common.{◌≡◌, ℕ, ◌+◌, List, [], ◌∷◌, Option, None, Some, option_map, Result, Ok, Err, refl, sym, ap, ◌∙◌, subst}
 use denote.Ref.{Bor}
 use Rattle.std.specs.declared.io.Error.{Error}
 use Rattle.std.specs.Result.{IsErrAnd}
@@ -14,13 +14,11 @@ use Rattle.handlebars_template.specs.declared.template.tree.HelperTemplate.{Help
 use Rattle.handlebars_template.proofs.Levels.{call_binding-view}
 use Rattle.handlebars_base.specs.Outputs.{Held}
 use Rattle.handlebars_scope.specs.Scopes.{Frame}
-use Rattle.handlebars_scope.specs.ScopeView.{frame_of, frames_of}
-use Rattle.handlebars_scope.specs.declared.block.BlockContext.{BlockContext}
 use Rattle.handlebars_meaning.specs.Sites.{Site}
 use Rattle.handlebars_helpers.specs.CallView.{HelperView}
 use Rattle.handlebars_helpers.specs.Turns.{StandsBelow, Turn, turn_name, turn_frame}
 use Rattle.handlebars_meaning.specs.CarryOut.{render_body, take_turn, take_turns}
-use Rattle.handlebars_meaning.specs.State.{Setting, State, pop_frame, nearest_as, with_nearest}
+use Rattle.handlebars_meaning.specs.State.{Setting, State, pop_frame, with_nearest}
 use Rattle.handlebars_meaning.specs.Steps.{Steps, ◌>>◌}
 use Rattle.handlebars_render.specs.Boxed.{answer_of, error_of}
 use Rattle.handlebars_render.specs.declared.boxed.BoxedError.{BoxedError}
@@ -69,20 +67,6 @@ pub below-kept : (path : Option (List Text)) (b : Binding) (t : Turn) (s : State
     → NearestBelow path (state_of after).blocks
 below-kept path b t s mid after is kept = below-same path (state_of mid).blocks (state_of after).blocks kept.blocks
     (subst (λ (z : State). NearestBelow path z.blocks) (sym is) (below-turn_frame path b t s.blocks))
-
--- the nearest block, where there is one
-pub below-front : (path : Option (List Text)) (bs : List BlockContext) (b : BlockContext) → 0 < length bs
-    → b ≡ slice_index_or bs 0 b → NearestBelow path (frames_of bs) → StandsBelow path (frame_of b)
-below-front path [] b some is below = absurd (omega (arith, some))
-below-front path (c ∷ bs) b some is below = subst (λ z. StandsBelow path (frame_of z)) (sym is) below
-
--- the blocks behind a change of the nearest one
-pub frames-turned : (change : Frame → Frame) (bs : List BlockContext) (b other : BlockContext)
-    → b ≡ slice_index_or bs 0 b → frame_of other ≡ change (frame_of b)
-    → frames_of (slice_set bs 0 other) ≡ nearest_as change (frames_of bs)
-frames-turned change [] b other is changed = refl
-frames-turned change (c ∷ bs) b other is changed =
-    ap (λ (f : Frame). f ∷ frames_of bs) (changed ∙ ap (λ z. change (frame_of z)) is)
 
 module _ (p : Setting) (may : Error → Type 0) where
   -- ---- the loop over turns

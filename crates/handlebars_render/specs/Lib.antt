@@ -7,6 +7,8 @@ pub mod Bound
 pub mod Shows
 pub mod Writes
 pub mod OwnChoice
+pub mod Bare
+pub mod BlocksView
 pub mod Lending
 pub mod Places
 pub mod Next

@@ -39,6 +39,7 @@ use Rattle.handlebars_meaning.specs.Steps.{Steps, Prog}
 use Rattle.handlebars_meaning.specs.Asks.{Asks}
 use Rattle.handlebars_meaning.specs.Values.{as_read}
 use Rattle.handlebars_meaning.specs.Runs.{Fault, Outcome, Ended, Refused, Faulted, NoMemory, Runs}
+use Rattle.handlebars_render.specs.BlocksView.{all_frames}
 use Rattle.handlebars_render.specs.declared.context.RenderContext.{RenderContext}
 use Rattle.handlebars_render.specs.declared.called.Called.{Called}
 use Rattle.handlebars_render.specs.declared.environment.Environment as declared
@@ -100,7 +101,7 @@ pub record KeptIn (w : Within) : Type 0 where
 abbrev pub state_of : RenderContext → State
 state_of rc = record {
   current = option_map string_bytes rc.current_template;
-  blocks = frames_of rc.blocks.items;
+  blocks = all_frames rc.blocks;
   recursive = rc.recursive_lookup;
   line = line_of rc.line;
   escapes = rc.escapes;

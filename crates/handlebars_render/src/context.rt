@@ -13,10 +13,12 @@ ghost use Rattle.handlebars_render.specs.Lending.{LendsBlock};
 ghost use Rattle.handlebars_meaning.specs.State.{push_frame, first_state, pop_frame, nearest_variables, partial_in, with_data, with_local, with_nearest, with_partial, without_local};
 ghost use Rattle.handlebars_render.specs.View.{state_of, root_of, has_failed, HasOuter, IsKept, NearestBelow};
 
+mod blocks;
 mod lines;
 mod lookup;
 mod names;
 
+use crate::context::blocks::Blocks;
 use crate::null::Null;
 use handlebars_base::json::value::Json;
 use handlebars_helpers::own::LocalHelper;
@@ -29,7 +31,6 @@ use handlebars_scope::local_vars::LocalVars;
 use handlebars_template::template::{BlockParam, Template};
 use std::alloc::{AllocError, Global};
 use std::collections::{BTreeMap, VecDeque};
-use std::mem;
 use std::rc::Rc;
 
 /// The state of a rendering: what templates change as they are rendered, and what decorators put in the place of
@@ -38,8 +39,7 @@ pub struct RenderContext {
     alloc: Global,
     root_template: Option<String>,
     current_template: Option<String>,
-    // Nearest first.
-    blocks: VecDeque<BlockContext>,
+    blocks: Blocks,
     recursive_lookup: bool,
     line: LineState,
     escapes: bool,
@@ -84,8 +84,7 @@ impl RenderContext {
             Some(name) => Some(name.clone()?),
             None => None,
         };
-        let mut blocks = VecDeque::new(alloc);
-        blocks.push_front(BlockContext::new(alloc))?;
+        let blocks = Blocks::new(alloc)?;
         Ok(RenderContext {
             alloc,
             root_template,
@@ -117,8 +116,7 @@ impl RenderContext {
         ensures root { root_of self.new ≡ root_of self.old }
         ensures failed { has_failed self.new ≡ has_failed self.old }
     {
-        self.blocks.push_front(block)?;
-        Ok(())
+        self.blocks.push(block)
     }
 
     /// Takes the nearest block of scope away, where there is one.
@@ -127,14 +125,14 @@ impl RenderContext {
         ensures root { root_of self.new ≡ root_of self.old }
         ensures failed { has_failed self.new ≡ has_failed self.old }
     {
-        self.blocks.pop_front();
+        self.blocks.pop();
     }
 
     /// The nearest block of scope.
     pub fn block(&self) -> Option<&BlockContext>
         ensures { option_map (λ b. frame_of b.now) result ≡ slice_get (state_of self.now).blocks 0 }
     {
-        self.blocks.front()
+        self.blocks.nearest()
     }
 
     /// The nearest block of scope, to be changed.
@@ -142,7 +140,7 @@ impl RenderContext {
         ensures* writes_back { sem 𝓛 (LendsBlock self.entry result) }
         ensures value { option_map (λ b. frame_of b.now) result ≡ slice_get (state_of self.old).blocks 0 }
     {
-        self.blocks.front_mut()
+        self.blocks.nearest_mut()
     }
 
     /// Other blocks of scope, nearest first, take the place of those that are there, which are given
@@ -153,7 +151,7 @@ impl RenderContext {
         ensures root { root_of self.new ≡ root_of self.old }
         ensures failed { has_failed self.new ≡ has_failed self.old }
     {
-        mem::replace(&mut self.blocks, blocks)
+        self.blocks.replace(blocks)
     }
 
     /// From now on lookup is recursive, or isn't.
@@ -179,7 +177,7 @@ impl RenderContext {
             (state_of self.old)) }
         ensures outer { HasOuter self.old self.new }
     {
-        match self.blocks.front_mut() {
+        match self.blocks.nearest_mut() {
             Some(block) => {
                 if first {
                     set_up_turn(self.alloc, block, binding, path, turn)
@@ -197,7 +195,7 @@ impl RenderContext {
             ≡ with_nearest (with_partial name.now (tree_view template.now)) (state_of self.old)) }
         ensures kept { IsKept self.old self.new }
     {
-        match self.blocks.front_mut() {
+        match self.blocks.nearest_mut() {
             Some(block) => put_partial(self.alloc, block, name, template),
             None => Ok(()),
         }
@@ -207,7 +205,7 @@ impl RenderContext {
     pub fn get_partial(&self, name: &str) -> Option<&Template>
         ensures { option_map (λ t. tree_view t.now) result ≡ partial_in (state_of self.now).blocks name.now }
     {
-        match self.local_partial(name) {
+        match self.blocks.partial(name) {
             Some(template) => Some(&**template),
             None => None,
         }
@@ -219,28 +217,17 @@ impl RenderContext {
         ensures { IfOk result (λ shared. option_map (λ t. tree_view t.value) shared
             ≡ partial_in (state_of self.now).blocks name.now) }
     {
-        match self.local_partial(name) {
+        match self.blocks.partial(name) {
             Some(template) => Ok(Some(template.clone()?)),
             None => Ok(None),
         }
-    }
-
-    fn local_partial(&self, name: &str) -> Option<&Rc<Template>>
-        ensures { option_map (λ t. tree_view t.now.value) result ≡ partial_in (state_of self.now).blocks name.now }
-    {
-        for block in self.blocks.iter() {
-            if let Some(template) = block.get_local_partial(name) {
-                return Some(template);
-            }
-        }
-        None
     }
 
     // The variables of the nearest block; without any block there are none.
     pub(super) fn nearest_variables(&self) -> Result<LocalVars, AllocError>
         ensures { IfOk result (λ variables. variables_of variables ≡ nearest_variables (state_of self.now).blocks) }
     {
-        match self.blocks.front() {
+        match self.blocks.nearest() {
             Some(block) => block.local_variables().clone(),
             None => Ok(LocalVars::new(self.alloc)),
         }

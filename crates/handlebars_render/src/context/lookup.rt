@@ -43,7 +43,7 @@ impl RenderContext {
             None => walk::reach(
                 given,
                 path,
-                &self.blocks,
+                &self.blocks.all,
                 bases,
                 self.recursive_lookup,
                 &self.looked_up,
@@ -66,7 +66,7 @@ impl RenderContext {
         match walk::reach_from_data(
             context.data(),
             path,
-            &self.blocks,
+            &self.blocks.all,
             bases,
             self.recursive_lookup,
             &self.looked_up,
@@ -90,8 +90,8 @@ impl RenderContext {
             ≡ gives (Some (view v.now))) }
     {
         match &self.changed {
-            None => walk::current(given, &self.blocks, bases, &self.looked_up),
-            Some(_context) => walk::lent(&self.blocks, bases),
+            None => walk::current(given, &self.blocks.all, bases, &self.looked_up),
+            Some(_context) => walk::lent(&self.blocks.all, bases),
         }
     }
 
@@ -113,7 +113,7 @@ impl RenderContext {
                 self.alloc,
                 given,
                 path,
-                &self.blocks,
+                &self.blocks.all,
                 bases,
                 self.recursive_lookup,
                 &self.looked_up,
@@ -138,7 +138,7 @@ impl RenderContext {
             self.alloc,
             context.data(),
             path,
-            &self.blocks,
+            &self.blocks.all,
             bases,
             self.recursive_lookup,
             &self.looked_up,
@@ -165,7 +165,7 @@ impl RenderContext {
                 self.alloc,
                 given,
                 path,
-                &self.blocks,
+                &self.blocks.all,
                 bases,
                 self.recursive_lookup,
                 &self.looked_up,
@@ -201,7 +201,7 @@ impl RenderContext {
             self.alloc,
             context.data(),
             &reference,
-            &self.blocks,
+            &self.blocks.all,
             &bases,
             self.recursive_lookup,
             &self.looked_up,

@@ -61,7 +61,7 @@ impl RenderContext {
         ensures root { root_of self.new ≡ root_of self.old }
         ensures failed { has_failed self.new ≡ has_failed self.old }
     {
-        self.blocks.push_front(block)?;
+        self.blocks.push(block)?;
         Ok(self.current_template.take())
     }
 
@@ -71,7 +71,7 @@ impl RenderContext {
         ensures root { root_of self.new ≡ root_of self.old }
         ensures failed { has_failed self.new ≡ has_failed self.old }
     {
-        self.blocks.pop_front();
+        self.blocks.pop();
         self.current_template = name;
     }
 
