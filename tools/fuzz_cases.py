@@ -151,7 +151,10 @@ class Drawn:
         return "(" + self.white() + self.call(depth - 1) + self.white() + ")"
 
     def pair(self, depth=1):
-        return self.one(KEYS_OF_PAIRS) + self.white() + "=" + self.white() + self.parameter(depth)
+        return self.key() + self.parameter(depth)
+
+    def key(self):
+        return self.one(KEYS_OF_PAIRS) + self.white() + "=" + self.white()
 
     def call(self, depth=2):
         name = self.draw.choices(list(HELPERS), SHARES)[0]
@@ -268,7 +271,11 @@ class Drawn:
         words = []
         if self.maybe(0.4):
             words.append(self.one(BASES if self.maybe(0.1) else ONES) if self.maybe(0.8) else self.parameter(1))
-        words += [self.pair() for _ in range(self.one([0, 0, 0, 1, 2]))]
+        pairs = self.one([0, 0, 0, 1, 2])
+        words += [self.pair()] if pairs else []
+        # The second is a literal: with the value that it stands at in two pairs, a partial that includes itself would double
+        # that value at each level.
+        words += [self.key() + self.literal()] if pairs == 2 else []
         return "".join(self.space() + it for it in words)
 
     def inclusion(self, depth):

@@ -9,6 +9,9 @@ MAINS = ["\u2603main", "\u2603 a/b", '\u2603"<\n{{x}}', "\u2603.hbs"]
 OTHER = "\u2603other"
 OTHERS = ["", "x", "<b>\n", "{{> p}}", "{{#each .}}{{this}}{{/each}}", "{{> \u2603other}}"]
 OTHERS += ['{{#*inline "p"}}i{{/inline}}{{nothing 1}}']
+# What is added to a limit: the last where no inclusion has pairs, with which each level copies what those around it copied.
+MORE = [1, 1, 2, 64, 1000]
+PAIRED = re.compile(r"\{\{[^}]*>[^}]*=")
 
 
 class Stopped(Exception):
@@ -115,7 +118,7 @@ class Rows:
         self.rows["fails"] = {**plain, "to": self.failing(draw)}
         self.takes = draw.choice([0, 1, 2, 5, 10, 20, 50, 255, 256, 257, 1000])
         self.rows["takes"] = {**plain, "takes": self.takes}
-        self.rows["larger"] = {**plain, "limit": self.limit + draw.choice([1, 1, 2, 64, 1000])}
+        self.rows["larger"] = {**plain, "limit": self.limit + draw.choice(MORE[:4] if self.has_pairs() else MORE)}
         one, two = draw.choice(OTHERS), draw.choice(OTHERS)
         more = {**plain, "templates": {**self.partials, OTHER: one}}
         self.rows["added"] = more
@@ -125,6 +128,10 @@ class Rows:
         self.rows["folder"] = {**bare, "files": files, "steps": [step]}
         self.rows["listed"] = {**alone, "files": files, "steps": [{**step, "names": [WANTED]}], "source": "", "over": "context"}
         self.in_dev_mode(draw, bare, named)
+
+    def has_pairs(self):
+        """Whether an inclusion may have pairs."""
+        return any(PAIRED.search(it) for it in self.all.values())
 
     def failing(self, draw):
         to = {"fails": draw.choice([1, 1, 2, 3, 4, 5, 8, 13, 50])}
