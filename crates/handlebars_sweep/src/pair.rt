@@ -1,0 +1,67 @@
+//! A registry and data.
+
+use crate::given::data_of;
+use crate::seen::Stop;
+use handlebars::{Context, EscapeKind, Registry, TemplateError};
+use std::alloc::{AllocError, Global};
+
+/// A registry and data. Two that are made alike show that a refusal changes neither.
+///
+/// Whoever has a registry here has it in a pair: to let that go is one call, where a registry alone is taken apart at each
+/// exit of a function, which is dear to prove.
+pub struct Pair {
+    pub registry: Registry,
+    pub data: Context,
+}
+
+impl Drop for Pair {
+    fn drop(self) {
+        let Pair {
+            registry: _,
+            data: _,
+        } = self;
+    }
+}
+
+impl Pair {
+    /// A new registry, and the data of a text in JSON.
+    pub fn new(alloc: Global, data: &str) -> Result<Pair, Stop> {
+        let data = data_of(alloc, data)?;
+        match Registry::new(alloc) {
+            Ok(registry) => Ok(Pair { registry, data }),
+            Err(AllocError) => Err(Stop::Memory),
+        }
+    }
+
+    /// A new registry with templates, by name and source, and no data.
+    pub fn with(alloc: Global, templates: &[(&str, &str)]) -> Result<Pair, Stop> {
+        let mut pair = Pair::new(alloc, "null")?;
+        pair.put_all(templates)?;
+        Ok(pair)
+    }
+
+    /// Registers templates, by name and source.
+    pub fn put_all(&mut self, templates: &[(&str, &str)]) -> Result<(), TemplateError> {
+        for (name, source) in templates {
+            self.registry.register_template_string(name, source)?;
+        }
+        Ok(())
+    }
+
+    /// Whether both have the same templates, toggles and data.
+    pub fn is_like(&self, other: &Pair) -> bool {
+        let (one, another) = (&self.registry, &other.registry);
+        one.get_templates() == another.get_templates()
+            && one.strict_mode() == another.strict_mode()
+            && one.recursive_lookup() == another.recursive_lookup()
+            && one.dev_mode() == another.dev_mode()
+            && one.prevent_indent() == another.prevent_indent()
+            && one.inclusion_limit() == another.inclusion_limit()
+            && is_html(one.get_escape_fn()) == is_html(another.get_escape_fn())
+            && self.data.data() == other.data.data()
+    }
+}
+
+fn is_html(kind: &EscapeKind) -> bool {
+    matches!(kind, EscapeKind::Html)
+}

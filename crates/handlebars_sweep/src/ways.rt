@@ -1,0 +1,286 @@
+//! The ways to render a row.
+
+use crate::bench::{Both, Scene};
+use crate::given::data_of;
+use crate::pair::Pair;
+use crate::row::Row;
+use crate::seen::{Seen, Stop, if_stands, of_error};
+use handlebars::{
+    DecoratorDef, DecoratorEntry, HelperDef, HelperEntry, NoFiles, Registry, RenderError,
+    RenderErrorReason, Renderable, StringOutput,
+};
+use handlebars_parts::decorators::SettingData;
+use handlebars_parts::helpers::Twice;
+use log::sink::Discard;
+use std::alloc::{AllocError, Global};
+
+/// A way to render a row.
+pub struct Way {
+    pub name: &'static str,
+    renders: Renders,
+    /// Whether the template stands under a name, and isn't given as a source.
+    is_by_name: bool,
+    /// Whether the data are handed over as a context, and not as a value.
+    has_context: bool,
+}
+
+// What is rendered, and where to.
+#[derive(Clone, Copy)]
+enum Renders {
+    Text,
+    ToWriter,
+    TreeText,
+    TreeToOutput,
+}
+
+/// The ways: the eight calls, and the tree alone.
+pub static WAYS: [Way; 10] = [
+    Way {
+        name: "render_template",
+        renders: Renders::Text,
+        is_by_name: false,
+        has_context: false,
+    },
+    Way {
+        name: "render_template_with_context",
+        renders: Renders::Text,
+        is_by_name: false,
+        has_context: true,
+    },
+    Way {
+        name: "render_template_to_write",
+        renders: Renders::ToWriter,
+        is_by_name: false,
+        has_context: false,
+    },
+    Way {
+        name: "render_template_with_context_to_write",
+        renders: Renders::ToWriter,
+        is_by_name: false,
+        has_context: true,
+    },
+    Way {
+        name: "Template::render",
+        renders: Renders::TreeToOutput,
+        is_by_name: false,
+        has_context: true,
+    },
+    Way {
+        name: "Template::renders",
+        renders: Renders::TreeText,
+        is_by_name: false,
+        has_context: true,
+    },
+    Way {
+        name: "render",
+        renders: Renders::Text,
+        is_by_name: true,
+        has_context: false,
+    },
+    Way {
+        name: "render_with_context",
+        renders: Renders::Text,
+        is_by_name: true,
+        has_context: true,
+    },
+    Way {
+        name: "render_to_write",
+        renders: Renders::ToWriter,
+        is_by_name: true,
+        has_context: false,
+    },
+    Way {
+        name: "render_with_context_to_write",
+        renders: Renders::ToWriter,
+        is_by_name: true,
+        has_context: true,
+    },
+];
+
+/// The way of that name, if there is one.
+pub fn way_named(name: &str) -> Option<&'static Way> {
+    for way in &WAYS {
+        if way.name == name {
+            return Some(way);
+        }
+    }
+    None
+}
+
+/// Whether a row has this way: a source that is refused has no tree, and stands under no name.
+pub fn has_way(row: &Row, way: &Way) -> bool {
+    !row.unread || way.name.starts_with("render_template")
+}
+
+/// What is seen of a row that is rendered in this way. What a program registers of its own is made here: a helper `twice`,
+/// which renders its body twice, and a decorator `foo`, which sets data.
+pub fn seen(alloc: Global, row: &Row, way: &Way) -> Result<Seen, Stop> {
+    let data = data_of(alloc, r#"{"hello":"war"}"#)?;
+    let foo: Box<dyn DecoratorDef> = Box::new(alloc, SettingData { alloc, data })?;
+    let twice: Box<dyn HelperDef> = Box::new(alloc, Twice { alloc })?;
+    seen_with(alloc, row, way, twice, foo)
+}
+
+fn seen_with(
+    alloc: Global,
+    row: &Row,
+    way: &Way,
+    twice: Box<dyn HelperDef>,
+    foo: Box<dyn DecoratorDef>,
+) -> Result<Seen, Stop> {
+    let mut both = both_of(alloc, row, way)?;
+    put_own(&mut both.pair.registry, twice, foo)?;
+    seen_of(alloc, row, way, &both)
+}
+
+fn put_own(
+    registry: &mut Registry,
+    twice: Box<dyn HelperDef>,
+    foo: Box<dyn DecoratorDef>,
+) -> Result<(), AllocError> {
+    registry.register_helper("twice", HelperEntry::Own(twice))?;
+    registry.register_decorator("foo", DecoratorEntry::Own(foo))
+}
+
+fn both_of(alloc: Global, row: &Row, way: &Way) -> Result<Both, Stop> {
+    let mut both = Both::of(alloc, row)?;
+    if way.is_by_name {
+        let templates = [("main", row.source)];
+        both.pair.put_all(&templates)?;
+        both.other.put_all(&templates)?;
+    }
+    Ok(both)
+}
+
+fn seen_of(alloc: Global, row: &Row, way: &Way, both: &Both) -> Result<Seen, Stop> {
+    match way.renders {
+        Renders::Text => handed_out(alloc, row, way, both),
+        Renders::ToWriter => written(alloc, row, way, both),
+        Renders::TreeText => tree_handed_out(alloc, row, both),
+        Renders::TreeToOutput => tree_written(alloc, row, both),
+    }
+}
+
+fn handed_out(alloc: Global, row: &Row, way: &Way, both: &Both) -> Result<Seen, Stop> {
+    let answer = text(&both.pair, row, way);
+    if_stands(of_text(alloc, row, &answer), both.stands())
+}
+
+fn text(pair: &Pair, row: &Row, way: &Way) -> Result<String, RenderError> {
+    let Pair { registry, data } = pair;
+    let (log, files) = (&Discard, &mut NoFiles);
+    match (way.is_by_name, way.has_context) {
+        (false, false) => registry.render_template(row.source, data.data(), log, files),
+        (false, true) => registry.render_template_with_context(row.source, data, log, files),
+        (true, false) => registry.render("main", data.data(), log, files),
+        (true, true) => registry.render_with_context("main", data, log, files),
+    }
+}
+
+fn written(alloc: Global, row: &Row, way: &Way, both: &Both) -> Result<Seen, Stop> {
+    let mut held = Vec::new(alloc);
+    let answer = write(&both.pair, row, way, &mut held);
+    if_stands(
+        of_written(alloc, row, &answer, held.as_slice()),
+        both.stands(),
+    )
+}
+
+fn write(pair: &Pair, row: &Row, way: &Way, held: &mut Vec<u8>) -> Result<(), RenderError> {
+    let Pair { registry, data } = pair;
+    let (log, files) = (&Discard, &mut NoFiles);
+    match (way.is_by_name, way.has_context) {
+        (false, false) => {
+            registry.render_template_to_write(row.source, data.data(), held, log, files)
+        }
+        (false, true) => {
+            registry.render_template_with_context_to_write(row.source, data, held, log, files)
+        }
+        (true, false) => registry.render_to_write("main", data.data(), held, log, files),
+        (true, true) => registry.render_with_context_to_write("main", data, held, log, files),
+    }
+}
+
+fn tree_written(alloc: Global, row: &Row, both: &Both) -> Result<Seen, Stop> {
+    let mut scene = Scene::of(alloc, row.source)?;
+    let mut out = StringOutput::new(alloc);
+    let Pair { registry, data } = &both.pair;
+    let Scene { template, rc } = &mut scene;
+    let answer = template.render(alloc, registry, data, rc, &mut out, &Discard);
+    let stands = scene.stands(alloc, both, answer.is_err());
+    let held = out.into_string();
+    if_stands(
+        of_written(alloc, row, &answer, held.as_str().as_bytes()),
+        stands,
+    )
+}
+
+fn tree_handed_out(alloc: Global, row: &Row, both: &Both) -> Result<Seen, Stop> {
+    let mut scene = Scene::of(alloc, row.source)?;
+    let Pair { registry, data } = &both.pair;
+    let Scene { template, rc } = &mut scene;
+    let answer = template.renders(alloc, registry, data, rc, &Discard);
+    let stands = scene.stands(alloc, both, answer.is_err());
+    if_stands(of_text(alloc, row, &answer), stands)
+}
+
+// ---- what is seen
+
+fn of_text(alloc: Global, row: &Row, answer: &Result<String, RenderError>) -> Result<Seen, Stop> {
+    match answer {
+        Ok(text) => Ok(Seen::answer_if(row.refusal.is_none() && text.as_str() == row.text)),
+        Err(error) => of_refusal(alloc, row, error),
+    }
+}
+
+// Behind a refusal for want of memory there is a beginning of the text.
+fn of_written(
+    alloc: Global,
+    row: &Row,
+    answer: &Result<(), RenderError>,
+    held: &[u8],
+) -> Result<Seen, Stop> {
+    let whole = row.text.as_bytes();
+    match answer {
+        Ok(()) => Ok(Seen::answer_if(row.refusal.is_none() && held == whole)),
+        Err(error) => {
+            let stands = match of_error(error).is_want() {
+                true => whole.starts_with(held),
+                false => held == whole,
+            };
+            if_stands(of_refusal(alloc, row, error), stands)
+        }
+    }
+}
+
+// What is printed of a template that doesn't compile, and where that is, are the template's own.
+fn of_refusal(alloc: Global, row: &Row, error: &RenderError) -> Result<Seen, Stop> {
+    match error.reason() {
+        RenderErrorReason::OutOfMemory => Ok(Seen::Want),
+        RenderErrorReason::TemplateError(cause) => {
+            of_printed(row, cause.reason().to_string(alloc), cause.pos())
+        }
+        reason => of_printed(row, reason.to_string(alloc), place_of(error)),
+    }
+}
+
+fn place_of(error: &RenderError) -> Option<(usize, usize)> {
+    match (error.line_no, error.column_no) {
+        (Some(line), Some(column)) => Some((line, column)),
+        _ => None,
+    }
+}
+
+fn of_printed(
+    row: &Row,
+    printed: Result<String, AllocError>,
+    place: Option<(usize, usize)>,
+) -> Result<Seen, Stop> {
+    let text = printed?;
+    match row.refusal {
+        Some((reason, line, column)) => {
+            Ok(Seen::answer_if(text.as_str() == reason && place == Some((line, column))))
+        }
+        None => Ok(Seen::Other),
+    }
+}
