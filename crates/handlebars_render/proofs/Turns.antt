@@ -18,7 +18,7 @@ use Rattle.handlebars_meaning.specs.Sites.{Site}
 use Rattle.handlebars_helpers.specs.CallView.{HelperView}
 use Rattle.handlebars_helpers.specs.Turns.{StandsBelow, Turn, turn_name, turn_frame}
 use Rattle.handlebars_meaning.specs.CarryOut.{render_body, take_turn, take_turns}
-use Rattle.handlebars_meaning.specs.State.{Setting, State, pop_frame, with_nearest}
+use Rattle.handlebars_meaning.specs.State.{Setting, State, pop_frame, nearest_as, with_nearest}
 use Rattle.handlebars_meaning.specs.Steps.{Steps, ◌>>◌}
 use Rattle.handlebars_render.specs.Boxed.{answer_of, error_of}
 use Rattle.handlebars_render.specs.declared.boxed.BoxedError.{BoxedError}
